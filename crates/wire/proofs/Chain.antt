@@ -1,0 +1,159 @@
+-- Full packets at the front of bytes, and what stands behind them.
+use Rattle.std.proofs.Common.{◌≡◌, ◌≢◌, ℕ, zero, suc, ◌+◌, ◌-◌, ◌*◌, ◌/◌, ◌%◌, ◌<◌, ◌≤◌, ◌^◌, ◌⊎◌, List, [], ◌∷◌, ◌++◌, length, get_or, take, drop, refl, ap, sym, subst, ◌∙◌, append_assoc, arith, length-append, inl, inr, lit<}
+use Rattle.std.proofs.Math.Seq.{drop-append_seam, take-append_seam}
+use Rattle.std.proofs.lemmas.List.{take-append-drop, take-append-le, length-take-le}
+use Rattle.std.specs.List.{concat, AllByRecursion}
+use Rattle.wire.proofs.Packets.{packets-push, mod-next}
+use Rattle.byteorder.specs.Endian.{little_bytes, little_number}
+use Rattle.wire.specs.Packet.{full_piece, packet, packets, IsFullPiece, IsPacking}
+use Rattle.wire.specs.Stream.{HasHeader, IsOutOfSequence, IsTooLong, IsUnfinished}
+
+-- n full packets from the id, and then the rest
+abbrev pub Chain : ℕ → ℕ → List ℕ → List ℕ → Type 0
+Chain id zero bytes rest = bytes ≡ rest
+Chain id (suc n) bytes rest = (piece : List ℕ) × (others : List ℕ) × (bytes ≡ packet id piece ++ others) × IsFullPiece piece × Chain (suc id) n others rest
+
+pub chain_of : (id : ℕ) (pieces : List (List ℕ)) (rest : List ℕ) → AllByRecursion IsFullPiece pieces → Chain id (length pieces) (packets id pieces ++ rest) rest
+chain_of id [] rest full = refl
+chain_of id (p ∷ pieces) rest full =
+    (p, packets (suc id) pieces ++ rest, append_assoc (packet id p) (packets (suc id) pieces) rest, full.0, chain_of (suc id) pieces rest full.1)
+
+-- equal bytes that begin with packets of equal length go on equally
+same_others : (id : ℕ) (p q x y : List ℕ) → length p ≡ length q → packet id p ++ x ≡ packet id q ++ y → x ≡ y
+same_others id p q x y long same =
+    sym (drop-append_seam (packet id p) x) ∙ (λ i. drop (suc (suc (suc (suc (long i))))) (same i)) ∙ drop-append_seam (packet id q) y
+
+-- where n full packets stand, n + m of them are these and m behind them
+chain_split : (id n m k j : ℕ) (bytes rest others : List ℕ) → Chain id n bytes rest → k ≡ n + m → j ≡ id + n → Chain id k bytes others → Chain j m rest others
+chain_split id zero m k j bytes rest others a is_k is_j b =
+    let e : k ≡ m = omega arith in
+    let f : id ≡ j = omega arith in
+    subst (λ x. Chain x m rest others) f (subst (λ x. Chain id x rest others) e (subst (λ x. Chain id k x others) a b))
+chain_split id (suc n) m zero j bytes rest others a is_k is_j b = absurd (omega arith)
+chain_split id (suc n) m (suc k) j bytes rest others a is_k is_j b =
+    chain_split (suc id) n m k j a.1 rest others a.4 (omega arith) (omega arith)
+    (subst (λ x. Chain (suc id) k x others) (same_others id b.0 a.0 b.1 a.1 (b.3 ∙ sym a.3) (sym b.2 ∙ a.2)) b.4)
+
+three_bytes : (n : ℕ) → n < 2 ^ 24 → n ≡ n % 256 + 256 * (n / 256 % 256) + 65536 * (n / 65536 % 256)
+three_bytes n h = omega arith
+
+-- a packet whose header is these bytes
+peel : (id : ℕ) (piece others : List ℕ) (size got : ℕ) (more : List ℕ) → length piece < 2 ^ 24 → size < 2 ^ 24 →
+    packet id piece ++ others ≡ little_bytes 3 size ++ got ∷ more → (size ≡ length piece) × (got ≡ id % 256) × (more ≡ piece ++ others)
+peel id piece others size got more fits sized same =
+    let a : length piece % 256 ≡ size % 256 = ap (λ l. get_or l 0 0) same in
+    let b : length piece / 256 % 256 ≡ size / 256 % 256 = ap (λ l. get_or l 1 0) same in
+    let c : length piece / 65536 % 256 ≡ size / 65536 % 256 = ap (λ l. get_or l 2 0) same in
+    let s = three_bytes size sized in
+    let t = three_bytes (length piece) fits in
+    (omega (arith, a, b, c, s, t), sym (ap (λ l. get_or l 3 0) same), sym (ap (drop 4) same))
+
+-- less than a packet: less than a header, or a header that is right and fewer bytes than it says
+abbrev pub IsOpen : ℕ → ℕ → List ℕ → Type 0
+IsOpen id room rest = (length rest < 4) ⊎ ((size : ℕ) × (body : List ℕ) × (rest ≡ little_bytes 3 size ++ id ∷ body) × (size ≤ room) × (size < 2 ^ 24) × (length body < size))
+
+order : (m n : ℕ) → ((d : ℕ) × (n ≡ m + d)) ⊎ ((d : ℕ) × (m ≡ n + suc d))
+order zero n = inl (n, omega arith)
+order (suc m) zero = inr (m, omega arith)
+order (suc m) (suc n) = elim (order m n) [ inl h ↦ inl (h.0, omega arith) | inr h ↦ inr (h.0, omega arith) ]
+
+-- what a header at or before the open rest says
+abbrev pub IsRight : ℕ → ℕ → ℕ → ℕ → ℕ → List ℕ → Type 0
+IsRight due limit m size got more = (got ≡ (due + m) % 256) × (m * full_piece + size ≤ limit) × ((size ≡ full_piece) ⊎ (length more < size))
+
+same_header : (size got : ℕ) (more : List ℕ) (size' got' : ℕ) (more' : List ℕ) → size < 2 ^ 24 → size' < 2 ^ 24 →
+    little_bytes 3 size ++ got ∷ more ≡ little_bytes 3 size' ++ got' ∷ more' → (size ≡ size') × (got ≡ got') × (more ≡ more')
+same_header size got more size' got' more' sized sized' same =
+    let a : size % 256 ≡ size' % 256 = ap (λ l. get_or l 0 0) same in
+    let b : size / 256 % 256 ≡ size' / 256 % 256 = ap (λ l. get_or l 1 0) same in
+    let c : size / 65536 % 256 ≡ size' / 65536 % 256 = ap (λ l. get_or l 2 0) same in
+    let s = three_bytes size sized in
+    let t = three_bytes size' sized' in
+    (omega (arith, a, b, c, s, t), ap (λ l. get_or l 3 0) same, ap (drop 4) same)
+
+full_fits : (piece : List ℕ) → IsFullPiece piece → length piece < 2 ^ 24
+unfolding full_piece
+full_fits piece full = omega (arith, full)
+
+-- the header stands where the open rest does, or before it
+at_or_before : (due limit n room id : ℕ) (rest : List ℕ) → n * full_piece + room ≡ limit → id ≡ (due + n) % 256 → IsOpen id room rest →
+    (m size got : ℕ) (front more : List ℕ) → front ≡ little_bytes 3 size ++ got ∷ more → size < 2 ^ 24 →
+    (d : ℕ) → n ≡ m + d → Chain (due + m) d front rest → IsRight due limit m size got more
+at_or_before due limit n room id rest room_is id_is (inl short) m size got front more header sized zero at same =
+    absurd (omega (arith, ap length (sym same ∙ header), short))
+at_or_before due limit n room id rest room_is id_is (inr (size', body, rest_is, fits, sized', short)) m size got front more header sized zero at same =
+    let e = same_header size got more size' id body sized sized' (sym header ∙ same ∙ rest_is) in
+    let k : n ≡ m = omega arith in
+    let f : n * full_piece ≡ m * full_piece = ap (λ x. x * full_piece) k in
+    (e.1 ∙ id_is ∙ ap (λ x. (due + x) % 256) k, omega (arith, e.0, f), inr (omega (arith, e.0, ap length e.2)))
+at_or_before due limit n room id rest room_is id_is is_open m size got front more header sized (suc d) at (p, o, front_is, full, behind) =
+    let e = peel (due + m) p o size got more (full_fits p full) sized (sym front_is ∙ header) in
+    let f : n * full_piece ≡ (m + suc d) * full_piece = ap (λ x. x * full_piece) at in
+    (e.1, omega (arith, e.0, full, f), inl (e.0 ∙ full))
+
+-- no header stands behind the open rest
+none_behind : (id j room : ℕ) (rest front : List ℕ) (d : ℕ) → IsOpen id room rest → Chain j (suc d) rest front → ⊥
+none_behind id j room rest front d (inl short) (p, o, rest_is, full, behind) = omega (arith, ap length rest_is, short)
+none_behind id j room rest front d (inr (size, body, header, fits, sized, short)) (p, o, rest_is, full, behind) =
+    let e = peel j p o size id body (full_fits p full) sized (sym rest_is ∙ header) in
+    omega (arith, e.0, ap length e.2, length-append p o, short)
+
+pub front_is_right : (due limit n room id : ℕ) (bytes rest : List ℕ) → Chain due n bytes rest → n * full_piece + room ≡ limit → id ≡ (due + n) % 256 → IsOpen id room rest →
+    (m size got : ℕ) (front more : List ℕ) → Chain due m bytes front → front ≡ little_bytes 3 size ++ got ∷ more → size < 2 ^ 24 → IsRight due limit m size got more
+front_is_right due limit n room id bytes rest chain room_is id_is is_open m size got front more other header sized = elim (order m n) [
+  | inl h ↦ at_or_before due limit n room id rest room_is id_is is_open m size got front more header sized h.0 h.1
+      (chain_split due m h.0 n (due + m) bytes front rest other h.1 refl chain)
+  | inr h ↦ absurd (none_behind id (due + n) room rest front h.0 is_open (chain_split due n (suc h.0) m (due + n) bytes rest front chain h.1 refl other))
+]
+
+-- full packets are behind, and the rest is ahead
+pub record Scanned (due limit : ℕ) (bytes rest : List ℕ) (full room id : ℕ) : Type 0 where
+  pub chain : Chain due full bytes rest
+  pub room_is : full * full_piece + room ≡ limit
+  pub id_is : id ≡ (due + full) % 256
+
+pub size_fits : (size : ℕ) → size ≤ full_piece → size < 2 ^ 24
+unfolding full_piece
+size_fits size h = omega arith
+
+short_fits : (size : ℕ) → size < full_piece → size < 2 ^ 24
+unfolding full_piece
+short_fits size h = omega arith
+
+-- a header of the definition as a chain
+header_chain : {due limit : ℕ} {bytes : List ℕ} {before size got : ℕ} (h : HasHeader due limit bytes before size got) →
+    Chain due before bytes (little_bytes 3 size ++ got ∷ h.more)
+header_chain {due} {limit} {bytes} {before} {size} {got} h =
+    subst (λ n. Chain due n bytes (little_bytes 3 size ++ got ∷ h.more)) h.count
+    (subst (λ b. Chain due (length h.pieces) b (little_bytes 3 size ++ got ∷ h.more)) (sym (h.bytes_are ∙ append_assoc (packets due h.pieces) (little_bytes 3 size) (got ∷ h.more)))
+    (chain_of due h.pieces (little_bytes 3 size ++ got ∷ h.more) h.full))
+
+pub unfinished : (due limit n room id : ℕ) (bytes rest : List ℕ) → Scanned due limit bytes rest n room id → IsOpen id room rest → IsUnfinished due limit bytes
+unfinished due limit n room id bytes rest s is_open = record {
+  in_sequence = λ want got h.
+      let r = front_is_right due limit n room id bytes rest s.chain s.room_is s.id_is is_open h.before h.size got _ h.header.more (header_chain h.header) refl (size_fits h.size h.header.a_size) in
+      h.differs (r.0 ∙ sym h.wanted);
+  not_too_long = λ h.
+      let r = front_is_right due limit n room id bytes rest s.chain s.room_is s.id_is is_open h.before h.size _ _ h.header.more (header_chain h.header) refl (size_fits h.size h.header.a_size) in
+      omega (arith, r.1, h.above);
+  not_whole = λ count payload next h.
+      let p = h.packing in
+      let tail = drop count bytes in
+      let front = packet (due + length p.pieces) p.last ++ tail in
+      let bytes_are : packets due p.pieces ++ front ≡ bytes =
+      sym (append_assoc (packets due p.pieces) (packet (due + length p.pieces) p.last) tail)
+      ∙ ap (λ x. x ++ tail) (sym (packets-push due p.pieces p.last) ∙ sym p.packed)
+      ∙ take-append-drop count bytes in
+      let r = front_is_right due limit n room id bytes rest s.chain s.room_is s.id_is is_open (length p.pieces) (length p.last) ((due + length p.pieces) % 256)
+      front (p.last ++ tail) (subst (λ b. Chain due (length p.pieces) b front) bytes_are (chain_of due p.pieces front p.full)) refl (short_fits (length p.last) p.short) in
+      elim r.2 [ inl e ↦ omega (arith, e, p.short) | inr e ↦ omega (arith, e, length-append p.last tail) ];
+}
+
+pub packets_length : (id : ℕ) (pieces : List (List ℕ)) → AllByRecursion IsFullPiece pieces → length (packets id pieces) ≡ length pieces * (full_piece + 4)
+packets_length id [] full = omega arith
+packets_length id (p ∷ pieces) full = omega (arith, full.0, packets_length (suc id) pieces full.1, length-append (packet id p) (packets (suc id) pieces))
+
+concat_length : (pieces : List (List ℕ)) → AllByRecursion IsFullPiece pieces → length (concat pieces) ≡ length pieces * full_piece
+concat_length [] full = omega arith
+concat_length (p ∷ pieces) full = omega (arith, full.0, concat_length pieces full.1, length-append p (concat pieces))
+

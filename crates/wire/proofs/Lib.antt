@@ -1,0 +1,6 @@
+mod Examples
+pub mod Packets
+pub mod Chain
+pub mod HeaderBytes
+pub mod Pieces
+pub mod Unpacking

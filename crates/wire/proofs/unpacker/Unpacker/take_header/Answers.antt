@@ -1,0 +1,70 @@
+use Rattle.std.proofs.Common.{◌≡◌, ℕ, ◌+◌, ◌++◌, length, take, drop, Err, refl, ap, sym, subst, ◌∙◌, arith, inl, inr}
+use Rattle.std.proofs.lemmas.Result.{err_from_is_err_and}
+use Rattle.wire.specs.Packet.{full_piece}
+use Rattle.wire.specs.Stream.{IsOutOfSequence, IsTooLong}
+use Rattle.wire.specs.Held.{held_of}
+use Rattle.wire.specs.declared.unpacker.Unpacker.{Unpacker}
+use Rattle.wire.specs.declared.fault.WireFault.TheVariants.{Sequence, TooLarge}
+use Rattle.wire.proofs.Unpacking.{held_of-header, rejoined, out_of_sequence, too_long}
+use Rattle.wire.proofs.unpacker.Unpacker.take_header.Goals as goal
+
+pub returns-then-self-lt-HEADER-clause-ok : goal.returns-then-self-lt-HEADER-clause-ok
+returns-then-self-lt-HEADER-clause-ok c =
+    let h = c.requires.header in
+    record {
+      in_range = c.fill-used.ensures.used;
+      limit = refl;
+      due = refl;
+      stands = inl (record { sized = omega (arith, c.fill-used.auto.header, h.sized); open_header = c.if-self-lt-HEADER.true; whole_pieces = h.whole_pieces; within = h.within });
+      held = held_of-header c.args.self.now _ (take c.fill-used.result c.args.bytes.now) h.whole_pieces refl refl refl c.fill-used.ensures.filled;
+    }
+
+pub returns-in_err-self-clause-sequence : goal.returns-in_err-self-clause-sequence
+returns-in_err-self-clause-sequence c want got equal =
+    let h = c.requires.header in
+    let old = c.args.self.now in
+    let used = c.fill-used.result in
+    let p = err_from_is_err_and c.from_residual.result c.from_residual.ensures.1 in
+    let q = c.in_err-self.ensures.sequence want got (cc) in
+    let mid : Unpacker = record old { header = c.fill-used.new.header; filled = old.filled + used } in
+    let filled : mid.filled ≡ 4 = omega arith in
+    subst (λ b. IsOutOfSequence old.due old.limit b want got)
+    (rejoined (held_of old) (held_of mid) c.args.bytes.now used
+      (held_of-header old mid (take used c.args.bytes.now) h.whole_pieces refl refl refl c.fill-used.ensures.filled))
+    (out_of_sequence mid q.2 want got (drop used c.args.bytes.now) h.whole_pieces h.within filled q.3 q.0 (λ e. q.1 (e ∙ q.0)))
+
+pub returns-in_err-self-clause-too_large : goal.returns-in_err-self-clause-too_large
+returns-in_err-self-clause-too_large c equal =
+    let h = c.requires.header in
+    let old = c.args.self.now in
+    let used = c.fill-used.result in
+    let p = err_from_is_err_and c.from_residual.result c.from_residual.ensures.1 in
+    let q = c.in_err-self.ensures.too_large (cc) in
+    let mid : Unpacker = record old { header = c.fill-used.new.header; filled = old.filled + used } in
+    let filled : mid.filled ≡ 4 = omega arith in
+    subst (λ b. IsTooLong old.due old.limit b)
+    (rejoined (held_of old) (held_of mid) c.args.bytes.now used
+      (held_of-header old mid (take used c.args.bytes.now) h.whole_pieces refl refl refl c.fill-used.ensures.filled))
+    (too_long mid q.0 (drop used c.args.bytes.now) h.whole_pieces h.within filled q.2 (omega (arith, q.1)))
+
+pub returns-clause-ok : goal.returns-clause-ok
+unfolding full_piece
+returns-clause-ok c =
+    let h = c.requires.header in
+    let items = c.in_ok-reserve.ensures.items in
+    let ok = c.in_ok-self.ensures.ok in
+    record {
+      in_range = c.fill-used.ensures.used;
+      limit = refl;
+      due = refl;
+      stands = inr (record {
+        size = c.in_ok-self.field-0;
+        whole_header = omega arith;
+        header = ok.0;
+        sum = omega (arith, ap length items, h.whole_pieces);
+        left = omega arith;
+        short = λ e. omega (arith, e);
+        within = omega (arith, ap length items, h.within, ok.1);
+      });
+      held = held_of-header c.args.self.now _ (take c.fill-used.result c.args.bytes.now) h.whole_pieces refl refl items c.fill-used.ensures.filled;
+    }

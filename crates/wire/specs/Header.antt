@@ -1,0 +1,10 @@
+-- The header of a packet.
+use Rattle.std.specs.Prelude.{◌≡◌, ℕ, ◌<◌, ◌≤◌, List, [], ◌∷◌, ◌++◌}
+use Rattle.byteorder.specs.Endian.{little_bytes}
+use Rattle.wire.specs.Packet.{full_piece}
+
+-- The bytes are the header of a piece of this length, with this sequence id.
+pub record IsHeader (size id : ℕ) (bytes : List ℕ) : Type 0 where
+  pub bytes_are : bytes ≡ little_bytes 3 size ++ id ∷ []
+  pub a_size : size ≤ full_piece
+  pub an_id : id < 256

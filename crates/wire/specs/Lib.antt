@@ -1,0 +1,5 @@
+pub mod Integer
+pub mod Packet
+pub mod Stream
+pub mod Header
+pub mod Held

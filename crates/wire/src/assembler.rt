@@ -1,0 +1,117 @@
+//! Payloads read from a stream of packets, in whatever pieces its bytes come.
+
+ghost use Rattle.std.specs.Prelude.{◌≡◌, ℕ, ◌+◌, ◌*◌, ◌/◌, ◌^◌, ◌≤◌, ◌<◌, ◌++◌, ◌↔◌, [], length, take, true, false, IsTrue, IfOk, IfSome, IfNone, OnOk, OnErr};
+ghost use Rattle.wire.specs.Stream.{IsWholePayload, IsUnfinished, IsOutOfSequence, IsTooLong};
+
+use crate::fault::WireFault;
+use crate::packet::LARGEST_PAYLOAD;
+use crate::unpacker::Unpacker;
+use std::alloc::Global;
+use std::marker::Model;
+
+/// What a step took of the bytes that it was given, and the payload that they completed.
+#[derive(Debug, Drop)]
+pub struct Step {
+    /// How many of the bytes belong to the payload at hand. Where it is whole now they end with its
+    /// packets' last byte, and else they are all.
+    pub used: usize,
+    /// The payload, if it is whole now.
+    pub payload: Option<Vec<u8>>,
+}
+
+/// A reader of payloads from the packets of a stream, whose bytes come in any pieces.
+///
+/// It keeps what has come of the payload at hand, and copies each byte of it once. The sequence id of
+/// a packet has to be the one due: 0 at first, and then the one after the packet before.
+#[derive(Drop)]
+pub struct Assembler {
+    unpacker: Unpacker,
+    ended: bool,
+}
+
+impl Model for Assembler {
+    ghost use Rattle.std.specs.Prelude.{◌≡◌, ◌≤◌, false};
+    ghost use Rattle.wire.specs.Stream.{Reading};
+
+    ghost Value = { Reading };
+
+    ghost use Rattle.wire.specs.Held.{held_of, IsUnpacking, IsComplete};
+
+    ghost view = { λ a. record { limit = a.unpacker.limit; due = a.unpacker.due; held = held_of a.unpacker; ended = a.ended } };
+
+    ghost invariant = { λ a. (a.unpacker.limit ≤ 1073741824) × (a.ended ≡ false → IsUnpacking a.unpacker × (IsComplete a.unpacker → ⊥)) };
+}
+
+impl Assembler {
+    /// A reader that takes payloads of at most this many bytes. The sequence id due is 0.
+    pub fn new(alloc: Global, limit: usize) -> Assembler
+        requires { limit ≤ LARGEST_PAYLOAD }
+        ensures { result ≡ record { limit = limit; due = 0; held = []; ended = false } }
+    {
+        Assembler {
+            unpacker: Unpacker::new(alloc, limit, 0),
+            ended: false,
+        }
+    }
+
+    /// Whether nothing of the next payload has come, and no fault.
+    pub fn between(&self) -> bool
+        ensures { IsTrue result ↔ ((self.now.held ≡ []) × (self.now.ended ≡ false)) }
+    {
+        !self.ended && self.unpacker.is_empty()
+    }
+
+    /// Sets the sequence id that is due next.
+    pub fn expect(&mut self, sequence: u8)
+        requires { (self.old.held ≡ []) × (self.old.ended ≡ false) }
+        ensures { self.new ≡ record self.old { due = sequence } }
+    {
+        self.unpacker.due = sequence;
+    }
+
+    /// Takes bytes up to the end of the payload at hand, or all of them.
+    ///
+    /// `Sequence` and `TooLarge` come as soon as the four bytes of the header that is wrong have come,
+    /// `Sequence` where both could, and `Memory` where room was refused. After any of them each later
+    /// step answers `Ended`.
+    pub fn step(&mut self, bytes: &[u8]) -> Result<Step, WireFault>
+        // A payload: the bytes held and those used are its packets, and it is the reader's no more.
+        ensures used { IfOk result (λ step. step.used ≤ length bytes.now) }
+        ensures payload { IfOk result (λ step. IfSome step.payload (λ payload.
+            IsWholePayload self.old.due self.old.limit (self.old.held ++ take step.used bytes.now) payload.items self.new.due
+            × (self.new ≡ record self.old { due = self.new.due; held = [] }))) }
+        ensures progress { IfOk result (λ step. IfSome step.payload (λ _. 0 < step.used)) }
+
+        // No payload yet: all bytes are held, and they are neither a payload nor wrong.
+        ensures unfinished { IfOk result (λ step. IfNone step.payload (
+            (step.used ≡ length bytes.now)
+            × IsUnfinished self.old.due self.old.limit (self.old.held ++ bytes.now)
+            × (self.new ≡ record self.old { held = self.old.held ++ bytes.now }))) }
+        ensures held { OnOk result (length self.new.held < 2 ^ 31) }
+
+        // A fault, which ends the reader.
+        ensures sequence { (want got : ℕ) → result ≡ Err (WireFault.Sequence want got) →
+            IsOutOfSequence self.old.due self.old.limit (self.old.held ++ bytes.now) want got }
+        ensures too_large { result ≡ Err WireFault.TooLarge → IsTooLong self.old.due self.old.limit (self.old.held ++ bytes.now) }
+        ensures ended { (result ≡ Err WireFault.Ended) ↔ (self.old.ended ≡ true) }
+        ensures err { OnErr result (self.new.ended ≡ true) }
+    {
+        if self.ended {
+            return Err(WireFault::Ended);
+        }
+        self.ended = true;
+        let used = self.unpacker.advance(bytes)?;
+        self.ended = false;
+        if !self.unpacker.is_complete() {
+            return Ok(Step {
+                used,
+                payload: None,
+            });
+        }
+        let payload = self.unpacker.hand_out();
+        Ok(Step {
+            used,
+            payload: Some(payload),
+        })
+    }
+}

@@ -1,0 +1,40 @@
+//! Why packets could not be read or written.
+
+ghost use Rattle.std.specs.Prelude.{◌≡◌};
+ghost use Rattle.wire.specs.declared.fault.WireFault.TheVariants.{Memory};
+
+use std::alloc::{AllocError, AllocFailed};
+use thiserror::Error;
+
+/// Why packets could not be read or written.
+#[derive(Clone, Copy, Debug, PartialEq, Eq, Error)]
+pub enum WireFault {
+    /// A packet has another sequence id than the one that is due.
+    #[error("a packet with sequence id {got} came where {want} is due")]
+    Sequence { want: u8, got: u8 },
+    /// A payload is longer than the limit, or than [`LARGEST_PAYLOAD`](crate::LARGEST_PAYLOAD).
+    #[error("a payload is longer than the limit")]
+    TooLarge,
+    /// An allocation was refused.
+    #[error("out of memory")]
+    Memory,
+    /// A fault ended the stream before.
+    #[error("a fault has ended the stream")]
+    Ended,
+}
+
+impl From<AllocError> for WireFault {
+    ghost from_gives = { λ _ fault. fault ≡ Memory };
+
+    fn from(_error: AllocError) -> WireFault {
+        WireFault::Memory
+    }
+}
+
+impl<T: Drop> From<AllocFailed<T>> for WireFault {
+    ghost from_gives = { λ _ fault. fault ≡ Memory };
+
+    fn from(_error: AllocFailed<T>) -> WireFault {
+        WireFault::Memory
+    }
+}

@@ -1,0 +1,42 @@
+//! Length-encoded integers.
+
+ghost use Rattle.std.specs.Prelude.{◌≡◌, ℕ, ◌≤◌, ◌++◌, List, length, take, IfSome, IfNone, OnOk, OnErr};
+ghost use Rattle.wire.specs.Integer.{IsLengthEncoded, length_encoded};
+
+use crate::fault::WireFault;
+use byteorder::{ByteOrder, LittleEndian};
+
+/// Reads the length-encoded integer at the front of the bytes: its value, and the 1, 3, 4 or 9 bytes
+/// that it takes. It is read in any width that the value fits, and bytes may follow it.
+///
+/// `None` where no front of the bytes is such an integer: it is cut short, or begins with 0xFB or 0xFF.
+pub fn read_int(bytes: &[u8]) -> Option<(u64, usize)>
+    ensures length { IfSome result (λ found. found.1 ≤ length bytes.now) }
+    ensures found { IfSome result (λ found. IsLengthEncoded found.0 (take found.1 bytes.now)) }
+    ensures none { IfNone result ((n len : ℕ) → IsLengthEncoded n (take len bytes.now) → ⊥) }
+{
+    match bytes {
+        [first @ 0..=0xfa, ..] => Some((u64::from(*first), 1)),
+        [0xfc, rest @ ..] if rest.len() >= 2 => Some((u64::from(LittleEndian::read_u16(rest)), 3)),
+        [0xfd, rest @ ..] if rest.len() >= 3 => Some((u64::from(LittleEndian::read_u24(rest)), 4)),
+        [0xfe, rest @ ..] if rest.len() >= 8 => Some((LittleEndian::read_u64(rest), 9)),
+        _ => None,
+    }
+}
+
+/// Appends the shortest length-encoded integer of the value.
+///
+/// The only refusal is `Memory`, which leaves the vector as it was.
+pub fn write_int(value: u64, out: &mut Vec<u8>) -> Result<(), WireFault>
+    ensures ok { OnOk result (out.new.items ≡ out.old.items ++ length_encoded value) }
+    ensures err { OnErr result ((result ≡ Err WireFault.Memory) × (out.new.items ≡ out.old.items)) }
+{
+    let [a, b, c, d, e, f, g, h] = value.to_le_bytes();
+    match value {
+        0..=0xfa => out.push(a)?,
+        0xfb..=0xffff => out.extend_from_slice(&[0xfc, a, b])?,
+        0x1_0000..=0xff_ffff => out.extend_from_slice(&[0xfd, a, b, c])?,
+        _ => out.extend_from_slice(&[0xfe, a, b, c, d, e, f, g, h])?,
+    }
+    Ok(())
+}

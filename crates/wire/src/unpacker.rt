@@ -1,0 +1,183 @@
+//! The payload at hand, taken out of its packets while their bytes come.
+
+ghost use Rattle.std.specs.Prelude.{◌≡◌, ◌≢◌, ℕ, ◌+◌, ◌%◌, ◌≤◌, ◌<◌, ◌++◌, ◌∷◌, [], ◌↔◌, ◌⊎◌, length, take, IfOk, IfErr, IsTrue};
+ghost use Rattle.wire.specs.Header.{IsHeader};
+
+use crate::fault::WireFault;
+use crate::packet::{FULL_PIECE, HEADER, LARGEST_PAYLOAD};
+use byteorder::{ByteOrder, LittleEndian};
+use std::alloc::Global;
+use std::mem;
+
+/// The payload at hand, of which only some bytes have come.
+#[derive(Drop)]
+pub(crate) struct Unpacker {
+    /// The longest payload that is taken.
+    pub(crate) limit: usize,
+    /// The sequence id of the payload's first packet.
+    pub(crate) due: u8,
+    /// How many full packets of it have come.
+    pub(crate) full: u8,
+    /// The header of the packet at hand, of which the first `filled` bytes have come.
+    pub(crate) header: [u8; HEADER],
+    pub(crate) filled: usize,
+    /// How many bytes of the piece at hand are still to come, once its header is whole.
+    pub(crate) left: usize,
+    /// The pieces so far, without their headers.
+    pub(crate) payload: Vec<u8>,
+}
+
+/// Copies bytes to what is missing of a header, and gives how many.
+fn fill(header: &mut [u8], filled: usize, bytes: &[u8]) -> usize
+    requires { filled ≤ length header.old }
+    ensures used { result ≤ length bytes.now }
+    ensures full { filled + result ≤ length header.old }
+    ensures most { result < length bytes.now → filled + result ≡ length header.old }
+    ensures filled { take (filled + result) header.new ≡ take filled header.old ++ take result bytes.now }
+{
+    let count = bytes.len().min(header.len() - filled);
+    for i in 0..count {
+        header[filled + i] = bytes[i];
+    }
+    count
+}
+
+/// The length in a header, which has to have this sequence id and a length within the room.
+fn read_header(header: &[u8], id: u8, room: usize) -> Result<usize, WireFault>
+    requires { length header.now ≡ HEADER }
+    ensures ok { IfOk result (λ size. IsHeader size id header.now × (size ≤ room)) }
+    ensures sequence { (want got : ℕ) → result ≡ Err (WireFault.Sequence want got) → (want ≡ id) × (got ≢ id) × (size : ℕ) × IsHeader size got header.now }
+    ensures too_large { result ≡ Err WireFault.TooLarge → (size : ℕ) × (room < size) × IsHeader size id header.now }
+    ensures only { IfErr result (λ fault. (fault ≢ WireFault.Memory) × (fault ≢ WireFault.Ended)) }
+{
+    let got = header[3];
+    if got != id {
+        return Err(WireFault::Sequence { want: id, got });
+    }
+    let size = LittleEndian::read_u24(header) as usize;
+    if size > room {
+        return Err(WireFault::TooLarge);
+    }
+    Ok(size)
+}
+
+impl Unpacker {
+    ghost use Rattle.std.specs.Prelude.{◌≡◌, ◌≢◌, ℕ, ◌+◌, ◌%◌, ◌≤◌, ◌<◌, ◌++◌, [], ◌↔◌, length, take, IfOk, IfErr, IsTrue};
+    ghost use Rattle.wire.specs.Stream.{IsOutOfSequence, IsTooLong, IsUnfinished, IsWholePayload};
+    ghost use Rattle.wire.specs.Held.{held_of, IsInHeader, IsInPiece, IsUnpacking, IsComplete, Takes};
+
+    /// Between payloads, with this sequence id due.
+    pub(crate) fn new(alloc: Global, limit: usize, due: u8) -> Unpacker
+        ensures limit { result.limit ≡ limit }
+        ensures due { result.due ≡ due }
+        ensures held { held_of result ≡ [] }
+        ensures stands { IsInHeader result }
+    {
+        Unpacker {
+            limit,
+            due,
+            full: 0,
+            header: [0; HEADER],
+            filled: 0,
+            left: 0,
+            payload: Vec::new(alloc),
+        }
+    }
+
+    /// Whether nothing of the payload has come.
+    pub(crate) fn is_empty(&self) -> bool
+        requires { IsUnpacking self.now }
+        ensures { IsTrue result ↔ (held_of self.now ≡ []) }
+    {
+        self.filled == 0 && self.payload.is_empty()
+    }
+
+    /// Whether the last packet of the payload has come.
+    pub(crate) fn is_complete(&self) -> bool
+        ensures { IsTrue result ↔ IsComplete self.now }
+    {
+        self.filled == HEADER && self.left == 0
+    }
+
+    /// Takes bytes of the header at hand. Once it is whole it is judged, and room is made for its piece.
+    fn take_header(&mut self, bytes: &[u8]) -> Result<usize, WireFault>
+        requires header { IsInHeader self.old }
+        requires limit { self.old.limit ≤ LARGEST_PAYLOAD }
+        ensures ok { IfOk result (λ used. Takes self.old self.new bytes.now used) }
+        ensures progress { IfOk result (λ used. 0 < length bytes.now → 0 < used) }
+        ensures limit { self.new.limit ≡ self.old.limit }
+        ensures sequence { (want got : ℕ) → result ≡ Err (WireFault.Sequence want got) → IsOutOfSequence self.old.due self.old.limit (held_of self.old ++ bytes.now) want got }
+        ensures too_large { result ≡ Err WireFault.TooLarge → IsTooLong self.old.due self.old.limit (held_of self.old ++ bytes.now) }
+        ensures only { IfErr result (λ fault. fault ≢ WireFault.Ended) }
+    {
+        let used = fill(&mut self.header, self.filled, bytes);
+        self.filled += used;
+        if self.filled < HEADER {
+            return Ok(used);
+        }
+        let id = self.due.wrapping_add(self.full);
+        self.left = read_header(&self.header, id, self.limit - self.payload.len())?;
+        self.payload.reserve(self.left)?;
+        Ok(used)
+    }
+
+    /// Takes bytes of the piece at hand.
+    fn take_piece(&mut self, bytes: &[u8]) -> Result<usize, WireFault>
+        requires piece { IsInPiece self.old }
+        requires open { 0 < self.old.left }
+        requires limit { self.old.limit ≤ LARGEST_PAYLOAD }
+        ensures ok { IfOk result (λ used. Takes self.old self.new bytes.now used) }
+        ensures progress { IfOk result (λ used. 0 < length bytes.now → 0 < used) }
+        ensures limit { self.new.limit ≡ self.old.limit }
+        ensures only { IfErr result (λ fault. fault ≡ WireFault.Memory) }
+    {
+        let used = self.left.min(bytes.len());
+        self.payload.extend_from_slice(&bytes[..used])?;
+        self.left -= used;
+        if self.payload.len() == (usize::from(self.full) + 1) * FULL_PIECE {
+            self.full += 1;
+            self.filled = 0;
+        }
+        Ok(used)
+    }
+
+    /// Takes bytes up to the end of the payload, or all of them, and gives how many.
+    pub(crate) fn advance(&mut self, bytes: &[u8]) -> Result<usize, WireFault>
+        requires stands { IsUnpacking self.old }
+        requires open { IsComplete self.old → ⊥ }
+        requires limit { self.old.limit ≤ LARGEST_PAYLOAD }
+        ensures ok { IfOk result (λ used. Takes self.old self.new bytes.now used) }
+        ensures end { IfOk result (λ used. used < length bytes.now → IsComplete self.new) }
+        ensures progress { IfOk result (λ used. IsComplete self.new → 0 < used) }
+        ensures limit { self.new.limit ≡ self.old.limit }
+        ensures sequence { (want got : ℕ) → result ≡ Err (WireFault.Sequence want got) → IsOutOfSequence self.old.due self.old.limit (held_of self.old ++ bytes.now) want got }
+        ensures too_large { result ≡ Err WireFault.TooLarge → IsTooLong self.old.due self.old.limit (held_of self.old ++ bytes.now) }
+        ensures only { IfErr result (λ fault. fault ≢ WireFault.Ended) }
+    {
+        let mut used = 0;
+        while used < bytes.len() && !self.is_complete() {
+            let rest = &bytes[used..];
+            used += if self.filled < HEADER {
+                self.take_header(rest)?
+            } else {
+                self.take_piece(rest)?
+            };
+        }
+        Ok(used)
+    }
+
+    /// Hands out the payload, and stands between payloads.
+    pub(crate) fn hand_out(&mut self) -> Vec<u8>
+        requires piece { IsInPiece self.old }
+        requires complete { IsComplete self.old }
+        ensures payload { IsWholePayload self.old.due self.old.limit (held_of self.old) result.items self.new.due }
+        ensures limit { self.new.limit ≡ self.old.limit }
+        ensures held { held_of self.new ≡ [] }
+        ensures stands { IsInHeader self.new }
+    {
+        let next = self.due.wrapping_add(self.full).wrapping_add(1);
+        let fresh = Unpacker::new(*self.payload.allocator(), self.limit, next);
+        let Unpacker { payload, .. } = mem::replace(self, fresh);
+        payload
+    }
+}
