@@ -24,7 +24,7 @@ same_others id p q x y long same =
     sym (drop-append_seam (packet id p) x) ∙ (λ i. drop (suc (suc (suc (suc (long i))))) (same i)) ∙ drop-append_seam (packet id q) y
 
 -- where n full packets stand, n + m of them are these and m behind them
-chain_split : (id n m k j : ℕ) (bytes rest others : List ℕ) → Chain id n bytes rest → k ≡ n + m → j ≡ id + n → Chain id k bytes others → Chain j m rest others
+pub chain_split : (id n m k j : ℕ) (bytes rest others : List ℕ) → Chain id n bytes rest → k ≡ n + m → j ≡ id + n → Chain id k bytes others → Chain j m rest others
 chain_split id zero m k j bytes rest others a is_k is_j b =
     let e : k ≡ m = omega arith in
     let f : id ≡ j = omega arith in
@@ -38,7 +38,7 @@ three_bytes : (n : ℕ) → n < 2 ^ 24 → n ≡ n % 256 + 256 * (n / 256 % 256)
 three_bytes n h = omega arith
 
 -- a packet whose header is these bytes
-peel : (id : ℕ) (piece others : List ℕ) (size got : ℕ) (more : List ℕ) → length piece < 2 ^ 24 → size < 2 ^ 24 →
+pub peel : (id : ℕ) (piece others : List ℕ) (size got : ℕ) (more : List ℕ) → length piece < 2 ^ 24 → size < 2 ^ 24 →
     packet id piece ++ others ≡ little_bytes 3 size ++ got ∷ more → (size ≡ length piece) × (got ≡ id % 256) × (more ≡ piece ++ others)
 peel id piece others size got more fits sized same =
     let a : length piece % 256 ≡ size % 256 = ap (λ l. get_or l 0 0) same in
@@ -52,7 +52,7 @@ peel id piece others size got more fits sized same =
 abbrev pub IsOpen : ℕ → ℕ → List ℕ → Type 0
 IsOpen id room rest = (length rest < 4) ⊎ ((size : ℕ) × (body : List ℕ) × (rest ≡ little_bytes 3 size ++ id ∷ body) × (size ≤ room) × (size < 2 ^ 24) × (length body < size))
 
-order : (m n : ℕ) → ((d : ℕ) × (n ≡ m + d)) ⊎ ((d : ℕ) × (m ≡ n + suc d))
+pub order : (m n : ℕ) → ((d : ℕ) × (n ≡ m + d)) ⊎ ((d : ℕ) × (m ≡ n + suc d))
 order zero n = inl (n, omega arith)
 order (suc m) zero = inr (m, omega arith)
 order (suc m) (suc n) = elim (order m n) [ inl h ↦ inl (h.0, omega arith) | inr h ↦ inr (h.0, omega arith) ]
@@ -61,7 +61,7 @@ order (suc m) (suc n) = elim (order m n) [ inl h ↦ inl (h.0, omega arith) | in
 abbrev pub IsRight : ℕ → ℕ → ℕ → ℕ → ℕ → List ℕ → Type 0
 IsRight due limit m size got more = (got ≡ (due + m) % 256) × (m * full_piece + size ≤ limit) × ((size ≡ full_piece) ⊎ (length more < size))
 
-same_header : (size got : ℕ) (more : List ℕ) (size' got' : ℕ) (more' : List ℕ) → size < 2 ^ 24 → size' < 2 ^ 24 →
+pub same_header : (size got : ℕ) (more : List ℕ) (size' got' : ℕ) (more' : List ℕ) → size < 2 ^ 24 → size' < 2 ^ 24 →
     little_bytes 3 size ++ got ∷ more ≡ little_bytes 3 size' ++ got' ∷ more' → (size ≡ size') × (got ≡ got') × (more ≡ more')
 same_header size got more size' got' more' sized sized' same =
     let a : size % 256 ≡ size' % 256 = ap (λ l. get_or l 0 0) same in
@@ -71,7 +71,7 @@ same_header size got more size' got' more' sized sized' same =
     let t = three_bytes size' sized' in
     (omega (arith, a, b, c, s, t), ap (λ l. get_or l 3 0) same, ap (drop 4) same)
 
-full_fits : (piece : List ℕ) → IsFullPiece piece → length piece < 2 ^ 24
+pub full_fits : (piece : List ℕ) → IsFullPiece piece → length piece < 2 ^ 24
 unfolding full_piece
 full_fits piece full = omega (arith, full)
 
@@ -116,12 +116,12 @@ pub size_fits : (size : ℕ) → size ≤ full_piece → size < 2 ^ 24
 unfolding full_piece
 size_fits size h = omega arith
 
-short_fits : (size : ℕ) → size < full_piece → size < 2 ^ 24
+pub short_fits : (size : ℕ) → size < full_piece → size < 2 ^ 24
 unfolding full_piece
 short_fits size h = omega arith
 
 -- a header of the definition as a chain
-header_chain : {due limit : ℕ} {bytes : List ℕ} {before size got : ℕ} (h : HasHeader due limit bytes before size got) →
+pub header_chain : {due limit : ℕ} {bytes : List ℕ} {before size got : ℕ} (h : HasHeader due limit bytes before size got) →
     Chain due before bytes (little_bytes 3 size ++ got ∷ h.more)
 header_chain {due} {limit} {bytes} {before} {size} {got} h =
     subst (λ n. Chain due n bytes (little_bytes 3 size ++ got ∷ h.more)) h.count
@@ -153,7 +153,7 @@ pub packets_length : (id : ℕ) (pieces : List (List ℕ)) → AllByRecursion Is
 packets_length id [] full = omega arith
 packets_length id (p ∷ pieces) full = omega (arith, full.0, packets_length (suc id) pieces full.1, length-append (packet id p) (packets (suc id) pieces))
 
-concat_length : (pieces : List (List ℕ)) → AllByRecursion IsFullPiece pieces → length (concat pieces) ≡ length pieces * full_piece
+pub concat_length : (pieces : List (List ℕ)) → AllByRecursion IsFullPiece pieces → length (concat pieces) ≡ length pieces * full_piece
 concat_length [] full = omega arith
 concat_length (p ∷ pieces) full = omega (arith, full.0, concat_length pieces full.1, length-append p (concat pieces))
 

@@ -1,5 +1,6 @@
 pub mod Integer
 pub mod Packet
-pub mod Stream
 pub mod Header
+pub mod Stream
+pub mod Reading
 pub mod Held

@@ -1,6 +1,6 @@
 -- Packets. MySQL Source Documentation, Client/Server Protocol, "MySQL Packets": Protocol::Packet, and
 -- "Sending More Than 16Mb".
-use Rattle.std.specs.Prelude.{◌≡◌, ℕ, suc, ◌+◌, ◌%◌, ◌<◌, List, [], ◌∷◌, ◌++◌, length}
+use Rattle.std.specs.Prelude.{◌≡◌, ℕ, suc, ◌+◌, ◌*◌, ◌/◌, ◌%◌, ◌<◌, List, [], ◌∷◌, ◌++◌, length}
 use Rattle.std.specs.List.{concat, AllByRecursion}
 use Rattle.byteorder.specs.Endian.{little_bytes}
 
@@ -30,6 +30,10 @@ pub record IsPacking (id : ℕ) (payload bytes : List ℕ) (next : ℕ) : Type 0
   pub cut : payload ≡ concat pieces ++ last
   pub packed : bytes ≡ packets id (pieces ++ last ∷ [])
   pub follows : next ≡ (id + length pieces + 1) % 256
+
+-- how long the packing of a payload of this length is: four bytes more for each packet
+abbrev pub packing_length : ℕ → ℕ
+packing_length n = n + 4 * (n / full_piece + 1)
 
 -- new is old with the packing of the payload from the sequence id at its end
 pub record AppendsPacking (id : ℕ) (payload old new : List ℕ) (next : ℕ) : Type 0 where

@@ -12,6 +12,7 @@
 mod assembler;
 mod fault;
 mod integer;
+pub mod laws;
 mod packet;
 mod unpacker;
 
