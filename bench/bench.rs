@@ -1,0 +1,167 @@
+//! Times `mrep packets` against `packets.rs`, a plain Rust program that does the same job.
+//!
+//!     bench MREP BASELINE FOLDER
+//!
+//! It makes each input in the folder, runs both programs on it in turn, five times each, and prints the best
+//! times, their ratio and the greatest resident size of each. Both have to print the same. The status is 1
+//! where a goal is missed.
+
+use std::fs::{self, File};
+use std::io::{self, BufReader, BufWriter, Read, Write};
+use std::path::Path;
+use std::process::{Command, ExitCode};
+use std::time::Instant;
+
+const MIB: usize = 1 << 20;
+const RUNS: usize = 5;
+
+/// The goal: at most this many times the time of the Rust program,
+const TIMES: f64 = 1.3;
+/// and at most the largest payload twice and this much more.
+const MORE: usize = 16 * MIB;
+
+struct Input {
+    name: &'static str,
+    payload: usize,
+    count: usize,
+}
+
+const INPUTS: [Input; 3] = [
+    Input {
+        name: "256 MiB in payloads of 1 KiB",
+        payload: 1024,
+        count: 256 * 1024,
+    },
+    Input {
+        name: "256 MiB in payloads of 4 MiB",
+        payload: 4 * MIB,
+        count: 64,
+    },
+    Input {
+        name: "8 MiB in packets of one byte",
+        payload: 1,
+        count: 8 * MIB,
+    },
+];
+
+/// `struct rusage` of Linux on a 64-bit processor.
+#[repr(C)]
+#[derive(Default)]
+struct Usage {
+    times: [i64; 4],
+    max_resident_kib: i64,
+    others: [i64; 13],
+}
+
+unsafe extern "C" {
+    fn wait4(pid: i32, status: *mut i32, options: i32, usage: *mut Usage) -> i32;
+}
+
+struct Run {
+    seconds: f64,
+    resident: usize,
+    status: i32,
+}
+
+/// Each payload in a packet of its own, with the sequence ids from 0 on.
+fn make(input: &Input, path: &Path) -> io::Result<()> {
+    let mut out = BufWriter::new(File::create(path)?);
+    let payload: Vec<u8> = (0..input.payload).map(|n| (n % 251) as u8).collect();
+    let [a, b, c, _] = (input.payload as u32).to_le_bytes();
+    for n in 0..input.count {
+        out.write_all(&[a, b, c, n as u8])?;
+        out.write_all(&payload)?;
+    }
+    out.flush()
+}
+
+fn run(program: &[&str], input: &Path, output: &Path) -> io::Result<Run> {
+    let out = File::create(output)?;
+    let start = Instant::now();
+    let child = Command::new(program[0])
+        .args(&program[1..])
+        .arg(input)
+        .stdout(out)
+        .spawn()?;
+    let mut status = 0;
+    let mut usage = Usage::default();
+    // Sound: both pointers are to live values of the types that the call fills in.
+    if unsafe { wait4(child.id() as i32, &mut status, 0, &mut usage) } < 0 {
+        return Err(io::Error::last_os_error());
+    }
+    Ok(Run {
+        seconds: start.elapsed().as_secs_f64(),
+        resident: usage.max_resident_kib as usize * 1024,
+        status,
+    })
+}
+
+fn same(a: &Path, b: &Path) -> io::Result<bool> {
+    if fs::metadata(a)?.len() != fs::metadata(b)?.len() {
+        return Ok(false);
+    }
+    let a = BufReader::new(File::open(a)?).bytes();
+    let b = BufReader::new(File::open(b)?).bytes();
+    for (x, y) in a.zip(b) {
+        if x? != y? {
+            return Ok(false);
+        }
+    }
+    Ok(true)
+}
+
+fn best(runs: &[Run]) -> f64 {
+    runs.iter().map(|run| run.seconds).fold(f64::MAX, f64::min)
+}
+
+fn most(runs: &[Run]) -> usize {
+    runs.iter().map(|run| run.resident).max().unwrap_or(0)
+}
+
+fn mib(bytes: usize) -> f64 {
+    bytes as f64 / MIB as f64
+}
+
+/// Whether the goal is met on this input.
+fn compare(mrep: &str, baseline: &str, folder: &Path, input: &Input) -> io::Result<bool> {
+    let path = folder.join("input");
+    let (ours_out, theirs_out) = (folder.join("mrep"), folder.join("rust"));
+    make(input, &path)?;
+    let (mut ours, mut theirs) = (Vec::new(), Vec::new());
+    for _ in 0..RUNS {
+        ours.push(run(&[mrep, "packets"], &path, &ours_out)?);
+        theirs.push(run(&[baseline], &path, &theirs_out)?);
+    }
+    let agree = ours.iter().zip(&theirs).all(|(a, b)| a.status == b.status) && same(&ours_out, &theirs_out)?;
+    for file in [&path, &ours_out, &theirs_out] {
+        fs::remove_file(file)?;
+    }
+    let ratio = best(&ours) / best(&theirs);
+    let bound = 2 * input.payload + MORE;
+    println!(
+        "{}: mrep {:.3} s, Rust {:.3} s, ratio {ratio:.2} (goal {TIMES}); mrep {:.1} MiB, Rust {:.1} MiB (goal {:.1} MiB)",
+        input.name,
+        best(&ours),
+        best(&theirs),
+        mib(most(&ours)),
+        mib(most(&theirs)),
+        mib(bound),
+    );
+    if !agree {
+        println!("the two programs do not print the same");
+    }
+    Ok(agree && ratio <= TIMES && most(&ours) <= bound)
+}
+
+fn main() -> io::Result<ExitCode> {
+    let words: Vec<String> = std::env::args().collect();
+    let [_, mrep, baseline, folder] = words.as_slice() else {
+        eprintln!("usage: bench MREP BASELINE FOLDER");
+        return Ok(ExitCode::from(2));
+    };
+    let mut met = true;
+    for input in &INPUTS {
+        met &= compare(mrep, baseline, Path::new(folder), input)?;
+    }
+    Ok(if met { ExitCode::SUCCESS } else { ExitCode::FAILURE })
+}

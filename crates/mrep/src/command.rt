@@ -1,0 +1,72 @@
+//! The commands, by the words of a command line.
+
+ghost use Rattle.std.specs.Prelude.{◌≤◌, IfOk};
+
+use crate::failure::{Failure, MEMORY};
+use crate::packets::packets;
+use clap::error::ErrorKind;
+use clap::{Arg, ArgAction, Command};
+use std::alloc::{AllocError, Global};
+use std::convert::AsStr;
+use std::io;
+use std::io::Write;
+use std::rt::Files;
+
+/// What the words may be.
+fn grammar<'a>(alloc: Global) -> Result<Command<'a>, AllocError> {
+    let file = Arg::new(alloc, "FILE")
+        .required(true)
+        .action(ArgAction::Set)
+        .help("A stream of packets, as a file");
+    let packets = Command::new(alloc, "packets")
+        .about("List the payloads of a stream of packets: offset, sequence id, length")
+        .arg(file)?;
+    Ok(Command::new(alloc, "mrep")
+        .version("0.1.0")
+        .about("A follower of MySQL")
+        .subcommand_required(true)
+        .subcommand(packets)?)
+}
+
+fn run<'a, R: Files + AllocGlobal, S: AsStr, O: Write>(
+    rt: &R,
+    words: &'a [S],
+    out: &mut O,
+) -> Result<u8, Failure<'a>>
+    ensures { IfOk result (λ status. status ≤ MEMORY) }
+{
+    let mut command = grammar(rt.alloc())?;
+    let matches = command.try_get_matches_from_mut(words)?;
+    let status = match matches.subcommand() {
+        Some(("packets", given)) => packets(rt, given.get_str("FILE").unwrap_or(""), out)?,
+        _ => {
+            let error = command.error(ErrorKind::MissingSubcommand, "a command is needed")?;
+            return Err(Failure::Words(error));
+        }
+    };
+    out.flush()?;
+    Ok(status)
+}
+
+/// Runs the command that the words name, the first of which is the program's own name, and answers its
+/// exit status: 0 done, 1 refused by what the data says, 2 a mistake in the words, 3 a file or the
+/// output, 4 want of memory.
+///
+/// The lines of a command, help and the version go to `out`, which is flushed; all else goes to `err`.
+pub fn command<R: Files + AllocGlobal, S: AsStr, O: Write, E: Write>(
+    rt: &R,
+    words: &[S],
+    out: &mut O,
+    err: &mut E,
+) -> u8
+    ensures { result ≤ MEMORY }
+{
+    match run(rt, words, out) {
+        Ok(status) => status,
+        Err(failure) => {
+            let _ = failure.write(out, err);
+            let _ = out.flush();
+            failure.status()
+        }
+    }
+}

@@ -1,0 +1,92 @@
+//! Why a command stopped, other than by what it found in its data.
+
+ghost use Rattle.std.specs.Prelude.{◌≤◌};
+
+use clap::error::ErrorKind;
+use std::alloc::{AllocError, AllocFailed};
+use std::io;
+use std::io::Write;
+
+/// Done.
+pub const DONE: u8 = 0;
+/// Refused by what the data says.
+pub const REFUSED: u8 = 1;
+/// A mistake in the words.
+pub const USAGE: u8 = 2;
+/// A file or the output.
+pub const FILES: u8 = 3;
+/// Want of memory.
+pub const MEMORY: u8 = 4;
+
+/// Why a command stopped.
+#[derive(Debug, Drop)]
+pub enum Failure<'a> {
+    /// The words are no command, or they ask for help or the version.
+    Words(clap::Error),
+    /// The file of this name could not be opened or read.
+    File { name: &'a str, cause: io::Error },
+    /// The output could not be written.
+    Output(io::Error),
+    /// An allocation was refused.
+    Memory,
+}
+
+fn status_of(cause: &io::Error) -> u8
+    ensures { result ≤ MEMORY }
+{
+    if cause.kind() == io::ErrorKind::OutOfMemory {
+        MEMORY
+    } else {
+        FILES
+    }
+}
+
+impl Failure<'_> {
+    /// The exit status.
+    pub fn status(&self) -> u8
+        ensures { result ≤ MEMORY }
+    {
+        match self {
+            Failure::Words(error) if error.kind() == ErrorKind::OutOfMemory => MEMORY,
+            Failure::Words(error) if error.use_stderr() => USAGE,
+            Failure::Words(_) => DONE,
+            Failure::File { cause, .. } | Failure::Output(cause) => status_of(cause),
+            Failure::Memory => MEMORY,
+        }
+    }
+
+    /// Writes its text: help and the version to the output, all else to the errors.
+    pub fn write<O: Write, E: Write>(&self, out: &mut O, err: &mut E) -> io::Result<()> {
+        match self {
+            Failure::Words(error) if error.use_stderr() => write!(err, "{error}"),
+            Failure::Words(error) => write!(out, "{error}"),
+            Failure::File { name, cause } => writeln!(err, "mrep: {name}: {cause}"),
+            Failure::Output(cause) => writeln!(err, "mrep: output: {cause}"),
+            Failure::Memory => writeln!(err, "mrep: out of memory"),
+        }
+    }
+}
+
+impl From<clap::Error> for Failure<'_> {
+    fn from(error: clap::Error) -> Self {
+        Failure::Words(error)
+    }
+}
+
+impl From<io::Error> for Failure<'_> {
+    fn from(cause: io::Error) -> Self {
+        Failure::Output(cause)
+    }
+}
+
+impl From<AllocError> for Failure<'_> {
+    fn from(_error: AllocError) -> Self {
+        Failure::Memory
+    }
+}
+
+impl<T: Drop> From<AllocFailed<T>> for Failure<'_> {
+    fn from(_error: AllocFailed<T>) -> Self {
+        Failure::Memory
+    }
+}
