@@ -156,4 +156,3 @@ packets_length id (p ∷ pieces) full = omega (arith, full.0, packets_length (su
 pub concat_length : (pieces : List (List ℕ)) → AllByRecursion IsFullPiece pieces → length (concat pieces) ≡ length pieces * full_piece
 concat_length [] full = omega arith
 concat_length (p ∷ pieces) full = omega (arith, full.0, concat_length pieces full.1, length-append p (concat pieces))
-

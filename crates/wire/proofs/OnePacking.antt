@@ -24,15 +24,15 @@ same_pieces id [] [] l m x y fp fq sl sm same =
     (refl, e.0, e.1)
 same_pieces id [] (q ∷ qs) l m x y fp fq sl sm same =
     let e = same_packet id l q ([] ++ x) (packets (suc id) (qs ++ m ∷ []) ++ y) (short_fits (length l) sl) (full_fits q fq.0)
-        (sym (append_assoc (packet id l) [] x) ∙ same ∙ append_assoc (packet id q) (packets (suc id) (qs ++ m ∷ [])) y) in
+    (sym (append_assoc (packet id l) [] x) ∙ same ∙ append_assoc (packet id q) (packets (suc id) (qs ++ m ∷ [])) y) in
     absurd (omega (arith, ap length e.0, fq.0, sl))
 same_pieces id (p ∷ ps) [] l m x y fp fq sl sm same =
     let e = same_packet id p m (packets (suc id) (ps ++ l ∷ []) ++ x) ([] ++ y) (full_fits p fp.0) (short_fits (length m) sm)
-        (sym (append_assoc (packet id p) (packets (suc id) (ps ++ l ∷ [])) x) ∙ same ∙ append_assoc (packet id m) [] y) in
+    (sym (append_assoc (packet id p) (packets (suc id) (ps ++ l ∷ [])) x) ∙ same ∙ append_assoc (packet id m) [] y) in
     absurd (omega (arith, ap length e.0, fp.0, sm))
 same_pieces id (p ∷ ps) (q ∷ qs) l m x y fp fq sl sm same =
     let e = same_packet id p q (packets (suc id) (ps ++ l ∷ []) ++ x) (packets (suc id) (qs ++ m ∷ []) ++ y) (full_fits p fp.0) (full_fits q fq.0)
-        (sym (append_assoc (packet id p) (packets (suc id) (ps ++ l ∷ [])) x) ∙ same ∙ append_assoc (packet id q) (packets (suc id) (qs ++ m ∷ [])) y) in
+    (sym (append_assoc (packet id p) (packets (suc id) (ps ++ l ∷ [])) x) ∙ same ∙ append_assoc (packet id q) (packets (suc id) (qs ++ m ∷ [])) y) in
     let r = same_pieces (suc id) ps qs l m x y fp.1 fq.1 sl sm e.1 in
     ((λ i. e.0 i ∷ r.0 i), r.1, r.2)
 
@@ -72,16 +72,19 @@ unfolding full_piece
 a_packing id p =
     let n = length p / full_piece in
     let ps = full_pieces n p in
-    let l = drop (n * full_piece) p in
-    (packets id (ps ++ l ∷ []), (id + length ps + 1) % 256, record {
-      pieces = ps;
-      last = l;
-      full = full_pieces_full n p (omega arith);
-      short = omega (arith, length-drop (n * full_piece) p);
-      cut = sym (concat-full_pieces n p);
-      packed = refl;
-      follows = refl;
-    })
+    let l = drop (n * full_piece) p in (
+      packets id (ps ++ l ∷ []),
+      (id + length ps + 1) % 256,
+      record {
+        pieces = ps;
+        last = l;
+        full = full_pieces_full n p (omega arith);
+        short = omega (arith, length-drop (n * full_piece) p);
+        cut = sym (concat-full_pieces n p);
+        packed = refl;
+        follows = refl;
+      },
+    )
 
 -- four bytes for each packet
 pub length_packing : {id : ℕ} {p bytes : List ℕ} {next : ℕ} → IsPacking id p bytes next → length bytes ≡ packing_length (length p)

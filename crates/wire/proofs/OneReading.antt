@@ -41,11 +41,11 @@ agree due bytes m size id n size' id' a b = elim (order m n) [
     same_or_before : (d : ℕ) → n ≡ m + d → Agree due m size id n size' id'
     same_or_before zero at =
         let e = same_header size id a.more size' id' b.more a.fits b.fits
-            (chain_split due m 0 n (due + m) bytes (little_bytes 3 size ++ id ∷ a.more) (little_bytes 3 size' ++ id' ∷ b.more) a.chain at refl b.chain) in
+        (chain_split due m 0 n (due + m) bytes (little_bytes 3 size ++ id ∷ a.more) (little_bytes 3 size' ++ id' ∷ b.more) a.chain at refl b.chain) in
         inl (omega (arith, at), e.0, e.1)
     same_or_before (suc d) at =
         let e = before_it due m size id (little_bytes 3 size ++ id ∷ a.more) (little_bytes 3 size' ++ id' ∷ b.more) a.more d refl a.fits
-            (chain_split due m (suc d) n (due + m) bytes (little_bytes 3 size ++ id ∷ a.more) (little_bytes 3 size' ++ id' ∷ b.more) a.chain at refl b.chain) in
+        (chain_split due m (suc d) n (due + m) bytes (little_bytes 3 size ++ id ∷ a.more) (little_bytes 3 size' ++ id' ∷ b.more) a.chain at refl b.chain) in
         inr (inl (omega (arith, at), e.0, e.1))
 
 of_header : {due limit : ℕ} {bytes : List ℕ} {before size id : ℕ} (h : HasHeader due limit bytes before size id) → Stands due bytes before size id

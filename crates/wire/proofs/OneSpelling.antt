@@ -52,12 +52,12 @@ pub spells : (n : ℕ) → n < 2 ^ 64 → IsLengthEncoded n (length_encoded n)
 spells n fits = elim (cases_lt 250 n) [
   | inr small ↦ inl (small, one_byte n small)
   | inl above ↦ elim (cases_lt n (2 ^ 16)) [
-      | inl short ↦ inr (inl (short, two_bytes n above short))
-      | inr long ↦ elim (cases_lt n (2 ^ 24)) [
-          | inl short ↦ inr (inr (inl (short, three_bytes n long short)))
-          | inr longer ↦ inr (inr (inr (fits, eight_bytes n longer)))
-        ]
+    | inl short ↦ inr (inl (short, two_bytes n above short))
+    | inr long ↦ elim (cases_lt n (2 ^ 24)) [
+      | inl short ↦ inr (inr (inl (short, three_bytes n long short)))
+      | inr longer ↦ inr (inr (inr (fits, eight_bytes n longer)))
     ]
+  ]
 ]
 
 at_most_3 : (n : ℕ) → n < 2 ^ 16 → length (length_encoded n) ≤ 3

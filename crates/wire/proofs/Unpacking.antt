@@ -72,7 +72,7 @@ held_of-full old new size whole is is_full long d f k p =
     ∙ ap (λ x. packets old.due (ps ++ x ∷ [])) (take_all full_piece last (omega (arith, sized)))
     ∙ packets-push old.due ps last
     ∙ ap (λ x. packets old.due ps ++ x)
-      (sym (header_and old.due old.full size old.filled old.header last (length ps) whole is (sized ∙ sym is_full) (length-full_pieces old.full xs)))
+    (sym (header_and old.due old.full size old.filled old.header last (length ps) whole is (sized ∙ sym is_full) (length-full_pieces old.full xs)))
 
 -- a last piece that is whole
 pub whole_payload : (u : Unpacker) → IsInPiece u → IsComplete u → IsWholePayload u.due u.limit (held_of u) u.payload.items ((u.due + u.full + 1) % 256)
@@ -113,8 +113,8 @@ counted : (u : Unpacker) → length (packets u.due (full_pieces u.full u.payload
     ≡ length (packets u.due (full_pieces u.full u.payload.items)) + (min u.filled (length u.header) + (length u.payload.items - u.full * full_piece))
 counted u = length-append (packets u.due (full_pieces u.full u.payload.items)) (at_hand u)
     ∙ ap (λ n. length (packets u.due (full_pieces u.full u.payload.items)) + n)
-      (length-append (take u.filled u.header) (drop (u.full * full_piece) u.payload.items)
-      ∙ (λ i. length-take u.filled u.header i + length-drop (u.full * full_piece) u.payload.items i))
+    (length-append (take u.filled u.header) (drop (u.full * full_piece) u.payload.items)
+    ∙ (λ i. length-take u.filled u.header i + length-drop (u.full * full_piece) u.payload.items i))
 
 pub held_unfinished : (u : Unpacker) → IsUnpacking u → (IsComplete u → ⊥) → IsUnfinished u.due u.limit (held_of u)
 held_unfinished u (inl h) open_end =
@@ -126,8 +126,14 @@ held_unfinished u (inr h) open_end =
     let is : at_hand u ≡ little_bytes 3 h.size ++ (u.due + u.full) % 256 ∷ last = λ i. take (h.whole_header i) (h.header.bytes_are i) ++ last in
     unfinished u.due u.limit u.full (u.limit - u.full * full_piece) ((u.due + u.full) % 256) (held_of u) (at_hand u)
     (scanned u (omega (arith, h.sum, h.left)) (omega (arith, h.within)))
-    (inr (h.size, last, is, omega (arith, h.sum, h.within), size_fits h.size h.header.a_size,
-      omega (arith, length-drop (u.full * full_piece) u.payload.items, h.sum, some_left)))
+    (inr (
+      h.size,
+      last,
+      is,
+      omega (arith, h.sum, h.within),
+      size_fits h.size h.header.a_size,
+      omega (arith, length-drop (u.full * full_piece) u.payload.items, h.sum, some_left),
+    ))
 
 -- the header that is whole now, with what follows it
 pub header_held : (u : Unpacker) (size got : ℕ) (more : List ℕ) → length u.payload.items ≡ u.full * full_piece → length u.payload.items ≤ u.limit →
@@ -164,11 +170,26 @@ too_long u size more whole within filled is above =
 pub length-held_of : (u : Unpacker) → IsUnpacking u → length (held_of u) ≤ u.limit + 4 * (u.full + 1)
 unfolding held_of
 length-held_of u (inl h) =
-    omega (arith, h.open_header, h.whole_pieces, h.within, counted u, packets_length u.due (full_pieces u.full u.payload.items) (full_pieces_full u.full u.payload.items (omega (arith, h.whole_pieces))),
-      ap (λ n. n * (full_piece + 4)) (length-full_pieces u.full u.payload.items))
+    omega (
+      arith,
+      h.open_header,
+      h.whole_pieces,
+      h.within,
+      counted u,
+      packets_length u.due (full_pieces u.full u.payload.items) (full_pieces_full u.full u.payload.items (omega (arith, h.whole_pieces))),
+      ap (λ n. n * (full_piece + 4)) (length-full_pieces u.full u.payload.items),
+    )
 length-held_of u (inr h) =
-    omega (arith, h.whole_header, h.sum, h.left, h.within, counted u, packets_length u.due (full_pieces u.full u.payload.items) (full_pieces_full u.full u.payload.items (omega (arith, h.sum, h.left))),
-      ap (λ n. n * (full_piece + 4)) (length-full_pieces u.full u.payload.items))
+    omega (
+      arith,
+      h.whole_header,
+      h.sum,
+      h.left,
+      h.within,
+      counted u,
+      packets_length u.due (full_pieces u.full u.payload.items) (full_pieces_full u.full u.payload.items (omega (arith, h.sum, h.left))),
+      ap (λ n. n * (full_piece + 4)) (length-full_pieces u.full u.payload.items),
+    )
 
 -- bytes taken, and then more of them
 pub taken_more : {old mid new : Unpacker} {bytes : List ℕ} {n m : ℕ} → Takes old mid bytes n → Takes mid new (drop n bytes) m → Takes old new bytes (n + m)

@@ -20,3 +20,6 @@ pub use assembler::{Assembler, Step};
 pub use fault::WireFault;
 pub use integer::{read_int, write_int};
 pub use packet::{LARGEST_PAYLOAD, write_payload};
+
+#[cfg(test)]
+mod tests;

@@ -4,12 +4,15 @@ use Rattle.wire.proofs.Unpacking.{held_of-empty, nothing_held, in_header}
 use Rattle.wire.proofs.assembler.Assembler.expect.Goals as goal
 
 pub invariant_of-self : goal.invariant_of-self
-invariant_of-self c = (c.self.invariant.0, λ e.
-    let u = c.self.inside.unpacker in
-    let stands = (c.self.invariant.1 e).0 in
-    let none = nothing_held u stands (ap (λ r. r.held) c.self.view_is ∙ c.requires.0) in
-    let h = in_header u stands (omega (arith, none.0)) in
-    (inl (record { sized = h.sized; open_header = h.open_header; whole_pieces = h.whole_pieces; within = h.within }), λ k. omega (arith, k.0, none.0)))
+invariant_of-self c = (
+  c.self.invariant.0,
+  λ e.
+      let u = c.self.inside.unpacker in
+      let stands = (c.self.invariant.1 e).0 in
+      let none = nothing_held u stands (ap (λ r. r.held) c.self.view_is ∙ c.requires.0) in
+      let h = in_header u stands (omega (arith, none.0)) in
+      (inl (record { sized = h.sized; open_header = h.open_header; whole_pieces = h.whole_pieces; within = h.within }), λ k. omega (arith, k.0, none.0)),
+)
 
 pub returns : goal.returns
 returns c =

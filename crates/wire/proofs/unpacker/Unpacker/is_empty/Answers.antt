@@ -4,8 +4,7 @@ use Rattle.wire.proofs.unpacker.Unpacker.is_empty.Goals as goal
 
 pub returns-then-self-eq0 : goal.returns-then-self-eq0
 returns-then-self-eq0 c =
-    let u = c.args.self.now in
-    (
+    let u = c.args.self.now in (
       (λ e. let none : vec_len u.payload ≡ 0 = grind (arith, e, c.is_empty.ensures) in held_of-empty u c.requires c.if-self-eq0.true (omega (arith, none, u.payload.ok))),
       (λ e. let none : vec_len u.payload ≡ 0 = omega (arith, (nothing_held u c.requires e).1, u.payload.ok) in grind (arith, none, c.is_empty.ensures)),
     )

@@ -30,7 +30,7 @@ returns-in_err-self-clause-sequence c want got equal =
     let filled : mid.filled ≡ 4 = omega arith in
     subst (λ b. IsOutOfSequence old.due old.limit b want got)
     (rejoined (held_of old) (held_of mid) c.args.bytes.now used
-      (held_of-header old mid (take used c.args.bytes.now) h.whole_pieces refl refl refl c.fill-used.ensures.filled))
+    (held_of-header old mid (take used c.args.bytes.now) h.whole_pieces refl refl refl c.fill-used.ensures.filled))
     (out_of_sequence mid q.2 want got (drop used c.args.bytes.now) h.whole_pieces h.within filled q.3 q.0 (λ e. q.1 (e ∙ q.0)))
 
 pub returns-in_err-self-clause-too_large : goal.returns-in_err-self-clause-too_large
@@ -44,7 +44,7 @@ returns-in_err-self-clause-too_large c equal =
     let filled : mid.filled ≡ 4 = omega arith in
     subst (λ b. IsTooLong old.due old.limit b)
     (rejoined (held_of old) (held_of mid) c.args.bytes.now used
-      (held_of-header old mid (take used c.args.bytes.now) h.whole_pieces refl refl refl c.fill-used.ensures.filled))
+    (held_of-header old mid (take used c.args.bytes.now) h.whole_pieces refl refl refl c.fill-used.ensures.filled))
     (too_long mid q.0 (drop used c.args.bytes.now) h.whole_pieces h.within filled q.2 (omega (arith, q.1)))
 
 pub returns-clause-ok : goal.returns-clause-ok

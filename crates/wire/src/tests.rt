@@ -1,0 +1,213 @@
+//! Worked values of the public standard's layouts, and calls that no clause can promise: with memory to
+//! spare each call succeeds, and a long stream in small pieces is read in a short time.
+
+ghost use Rattle.std.specs.Prelude.{◌<◌};
+
+use crate::{Assembler, LARGEST_PAYLOAD, Step, WireFault, read_int, write_int, write_payload};
+use std::test::Fail;
+
+const SPELLINGS: [(u64, &[u8]); 8] = [
+    (5, &[0x05]),
+    (250, &[0xfa]),
+    (251, &[0xfc, 0xfb, 0x00]),
+    (65_535, &[0xfc, 0xff, 0xff]),
+    (65_536, &[0xfd, 0x00, 0x00, 0x01]),
+    (16_777_215, &[0xfd, 0xff, 0xff, 0xff]),
+    (
+        16_777_216,
+        &[0xfe, 0x00, 0x00, 0x00, 0x01, 0x00, 0x00, 0x00, 0x00],
+    ),
+    (
+        u64::MAX,
+        &[0xfe, 0xff, 0xff, 0xff, 0xff, 0xff, 0xff, 0xff, 0xff],
+    ),
+];
+
+#[test]
+fn integers(rt: HostRuntime) -> Result<(), Fail> {
+    for (value, bytes) in SPELLINGS {
+        let mut out = Vec::new(rt.alloc());
+        write_int(value, &mut out)?;
+        assert_eq!(rt; out.as_slice(), bytes, "{value}");
+        out.push(0xff)?;
+        assert_eq!(rt; read_int(&out), Some((value, bytes.len())), "{value}");
+    }
+    let longer: [(u64, &[u8]); 2] = [(5, &[0xfc, 0x05, 0x00]), (0, &[0xfd, 0x00, 0x00, 0x00])];
+    for (value, bytes) in longer {
+        assert_eq!(rt; read_int(bytes), Some((value, bytes.len())), "{bytes:?}");
+    }
+    let none: [&[u8]; 5] = [
+        &[],
+        &[0xfb],
+        &[0xff],
+        &[0xfc, 0x05],
+        &[0xfe, 1, 2, 3, 4, 5, 6, 7],
+    ];
+    for bytes in none {
+        assert_eq!(rt; read_int(bytes), None, "{bytes:?}");
+    }
+    Ok(())
+}
+
+/// The length of a payload, its first id, the length of its packing, its last header and the id due next.
+const PACKINGS: [(usize, u8, usize, [u8; 4], u8); 7] = [
+    (0, 0, 4, [0, 0, 0, 0], 1),
+    (1, 0, 5, [1, 0, 0, 0], 1),
+    (16_777_214, 0, 16_777_218, [0xfe, 0xff, 0xff, 0], 1),
+    (16_777_215, 0, 16_777_223, [0, 0, 0, 1], 2),
+    (16_777_216, 0, 16_777_224, [1, 0, 0, 1], 2),
+    (33_554_430, 0, 33_554_442, [0, 0, 0, 2], 3),
+    (16_777_215, 255, 16_777_223, [0, 0, 0, 0], 1),
+];
+
+/// How a payload is written, and read again in pieces of 65,536 bytes.
+#[test]
+fn packings(rt: HostRuntime) -> Result<(), Fail> {
+    for (length, first, total, header, next) in PACKINGS {
+        let payload = vec![in rt.alloc(); 7u8; length]?;
+        let mut out = vec![in rt.alloc(); 9]?;
+        assert_eq!(rt; write_payload(first, &payload, &mut out)?, next, "{length}");
+        assert_eq!(rt; out.len(), total + 1, "{length}");
+        let last = length % 16_777_215;
+        assert_eq!(rt;
+            out.get(out.len() - last - 4..out.len() - last),
+            Some(header.as_slice()),
+            "{length}"
+        );
+        let mut assembler = Assembler::new(rt.alloc(), LARGEST_PAYLOAD);
+        assembler.expect(first);
+        let mut found = None;
+        for piece in out[1..].chunks(65_536) {
+            assert!(rt; found.is_none(), "{length}");
+            let Step { used, payload } = assembler.step(piece)?;
+            assert_eq!(rt; used, piece.len(), "{length}");
+            found = payload;
+        }
+        assert_eq!(rt;
+            found.ok_or("no payload")?.as_slice(),
+            payload.as_slice(),
+            "{length}"
+        );
+    }
+    Ok(())
+}
+
+/// The payloads of a stream whose first id is 254, read in pieces of this length.
+fn payloads(rt: &HostRuntime, stream: &[u8], length: usize) -> Result<Vec<Vec<u8>>, WireFault>
+    requires { 0 < length }
+{
+    let mut assembler = Assembler::new(rt.alloc(), LARGEST_PAYLOAD);
+    if assembler.between() {
+        assembler.expect(254);
+    }
+    let mut payloads = Vec::new(rt.alloc());
+    for piece in stream.chunks(length) {
+        let mut rest = piece;
+        while !rest.is_empty() {
+            let Step { used, payload } = assembler.step(rest)?;
+            rest = &rest[used..];
+            if let Some(payload) = payload {
+                payloads.push(payload)?;
+            }
+        }
+    }
+    Ok(payloads)
+}
+
+/// However a stream is cut into pieces, its payloads are the same. The ids wrap from 255 to 0.
+#[test]
+fn pieces(rt: HostRuntime) -> Result<(), Fail> {
+    let contents = [(3usize, 1u8), (0, 2), (16_777_215, 3), (5, 4)];
+    let mut stream = Vec::new(rt.alloc());
+    let mut id = 254;
+    for (length, byte) in contents {
+        let payload = vec![in rt.alloc(); byte; length]?;
+        id = write_payload(id, &payload, &mut stream)?;
+    }
+    assert_eq!(rt; id, 3);
+    for length in [1usize, 2, 3, 4, 5, 65_536, 20_000_000] {
+        let found = payloads(&rt, &stream, length)?;
+        assert_eq!(rt; found.len(), contents.len(), "in pieces of {length}");
+        for (payload, (want, fill)) in found.iter().zip(contents) {
+            assert_eq!(rt; payload.len(), want, "in pieces of {length}");
+            assert!(rt;
+                payload.iter().all(|byte| *byte == fill),
+                "in pieces of {length}"
+            );
+        }
+    }
+    Ok(())
+}
+
+/// A limit, the id due, the bytes of a header, and the fault that comes with its fourth byte.
+const FAULTS: [(usize, u8, [u8; 4], Option<WireFault>); 6] = [
+    (
+        100,
+        2,
+        [1, 0, 0, 3],
+        Some(WireFault::Sequence { want: 2, got: 3 }),
+    ),
+    (
+        100,
+        0,
+        [0xff, 0xff, 0xff, 1],
+        Some(WireFault::Sequence { want: 0, got: 1 }),
+    ),
+    (100, 0, [101, 0, 0, 0], Some(WireFault::TooLarge)),
+    (100, 0, [100, 0, 0, 0], None),
+    (
+        16_777_214,
+        0,
+        [0xff, 0xff, 0xff, 0],
+        Some(WireFault::TooLarge),
+    ),
+    (16_777_215, 0, [0xff, 0xff, 0xff, 0], None),
+];
+
+#[test]
+fn faults(rt: HostRuntime) -> Result<(), Fail> {
+    for (limit, due, header, fault) in FAULTS {
+        if limit > LARGEST_PAYLOAD {
+            continue;
+        }
+        let mut assembler = Assembler::new(rt.alloc(), limit);
+        assembler.expect(due);
+        let step = assembler.step(&header[..3])?;
+        assert!(rt;
+            step.payload.is_none() && !assembler.between(),
+            "{header:?}"
+        );
+        match assembler.step(&header[3..]) {
+            Ok(step) => {
+                assert!(rt; fault.is_none() && step.payload.is_none(), "{header:?}");
+            }
+            Err(found) => {
+                assert_eq!(rt; Some(found), fault, "{header:?}");
+                assert_eq!(rt;
+                    assembler.step(&[0]).err(),
+                    Some(WireFault::Ended),
+                    "{header:?}"
+                );
+            }
+        }
+    }
+    Ok(())
+}
+
+/// The second packet of a payload is held to the limit with the first, and to the id after it.
+#[test]
+fn second_packet(rt: HostRuntime) -> Result<(), Fail> {
+    let mut stream = vec![in rt.alloc(); 0xff, 0xff, 0xff, 0]?;
+    stream.resize(16_777_219, 7)?;
+    let headers = [
+        ([6, 0, 0, 1], Some(WireFault::TooLarge)),
+        ([5, 0, 0, 1], None),
+        ([5, 0, 0, 5], Some(WireFault::Sequence { want: 1, got: 5 })),
+    ];
+    for (header, fault) in headers {
+        let mut assembler = Assembler::new(rt.alloc(), 16_777_220);
+        assert!(rt; assembler.step(&stream)?.payload.is_none());
+        assert_eq!(rt; assembler.step(&header).err(), fault, "{header:?}");
+    }
+    Ok(())
+}
