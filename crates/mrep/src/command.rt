@@ -21,11 +21,13 @@ fn grammar<'a>(alloc: Global) -> Result<Command<'a>, AllocError> {
     let packets = Command::new(alloc, "packets")
         .about("List the payloads of a stream of packets: offset, sequence id, length")
         .arg(file)?;
-    Ok(Command::new(alloc, "mrep")
-        .version("0.1.0")
-        .about("A follower of MySQL")
-        .subcommand_required(true)
-        .subcommand(packets)?)
+    Ok(
+        Command::new(alloc, "mrep")
+            .version("0.1.0")
+            .about("A follower of MySQL")
+            .subcommand_required(true)
+            .subcommand(packets)?,
+    )
 }
 
 fn run<'a, R: Files + AllocGlobal, S: AsStr, O: Write>(

@@ -1,25 +1,40 @@
-//! `mrep`, a follower of MySQL: its programs.
+//! `mrep`, a follower of MySQL: its commands, one of which runs at a time.
+//!
+//! `command` does the work, over the words, the output and the errors that it is given; `main` gives it
+//! those of the process.
 #![tactic(auto)]
 
 mod command;
 mod failure;
 mod packets;
 mod reason;
+#[cfg(test)]
+mod tests;
 
-use std::io;
+use crate::command::command;
+use crate::failure::{MEMORY, USAGE};
 use std::io::BufWriter;
 use std::process::ExitCode;
+use std::{env, io};
 
-/// The exit status where the arguments or a buffer could not be had.
-const NO_START: u8 = 4;
-
-fn start(rt: &HostRuntime) -> io::Result<u8> {
-    let words: Vec<String> = std::env::args(rt)?.collect(rt.alloc())?;
+/// Runs the command with a buffered output. It fails only where the words are no text, or for memory.
+fn run(rt: &HostRuntime) -> io::Result<u8> {
+    let words: Vec<String> = env::args(rt)?.collect(rt.alloc())?;
     let mut out = BufWriter::new(rt.alloc(), rt.stdout())?;
-    let mut err = rt.stderr();
-    Ok(command::command(rt, words.as_slice(), &mut out, &mut err))
+    Ok(command(rt, words.as_slice(), &mut out, &mut rt.stderr()))
 }
 
 fn main(rt: HostRuntime) -> ExitCode {
-    ExitCode::from(start(&rt).unwrap_or(NO_START))
+    let status = match run(&rt) {
+        Ok(status) => status,
+        Err(cause) if cause.kind() == io::ErrorKind::InvalidData => {
+            let _ = eprintln!(rt; "mrep: a word is not UTF-8");
+            USAGE
+        }
+        Err(_) => {
+            let _ = eprintln!(rt; "mrep: out of memory");
+            MEMORY
+        }
+    };
+    ExitCode::from(status)
 }

@@ -5,10 +5,9 @@ ghost use Rattle.std.specs.Prelude.{◌≡◌, ◌≤◌, ◌<◌, [], false, le
 use crate::failure::{DONE, Failure, MEMORY, REFUSED};
 use crate::reason::wire_reason;
 use std::alloc::Global;
-use std::fs;
-use std::io;
 use std::io::{Read, Write};
 use std::rt::Files;
+use std::{fs, io};
 use wire::{Assembler, LARGEST_PAYLOAD, Step, WireFault};
 
 /// The length of a packet's header, whose last byte is the sequence id.

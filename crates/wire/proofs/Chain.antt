@@ -1,12 +1,12 @@
 -- Full packets at the front of bytes, and what stands behind them.
-use Rattle.std.proofs.Common.{◌≡◌, ◌≢◌, ℕ, zero, suc, ◌+◌, ◌-◌, ◌*◌, ◌/◌, ◌%◌, ◌<◌, ◌≤◌, ◌^◌, ◌⊎◌, List, [], ◌∷◌, ◌++◌, length, get_or, take, drop, refl, ap, sym, subst, ◌∙◌, append_assoc, arith, length-append, inl, inr, lit<}
-use Rattle.std.proofs.Math.Seq.{drop-append_seam, take-append_seam}
-use Rattle.std.proofs.lemmas.List.{take-append-drop, take-append-le, length-take-le}
+use Rattle.std.proofs.Common.{◌≡◌, ℕ, zero, suc, ◌+◌, ◌*◌, ◌/◌, ◌%◌, ◌<◌, ◌≤◌, ◌^◌, ◌⊎◌, List, [], ◌∷◌, ◌++◌, length, get_or, drop, refl, ap, sym, subst, ◌∙◌, append_assoc, arith, length-append, inl, inr}
+use Rattle.std.proofs.Math.Seq.{drop-append_seam}
+use Rattle.std.proofs.lemmas.List.{take-append-drop}
 use Rattle.std.specs.List.{concat, AllByRecursion}
-use Rattle.wire.proofs.Packets.{packets-push, mod-next}
-use Rattle.byteorder.specs.Endian.{little_bytes, little_number}
-use Rattle.wire.specs.Packet.{full_piece, packet, packets, IsFullPiece, IsPacking}
-use Rattle.wire.specs.Stream.{HasHeader, IsOutOfSequence, IsTooLong, IsUnfinished}
+use Rattle.wire.proofs.Packets.{packets-push}
+use Rattle.byteorder.specs.Endian.{little_bytes}
+use Rattle.wire.specs.Packet.{full_piece, packet, packets, IsFullPiece}
+use Rattle.wire.specs.Stream.{HasHeader, IsUnfinished}
 
 -- n full packets from the id, and then the rest
 abbrev pub Chain : ℕ → ℕ → List ℕ → List ℕ → Type 0

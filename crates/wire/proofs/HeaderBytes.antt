@@ -1,6 +1,6 @@
 -- Headers of packets, as bytes and as numbers.
-use Rattle.std.proofs.Common.{◌≡◌, ℕ, ◌+◌, ◌*◌, ◌/◌, ◌%◌, ◌<◌, ◌≤◌, ◌^◌, List, [], ◌∷◌, ◌++◌, length, get_or, drop, refl, ap, arith}
-use Rattle.byteorder.specs.Endian.{little_bytes, little_number}
+use Rattle.std.proofs.Common.{◌≡◌, ℕ, ◌/◌, ◌%◌, ◌<◌, List, [], ◌∷◌, length, get_or, arith}
+use Rattle.byteorder.specs.Endian.{little_number}
 use Rattle.wire.specs.Packet.{full_piece}
 use Rattle.wire.specs.Header.{IsHeader}
 

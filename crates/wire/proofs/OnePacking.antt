@@ -1,11 +1,11 @@
 -- A payload has one packing, and the packings of two payloads do not begin one another.
-use Rattle.std.proofs.Common.{◌≡◌, ℕ, suc, ◌+◌, ◌*◌, ◌/◌, ◌%◌, ◌<◌, ◌≤◌, ◌^◌, List, [], ◌∷◌, ◌++◌, length, take, drop, refl, ap, sym, ◌∙◌, append_assoc, arith, length-append, length-drop}
+use Rattle.std.proofs.Common.{◌≡◌, ℕ, suc, ◌+◌, ◌*◌, ◌/◌, ◌%◌, ◌<◌, ◌≤◌, ◌^◌, List, [], ◌∷◌, ◌++◌, length, take, drop, refl, ap, sym, ◌∙◌, append_assoc, arith, length-append, length-drop, length-take}
 use Rattle.std.proofs.Math.Seq.{drop-append_seam, take-append_seam}
 use Rattle.std.specs.List.{concat, AllByRecursion}
 use Rattle.wire.specs.Packet.{full_piece, packet, packets, IsFullPiece, IsPacking, packing_length}
 use Rattle.wire.specs.Held.{full_pieces}
 use Rattle.wire.proofs.Packets.{packets-push}
-use Rattle.wire.proofs.Pieces.{full_pieces_full, length-full_pieces, concat-full_pieces}
+use Rattle.wire.proofs.Pieces.{full_pieces_full, concat-full_pieces}
 use Rattle.wire.proofs.Chain.{peel, full_fits, short_fits, packets_length, concat_length}
 
 -- equal bytes that begin with packets of one id
@@ -92,3 +92,9 @@ unfolding full_piece
 length_packing {id} {p} {bytes} f =
     let counts = ap length f.packed ∙ ap length (packets-push id f.pieces f.last) ∙ length-append (packets id f.pieces) (packet (id + length f.pieces) f.last) in
     omega (arith, counts, packets_length id f.pieces f.full, ap length f.cut ∙ length-append (concat f.pieces) f.last, concat_length f.pieces f.full, f.short)
+
+-- the same where the bytes are those that were held and some of those that came
+pub length_packing-held : {id : ℕ} {p : List ℕ} {next : ℕ} (old held new bytes : List ℕ) (used : ℕ) → old ≡ held → new ≡ old ++ take used bytes → used ≤ length bytes →
+    IsPacking id p new next → length held + used ≡ packing_length (length p)
+length_packing-held old held new bytes used same taken within f =
+    omega (arith, ap length same, ap length taken ∙ length-append old (take used bytes), length-take used bytes, within, length_packing f)

@@ -1,10 +1,10 @@
 -- A stream has one reading, in whatever pieces it is taken.
-use Rattle.std.proofs.Common.{◌≡◌, ℕ, zero, suc, ◌+◌, ◌*◌, ◌%◌, ◌<◌, ◌≤◌, ◌^◌, ◌⊎◌, List, [], ◌∷◌, ◌++◌, length, take, drop, refl, ap, sym, subst, ◌∙◌, append_assoc, arith, length-append, length-take, inl, inr}
+use Rattle.std.proofs.Common.{◌≡◌, ℕ, zero, suc, ◌+◌, ◌*◌, ◌%◌, ◌<◌, ◌≤◌, ◌^◌, ◌⊎◌, List, [], ◌∷◌, ◌++◌, length, refl, ap, sym, subst, ◌∙◌, append_assoc, arith, length-append, length-take, inl, inr}
 use Rattle.std.proofs.lemmas.List.{append-nil}
 use Rattle.std.proofs.Math.Seq.{take-append_seam}
-use Rattle.std.specs.List.{concat, AllByRecursion}
+use Rattle.std.specs.List.{concat}
 use Rattle.byteorder.specs.Endian.{little_bytes}
-use Rattle.wire.specs.Packet.{full_piece, packet, packets, IsFullPiece, IsPacking}
+use Rattle.wire.specs.Packet.{full_piece, packet, packets}
 use Rattle.wire.specs.Stream.{HasHeader, IsOutOfSequence, IsTooLong, IsUnfinished, IsWholePayload}
 use Rattle.wire.specs.Reading.{Ending, Held, OutOfSequence, TooLong, EndsSo, IsStream, Runs, stopped, held_all, handed_out, out_of_sequence, too_long}
 use Rattle.wire.proofs.Packets.{packets-push}
@@ -146,10 +146,10 @@ more_header {due} {limit} {bytes} {before} {size} {id} more h = record {
   an_id = h.an_id;
 }
 
-more_wrong : {due limit want got : ℕ} {bytes : List ℕ} (more : List ℕ) → IsOutOfSequence due limit bytes want got → IsOutOfSequence due limit (bytes ++ more) want got
+pub more_wrong : {due limit want got : ℕ} {bytes : List ℕ} (more : List ℕ) → IsOutOfSequence due limit bytes want got → IsOutOfSequence due limit (bytes ++ more) want got
 more_wrong more a = record { before = a.before; size = a.size; header = more_header more a.header; wanted = a.wanted; differs = a.differs }
 
-more_long : {due limit : ℕ} {bytes : List ℕ} (more : List ℕ) → IsTooLong due limit bytes → IsTooLong due limit (bytes ++ more)
+pub more_long : {due limit : ℕ} {bytes : List ℕ} (more : List ℕ) → IsTooLong due limit bytes → IsTooLong due limit (bytes ++ more)
 more_long more a = record { before = a.before; size = a.size; header = more_header more a.header; above = a.above }
 
 -- no bytes are no payload, and nothing is wrong with them

@@ -3,7 +3,7 @@ use Rattle.std.proofs.Common.{◌≡◌, ℕ, suc, ◌+◌, ◌%◌, ◌<◌, Li
 use Rattle.std.proofs.lemmas.List.{append-nil}
 use Rattle.std.proofs.lemmas.List.Folds.{concat-append}
 use Rattle.std.specs.List.{concat, AllByRecursion}
-use Rattle.wire.specs.Packet.{full_piece, packet, packets, IsFullPiece, IsPacking, AppendsPacking}
+use Rattle.wire.specs.Packet.{full_piece, packet, packets, IsFullPiece, AppendsPacking}
 
 mod-mod : (n : ℕ) → n % 256 % 256 ≡ n % 256
 mod-mod n = omega arith

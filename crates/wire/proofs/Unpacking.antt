@@ -1,17 +1,16 @@
 -- What an unpacker holds, as its fields change.
-use Rattle.std.proofs.Common.{◌≡◌, ◌≢◌, ℕ, zero, suc, ◌+◌, ◌-◌, ◌*◌, ◌%◌, ◌<◌, ◌≤◌, ◌⊎◌, ◌^◌, min, List, [], ◌∷◌, ◌++◌, length, take, drop, refl, ap, sym, subst, ◌∙◌, append_assoc, arith, length-append, length-drop, length-take, inl, inr}
+use Rattle.std.proofs.Common.{◌≡◌, ◌≢◌, ℕ, suc, ◌+◌, ◌-◌, ◌*◌, ◌%◌, ◌<◌, ◌≤◌, min, List, [], ◌∷◌, ◌++◌, length, take, drop, refl, ap, sym, subst, ◌∙◌, append_assoc, arith, length-append, length-drop, length-take, inl, inr}
 use Rattle.std.proofs.lemmas.List.{take-append-drop, drop-append-le, take_all, drop_all, append-nil}
 use Rattle.std.proofs.Math.Seq.{take-add}
-use Rattle.std.specs.List.{concat, AllByRecursion}
 use Rattle.byteorder.specs.Endian.{little_bytes}
-use Rattle.wire.specs.Packet.{full_piece, packet, packets, IsFullPiece, IsPacking}
+use Rattle.wire.specs.Packet.{full_piece, packet, packets}
 use Rattle.wire.specs.Header.{IsHeader}
 use Rattle.wire.specs.Stream.{HasHeader, IsOutOfSequence, IsTooLong, IsUnfinished, IsWholePayload}
 use Rattle.wire.specs.Held.{full_pieces, at_hand, held_of, IsInHeader, IsInPiece, IsUnpacking, IsComplete, Takes}
 use Rattle.wire.specs.declared.unpacker.Unpacker.{Unpacker}
 use Rattle.wire.proofs.Packets.{packets-push}
 use Rattle.wire.proofs.Pieces.{full_pieces_full, length-full_pieces, concat-full_pieces, full_pieces-append, full_pieces-more}
-use Rattle.wire.proofs.Chain.{Chain, chain_of, IsOpen, Scanned, unfinished, packets_length, size_fits}
+use Rattle.wire.proofs.Chain.{Chain, chain_of, Scanned, unfinished, packets_length, size_fits}
 
 -- the bytes taken and the bytes left are the bytes
 pub rejoined : (old new bytes : List ℕ) (used : ℕ) → new ≡ old ++ take used bytes → new ++ drop used bytes ≡ old ++ bytes

@@ -1,6 +1,7 @@
 //! Payloads read from a stream of packets, in whatever pieces its bytes come.
 
-ghost use Rattle.std.specs.Prelude.{◌≡◌, ℕ, ◌+◌, ◌*◌, ◌/◌, ◌^◌, ◌≤◌, ◌<◌, ◌++◌, ◌↔◌, [], length, take, true, false, IsTrue, IfOk, IfSome, IfNone, OnOk, OnErr};
+ghost use Rattle.std.specs.Prelude.{◌≡◌, ℕ, ◌+◌, ◌^◌, ◌≤◌, ◌<◌, ◌++◌, ◌↔◌, [], length, take, true, false, IsTrue, IfOk, IfSome, IfNone, OnOk, OnErr};
+ghost use Rattle.wire.specs.Packet.{packing_length};
 ghost use Rattle.wire.specs.Stream.{IsWholePayload, IsUnfinished, IsOutOfSequence, IsTooLong};
 
 use crate::fault::WireFault;
@@ -80,6 +81,7 @@ impl Assembler {
         ensures payload { IfOk result (λ step. IfSome step.payload (λ payload.
             IsWholePayload self.old.due self.old.limit (self.old.held ++ take step.used bytes.now) payload.items self.new.due
             × (self.new ≡ record self.old { due = self.new.due; held = [] }))) }
+        ensures length { IfOk result (λ step. IfSome step.payload (λ payload. length self.old.held + step.used ≡ packing_length (length payload.items))) }
         ensures progress { IfOk result (λ step. IfSome step.payload (λ _. 0 < step.used)) }
 
         // No payload yet: all bytes are held, and they are neither a payload nor wrong.

@@ -5,6 +5,7 @@
 ghost use Rattle.std.specs.Prelude.{◌≡◌, ℕ, ◌^◌, ◌<◌, ◌≤◌, ◌++◌, [], List, length};
 ghost use Rattle.wire.specs.Integer.{IsLengthEncoded, length_encoded};
 ghost use Rattle.wire.specs.Packet.{IsPacking, packing_length};
+ghost use Rattle.wire.specs.Stream.{IsOutOfSequence, IsTooLong, IsUnfinished};
 ghost use Rattle.wire.specs.Reading.{Ending, IsStream, Runs};
 
 /// No spelling of a length-encoded integer begins another one, and each spells one value.
@@ -31,6 +32,13 @@ pub fn one_packing()
 pub fn one_reading()
     ensures { (limit due : ℕ) (stream : List ℕ) (a b : List (List ℕ)) (e f : Ending) →
         IsStream limit due stream a e → IsStream limit due stream b f → (a ≡ b) × (e ≡ f) }
+{}
+
+/// A fault stays what it is as more bytes come, and no bytes are neither a payload nor wrong.
+pub fn faults_stay()
+    ensures sequence { (limit due want got : ℕ) (bytes more : List ℕ) → IsOutOfSequence due limit bytes want got → IsOutOfSequence due limit (bytes ++ more) want got }
+    ensures too_long { (limit due : ℕ) (bytes more : List ℕ) → IsTooLong due limit bytes → IsTooLong due limit (bytes ++ more) }
+    ensures nothing { (limit due : ℕ) → IsUnfinished due limit [] }
 {}
 
 /// However a stream is cut into pieces, a reader makes the one reading of it: the same payloads, and the

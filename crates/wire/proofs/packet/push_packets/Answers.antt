@@ -1,6 +1,6 @@
-use Rattle.std.proofs.Common.{◌++◌, refl, ap, sym, ◌∙◌, append_assoc, arith}
+use Rattle.std.proofs.Common.{◌++◌, refl, sym, ◌∙◌, arith}
 use Rattle.std.proofs.lemmas.List.{take-append-drop}
-use Rattle.wire.specs.Packet.{full_piece, packets}
+use Rattle.wire.specs.Packet.{full_piece}
 use Rattle.wire.proofs.Packets.{packed_more, packed_last}
 use Rattle.wire.proofs.packet.push_packets.Goals as goal
 

@@ -1,4 +1,4 @@
-use Rattle.std.proofs.Common.{◌≡◌, ◌+◌, ◌++◌, length, take}
+use Rattle.std.proofs.Common.{◌≡◌, ◌+◌, ◌++◌, take}
 use Rattle.wire.proofs.unpacker.fill.Given as goal
 
 abbrev pub invariant-loop-i : goal.invariant-loop-i

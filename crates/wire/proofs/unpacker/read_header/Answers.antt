@@ -1,7 +1,5 @@
-use Rattle.std.proofs.Common.{◌≡◌, get_or, refl, subst, sym, ◌∙◌, arith}
-use Rattle.wire.specs.Header.{IsHeader}
+use Rattle.std.proofs.Common.{◌≡◌, get_or, refl, sym, ◌∙◌, arith}
 use Rattle.byteorder.specs.Endian.{little_number}
-use Rattle.wire.specs.Packet.{full_piece}
 use Rattle.wire.proofs.HeaderBytes.{is_header}
 use Rattle.wire.proofs.unpacker.read_header.Goals as goal
 

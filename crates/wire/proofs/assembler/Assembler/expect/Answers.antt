@@ -1,5 +1,4 @@
-use Rattle.std.proofs.Common.{◌≡◌, [], ap, sym, ◌∙◌, arith, inl}
-use Rattle.wire.specs.Held.{held_of, IsInHeader}
+use Rattle.std.proofs.Common.{ap, sym, ◌∙◌, arith, inl}
 use Rattle.wire.proofs.Unpacking.{held_of-empty, nothing_held, in_header}
 use Rattle.wire.proofs.assembler.Assembler.expect.Goals as goal
 

@@ -4,6 +4,7 @@ use Rattle.std.proofs.lemmas.Bool.{false≢true}
 use Rattle.wire.specs.Stream.{IsUnfinished}
 use Rattle.wire.specs.Held.{held_of, IsComplete}
 use Rattle.wire.proofs.Unpacking.{held_unfinished, short_held}
+use Rattle.wire.proofs.OnePacking.{length_packing-held}
 use Rattle.wire.proofs.assembler.Assembler.step.Goals as goal
 
 pub returns-then-not-is_complete-clause-unfinished : goal.returns-then-not-is_complete-clause-unfinished
@@ -28,3 +29,11 @@ returns-then-not-is_complete-clause-unfinished c =
 pub returns-then-not-is_complete-clause-held : goal.returns-then-not-is_complete-clause-held
 returns-then-not-is_complete-clause-held c =
     let t = c.in_ok-used.ensures.ok in short_held c.advance.new.self t.stands (omega (arith, t.limit, c.self.invariant.0))
+
+pub returns-clause-length : goal.returns-clause-length
+returns-clause-length c =
+    let t = c.in_ok-used.ensures.ok in
+    let used = c.in_ok-used.used in
+    let bytes = c.args.bytes.now in
+    length_packing-held (held_of c.self.inside.unpacker) c.args.self.now.held (held_of c.advance.new.self) bytes used (ap (λ r. r.held) c.self.view_is) t.held t.in_range
+    c.hand_out-payload.ensures.payload.packing

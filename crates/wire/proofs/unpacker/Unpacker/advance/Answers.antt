@@ -1,6 +1,5 @@
-use Rattle.std.proofs.Common.{ℕ, ◌+◌, drop, length-take, length-drop, arith}
+use Rattle.std.proofs.Common.{ℕ, length-take, length-drop, arith}
 use Rattle.std.proofs.lemmas.List.{take_rest}
-use Rattle.wire.specs.Held.{Takes}
 use Rattle.wire.proofs.Unpacking.{taken_more}
 use Rattle.wire.proofs.unpacker.Unpacker.advance.Goals as goal
 use Rattle.wire.proofs.unpacker.Unpacker.advance.Goals.{then-self-lt-HEADER+in_ok-take_header, else-self-lt-HEADER+in_ok-used}

@@ -1,4 +1,4 @@
-use Rattle.std.proofs.Common.{◌≡◌, ◌+◌, ◌%◌, List, ℕ, ap, sym, subst, ◌∙◌, arith}
+use Rattle.std.proofs.Common.{◌≡◌, ◌+◌, ◌%◌, ap, sym, subst, arith}
 use Rattle.wire.specs.Stream.{IsWholePayload}
 use Rattle.wire.specs.Held.{held_of}
 use Rattle.wire.proofs.Unpacking.{whole_payload}

@@ -1,4 +1,4 @@
-use Rattle.std.proofs.Common.{◌≡◌, vec_len, length, rules, arith}
+use Rattle.std.proofs.Common.{◌≡◌, vec_len, arith}
 use Rattle.wire.proofs.Unpacking.{held_of-empty, nothing_held}
 use Rattle.wire.proofs.unpacker.Unpacker.is_empty.Goals as goal
 

@@ -1,10 +1,9 @@
-use Rattle.std.proofs.Common.{◌≡◌, ℕ, ◌+◌, ◌++◌, length, take, drop, Err, refl, ap, sym, subst, ◌∙◌, arith, inl, inr}
+use Rattle.std.proofs.Common.{◌≡◌, ◌+◌, length, take, drop, refl, ap, subst, ◌∙◌, arith, inl, inr}
 use Rattle.std.proofs.lemmas.Result.{err_from_is_err_and}
 use Rattle.wire.specs.Packet.{full_piece}
 use Rattle.wire.specs.Stream.{IsOutOfSequence, IsTooLong}
 use Rattle.wire.specs.Held.{held_of}
 use Rattle.wire.specs.declared.unpacker.Unpacker.{Unpacker}
-use Rattle.wire.specs.declared.fault.WireFault.TheVariants.{Sequence, TooLarge}
 use Rattle.wire.proofs.Unpacking.{held_of-header, rejoined, out_of_sequence, too_long}
 use Rattle.wire.proofs.unpacker.Unpacker.take_header.Goals as goal
 

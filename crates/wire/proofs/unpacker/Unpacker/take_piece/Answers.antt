@@ -1,6 +1,5 @@
 use Rattle.std.proofs.Common.{◌≡◌, ℕ, ◌+◌, ◌-◌, ◌*◌, ◌≤◌, List, ◌++◌, length, take, refl, ap, ◌∙◌, arith, inl, inr, length-append, length-take, lit<}
 use Rattle.wire.specs.Packet.{full_piece}
-use Rattle.wire.specs.Held.{held_of}
 use Rattle.wire.specs.declared.unpacker.Unpacker.{Unpacker}
 use Rattle.wire.proofs.Unpacking.{held_of-piece, held_of-full}
 use Rattle.wire.proofs.unpacker.Unpacker.take_piece.Goals as goal

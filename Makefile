@@ -1,0 +1,22 @@
+# make        prove and build mrep, put it at bin/mrep, and run it on a sample
+# make test   the whole gate: every proof from nothing, the wrong bodies, the tests and the program
+# make bench  time mrep against a plain Rust program that does the same job (needs rustc)
+
+.PHONY: all build test bench
+
+all: build
+	bin/mrep packets samples/s1.bin
+
+build:
+	cd crates/mrep && rt run -- --version
+	mkdir -p bin
+	cp crates/mrep/out/mrep bin/mrep
+
+test:
+	rt ci
+
+bench: build
+	mkdir -p bench/out
+	rustc -O --edition 2024 -o bench/out/packets bench/packets.rs
+	rustc -O --edition 2024 -o bench/out/bench bench/bench.rs
+	bench/out/bench bin/mrep bench/out/packets bench/out

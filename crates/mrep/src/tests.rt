@@ -1,0 +1,146 @@
+//! What the commands print and answer, over real files.
+
+mod streams;
+
+use crate::command::command;
+use std::io::Write;
+use std::test::Fail;
+use std::{fs, io};
+use streams::ONE_TRANSACTION;
+
+/// The status of a command, and what it printed to the output and to the errors.
+fn run(rt: &HostRuntime, words: &[&str]) -> Result<(u8, String, String), Fail> {
+    let mut out = Vec::new(rt.alloc());
+    let mut err = Vec::new(rt.alloc());
+    let status = command(rt, words, &mut out, &mut err);
+    let out = String::from_utf8(out).map_err(|_| "the output is no text")?;
+    let err = String::from_utf8(err).map_err(|_| "the errors are no text")?;
+    Ok((status, out, err))
+}
+
+/// What `mrep packets` answers for a file of these bytes.
+fn packets(rt: &HostRuntime, bytes: &[u8]) -> Result<(u8, String), Fail> {
+    fs::write(rt, "stream", bytes)?;
+    let (status, out, err) = run(rt, &["mrep", "packets", "stream"])?;
+    if !err.is_empty() {
+        Err("it printed errors")?;
+    }
+    Ok((status, out))
+}
+
+const LISTED: &str =
+    "0 0 74\n78 2 7\n89 1 7\n100 1 117\n221 2 45\n270 3 39\n313 4 48\n365 5 48\n417 6 28\nrest 0\n";
+
+#[test]
+fn lists_payloads(rt: HostRuntime) -> Result<(), Fail> {
+    let (status, out) = packets(&rt, &ONE_TRANSACTION)?;
+    assert_eq!(rt; out.as_str(), LISTED);
+    assert_eq!(rt; status, 0);
+    let cases: [(&[u8], u8, &str); 6] = [
+        (&[], 0, "rest 0\n"),
+        (&[0], 1, "rest 1\n"),
+        (&[0, 0, 0, 9], 0, "0 9 0\nrest 0\n"),
+        (&[1, 0, 0, 9], 1, "rest 4\n"),
+        (
+            &[0, 0, 0, 9, 1, 0, 0, 7, 5, 3, 0, 0],
+            1,
+            "0 9 0\n4 7 1\nrest 3\n",
+        ),
+        (&[0, 0, 0, 9, 3, 0, 0, 7, 5], 1, "0 9 0\nrest 5\n"),
+    ];
+    for (bytes, want, lines) in cases {
+        let (status, out) = packets(&rt, bytes)?;
+        assert_eq!(rt; out.as_str(), lines, "{bytes:?}");
+        assert_eq!(rt; status, want, "{bytes:?}");
+    }
+    Ok(())
+}
+
+/// A full packet needs another one behind it, with the next id.
+#[test]
+fn full_packets(rt: HostRuntime) -> Result<(), Fail> {
+    let cases: [([u8; 4], u8, &str); 3] = [
+        ([0, 0, 0, 5], 1, "fault Wire.Sequence at 0\n"),
+        ([0, 0, 0, 1], 0, "0 0 16777215\nrest 0\n"),
+        ([1, 0, 0, 1], 1, "rest 16777223\n"),
+    ];
+    for (header, want, lines) in cases {
+        let mut stream = vec![in rt.alloc(); 0xff, 0xff, 0xff, 0]?;
+        stream.resize(16_777_219, 7)?;
+        stream.extend_from_slice(&header)?;
+        let (status, out) = packets(&rt, &stream)?;
+        assert_eq!(rt; out.as_str(), lines, "{header:?}");
+        assert_eq!(rt; status, want, "{header:?}");
+    }
+    Ok(())
+}
+
+/// Words, the status, and how the text that is printed begins: help and the version to the output, mistakes
+/// to the errors, with nothing on the other.
+#[test]
+fn words(rt: HostRuntime) -> Result<(), Fail> {
+    let cases: [(&[&str], u8, &str); 7] = [
+        (&["mrep", "--help"], 0, "A follower of MySQL"),
+        (&["mrep", "--version"], 0, "mrep 0.1.0\n"),
+        (&["mrep", "packets", "--help"], 0, "List the payloads"),
+        (&["mrep"], 2, "error: "),
+        (&["mrep", "minus"], 2, "error: "),
+        (&["mrep", "packets"], 2, "error: "),
+        (&["mrep", "packets", "a", "b"], 2, "error: "),
+    ];
+    for (words, want, beginning) in cases {
+        let (status, out, err) = run(&rt, words)?;
+        assert_eq!(rt; status, want, "{words:?}");
+        let (text, other) = if want == 0 { (out, err) } else { (err, out) };
+        assert!(rt; text.as_str().starts_with(beginning), "{words:?}: {text}");
+        assert_eq!(rt; other.as_str(), "", "{words:?}");
+    }
+    Ok(())
+}
+
+#[test]
+fn files(rt: HostRuntime) -> Result<(), Fail> {
+    for name in ["no-such-file", "."] {
+        let (status, out, err) = run(&rt, &["mrep", "packets", name])?;
+        assert_eq!(rt; status, 3, "{name}");
+        assert_eq!(rt; out.as_str(), "", "{name}");
+        assert!(rt;
+            err.as_str().starts_with("mrep: ") && err.as_str().contains(name),
+            "{err}"
+        );
+    }
+    Ok(())
+}
+
+/// A writer with room for so many bytes.
+#[derive(Drop)]
+struct Full(usize);
+
+impl Write for Full {
+    fn write(&mut self, bytes: &[u8]) -> io::Result<usize> {
+        let count = bytes.len().min(self.0);
+        if count == 0 {
+            return Err(io::Error::from(io::ErrorKind::StorageFull));
+        }
+        self.0 -= count;
+        Ok(count)
+    }
+
+    fn flush(&mut self) -> io::Result<()> {
+        Ok(())
+    }
+}
+
+/// A write that fails, wherever it does, is status 3.
+#[test]
+fn failed_writes(rt: HostRuntime) -> Result<(), Fail> {
+    fs::write(&rt, "stream", &ONE_TRANSACTION)?;
+    for room in 0..LISTED.len() {
+        let mut out = Full(room);
+        let mut err = Vec::new(rt.alloc());
+        let status = command(&rt, &["mrep", "packets", "stream"], &mut out, &mut err);
+        assert_eq!(rt; status, 3, "{room}");
+        assert!(rt; !err.is_empty(), "{room}");
+    }
+    Ok(())
+}
