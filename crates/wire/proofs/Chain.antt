@@ -5,18 +5,18 @@ use Rattle.std.proofs.lemmas.List.{take-append-drop}
 use Rattle.std.specs.List.{concat, AllByRecursion}
 use Rattle.wire.proofs.Packets.{packets-push}
 use Rattle.byteorder.specs.Endian.{little_bytes}
-use Rattle.wire.specs.Packet.{full_piece, packet, packets, IsFullPiece}
-use Rattle.wire.specs.Stream.{HasHeader, IsUnfinished}
+use Rattle.wire.specs.Packet.{full_chunk, packet, packets, IsFullChunk}
+use Rattle.wire.specs.Payload.{HasHeader, IsUnfinished}
 
 -- n full packets from the id, and then the rest
 abbrev pub Chain : ℕ → ℕ → List ℕ → List ℕ → Type 0
 Chain id zero bytes rest = bytes ≡ rest
-Chain id (suc n) bytes rest = (piece : List ℕ) × (others : List ℕ) × (bytes ≡ packet id piece ++ others) × IsFullPiece piece × Chain (suc id) n others rest
+Chain id (suc n) bytes rest = (chunk : List ℕ) × (others : List ℕ) × (bytes ≡ packet id chunk ++ others) × IsFullChunk chunk × Chain (suc id) n others rest
 
-pub chain_of : (id : ℕ) (pieces : List (List ℕ)) (rest : List ℕ) → AllByRecursion IsFullPiece pieces → Chain id (length pieces) (packets id pieces ++ rest) rest
+pub chain_of : (id : ℕ) (chunks : List (List ℕ)) (rest : List ℕ) → AllByRecursion IsFullChunk chunks → Chain id (length chunks) (packets id chunks ++ rest) rest
 chain_of id [] rest full = refl
-chain_of id (p ∷ pieces) rest full =
-    (p, packets (suc id) pieces ++ rest, append_assoc (packet id p) (packets (suc id) pieces) rest, full.0, chain_of (suc id) pieces rest full.1)
+chain_of id (p ∷ chunks) rest full =
+    (p, packets (suc id) chunks ++ rest, append_assoc (packet id p) (packets (suc id) chunks) rest, full.0, chain_of (suc id) chunks rest full.1)
 
 -- equal bytes that begin with packets of equal length go on equally
 same_others : (id : ℕ) (p q x y : List ℕ) → length p ≡ length q → packet id p ++ x ≡ packet id q ++ y → x ≡ y
@@ -38,14 +38,14 @@ three_bytes : (n : ℕ) → n < 2 ^ 24 → n ≡ n % 256 + 256 * (n / 256 % 256)
 three_bytes n h = omega arith
 
 -- a packet whose header is these bytes
-pub peel : (id : ℕ) (piece others : List ℕ) (size got : ℕ) (more : List ℕ) → length piece < 2 ^ 24 → size < 2 ^ 24 →
-    packet id piece ++ others ≡ little_bytes 3 size ++ got ∷ more → (size ≡ length piece) × (got ≡ id % 256) × (more ≡ piece ++ others)
-peel id piece others size got more fits sized same =
-    let a : length piece % 256 ≡ size % 256 = ap (λ l. get_or l 0 0) same in
-    let b : length piece / 256 % 256 ≡ size / 256 % 256 = ap (λ l. get_or l 1 0) same in
-    let c : length piece / 65536 % 256 ≡ size / 65536 % 256 = ap (λ l. get_or l 2 0) same in
+pub peel : (id : ℕ) (chunk others : List ℕ) (size got : ℕ) (more : List ℕ) → length chunk < 2 ^ 24 → size < 2 ^ 24 →
+    packet id chunk ++ others ≡ little_bytes 3 size ++ got ∷ more → (size ≡ length chunk) × (got ≡ id % 256) × (more ≡ chunk ++ others)
+peel id chunk others size got more fits sized same =
+    let a : length chunk % 256 ≡ size % 256 = ap (λ l. get_or l 0 0) same in
+    let b : length chunk / 256 % 256 ≡ size / 256 % 256 = ap (λ l. get_or l 1 0) same in
+    let c : length chunk / 65536 % 256 ≡ size / 65536 % 256 = ap (λ l. get_or l 2 0) same in
     let s = three_bytes size sized in
-    let t = three_bytes (length piece) fits in
+    let t = three_bytes (length chunk) fits in
     (omega (arith, a, b, c, s, t), sym (ap (λ l. get_or l 3 0) same), sym (ap (drop 4) same))
 
 -- less than a packet: less than a header, or a header that is right and fewer bytes than it says
@@ -59,7 +59,7 @@ order (suc m) (suc n) = elim (order m n) [ inl h ↦ inl (h.0, omega arith) | in
 
 -- what a header at or before the open rest says
 abbrev pub IsRight : ℕ → ℕ → ℕ → ℕ → ℕ → List ℕ → Type 0
-IsRight due limit m size got more = (got ≡ (due + m) % 256) × (m * full_piece + size ≤ limit) × ((size ≡ full_piece) ⊎ (length more < size))
+IsRight due limit m size got more = (got ≡ (due + m) % 256) × (m * full_chunk + size ≤ limit) × ((size ≡ full_chunk) ⊎ (length more < size))
 
 pub same_header : (size got : ℕ) (more : List ℕ) (size' got' : ℕ) (more' : List ℕ) → size < 2 ^ 24 → size' < 2 ^ 24 →
     little_bytes 3 size ++ got ∷ more ≡ little_bytes 3 size' ++ got' ∷ more' → (size ≡ size') × (got ≡ got') × (more ≡ more')
@@ -71,12 +71,12 @@ same_header size got more size' got' more' sized sized' same =
     let t = three_bytes size' sized' in
     (omega (arith, a, b, c, s, t), ap (λ l. get_or l 3 0) same, ap (drop 4) same)
 
-pub full_fits : (piece : List ℕ) → IsFullPiece piece → length piece < 2 ^ 24
-unfolding full_piece
-full_fits piece full = omega (arith, full)
+pub full_fits : (chunk : List ℕ) → IsFullChunk chunk → length chunk < 2 ^ 24
+unfolding full_chunk
+full_fits chunk full = omega (arith, full)
 
 -- the header stands where the open rest does, or before it
-at_or_before : (due limit n room id : ℕ) (rest : List ℕ) → n * full_piece + room ≡ limit → id ≡ (due + n) % 256 → IsOpen id room rest →
+at_or_before : (due limit n room id : ℕ) (rest : List ℕ) → n * full_chunk + room ≡ limit → id ≡ (due + n) % 256 → IsOpen id room rest →
     (m size got : ℕ) (front more : List ℕ) → front ≡ little_bytes 3 size ++ got ∷ more → size < 2 ^ 24 →
     (d : ℕ) → n ≡ m + d → Chain (due + m) d front rest → IsRight due limit m size got more
 at_or_before due limit n room id rest room_is id_is (inl short) m size got front more header sized zero at same =
@@ -84,11 +84,11 @@ at_or_before due limit n room id rest room_is id_is (inl short) m size got front
 at_or_before due limit n room id rest room_is id_is (inr (size', body, rest_is, fits, sized', short)) m size got front more header sized zero at same =
     let e = same_header size got more size' id body sized sized' (sym header ∙ same ∙ rest_is) in
     let k : n ≡ m = omega arith in
-    let f : n * full_piece ≡ m * full_piece = ap (λ x. x * full_piece) k in
+    let f : n * full_chunk ≡ m * full_chunk = ap (λ x. x * full_chunk) k in
     (e.1 ∙ id_is ∙ ap (λ x. (due + x) % 256) k, omega (arith, e.0, f), inr (omega (arith, e.0, ap length e.2)))
 at_or_before due limit n room id rest room_is id_is is_open m size got front more header sized (suc d) at (p, o, front_is, full, behind) =
     let e = peel (due + m) p o size got more (full_fits p full) sized (sym front_is ∙ header) in
-    let f : n * full_piece ≡ (m + suc d) * full_piece = ap (λ x. x * full_piece) at in
+    let f : n * full_chunk ≡ (m + suc d) * full_chunk = ap (λ x. x * full_chunk) at in
     (e.1, omega (arith, e.0, full, f), inl (e.0 ∙ full))
 
 -- no header stands behind the open rest
@@ -98,7 +98,7 @@ none_behind id j room rest front d (inr (size, body, header, fits, sized, short)
     let e = peel j p o size id body (full_fits p full) sized (sym rest_is ∙ header) in
     omega (arith, e.0, ap length e.2, length-append p o, short)
 
-pub front_is_right : (due limit n room id : ℕ) (bytes rest : List ℕ) → Chain due n bytes rest → n * full_piece + room ≡ limit → id ≡ (due + n) % 256 → IsOpen id room rest →
+pub front_is_right : (due limit n room id : ℕ) (bytes rest : List ℕ) → Chain due n bytes rest → n * full_chunk + room ≡ limit → id ≡ (due + n) % 256 → IsOpen id room rest →
     (m size got : ℕ) (front more : List ℕ) → Chain due m bytes front → front ≡ little_bytes 3 size ++ got ∷ more → size < 2 ^ 24 → IsRight due limit m size got more
 front_is_right due limit n room id bytes rest chain room_is id_is is_open m size got front more other header sized = elim (order m n) [
   | inl h ↦ at_or_before due limit n room id rest room_is id_is is_open m size got front more header sized h.0 h.1
@@ -109,15 +109,15 @@ front_is_right due limit n room id bytes rest chain room_is id_is is_open m size
 -- full packets are behind, and the rest is ahead
 pub record Scanned (due limit : ℕ) (bytes rest : List ℕ) (full room id : ℕ) : Type 0 where
   pub chain : Chain due full bytes rest
-  pub room_is : full * full_piece + room ≡ limit
+  pub room_is : full * full_chunk + room ≡ limit
   pub id_is : id ≡ (due + full) % 256
 
-pub size_fits : (size : ℕ) → size ≤ full_piece → size < 2 ^ 24
-unfolding full_piece
+pub size_fits : (size : ℕ) → size ≤ full_chunk → size < 2 ^ 24
+unfolding full_chunk
 size_fits size h = omega arith
 
-pub short_fits : (size : ℕ) → size < full_piece → size < 2 ^ 24
-unfolding full_piece
+pub short_fits : (size : ℕ) → size < full_chunk → size < 2 ^ 24
+unfolding full_chunk
 short_fits size h = omega arith
 
 -- a header of the definition as a chain
@@ -125,34 +125,35 @@ pub header_chain : {due limit : ℕ} {bytes : List ℕ} {before size got : ℕ} 
     Chain due before bytes (little_bytes 3 size ++ got ∷ h.more)
 header_chain {due} {limit} {bytes} {before} {size} {got} h =
     subst (λ n. Chain due n bytes (little_bytes 3 size ++ got ∷ h.more)) h.count
-    (subst (λ b. Chain due (length h.pieces) b (little_bytes 3 size ++ got ∷ h.more)) (sym (h.bytes_are ∙ append_assoc (packets due h.pieces) (little_bytes 3 size) (got ∷ h.more)))
-    (chain_of due h.pieces (little_bytes 3 size ++ got ∷ h.more) h.full))
+    (subst (λ b. Chain due (length h.chunks) b (little_bytes 3 size ++ got ∷ h.more))
+    (sym (h.bytes_are ∙ ap (λ x. packets due h.chunks ++ x ++ h.more) h.is_header.bytes_are ∙ append_assoc (packets due h.chunks) (little_bytes 3 size ++ got ∷ []) h.more))
+    (chain_of due h.chunks (little_bytes 3 size ++ got ∷ h.more) h.full))
 
 pub unfinished : (due limit n room id : ℕ) (bytes rest : List ℕ) → Scanned due limit bytes rest n room id → IsOpen id room rest → IsUnfinished due limit bytes
 unfinished due limit n room id bytes rest s is_open = record {
   in_sequence = λ want got h.
-      let r = front_is_right due limit n room id bytes rest s.chain s.room_is s.id_is is_open h.before h.size got _ h.header.more (header_chain h.header) refl (size_fits h.size h.header.a_size) in
+      let r = front_is_right due limit n room id bytes rest s.chain s.room_is s.id_is is_open h.before h.size got _ h.header.more (header_chain h.header) refl (size_fits h.size h.header.is_header.a_size) in
       h.differs (r.0 ∙ sym h.wanted);
-  not_too_long = λ h.
-      let r = front_is_right due limit n room id bytes rest s.chain s.room_is s.id_is is_open h.before h.size _ _ h.header.more (header_chain h.header) refl (size_fits h.size h.header.a_size) in
+  not_too_large = λ h.
+      let r = front_is_right due limit n room id bytes rest s.chain s.room_is s.id_is is_open h.before h.size _ _ h.header.more (header_chain h.header) refl (size_fits h.size h.header.is_header.a_size) in
       omega (arith, r.1, h.above);
   not_whole = λ count payload next h.
       let p = h.packing in
       let tail = drop count bytes in
-      let front = packet (due + length p.pieces) p.last ++ tail in
-      let bytes_are : packets due p.pieces ++ front ≡ bytes =
-      sym (append_assoc (packets due p.pieces) (packet (due + length p.pieces) p.last) tail)
-      ∙ ap (λ x. x ++ tail) (sym (packets-push due p.pieces p.last) ∙ sym p.packed)
+      let front = packet (due + length p.chunks) p.last ++ tail in
+      let bytes_are : packets due p.chunks ++ front ≡ bytes =
+      sym (append_assoc (packets due p.chunks) (packet (due + length p.chunks) p.last) tail)
+      ∙ ap (λ x. x ++ tail) (sym (packets-push due p.chunks p.last) ∙ sym p.packed)
       ∙ take-append-drop count bytes in
-      let r = front_is_right due limit n room id bytes rest s.chain s.room_is s.id_is is_open (length p.pieces) (length p.last) ((due + length p.pieces) % 256)
-      front (p.last ++ tail) (subst (λ b. Chain due (length p.pieces) b front) bytes_are (chain_of due p.pieces front p.full)) refl (short_fits (length p.last) p.short) in
+      let r = front_is_right due limit n room id bytes rest s.chain s.room_is s.id_is is_open (length p.chunks) (length p.last) ((due + length p.chunks) % 256)
+      front (p.last ++ tail) (subst (λ b. Chain due (length p.chunks) b front) bytes_are (chain_of due p.chunks front p.full)) refl (short_fits (length p.last) p.short) in
       elim r.2 [ inl e ↦ omega (arith, e, p.short) | inr e ↦ omega (arith, e, length-append p.last tail) ];
 }
 
-pub packets_length : (id : ℕ) (pieces : List (List ℕ)) → AllByRecursion IsFullPiece pieces → length (packets id pieces) ≡ length pieces * (full_piece + 4)
+pub packets_length : (id : ℕ) (chunks : List (List ℕ)) → AllByRecursion IsFullChunk chunks → length (packets id chunks) ≡ length chunks * (full_chunk + 4)
 packets_length id [] full = omega arith
-packets_length id (p ∷ pieces) full = omega (arith, full.0, packets_length (suc id) pieces full.1, length-append (packet id p) (packets (suc id) pieces))
+packets_length id (p ∷ chunks) full = omega (arith, full.0, packets_length (suc id) chunks full.1, length-append (packet id p) (packets (suc id) chunks))
 
-pub concat_length : (pieces : List (List ℕ)) → AllByRecursion IsFullPiece pieces → length (concat pieces) ≡ length pieces * full_piece
+pub concat_length : (chunks : List (List ℕ)) → AllByRecursion IsFullChunk chunks → length (concat chunks) ≡ length chunks * full_chunk
 concat_length [] full = omega arith
-concat_length (p ∷ pieces) full = omega (arith, full.0, concat_length pieces full.1, length-append p (concat pieces))
+concat_length (p ∷ chunks) full = omega (arith, full.0, concat_length chunks full.1, length-append p (concat chunks))

@@ -1,13 +1,13 @@
 -- Headers of packets, as bytes and as numbers.
 use Rattle.std.proofs.Common.{◌≡◌, ℕ, ◌/◌, ◌%◌, ◌<◌, List, [], ◌∷◌, length, get_or, arith}
 use Rattle.byteorder.specs.Endian.{little_number}
-use Rattle.wire.specs.Packet.{full_piece}
+use Rattle.wire.specs.Packet.{full_chunk}
 use Rattle.wire.specs.Header.{IsHeader}
 
 -- four bytes are a header
 pub is_header : (header : List ℕ) (size got : ℕ) → length header ≡ 4 → ((i : ℕ) → get_or header i 0 < 256) →
     size ≡ little_number 3 header → got ≡ get_or header 3 0 → IsHeader size got header
-unfolding full_piece
+unfolding full_chunk
 is_header [] size got long fits s g = absurd (omega arith)
 is_header (a ∷ []) size got long fits s g = absurd (omega arith)
 is_header (a ∷ b ∷ []) size got long fits s g = absurd (omega arith)

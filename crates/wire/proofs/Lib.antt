@@ -2,7 +2,7 @@ mod Examples
 pub mod Packets
 pub mod Chain
 pub mod HeaderBytes
-pub mod Pieces
+pub mod Chunks
 pub mod Unpacking
 pub mod OneSpelling
 pub mod OnePacking

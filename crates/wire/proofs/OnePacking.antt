@@ -2,10 +2,10 @@
 use Rattle.std.proofs.Common.{◌≡◌, ℕ, suc, ◌+◌, ◌*◌, ◌/◌, ◌%◌, ◌<◌, ◌≤◌, ◌^◌, List, [], ◌∷◌, ◌++◌, length, take, drop, refl, ap, sym, ◌∙◌, append_assoc, arith, length-append, length-drop, length-take}
 use Rattle.std.proofs.Math.Seq.{drop-append_seam, take-append_seam}
 use Rattle.std.specs.List.{concat, AllByRecursion}
-use Rattle.wire.specs.Packet.{full_piece, packet, packets, IsFullPiece, IsPacking, packing_length}
-use Rattle.wire.specs.Held.{full_pieces}
+use Rattle.wire.specs.Packet.{full_chunk, packet, packets, IsFullChunk, IsPacking, packing_length}
+use Rattle.wire.specs.Held.{full_chunks}
 use Rattle.wire.proofs.Packets.{packets-push}
-use Rattle.wire.proofs.Pieces.{full_pieces_full, concat-full_pieces}
+use Rattle.wire.proofs.Chunks.{full_chunks_full, concat-full_chunks}
 use Rattle.wire.proofs.Chain.{peel, full_fits, short_fits, packets_length, concat_length}
 
 -- equal bytes that begin with packets of one id
@@ -16,30 +16,30 @@ same_packet id p q x y p_fits q_fits same =
       sym (drop-append_seam p x) ∙ (λ i. drop (sym e.0 i) (sym e.2 i)) ∙ drop-append_seam q y,
     )
 
--- full pieces and a shorter last one, in packets, are read in one way
-same_pieces : (id : ℕ) (ps qs : List (List ℕ)) (l m x y : List ℕ) → AllByRecursion IsFullPiece ps → AllByRecursion IsFullPiece qs →
-    length l < full_piece → length m < full_piece → packets id (ps ++ l ∷ []) ++ x ≡ packets id (qs ++ m ∷ []) ++ y → (ps ≡ qs) × (l ≡ m) × (x ≡ y)
-same_pieces id [] [] l m x y fp fq sl sm same =
+-- full chunks and a shorter last one, in packets, are read in one way
+same_chunks : (id : ℕ) (ps qs : List (List ℕ)) (l m x y : List ℕ) → AllByRecursion IsFullChunk ps → AllByRecursion IsFullChunk qs →
+    length l < full_chunk → length m < full_chunk → packets id (ps ++ l ∷ []) ++ x ≡ packets id (qs ++ m ∷ []) ++ y → (ps ≡ qs) × (l ≡ m) × (x ≡ y)
+same_chunks id [] [] l m x y fp fq sl sm same =
     let e = same_packet id l m ([] ++ x) ([] ++ y) (short_fits (length l) sl) (short_fits (length m) sm) (sym (append_assoc (packet id l) [] x) ∙ same ∙ append_assoc (packet id m) [] y) in
     (refl, e.0, e.1)
-same_pieces id [] (q ∷ qs) l m x y fp fq sl sm same =
+same_chunks id [] (q ∷ qs) l m x y fp fq sl sm same =
     let e = same_packet id l q ([] ++ x) (packets (suc id) (qs ++ m ∷ []) ++ y) (short_fits (length l) sl) (full_fits q fq.0)
     (sym (append_assoc (packet id l) [] x) ∙ same ∙ append_assoc (packet id q) (packets (suc id) (qs ++ m ∷ [])) y) in
     absurd (omega (arith, ap length e.0, fq.0, sl))
-same_pieces id (p ∷ ps) [] l m x y fp fq sl sm same =
+same_chunks id (p ∷ ps) [] l m x y fp fq sl sm same =
     let e = same_packet id p m (packets (suc id) (ps ++ l ∷ []) ++ x) ([] ++ y) (full_fits p fp.0) (short_fits (length m) sm)
     (sym (append_assoc (packet id p) (packets (suc id) (ps ++ l ∷ [])) x) ∙ same ∙ append_assoc (packet id m) [] y) in
     absurd (omega (arith, ap length e.0, fp.0, sm))
-same_pieces id (p ∷ ps) (q ∷ qs) l m x y fp fq sl sm same =
+same_chunks id (p ∷ ps) (q ∷ qs) l m x y fp fq sl sm same =
     let e = same_packet id p q (packets (suc id) (ps ++ l ∷ []) ++ x) (packets (suc id) (qs ++ m ∷ []) ++ y) (full_fits p fp.0) (full_fits q fq.0)
     (sym (append_assoc (packet id p) (packets (suc id) (ps ++ l ∷ [])) x) ∙ same ∙ append_assoc (packet id q) (packets (suc id) (qs ++ m ∷ [])) y) in
-    let r = same_pieces (suc id) ps qs l m x y fp.1 fq.1 sl sm e.1 in
+    let r = same_chunks (suc id) ps qs l m x y fp.1 fq.1 sl sm e.1 in
     ((λ i. e.0 i ∷ r.0 i), r.1, r.2)
 
 -- no packing begins another
 pub none_begins : {id : ℕ} {p q a b : List ℕ} (x y : List ℕ) {m n : ℕ} → IsPacking id p a m → IsPacking id q b n → a ++ x ≡ b ++ y → (p ≡ q) × (a ≡ b) × (x ≡ y) × (m ≡ n)
 none_begins {id} {p} {q} {a} {b} x y {m} {n} f g same =
-    let e = same_pieces id f.pieces g.pieces f.last g.last x y f.full g.full f.short g.short ((λ i. sym f.packed i ++ x) ∙ same ∙ (λ i. g.packed i ++ y)) in (
+    let e = same_chunks id f.chunks g.chunks f.last g.last x y f.full g.full f.short g.short ((λ i. sym f.packed i ++ x) ∙ same ∙ (λ i. g.packed i ++ y)) in (
       f.cut ∙ (λ i. concat (e.0 i) ++ e.1 i) ∙ sym g.cut,
       f.packed ∙ (λ i. packets id (e.0 i ++ e.1 i ∷ [])) ∙ sym g.packed,
       e.2,
@@ -47,8 +47,8 @@ none_begins {id} {p} {q} {a} {b} x y {m} {n} f g same =
     )
 
 -- a payload is cut in one way
-same_cut : (ps qs : List (List ℕ)) (l m : List ℕ) → AllByRecursion IsFullPiece ps → AllByRecursion IsFullPiece qs →
-    length l < full_piece → length m < full_piece → concat ps ++ l ≡ concat qs ++ m → (ps ≡ qs) × (l ≡ m)
+same_cut : (ps qs : List (List ℕ)) (l m : List ℕ) → AllByRecursion IsFullChunk ps → AllByRecursion IsFullChunk qs →
+    length l < full_chunk → length m < full_chunk → concat ps ++ l ≡ concat qs ++ m → (ps ≡ qs) × (l ≡ m)
 same_cut [] [] l m fp fq sl sm same = (refl, same)
 same_cut [] (q ∷ qs) l m fp fq sl sm same = absurd (omega (arith, ap length same, length-append (q ++ concat qs) m, length-append q (concat qs), fq.0, sl))
 same_cut (p ∷ ps) [] l m fp fq sl sm same = absurd (omega (arith, ap length same, length-append (p ++ concat ps) l, length-append p (concat ps), fp.0, sm))
@@ -63,24 +63,24 @@ same_cut (p ∷ ps) (q ∷ qs) l m fp fq sl sm same =
 -- a payload and a first id have one packing
 pub one_packing : {id : ℕ} {p a b : List ℕ} {m n : ℕ} → IsPacking id p a m → IsPacking id p b n → (a ≡ b) × (m ≡ n)
 one_packing {id} f g =
-    let e = same_cut f.pieces g.pieces f.last g.last f.full g.full f.short g.short (sym f.cut ∙ g.cut) in
+    let e = same_cut f.chunks g.chunks f.last g.last f.full g.full f.short g.short (sym f.cut ∙ g.cut) in
     (f.packed ∙ (λ i. packets id (e.0 i ++ e.1 i ∷ [])) ∙ sym g.packed, f.follows ∙ ap (λ ps. (id + length ps + 1) % 256) e.0 ∙ sym g.follows)
 
 -- each payload has a packing
 pub a_packing : (id : ℕ) (p : List ℕ) → (bytes : List ℕ) × (next : ℕ) × IsPacking id p bytes next
-unfolding full_piece
+unfolding full_chunk
 a_packing id p =
-    let n = length p / full_piece in
-    let ps = full_pieces n p in
-    let l = drop (n * full_piece) p in (
+    let n = length p / full_chunk in
+    let ps = full_chunks n p in
+    let l = drop (n * full_chunk) p in (
       packets id (ps ++ l ∷ []),
       (id + length ps + 1) % 256,
       record {
-        pieces = ps;
+        chunks = ps;
         last = l;
-        full = full_pieces_full n p (omega arith);
-        short = omega (arith, length-drop (n * full_piece) p);
-        cut = sym (concat-full_pieces n p);
+        full = full_chunks_full n p (omega arith);
+        short = omega (arith, length-drop (n * full_chunk) p);
+        cut = sym (concat-full_chunks n p);
         packed = refl;
         follows = refl;
       },
@@ -88,10 +88,10 @@ a_packing id p =
 
 -- four bytes for each packet
 pub length_packing : {id : ℕ} {p bytes : List ℕ} {next : ℕ} → IsPacking id p bytes next → length bytes ≡ packing_length (length p)
-unfolding full_piece
+unfolding full_chunk
 length_packing {id} {p} {bytes} f =
-    let counts = ap length f.packed ∙ ap length (packets-push id f.pieces f.last) ∙ length-append (packets id f.pieces) (packet (id + length f.pieces) f.last) in
-    omega (arith, counts, packets_length id f.pieces f.full, ap length f.cut ∙ length-append (concat f.pieces) f.last, concat_length f.pieces f.full, f.short)
+    let counts = ap length f.packed ∙ ap length (packets-push id f.chunks f.last) ∙ length-append (packets id f.chunks) (packet (id + length f.chunks) f.last) in
+    omega (arith, counts, packets_length id f.chunks f.full, ap length f.cut ∙ length-append (concat f.chunks) f.last, concat_length f.chunks f.full, f.short)
 
 -- the same where the bytes are those that were held and some of those that came
 pub length_packing-held : {id : ℕ} {p : List ℕ} {next : ℕ} (old held new bytes : List ℕ) (used : ℕ) → old ≡ held → new ≡ old ++ take used bytes → used ≤ length bytes →

@@ -1,12 +1,12 @@
--- A stream has one reading, in whatever pieces it is taken.
+-- A stream has one reading, in whatever chunks it is taken.
 use Rattle.std.proofs.Common.{◌≡◌, ℕ, zero, suc, ◌+◌, ◌*◌, ◌%◌, ◌<◌, ◌≤◌, ◌^◌, ◌⊎◌, List, [], ◌∷◌, ◌++◌, length, refl, ap, sym, subst, ◌∙◌, append_assoc, arith, length-append, length-take, inl, inr}
 use Rattle.std.proofs.lemmas.List.{append-nil}
 use Rattle.std.proofs.Math.Seq.{take-append_seam}
 use Rattle.std.specs.List.{concat}
 use Rattle.byteorder.specs.Endian.{little_bytes}
-use Rattle.wire.specs.Packet.{full_piece, packet, packets}
-use Rattle.wire.specs.Stream.{HasHeader, IsOutOfSequence, IsTooLong, IsUnfinished, IsWholePayload}
-use Rattle.wire.specs.Reading.{Ending, Held, OutOfSequence, TooLong, EndsSo, IsStream, Runs, stopped, held_all, handed_out, out_of_sequence, too_long}
+use Rattle.wire.specs.Packet.{full_chunk, packet, packets}
+use Rattle.wire.specs.Payload.{HasHeader, IsOutOfSequence, IsTooLarge, IsUnfinished, IsWholePayload}
+use Rattle.wire.specs.Stream.{Ending, Held, OutOfSequence, TooLarge, IsEnding, IsStream, Runs, stopped, held_all, handed_out, out_of_sequence, too_large}
 use Rattle.wire.proofs.Packets.{packets-push}
 use Rattle.wire.proofs.Chain.{Chain, chain_of, chain_split, order, peel, full_fits, short_fits, size_fits, same_header, header_chain, concat_length}
 use Rattle.wire.proofs.OnePacking.{none_begins, length_packing}
@@ -21,11 +21,11 @@ record Stands (due : ℕ) (bytes : List ℕ) (before size id : ℕ) : Type 0 whe
 abbrev Agree : ℕ → ℕ → ℕ → ℕ → ℕ → ℕ → ℕ → Type 0
 Agree due m size id n size' id' =
     ((m ≡ n) × (size ≡ size') × (id ≡ id'))
-    ⊎ ((m < n) × (size ≡ full_piece) × (id ≡ (due + m) % 256))
-    ⊎ ((n < m) × (size' ≡ full_piece) × (id' ≡ (due + n) % 256))
+    ⊎ ((m < n) × (size ≡ full_chunk) × (id ≡ (due + m) % 256))
+    ⊎ ((n < m) × (size' ≡ full_chunk) × (id' ≡ (due + n) % 256))
 
 before_it : (due m size id : ℕ) (front others : List ℕ) (more : List ℕ) (d : ℕ) → front ≡ little_bytes 3 size ++ id ∷ more → size < 2 ^ 24 →
-    Chain (due + m) (suc d) front others → (size ≡ full_piece) × (id ≡ (due + m) % 256)
+    Chain (due + m) (suc d) front others → (size ≡ full_chunk) × (id ≡ (due + m) % 256)
 before_it due m size id front others more d header sized (p, o, front_is, full, behind) =
     let e = peel (due + m) p o size id more (full_fits p full) sized (sym front_is ∙ header) in
     (e.0 ∙ full, e.1)
@@ -49,28 +49,28 @@ agree due bytes m size id n size' id' a b = elim (order m n) [
         inr (inl (omega (arith, at), e.0, e.1))
 
 of_header : {due limit : ℕ} {bytes : List ℕ} {before size id : ℕ} (h : HasHeader due limit bytes before size id) → Stands due bytes before size id
-of_header {size = size} h = record { more = h.more; chain = header_chain h; fits = size_fits size h.a_size }
+of_header {size = size} h = record { more = h.more; chain = header_chain h; fits = size_fits size h.is_header.a_size }
 
 -- the header of a payload's last packet
 of_payload : {due limit : ℕ} {bytes payload : List ℕ} {next : ℕ} (w : IsWholePayload due limit bytes payload next) (rest : List ℕ) →
-    Stands due (bytes ++ rest) (length w.packing.pieces) (length w.packing.last) ((due + length w.packing.pieces) % 256)
+    Stands due (bytes ++ rest) (length w.packing.chunks) (length w.packing.last) ((due + length w.packing.chunks) % 256)
 of_payload {due} {bytes = bytes} w rest =
     let p = w.packing in
-    let front = packet (due + length p.pieces) p.last ++ rest in
-    let bytes_are : packets due p.pieces ++ front ≡ bytes ++ rest =
-    sym (append_assoc (packets due p.pieces) (packet (due + length p.pieces) p.last) rest)
-    ∙ ap (λ x. x ++ rest) (sym (packets-push due p.pieces p.last) ∙ sym p.packed) in
+    let front = packet (due + length p.chunks) p.last ++ rest in
+    let bytes_are : packets due p.chunks ++ front ≡ bytes ++ rest =
+    sym (append_assoc (packets due p.chunks) (packet (due + length p.chunks) p.last) rest)
+    ∙ ap (λ x. x ++ rest) (sym (packets-push due p.chunks p.last) ∙ sym p.packed) in
     record {
       more = p.last ++ rest;
-      chain = subst (λ b. Chain due (length p.pieces) b front) bytes_are (chain_of due p.pieces front p.full);
+      chain = subst (λ b. Chain due (length p.chunks) b front) bytes_are (chain_of due p.chunks front p.full);
       fits = short_fits (length p.last) p.short;
     }
 
 -- how long the payload is
 long_payload : {due limit : ℕ} {bytes payload : List ℕ} {next : ℕ} (w : IsWholePayload due limit bytes payload next) →
-    length w.packing.pieces * full_piece + length w.packing.last ≤ limit
+    length w.packing.chunks * full_chunk + length w.packing.last ≤ limit
 long_payload w =
-    omega (arith, w.within, ap length w.packing.cut ∙ length-append (concat w.packing.pieces) w.packing.last, concat_length w.packing.pieces w.packing.full)
+    omega (arith, w.within, ap length w.packing.cut ∙ length-append (concat w.packing.chunks) w.packing.last, concat_length w.packing.chunks w.packing.full)
 
 -- no two of: a wrong id, a length above the limit, a payload
 one_wrong_id : {due limit : ℕ} {bytes : List ℕ} {want got want' got' : ℕ} → IsOutOfSequence due limit bytes want got → IsOutOfSequence due limit bytes want' got' → (want ≡ want') × (got ≡ got')
@@ -79,8 +79,8 @@ one_wrong_id {due} {limit} {bytes} {want} {got} {want'} {got'} a b = elim (agree
   | inr h ↦ elim h [ inl h ↦ absurd (a.differs (h.2 ∙ sym a.wanted)) | inr h ↦ absurd (b.differs (h.2 ∙ sym b.wanted)) ]
 ]
 
-wrong_or_long : {due limit : ℕ} {bytes : List ℕ} {want got : ℕ} → IsOutOfSequence due limit bytes want got → IsTooLong due limit bytes → ⊥
-unfolding full_piece
+wrong_or_long : {due limit : ℕ} {bytes : List ℕ} {want got : ℕ} → IsOutOfSequence due limit bytes want got → IsTooLarge due limit bytes → ⊥
+unfolding full_chunk
 wrong_or_long {due} {limit} {bytes} {want} {got} a b = elim (agree due bytes a.before a.size got b.before b.size ((due + b.before) % 256) (of_header a.header) (of_header b.header)) [
   | inl h ↦ a.differs (h.2 ∙ ap (λ n. (due + n) % 256) (sym h.0) ∙ sym a.wanted)
   | inr h ↦ elim h [ inl h ↦ a.differs (h.2 ∙ sym a.wanted) | inr h ↦ omega (arith, h.0, h.1, b.above, a.header.within) ]
@@ -88,15 +88,15 @@ wrong_or_long {due} {limit} {bytes} {want} {got} a b = elim (agree due bytes a.b
 
 wrong_or_whole : {due limit : ℕ} {bytes payload : List ℕ} {want got next : ℕ} (rest : List ℕ) → IsOutOfSequence due limit (bytes ++ rest) want got → IsWholePayload due limit bytes payload next → ⊥
 wrong_or_whole {due} {limit} {bytes} {payload} {want} {got} rest a w =
-    elim (agree due (bytes ++ rest) a.before a.size got (length w.packing.pieces) (length w.packing.last) ((due + length w.packing.pieces) % 256) (of_header a.header) (of_payload w rest)) [
+    elim (agree due (bytes ++ rest) a.before a.size got (length w.packing.chunks) (length w.packing.last) ((due + length w.packing.chunks) % 256) (of_header a.header) (of_payload w rest)) [
       | inl h ↦ a.differs (h.2 ∙ ap (λ n. (due + n) % 256) (sym h.0) ∙ sym a.wanted)
       | inr h ↦ elim h [ inl h ↦ a.differs (h.2 ∙ sym a.wanted) | inr h ↦ omega (arith, h.1, w.packing.short) ]
     ]
 
-long_or_whole : {due limit : ℕ} {bytes payload : List ℕ} {next : ℕ} (rest : List ℕ) → IsTooLong due limit (bytes ++ rest) → IsWholePayload due limit bytes payload next → ⊥
-unfolding full_piece
+long_or_whole : {due limit : ℕ} {bytes payload : List ℕ} {next : ℕ} (rest : List ℕ) → IsTooLarge due limit (bytes ++ rest) → IsWholePayload due limit bytes payload next → ⊥
+unfolding full_chunk
 long_or_whole {due} {limit} {bytes} {payload} rest b w =
-    elim (agree due (bytes ++ rest) b.before b.size ((due + b.before) % 256) (length w.packing.pieces) (length w.packing.last) ((due + length w.packing.pieces) % 256) (of_header b.header) (of_payload w rest)) [
+    elim (agree due (bytes ++ rest) b.before b.size ((due + b.before) % 256) (length w.packing.chunks) (length w.packing.last) ((due + length w.packing.chunks) % 256) (of_header b.header) (of_payload w rest)) [
       | inl h ↦ omega (arith, h.0, h.1, b.above, long_payload w)
       | inr h ↦ elim h [ inl h ↦ omega (arith, h.0, h.1, b.above, long_payload w) | inr h ↦ omega (arith, h.1, w.packing.short) ]
     ]
@@ -106,22 +106,22 @@ unfinished_or_whole {due} {limit} {bytes} {payload} {next} rest u w =
     u.not_whole (length bytes) payload next (subst (λ b. IsWholePayload due limit b payload next) (sym (take-append_seam bytes rest)) w)
 
 -- a stream does not end where a payload stands
-ends_or_whole : {due limit : ℕ} {stream payload : List ℕ} {next : ℕ} (bytes rest : List ℕ) (ending : Ending) → EndsSo due limit stream ending → stream ≡ bytes ++ rest →
+ends_or_whole : {due limit : ℕ} {stream payload : List ℕ} {next : ℕ} (bytes rest : List ℕ) (ending : Ending) → IsEnding due limit stream ending → stream ≡ bytes ++ rest →
     IsWholePayload due limit bytes payload next → ⊥
 ends_or_whole {due} {limit} bytes rest (Held d held) e is w = unfinished_or_whole rest (subst (IsUnfinished due limit) is e.2) w
 ends_or_whole {due} {limit} bytes rest (OutOfSequence want got) e is w = wrong_or_whole rest (subst (λ b. IsOutOfSequence due limit b want got) is e) w
-ends_or_whole {due} {limit} bytes rest TooLong e is w = long_or_whole rest (subst (IsTooLong due limit) is e) w
+ends_or_whole {due} {limit} bytes rest TooLarge e is w = long_or_whole rest (subst (IsTooLarge due limit) is e) w
 
-one_ending : (due limit : ℕ) (bytes : List ℕ) (e f : Ending) → EndsSo due limit bytes e → EndsSo due limit bytes f → e ≡ f
+one_ending : (due limit : ℕ) (bytes : List ℕ) (e f : Ending) → IsEnding due limit bytes e → IsEnding due limit bytes f → e ≡ f
 one_ending due limit bytes (Held d h) (Held d' h') a b = λ i. Held ((a.0 ∙ sym b.0) i) ((a.1 ∙ sym b.1) i)
 one_ending due limit bytes (Held d h) (OutOfSequence want got) a b = absurd (a.2.in_sequence want got b)
-one_ending due limit bytes (Held d h) TooLong a b = absurd (a.2.not_too_long b)
+one_ending due limit bytes (Held d h) TooLarge a b = absurd (a.2.not_too_large b)
 one_ending due limit bytes (OutOfSequence want got) (Held d h) a b = absurd (b.2.in_sequence want got a)
 one_ending due limit bytes (OutOfSequence want got) (OutOfSequence want' got') a b = let e = one_wrong_id a b in λ i. OutOfSequence (e.0 i) (e.1 i)
-one_ending due limit bytes (OutOfSequence want got) TooLong a b = absurd (wrong_or_long a b)
-one_ending due limit bytes TooLong (Held d h) a b = absurd (b.2.not_too_long a)
-one_ending due limit bytes TooLong (OutOfSequence want got) a b = absurd (wrong_or_long b a)
-one_ending due limit bytes TooLong TooLong a b = refl
+one_ending due limit bytes (OutOfSequence want got) TooLarge a b = absurd (wrong_or_long a b)
+one_ending due limit bytes TooLarge (Held d h) a b = absurd (b.2.not_too_large a)
+one_ending due limit bytes TooLarge (OutOfSequence want got) a b = absurd (wrong_or_long b a)
+one_ending due limit bytes TooLarge TooLarge a b = refl
 
 -- a stream has one reading
 pub one_reading : (limit due : ℕ) (stream : List ℕ) (a b : List (List ℕ)) (e f : Ending) → IsStream limit due stream a e → IsStream limit due stream b f → (a ≡ b) × (e ≡ f)
@@ -136,34 +136,34 @@ one_reading limit due stream (p ∷ ps) (q ∷ qs) e f (bytes, rest, next, is, w
 -- a header stays where it is as more bytes come
 more_header : {due limit : ℕ} {bytes : List ℕ} {before size id : ℕ} (more : List ℕ) → HasHeader due limit bytes before size id → HasHeader due limit (bytes ++ more) before size id
 more_header {due} {limit} {bytes} {before} {size} {id} more h = record {
-  pieces = h.pieces;
+  chunks = h.chunks;
   more = h.more ++ more;
   full = h.full;
   count = h.count;
   within = h.within;
-  bytes_are = ap (λ b. b ++ more) h.bytes_are ∙ append_assoc (packets due h.pieces ++ little_bytes 3 size) (id ∷ h.more) more;
-  a_size = h.a_size;
-  an_id = h.an_id;
+  header = h.header;
+  is_header = h.is_header;
+  bytes_are = ap (λ b. b ++ more) h.bytes_are ∙ append_assoc (packets due h.chunks ++ h.header) h.more more;
 }
 
 pub more_wrong : {due limit want got : ℕ} {bytes : List ℕ} (more : List ℕ) → IsOutOfSequence due limit bytes want got → IsOutOfSequence due limit (bytes ++ more) want got
 more_wrong more a = record { before = a.before; size = a.size; header = more_header more a.header; wanted = a.wanted; differs = a.differs }
 
-pub more_long : {due limit : ℕ} {bytes : List ℕ} (more : List ℕ) → IsTooLong due limit bytes → IsTooLong due limit (bytes ++ more)
+pub more_long : {due limit : ℕ} {bytes : List ℕ} (more : List ℕ) → IsTooLarge due limit bytes → IsTooLarge due limit (bytes ++ more)
 more_long more a = record { before = a.before; size = a.size; header = more_header more a.header; above = a.above }
 
 -- no bytes are no payload, and nothing is wrong with them
 pub nothing_yet : (due limit : ℕ) → IsUnfinished due limit []
 nothing_yet due limit = record {
   in_sequence = λ want got a. no_header a.header;
-  not_too_long = λ a. no_header a.header;
+  not_too_large = λ a. no_header a.header;
   not_whole = λ count payload next w. omega (arith, length_packing w.packing, length-take {A = ℕ} count []);
 }
   where
     no_header : {before size id : ℕ} → HasHeader due limit [] before size id → ⊥
-    no_header {before} {size} {id} h = omega (arith, ap length h.bytes_are, length-append (packets due h.pieces ++ little_bytes 3 size) (id ∷ h.more))
+    no_header {before} {size} {id} h = omega (arith, ap length h.bytes_are, length-append (packets due h.chunks ++ h.header) h.more, length-append (packets due h.chunks) h.header, ap length h.is_header.bytes_are)
 
--- what a reader in pieces makes of a stream is its reading
+-- what a reader in chunks makes of a stream is its reading
 pub reads : {limit due : ℕ} {held stream : List ℕ} {payloads : List (List ℕ)} {ending : Ending} → Runs limit due held stream payloads ending → IsUnfinished due limit held →
     IsStream limit due (held ++ stream) payloads ending
 reads {limit} {due} {held} stopped u = (refl, sym (append-nil held), subst (IsUnfinished due limit) (sym (append-nil held)) u)
@@ -173,5 +173,5 @@ reads {limit} {due} {held} (handed_out bytes more payload next is whole run) u =
     (held ++ bytes, more, next, ap (λ s. held ++ s) is ∙ sym (append_assoc held bytes more), whole, reads run (nothing_yet next limit))
 reads {limit} {due} {held} (out_of_sequence {want = want} {got = got} bytes more is a) u =
     subst (λ s. IsOutOfSequence due limit s want got) (append_assoc held bytes more ∙ ap (λ s. held ++ s) (sym is)) (more_wrong more a)
-reads {limit} {due} {held} (too_long bytes more is a) u =
-    subst (IsTooLong due limit) (append_assoc held bytes more ∙ ap (λ s. held ++ s) (sym is)) (more_long more a)
+reads {limit} {due} {held} (too_large bytes more is a) u =
+    subst (IsTooLarge due limit) (append_assoc held bytes more ∙ ap (λ s. held ++ s) (sym is)) (more_long more a)

@@ -3,13 +3,13 @@ use Rattle.std.proofs.Common.{◌≡◌, ◌≢◌, ℕ, suc, ◌+◌, ◌-◌, 
 use Rattle.std.proofs.lemmas.List.{take-append-drop, drop-append-le, take_all, drop_all, append-nil}
 use Rattle.std.proofs.Math.Seq.{take-add}
 use Rattle.byteorder.specs.Endian.{little_bytes}
-use Rattle.wire.specs.Packet.{full_piece, packet, packets}
+use Rattle.wire.specs.Packet.{full_chunk, packet, packets}
 use Rattle.wire.specs.Header.{IsHeader}
-use Rattle.wire.specs.Stream.{HasHeader, IsOutOfSequence, IsTooLong, IsUnfinished, IsWholePayload}
-use Rattle.wire.specs.Held.{full_pieces, at_hand, held_of, IsInHeader, IsInPiece, IsUnpacking, IsComplete, Takes}
+use Rattle.wire.specs.Payload.{HasHeader, IsOutOfSequence, IsTooLarge, IsUnfinished, IsWholePayload}
+use Rattle.wire.specs.Held.{full_chunks, at_hand, held_of, IsInHeader, IsInChunk, IsUnpacking, IsComplete, Takes}
 use Rattle.wire.specs.declared.unpacker.Unpacker.{Unpacker}
 use Rattle.wire.proofs.Packets.{packets-push}
-use Rattle.wire.proofs.Pieces.{full_pieces_full, length-full_pieces, concat-full_pieces, full_pieces-append, full_pieces-more}
+use Rattle.wire.proofs.Chunks.{full_chunks_full, length-full_chunks, concat-full_chunks, full_chunks-append, full_chunks-more}
 use Rattle.wire.proofs.Chain.{Chain, chain_of, Scanned, unfinished, packets_length, size_fits}
 
 -- the bytes taken and the bytes left are the bytes
@@ -18,112 +18,112 @@ rejoined old new bytes used is =
     ap (λ x. x ++ drop used bytes) is ∙ append_assoc old (take used bytes) (drop used bytes) ∙ ap (λ x. old ++ x) (take-append-drop used bytes)
 
 -- more bytes of the header
-pub held_of-header : (old new : Unpacker) (some : List ℕ) → length old.payload.items ≡ old.full * full_piece →
+pub held_of-header : (old new : Unpacker) (some : List ℕ) → length old.payload.items ≡ old.full * full_chunk →
     new.due ≡ old.due → new.full ≡ old.full → new.payload.items ≡ old.payload.items →
     take new.filled new.header ≡ take old.filled old.header ++ some → held_of new ≡ held_of old ++ some
 unfolding held_of
 held_of-header old new some whole d f p t =
-    let P = packets old.due (full_pieces old.full old.payload.items) in
+    let P = packets old.due (full_chunks old.full old.payload.items) in
     let T = take old.filled old.header in
-    let D = drop (old.full * full_piece) old.payload.items in
-    let nothing : D ≡ [] = drop_all (old.full * full_piece) old.payload.items (omega (arith, whole)) in
-    (λ i. packets (d i) (full_pieces (f i) (p i)) ++ (t i ++ drop (f i * full_piece) (p i)))
+    let D = drop (old.full * full_chunk) old.payload.items in
+    let nothing : D ≡ [] = drop_all (old.full * full_chunk) old.payload.items (omega (arith, whole)) in
+    (λ i. packets (d i) (full_chunks (f i) (p i)) ++ (t i ++ drop (f i * full_chunk) (p i)))
     ∙ ap (λ x. P ++ ((T ++ some) ++ x)) nothing
     ∙ ap (λ x. P ++ x) (append-nil (T ++ some))
     ∙ sym (append_assoc P T some)
     ∙ ap (λ x. (P ++ x) ++ some) (sym (append-nil T) ∙ ap (λ x. T ++ x) (sym nothing))
 
--- more bytes of the piece
-pub held_of-piece : (old new : Unpacker) (some : List ℕ) → old.full * full_piece ≤ length old.payload.items →
+-- more bytes of the chunk
+pub held_of-chunk : (old new : Unpacker) (some : List ℕ) → old.full * full_chunk ≤ length old.payload.items →
     new.due ≡ old.due → new.full ≡ old.full → new.header ≡ old.header → new.filled ≡ old.filled →
     new.payload.items ≡ old.payload.items ++ some → held_of new ≡ held_of old ++ some
 unfolding held_of
-held_of-piece old new some enough d f h k p =
-    let P = packets old.due (full_pieces old.full old.payload.items) in
+held_of-chunk old new some enough d f h k p =
+    let P = packets old.due (full_chunks old.full old.payload.items) in
     let T = take old.filled old.header in
-    let D = drop (old.full * full_piece) old.payload.items in
-    (λ i. packets (d i) (full_pieces (f i) (p i)) ++ (take (k i) (h i) ++ drop (f i * full_piece) (p i)))
-    ∙ (λ i. packets old.due (full_pieces-append old.full old.payload.items some enough i) ++ (T ++ drop-append-le (old.full * full_piece) old.payload.items some enough i))
+    let D = drop (old.full * full_chunk) old.payload.items in
+    (λ i. packets (d i) (full_chunks (f i) (p i)) ++ (take (k i) (h i) ++ drop (f i * full_chunk) (p i)))
+    ∙ (λ i. packets old.due (full_chunks-append old.full old.payload.items some enough i) ++ (T ++ drop-append-le (old.full * full_chunk) old.payload.items some enough i))
     ∙ ap (λ x. P ++ x) (sym (append_assoc T D some))
     ∙ sym (append_assoc P (T ++ D) some)
 
 -- a whole header and what stands behind it
-header_and : (due full size filled : ℕ) (header piece : List ℕ) (n : ℕ) → filled ≡ 4 → IsHeader size ((due + full) % 256) header → length piece ≡ size → n ≡ full →
-    take filled header ++ piece ≡ packet (due + n) piece
-header_and due full size filled header piece n whole is long same =
-    (λ i. take (whole i) (is.bytes_are i) ++ piece)
-    ∙ (λ i. little_bytes 3 (sym long i) ++ (due + sym same i) % 256 ∷ piece)
+header_and : (due full size filled : ℕ) (header chunk : List ℕ) (n : ℕ) → filled ≡ 4 → IsHeader size ((due + full) % 256) header → length chunk ≡ size → n ≡ full →
+    take filled header ++ chunk ≡ packet (due + n) chunk
+header_and due full size filled header chunk n whole is long same =
+    (λ i. take (whole i) (is.bytes_are i) ++ chunk)
+    ∙ (λ i. little_bytes 3 (sym long i) ++ (due + sym same i) % 256 ∷ chunk)
 
--- a full piece that is whole
-pub held_of-full : (old new : Unpacker) (size : ℕ) → old.filled ≡ 4 → IsHeader size ((old.due + old.full) % 256) old.header → size ≡ full_piece →
-    length old.payload.items ≡ (old.full + 1) * full_piece →
+-- a full chunk that is whole
+pub held_of-full : (old new : Unpacker) (size : ℕ) → old.filled ≡ 4 → IsHeader size ((old.due + old.full) % 256) old.header → size ≡ full_chunk →
+    length old.payload.items ≡ (old.full + 1) * full_chunk →
     new.due ≡ old.due → new.full ≡ old.full + 1 → new.filled ≡ 0 → new.payload.items ≡ old.payload.items → held_of new ≡ held_of old
 unfolding held_of
 held_of-full old new size whole is is_full long d f k p =
     let xs = old.payload.items in
-    let ps = full_pieces old.full xs in
-    let last = drop (old.full * full_piece) xs in
-    let sized : length last ≡ full_piece = omega (arith, length-drop (old.full * full_piece) xs, long) in
+    let ps = full_chunks old.full xs in
+    let last = drop (old.full * full_chunk) xs in
+    let sized : length last ≡ full_chunk = omega (arith, length-drop (old.full * full_chunk) xs, long) in
     let next : old.full + 1 ≡ suc old.full = omega arith in
-    (λ i. packets (d i) (full_pieces ((f ∙ next) i) (p i)) ++ (take (k i) new.header ++ drop (f i * full_piece) (p i)))
-    ∙ (λ i. packets old.due (full_pieces-more old.full xs i) ++ drop_all ((old.full + 1) * full_piece) xs (omega (arith, long)) i)
-    ∙ append-nil (packets old.due (ps ++ take full_piece last ∷ []))
-    ∙ ap (λ x. packets old.due (ps ++ x ∷ [])) (take_all full_piece last (omega (arith, sized)))
+    (λ i. packets (d i) (full_chunks ((f ∙ next) i) (p i)) ++ (take (k i) new.header ++ drop (f i * full_chunk) (p i)))
+    ∙ (λ i. packets old.due (full_chunks-more old.full xs i) ++ drop_all ((old.full + 1) * full_chunk) xs (omega (arith, long)) i)
+    ∙ append-nil (packets old.due (ps ++ take full_chunk last ∷ []))
+    ∙ ap (λ x. packets old.due (ps ++ x ∷ [])) (take_all full_chunk last (omega (arith, sized)))
     ∙ packets-push old.due ps last
     ∙ ap (λ x. packets old.due ps ++ x)
-    (sym (header_and old.due old.full size old.filled old.header last (length ps) whole is (sized ∙ sym is_full) (length-full_pieces old.full xs)))
+    (sym (header_and old.due old.full size old.filled old.header last (length ps) whole is (sized ∙ sym is_full) (length-full_chunks old.full xs)))
 
--- a last piece that is whole
-pub whole_payload : (u : Unpacker) → IsInPiece u → IsComplete u → IsWholePayload u.due u.limit (held_of u) u.payload.items ((u.due + u.full + 1) % 256)
+-- a last chunk that is whole
+pub whole_payload : (u : Unpacker) → IsInChunk u → IsComplete u → IsWholePayload u.due u.limit (held_of u) u.payload.items ((u.due + u.full + 1) % 256)
 unfolding held_of
-whole_payload u in_piece complete =
+whole_payload u in_chunk complete =
     let xs = u.payload.items in
-    let ps = full_pieces u.full xs in
-    let last = drop (u.full * full_piece) xs in
-    let short = in_piece.short complete.1 in
-    let sized : length last ≡ in_piece.size = omega (arith, length-drop (u.full * full_piece) xs, in_piece.sum, complete.1) in
+    let ps = full_chunks u.full xs in
+    let last = drop (u.full * full_chunk) xs in
+    let short = in_chunk.short complete.1 in
+    let sized : length last ≡ in_chunk.size = omega (arith, length-drop (u.full * full_chunk) xs, in_chunk.sum, complete.1) in
     record {
       packing = record {
-        pieces = ps;
+        chunks = ps;
         last = last;
-        full = full_pieces_full u.full xs (omega (arith, in_piece.sum, complete.1));
+        full = full_chunks_full u.full xs (omega (arith, in_chunk.sum, complete.1));
         short = omega (arith, sized, short);
-        cut = sym (concat-full_pieces u.full xs);
-        packed = ap (λ x. packets u.due ps ++ x) (header_and u.due u.full in_piece.size u.filled u.header last (length ps) in_piece.whole_header in_piece.header sized (length-full_pieces u.full xs))
+        cut = sym (concat-full_chunks u.full xs);
+        packed = ap (λ x. packets u.due ps ++ x) (header_and u.due u.full in_chunk.size u.filled u.header last (length ps) in_chunk.whole_header in_chunk.header sized (length-full_chunks u.full xs))
             ∙ sym (packets-push u.due ps last);
-        follows = ap (λ n. (u.due + n + 1) % 256) (sym (length-full_pieces u.full xs));
+        follows = ap (λ n. (u.due + n + 1) % 256) (sym (length-full_chunks u.full xs));
       };
-      within = omega (arith, in_piece.within);
+      within = omega (arith, in_chunk.within);
     }
 
 -- the full packets stand before the packet at hand
-chain_held : (u : Unpacker) → u.full * full_piece ≤ length u.payload.items → Chain u.due u.full (held_of u) (at_hand u)
+chain_held : (u : Unpacker) → u.full * full_chunk ≤ length u.payload.items → Chain u.due u.full (held_of u) (at_hand u)
 unfolding held_of
 chain_held u enough =
-    let ps = full_pieces u.full u.payload.items in
-    subst (λ n. Chain u.due n (packets u.due ps ++ at_hand u) (at_hand u)) (length-full_pieces u.full u.payload.items)
-    (chain_of u.due ps (at_hand u) (full_pieces_full u.full u.payload.items enough))
+    let ps = full_chunks u.full u.payload.items in
+    subst (λ n. Chain u.due n (packets u.due ps ++ at_hand u) (at_hand u)) (length-full_chunks u.full u.payload.items)
+    (chain_of u.due ps (at_hand u) (full_chunks_full u.full u.payload.items enough))
 
-scanned : (u : Unpacker) → u.full * full_piece ≤ length u.payload.items → length u.payload.items ≤ u.limit →
-    Scanned u.due u.limit (held_of u) (at_hand u) u.full (u.limit - u.full * full_piece) ((u.due + u.full) % 256)
+scanned : (u : Unpacker) → u.full * full_chunk ≤ length u.payload.items → length u.payload.items ≤ u.limit →
+    Scanned u.due u.limit (held_of u) (at_hand u) u.full (u.limit - u.full * full_chunk) ((u.due + u.full) % 256)
 scanned u enough within = record { chain = chain_held u enough; room_is = omega arith; id_is = refl }
 
-counted : (u : Unpacker) → length (packets u.due (full_pieces u.full u.payload.items) ++ at_hand u)
-    ≡ length (packets u.due (full_pieces u.full u.payload.items)) + (min u.filled (length u.header) + (length u.payload.items - u.full * full_piece))
-counted u = length-append (packets u.due (full_pieces u.full u.payload.items)) (at_hand u)
-    ∙ ap (λ n. length (packets u.due (full_pieces u.full u.payload.items)) + n)
-    (length-append (take u.filled u.header) (drop (u.full * full_piece) u.payload.items)
-    ∙ (λ i. length-take u.filled u.header i + length-drop (u.full * full_piece) u.payload.items i))
+counted : (u : Unpacker) → length (packets u.due (full_chunks u.full u.payload.items) ++ at_hand u)
+    ≡ length (packets u.due (full_chunks u.full u.payload.items)) + (min u.filled (length u.header) + (length u.payload.items - u.full * full_chunk))
+counted u = length-append (packets u.due (full_chunks u.full u.payload.items)) (at_hand u)
+    ∙ ap (λ n. length (packets u.due (full_chunks u.full u.payload.items)) + n)
+    (length-append (take u.filled u.header) (drop (u.full * full_chunk) u.payload.items)
+    ∙ (λ i. length-take u.filled u.header i + length-drop (u.full * full_chunk) u.payload.items i))
 
 pub held_unfinished : (u : Unpacker) → IsUnpacking u → (IsComplete u → ⊥) → IsUnfinished u.due u.limit (held_of u)
 held_unfinished u (inl h) open_end =
-    unfinished u.due u.limit u.full (u.limit - u.full * full_piece) ((u.due + u.full) % 256) (held_of u) (at_hand u) (scanned u (omega (arith, h.whole_pieces)) h.within)
-    (inl (omega (arith, h.open_header, h.whole_pieces, length-append (take u.filled u.header) (drop (u.full * full_piece) u.payload.items), length-drop (u.full * full_piece) u.payload.items, length-take u.filled u.header)))
+    unfinished u.due u.limit u.full (u.limit - u.full * full_chunk) ((u.due + u.full) % 256) (held_of u) (at_hand u) (scanned u (omega (arith, h.whole_chunks)) h.within)
+    (inl (omega (arith, h.open_header, h.whole_chunks, length-append (take u.filled u.header) (drop (u.full * full_chunk) u.payload.items), length-drop (u.full * full_chunk) u.payload.items, length-take u.filled u.header)))
 held_unfinished u (inr h) open_end =
     let some_left : u.left ≢ 0 = λ e. open_end (h.whole_header, e) in
-    let last = drop (u.full * full_piece) u.payload.items in
+    let last = drop (u.full * full_chunk) u.payload.items in
     let is : at_hand u ≡ little_bytes 3 h.size ++ (u.due + u.full) % 256 ∷ last = λ i. take (h.whole_header i) (h.header.bytes_are i) ++ last in
-    unfinished u.due u.limit u.full (u.limit - u.full * full_piece) ((u.due + u.full) % 256) (held_of u) (at_hand u)
+    unfinished u.due u.limit u.full (u.limit - u.full * full_chunk) ((u.due + u.full) % 256) (held_of u) (at_hand u)
     (scanned u (omega (arith, h.sum, h.left)) (omega (arith, h.within)))
     (inr (
       h.size,
@@ -131,38 +131,37 @@ held_unfinished u (inr h) open_end =
       is,
       omega (arith, h.sum, h.within),
       size_fits h.size h.header.a_size,
-      omega (arith, length-drop (u.full * full_piece) u.payload.items, h.sum, some_left),
+      omega (arith, length-drop (u.full * full_chunk) u.payload.items, h.sum, some_left),
     ))
 
 -- the header that is whole now, with what follows it
-pub header_held : (u : Unpacker) (size got : ℕ) (more : List ℕ) → length u.payload.items ≡ u.full * full_piece → length u.payload.items ≤ u.limit →
+pub header_held : (u : Unpacker) (size got : ℕ) (more : List ℕ) → length u.payload.items ≡ u.full * full_chunk → length u.payload.items ≤ u.limit →
     u.filled ≡ 4 → IsHeader size got u.header → HasHeader u.due u.limit (held_of u ++ more) u.full size got
 unfolding held_of
 header_held u size got more whole within filled is =
     let xs = u.payload.items in
-    let P = packets u.due (full_pieces u.full xs) in
-    let nothing : drop (u.full * full_piece) xs ≡ [] = drop_all (u.full * full_piece) xs (omega (arith, whole)) in
+    let P = packets u.due (full_chunks u.full xs) in
+    let nothing : drop (u.full * full_chunk) xs ≡ [] = drop_all (u.full * full_chunk) xs (omega (arith, whole)) in
     record {
-      pieces = full_pieces u.full xs;
+      chunks = full_chunks u.full xs;
       more = more;
-      full = full_pieces_full u.full xs (omega (arith, whole));
-      count = length-full_pieces u.full xs;
+      full = full_chunks_full u.full xs (omega (arith, whole));
+      count = length-full_chunks u.full xs;
       within = omega (arith, whole, within);
-      bytes_are = (λ i. (P ++ (take (filled i) (is.bytes_are i) ++ nothing i)) ++ more)
-          ∙ append_assoc P (little_bytes 3 size ++ got ∷ []) more
-          ∙ sym (append_assoc P (little_bytes 3 size) (got ∷ more));
-      a_size = is.a_size;
-      an_id = is.an_id;
+      header = u.header;
+      is_header = is;
+      bytes_are = (λ i. (P ++ (take (filled i) u.header ++ nothing i)) ++ more)
+          ∙ ap (λ x. (P ++ x) ++ more) (append-nil (take 4 u.header) ∙ take_all 4 u.header (omega (arith, ap length is.bytes_are)));
     }
 
-pub out_of_sequence : (u : Unpacker) (size want got : ℕ) (more : List ℕ) → length u.payload.items ≡ u.full * full_piece → length u.payload.items ≤ u.limit →
+pub out_of_sequence : (u : Unpacker) (size want got : ℕ) (more : List ℕ) → length u.payload.items ≡ u.full * full_chunk → length u.payload.items ≤ u.limit →
     u.filled ≡ 4 → IsHeader size got u.header → want ≡ (u.due + u.full) % 256 → got ≢ want → IsOutOfSequence u.due u.limit (held_of u ++ more) want got
 out_of_sequence u size want got more whole within filled is wanted differs =
     record { before = u.full; size = size; header = header_held u size got more whole within filled is; wanted = wanted; differs = differs }
 
-pub too_long : (u : Unpacker) (size : ℕ) (more : List ℕ) → length u.payload.items ≡ u.full * full_piece → length u.payload.items ≤ u.limit →
-    u.filled ≡ 4 → IsHeader size ((u.due + u.full) % 256) u.header → u.limit - length u.payload.items < size → IsTooLong u.due u.limit (held_of u ++ more)
-too_long u size more whole within filled is above =
+pub too_large : (u : Unpacker) (size : ℕ) (more : List ℕ) → length u.payload.items ≡ u.full * full_chunk → length u.payload.items ≤ u.limit →
+    u.filled ≡ 4 → IsHeader size ((u.due + u.full) % 256) u.header → u.limit - length u.payload.items < size → IsTooLarge u.due u.limit (held_of u ++ more)
+too_large u size more whole within filled is above =
     record { before = u.full; size = size; header = header_held u size ((u.due + u.full) % 256) more whole within filled is; above = omega (arith, whole, within, above) }
 
 -- what is held is not much longer than the limit
@@ -172,11 +171,11 @@ length-held_of u (inl h) =
     omega (
       arith,
       h.open_header,
-      h.whole_pieces,
+      h.whole_chunks,
       h.within,
       counted u,
-      packets_length u.due (full_pieces u.full u.payload.items) (full_pieces_full u.full u.payload.items (omega (arith, h.whole_pieces))),
-      ap (λ n. n * (full_piece + 4)) (length-full_pieces u.full u.payload.items),
+      packets_length u.due (full_chunks u.full u.payload.items) (full_chunks_full u.full u.payload.items (omega (arith, h.whole_chunks))),
+      ap (λ n. n * (full_chunk + 4)) (length-full_chunks u.full u.payload.items),
     )
 length-held_of u (inr h) =
     omega (
@@ -186,8 +185,8 @@ length-held_of u (inr h) =
       h.left,
       h.within,
       counted u,
-      packets_length u.due (full_pieces u.full u.payload.items) (full_pieces_full u.full u.payload.items (omega (arith, h.sum, h.left))),
-      ap (λ n. n * (full_piece + 4)) (length-full_pieces u.full u.payload.items),
+      packets_length u.due (full_chunks u.full u.payload.items) (full_chunks_full u.full u.payload.items (omega (arith, h.sum, h.left))),
+      ap (λ n. n * (full_chunk + 4)) (length-full_chunks u.full u.payload.items),
     )
 
 -- bytes taken, and then more of them
@@ -202,27 +201,27 @@ taken_more {old} {mid} {new} {bytes} {n} {m} a b = record {
 }
 
 pub short_held : (u : Unpacker) → IsUnpacking u → u.limit ≤ 1073741824 → length (held_of u) < 2147483648
-unfolding full_piece
-short_held u (inl h) limit = omega (arith, length-held_of u (inl h), h.whole_pieces, h.within)
+unfolding full_chunk
+short_held u (inl h) limit = omega (arith, length-held_of u (inl h), h.whole_chunks, h.within)
 short_held u (inr h) limit = omega (arith, length-held_of u (inr h), h.sum, h.left, h.within)
 
 -- nothing is held where no byte has come, and only there
 pub held_of-empty : (u : Unpacker) → IsUnpacking u → u.filled ≡ 0 → length u.payload.items ≡ 0 → held_of u ≡ []
-unfolding held_of full_piece
+unfolding held_of full_chunk
 held_of-empty u (inl h) filled empty =
-    let full : u.full ≡ 0 = omega (arith, h.whole_pieces, empty) in
-    (λ i. packets u.due (full_pieces (full i) u.payload.items) ++ (take (filled i) u.header ++ drop (full i * full_piece) u.payload.items))
-    ∙ drop_all (0 * full_piece) u.payload.items (omega (arith, empty))
+    let full : u.full ≡ 0 = omega (arith, h.whole_chunks, empty) in
+    (λ i. packets u.due (full_chunks (full i) u.payload.items) ++ (take (filled i) u.header ++ drop (full i * full_chunk) u.payload.items))
+    ∙ drop_all (0 * full_chunk) u.payload.items (omega (arith, empty))
 held_of-empty u (inr h) filled empty = absurd (omega (arith, h.whole_header, filled))
 
 pub nothing_held : (u : Unpacker) → IsUnpacking u → held_of u ≡ [] → (u.filled ≡ 0) × (length u.payload.items ≡ 0)
-unfolding held_of full_piece
+unfolding held_of full_chunk
 nothing_held u (inl h) is =
     let sum = ap length is in
     let counts = counted u in
-    let sized = packets_length u.due (full_pieces u.full u.payload.items) (full_pieces_full u.full u.payload.items (omega (arith, h.whole_pieces))) in
-    let pieces = ap (λ n. n * (full_piece + 4)) (length-full_pieces u.full u.payload.items) in
-    (omega (arith, sum, counts, h.sized, h.open_header), omega (arith, sum, counts, sized, pieces, h.whole_pieces))
+    let sized = packets_length u.due (full_chunks u.full u.payload.items) (full_chunks_full u.full u.payload.items (omega (arith, h.whole_chunks))) in
+    let chunks = ap (λ n. n * (full_chunk + 4)) (length-full_chunks u.full u.payload.items) in
+    (omega (arith, sum, counts, h.sized, h.open_header), omega (arith, sum, counts, sized, chunks, h.whole_chunks))
 nothing_held u (inr h) is = absurd (omega (arith, ap length is, counted u, ap length h.header.bytes_are, h.whole_header))
 
 -- which of the two it is

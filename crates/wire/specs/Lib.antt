@@ -1,6 +1,6 @@
 pub mod Integer
 pub mod Packet
 pub mod Header
+pub mod Payload
 pub mod Stream
-pub mod Reading
 pub mod Held

@@ -1,51 +1,35 @@
--- The payload at hand in a stream of packets, under a limit on its length.
-use Rattle.std.specs.Prelude.{◌≡◌, ◌≢◌, ℕ, ◌+◌, ◌*◌, ◌%◌, ◌<◌, ◌≤◌, Bool, List, ◌∷◌, ◌++◌, length, take}
-use Rattle.std.specs.List.{AllByRecursion}
-use Rattle.byteorder.specs.Endian.{little_bytes}
-use Rattle.wire.specs.Packet.{full_piece, packets, IsFullPiece, IsPacking}
+-- What a whole stream of packets says, and how a reader takes it in pieces.
+use Rattle.std.specs.Prelude.{◌≡◌, ℕ, List, [], ◌∷◌, ◌++◌}
+use Rattle.wire.specs.Payload.{IsWholePayload, IsUnfinished, IsOutOfSequence, IsTooLarge}
 
--- What a reader of packets stands at: the longest payload that it takes, the sequence id of the first packet
--- of the payload at hand, the bytes of this payload that have come, headers included, and whether a fault has
--- ended it.
-pub record Reading : Type 0 where
-  pub limit : ℕ
-  pub due : ℕ
-  pub held : List ℕ
-  pub ended : Bool
+-- How a stream ends behind its payloads: with some bytes of a payload whose first packet has this id due, or
+-- with a fault.
+pub data Ending : Type 0 where
+  Held : ℕ → List ℕ → Ending
+  OutOfSequence : ℕ → ℕ → Ending
+  TooLarge : Ending
 
--- The bytes are the packing of a payload within the limit, from the id that is due.
-pub record IsWholePayload (due limit : ℕ) (bytes payload : List ℕ) (next : ℕ) : Type 0 where
-  pub packing : IsPacking due payload bytes next
-  pub within : length payload ≤ limit
+abbrev pub IsEnding : ℕ → ℕ → List ℕ → Ending → Type 0
+IsEnding due limit bytes (Held d held) = (d ≡ due) × (held ≡ bytes) × IsUnfinished due limit bytes
+IsEnding due limit bytes (OutOfSequence want got) = IsOutOfSequence due limit bytes want got
+IsEnding due limit bytes TooLarge = IsTooLarge due limit bytes
 
--- Behind `before` full packets, right and within the limit, the bytes have a whole header, of this length and id.
-pub record HasHeader (due limit : ℕ) (bytes : List ℕ) (before size id : ℕ) : Type 0 where
-  pub pieces : List (List ℕ)
-  pub more : List ℕ
-  pub full : AllByRecursion IsFullPiece pieces
-  pub count : length pieces ≡ before
-  pub within : before * full_piece ≤ limit
-  pub bytes_are : bytes ≡ packets due pieces ++ little_bytes 3 size ++ id ∷ more
-  pub a_size : size ≤ full_piece
-  pub an_id : id < 256
+-- The stream is these payloads, each within the limit, one behind the other; and then it ends so. The first has
+-- the id that is due, and each later one the id behind the one before.
+abbrev pub IsStream : ℕ → ℕ → List ℕ → List (List ℕ) → Ending → Type 0
+IsStream limit due stream [] ending = IsEnding due limit stream ending
+IsStream limit due stream (payload ∷ payloads) ending =
+    (bytes : List ℕ) × (rest : List ℕ) × (next : ℕ) × (stream ≡ bytes ++ rest) × IsWholePayload due limit bytes payload next × IsStream limit next rest payloads ending
 
--- The first wrong header has another id than the one due.
-pub record IsOutOfSequence (due limit : ℕ) (bytes : List ℕ) (want got : ℕ) : Type 0 where
-  pub before : ℕ
-  pub size : ℕ
-  pub header : HasHeader due limit bytes before size got
-  pub wanted : want ≡ (due + before) % 256
-  pub differs : got ≢ want
-
--- The first wrong header has the id that is due, and brings the lengths so far above the limit.
-pub record IsTooLong (due limit : ℕ) (bytes : List ℕ) : Type 0 where
-  pub before : ℕ
-  pub size : ℕ
-  pub header : HasHeader due limit bytes before size ((due + before) % 256)
-  pub above : limit < before * full_piece + size
-
--- No header of the payload at hand is wrong, and no beginning of the bytes is a whole payload.
-pub record IsUnfinished (due limit : ℕ) (bytes : List ℕ) : Type 0 where
-  pub in_sequence : (want got : ℕ) → IsOutOfSequence due limit bytes want got → ⊥
-  pub not_too_long : IsTooLong due limit bytes → ⊥
-  pub not_whole : (count : ℕ) (payload : List ℕ) (next : ℕ) → IsWholePayload due limit (take count bytes) payload next → ⊥
+-- A reader that holds some bytes of a payload is given the stream in pieces, whichever they are, and answers each
+-- time as `Assembler::step` does. Each constructor is one answer; `stopped` is the stream's end.
+pub data Runs (limit : ℕ) : ℕ → List ℕ → List ℕ → List (List ℕ) → Ending → Type 0 where
+  stopped : {due : ℕ} {held : List ℕ} → Runs limit due held [] [] (Held due held)
+  held_all : {due : ℕ} {held stream : List ℕ} {payloads : List (List ℕ)} {ending : Ending} (bytes more : List ℕ) → stream ≡ bytes ++ more →
+      IsUnfinished due limit (held ++ bytes) → Runs limit due (held ++ bytes) more payloads ending → Runs limit due held stream payloads ending
+  handed_out : {due : ℕ} {held stream : List ℕ} {payloads : List (List ℕ)} {ending : Ending} (bytes more payload : List ℕ) (next : ℕ) → stream ≡ bytes ++ more →
+      IsWholePayload due limit (held ++ bytes) payload next → Runs limit next [] more payloads ending → Runs limit due held stream (payload ∷ payloads) ending
+  out_of_sequence : {due want got : ℕ} {held stream : List ℕ} (bytes more : List ℕ) → stream ≡ bytes ++ more →
+      IsOutOfSequence due limit (held ++ bytes) want got → Runs limit due held stream [] (OutOfSequence want got)
+  too_large : {due : ℕ} {held stream : List ℕ} (bytes more : List ℕ) → stream ≡ bytes ++ more →
+      IsTooLarge due limit (held ++ bytes) → Runs limit due held stream [] TooLarge

@@ -2,7 +2,7 @@
 
 ghost use Rattle.std.specs.Prelude.{◌≡◌, ℕ, ◌+◌, ◌^◌, ◌≤◌, ◌<◌, ◌++◌, ◌↔◌, [], length, take, true, false, IsTrue, IfOk, IfSome, IfNone, OnOk, OnErr};
 ghost use Rattle.wire.specs.Packet.{packing_length};
-ghost use Rattle.wire.specs.Stream.{IsWholePayload, IsUnfinished, IsOutOfSequence, IsTooLong};
+ghost use Rattle.wire.specs.Payload.{IsWholePayload, IsUnfinished, IsOutOfSequence, IsTooLarge, NeedsRoom};
 
 use crate::fault::WireFault;
 use crate::packet::LARGEST_PAYLOAD;
@@ -32,15 +32,16 @@ pub struct Assembler {
 
 impl Model for Assembler {
     ghost use Rattle.std.specs.Prelude.{◌≡◌, ◌≤◌, false};
-    ghost use Rattle.wire.specs.Stream.{Reading};
+    ghost use Rattle.wire.specs.Payload.{ReaderState};
+    ghost use Rattle.wire.specs.declared.packet.TheConstants.{LARGEST_PAYLOAD};
 
-    ghost Value = { Reading };
+    ghost Value = { ReaderState };
 
     ghost use Rattle.wire.specs.Held.{held_of, IsUnpacking, IsComplete};
 
     ghost view = { λ a. record { limit = a.unpacker.limit; due = a.unpacker.due; held = held_of a.unpacker; ended = a.ended } };
 
-    ghost invariant = { λ a. (a.unpacker.limit ≤ 1073741824) × (a.ended ≡ false → IsUnpacking a.unpacker × (IsComplete a.unpacker → ⊥)) };
+    ghost invariant = { λ a. (a.unpacker.limit ≤ LARGEST_PAYLOAD) × (a.ended ≡ false → IsUnpacking a.unpacker × (IsComplete a.unpacker → ⊥)) };
 }
 
 impl Assembler {
@@ -94,8 +95,10 @@ impl Assembler {
         // A fault, which ends the reader.
         ensures sequence { (want got : ℕ) → result ≡ Err (WireFault.Sequence want got) →
             IsOutOfSequence self.old.due self.old.limit (self.old.held ++ bytes.now) want got }
-        ensures too_large { result ≡ Err WireFault.TooLarge → IsTooLong self.old.due self.old.limit (self.old.held ++ bytes.now) }
+        ensures too_large { result ≡ Err WireFault.TooLarge → IsTooLarge self.old.due self.old.limit (self.old.held ++ bytes.now) }
+        ensures memory { result ≡ Err WireFault.Memory → NeedsRoom self.old.due self.old.limit (self.old.held ++ bytes.now) }
         ensures ended { (result ≡ Err WireFault.Ended) ↔ (self.old.ended ≡ true) }
+        ensures ok { OnOk result (self.new.ended ≡ false) }
         ensures err { OnErr result (self.new.ended ≡ true) }
     {
         if self.ended {

@@ -1,6 +1,6 @@
 //! Length-encoded integers.
 
-ghost use Rattle.std.specs.Prelude.{◌≡◌, ℕ, ◌≤◌, ◌++◌, List, length, take, IfSome, IfNone, OnOk, OnErr};
+ghost use Rattle.std.specs.Prelude.{◌≡◌, ℕ, ◌+◌, ◌≤◌, ◌<◌, ◌++◌, List, length, take, IfSome, IfNone, OnOk, OnErr, vec_len, vec_capacity};
 ghost use Rattle.wire.specs.Integer.{IsLengthEncoded, length_encoded};
 
 use crate::fault::WireFault;
@@ -26,10 +26,12 @@ pub fn read_int(bytes: &[u8]) -> Option<(u64, usize)>
 
 /// Appends the shortest length-encoded integer of the value.
 ///
-/// The only refusal is `Memory`, which leaves the vector as it was.
+/// The only refusal is `Memory`, where the vector has no room for it and can get none. It leaves the
+/// vector as it was.
 pub fn write_int(value: u64, out: &mut Vec<u8>) -> Result<(), WireFault>
     ensures ok { OnOk result (out.new.items ≡ out.old.items ++ length_encoded value) }
     ensures err { OnErr result ((result ≡ Err WireFault.Memory) × (out.new.items ≡ out.old.items)) }
+    ensures full { OnErr result (vec_capacity out.old < vec_len out.old + length (length_encoded value)) }
 {
     let [a, b, c, d, e, f, g, h] = value.to_le_bytes();
     match value {

@@ -5,8 +5,8 @@
 ghost use Rattle.std.specs.Prelude.{◌≡◌, ℕ, ◌^◌, ◌<◌, ◌≤◌, ◌++◌, [], List, length};
 ghost use Rattle.wire.specs.Integer.{IsLengthEncoded, length_encoded};
 ghost use Rattle.wire.specs.Packet.{IsPacking, packing_length};
-ghost use Rattle.wire.specs.Stream.{IsOutOfSequence, IsTooLong, IsUnfinished};
-ghost use Rattle.wire.specs.Reading.{Ending, IsStream, Runs};
+ghost use Rattle.wire.specs.Payload.{IsOutOfSequence, IsTooLarge, IsUnfinished};
+ghost use Rattle.wire.specs.Stream.{Ending, IsStream, Runs};
 
 /// No spelling of a length-encoded integer begins another one, and each spells one value.
 pub fn one_spelling()
@@ -37,7 +37,7 @@ pub fn one_reading()
 /// A fault stays what it is as more bytes come, and no bytes are neither a payload nor wrong.
 pub fn faults_stay()
     ensures sequence { (limit due want got : ℕ) (bytes more : List ℕ) → IsOutOfSequence due limit bytes want got → IsOutOfSequence due limit (bytes ++ more) want got }
-    ensures too_long { (limit due : ℕ) (bytes more : List ℕ) → IsTooLong due limit bytes → IsTooLong due limit (bytes ++ more) }
+    ensures too_large { (limit due : ℕ) (bytes more : List ℕ) → IsTooLarge due limit bytes → IsTooLarge due limit (bytes ++ more) }
     ensures nothing { (limit due : ℕ) → IsUnfinished due limit [] }
 {}
 

@@ -1,6 +1,7 @@
 //! Payloads as packets.
 
 ghost use Rattle.std.specs.Prelude.{◌≡◌, ◌+◌, ◌*◌, ◌/◌, ◌≤◌, ◌<◌, ◌++◌, ◌⊎◌, ◌↔◌, length, IfOk, IfErr, OnErr, vec_len, vec_capacity};
+ghost use Rattle.wire.specs.Packet as spec;
 ghost use Rattle.wire.specs.Packet.{packet, AppendsPacking};
 
 use crate::fault::WireFault;
@@ -9,42 +10,44 @@ use crate::fault::WireFault;
 /// highest `max_allowed_packet` of a server.
 pub const LARGEST_PAYLOAD: usize = 1_073_741_824;
 
-/// The length of the piece in a packet that another packet of the payload follows: 2^24 - 1.
-pub(crate) const FULL_PIECE: usize = 16_777_215;
+/// The length of the chunk in a packet that another packet of the payload follows: 2^24 - 1.
+pub(crate) const FULL_CHUNK: usize = 16_777_215;
 
 /// The length of a packet's header: three bytes of length and the sequence id.
 pub(crate) const HEADER: usize = 4;
 
-/// The length of the packets of a payload of this length.
+/// How long the packets of a payload of this length are.
+#[tactic(auto, unfolding(crate::specs::Packet::full_chunk))]
 fn packing_length(payload: usize) -> usize
     requires { payload ≤ LARGEST_PAYLOAD }
-    ensures { result ≡ payload + HEADER * (payload / FULL_PIECE + 1) }
+    ensures { result ≡ spec.packing_length payload }
 {
-    payload + HEADER * (payload / FULL_PIECE + 1)
+    payload + HEADER * (payload / FULL_CHUNK + 1)
 }
 
-fn push_packet(id: u8, piece: &[u8], out: &mut Vec<u8>)
-    requires size { length piece.now ≤ FULL_PIECE }
-    requires room { vec_len out.old + HEADER + length piece.now ≤ vec_capacity out.old }
-    ensures packet { out.new.items ≡ out.old.items ++ packet id piece.now }
-    ensures len { vec_len out.new ≡ vec_len out.old + HEADER + length piece.now }
+fn push_packet(id: u8, chunk: &[u8], out: &mut Vec<u8>)
+    requires size { length chunk.now ≤ FULL_CHUNK }
+    requires room { vec_len out.old + HEADER + length chunk.now ≤ vec_capacity out.old }
+    ensures packet { out.new.items ≡ out.old.items ++ packet id chunk.now }
+    ensures len { vec_len out.new ≡ vec_len out.old + HEADER + length chunk.now }
     ensures capacity { vec_capacity out.old ≤ vec_capacity out.new }
 {
-    let [a, b, c, _] = (piece.len() as u32).to_le_bytes();
+    let [a, b, c, _] = (chunk.len() as u32).to_le_bytes();
     out.extend_from_slice(&[a, b, c, id]).unwrap();
-    out.extend_from_slice(piece).unwrap();
+    out.extend_from_slice(chunk).unwrap();
 }
 
+#[tactic(auto, unfolding(crate::specs::Packet::full_chunk))]
 fn push_packets(sequence: u8, payload: &[u8], out: &mut Vec<u8>) -> u8
     requires size { length payload.now ≤ LARGEST_PAYLOAD }
-    requires room { vec_len out.old + length payload.now + HEADER * (length payload.now / FULL_PIECE + 1) ≤ vec_capacity out.old }
+    requires room { vec_len out.old + spec.packing_length (length payload.now) ≤ vec_capacity out.old }
     ensures { AppendsPacking sequence payload.now out.old.items out.new.items result }
 {
     let mut id = sequence;
     let mut rest = payload;
-    while rest.len() >= FULL_PIECE {
-        let (piece, others) = rest.split_at(FULL_PIECE);
-        push_packet(id, piece, out);
+    while rest.len() >= FULL_CHUNK {
+        let (chunk, others) = rest.split_at(FULL_CHUNK);
+        push_packet(id, chunk, out);
         id = id.wrapping_add(1);
         rest = others;
     }
@@ -55,12 +58,13 @@ fn push_packets(sequence: u8, payload: &[u8], out: &mut Vec<u8>) -> u8
 /// Appends the packets of the payload, the first with this sequence id, and gives the id that is due
 /// next.
 ///
-/// `TooLarge` where the payload is longer than [`LARGEST_PAYLOAD`], and `Memory`; either leaves the
-/// vector as it was.
+/// `TooLarge` where the payload is longer than [`LARGEST_PAYLOAD`], and `Memory` where the vector has no
+/// room for the packets and can get none; either leaves the vector as it was.
 pub fn write_payload(sequence: u8, payload: &[u8], out: &mut Vec<u8>) -> Result<u8, WireFault>
     ensures ok { IfOk result (λ next. AppendsPacking sequence payload.now out.old.items out.new.items next) }
     ensures too_large { (result ≡ Err WireFault.TooLarge) ↔ (LARGEST_PAYLOAD < length payload.now) }
     ensures only { IfErr result (λ fault. (fault ≡ WireFault.TooLarge) ⊎ (fault ≡ WireFault.Memory)) }
+    ensures full { result ≡ Err WireFault.Memory → vec_capacity out.old < vec_len out.old + spec.packing_length (length payload.now) }
     ensures err { OnErr result (out.new.items ≡ out.old.items) }
 {
     if payload.len() > LARGEST_PAYLOAD {

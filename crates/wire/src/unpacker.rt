@@ -4,7 +4,7 @@ ghost use Rattle.std.specs.Prelude.{◌≡◌, ◌≢◌, ℕ, ◌+◌, ◌%◌,
 ghost use Rattle.wire.specs.Header.{IsHeader};
 
 use crate::fault::WireFault;
-use crate::packet::{FULL_PIECE, HEADER, LARGEST_PAYLOAD};
+use crate::packet::{FULL_CHUNK, HEADER, LARGEST_PAYLOAD};
 use byteorder::{ByteOrder, LittleEndian};
 use std::alloc::Global;
 use std::mem;
@@ -21,9 +21,9 @@ pub(crate) struct Unpacker {
     /// The header of the packet at hand, of which the first `filled` bytes have come.
     pub(crate) header: [u8; HEADER],
     pub(crate) filled: usize,
-    /// How many bytes of the piece at hand are still to come, once its header is whole.
+    /// How many bytes of the chunk at hand are still to come, once its header is whole.
     pub(crate) left: usize,
-    /// The pieces so far, without their headers.
+    /// The chunks so far, without their headers.
     pub(crate) payload: Vec<u8>,
 }
 
@@ -63,8 +63,8 @@ fn read_header(header: &[u8], id: u8, room: usize) -> Result<usize, WireFault>
 
 impl Unpacker {
     ghost use Rattle.std.specs.Prelude.{◌≡◌, ◌≢◌, ℕ, ◌+◌, ◌%◌, ◌≤◌, ◌<◌, ◌++◌, [], ◌↔◌, length, take, IfOk, IfErr, IsTrue};
-    ghost use Rattle.wire.specs.Stream.{IsOutOfSequence, IsTooLong, IsUnfinished, IsWholePayload};
-    ghost use Rattle.wire.specs.Held.{held_of, IsInHeader, IsInPiece, IsUnpacking, IsComplete, Takes};
+    ghost use Rattle.wire.specs.Payload.{IsOutOfSequence, IsTooLarge, IsWholePayload, NeedsRoom};
+    ghost use Rattle.wire.specs.Held.{held_of, IsInHeader, IsInChunk, IsUnpacking, IsComplete, Takes};
 
     /// Between payloads, with this sequence id due.
     pub(crate) fn new(alloc: Global, limit: usize, due: u8) -> Unpacker
@@ -99,7 +99,7 @@ impl Unpacker {
         self.filled == HEADER && self.left == 0
     }
 
-    /// Takes bytes of the header at hand. Once it is whole it is judged, and room is made for its piece.
+    /// Takes bytes of the header at hand. Once it is whole it is judged, and room is made for its chunk.
     fn take_header(&mut self, bytes: &[u8]) -> Result<usize, WireFault>
         requires header { IsInHeader self.old }
         requires limit { self.old.limit ≤ LARGEST_PAYLOAD }
@@ -107,7 +107,8 @@ impl Unpacker {
         ensures progress { IfOk result (λ used. 0 < length bytes.now → 0 < used) }
         ensures limit { self.new.limit ≡ self.old.limit }
         ensures sequence { (want got : ℕ) → result ≡ Err (WireFault.Sequence want got) → IsOutOfSequence self.old.due self.old.limit (held_of self.old ++ bytes.now) want got }
-        ensures too_large { result ≡ Err WireFault.TooLarge → IsTooLong self.old.due self.old.limit (held_of self.old ++ bytes.now) }
+        ensures too_large { result ≡ Err WireFault.TooLarge → IsTooLarge self.old.due self.old.limit (held_of self.old ++ bytes.now) }
+        ensures memory { result ≡ Err WireFault.Memory → NeedsRoom self.old.due self.old.limit (held_of self.old ++ bytes.now) }
         ensures only { IfErr result (λ fault. fault ≢ WireFault.Ended) }
     {
         let used = fill(&mut self.header, self.filled, bytes);
@@ -121,24 +122,22 @@ impl Unpacker {
         Ok(used)
     }
 
-    /// Takes bytes of the piece at hand.
-    fn take_piece(&mut self, bytes: &[u8]) -> Result<usize, WireFault>
-        requires piece { IsInPiece self.old }
+    /// Takes bytes of the chunk at hand, for which there is room.
+    fn take_chunk(&mut self, bytes: &[u8]) -> usize
+        requires chunk { IsInChunk self.old }
         requires open { 0 < self.old.left }
         requires limit { self.old.limit ≤ LARGEST_PAYLOAD }
-        ensures ok { IfOk result (λ used. Takes self.old self.new bytes.now used) }
-        ensures progress { IfOk result (λ used. 0 < length bytes.now → 0 < used) }
-        ensures limit { self.new.limit ≡ self.old.limit }
-        ensures only { IfErr result (λ fault. fault ≡ WireFault.Memory) }
+        ensures takes { Takes self.old self.new bytes.now result }
+        ensures progress { 0 < length bytes.now → 0 < result }
     {
         let used = self.left.min(bytes.len());
-        self.payload.extend_from_slice(&bytes[..used])?;
+        self.payload.extend_from_slice(&bytes[..used]).unwrap();
         self.left -= used;
-        if self.payload.len() == (usize::from(self.full) + 1) * FULL_PIECE {
+        if self.payload.len() == (usize::from(self.full) + 1) * FULL_CHUNK {
             self.full += 1;
             self.filled = 0;
         }
-        Ok(used)
+        used
     }
 
     /// Takes bytes up to the end of the payload, or all of them, and gives how many.
@@ -151,7 +150,8 @@ impl Unpacker {
         ensures progress { IfOk result (λ used. IsComplete self.new → 0 < used) }
         ensures limit { self.new.limit ≡ self.old.limit }
         ensures sequence { (want got : ℕ) → result ≡ Err (WireFault.Sequence want got) → IsOutOfSequence self.old.due self.old.limit (held_of self.old ++ bytes.now) want got }
-        ensures too_large { result ≡ Err WireFault.TooLarge → IsTooLong self.old.due self.old.limit (held_of self.old ++ bytes.now) }
+        ensures too_large { result ≡ Err WireFault.TooLarge → IsTooLarge self.old.due self.old.limit (held_of self.old ++ bytes.now) }
+        ensures memory { result ≡ Err WireFault.Memory → NeedsRoom self.old.due self.old.limit (held_of self.old ++ bytes.now) }
         ensures only { IfErr result (λ fault. fault ≢ WireFault.Ended) }
     {
         let mut used = 0;
@@ -160,7 +160,7 @@ impl Unpacker {
             used += if self.filled < HEADER {
                 self.take_header(rest)?
             } else {
-                self.take_piece(rest)?
+                self.take_chunk(rest)
             };
         }
         Ok(used)
@@ -168,7 +168,7 @@ impl Unpacker {
 
     /// Hands out the payload, and stands between payloads.
     pub(crate) fn hand_out(&mut self) -> Vec<u8>
-        requires piece { IsInPiece self.old }
+        requires chunk { IsInChunk self.old }
         requires complete { IsComplete self.old }
         ensures payload { IsWholePayload self.old.due self.old.limit (held_of self.old) result.items self.new.due }
         ensures limit { self.new.limit ≡ self.old.limit }

@@ -1,7 +1,7 @@
 use Rattle.std.proofs.Common.{◌≡◌, ◌<◌, ◌++◌, length, ap, sym, subst, ◌∙◌, arith}
 use Rattle.std.proofs.lemmas.List.{take_all}
 use Rattle.std.proofs.lemmas.Bool.{false≢true}
-use Rattle.wire.specs.Stream.{IsUnfinished}
+use Rattle.wire.specs.Payload.{IsUnfinished}
 use Rattle.wire.specs.Held.{held_of, IsComplete}
 use Rattle.wire.proofs.Unpacking.{held_unfinished, short_held}
 use Rattle.wire.proofs.OnePacking.{length_packing-held}

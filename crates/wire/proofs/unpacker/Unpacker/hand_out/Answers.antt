@@ -1,5 +1,5 @@
 use Rattle.std.proofs.Common.{◌≡◌, ◌+◌, ◌%◌, ap, sym, subst, arith}
-use Rattle.wire.specs.Stream.{IsWholePayload}
+use Rattle.wire.specs.Payload.{IsWholePayload}
 use Rattle.wire.specs.Held.{held_of}
 use Rattle.wire.proofs.Unpacking.{whole_payload}
 use Rattle.wire.proofs.unpacker.Unpacker.hand_out.Goals as goal
@@ -10,4 +10,4 @@ returns-clause-payload c =
     let next : (old.due + old.full + 1) % 256 ≡ c.replace-payload.new.dest.due = omega (arith, ap (λ u. u.due) c.replace-payload.ensures.after, c.new-fresh.ensures.due) in
     subst (λ n. IsWholePayload old.due old.limit (held_of old) c.replace-payload.result.payload.items n) next
     (subst (λ p. IsWholePayload old.due old.limit (held_of old) p ((old.due + old.full + 1) % 256)) (ap (λ u. u.payload.items) (sym c.replace-payload.ensures.value))
-    (whole_payload old c.requires.piece c.requires.complete))
+    (whole_payload old c.requires.chunk c.requires.complete))

@@ -1,10 +1,10 @@
 use Rattle.std.proofs.Common.{◌≡◌, ◌+◌, length, take, drop, refl, ap, subst, ◌∙◌, arith, inl, inr}
 use Rattle.std.proofs.lemmas.Result.{err_from_is_err_and}
-use Rattle.wire.specs.Packet.{full_piece}
-use Rattle.wire.specs.Stream.{IsOutOfSequence, IsTooLong}
+use Rattle.wire.specs.Packet.{full_chunk}
+use Rattle.wire.specs.Payload.{IsOutOfSequence, IsTooLarge, NeedsRoom}
 use Rattle.wire.specs.Held.{held_of}
 use Rattle.wire.specs.declared.unpacker.Unpacker.{Unpacker}
-use Rattle.wire.proofs.Unpacking.{held_of-header, rejoined, out_of_sequence, too_long}
+use Rattle.wire.proofs.Unpacking.{held_of-header, rejoined, header_held, out_of_sequence, too_large}
 use Rattle.wire.proofs.unpacker.Unpacker.take_header.Goals as goal
 
 pub returns-then-self-lt-HEADER-clause-ok : goal.returns-then-self-lt-HEADER-clause-ok
@@ -14,8 +14,8 @@ returns-then-self-lt-HEADER-clause-ok c =
       in_range = c.fill-used.ensures.used;
       limit = refl;
       due = refl;
-      stands = inl (record { sized = omega (arith, c.fill-used.auto.header, h.sized); open_header = c.if-self-lt-HEADER.true; whole_pieces = h.whole_pieces; within = h.within });
-      held = held_of-header c.args.self.now _ (take c.fill-used.result c.args.bytes.now) h.whole_pieces refl refl refl c.fill-used.ensures.filled;
+      stands = inl (record { sized = omega (arith, c.fill-used.auto.header, h.sized); open_header = c.if-self-lt-HEADER.true; whole_chunks = h.whole_chunks; within = h.within });
+      held = held_of-header c.args.self.now _ (take c.fill-used.result c.args.bytes.now) h.whole_chunks refl refl refl c.fill-used.ensures.filled;
     }
 
 pub returns-in_err-self-clause-sequence : goal.returns-in_err-self-clause-sequence
@@ -29,8 +29,8 @@ returns-in_err-self-clause-sequence c want got equal =
     let filled : mid.filled ≡ 4 = omega arith in
     subst (λ b. IsOutOfSequence old.due old.limit b want got)
     (rejoined (held_of old) (held_of mid) c.args.bytes.now used
-    (held_of-header old mid (take used c.args.bytes.now) h.whole_pieces refl refl refl c.fill-used.ensures.filled))
-    (out_of_sequence mid q.2 want got (drop used c.args.bytes.now) h.whole_pieces h.within filled q.3 q.0 (λ e. q.1 (e ∙ q.0)))
+    (held_of-header old mid (take used c.args.bytes.now) h.whole_chunks refl refl refl c.fill-used.ensures.filled))
+    (out_of_sequence mid q.2 want got (drop used c.args.bytes.now) h.whole_chunks h.within filled q.3 q.0 (λ e. q.1 (e ∙ q.0)))
 
 pub returns-in_err-self-clause-too_large : goal.returns-in_err-self-clause-too_large
 returns-in_err-self-clause-too_large c equal =
@@ -41,13 +41,13 @@ returns-in_err-self-clause-too_large c equal =
     let q = c.in_err-self.ensures.too_large (cc) in
     let mid : Unpacker = record old { header = c.fill-used.new.header; filled = old.filled + used } in
     let filled : mid.filled ≡ 4 = omega arith in
-    subst (λ b. IsTooLong old.due old.limit b)
+    subst (λ b. IsTooLarge old.due old.limit b)
     (rejoined (held_of old) (held_of mid) c.args.bytes.now used
-    (held_of-header old mid (take used c.args.bytes.now) h.whole_pieces refl refl refl c.fill-used.ensures.filled))
-    (too_long mid q.0 (drop used c.args.bytes.now) h.whole_pieces h.within filled q.2 (omega (arith, q.1)))
+    (held_of-header old mid (take used c.args.bytes.now) h.whole_chunks refl refl refl c.fill-used.ensures.filled))
+    (too_large mid q.0 (drop used c.args.bytes.now) h.whole_chunks h.within filled q.2 (omega (arith, q.1)))
 
 pub returns-clause-ok : goal.returns-clause-ok
-unfolding full_piece
+unfolding full_chunk
 returns-clause-ok c =
     let h = c.requires.header in
     let items = c.in_ok-reserve.ensures.items in
@@ -60,10 +60,31 @@ returns-clause-ok c =
         size = c.in_ok-self.field-0;
         whole_header = omega arith;
         header = ok.0;
-        sum = omega (arith, ap length items, h.whole_pieces);
+        sum = omega (arith, ap length items, h.whole_chunks);
         left = omega arith;
         short = λ e. omega (arith, e);
         within = omega (arith, ap length items, h.within, ok.1);
+        room = omega (arith, c.in_ok-reserve.ensures.ok);
       });
-      held = held_of-header c.args.self.now _ (take c.fill-used.result c.args.bytes.now) h.whole_pieces refl refl items c.fill-used.ensures.filled;
+      held = held_of-header c.args.self.now _ (take c.fill-used.result c.args.bytes.now) h.whole_chunks refl refl items c.fill-used.ensures.filled;
     }
+
+pub returns-in_err-reserve-clause-memory : goal.returns-in_err-reserve-clause-memory
+returns-in_err-reserve-clause-memory c equal =
+    let h = c.requires.header in
+    let old = c.args.self.now in
+    let used = c.fill-used.result in
+    let size = c.in_ok-self.field-0 in
+    let ok = c.in_ok-self.ensures.ok in
+    let mid : Unpacker = record old { header = c.fill-used.new.header; filled = old.filled + used } in
+    let filled : mid.filled ≡ 4 = omega arith in
+    subst (NeedsRoom old.due old.limit)
+    (rejoined (held_of old) (held_of mid) c.args.bytes.now used
+    (held_of-header old mid (take used c.args.bytes.now) h.whole_chunks refl refl refl c.fill-used.ensures.filled))
+    (record {
+      before = old.full;
+      size = size;
+      header = header_held mid size _ (drop used c.args.bytes.now) h.whole_chunks h.within filled ok.0;
+      fits = omega (arith, h.whole_chunks, h.within, ok.1);
+      some = omega (arith, c.in_err-reserve.ensures.full);
+    })
