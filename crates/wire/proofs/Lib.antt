@@ -7,3 +7,5 @@ pub mod Unpacking
 pub mod OneSpelling
 pub mod OnePacking
 pub mod OneReading
+pub mod SomeReading
+pub mod Reader

@@ -1,7 +1,8 @@
 -- A payload has one packing, and the packings of two payloads do not begin one another.
-use Rattle.std.proofs.Common.{◌≡◌, ℕ, suc, ◌+◌, ◌*◌, ◌/◌, ◌%◌, ◌<◌, ◌≤◌, ◌^◌, List, [], ◌∷◌, ◌++◌, length, take, drop, refl, ap, sym, ◌∙◌, append_assoc, arith, length-append, length-drop, length-take}
+use Rattle.std.proofs.Common.{◌≡◌, ℕ, suc, ◌+◌, ◌*◌, ◌/◌, ◌%◌, ◌<◌, ◌≤◌, ◌^◌, List, [], ◌∷◌, ◌++◌, length, get_or, take, drop, refl, ap, sym, ◌∙◌, append_assoc, arith, length-append, length-drop, length-take}
 use Rattle.std.proofs.Math.Seq.{drop-append_seam, take-append_seam}
 use Rattle.std.specs.List.{concat, AllByRecursion}
+use Rattle.byteorder.specs.Endian.{little_bytes}
 use Rattle.wire.specs.Packet.{full_chunk, packet, packets, IsFullChunk, IsPacking, packing_length}
 use Rattle.wire.specs.Held.{full_chunks}
 use Rattle.wire.proofs.Packets.{packets-push}
@@ -36,14 +37,30 @@ same_chunks id (p ∷ ps) (q ∷ qs) l m x y fp fq sl sm same =
     let r = same_chunks (suc id) ps qs l m x y fp.1 fq.1 sl sm e.1 in
     ((λ i. e.0 i ∷ r.0 i), r.1, r.2)
 
+-- packets depend on the id's lowest byte alone
+packets-mod : (i j : ℕ) (ps : List (List ℕ)) → i % 256 ≡ j % 256 → packets i ps ≡ packets j ps
+packets-mod i j [] same = refl
+packets-mod i j (p ∷ ps) same = λ k. (little_bytes 3 (length p) ++ same k ∷ p) ++ packets-mod (suc i) (suc j) ps (omega (arith, same)) k
+
+-- the fourth byte is the id
+first_id : (id : ℕ) (ps : List (List ℕ)) (l x : List ℕ) → get_or (packets id (ps ++ l ∷ []) ++ x) 3 0 ≡ id % 256
+first_id id [] l x = refl
+first_id id (p ∷ ps) l x = refl
+
+later_id : (i j k : ℕ) → i % 256 ≡ j % 256 → (i + k + 1) % 256 ≡ (j + k + 1) % 256
+later_id i j k e = omega (arith, e)
+
 -- no packing begins another
-pub none_begins : {id : ℕ} {p q a b : List ℕ} (x y : List ℕ) {m n : ℕ} → IsPacking id p a m → IsPacking id q b n → a ++ x ≡ b ++ y → (p ≡ q) × (a ≡ b) × (x ≡ y) × (m ≡ n)
-none_begins {id} {p} {q} {a} {b} x y {m} {n} f g same =
-    let e = same_chunks id f.chunks g.chunks f.last g.last x y f.full g.full f.short g.short ((λ i. sym f.packed i ++ x) ∙ same ∙ (λ i. g.packed i ++ y)) in (
-      f.cut ∙ (λ i. concat (e.0 i) ++ e.1 i) ∙ sym g.cut,
-      f.packed ∙ (λ i. packets id (e.0 i ++ e.1 i ∷ [])) ∙ sym g.packed,
+pub none_begins : {i j : ℕ} {p q a b : List ℕ} (x y : List ℕ) {m n : ℕ} → IsPacking i p a m → IsPacking j q b n → a ++ x ≡ b ++ y → (p ≡ q) × (a ≡ b) × (x ≡ y) × (m ≡ n)
+none_begins {i} {j} {p} {q} {a} {b} x y {m} {n} f g same =
+    let both : packets i (f.chunks ++ f.last ∷ []) ++ x ≡ packets j (g.chunks ++ g.last ∷ []) ++ y = (λ k. sym f.packed k ++ x) ∙ same ∙ (λ k. g.packed k ++ y) in
+    let id : i % 256 ≡ j % 256 = sym (first_id i f.chunks f.last x) ∙ ap (λ bytes. get_or bytes 3 0) both ∙ first_id j g.chunks g.last y in
+    let as_i : packets j (g.chunks ++ g.last ∷ []) ≡ packets i (g.chunks ++ g.last ∷ []) = sym (packets-mod i j (g.chunks ++ g.last ∷ []) id) in
+    let e = same_chunks i f.chunks g.chunks f.last g.last x y f.full g.full f.short g.short (both ∙ ap (λ front. front ++ y) as_i) in (
+      f.cut ∙ (λ k. concat (e.0 k) ++ e.1 k) ∙ sym g.cut,
+      f.packed ∙ (λ k. packets i (e.0 k ++ e.1 k ∷ [])) ∙ sym as_i ∙ sym g.packed,
       e.2,
-      f.follows ∙ ap (λ ps. (id + length ps + 1) % 256) e.0 ∙ sym g.follows,
+      f.follows ∙ ap (λ ps. (i + length ps + 1) % 256) e.0 ∙ later_id i j (length g.chunks) id ∙ sym g.follows,
     )
 
 -- a payload is cut in one way

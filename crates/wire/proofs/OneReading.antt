@@ -1,4 +1,4 @@
--- A stream has one reading, in whatever chunks it is taken.
+-- A stream has one reading, in whatever pieces it is taken.
 use Rattle.std.proofs.Common.{◌≡◌, ℕ, zero, suc, ◌+◌, ◌*◌, ◌%◌, ◌<◌, ◌≤◌, ◌^◌, ◌⊎◌, List, [], ◌∷◌, ◌++◌, length, refl, ap, sym, subst, ◌∙◌, append_assoc, arith, length-append, length-take, inl, inr}
 use Rattle.std.proofs.lemmas.List.{append-nil}
 use Rattle.std.proofs.Math.Seq.{take-append_seam}
@@ -73,29 +73,29 @@ long_payload w =
     omega (arith, w.within, ap length w.packing.cut ∙ length-append (concat w.packing.chunks) w.packing.last, concat_length w.packing.chunks w.packing.full)
 
 -- no two of: a wrong id, a length above the limit, a payload
-one_wrong_id : {due limit : ℕ} {bytes : List ℕ} {want got want' got' : ℕ} → IsOutOfSequence due limit bytes want got → IsOutOfSequence due limit bytes want' got' → (want ≡ want') × (got ≡ got')
+pub one_wrong_id : {due limit : ℕ} {bytes : List ℕ} {want got want' got' : ℕ} → IsOutOfSequence due limit bytes want got → IsOutOfSequence due limit bytes want' got' → (want ≡ want') × (got ≡ got')
 one_wrong_id {due} {limit} {bytes} {want} {got} {want'} {got'} a b = elim (agree due bytes a.before a.size got b.before b.size got' (of_header a.header) (of_header b.header)) [
   | inl h ↦ (a.wanted ∙ ap (λ n. (due + n) % 256) h.0 ∙ sym b.wanted, h.2)
   | inr h ↦ elim h [ inl h ↦ absurd (a.differs (h.2 ∙ sym a.wanted)) | inr h ↦ absurd (b.differs (h.2 ∙ sym b.wanted)) ]
 ]
 
-wrong_or_long : {due limit : ℕ} {bytes : List ℕ} {want got : ℕ} → IsOutOfSequence due limit bytes want got → IsTooLarge due limit bytes → ⊥
+pub wrong_or_large : {due limit : ℕ} {bytes : List ℕ} {want got : ℕ} → IsOutOfSequence due limit bytes want got → IsTooLarge due limit bytes → ⊥
 unfolding full_chunk
-wrong_or_long {due} {limit} {bytes} {want} {got} a b = elim (agree due bytes a.before a.size got b.before b.size ((due + b.before) % 256) (of_header a.header) (of_header b.header)) [
+wrong_or_large {due} {limit} {bytes} {want} {got} a b = elim (agree due bytes a.before a.size got b.before b.size ((due + b.before) % 256) (of_header a.header) (of_header b.header)) [
   | inl h ↦ a.differs (h.2 ∙ ap (λ n. (due + n) % 256) (sym h.0) ∙ sym a.wanted)
   | inr h ↦ elim h [ inl h ↦ a.differs (h.2 ∙ sym a.wanted) | inr h ↦ omega (arith, h.0, h.1, b.above, a.header.within) ]
 ]
 
-wrong_or_whole : {due limit : ℕ} {bytes payload : List ℕ} {want got next : ℕ} (rest : List ℕ) → IsOutOfSequence due limit (bytes ++ rest) want got → IsWholePayload due limit bytes payload next → ⊥
+pub wrong_or_whole : {due limit : ℕ} {bytes payload : List ℕ} {want got next : ℕ} (rest : List ℕ) → IsOutOfSequence due limit (bytes ++ rest) want got → IsWholePayload due limit bytes payload next → ⊥
 wrong_or_whole {due} {limit} {bytes} {payload} {want} {got} rest a w =
     elim (agree due (bytes ++ rest) a.before a.size got (length w.packing.chunks) (length w.packing.last) ((due + length w.packing.chunks) % 256) (of_header a.header) (of_payload w rest)) [
       | inl h ↦ a.differs (h.2 ∙ ap (λ n. (due + n) % 256) (sym h.0) ∙ sym a.wanted)
       | inr h ↦ elim h [ inl h ↦ a.differs (h.2 ∙ sym a.wanted) | inr h ↦ omega (arith, h.1, w.packing.short) ]
     ]
 
-long_or_whole : {due limit : ℕ} {bytes payload : List ℕ} {next : ℕ} (rest : List ℕ) → IsTooLarge due limit (bytes ++ rest) → IsWholePayload due limit bytes payload next → ⊥
+pub large_or_whole : {due limit : ℕ} {bytes payload : List ℕ} {next : ℕ} (rest : List ℕ) → IsTooLarge due limit (bytes ++ rest) → IsWholePayload due limit bytes payload next → ⊥
 unfolding full_chunk
-long_or_whole {due} {limit} {bytes} {payload} rest b w =
+large_or_whole {due} {limit} {bytes} {payload} rest b w =
     elim (agree due (bytes ++ rest) b.before b.size ((due + b.before) % 256) (length w.packing.chunks) (length w.packing.last) ((due + length w.packing.chunks) % 256) (of_header b.header) (of_payload w rest)) [
       | inl h ↦ omega (arith, h.0, h.1, b.above, long_payload w)
       | inr h ↦ elim h [ inl h ↦ omega (arith, h.0, h.1, b.above, long_payload w) | inr h ↦ omega (arith, h.1, w.packing.short) ]
@@ -110,7 +110,7 @@ ends_or_whole : {due limit : ℕ} {stream payload : List ℕ} {next : ℕ} (byte
     IsWholePayload due limit bytes payload next → ⊥
 ends_or_whole {due} {limit} bytes rest (Held d held) e is w = unfinished_or_whole rest (subst (IsUnfinished due limit) is e.2) w
 ends_or_whole {due} {limit} bytes rest (OutOfSequence want got) e is w = wrong_or_whole rest (subst (λ b. IsOutOfSequence due limit b want got) is e) w
-ends_or_whole {due} {limit} bytes rest TooLarge e is w = long_or_whole rest (subst (IsTooLarge due limit) is e) w
+ends_or_whole {due} {limit} bytes rest TooLarge e is w = large_or_whole rest (subst (IsTooLarge due limit) is e) w
 
 one_ending : (due limit : ℕ) (bytes : List ℕ) (e f : Ending) → IsEnding due limit bytes e → IsEnding due limit bytes f → e ≡ f
 one_ending due limit bytes (Held d h) (Held d' h') a b = λ i. Held ((a.0 ∙ sym b.0) i) ((a.1 ∙ sym b.1) i)
@@ -118,19 +118,19 @@ one_ending due limit bytes (Held d h) (OutOfSequence want got) a b = absurd (a.2
 one_ending due limit bytes (Held d h) TooLarge a b = absurd (a.2.not_too_large b)
 one_ending due limit bytes (OutOfSequence want got) (Held d h) a b = absurd (b.2.in_sequence want got a)
 one_ending due limit bytes (OutOfSequence want got) (OutOfSequence want' got') a b = let e = one_wrong_id a b in λ i. OutOfSequence (e.0 i) (e.1 i)
-one_ending due limit bytes (OutOfSequence want got) TooLarge a b = absurd (wrong_or_long a b)
+one_ending due limit bytes (OutOfSequence want got) TooLarge a b = absurd (wrong_or_large a b)
 one_ending due limit bytes TooLarge (Held d h) a b = absurd (b.2.not_too_large a)
-one_ending due limit bytes TooLarge (OutOfSequence want got) a b = absurd (wrong_or_long b a)
+one_ending due limit bytes TooLarge (OutOfSequence want got) a b = absurd (wrong_or_large b a)
 one_ending due limit bytes TooLarge TooLarge a b = refl
 
 -- a stream has one reading
-pub one_reading : (limit due : ℕ) (stream : List ℕ) (a b : List (List ℕ)) (e f : Ending) → IsStream limit due stream a e → IsStream limit due stream b f → (a ≡ b) × (e ≡ f)
-one_reading limit due stream [] [] e f x y = (refl, one_ending due limit stream e f x y)
-one_reading limit due stream [] (q ∷ qs) e f x (bytes, rest, next, is, whole, behind) = absurd (ends_or_whole bytes rest e x is whole)
-one_reading limit due stream (p ∷ ps) [] e f (bytes, rest, next, is, whole, behind) y = absurd (ends_or_whole bytes rest f y is whole)
-one_reading limit due stream (p ∷ ps) (q ∷ qs) e f (bytes, rest, next, is, whole, behind) (bytes', rest', next', is', whole', behind') =
+pub one_reading : (due limit : ℕ) (stream : List ℕ) (a b : List (List ℕ)) (e f : Ending) → IsStream due limit stream a e → IsStream due limit stream b f → (a ≡ b) × (e ≡ f)
+one_reading due limit stream [] [] e f x y = (refl, one_ending due limit stream e f x y)
+one_reading due limit stream [] (q ∷ qs) e f x (bytes, rest, next, is, whole, behind) = absurd (ends_or_whole bytes rest e x is whole)
+one_reading due limit stream (p ∷ ps) [] e f (bytes, rest, next, is, whole, behind) y = absurd (ends_or_whole bytes rest f y is whole)
+one_reading due limit stream (p ∷ ps) (q ∷ qs) e f (bytes, rest, next, is, whole, behind) (bytes', rest', next', is', whole', behind') =
     let s = none_begins rest rest' whole.packing whole'.packing (sym is ∙ is') in
-    let r = one_reading limit next rest ps qs e f behind (subst (λ n. IsStream limit n rest qs f) (sym s.3) (subst (λ b. IsStream limit next' b qs f) (sym s.2) behind')) in
+    let r = one_reading next limit rest ps qs e f behind (subst (λ n. IsStream n limit rest qs f) (sym s.3) (subst (λ b. IsStream next' limit b qs f) (sym s.2) behind')) in
     ((λ i. s.0 i ∷ r.0 i), r.1)
 
 -- a header stays where it is as more bytes come
@@ -149,8 +149,8 @@ more_header {due} {limit} {bytes} {before} {size} {id} more h = record {
 pub more_wrong : {due limit want got : ℕ} {bytes : List ℕ} (more : List ℕ) → IsOutOfSequence due limit bytes want got → IsOutOfSequence due limit (bytes ++ more) want got
 more_wrong more a = record { before = a.before; size = a.size; header = more_header more a.header; wanted = a.wanted; differs = a.differs }
 
-pub more_long : {due limit : ℕ} {bytes : List ℕ} (more : List ℕ) → IsTooLarge due limit bytes → IsTooLarge due limit (bytes ++ more)
-more_long more a = record { before = a.before; size = a.size; header = more_header more a.header; above = a.above }
+pub more_large : {due limit : ℕ} {bytes : List ℕ} (more : List ℕ) → IsTooLarge due limit bytes → IsTooLarge due limit (bytes ++ more)
+more_large more a = record { before = a.before; size = a.size; header = more_header more a.header; above = a.above }
 
 -- no bytes are no payload, and nothing is wrong with them
 pub nothing_yet : (due limit : ℕ) → IsUnfinished due limit []
@@ -163,15 +163,21 @@ nothing_yet due limit = record {
     no_header : {before size id : ℕ} → HasHeader due limit [] before size id → ⊥
     no_header {before} {size} {id} h = omega (arith, ap length h.bytes_are, length-append (packets due h.chunks ++ h.header) h.more, length-append (packets due h.chunks) h.header, ap length h.is_header.bytes_are)
 
--- what a reader in chunks makes of a stream is its reading
-pub reads : {limit due : ℕ} {held stream : List ℕ} {payloads : List (List ℕ)} {ending : Ending} → Runs limit due held stream payloads ending → IsUnfinished due limit held →
-    IsStream limit due (held ++ stream) payloads ending
-reads {limit} {due} {held} stopped u = (refl, sym (append-nil held), subst (IsUnfinished due limit) (sym (append-nil held)) u)
-reads {limit} {due} {held} {payloads = payloads} {ending = ending} (held_all bytes more is unfinished run) u =
-    subst (λ s. IsStream limit due s payloads ending) (append_assoc held bytes more ∙ ap (λ s. held ++ s) (sym is)) (reads run unfinished)
-reads {limit} {due} {held} (handed_out bytes more payload next is whole run) u =
-    (held ++ bytes, more, next, ap (λ s. held ++ s) is ∙ sym (append_assoc held bytes more), whole, reads run (nothing_yet next limit))
-reads {limit} {due} {held} (out_of_sequence {want = want} {got = got} bytes more is a) u =
-    subst (λ s. IsOutOfSequence due limit s want got) (append_assoc held bytes more ∙ ap (λ s. held ++ s) (sym is)) (more_wrong more a)
-reads {limit} {due} {held} (too_large bytes more is a) u =
-    subst (IsTooLarge due limit) (append_assoc held bytes more ∙ ap (λ s. held ++ s) (sym is)) (more_long more a)
+-- what a reader makes of the pieces of a stream is the stream's reading
+pub reads : {due limit : ℕ} {held : List ℕ} {pieces payloads : List (List ℕ)} {ending : Ending} → Runs due limit held pieces payloads ending → IsUnfinished due limit held →
+    IsStream due limit (held ++ concat pieces) payloads ending
+reads {due} {limit} {held} stopped u = (refl, sym (append-nil held), subst (IsUnfinished due limit) (sym (append-nil held)) u)
+reads {due} {limit} {held} {payloads = payloads} {ending = ending} (held_all {piece = piece} {pieces = pieces} unfinished run) u =
+    subst (λ s. IsStream due limit s payloads ending) (append_assoc held piece (concat pieces)) (reads run unfinished)
+reads {due} {limit} {held} (handed_out {pieces = pieces} used rest next whole run) u =
+    (held ++ used, rest ++ concat pieces, next, ap (λ s. held ++ s) (append_assoc used rest (concat pieces)) ∙ sym (append_assoc held used (rest ++ concat pieces)),
+      whole, reads run (nothing_yet next limit))
+reads {due} {limit} {held} (out_of_sequence {want = want} {got = got} {piece = piece} {pieces = pieces} a) u =
+    subst (λ s. IsOutOfSequence due limit s want got) (append_assoc held piece (concat pieces)) (more_wrong (concat pieces) a)
+reads {due} {limit} {held} (too_large {piece = piece} {pieces = pieces} a) u =
+    subst (IsTooLarge due limit) (append_assoc held piece (concat pieces)) (more_large (concat pieces) a)
+
+pub any_pieces : (due limit : ℕ) (pieces others a b : List (List ℕ)) (e f : Ending) → concat pieces ≡ concat others →
+    Runs due limit [] pieces a e → Runs due limit [] others b f → (a ≡ b) × (e ≡ f)
+any_pieces due limit pieces others a b e f same x y =
+    one_reading due limit (concat others) a b e f (subst (λ s. IsStream due limit s a e) same (reads x (nothing_yet due limit))) (reads y (nothing_yet due limit))

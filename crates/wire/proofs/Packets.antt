@@ -1,6 +1,6 @@
 -- A packing as it grows, packet by packet.
 use Rattle.std.proofs.Common.{◌≡◌, ℕ, suc, ◌+◌, ◌%◌, ◌<◌, List, [], ◌∷◌, ◌++◌, length, refl, ap, sym, ◌∙◌, append_assoc, arith, length-append}
-use Rattle.std.proofs.lemmas.List.{append-nil}
+use Rattle.std.proofs.lemmas.List.{append-nil, length_push}
 use Rattle.std.proofs.lemmas.List.Folds.{concat-append}
 use Rattle.std.specs.List.{concat, AllByRecursion}
 use Rattle.wire.specs.Packet.{full_chunk, packet, packets, IsFullChunk, AppendsPacking}
@@ -31,7 +31,7 @@ packets-push id (p ∷ chunks) chunk =
 concat-push : (chunks : List (List ℕ)) (chunk : List ℕ) → concat (chunks ++ chunk ∷ []) ≡ concat chunks ++ chunk
 concat-push chunks chunk = concat-append chunks (chunk ∷ []) ∙ ap (λ more. concat chunks ++ more) (append-nil chunk)
 
-all-push : (chunks : List (List ℕ)) (chunk : List ℕ) → AllByRecursion IsFullChunk chunks → IsFullChunk chunk → AllByRecursion IsFullChunk (chunks ++ chunk ∷ [])
+pub all-push : (chunks : List (List ℕ)) (chunk : List ℕ) → AllByRecursion IsFullChunk chunks → IsFullChunk chunk → AllByRecursion IsFullChunk (chunks ++ chunk ∷ [])
 all-push [] chunk all full = (full, tt)
 all-push (p ∷ chunks) chunk all full = (all.0, all-push chunks chunk all.1 full)
 
@@ -46,11 +46,8 @@ pub record Packed (id : ℕ) (payload start now rest : List ℕ) (due : ℕ) : T
 pub packed_none : (id : ℕ) (payload start : List ℕ) → id < 256 → Packed id payload start start payload id
 packed_none id payload start h = record { chunks = []; full = tt; cut = refl; appended = sym (append-nil start); is_due = omega arith }
 
-pub length-push : {A : Type 0} (xs : List A) (x : A) → length (xs ++ x ∷ []) ≡ length xs + 1
-length-push xs x = length-append xs (x ∷ [])
-
 due-push : (id : ℕ) (chunks : List (List ℕ)) (chunk : List ℕ) → id + length chunks + 1 ≡ id + length (chunks ++ chunk ∷ [])
-due-push id chunks chunk = omega (arith, length-push chunks chunk)
+due-push id chunks chunk = omega (arith, length_push chunks chunk)
 
 pub packed_more : {id : ℕ} {payload start now rest : List ℕ} {due : ℕ} (p : Packed id payload start now rest due) (chunk others new : List ℕ) (next : ℕ) →
     IsFullChunk chunk → rest ≡ chunk ++ others → new ≡ now ++ packet due chunk → next ≡ (due + 1) % 256 → Packed id payload start new others next

@@ -3,9 +3,10 @@
 //! A law is a function with an empty body: its clauses are proved of the definitions themselves.
 
 ghost use Rattle.std.specs.Prelude.{◌≡◌, ℕ, ◌^◌, ◌<◌, ◌≤◌, ◌++◌, [], List, length};
+ghost use Rattle.std.specs.List.{concat, AllByRecursion};
 ghost use Rattle.wire.specs.Integer.{IsLengthEncoded, length_encoded};
 ghost use Rattle.wire.specs.Packet.{IsPacking, packing_length};
-ghost use Rattle.wire.specs.Payload.{IsOutOfSequence, IsTooLarge, IsUnfinished};
+ghost use Rattle.wire.specs.Payload.{IsWholePayload, IsUnfinished, IsOutOfSequence, IsTooLarge};
 ghost use Rattle.wire.specs.Stream.{Ending, IsStream, Runs};
 
 /// No spelling of a length-encoded integer begins another one, and each spells one value.
@@ -20,32 +21,50 @@ pub fn shortest_spelling()
 {}
 
 /// Each payload has one packing from each sequence id, with four bytes more for each packet. No packing
-/// begins another one.
+/// begins another one, from whichever ids.
 pub fn one_packing()
     ensures some { (id : ℕ) (payload : List ℕ) → (bytes : List ℕ) × (next : ℕ) × IsPacking id payload bytes next }
     ensures one { (id m n : ℕ) (payload a b : List ℕ) → IsPacking id payload a m → IsPacking id payload b n → (a ≡ b) × (m ≡ n) }
     ensures length { (id next : ℕ) (payload bytes : List ℕ) → IsPacking id payload bytes next → length bytes ≡ packing_length (length payload) }
-    ensures none_begins { (id m n : ℕ) (p q a b x y : List ℕ) → IsPacking id p a m → IsPacking id q b n → a ++ x ≡ b ++ y → (p ≡ q) × (a ≡ b) × (x ≡ y) × (m ≡ n) }
+    ensures none_begins { (i j m n : ℕ) (p q a b x y : List ℕ) → IsPacking i p a m → IsPacking j q b n → a ++ x ≡ b ++ y → (p ≡ q) × (a ≡ b) × (x ≡ y) × (m ≡ n) }
 {}
 
-/// A stream has one reading: its payloads, and a fault or the bytes of an unfinished payload behind them.
-pub fn one_reading()
-    ensures { (limit due : ℕ) (stream : List ℕ) (a b : List (List ℕ)) (e f : Ending) →
-        IsStream limit due stream a e → IsStream limit due stream b f → (a ≡ b) × (e ≡ f) }
+/// Bytes have one wrong header at most, with one fault, and then no payload stands at their front.
+pub fn one_answer()
+    ensures one_wrong_id { (due limit want got want' got' : ℕ) (bytes : List ℕ) →
+        IsOutOfSequence due limit bytes want got → IsOutOfSequence due limit bytes want' got' → (want ≡ want') × (got ≡ got') }
+    ensures one_fault { (due limit want got : ℕ) (bytes : List ℕ) → IsOutOfSequence due limit bytes want got → IsTooLarge due limit bytes → ⊥ }
+    ensures in_sequence { (due limit want got next : ℕ) (bytes more payload : List ℕ) →
+        IsWholePayload due limit bytes payload next → IsOutOfSequence due limit (bytes ++ more) want got → ⊥ }
+    ensures not_too_large { (due limit next : ℕ) (bytes more payload : List ℕ) →
+        IsWholePayload due limit bytes payload next → IsTooLarge due limit (bytes ++ more) → ⊥ }
 {}
 
-/// A fault stays what it is as more bytes come, and no bytes are neither a payload nor wrong.
+/// A wrong header is wrong whatever follows it.
 pub fn faults_stay()
-    ensures sequence { (limit due want got : ℕ) (bytes more : List ℕ) → IsOutOfSequence due limit bytes want got → IsOutOfSequence due limit (bytes ++ more) want got }
-    ensures too_large { (limit due : ℕ) (bytes more : List ℕ) → IsTooLarge due limit bytes → IsTooLarge due limit (bytes ++ more) }
-    ensures nothing { (limit due : ℕ) → IsUnfinished due limit [] }
+    ensures sequence { (due limit want got : ℕ) (bytes more : List ℕ) → IsOutOfSequence due limit bytes want got → IsOutOfSequence due limit (bytes ++ more) want got }
+    ensures too_large { (due limit : ℕ) (bytes more : List ℕ) → IsTooLarge due limit bytes → IsTooLarge due limit (bytes ++ more) }
+{}
+
+/// No bytes are neither a payload nor wrong.
+pub fn nothing_yet()
+    ensures { (due limit : ℕ) → IsUnfinished due limit [] }
+{}
+
+/// Each stream of bytes has a reading, and only one: its payloads, and a fault or the bytes of an
+/// unfinished payload behind them.
+pub fn one_reading()
+    ensures some { (due limit : ℕ) (stream : List ℕ) → AllByRecursion (λ b. b < 256) stream →
+        (payloads : List (List ℕ)) × (ending : Ending) × IsStream due limit stream payloads ending }
+    ensures one { (due limit : ℕ) (stream : List ℕ) (a b : List (List ℕ)) (e f : Ending) →
+        IsStream due limit stream a e → IsStream due limit stream b f → (a ≡ b) × (e ≡ f) }
 {}
 
 /// However a stream is cut into pieces, a reader makes the one reading of it: the same payloads, and the
-/// same end.
+/// same ending. (The ids go on without a break: who sets one by `expect` begins a stream anew.)
 pub fn any_pieces()
-    ensures reads { (limit due : ℕ) (stream : List ℕ) (payloads : List (List ℕ)) (ending : Ending) →
-        Runs limit due [] stream payloads ending → IsStream limit due stream payloads ending }
-    ensures same { (limit due : ℕ) (stream : List ℕ) (a b : List (List ℕ)) (e f : Ending) →
-        Runs limit due [] stream a e → Runs limit due [] stream b f → (a ≡ b) × (e ≡ f) }
+    ensures reads { (due limit : ℕ) (pieces payloads : List (List ℕ)) (ending : Ending) →
+        Runs due limit [] pieces payloads ending → IsStream due limit (concat pieces) payloads ending }
+    ensures same { (due limit : ℕ) (pieces others a b : List (List ℕ)) (e f : Ending) → concat pieces ≡ concat others →
+        Runs due limit [] pieces a e → Runs due limit [] others b f → (a ≡ b) × (e ≡ f) }
 {}

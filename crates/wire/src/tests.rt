@@ -1,9 +1,11 @@
 //! Worked values of the public standard's layouts, and calls that no clause can promise: with memory to
 //! spare each call succeeds, and a long stream in small pieces is read in a short time.
 
-ghost use Rattle.std.specs.Prelude.{◌<◌};
+ghost use Rattle.std.specs.Prelude.{ℕ, [], List, map, IfOk};
+ghost use Rattle.wire.specs.Stream.{Held, Runs};
 
 use crate::{Assembler, LARGEST_PAYLOAD, Step, WireFault, read_int, write_int, write_payload};
+use std::alloc::Global;
 use std::test::Fail;
 
 const SPELLINGS: [(u64, &[u8]); 8] = [
@@ -92,50 +94,65 @@ fn packings(rt: HostRuntime) -> Result<(), Fail> {
     Ok(())
 }
 
-/// The payloads of a stream whose first id is 254, read in pieces of this length.
-fn payloads(rt: &HostRuntime, stream: &[u8], length: usize) -> Result<Vec<Vec<u8>>, WireFault>
-    requires { 0 < length }
+/// The payloads of a stream that comes in these pieces, from the id 0 on: a caller that proves of `step`,
+/// by its clauses alone, that they are those of the stream's one reading.
+fn payloads(alloc: Global, pieces: &[&[u8]]) -> Result<Vec<Vec<u8>>, WireFault>
+    ensures { IfOk result (λ found. (id : ℕ) × (held : List ℕ) ×
+        Runs 0 LARGEST_PAYLOAD [] (map (λ piece. piece.now) pieces.now) (map (λ payload. payload.items) found.items) (Held id held)) }
 {
-    let mut assembler = Assembler::new(rt.alloc(), LARGEST_PAYLOAD);
-    if assembler.between() {
-        assembler.expect(254);
-    }
-    let mut payloads = Vec::new(rt.alloc());
-    for piece in stream.chunks(length) {
-        let mut rest = piece;
-        while !rest.is_empty() {
+    let mut assembler = Assembler::new(alloc, LARGEST_PAYLOAD);
+    let mut payloads = Vec::new(alloc);
+    for piece in pieces {
+        let mut rest = *piece;
+        loop {
             let Step { used, payload } = assembler.step(rest)?;
+            let Some(payload) = payload else {
+                break;
+            };
+            payloads.push(payload)?;
             rest = &rest[used..];
-            if let Some(payload) = payload {
-                payloads.push(payload)?;
-            }
         }
     }
     Ok(payloads)
 }
 
-/// However a stream is cut into pieces, its payloads are the same. The ids wrap from 255 to 0.
+/// However a stream is cut into pieces, its payloads are the same. Its ids go on from 255 to 0.
 #[test]
 fn pieces(rt: HostRuntime) -> Result<(), Fail> {
-    let contents = [(3usize, 1u8), (0, 2), (16_777_215, 3), (5, 4)];
     let mut stream = Vec::new(rt.alloc());
-    let mut id = 254;
-    for (length, byte) in contents {
-        let payload = vec![in rt.alloc(); byte; length]?;
+    let mut id = 0;
+    for length in 0..300usize {
+        let payload = vec![in rt.alloc(); 7u8; length]?;
         id = write_payload(id, &payload, &mut stream)?;
     }
-    assert_eq!(rt; id, 3);
-    for length in [1usize, 2, 3, 4, 5, 65_536, 20_000_000] {
-        let found = payloads(&rt, &stream, length)?;
-        assert_eq!(rt; found.len(), contents.len(), "in pieces of {length}");
-        for (payload, (want, fill)) in found.iter().zip(contents) {
-            assert_eq!(rt; payload.len(), want, "in pieces of {length}");
-            assert!(rt;
-                payload.iter().all(|byte| *byte == fill),
-                "in pieces of {length}"
-            );
+    assert_eq!(rt; id, 44);
+    for length in [1usize, 2, 3, 4, 5, 64, 65_536] {
+        let cut: Vec<&[u8]> = stream.chunks(length).collect(rt.alloc())?;
+        let found = payloads(rt.alloc(), &cut)?;
+        assert_eq!(rt; found.len(), 300, "in pieces of {length}");
+        for (n, payload) in found.iter().enumerate() {
+            assert_eq!(rt; payload.len(), n, "in pieces of {length}");
+            assert!(rt; payload.iter().all(|byte| *byte == 7), "in pieces of {length}");
         }
     }
+    Ok(())
+}
+
+/// A long payload of two packets, a byte at a time: the work is linear in its length.
+#[test]
+fn bytes(rt: HostRuntime) -> Result<(), Fail> {
+    let payload = vec![in rt.alloc(); 7u8; 16_777_216]?;
+    let mut stream = Vec::new(rt.alloc());
+    assert_eq!(rt; write_payload(255, &payload, &mut stream)?, 1);
+    let mut assembler = Assembler::new(rt.alloc(), LARGEST_PAYLOAD);
+    assembler.expect(255);
+    let mut found = None;
+    for byte in stream.chunks(1) {
+        assert!(rt; found.is_none());
+        found = assembler.step(byte)?.payload;
+    }
+    assert_eq!(rt; found.ok_or("no payload")?.as_slice(), payload.as_slice());
+    assert!(rt; assembler.between());
     Ok(())
 }
 

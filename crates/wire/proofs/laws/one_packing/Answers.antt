@@ -11,4 +11,4 @@ pub returns-clause-length : goal.returns-clause-length
 returns-clause-length c id next payload bytes = lemma.length_packing
 
 pub returns-clause-none_begins : goal.returns-clause-none_begins
-returns-clause-none_begins c id m n p q a b x y = lemma.none_begins x y
+returns-clause-none_begins c i j m n p q a b x y = lemma.none_begins x y
