@@ -169,9 +169,14 @@ pub reads : {due limit : ℕ} {held : List ℕ} {pieces payloads : List (List �
 reads {due} {limit} {held} stopped u = (refl, sym (append-nil held), subst (IsUnfinished due limit) (sym (append-nil held)) u)
 reads {due} {limit} {held} {payloads = payloads} {ending = ending} (held_all {piece = piece} {pieces = pieces} unfinished run) u =
     subst (λ s. IsStream due limit s payloads ending) (append_assoc held piece (concat pieces)) (reads run unfinished)
-reads {due} {limit} {held} (handed_out {pieces = pieces} used rest next whole run) u =
-    (held ++ used, rest ++ concat pieces, next, ap (λ s. held ++ s) (append_assoc used rest (concat pieces)) ∙ sym (append_assoc held used (rest ++ concat pieces)),
-      whole, reads run (nothing_yet next limit))
+reads {due} {limit} {held} (handed_out {pieces = pieces} used rest next whole run) u = (
+  held ++ used,
+  rest ++ concat pieces,
+  next,
+  ap (λ s. held ++ s) (append_assoc used rest (concat pieces)) ∙ sym (append_assoc held used (rest ++ concat pieces)),
+  whole,
+  reads run (nothing_yet next limit),
+)
 reads {due} {limit} {held} (out_of_sequence {want = want} {got = got} {piece = piece} {pieces = pieces} a) u =
     subst (λ s. IsOutOfSequence due limit s want got) (append_assoc held piece (concat pieces)) (more_wrong (concat pieces) a)
 reads {due} {limit} {held} (too_large {piece = piece} {pieces = pieces} a) u =

@@ -69,35 +69,40 @@ scan (suc fuel) due limit bytes chunks (a ∷ b ∷ c ∷ []) full is within all
 scan (suc fuel) due limit bytes chunks (a ∷ b ∷ c ∷ d ∷ body) full is within all enough = elim (equal_or_not d want) [
   | inr differs ↦ inr (OutOfSequence want d, record { before = length chunks; size = size; header = has; wanted = refl; differs = differs })
   | inl same ↦ elim (cases_lt limit (length chunks * full_chunk + size)) [
-      | inl above ↦ inr (TooLarge, record { before = length chunks; size = size; header = subst (HasHeader due limit bytes (length chunks) size) same has; above = above })
-      | inr fits ↦ elim (cases_lt (length body) size) [
-          | inl short ↦ still_open due limit bytes chunks (a ∷ b ∷ c ∷ d ∷ body) full is within
-              (inr (size, body, header ∙ ap (λ x. little_bytes 3 size ++ x ∷ body) same, omega (arith, fits, within), size_fits size is_header.a_size, short))
-          | inr enough_body ↦ elim (cases_lt size full_chunk) [
-              | inl last ↦ inl (packets due chunks ++ packet (due + length chunks) chunk, others, concat chunks ++ chunk, (due + length chunks + 1) % 256,
-                  cut same enough_body ∙ sym (append_assoc (packets due chunks) (packet (due + length chunks) chunk) others),
-                  record {
-                    packing = record {
-                      chunks = chunks;
-                      last = chunk;
-                      full = full;
-                      short = omega (arith, sized enough_body, last);
-                      cut = refl;
-                      packed = sym (packets-push due chunks chunk);
-                      follows = refl;
-                    };
-                    within = omega (arith, fits, sized enough_body, length-append (concat chunks) chunk, concat_length chunks full);
-                  },
-                  omega (arith, ap length is, length-append (packets due chunks) (a ∷ b ∷ c ∷ d ∷ body), length-drop size body))
-              | inr long ↦ scan fuel due limit bytes (chunks ++ chunk ∷ []) others
-                  (all-push chunks chunk full (sized enough_body ∙ exact long))
-                  (cut same enough_body ∙ sym (append_assoc (packets due chunks) (packet (due + length chunks) chunk) others) ∙ ap (λ x. x ++ others) (sym (packets-push due chunks chunk)))
-                  (subst (λ n. n * full_chunk ≤ limit) (sym (length_push chunks chunk ∙ plus_one (length chunks))) (omega (arith, fits, exact long, suc_times (length chunks) full_chunk)))
-                  (bytes-drop size body all.1.1.1.1)
-                  (omega (arith, enough, length-drop size body))
-            ]
-        ]
+    | inl above ↦ inr (TooLarge, record { before = length chunks; size = size; header = subst (HasHeader due limit bytes (length chunks) size) same has; above = above })
+    | inr fits ↦ elim (cases_lt (length body) size) [
+      | inl short ↦ still_open due limit bytes chunks (a ∷ b ∷ c ∷ d ∷ body) full is within
+          (inr (size, body, header ∙ ap (λ x. little_bytes 3 size ++ x ∷ body) same, omega (arith, fits, within), size_fits size is_header.a_size, short))
+      | inr enough_body ↦ elim (cases_lt size full_chunk) [
+        | inl last ↦ inl (
+          packets due chunks ++ packet (due + length chunks) chunk,
+          others,
+          concat chunks ++ chunk,
+          (due + length chunks + 1) % 256,
+          cut same enough_body ∙ sym (append_assoc (packets due chunks) (packet (due + length chunks) chunk) others),
+          record {
+            packing = record {
+              chunks = chunks;
+              last = chunk;
+              full = full;
+              short = omega (arith, sized enough_body, last);
+              cut = refl;
+              packed = sym (packets-push due chunks chunk);
+              follows = refl;
+            };
+            within = omega (arith, fits, sized enough_body, length-append (concat chunks) chunk, concat_length chunks full);
+          },
+          omega (arith, ap length is, length-append (packets due chunks) (a ∷ b ∷ c ∷ d ∷ body), length-drop size body),
+        )
+        | inr long ↦ scan fuel due limit bytes (chunks ++ chunk ∷ []) others
+            (all-push chunks chunk full (sized enough_body ∙ exact long))
+            (cut same enough_body ∙ sym (append_assoc (packets due chunks) (packet (due + length chunks) chunk) others) ∙ ap (λ x. x ++ others) (sym (packets-push due chunks chunk)))
+            (subst (λ n. n * full_chunk ≤ limit) (sym (length_push chunks chunk ∙ plus_one (length chunks))) (omega (arith, fits, exact long, suc_times (length chunks) full_chunk)))
+            (bytes-drop size body all.1.1.1.1)
+            (omega (arith, enough, length-drop size body))
+      ]
     ]
+  ]
 ]
   where
     size : ℕ

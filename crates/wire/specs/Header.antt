@@ -1,4 +1,5 @@
--- The header of a packet.
+-- The header of a packet: three bytes of length, the lowest first, and one byte of sequence id. MySQL Source
+-- Documentation, Client/Server Protocol, "MySQL Packets": Protocol::Packet.
 use Rattle.std.specs.Prelude.{◌≡◌, ℕ, ◌<◌, ◌≤◌, List, [], ◌∷◌, ◌++◌}
 use Rattle.byteorder.specs.Endian.{little_bytes}
 use Rattle.wire.specs.Packet.{full_chunk}

@@ -4,11 +4,12 @@ use Rattle.std.specs.Prelude.{◌≡◌, ℕ, suc, ◌+◌, ◌*◌, ◌/◌, �
 use Rattle.std.specs.List.{concat, AllByRecursion}
 use Rattle.byteorder.specs.Endian.{little_bytes}
 
--- the length of a full chunk, 2 ^ 24 - 1
+-- the length of a full chunk of a payload, 2 ^ 24 - 1
 unfoldable pub full_chunk : ℕ
 full_chunk = 16777215
 
--- One packet: three bytes of length, the lowest first, one byte of sequence id, and the chunk itself.
+-- One packet: three bytes of length, the lowest first, one byte of sequence id, and the chunk itself, which has at
+-- most `full_chunk` bytes.
 abbrev pub packet : ℕ → List ℕ → List ℕ
 packet id chunk = little_bytes 3 (length chunk) ++ id % 256 ∷ chunk
 

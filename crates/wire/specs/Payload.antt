@@ -4,9 +4,9 @@ use Rattle.std.specs.List.{AllByRecursion}
 use Rattle.wire.specs.Packet.{full_chunk, packets, IsFullChunk, IsPacking}
 use Rattle.wire.specs.Header.{IsHeader}
 
--- What a reader of packets stands at: the longest payload that it takes, the sequence id that is due at the first
--- packet of the payload at hand, the bytes of this payload that have come, headers included, and whether a fault
--- has ended it.
+-- What a reader of packets stands at: the longest payload that it takes; the sequence id that is due at the first
+-- packet of the payload at hand; the bytes of this payload that have come, headers included; and whether a fault
+-- has ended the reader.
 pub record ReaderState : Type 0 where
   pub limit : ℕ
   pub due : ℕ

@@ -22,8 +22,9 @@ pub struct Step {
 
 /// A reader of payloads from the packets of a stream, whose bytes come in any pieces.
 ///
-/// It keeps what has come of the payload at hand, and copies each byte of it once. The sequence id of
-/// a packet has to be the one due: 0 at first, and then the one after the packet before.
+/// It keeps what has come of the payload at hand, each byte copied from its piece once. The sequence id
+/// of a packet has to be the one due: 0 at first, then one more than the packet before had, and 0 after
+/// 255. `expect` sets it anew, as at the start of a command.
 #[derive(Drop)]
 pub struct Assembler {
     unpacker: Unpacker,
@@ -74,10 +75,11 @@ impl Assembler {
     /// Takes bytes up to the end of the payload at hand, or all of them.
     ///
     /// `Sequence` and `TooLarge` come as soon as the four bytes of the header that is wrong have come,
-    /// `Sequence` where both could, and `Memory` where room was refused. After any of them each later
-    /// step answers `Ended`.
+    /// `Sequence` where it is wrong in both ways, and `Memory` where room for the bytes that a right
+    /// header announces was refused. After any of them each later step answers `Ended`, and nothing more
+    /// is promised of the reader.
     pub fn step(&mut self, bytes: &[u8]) -> Result<Step, WireFault>
-        // A payload: the bytes held and those used are its packets, and it is the reader's no more.
+        // A payload: the bytes held and those used are its packets, and the reader holds nothing.
         ensures used { IfOk result (λ step. step.used ≤ length bytes.now) }
         ensures payload { IfOk result (λ step. IfSome step.payload (λ payload.
             IsWholePayload self.old.due self.old.limit (self.old.held ++ take step.used bytes.now) payload.items self.new.due

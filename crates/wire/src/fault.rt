@@ -9,17 +9,18 @@ use thiserror::Error;
 /// Why packets could not be read or written.
 #[derive(Clone, Copy, Debug, PartialEq, Eq, Error)]
 pub enum WireFault {
-    /// A packet has another sequence id than the one that is due.
+    /// A packet has the sequence id `got`, and `want` is due.
     #[error("a packet with sequence id {got} came where {want} is due")]
     Sequence { want: u8, got: u8 },
-    /// A payload is longer than the limit, or than [`LARGEST_PAYLOAD`](crate::LARGEST_PAYLOAD).
+    /// A payload that comes is longer than the reader's limit, or one that is written is longer than
+    /// [`LARGEST_PAYLOAD`](crate::LARGEST_PAYLOAD).
     #[error("a payload is longer than the limit")]
     TooLarge,
     /// An allocation was refused.
     #[error("out of memory")]
     Memory,
-    /// A fault ended the stream before.
-    #[error("a fault has ended the stream")]
+    /// An earlier fault has ended the reader.
+    #[error("an earlier fault has ended the stream")]
     Ended,
 }
 

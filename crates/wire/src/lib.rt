@@ -1,12 +1,13 @@
 //! Packets and integers of the MySQL client/server protocol, the lowest layer of a connection.
 //!
-//! A payload travels in packets of at most 16,777,215 bytes, each with its length and a sequence id.
-//! [`Assembler`] takes the bytes of a stream in whatever pieces they come and hands out its payloads;
-//! [`write_payload`] is the other direction. [`read_int`] and [`write_int`] are the length-encoded
-//! integers that payloads are made of.
+//! A payload travels in chunks of at most 16,777,215 bytes, each in a packet with its length and a
+//! sequence id. [`Assembler`] takes the bytes of a stream in whatever pieces they come and hands out its
+//! payloads; [`write_payload`] is the other direction. [`read_int`] and [`write_int`] are the
+//! length-encoded integers that payloads are made of.
 //!
 //! The layouts are those of the MySQL Source Documentation, "Client/Server Protocol": the pages
-//! "MySQL Packets" and "Basic Data Types". `specs/` states them as relations on whole byte lists.
+//! "MySQL Packets" and "Integer Types". `specs/` states them as relations on whole byte lists, and
+//! [`laws`] what follows from them.
 #![tactic(auto)]
 
 mod assembler;
