@@ -2,7 +2,7 @@
 
 ghost use Rattle.std.specs.Prelude.{◌≤◌, IfOk};
 
-use crate::failure::{Failure, MEMORY};
+use crate::failure::{DONE, Failure, MEMORY, REFUSED};
 use crate::packets::packets;
 use clap::error::ErrorKind;
 use clap::{Arg, ArgAction, Command};
@@ -35,10 +35,18 @@ fn run<'a, R: Files + AllocGlobal, S: AsStr, O: Write>(
     words: &'a [S],
     out: &mut O,
 ) -> Result<u8, Failure<'a>>
-    ensures { IfOk result (λ status. status ≤ MEMORY) }
+    ensures { IfOk result (λ status. status ≤ REFUSED) }
 {
     let mut command = grammar(rt.alloc())?;
-    let matches = command.try_get_matches_from_mut(words)?;
+    let matches = match command.try_get_matches_from_mut(words) {
+        Ok(matches) => matches,
+        Err(asked) if !asked.use_stderr() => {
+            write!(out, "{asked}")?;
+            out.flush()?;
+            return Ok(DONE);
+        }
+        Err(error) => return Err(Failure::Words(error)),
+    };
     let status = match matches.subcommand() {
         Some(("packets", given)) => packets(rt, given.get_str("FILE").unwrap_or(""), out)?,
         _ => {
@@ -66,8 +74,10 @@ pub fn command<R: Files + AllocGlobal, S: AsStr, O: Write, E: Write>(
     match run(rt, words, out) {
         Ok(status) => status,
         Err(failure) => {
-            let _ = failure.write(out, err);
-            let _ = out.flush();
+            if !matches!(failure, Failure::Output(_)) {
+                let _ = out.flush();
+            }
+            let _ = failure.write(err);
             failure.status()
         }
     }

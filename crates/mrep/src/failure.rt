@@ -1,6 +1,8 @@
 //! Why a command stopped, other than by what it found in its data.
 
-ghost use Rattle.std.specs.Prelude.{◌≤◌};
+ghost use Rattle.std.specs.Prelude.{◌≡◌, ◌≤◌};
+ghost use Rattle.mrep.specs.Failure.{IsFileStatus, IsStatus};
+ghost use Rattle.mrep.specs.declared.failure.Failure.TheVariants as variants;
 
 use clap::error::ErrorKind;
 use std::alloc::{AllocError, AllocFailed};
@@ -21,7 +23,7 @@ pub const MEMORY: u8 = 4;
 /// Why a command stopped.
 #[derive(Debug, Drop)]
 pub enum Failure<'a> {
-    /// The words are no command, or they ask for help or the version.
+    /// The words are no command.
     Words(clap::Error),
     /// The file of this name could not be opened or read.
     File { name: &'a str, cause: io::Error },
@@ -32,7 +34,8 @@ pub enum Failure<'a> {
 }
 
 fn status_of(cause: &io::Error) -> u8
-    ensures { result ≤ MEMORY }
+    ensures status { IsFileStatus cause.now result }
+    ensures range { result ≤ MEMORY }
 {
     if cause.kind() == io::ErrorKind::OutOfMemory {
         MEMORY
@@ -44,22 +47,21 @@ fn status_of(cause: &io::Error) -> u8
 impl Failure<'_> {
     /// The exit status.
     pub fn status(&self) -> u8
-        ensures { result ≤ MEMORY }
+        ensures status { IsStatus self.now result }
+        ensures range { result ≤ MEMORY }
     {
         match self {
             Failure::Words(error) if error.kind() == ErrorKind::OutOfMemory => MEMORY,
-            Failure::Words(error) if error.use_stderr() => USAGE,
-            Failure::Words(_) => DONE,
+            Failure::Words(_) => USAGE,
             Failure::File { cause, .. } | Failure::Output(cause) => status_of(cause),
             Failure::Memory => MEMORY,
         }
     }
 
-    /// Writes its text: help and the version to the output, all else to the errors.
-    pub fn write<O: Write, E: Write>(&self, out: &mut O, err: &mut E) -> io::Result<()> {
+    /// Writes its text.
+    pub fn write<E: Write>(&self, err: &mut E) -> io::Result<()> {
         match self {
-            Failure::Words(error) if error.use_stderr() => write!(err, "{error}"),
-            Failure::Words(error) => write!(out, "{error}"),
+            Failure::Words(error) => write!(err, "{error}"),
             Failure::File { name, cause } => writeln!(err, "mrep: {name}: {cause}"),
             Failure::Output(cause) => writeln!(err, "mrep: output: {cause}"),
             Failure::Memory => writeln!(err, "mrep: out of memory"),
@@ -68,24 +70,32 @@ impl Failure<'_> {
 }
 
 impl From<clap::Error> for Failure<'_> {
+    ghost from_gives = { λ error failure. failure ≡ variants.Words error };
+
     fn from(error: clap::Error) -> Self {
         Failure::Words(error)
     }
 }
 
 impl From<io::Error> for Failure<'_> {
+    ghost from_gives = { λ cause failure. failure ≡ variants.Output cause };
+
     fn from(cause: io::Error) -> Self {
         Failure::Output(cause)
     }
 }
 
 impl From<AllocError> for Failure<'_> {
+    ghost from_gives = { λ _ failure. failure ≡ variants.Memory };
+
     fn from(_error: AllocError) -> Self {
         Failure::Memory
     }
 }
 
 impl<T: Drop> From<AllocFailed<T>> for Failure<'_> {
+    ghost from_gives = { λ _ failure. failure ≡ variants.Memory };
+
     fn from(_error: AllocFailed<T>) -> Self {
         Failure::Memory
     }

@@ -1,8 +1,9 @@
 //! `mrep packets`: the payloads of a stream, one a line.
 
 ghost use Rattle.std.specs.Prelude.{◌≡◌, ◌≤◌, ◌<◌, [], false, length, IfOk};
+ghost use Rattle.mrep.specs.declared.packets.Stop.TheVariants as stops;
 
-use crate::failure::{DONE, Failure, MEMORY, REFUSED};
+use crate::failure::{DONE, Failure, REFUSED};
 use crate::reason::wire_reason;
 use std::alloc::Global;
 use std::io::{Read, Write};
@@ -24,12 +25,16 @@ enum Stop {
 }
 
 impl From<WireFault> for Stop {
+    ghost from_gives = { λ fault stop. stop ≡ stops.Fault fault };
+
     fn from(fault: WireFault) -> Stop {
         Stop::Fault(fault)
     }
 }
 
 impl From<io::Error> for Stop {
+    ghost from_gives = { λ cause stop. stop ≡ stops.Output cause };
+
     fn from(cause: io::Error) -> Stop {
         Stop::Output(cause)
     }
@@ -116,7 +121,7 @@ pub fn packets<'a, R: Files + AllocGlobal, W: Write>(
     name: &'a str,
     out: &mut W,
 ) -> Result<u8, Failure<'a>>
-    ensures { IfOk result (λ status. status ≤ MEMORY) }
+    ensures { IfOk result (λ status. status ≤ REFUSED) }
 {
     let mut file = fs::open(rt, name).map_err(|cause| Failure::File { name, cause })?;
     let mut listing = Listing::new(rt.alloc());

@@ -3,10 +3,12 @@
 mod streams;
 
 use crate::command::command;
+use crate::reason::wire_reason;
 use std::io::Write;
 use std::test::Fail;
 use std::{fs, io};
 use streams::ONE_TRANSACTION;
+use wire::WireFault;
 
 /// The status of a command, and what it printed to the output and to the errors.
 fn run(rt: &HostRuntime, words: &[&str]) -> Result<(u8, String, String), Fail> {
@@ -73,6 +75,19 @@ fn full_packets(rt: HostRuntime) -> Result<(), Fail> {
         assert_eq!(rt; status, want, "{header:?}");
     }
     Ok(())
+}
+
+/// The printed names of faults, without their values.
+#[test]
+fn reasons(rt: HostRuntime) {
+    let cases = [
+        (WireFault::Sequence { want: 1, got: 2 }, "Wire.Sequence"),
+        (WireFault::TooLarge, "Wire.TooLarge"),
+        (WireFault::Memory, "Memory"),
+    ];
+    for (fault, name) in cases {
+        assert_eq!(rt; wire_reason(fault), name);
+    }
 }
 
 /// Words, the status, and how the text that is printed begins: help and the version to the output, mistakes
@@ -142,5 +157,8 @@ fn failed_writes(rt: HostRuntime) -> Result<(), Fail> {
         assert_eq!(rt; status, 3, "{room}");
         assert!(rt; !err.is_empty(), "{room}");
     }
+    let mut err = Vec::new(rt.alloc());
+    let status = command(&rt, &["mrep", "--help"], &mut Full(10), &mut err);
+    assert_eq!(rt; status, 3);
     Ok(())
 }
