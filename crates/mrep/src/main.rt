@@ -6,6 +6,7 @@
 
 mod command;
 mod failure;
+mod listing;
 mod packets;
 mod reason;
 #[cfg(test)]

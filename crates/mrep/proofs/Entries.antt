@@ -1,0 +1,86 @@
+-- A listing as more bytes come.
+use Rattle.std.proofs.Common.{◌≡◌, ℕ, ◌+◌, ◌≤◌, ◌<◌, ◌^◌, List, [], ◌∷◌, ◌++◌, length, take, drop, refl, ap, sym, subst, ◌∙◌, append_assoc, arith, length-append, length-take}
+use Rattle.std.proofs.lemmas.List.{append-nil, take-append-drop}
+use Rattle.wire.specs.Payload.{IsWholePayload}
+use Rattle.wire.specs.declared.packet.TheConstants.{LARGEST_PAYLOAD}
+use Rattle.mrep.specs.declared.listing.Entry.{Entry}
+use Rattle.mrep.specs.declared.listing.Listing.{Listing}
+use Rattle.mrep.specs.Listing.{Lists, held_of, Stands}
+
+-- bytes behind are part of the rest
+lists-more : (offset : ℕ) (bytes more : List ℕ) (entries : List Entry) (rest : List ℕ) → Lists offset bytes entries rest → Lists offset (bytes ++ more) entries (rest ++ more)
+lists-more offset bytes more [] rest same = ap (λ b. b ++ more) same
+lists-more offset bytes more (e ∷ entries) rest (packing, others, payload, next, is, whole, at, long, behind) =
+    (packing, others ++ more, payload, next, ap (λ b. b ++ more) is ∙ append_assoc packing others more, whole, at, long,
+      lists-more (offset + length packing) others more entries rest behind)
+
+-- and where they complete a payload, there is one more entry, and no rest
+lists-push : (offset : ℕ) (bytes more : List ℕ) (entries : List Entry) (rest : List ℕ) (entry : Entry) (payload : List ℕ) (next : ℕ) → Lists offset bytes entries rest →
+    IsWholePayload entry.sequence LARGEST_PAYLOAD (rest ++ more) payload next → entry.offset + length rest ≡ offset + length bytes → entry.length ≡ length payload →
+    Lists offset (bytes ++ more) (entries ++ entry ∷ []) []
+lists-push offset bytes more [] rest entry payload next same whole at long =
+    (rest ++ more, [], payload, next, ap (λ b. b ++ more) same ∙ sym (append-nil (rest ++ more)), whole, omega (arith, at, ap length same), long, refl)
+lists-push offset bytes more (e ∷ entries) rest entry payload next (packing, others, p, n, is, w, here, l, behind) whole at long =
+    (packing, others ++ more, p, n, ap (λ b. b ++ more) is ∙ append_assoc packing others more, w, here, l,
+      lists-push (offset + length packing) others more entries rest entry payload next behind whole (omega (arith, at, ap length is, length-append packing others)) long)
+
+-- what was taken of a piece, and that the listing stands at it
+pub record Listed (old new : Listing) (piece rest : List ℕ) (listed entries : List Entry) : Type 0 where
+  pub taken : List ℕ
+  pub cut : piece ≡ taken ++ rest
+  pub stands : (stream : List ℕ) (before : List Entry) → length stream + length piece < 2 ^ 64 → Stands old stream (before ++ listed) → Stands new (stream ++ taken) (before ++ entries)
+
+pub listed_none : (l : Listing) (piece : List ℕ) (entries : List Entry) → Listed l l piece piece entries entries
+listed_none l piece entries = record {
+  taken = [];
+  cut = refl;
+  stands = λ stream before short at. subst (λ s. Stands l s (before ++ entries)) (sym (append-nil stream)) at;
+}
+
+pub listed_held : {old mid : Listing} {piece rest : List ℕ} {listed entries : List Entry} (new : Listing) (used : ℕ) → Listed old mid piece rest listed entries →
+    used ≤ length rest → held_of new ≡ held_of mid ++ take used rest → new.begin ≡ mid.begin → (mid.seen + used < 2 ^ 64 → new.seen ≡ mid.seen + used) →
+    Listed old new piece (drop used rest) listed entries
+listed_held {old} {mid} {piece} {rest} {listed} {entries} new used l in_range held begin seen = record {
+  taken = l.taken ++ take used rest;
+  cut = l.cut ∙ ap (λ r. l.taken ++ r) (sym (take-append-drop used rest)) ∙ sym (append_assoc l.taken (take used rest) (drop used rest));
+  stands = λ stream before short at.
+      let m = l.stands stream before short at in
+      let x = take used rest in
+      let long : length x ≡ used = omega (arith, length-take used rest, in_range) in
+      let come : length (stream ++ (l.taken ++ x)) ≡ length stream + length l.taken + used = omega (arith, length-append stream (l.taken ++ x), length-append l.taken x, long) in
+      let fits : mid.seen + used < 2 ^ 64 = omega (arith, m.seen, length-append stream l.taken, short, ap length l.cut, length-append l.taken rest, in_range) in
+      let same : stream ++ l.taken ++ x ≡ stream ++ (l.taken ++ x) = append_assoc stream l.taken x in
+      record {
+        lists = subst (λ s. Lists 0 s (before ++ entries) (held_of new)) same (subst (λ h. Lists 0 (stream ++ l.taken ++ x) (before ++ entries) h) (sym held) (lists-more 0 (stream ++ l.taken) x (before ++ entries) (held_of mid) m.lists));
+        begin = omega (arith, m.begin, ap length held, length-append (held_of mid) x, long, begin, come, length-append stream l.taken);
+        seen = omega (arith, seen fits, m.seen, come, length-append stream l.taken);
+      };
+}
+
+pub listed_payload : {old mid : Listing} {piece rest : List ℕ} {listed entries : List Entry} (new : Listing) (used : ℕ) (entry : Entry) (payload : List ℕ) (next : ℕ) (now : List Entry) →
+    Listed old mid piece rest listed entries → used ≤ length rest → IsWholePayload entry.sequence LARGEST_PAYLOAD (held_of mid ++ take used rest) payload next →
+    held_of new ≡ [] → entry.offset ≡ mid.begin → entry.length ≡ length payload → now ≡ entries ++ entry ∷ [] →
+    (mid.seen + used < 2 ^ 64 → new.seen ≡ mid.seen + used) → new.begin ≡ new.seen → Listed old new piece (drop used rest) listed now
+listed_payload {old} {mid} {piece} {rest} {listed} {entries} new used entry payload next now l in_range whole held offset len now_is seen begin = record {
+  taken = l.taken ++ take used rest;
+  cut = l.cut ∙ ap (λ r. l.taken ++ r) (sym (take-append-drop used rest)) ∙ sym (append_assoc l.taken (take used rest) (drop used rest));
+  stands = λ stream before short at.
+      let m = l.stands stream before short at in
+      let x = take used rest in
+      let long : length x ≡ used = omega (arith, length-take used rest, in_range) in
+      let come : length (stream ++ (l.taken ++ x)) ≡ length stream + length l.taken + used = omega (arith, length-append stream (l.taken ++ x), length-append l.taken x, long) in
+      let fits : mid.seen + used < 2 ^ 64 = omega (arith, m.seen, length-append stream l.taken, short, ap length l.cut, length-append l.taken rest, in_range) in
+      let same : stream ++ l.taken ++ x ≡ stream ++ (l.taken ++ x) = append_assoc stream l.taken x in
+      let all : (before ++ entries) ++ entry ∷ [] ≡ before ++ now = append_assoc before entries (entry ∷ []) ∙ ap (λ e. before ++ e) (sym now_is) in
+      let pushed = lists-push 0 (stream ++ l.taken) x (before ++ entries) (held_of mid) entry payload next m.lists whole (omega (arith, offset, m.begin)) len in
+      record {
+        lists = subst (λ s. Lists 0 s (before ++ now) (held_of new)) same (subst (λ h. Lists 0 (stream ++ l.taken ++ x) (before ++ now) h) (sym held) (subst (λ e. Lists 0 (stream ++ l.taken ++ x) e []) all pushed));
+        begin = omega (arith, ap length held, begin, seen fits, m.seen, come, length-append stream l.taken);
+        seen = omega (arith, seen fits, m.seen, come, length-append stream l.taken);
+      };
+}
+
+pub listed_all : {old new : Listing} {piece rest : List ℕ} {listed entries : List Entry} → Listed old new piece rest listed entries → rest ≡ [] →
+    (stream : List ℕ) (before : List Entry) → length stream + length piece < 2 ^ 64 → Stands old stream (before ++ listed) → Stands new (stream ++ piece) (before ++ entries)
+listed_all {new = new} {entries = entries} l none stream before short at =
+    subst (λ t. Stands new (stream ++ t) (before ++ entries)) (sym (l.cut ∙ ap (λ r. l.taken ++ r) none ∙ append-nil l.taken)) (l.stands stream before short at)

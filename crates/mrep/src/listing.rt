@@ -1,0 +1,125 @@
+//! The payloads of a stream whose first packets may have any sequence id.
+
+ghost use Rattle.std.specs.Prelude.{◌≡◌, ◌≢◌, ℕ, ◌+◌, ◌^◌, ◌≤◌, ◌<◌, ◌++◌, [], List, false, length, take, option_to_list, slice_index, IfOk, IfSome, IfNone};
+
+use arrayvec::ArrayVec;
+use std::alloc::Global;
+use wire::{Assembler, LARGEST_PAYLOAD, Step, WireFault};
+
+/// The length of a packet's header, whose last byte is the sequence id.
+const HEADER: usize = 4;
+
+/// A payload of a stream: where its first packet begins, that packet's sequence id, and how long it is.
+#[derive(Clone, Copy, Debug, PartialEq, Eq)]
+pub struct Entry {
+    pub offset: u64,
+    pub sequence: u8,
+    pub length: usize,
+}
+
+/// A reader of a stream that comes in any pieces. The first packet of each payload may have any sequence
+/// id, so its header is gathered before the assembler gets it.
+#[derive(Drop)]
+pub struct Listing {
+    pub(crate) assembler: Assembler,
+    /// What has come of the header of a payload's first packet, until it is whole.
+    pub(crate) header: ArrayVec<u8, HEADER>,
+    /// The sequence id of the first packet of the payload at hand.
+    pub(crate) sequence: u8,
+    /// Where the payload at hand begins in the stream, and how much of the stream has come.
+    pub(crate) begin: u64,
+    pub(crate) seen: u64,
+    ghost open_header: { length header.items < 4 },
+    ghost gathering: { header.items ≢ [] → (assembler.held ≡ []) × (assembler.ended ≡ false) },
+    ghost limit: { assembler.ended ≡ false → assembler.limit ≡ 1073741824 },
+    ghost first: { assembler.ended ≡ false → assembler.held ≢ [] → assembler.due ≡ sequence },
+}
+
+impl Listing {
+    ghost use Rattle.mrep.specs.Listing.{held_of, Takes, Stands};
+    ghost use Rattle.std.specs.Prelude.{◌≡◌, ℕ, ◌+◌, ◌^◌, ◌≤◌, ◌<◌, ◌++◌, [], List, false, length, take, IfOk, OnOk};
+    ghost use Rattle.mrep.specs.declared.listing.Entry.{Entry};
+
+    /// At the beginning of a stream.
+    pub fn new(alloc: Global) -> Listing
+        ensures { Stands result [] [] }
+    {
+        Listing {
+            assembler: Assembler::new(alloc, LARGEST_PAYLOAD),
+            header: ArrayVec::new(),
+            sequence: 0,
+            begin: 0,
+            seen: 0,
+        }
+    }
+
+    /// Takes bytes of the header that is gathered, and gives it to the assembler once it is whole.
+    fn gather(&mut self, bytes: &[u8]) -> Result<Step, WireFault>
+        requires between { (self.old.assembler.held ≡ []) × (self.old.assembler.ended ≡ false) }
+        requires some { 0 < length bytes.now }
+        ensures { IfOk result (λ step. Takes self.old self.new bytes.now step) }
+    {
+        let used = bytes.len().min(HEADER - self.header.len());
+        self.header.try_extend_from_slice(&bytes[..used]).unwrap();
+        if self.header.len() < HEADER {
+            return Ok(Step { used, payload: None });
+        }
+        self.sequence = self.header.as_slice()[HEADER - 1];
+        self.assembler.expect(self.sequence);
+        let step = self.assembler.step(self.header.as_slice());
+        self.header.clear();
+        let Step { payload, .. } = step?;
+        Ok(Step { used, payload })
+    }
+
+    /// Takes bytes up to the end of the payload at hand, or some of them.
+    fn take(&mut self, bytes: &[u8]) -> Result<Step, WireFault>
+        requires { 0 < length bytes.now }
+        ensures { IfOk result (λ step. Takes self.old self.new bytes.now step) }
+    {
+        if self.assembler.between() {
+            self.gather(bytes)
+        } else {
+            let step = self.assembler.step(bytes)?;
+            Ok(step)
+        }
+    }
+
+    /// Takes a piece of the stream, and appends the payloads that are whole now.
+    ///
+    /// After a fault the entries of the payloads before it are there, and the listing is over.
+    pub fn feed(&mut self, piece: &[u8], entries: &mut Vec<Entry>) -> Result<(), WireFault>
+        ensures stands { (stream : List ℕ) (before : List Entry) → length stream + length piece.now < 2 ^ 64 → Stands self.old stream (before ++ entries.old.items) →
+            OnOk result (Stands self.new (stream ++ piece.now) (before ++ entries.new.items)) }
+    {
+        let mut rest = piece;
+        while !rest.is_empty() {
+            let Step { used, payload } = self.take(rest)?;
+            rest = &rest[used..];
+            self.seen = self.seen.saturating_add(used as u64);
+            if let Some(payload) = payload {
+                entries.push(Entry {
+                    offset: self.begin,
+                    sequence: self.sequence,
+                    length: payload.len(),
+                })?;
+                self.begin = self.seen;
+            }
+        }
+        Ok(())
+    }
+
+    /// Where the payload at hand begins in the stream.
+    pub fn begin(&self) -> u64
+        ensures { result ≡ self.now.begin }
+    {
+        self.begin
+    }
+
+    /// How much of it has come.
+    pub fn rest(&self) -> u64
+        ensures { (stream : List ℕ) (entries : List Entry) → Stands self.now stream entries → result ≡ length (held_of self.now) }
+    {
+        self.seen.saturating_sub(self.begin)
+    }
+}
