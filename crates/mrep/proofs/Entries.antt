@@ -1,18 +1,29 @@
 -- A listing as more bytes come.
-use Rattle.std.proofs.Common.{◌≡◌, ℕ, ◌+◌, ◌≤◌, ◌<◌, ◌^◌, List, [], ◌∷◌, ◌++◌, length, take, drop, refl, ap, sym, subst, ◌∙◌, append_assoc, arith, length-append, length-take}
+use Rattle.std.proofs.Common.{◌≡◌, ◌≢◌, ℕ, Bool, true, false, ◌+◌, ◌≤◌, ◌<◌, ◌^◌, List, [], ◌∷◌, ◌++◌, length, take, drop, refl, ap, sym, subst, ◌∙◌, append_assoc, arith, length-append, length-take}
 use Rattle.std.proofs.lemmas.List.{append-nil, take-append-drop}
-use Rattle.wire.specs.Payload.{IsWholePayload}
+use Rattle.wire.specs.Payload.{IsWholePayload, IsOutOfSequence, IsTooLarge}
+use Rattle.wire.specs.declared.fault.WireFault.{WireFault}
+use Rattle.wire.specs.declared.fault.WireFault.TheVariants.{Sequence, TooLarge, Memory, Ended}
+use Rattle.wire.proofs.OneReading.{more_wrong, more_large}
 use Rattle.wire.specs.declared.packet.TheConstants.{LARGEST_PAYLOAD}
 use Rattle.mrep.specs.declared.listing.Entry.{Entry}
 use Rattle.mrep.specs.declared.listing.Listing.{Listing}
-use Rattle.mrep.specs.Listing.{Lists, held_of, Stands}
+use Rattle.mrep.specs.Listing.{Lists, held_of, Stands, IsWrong, Faults}
 
 -- bytes behind are part of the rest
 lists-more : (offset : ℕ) (bytes more : List ℕ) (entries : List Entry) (rest : List ℕ) → Lists offset bytes entries rest → Lists offset (bytes ++ more) entries (rest ++ more)
 lists-more offset bytes more [] rest same = ap (λ b. b ++ more) same
-lists-more offset bytes more (e ∷ entries) rest (packing, others, payload, next, is, whole, at, long, behind) =
-    (packing, others ++ more, payload, next, ap (λ b. b ++ more) is ∙ append_assoc packing others more, whole, at, long,
-      lists-more (offset + length packing) others more entries rest behind)
+lists-more offset bytes more (e ∷ entries) rest (packing, others, payload, next, is, whole, at, long, behind) = (
+  packing,
+  others ++ more,
+  payload,
+  next,
+  ap (λ b. b ++ more) is ∙ append_assoc packing others more,
+  whole,
+  at,
+  long,
+  lists-more (offset + length packing) others more entries rest behind,
+)
 
 -- and where they complete a payload, there is one more entry, and no rest
 lists-push : (offset : ℕ) (bytes more : List ℕ) (entries : List Entry) (rest : List ℕ) (entry : Entry) (payload : List ℕ) (next : ℕ) → Lists offset bytes entries rest →
@@ -20,9 +31,17 @@ lists-push : (offset : ℕ) (bytes more : List ℕ) (entries : List Entry) (rest
     Lists offset (bytes ++ more) (entries ++ entry ∷ []) []
 lists-push offset bytes more [] rest entry payload next same whole at long =
     (rest ++ more, [], payload, next, ap (λ b. b ++ more) same ∙ sym (append-nil (rest ++ more)), whole, omega (arith, at, ap length same), long, refl)
-lists-push offset bytes more (e ∷ entries) rest entry payload next (packing, others, p, n, is, w, here, l, behind) whole at long =
-    (packing, others ++ more, p, n, ap (λ b. b ++ more) is ∙ append_assoc packing others more, w, here, l,
-      lists-push (offset + length packing) others more entries rest entry payload next behind whole (omega (arith, at, ap length is, length-append packing others)) long)
+lists-push offset bytes more (e ∷ entries) rest entry payload next (packing, others, p, n, is, w, here, l, behind) whole at long = (
+  packing,
+  others ++ more,
+  p,
+  n,
+  ap (λ b. b ++ more) is ∙ append_assoc packing others more,
+  w,
+  here,
+  l,
+  lists-push (offset + length packing) others more entries rest entry payload next behind whole (omega (arith, at, ap length is, length-append packing others)) long,
+)
 
 -- what was taken of a piece, and that the listing stands at it
 pub record Listed (old new : Listing) (piece rest : List ℕ) (listed entries : List Entry) : Type 0 where
@@ -84,3 +103,41 @@ pub listed_all : {old new : Listing} {piece rest : List ℕ} {listed entries : L
     (stream : List ℕ) (before : List Entry) → length stream + length piece < 2 ^ 64 → Stands old stream (before ++ listed) → Stands new (stream ++ piece) (before ++ entries)
 listed_all {new = new} {entries = entries} l none stream before short at =
     subst (λ t. Stands new (stream ++ t) (before ++ entries)) (sym (l.cut ∙ ap (λ r. l.taken ++ r) none ∙ append-nil l.taken)) (l.stands stream before short at)
+
+-- what the clauses of a step say of its fault
+pub wrong_from : (id room : ℕ) (bytes : List ℕ) (fault : WireFault) → (fault ≢ Ended → room ≡ LARGEST_PAYLOAD) → ((want got : ℕ) → fault ≡ Sequence want got → IsOutOfSequence id room bytes want got) →
+    (fault ≡ TooLarge → IsTooLarge id room bytes) → IsWrong id bytes fault
+wrong_from id room bytes (Sequence want got) is sequence too_large = subst (λ l. IsOutOfSequence id l bytes want got) (is (λ e. cc)) (sequence want got refl)
+wrong_from id room bytes TooLarge is sequence too_large = subst (λ l. IsTooLarge id l bytes) (is (λ e. cc)) (too_large refl)
+wrong_from id room bytes Memory is sequence too_large = tt
+wrong_from id room bytes Ended is sequence too_large = tt
+
+pub nil_from : (xs : List ℕ) → (xs ≢ [] → ⊥) → xs ≡ []
+nil_from [] h = refl
+nil_from (x ∷ xs) h = absurd (h (λ e. cc))
+
+pub false_from : (b : Bool) → (b ≡ true → ⊥) → b ≡ false
+false_from true h = absurd (h refl)
+false_from false h = refl
+
+-- it stays wrong, whatever bytes follow
+pub IsWrong-more : (id : ℕ) (bytes more : List ℕ) (fault : WireFault) → IsWrong id bytes fault → IsWrong id (bytes ++ more) fault
+IsWrong-more id bytes more (Sequence want got) wrong = more_wrong more wrong
+IsWrong-more id bytes more TooLarge wrong = more_large more wrong
+IsWrong-more id bytes more Memory wrong = tt
+IsWrong-more id bytes more Ended wrong = tt
+
+-- a fault, behind what was listed
+pub listed_fault : {old mid : Listing} {piece rest : List ℕ} {listed entries : List Entry} (new : Listing) (id : ℕ) (fault : WireFault) → Listed old mid piece rest listed entries →
+    new.begin ≡ mid.begin → IsWrong id (held_of mid ++ rest) fault →
+    (stream : List ℕ) (before : List Entry) → length stream + length piece < 2 ^ 64 → Stands old stream (before ++ listed) → Faults new (stream ++ piece) (before ++ entries) fault
+listed_fault {old} {mid} {piece} {rest} {listed} {entries} new id fault l begin wrong stream before short at =
+    let m = l.stands stream before short at in
+    let same : stream ++ l.taken ++ rest ≡ stream ++ piece = append_assoc stream l.taken rest ∙ ap (λ p. stream ++ p) (sym l.cut) in
+    record {
+      rest = held_of mid ++ rest;
+      id = id;
+      lists = subst (λ s. Lists 0 s (before ++ entries) (held_of mid ++ rest)) same (lists-more 0 (stream ++ l.taken) rest (before ++ entries) (held_of mid) m.lists);
+      begin = omega (arith, begin, m.begin, length-append (held_of mid) rest, ap length same, length-append (stream ++ l.taken) rest);
+      wrong = wrong;
+    }

@@ -1,8 +1,10 @@
 -- The payloads of a stream whose first packets may have any sequence id.
 use Rattle.std.specs.Prelude.{◌≡◌, ℕ, ◌+◌, ◌<◌, List, [], ◌∷◌, ◌++◌, length, take, ◌≤◌, MatchOption}
-use Rattle.wire.specs.Payload.{IsWholePayload}
+use Rattle.wire.specs.Payload.{IsWholePayload, IsOutOfSequence, IsTooLarge}
 use Rattle.wire.specs.declared.packet.TheConstants.{LARGEST_PAYLOAD}
 use Rattle.wire.specs.declared.assembler.Step.{Step}
+use Rattle.wire.specs.declared.fault.WireFault.{WireFault}
+use Rattle.wire.specs.declared.fault.WireFault.TheVariants.{Sequence, TooLarge, Memory, Ended}
 use Rattle.mrep.specs.declared.listing.Entry.{Entry}
 use Rattle.mrep.specs.declared.listing.Listing.{Listing}
 
@@ -33,3 +35,25 @@ pub record Takes (old new : Listing) (bytes : List ℕ) (step : Step) : Type 0 w
   pub seen : new.seen ≡ old.seen
   pub taken : MatchOption step.payload (held_of new ≡ held_of old ++ take step.used bytes)
       (λ payload. (next : ℕ) × IsWholePayload new.sequence LARGEST_PAYLOAD (held_of old ++ take step.used bytes) payload.items next × (held_of new ≡ []))
+
+-- what is wrong with the bytes of a payload whose first packet has this id; want of memory says nothing of them
+abbrev pub IsWrong : ℕ → List ℕ → WireFault → Type 0
+IsWrong id bytes (Sequence want got) = IsOutOfSequence id LARGEST_PAYLOAD bytes want got
+IsWrong id bytes TooLarge = IsTooLarge id LARGEST_PAYLOAD bytes
+IsWrong id bytes Memory = Unit {0}
+IsWrong id bytes Ended = Unit {0}
+
+-- Nothing was taken of the bytes, and this is wrong with them behind those that were held.
+pub record Refuses (old new : Listing) (bytes : List ℕ) (fault : WireFault) : Type 0 where
+  pub id : ℕ
+  pub begin : new.begin ≡ old.begin
+  pub seen : new.seen ≡ old.seen
+  pub wrong : IsWrong id (held_of old ++ bytes) fault
+
+-- The stream is these entries, and what stands behind them, from the listing's `begin` on, has this fault.
+pub record Faults (l : Listing) (stream : List ℕ) (entries : List Entry) (fault : WireFault) : Type 0 where
+  pub rest : List ℕ
+  pub id : ℕ
+  pub lists : Lists 0 stream entries rest
+  pub begin : l.begin + length rest ≡ length stream
+  pub wrong : IsWrong id rest fault

@@ -31,13 +31,13 @@ pub struct Listing {
     pub(crate) seen: u64,
     ghost open_header: { length header.items < 4 },
     ghost gathering: { header.items ≢ [] → (assembler.held ≡ []) × (assembler.ended ≡ false) },
-    ghost limit: { assembler.ended ≡ false → assembler.limit ≡ 1073741824 },
+    ghost limit: { assembler.ended ≡ false → assembler.limit ≡ LARGEST_PAYLOAD },
     ghost first: { assembler.ended ≡ false → assembler.held ≢ [] → assembler.due ≡ sequence },
 }
 
 impl Listing {
-    ghost use Rattle.mrep.specs.Listing.{held_of, Takes, Stands};
-    ghost use Rattle.std.specs.Prelude.{◌≡◌, ℕ, ◌+◌, ◌^◌, ◌≤◌, ◌<◌, ◌++◌, [], List, false, length, take, IfOk, OnOk};
+    ghost use Rattle.mrep.specs.Listing.{held_of, Takes, Refuses, Stands, Faults};
+    ghost use Rattle.std.specs.Prelude.{◌≡◌, ◌≢◌, ℕ, ◌+◌, ◌^◌, ◌≤◌, ◌<◌, ◌++◌, [], List, false, length, take, IfOk, IfErr, MatchResult};
     ghost use Rattle.mrep.specs.declared.listing.Entry.{Entry};
 
     /// At the beginning of a stream.
@@ -57,12 +57,16 @@ impl Listing {
     fn gather(&mut self, bytes: &[u8]) -> Result<Step, WireFault>
         requires between { (self.old.assembler.held ≡ []) × (self.old.assembler.ended ≡ false) }
         requires some { 0 < length bytes.now }
-        ensures { IfOk result (λ step. Takes self.old self.new bytes.now step) }
+        ensures takes { IfOk result (λ step. Takes self.old self.new bytes.now step) }
+        ensures refuses { IfErr result (λ fault. Refuses self.old self.new bytes.now fault) }
     {
         let used = bytes.len().min(HEADER - self.header.len());
         self.header.try_extend_from_slice(&bytes[..used]).unwrap();
         if self.header.len() < HEADER {
-            return Ok(Step { used, payload: None });
+            return Ok(Step {
+                used,
+                payload: None,
+            });
         }
         self.sequence = self.header.as_slice()[HEADER - 1];
         self.assembler.expect(self.sequence);
@@ -75,7 +79,8 @@ impl Listing {
     /// Takes bytes up to the end of the payload at hand, or some of them.
     fn take(&mut self, bytes: &[u8]) -> Result<Step, WireFault>
         requires { 0 < length bytes.now }
-        ensures { IfOk result (λ step. Takes self.old self.new bytes.now step) }
+        ensures takes { IfOk result (λ step. Takes self.old self.new bytes.now step) }
+        ensures refuses { IfErr result (λ fault. Refuses self.old self.new bytes.now fault) }
     {
         if self.assembler.between() {
             self.gather(bytes)
@@ -90,7 +95,9 @@ impl Listing {
     /// After a fault the entries of the payloads before it are there, and the listing is over.
     pub fn feed(&mut self, piece: &[u8], entries: &mut Vec<Entry>) -> Result<(), WireFault>
         ensures stands { (stream : List ℕ) (before : List Entry) → length stream + length piece.now < 2 ^ 64 → Stands self.old stream (before ++ entries.old.items) →
-            OnOk result (Stands self.new (stream ++ piece.now) (before ++ entries.new.items)) }
+            MatchResult result
+            (λ _. Stands self.new (stream ++ piece.now) (before ++ entries.new.items))
+            (λ fault. fault ≢ WireFault.Memory → Faults self.new (stream ++ piece.now) (before ++ entries.new.items) fault) }
     {
         let mut rest = piece;
         while !rest.is_empty() {

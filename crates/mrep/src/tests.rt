@@ -3,11 +3,12 @@
 mod streams;
 
 use crate::command::command;
+use crate::listing::Listing;
 use crate::reason::wire_reason;
 use std::io::Write;
 use std::test::Fail;
 use std::{fs, io};
-use streams::ONE_TRANSACTION;
+use streams::{DUMP, ONE_TRANSACTION};
 use wire::WireFault;
 
 /// The status of a command, and what it printed to the output and to the errors.
@@ -38,7 +39,9 @@ fn lists_payloads(rt: HostRuntime) -> Result<(), Fail> {
     let (status, out) = packets(&rt, &ONE_TRANSACTION)?;
     assert_eq!(rt; out.as_str(), LISTED);
     assert_eq!(rt; status, 0);
-    let cases: [(&[u8], u8, &str); 6] = [
+    let cases: [(&[u8], u8, &str); 8] = [
+        (&DUMP, 0, "0 0 31\nrest 0\n"),
+        (&DUMP[..34], 1, "rest 34\n"),
         (&[], 0, "rest 0\n"),
         (&[0], 1, "rest 1\n"),
         (&[0, 0, 0, 9], 0, "0 9 0\nrest 0\n"),
@@ -54,6 +57,28 @@ fn lists_payloads(rt: HostRuntime) -> Result<(), Fail> {
         let (status, out) = packets(&rt, bytes)?;
         assert_eq!(rt; out.as_str(), lines, "{bytes:?}");
         assert_eq!(rt; status, want, "{bytes:?}");
+    }
+    Ok(())
+}
+
+/// The list does not depend on the pieces that the stream comes in.
+#[test]
+fn pieces(rt: HostRuntime) -> Result<(), Fail> {
+    let mut whole = Vec::new(rt.alloc());
+    Listing::new(rt.alloc()).feed(&ONE_TRANSACTION, &mut whole)?;
+    assert_eq!(rt; whole.len(), 9);
+    for length in 1..=ONE_TRANSACTION.len() {
+        let mut listing = Listing::new(rt.alloc());
+        let mut entries = Vec::new(rt.alloc());
+        for piece in ONE_TRANSACTION.chunks(length) {
+            listing.feed(piece, &mut entries)?;
+        }
+        assert_eq!(rt;
+            entries.as_slice(),
+            whole.as_slice(),
+            "in pieces of {length}"
+        );
+        assert_eq!(rt; listing.rest(), 0, "in pieces of {length}");
     }
     Ok(())
 }
