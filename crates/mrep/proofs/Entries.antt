@@ -1,14 +1,14 @@
 -- A listing as more bytes come.
-use Rattle.std.proofs.Common.{◌≡◌, ◌≢◌, ℕ, Bool, true, false, ◌+◌, ◌≤◌, ◌<◌, ◌^◌, List, [], ◌∷◌, ◌++◌, length, take, drop, refl, ap, sym, subst, ◌∙◌, append_assoc, arith, length-append, length-take}
+use Rattle.std.proofs.Common.{◌≡◌, ◌≢◌, ℕ, Bool, true, false, ◌+◌, ◌≤◌, ◌<◌, ◌^◌, List, [], ◌∷◌, ◌++◌, length, take, drop, refl, ap, sym, subst, ◌∙◌, append_assoc, arith, length-append, length-take, inl, Option, Some, None, IfNone, IfSome, MatchOption}
 use Rattle.std.proofs.lemmas.List.{append-nil, take-append-drop}
-use Rattle.wire.specs.Payload.{IsWholePayload, IsOutOfSequence, IsTooLarge}
+use Rattle.wire.specs.Payload.{IsWholePayload, IsUnfinished, IsOutOfSequence, IsTooLarge}
 use Rattle.wire.specs.declared.fault.WireFault.{WireFault}
 use Rattle.wire.specs.declared.fault.WireFault.TheVariants.{Sequence, TooLarge, Memory, Ended}
 use Rattle.wire.proofs.OneReading.{more_wrong, more_large}
 use Rattle.wire.specs.declared.packet.TheConstants.{LARGEST_PAYLOAD}
 use Rattle.mrep.specs.declared.listing.Entry.{Entry}
 use Rattle.mrep.specs.declared.listing.Listing.{Listing}
-use Rattle.mrep.specs.Listing.{Lists, held_of, Stands, IsWrong, Faults}
+use Rattle.mrep.specs.Listing.{Lists, held_of, HoldsNoPayload, Stands, IsWrong, Faults}
 
 -- bytes behind are part of the rest
 lists-more : (offset : ℕ) (bytes more : List ℕ) (entries : List Entry) (rest : List ℕ) → Lists offset bytes entries rest → Lists offset (bytes ++ more) entries (rest ++ more)
@@ -57,9 +57,9 @@ listed_none l piece entries = record {
 }
 
 pub listed_held : {old mid : Listing} {piece rest : List ℕ} {listed entries : List Entry} (new : Listing) (used : ℕ) → Listed old mid piece rest listed entries →
-    used ≤ length rest → held_of new ≡ held_of mid ++ take used rest → new.begin ≡ mid.begin → (mid.seen + used < 2 ^ 64 → new.seen ≡ mid.seen + used) →
+    used ≤ length rest → held_of new ≡ held_of mid ++ take used rest → HoldsNoPayload new → new.begin ≡ mid.begin → (mid.seen + used < 2 ^ 64 → new.seen ≡ mid.seen + used) →
     Listed old new piece (drop used rest) listed entries
-listed_held {old} {mid} {piece} {rest} {listed} {entries} new used l in_range held begin seen = record {
+listed_held {old} {mid} {piece} {rest} {listed} {entries} new used l in_range held no_payload begin seen = record {
   taken = l.taken ++ take used rest;
   cut = l.cut ∙ ap (λ r. l.taken ++ r) (sym (take-append-drop used rest)) ∙ sym (append_assoc l.taken (take used rest) (drop used rest));
   stands = λ stream before short at.
@@ -73,6 +73,7 @@ listed_held {old} {mid} {piece} {rest} {listed} {entries} new used l in_range he
         lists = subst (λ s. Lists 0 s (before ++ entries) (held_of new)) same (subst (λ h. Lists 0 (stream ++ l.taken ++ x) (before ++ entries) h) (sym held) (lists-more 0 (stream ++ l.taken) x (before ++ entries) (held_of mid) m.lists));
         begin = omega (arith, m.begin, ap length held, length-append (held_of mid) x, long, begin, come, length-append stream l.taken);
         seen = omega (arith, seen fits, m.seen, come, length-append stream l.taken);
+        no_payload = no_payload;
       };
 }
 
@@ -96,6 +97,7 @@ listed_payload {old} {mid} {piece} {rest} {listed} {entries} new used entry payl
         lists = subst (λ s. Lists 0 s (before ++ now) (held_of new)) same (subst (λ h. Lists 0 (stream ++ l.taken ++ x) (before ++ now) h) (sym held) (subst (λ e. Lists 0 (stream ++ l.taken ++ x) e []) all pushed));
         begin = omega (arith, ap length held, begin, seen fits, m.seen, come, length-append stream l.taken);
         seen = omega (arith, seen fits, m.seen, come, length-append stream l.taken);
+        no_payload = inl (omega (arith, ap length held));
       };
 }
 
@@ -141,3 +143,16 @@ listed_fault {old} {mid} {piece} {rest} {listed} {entries} new id fault l begin 
       begin = omega (arith, begin, m.begin, length-append (held_of mid) rest, ap length same, length-append (stream ++ l.taken) rest);
       wrong = wrong;
     }
+
+-- what two clauses say of a step's payload, and a third where there is none
+pub by_payload : {X : Type 0} (o : Option X) {P N : Type 0} {Q R S : X → Type 0} → IfNone o N → IfSome o R → IfSome o S → (N → P) → ((x : X) → R x → S x → Q x) → MatchOption o P Q
+by_payload None n r s none some = none n
+by_payload (Some x) n r s none some = some x r s
+
+-- the same payload, from the same id and limit
+pub whole_from : {due id room : ℕ} {bytes all payload : List ℕ} {next : ℕ} → IsWholePayload due room bytes payload next → due ≡ id → room ≡ LARGEST_PAYLOAD → bytes ≡ all →
+    IsWholePayload id LARGEST_PAYLOAD all payload next
+whole_from {payload = payload} {next} whole due room bytes = subst (λ t. t) (λ i. IsWholePayload (due i) (room i) (bytes i) payload next) whole
+
+pub unfinished_from : {due id room : ℕ} {bytes all : List ℕ} → IsUnfinished due room bytes → due ≡ id → room ≡ LARGEST_PAYLOAD → bytes ≡ all → IsUnfinished id LARGEST_PAYLOAD all
+unfinished_from unfinished due room bytes = subst (λ t. t) (λ i. IsUnfinished (due i) (room i) (bytes i)) unfinished

@@ -1,6 +1,6 @@
 -- The payloads of a stream whose first packets may have any sequence id.
-use Rattle.std.specs.Prelude.{◌≡◌, ℕ, ◌+◌, ◌<◌, List, [], ◌∷◌, ◌++◌, length, take, ◌≤◌, MatchOption}
-use Rattle.wire.specs.Payload.{IsWholePayload, IsOutOfSequence, IsTooLarge}
+use Rattle.std.specs.Prelude.{◌≡◌, ℕ, ◌+◌, ◌<◌, List, [], ◌∷◌, ◌++◌, length, take, ◌≤◌, ◌⊎◌, MatchOption}
+use Rattle.wire.specs.Payload.{IsWholePayload, IsUnfinished, IsOutOfSequence, IsTooLarge}
 use Rattle.wire.specs.declared.packet.TheConstants.{LARGEST_PAYLOAD}
 use Rattle.wire.specs.declared.assembler.Step.{Step}
 use Rattle.wire.specs.declared.fault.WireFault.{WireFault}
@@ -21,11 +21,16 @@ Lists offset bytes (entry ∷ entries) rest =
 abbrev pub held_of : Listing → List ℕ
 held_of l = l.assembler.held ++ l.header.items
 
--- The stream so far is these entries and what is held.
+-- No payload is held: fewer bytes than a header, or an unfinished payload whose first packet has the id at hand.
+abbrev pub HoldsNoPayload : Listing → Type 0
+HoldsNoPayload l = (length (held_of l) < 4) ⊎ IsUnfinished l.sequence LARGEST_PAYLOAD (held_of l)
+
+-- The stream so far is these entries and what is held, which is no payload.
 pub record Stands (l : Listing) (stream : List ℕ) (entries : List Entry) : Type 0 where
   pub lists : Lists 0 stream entries (held_of l)
   pub begin : l.begin + length (held_of l) ≡ length stream
   pub seen : l.seen ≡ length stream
+  pub no_payload : HoldsNoPayload l
 
 -- So much was taken of the bytes, which are held now, or complete this payload.
 pub record Takes (old new : Listing) (bytes : List ℕ) (step : Step) : Type 0 where
@@ -33,7 +38,7 @@ pub record Takes (old new : Listing) (bytes : List ℕ) (step : Step) : Type 0 w
   pub progress : 0 < step.used
   pub begin : new.begin ≡ old.begin
   pub seen : new.seen ≡ old.seen
-  pub taken : MatchOption step.payload (held_of new ≡ held_of old ++ take step.used bytes)
+  pub taken : MatchOption step.payload ((held_of new ≡ held_of old ++ take step.used bytes) × HoldsNoPayload new)
       (λ payload. (next : ℕ) × IsWholePayload new.sequence LARGEST_PAYLOAD (held_of old ++ take step.used bytes) payload.items next × (held_of new ≡ []))
 
 -- what is wrong with the bytes of a payload whose first packet has this id; want of memory says nothing of them

@@ -1,6 +1,7 @@
 //! The payloads of a stream whose first packets may have any sequence id.
 
-ghost use Rattle.std.specs.Prelude.{◌≡◌, ◌≢◌, ℕ, ◌+◌, ◌^◌, ◌≤◌, ◌<◌, ◌++◌, [], List, false, length, take, option_to_list, slice_index, IfOk, IfSome, IfNone};
+ghost use Rattle.std.specs.Prelude.{◌≡◌, ◌≢◌, ◌<◌, [], false, length};
+ghost use Rattle.wire.specs.declared.packet.TheConstants.{LARGEST_PAYLOAD};
 
 use arrayvec::ArrayVec;
 use std::alloc::Global;
@@ -37,7 +38,7 @@ pub struct Listing {
 
 impl Listing {
     ghost use Rattle.mrep.specs.Listing.{held_of, Takes, Refuses, Stands, Faults};
-    ghost use Rattle.std.specs.Prelude.{◌≡◌, ◌≢◌, ℕ, ◌+◌, ◌^◌, ◌≤◌, ◌<◌, ◌++◌, [], List, false, length, take, IfOk, IfErr, MatchResult};
+    ghost use Rattle.std.specs.Prelude.{◌≡◌, ◌≢◌, ℕ, ◌+◌, ◌^◌, ◌<◌, ◌++◌, [], List, false, length, IfOk, IfErr, MatchResult};
     ghost use Rattle.mrep.specs.declared.listing.Entry.{Entry};
 
     /// At the beginning of a stream.

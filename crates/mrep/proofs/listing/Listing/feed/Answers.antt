@@ -1,8 +1,8 @@
-use Rattle.std.proofs.Common.{ap, sym, ◌∙◌, arith, refl}
+use Rattle.std.proofs.Common.{arith, refl}
 use Rattle.std.proofs.lemmas.List.{take_rest}
 use Rattle.std.proofs.lemmas.Result.{err_from_is_err_and}
 use Rattle.mrep.specs.declared.listing.Entry.{Entry}
-use Rattle.mrep.proofs.Entries.{Listed, listed_held, listed_payload, listed_fault}
+use Rattle.mrep.proofs.Entries.{listed_held, listed_payload, listed_fault}
 use Rattle.mrep.proofs.listing.Listing.feed.Goals as goal
 
 pub loop-rest-preserved-in-Some : goal.loop-rest-preserved-in-Some
@@ -20,7 +20,7 @@ loop-rest-preserved c =
     let t = c.in_ok-used.ensures.takes in
     let held = rw c.in_default.is at t.taken in
     rw take_rest
-    (listed_held _ c.in_ok-used.field-0.used c.loop-rest.invariant t.in_range held t.begin (λ h. omega (arith, c.saturating_add-self.ensures, t.seen, h)))
+    (listed_held _ c.in_ok-used.field-0.used c.loop-rest.invariant t.in_range held.0 held.1 t.begin (λ h. omega (arith, c.saturating_add-self.ensures, t.seen, h)))
 
 pub returns-in_err-used : goal.returns-in_err-used
 returns-in_err-used c = record {

@@ -1,8 +1,10 @@
-use Rattle.std.proofs.Common.{◌≡◌, ◌++◌, [], take, drop, ap, sym, subst, ◌∙◌, append_assoc, Err, refl}
+use Rattle.std.proofs.Common.{◌≡◌, ◌++◌, take, drop, length, ◌≤◌, ap, sym, subst, ◌∙◌, append_assoc, append-nil, Err, refl, arith, inr, slice_index_or}
+use Rattle.std.proofs.lemmas.Grind.{common_steps}
 use Rattle.std.proofs.lemmas.Result.{err_from_is_err_and}
-use Rattle.std.proofs.lemmas.List.{take-append-drop}
+use Rattle.std.proofs.lemmas.List.{take-append-drop, take_all}
 use Rattle.mrep.specs.Listing.{IsWrong, held_of}
-use Rattle.mrep.proofs.Entries.{wrong_from, IsWrong-more}
+use Rattle.wire.specs.declared.packet.TheConstants.{LARGEST_PAYLOAD}
+use Rattle.mrep.proofs.Entries.{wrong_from, IsWrong-more, by_payload, whole_from, unfinished_from}
 use Rattle.mrep.proofs.listing.Listing.gather.Goals as goal
 
 pub returns-in_err-payload-clause-refuses : goal.returns-in_err-payload-clause-refuses
@@ -34,3 +36,33 @@ returns-in_err-payload-clause-refuses c =
           (λ want got e. c.in_err-payload.ensures.sequence want got (ap Err e))
           (λ e. c.in_err-payload.ensures.too_large (ap Err e))));
     })
+
+pub returns-clause-takes : goal.returns-clause-takes
+returns-clause-takes c =
+    let old = c.args.self.now in
+    let bytes = c.args.bytes.now in
+    let used = c.min-used.result in
+    let reader = c.expect.new.self in
+    let new = c.step-step.new.self in
+    let header = c.as_slice-2.result.now in
+    let step = c.in_ok-payload.field-0 in
+    let gathered = rw c.unwrap.ensures at c.try_extend_from_slice.ensures.ok in
+    let is : header ≡ old.header.items ++ take used bytes = c.as_slice-2.ensures.value ∙ gathered in
+    let held : reader.held ≡ old.assembler.held = ap (λ state. state.held) c.expect.ensures in
+    let all : reader.held ++ header ≡ held_of old ++ take used bytes =
+    (λ i. held i ++ is i) ∙ sym (append_assoc old.assembler.held old.header.items (take used bytes)) in
+    let limit : reader.limit ≡ LARGEST_PAYLOAD = ap (λ state. state.limit) c.expect.ensures ∙ old.limit c.requires.between.1 in
+    let due : reader.due ≡ slice_index_or c.as_slice.result.now 3 0 = ap (λ state. state.due) c.expect.ensures in
+    let cleared : new.held ++ c.clear.new.self.items ≡ new.held = ap (λ h. new.held ++ h) c.clear.ensures ∙ append-nil new.held in
+    record {
+      in_range = grind (arith, common_steps, old.open_header, c.requires.some);
+      progress = grind (arith, common_steps, old.open_header, c.requires.some);
+      begin = refl;
+      seen = refl;
+      taken = by_payload step.payload c.in_ok-payload.ensures.unfinished c.in_ok-payload.ensures.payload c.in_ok-payload.ensures.length
+          (λ none. let now : new.held ++ c.clear.new.self.items ≡ held_of old ++ take used bytes = cleared ∙ ap (λ state. state.held) none.2 ∙ all in
+          (now, inr (unfinished_from none.1 due limit (all ∙ sym now))))
+          (λ payload whole long.
+          let all_used : length header ≤ step.used = grind (arith, common_steps, whole, long, held, c.requires.between.0) in
+          (_, whole_from whole.0 due limit (ap (λ h. reader.held ++ h) (take_all step.used header all_used) ∙ all), cleared ∙ ap (λ state. state.held) whole.1));
+    }
