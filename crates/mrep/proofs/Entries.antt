@@ -1,5 +1,6 @@
 -- A listing as more bytes come.
 use Rattle.std.proofs.Common.{◌≡◌, ◌≢◌, ℕ, Bool, true, false, ◌+◌, ◌≤◌, ◌<◌, ◌^◌, List, [], ◌∷◌, ◌++◌, length, take, drop, refl, ap, sym, subst, ◌∙◌, append_assoc, arith, length-append, length-take, inl, Option, Some, None, IfNone, IfSome, MatchOption}
+use Rattle.std.proofs.Math.ListN.{get_or-append}
 use Rattle.std.proofs.lemmas.List.{append-nil, take-append-drop}
 use Rattle.wire.specs.Payload.{IsWholePayload, IsUnfinished, IsOutOfSequence, IsTooLarge}
 use Rattle.wire.specs.declared.fault.WireFault.{WireFault}
@@ -8,7 +9,7 @@ use Rattle.wire.proofs.OneReading.{more_wrong, more_large}
 use Rattle.wire.specs.declared.packet.TheConstants.{LARGEST_PAYLOAD}
 use Rattle.mrep.specs.declared.listing.Entry.{Entry}
 use Rattle.mrep.specs.declared.listing.Listing.{Listing}
-use Rattle.mrep.specs.Listing.{Lists, held_of, HoldsNoPayload, Stands, IsWrong, Faults}
+use Rattle.mrep.specs.Listing.{Lists, held_of, first_id, IsNoPayload, Stands, IsWrong, Faults}
 
 -- bytes behind are part of the rest
 lists-more : (offset : ℕ) (bytes more : List ℕ) (entries : List Entry) (rest : List ℕ) → Lists offset bytes entries rest → Lists offset (bytes ++ more) entries (rest ++ more)
@@ -57,7 +58,7 @@ listed_none l piece entries = record {
 }
 
 pub listed_held : {old mid : Listing} {piece rest : List ℕ} {listed entries : List Entry} (new : Listing) (used : ℕ) → Listed old mid piece rest listed entries →
-    used ≤ length rest → held_of new ≡ held_of mid ++ take used rest → HoldsNoPayload new → new.begin ≡ mid.begin → (mid.seen + used < 2 ^ 64 → new.seen ≡ mid.seen + used) →
+    used ≤ length rest → held_of new ≡ held_of mid ++ take used rest → IsNoPayload (held_of new) → new.begin ≡ mid.begin → (mid.seen + used < 2 ^ 64 → new.seen ≡ mid.seen + used) →
     Listed old new piece (drop used rest) listed entries
 listed_held {old} {mid} {piece} {rest} {listed} {entries} new used l in_range held no_payload begin seen = record {
   taken = l.taken ++ take used rest;
@@ -107,12 +108,12 @@ listed_all {new = new} {entries = entries} l none stream before short at =
     subst (λ t. Stands new (stream ++ t) (before ++ entries)) (sym (l.cut ∙ ap (λ r. l.taken ++ r) none ∙ append-nil l.taken)) (l.stands stream before short at)
 
 -- what the clauses of a step say of its fault
-pub wrong_from : (id room : ℕ) (bytes : List ℕ) (fault : WireFault) → (fault ≢ Ended → room ≡ LARGEST_PAYLOAD) → ((want got : ℕ) → fault ≡ Sequence want got → IsOutOfSequence id room bytes want got) →
-    (fault ≡ TooLarge → IsTooLarge id room bytes) → IsWrong id bytes fault
-wrong_from id room bytes (Sequence want got) is sequence too_large = subst (λ l. IsOutOfSequence id l bytes want got) (is (λ e. cc)) (sequence want got refl)
-wrong_from id room bytes TooLarge is sequence too_large = subst (λ l. IsTooLarge id l bytes) (is (λ e. cc)) (too_large refl)
-wrong_from id room bytes Memory is sequence too_large = tt
-wrong_from id room bytes Ended is sequence too_large = tt
+pub wrong_from : {due room : ℕ} (bytes : List ℕ) (fault : WireFault) → (fault ≢ Ended → (due ≡ first_id bytes) × (room ≡ LARGEST_PAYLOAD)) →
+    ((want got : ℕ) → fault ≡ Sequence want got → IsOutOfSequence due room bytes want got) → (fault ≡ TooLarge → IsTooLarge due room bytes) → IsWrong bytes fault
+wrong_from bytes (Sequence want got) is sequence too_large = let same = is (λ e. cc) in subst (λ t. t) (λ i. IsOutOfSequence (same.0 i) (same.1 i) bytes want got) (sequence want got refl)
+wrong_from bytes TooLarge is sequence too_large = let same = is (λ e. cc) in subst (λ t. t) (λ i. IsTooLarge (same.0 i) (same.1 i) bytes) (too_large refl)
+wrong_from bytes Memory is sequence too_large = tt
+wrong_from bytes Ended is sequence too_large = tt
 
 pub nil_from : (xs : List ℕ) → (xs ≢ [] → ⊥) → xs ≡ []
 nil_from [] h = refl
@@ -123,22 +124,21 @@ false_from true h = absurd (h refl)
 false_from false h = refl
 
 -- it stays wrong, whatever bytes follow
-pub IsWrong-more : (id : ℕ) (bytes more : List ℕ) (fault : WireFault) → IsWrong id bytes fault → IsWrong id (bytes ++ more) fault
-IsWrong-more id bytes more (Sequence want got) wrong = more_wrong more wrong
-IsWrong-more id bytes more TooLarge wrong = more_large more wrong
-IsWrong-more id bytes more Memory wrong = tt
-IsWrong-more id bytes more Ended wrong = tt
+pub IsWrong-more : (bytes more : List ℕ) (fault : WireFault) → 3 < length bytes → IsWrong bytes fault → IsWrong (bytes ++ more) fault
+IsWrong-more bytes more (Sequence want got) long wrong = subst (λ id. IsOutOfSequence id LARGEST_PAYLOAD (bytes ++ more) want got) (sym (get_or-append bytes more 0 3 long)) (more_wrong more wrong)
+IsWrong-more bytes more TooLarge long wrong = subst (λ id. IsTooLarge id LARGEST_PAYLOAD (bytes ++ more)) (sym (get_or-append bytes more 0 3 long)) (more_large more wrong)
+IsWrong-more bytes more Memory long wrong = tt
+IsWrong-more bytes more Ended long wrong = tt
 
 -- a fault, behind what was listed
-pub listed_fault : {old mid : Listing} {piece rest : List ℕ} {listed entries : List Entry} (new : Listing) (id : ℕ) (fault : WireFault) → Listed old mid piece rest listed entries →
-    new.begin ≡ mid.begin → IsWrong id (held_of mid ++ rest) fault →
+pub listed_fault : {old mid : Listing} {piece rest : List ℕ} {listed entries : List Entry} (new : Listing) (fault : WireFault) → Listed old mid piece rest listed entries →
+    new.begin ≡ mid.begin → IsWrong (held_of mid ++ rest) fault →
     (stream : List ℕ) (before : List Entry) → length stream + length piece < 2 ^ 64 → Stands old stream (before ++ listed) → Faults new (stream ++ piece) (before ++ entries) fault
-listed_fault {old} {mid} {piece} {rest} {listed} {entries} new id fault l begin wrong stream before short at =
+listed_fault {old} {mid} {piece} {rest} {listed} {entries} new fault l begin wrong stream before short at =
     let m = l.stands stream before short at in
     let same : stream ++ l.taken ++ rest ≡ stream ++ piece = append_assoc stream l.taken rest ∙ ap (λ p. stream ++ p) (sym l.cut) in
     record {
       rest = held_of mid ++ rest;
-      id = id;
       lists = subst (λ s. Lists 0 s (before ++ entries) (held_of mid ++ rest)) same (lists-more 0 (stream ++ l.taken) rest (before ++ entries) (held_of mid) m.lists);
       begin = omega (arith, begin, m.begin, length-append (held_of mid) rest, ap length same, length-append (stream ++ l.taken) rest);
       wrong = wrong;

@@ -1,5 +1,5 @@
 -- The payloads of a stream whose first packets may have any sequence id.
-use Rattle.std.specs.Prelude.{◌≡◌, ℕ, ◌+◌, ◌<◌, List, [], ◌∷◌, ◌++◌, length, take, ◌≤◌, ◌⊎◌, MatchOption}
+use Rattle.std.specs.Prelude.{◌≡◌, ℕ, ◌+◌, ◌<◌, List, [], ◌∷◌, ◌++◌, length, get_or, take, ◌≤◌, ◌⊎◌, MatchOption}
 use Rattle.wire.specs.Payload.{IsWholePayload, IsUnfinished, IsOutOfSequence, IsTooLarge}
 use Rattle.wire.specs.declared.packet.TheConstants.{LARGEST_PAYLOAD}
 use Rattle.wire.specs.declared.assembler.Step.{Step}
@@ -21,16 +21,20 @@ Lists offset bytes (entry ∷ entries) rest =
 abbrev pub held_of : Listing → List ℕ
 held_of l = l.assembler.held ++ l.header.items
 
--- No payload is held: fewer bytes than a header, or an unfinished payload whose first packet has the id at hand.
-abbrev pub HoldsNoPayload : Listing → Type 0
-HoldsNoPayload l = (length (held_of l) < 4) ⊎ IsUnfinished l.sequence LARGEST_PAYLOAD (held_of l)
+-- the sequence id in the header that the bytes begin with
+abbrev pub first_id : List ℕ → ℕ
+first_id bytes = get_or bytes 3 0
+
+-- the bytes are no payload yet: fewer than a header, or an unfinished payload
+abbrev pub IsNoPayload : List ℕ → Type 0
+IsNoPayload bytes = (length bytes < 4) ⊎ IsUnfinished (first_id bytes) LARGEST_PAYLOAD bytes
 
 -- The stream so far is these entries and what is held, which is no payload.
 pub record Stands (l : Listing) (stream : List ℕ) (entries : List Entry) : Type 0 where
   pub lists : Lists 0 stream entries (held_of l)
   pub begin : l.begin + length (held_of l) ≡ length stream
   pub seen : l.seen ≡ length stream
-  pub no_payload : HoldsNoPayload l
+  pub no_payload : IsNoPayload (held_of l)
 
 -- So much was taken of the bytes, which are held now, or complete this payload.
 pub record Takes (old new : Listing) (bytes : List ℕ) (step : Step) : Type 0 where
@@ -38,27 +42,25 @@ pub record Takes (old new : Listing) (bytes : List ℕ) (step : Step) : Type 0 w
   pub progress : 0 < step.used
   pub begin : new.begin ≡ old.begin
   pub seen : new.seen ≡ old.seen
-  pub taken : MatchOption step.payload ((held_of new ≡ held_of old ++ take step.used bytes) × HoldsNoPayload new)
+  pub taken : MatchOption step.payload ((held_of new ≡ held_of old ++ take step.used bytes) × IsNoPayload (held_of new))
       (λ payload. (next : ℕ) × IsWholePayload new.sequence LARGEST_PAYLOAD (held_of old ++ take step.used bytes) payload.items next × (held_of new ≡ []))
 
--- what is wrong with the bytes of a payload whose first packet has this id; want of memory says nothing of them
-abbrev pub IsWrong : ℕ → List ℕ → WireFault → Type 0
-IsWrong id bytes (Sequence want got) = IsOutOfSequence id LARGEST_PAYLOAD bytes want got
-IsWrong id bytes TooLarge = IsTooLarge id LARGEST_PAYLOAD bytes
-IsWrong id bytes Memory = Unit {0}
-IsWrong id bytes Ended = Unit {0}
+-- what is wrong with the bytes of the payload at hand; want of memory says nothing of them
+abbrev pub IsWrong : List ℕ → WireFault → Type 0
+IsWrong bytes (Sequence want got) = IsOutOfSequence (first_id bytes) LARGEST_PAYLOAD bytes want got
+IsWrong bytes TooLarge = IsTooLarge (first_id bytes) LARGEST_PAYLOAD bytes
+IsWrong bytes Memory = Unit {0}
+IsWrong bytes Ended = Unit {0}
 
 -- Nothing was taken of the bytes, and this is wrong with them behind those that were held.
 pub record Refuses (old new : Listing) (bytes : List ℕ) (fault : WireFault) : Type 0 where
-  pub id : ℕ
   pub begin : new.begin ≡ old.begin
   pub seen : new.seen ≡ old.seen
-  pub wrong : IsWrong id (held_of old ++ bytes) fault
+  pub wrong : IsWrong (held_of old ++ bytes) fault
 
 -- The stream is these entries, and what stands behind them, from the listing's `begin` on, has this fault.
 pub record Faults (l : Listing) (stream : List ℕ) (entries : List Entry) (fault : WireFault) : Type 0 where
   pub rest : List ℕ
-  pub id : ℕ
   pub lists : Lists 0 stream entries rest
   pub begin : l.begin + length rest ≡ length stream
-  pub wrong : IsWrong id rest fault
+  pub wrong : IsWrong rest fault

@@ -1,6 +1,6 @@
 //! The payloads of a stream whose first packets may have any sequence id.
 
-ghost use Rattle.std.specs.Prelude.{◌≡◌, ◌≢◌, ◌<◌, [], false, length};
+ghost use Rattle.std.specs.Prelude.{◌≡◌, ◌≢◌, ◌<◌, ◌≤◌, [], false, length, get_or};
 ghost use Rattle.wire.specs.declared.packet.TheConstants.{LARGEST_PAYLOAD};
 
 use arrayvec::ArrayVec;
@@ -33,7 +33,7 @@ pub struct Listing {
     ghost open_header: { length header.items < 4 },
     ghost gathering: { header.items ≢ [] → (assembler.held ≡ []) × (assembler.ended ≡ false) },
     ghost limit: { assembler.ended ≡ false → assembler.limit ≡ LARGEST_PAYLOAD },
-    ghost first: { assembler.ended ≡ false → assembler.held ≢ [] → assembler.due ≡ sequence },
+    ghost first: { assembler.ended ≡ false → assembler.held ≢ [] → (assembler.due ≡ sequence) × (4 ≤ length assembler.held) × (get_or assembler.held 3 0 ≡ sequence) },
 }
 
 impl Listing {

@@ -27,7 +27,7 @@ returns-in_err-used c = record {
   stands = λ stream before short at.
       let p = err_from_is_err_and c.from_residual.result c.from_residual.ensures.1 in
       let r = c.in_err-used.ensures.refuses in
-      rw (p.1, p.2) (λ _. listed_fault c.take.new.self r.id c.in_err-used.field-0.0 c.loop-rest.invariant r.begin r.wrong stream before short at);
+      rw (p.1, p.2) (λ _. listed_fault c.take.new.self c.in_err-used.field-0.0 c.loop-rest.invariant r.begin r.wrong stream before short at);
 }
 
 pub returns-in_err-push : goal.returns-in_err-push

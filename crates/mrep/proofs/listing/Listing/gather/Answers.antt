@@ -1,8 +1,8 @@
-use Rattle.std.proofs.Common.{◌≡◌, ◌++◌, take, drop, length, ◌≤◌, ap, sym, subst, ◌∙◌, append_assoc, append-nil, Err, refl, arith, inr, slice_index_or}
+use Rattle.std.proofs.Common.{◌≡◌, ◌++◌, [], take, drop, length, ◌≤◌, ◌<◌, ap, sym, subst, ◌∙◌, append_assoc, append-nil, Err, refl, arith, inr, slice_index_or}
 use Rattle.std.proofs.lemmas.Grind.{common_steps}
 use Rattle.std.proofs.lemmas.Result.{err_from_is_err_and}
 use Rattle.std.proofs.lemmas.List.{take-append-drop, take_all}
-use Rattle.mrep.specs.Listing.{IsWrong, held_of}
+use Rattle.mrep.specs.Listing.{IsWrong, held_of, first_id}
 use Rattle.wire.specs.declared.packet.TheConstants.{LARGEST_PAYLOAD}
 use Rattle.mrep.proofs.Entries.{wrong_from, IsWrong-more, by_payload, whole_from, unfinished_from}
 use Rattle.mrep.proofs.listing.Listing.gather.Goals as goal
@@ -19,6 +19,10 @@ returns-in_err-payload-clause-refuses c =
     let gathered = rw c.unwrap.ensures at c.try_extend_from_slice.ensures.ok in
     let is : header ≡ old.header.items ++ take used bytes = c.as_slice-2.ensures.value ∙ gathered in
     let held : reader.held ≡ old.assembler.held = ap (λ state. state.held) c.expect.ensures in
+    let nil : reader.held ≡ [] = held ∙ c.requires.between.0 in
+    let long : 3 < length header = grind (arith, common_steps, c.requires) in
+    let first : reader.due ≡ first_id (reader.held ++ header) =
+    ap (λ state. state.due) c.expect.ensures ∙ ap (λ items. slice_index_or items 3 0) (c.as_slice.ensures.value ∙ sym c.as_slice-2.ensures.value) ∙ ap (λ h. first_id (h ++ header)) (sym nil) in
     let all : reader.held ++ header ++ drop used bytes ≡ held_of old ++ bytes =
     (λ i. held i ++ is i ++ drop used bytes)
     ∙ ap (λ front. front ++ drop used bytes) (sym (append_assoc old.assembler.held old.header.items (take used bytes)))
@@ -26,13 +30,12 @@ returns-in_err-payload-clause-refuses c =
     ∙ ap (λ more. held_of old ++ more) (take-append-drop used bytes) in
     rw (p.1, p.2)
     (record {
-      id = reader.due;
       begin = refl;
       seen = refl;
-      wrong = subst (λ b. IsWrong reader.due b fault) all
-          (IsWrong-more reader.due (reader.held ++ header) (drop used bytes) fault
-          (wrong_from reader.due reader.limit (reader.held ++ header) fault
-          (λ _. ap (λ state. state.limit) c.expect.ensures ∙ old.limit c.requires.between.1)
+      wrong = subst (λ b. IsWrong b fault) all
+          (IsWrong-more (reader.held ++ header) (drop used bytes) fault (subst (λ h. 3 < length (h ++ header)) (sym nil) long)
+          (wrong_from (reader.held ++ header) fault
+          (λ _. (first, ap (λ state. state.limit) c.expect.ensures ∙ old.limit c.requires.between.1))
           (λ want got e. c.in_err-payload.ensures.sequence want got (ap Err e))
           (λ e. c.in_err-payload.ensures.too_large (ap Err e))));
     })
@@ -49,6 +52,9 @@ returns-clause-takes c =
     let gathered = rw c.unwrap.ensures at c.try_extend_from_slice.ensures.ok in
     let is : header ≡ old.header.items ++ take used bytes = c.as_slice-2.ensures.value ∙ gathered in
     let held : reader.held ≡ old.assembler.held = ap (λ state. state.held) c.expect.ensures in
+    let nil : reader.held ≡ [] = held ∙ c.requires.between.0 in
+    let first : reader.due ≡ first_id (reader.held ++ header) =
+    ap (λ state. state.due) c.expect.ensures ∙ ap (λ items. slice_index_or items 3 0) (c.as_slice.ensures.value ∙ sym c.as_slice-2.ensures.value) ∙ ap (λ h. first_id (h ++ header)) (sym nil) in
     let all : reader.held ++ header ≡ held_of old ++ take used bytes =
     (λ i. held i ++ is i) ∙ sym (append_assoc old.assembler.held old.header.items (take used bytes)) in
     let limit : reader.limit ≡ LARGEST_PAYLOAD = ap (λ state. state.limit) c.expect.ensures ∙ old.limit c.requires.between.1 in
@@ -61,7 +67,7 @@ returns-clause-takes c =
       seen = refl;
       taken = by_payload step.payload c.in_ok-payload.ensures.unfinished c.in_ok-payload.ensures.payload c.in_ok-payload.ensures.length
           (λ none. let now : new.held ++ c.clear.new.self.items ≡ held_of old ++ take used bytes = cleared ∙ ap (λ state. state.held) none.2 ∙ all in
-          (now, inr (unfinished_from none.1 due limit (all ∙ sym now))))
+          (now, inr (unfinished_from none.1 (first ∙ ap first_id (all ∙ sym now)) limit (all ∙ sym now))))
           (λ payload whole long.
           let all_used : length header ≤ step.used = grind (arith, common_steps, whole, long, held, c.requires.between.0) in
           (_, whole_from whole.0 due limit (ap (λ h. reader.held ++ h) (take_all step.used header all_used) ∙ all), cleared ∙ ap (λ state. state.held) whole.1));
