@@ -58,9 +58,9 @@ listed_none l piece entries = record {
 }
 
 pub listed_held : {old mid : Listing} {piece rest : List ℕ} {listed entries : List Entry} (new : Listing) (used : ℕ) → Listed old mid piece rest listed entries →
-    used ≤ length rest → held_of new ≡ held_of mid ++ take used rest → IsNoPayload (held_of new) → new.begin ≡ mid.begin → (mid.seen + used < 2 ^ 64 → new.seen ≡ mid.seen + used) →
+    used ≤ length rest → held_of new ≡ held_of mid ++ take used rest → IsNoPayload (held_of new) → new.assembler.ended ≡ false → new.begin ≡ mid.begin → (mid.seen + used < 2 ^ 64 → new.seen ≡ mid.seen + used) →
     Listed old new piece (drop used rest) listed entries
-listed_held {old} {mid} {piece} {rest} {listed} {entries} new used l in_range held no_payload begin seen = record {
+listed_held {old} {mid} {piece} {rest} {listed} {entries} new used l in_range held no_payload goes_on begin seen = record {
   taken = l.taken ++ take used rest;
   cut = l.cut ∙ ap (λ r. l.taken ++ r) (sym (take-append-drop used rest)) ∙ sym (append_assoc l.taken (take used rest) (drop used rest));
   stands = λ stream before short at.
@@ -75,14 +75,15 @@ listed_held {old} {mid} {piece} {rest} {listed} {entries} new used l in_range he
         begin = omega (arith, m.begin, ap length held, length-append (held_of mid) x, long, begin, come, length-append stream l.taken);
         seen = omega (arith, seen fits, m.seen, come, length-append stream l.taken);
         no_payload = no_payload;
+        goes_on = goes_on;
       };
 }
 
 pub listed_payload : {old mid : Listing} {piece rest : List ℕ} {listed entries : List Entry} (new : Listing) (used : ℕ) (entry : Entry) (payload : List ℕ) (next : ℕ) (now : List Entry) →
     Listed old mid piece rest listed entries → used ≤ length rest → IsWholePayload entry.sequence LARGEST_PAYLOAD (held_of mid ++ take used rest) payload next →
     held_of new ≡ [] → entry.offset ≡ mid.begin → entry.length ≡ length payload → now ≡ entries ++ entry ∷ [] →
-    (mid.seen + used < 2 ^ 64 → new.seen ≡ mid.seen + used) → new.begin ≡ new.seen → Listed old new piece (drop used rest) listed now
-listed_payload {old} {mid} {piece} {rest} {listed} {entries} new used entry payload next now l in_range whole held offset len now_is seen begin = record {
+    (mid.seen + used < 2 ^ 64 → new.seen ≡ mid.seen + used) → new.begin ≡ new.seen → new.assembler.ended ≡ false → Listed old new piece (drop used rest) listed now
+listed_payload {old} {mid} {piece} {rest} {listed} {entries} new used entry payload next now l in_range whole held offset len now_is seen begin goes_on = record {
   taken = l.taken ++ take used rest;
   cut = l.cut ∙ ap (λ r. l.taken ++ r) (sym (take-append-drop used rest)) ∙ sym (append_assoc l.taken (take used rest) (drop used rest));
   stands = λ stream before short at.
@@ -99,6 +100,7 @@ listed_payload {old} {mid} {piece} {rest} {listed} {entries} new used entry payl
         begin = omega (arith, ap length held, begin, seen fits, m.seen, come, length-append stream l.taken);
         seen = omega (arith, seen fits, m.seen, come, length-append stream l.taken);
         no_payload = inl (omega (arith, ap length held));
+        goes_on = goes_on;
       };
 }
 
@@ -108,12 +110,12 @@ listed_all {new = new} {entries = entries} l none stream before short at =
     subst (λ t. Stands new (stream ++ t) (before ++ entries)) (sym (l.cut ∙ ap (λ r. l.taken ++ r) none ∙ append-nil l.taken)) (l.stands stream before short at)
 
 -- what the clauses of a step say of its fault
-pub wrong_from : {due room : ℕ} (bytes : List ℕ) (fault : WireFault) → (fault ≢ Ended → (due ≡ first_id bytes) × (room ≡ LARGEST_PAYLOAD)) →
+pub wrong_from : {due room : ℕ} (bytes : List ℕ) (fault : WireFault) → due ≡ first_id bytes → room ≡ LARGEST_PAYLOAD → (fault ≢ Ended) →
     ((want got : ℕ) → fault ≡ Sequence want got → IsOutOfSequence due room bytes want got) → (fault ≡ TooLarge → IsTooLarge due room bytes) → IsWrong bytes fault
-wrong_from bytes (Sequence want got) is sequence too_large = let same = is (λ e. cc) in subst (λ t. t) (λ i. IsOutOfSequence (same.0 i) (same.1 i) bytes want got) (sequence want got refl)
-wrong_from bytes TooLarge is sequence too_large = let same = is (λ e. cc) in subst (λ t. t) (λ i. IsTooLarge (same.0 i) (same.1 i) bytes) (too_large refl)
-wrong_from bytes Memory is sequence too_large = tt
-wrong_from bytes Ended is sequence too_large = tt
+wrong_from bytes (Sequence want got) due room is sequence too_large = subst (λ t. t) (λ i. IsOutOfSequence (due i) (room i) bytes want got) (sequence want got refl)
+wrong_from bytes TooLarge due room is sequence too_large = subst (λ t. t) (λ i. IsTooLarge (due i) (room i) bytes) (too_large refl)
+wrong_from bytes Memory due room is sequence too_large = tt
+wrong_from bytes Ended due room is sequence too_large = absurd (is refl)
 
 pub nil_from : (xs : List ℕ) → (xs ≢ [] → ⊥) → xs ≡ []
 nil_from [] h = refl
@@ -128,11 +130,11 @@ pub IsWrong-more : (bytes more : List ℕ) (fault : WireFault) → 3 < length by
 IsWrong-more bytes more (Sequence want got) long wrong = subst (λ id. IsOutOfSequence id LARGEST_PAYLOAD (bytes ++ more) want got) (sym (get_or-append bytes more 0 3 long)) (more_wrong more wrong)
 IsWrong-more bytes more TooLarge long wrong = subst (λ id. IsTooLarge id LARGEST_PAYLOAD (bytes ++ more)) (sym (get_or-append bytes more 0 3 long)) (more_large more wrong)
 IsWrong-more bytes more Memory long wrong = tt
-IsWrong-more bytes more Ended long wrong = tt
+IsWrong-more bytes more Ended long wrong = wrong
 
 -- a fault, behind what was listed
 pub listed_fault : {old mid : Listing} {piece rest : List ℕ} {listed entries : List Entry} (new : Listing) (fault : WireFault) → Listed old mid piece rest listed entries →
-    new.begin ≡ mid.begin → IsWrong (held_of mid ++ rest) fault →
+    new.begin ≡ mid.begin → (mid.assembler.ended ≡ false → IsWrong (held_of mid ++ rest) fault) →
     (stream : List ℕ) (before : List Entry) → length stream + length piece < 2 ^ 64 → Stands old stream (before ++ listed) → Faults new (stream ++ piece) (before ++ entries) fault
 listed_fault {old} {mid} {piece} {rest} {listed} {entries} new fault l begin wrong stream before short at =
     let m = l.stands stream before short at in
@@ -141,7 +143,7 @@ listed_fault {old} {mid} {piece} {rest} {listed} {entries} new fault l begin wro
       rest = held_of mid ++ rest;
       lists = subst (λ s. Lists 0 s (before ++ entries) (held_of mid ++ rest)) same (lists-more 0 (stream ++ l.taken) rest (before ++ entries) (held_of mid) m.lists);
       begin = omega (arith, begin, m.begin, length-append (held_of mid) rest, ap length same, length-append (stream ++ l.taken) rest);
-      wrong = wrong;
+      wrong = wrong m.goes_on;
     }
 
 -- what two clauses say of a step's payload, and a third where there is none

@@ -1,5 +1,5 @@
 -- The payloads of a stream whose first packets may have any sequence id.
-use Rattle.std.specs.Prelude.{◌≡◌, ℕ, ◌+◌, ◌<◌, List, [], ◌∷◌, ◌++◌, length, get_or, take, ◌≤◌, ◌⊎◌, MatchOption}
+use Rattle.std.specs.Prelude.{◌≡◌, ℕ, ◌+◌, ◌<◌, false, List, [], ◌∷◌, ◌++◌, length, get_or, take, ◌≤◌, ◌⊎◌, MatchOption}
 use Rattle.wire.specs.Payload.{IsWholePayload, IsUnfinished, IsOutOfSequence, IsTooLarge}
 use Rattle.wire.specs.declared.packet.TheConstants.{LARGEST_PAYLOAD}
 use Rattle.wire.specs.declared.assembler.Step.{Step}
@@ -29,12 +29,13 @@ first_id bytes = get_or bytes 3 0
 abbrev pub IsNoPayload : List ℕ → Type 0
 IsNoPayload bytes = (length bytes < 4) ⊎ IsUnfinished (first_id bytes) LARGEST_PAYLOAD bytes
 
--- The stream so far is these entries and what is held, which is no payload.
+-- The stream so far is these entries and what is held, which is no payload, and nothing was wrong with it.
 pub record Stands (l : Listing) (stream : List ℕ) (entries : List Entry) : Type 0 where
   pub lists : Lists 0 stream entries (held_of l)
   pub begin : l.begin + length (held_of l) ≡ length stream
   pub seen : l.seen ≡ length stream
   pub no_payload : IsNoPayload (held_of l)
+  pub goes_on : l.assembler.ended ≡ false
 
 -- So much was taken of the bytes, which are held now, or complete this payload.
 pub record Takes (old new : Listing) (bytes : List ℕ) (step : Step) : Type 0 where
@@ -42,6 +43,7 @@ pub record Takes (old new : Listing) (bytes : List ℕ) (step : Step) : Type 0 w
   pub progress : 0 < step.used
   pub begin : new.begin ≡ old.begin
   pub seen : new.seen ≡ old.seen
+  pub goes_on : new.assembler.ended ≡ false
   pub taken : MatchOption step.payload ((held_of new ≡ held_of old ++ take step.used bytes) × IsNoPayload (held_of new))
       (λ payload. (next : ℕ) × IsWholePayload new.sequence LARGEST_PAYLOAD (held_of old ++ take step.used bytes) payload.items next × (held_of new ≡ []))
 
@@ -50,13 +52,13 @@ abbrev pub IsWrong : List ℕ → WireFault → Type 0
 IsWrong bytes (Sequence want got) = IsOutOfSequence (first_id bytes) LARGEST_PAYLOAD bytes want got
 IsWrong bytes TooLarge = IsTooLarge (first_id bytes) LARGEST_PAYLOAD bytes
 IsWrong bytes Memory = Unit {0}
-IsWrong bytes Ended = Unit {0}
+IsWrong bytes Ended = ⊥
 
--- Nothing was taken of the bytes, and this is wrong with them behind those that were held.
+-- This is wrong with the bytes behind those that were held, unless the reader was ended before.
 pub record Refuses (old new : Listing) (bytes : List ℕ) (fault : WireFault) : Type 0 where
   pub begin : new.begin ≡ old.begin
   pub seen : new.seen ≡ old.seen
-  pub wrong : IsWrong (held_of old ++ bytes) fault
+  pub wrong : old.assembler.ended ≡ false → IsWrong (held_of old ++ bytes) fault
 
 -- The stream is these entries, and what stands behind them, from the listing's `begin` on, has this fault.
 pub record Faults (l : Listing) (stream : List ℕ) (entries : List Entry) (fault : WireFault) : Type 0 where

@@ -32,10 +32,11 @@ returns-in_err-payload-clause-refuses c =
     (record {
       begin = refl;
       seen = refl;
-      wrong = subst (λ b. IsWrong b fault) all
+      wrong = λ goes_on. subst (λ b. IsWrong b fault) all
           (IsWrong-more (reader.held ++ header) (drop used bytes) fault (subst (λ h. 3 < length (h ++ header)) (sym nil) long)
-          (wrong_from (reader.held ++ header) fault
-          (λ _. (first, ap (λ state. state.limit) c.expect.ensures ∙ old.limit c.requires.between.1))
+          (wrong_from (reader.held ++ header) fault first
+          (ap (λ state. state.limit) c.expect.ensures ∙ old.limit goes_on)
+          (λ e. let over = c.in_err-payload.ensures.ended.0 (ap Err e) in let same = ap (λ state. state.ended) c.expect.ensures in cc)
           (λ want got e. c.in_err-payload.ensures.sequence want got (ap Err e))
           (λ e. c.in_err-payload.ensures.too_large (ap Err e))));
     })
@@ -65,6 +66,7 @@ returns-clause-takes c =
       progress = grind (arith, common_steps, old.open_header, c.requires.some);
       begin = refl;
       seen = refl;
+      goes_on = c.in_ok-payload.ensures.ok;
       taken = by_payload step.payload c.in_ok-payload.ensures.unfinished c.in_ok-payload.ensures.payload c.in_ok-payload.ensures.length
           (λ none. let now : new.held ++ c.clear.new.self.items ≡ held_of old ++ take used bytes = cleared ∙ ap (λ state. state.held) none.2 ∙ all in
           (now, inr (unfinished_from none.1 (first ∙ ap first_id (all ∙ sym now)) limit (all ∙ sym now))))

@@ -19,12 +19,13 @@ returns-in_err-step-clause-refuses c =
     (record {
       begin = refl;
       seen = refl;
-      wrong = subst (λ h. IsWrong (h ++ c.args.bytes.now) fault) (sym held)
-          (wrong_from (old.assembler.held ++ c.args.bytes.now) fault
-          (λ other.
-          let goes_on : old.assembler.ended ≡ false = false_from old.assembler.ended (λ over. let is = c.step.ensures.ended.1 over in let was = c.in_err-step.was in other cc) in
+      wrong = λ goes_on.
           let first = old.first goes_on (λ e. let t = c.if-between.ensures.1 (e, goes_on) in cc) in
-          (first.0 ∙ sym first.2 ∙ sym (get_or-append old.assembler.held c.args.bytes.now 0 3 first.1), old.limit goes_on))
+          subst (λ h. IsWrong (h ++ c.args.bytes.now) fault) (sym held)
+          (wrong_from (old.assembler.held ++ c.args.bytes.now) fault
+          (first.0 ∙ sym first.2 ∙ sym (get_or-append old.assembler.held c.args.bytes.now 0 3 first.1))
+          (old.limit goes_on)
+          (λ e. let over = c.in_err-step.ensures.ended.0 (ap Err e) in cc)
           (λ want got e. c.in_err-step.ensures.sequence want got (ap Err e))
           (λ e. c.in_err-step.ensures.too_large (ap Err e)));
     })
@@ -46,6 +47,7 @@ returns-in_ok-step-clause-takes c =
       progress = grind (arith, common_steps, c.requires, nothing, first);
       begin = refl;
       seen = refl;
+      goes_on = c.in_ok-step.ensures.ok;
       taken = by_payload step.payload c.in_ok-step.ensures.unfinished c.in_ok-step.ensures.payload c.in_ok-step.ensures.progress
           (λ none.
           let all : old.assembler.held ++ bytes ≡ held_of old ++ take step.used bytes = (λ i. sym held i ++ sym (take_all step.used bytes (omega (arith, none.0))) i) in
