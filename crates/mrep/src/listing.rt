@@ -38,7 +38,7 @@ pub struct Listing {
 
 impl Listing {
     ghost use Rattle.mrep.specs.Listing.{held_of, Takes, Refuses, Stands, Faults};
-    ghost use Rattle.std.specs.Prelude.{◌≡◌, ◌≢◌, ℕ, ◌+◌, ◌^◌, ◌<◌, ◌++◌, [], List, false, length, IfOk, IfErr, MatchResult};
+    ghost use Rattle.std.specs.Prelude.{◌≡◌, ◌≢◌, ℕ, ◌+◌, ◌^◌, ◌≤◌, ◌<◌, ◌++◌, [], List, false, length, IfOk, IfErr, MatchResult};
     ghost use Rattle.mrep.specs.declared.listing.Entry.{Entry};
 
     /// At the beginning of a stream.
@@ -77,17 +77,33 @@ impl Listing {
         Ok(Step { used, payload })
     }
 
+    /// Begins a payload with bytes that have its first header whole.
+    fn start(&mut self, bytes: &[u8]) -> Result<Step, WireFault>
+        requires between { (self.old.assembler.held ≡ []) × (self.old.assembler.ended ≡ false) }
+        requires fresh { self.old.header.items ≡ [] }
+        requires whole { 4 ≤ length bytes.now }
+        ensures takes { IfOk result (λ step. Takes self.old self.new bytes.now step) }
+        ensures refuses { IfErr result (λ fault. Refuses self.old self.new bytes.now fault) }
+    {
+        self.sequence = bytes[HEADER - 1];
+        self.assembler.expect(self.sequence);
+        let step = self.assembler.step(bytes)?;
+        Ok(step)
+    }
+
     /// Takes bytes up to the end of the payload at hand, or some of them.
     fn take(&mut self, bytes: &[u8]) -> Result<Step, WireFault>
         requires { 0 < length bytes.now }
         ensures takes { IfOk result (λ step. Takes self.old self.new bytes.now step) }
         ensures refuses { IfErr result (λ fault. Refuses self.old self.new bytes.now fault) }
     {
-        if self.assembler.between() {
-            self.gather(bytes)
-        } else {
+        if !self.assembler.between() {
             let step = self.assembler.step(bytes)?;
             Ok(step)
+        } else if self.header.is_empty() && bytes.len() >= HEADER {
+            self.start(bytes)
+        } else {
+            self.gather(bytes)
         }
     }
 
@@ -98,7 +114,7 @@ impl Listing {
         ensures stands { (stream : List ℕ) (before : List Entry) → length stream + length piece.now < 2 ^ 64 → Stands self.old stream (before ++ entries.old.items) →
             MatchResult result
             (λ _. Stands self.new (stream ++ piece.now) (before ++ entries.new.items))
-            (λ fault. fault ≢ WireFault.Memory → Faults self.new (stream ++ piece.now) (before ++ entries.new.items) fault) }
+            (λ fault. Faults self.new (stream ++ piece.now) (before ++ entries.new.items) fault) }
     {
         let mut rest = piece;
         while !rest.is_empty() {
@@ -117,14 +133,7 @@ impl Listing {
         Ok(())
     }
 
-    /// Where the payload at hand begins in the stream.
-    pub fn begin(&self) -> u64
-        ensures { result ≡ self.now.begin }
-    {
-        self.begin
-    }
-
-    /// How much of it has come.
+    /// How much of the payload at hand has come.
     pub fn rest(&self) -> u64
         ensures { (stream : List ℕ) (entries : List Entry) → Stands self.now stream entries → result ≡ length (held_of self.now) }
     {

@@ -42,7 +42,7 @@ pub fn packets<'a, R: Files + AllocGlobal, W: Write>(
             Ok(()) => {}
             Err(WireFault::Memory) => return Err(Failure::Memory),
             Err(fault) => {
-                writeln!(out, "fault {} at {}", wire_reason(fault), listing.begin())?;
+                writeln!(out, "fault {} at {}", wire_reason(fault), listing.begin)?;
                 return Ok(REFUSED);
             }
         }

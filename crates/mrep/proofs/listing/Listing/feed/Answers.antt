@@ -2,6 +2,7 @@ use Rattle.std.proofs.Common.{arith, refl}
 use Rattle.std.proofs.lemmas.Grind.{common_steps}
 use Rattle.std.proofs.lemmas.List.{take_rest, nil_from_length}
 use Rattle.std.proofs.lemmas.Result.{err_from_is_err_and}
+use Rattle.wire.specs.declared.fault.WireFault.TheVariants.{Memory}
 use Rattle.mrep.specs.declared.listing.Entry.{Entry}
 use Rattle.mrep.proofs.Entries.{listed_held, listed_payload, listed_fault, listed_all}
 use Rattle.mrep.proofs.listing.Listing.feed.Goals as goal
@@ -28,14 +29,14 @@ returns-in_err-used c = record {
   stands = λ stream before short at.
       let p = err_from_is_err_and c.from_residual.result c.from_residual.ensures.1 in
       let r = c.in_err-used.ensures.refuses in
-      rw (p.1, p.2) (λ _. listed_fault c.take.new.self c.in_err-used.field-0.0 c.loop-rest.invariant r.begin r.wrong stream before short at);
+      rw (p.1, p.2) (listed_fault c.take.new.self c.in_err-used.field-0.0 c.loop-rest.invariant r.begin r.wrong stream before short at);
 }
 
 pub returns-in_err-push : goal.returns-in_err-push
 returns-in_err-push c = record {
   stands = λ stream before short at.
       let p = err_from_is_err_and c.from_residual-in_err-push.result c.from_residual-in_err-push.ensures.1 in
-      rw (p.1, p.2) (λ other. absurd (other refl));
+      rw (p.1, p.2, c.in_err-push.ensures.items) (listed_fault _ Memory c.loop-rest.invariant c.in_ok-used.ensures.takes.begin (λ _. tt) stream before short at);
 }
 
 pub returns : goal.returns

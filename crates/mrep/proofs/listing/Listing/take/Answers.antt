@@ -13,14 +13,14 @@ returns-in_err-step-clause-refuses c =
     let p = err_from_is_err_and c.from_residual.result c.from_residual.ensures.1 in
     let old = c.args.self.now in
     let fault = c.in_err-step.field-0.0 in
-    let nothing : old.header.items ≡ [] = nil_from old.header.items (λ some. let t = c.if-between.ensures.1 (old.gathering some) in cc) in
+    let nothing : old.header.items ≡ [] = nil_from old.header.items (λ some. let t = c.between.ensures.1 (old.gathering some) in cc) in
     let held : held_of old ≡ old.assembler.held = ap (λ h. old.assembler.held ++ h) nothing ∙ append-nil old.assembler.held in
     rw (p.1, p.2)
     (record {
       begin = refl;
       seen = refl;
       wrong = λ goes_on.
-          let first = old.first goes_on (λ e. let t = c.if-between.ensures.1 (e, goes_on) in cc) in
+          let first = old.first goes_on (λ e. let t = c.between.ensures.1 (e, goes_on) in cc) in
           subst (λ h. IsWrong (h ++ c.args.bytes.now) fault) (sym held)
           (wrong_from (old.assembler.held ++ c.args.bytes.now) fault
           (first.0 ∙ sym first.2 ∙ sym (get_or-append old.assembler.held c.args.bytes.now 0 3 first.1))
@@ -36,11 +36,11 @@ returns-in_ok-step-clause-takes c =
     let bytes = c.args.bytes.now in
     let new = c.step.new.self in
     let step = c.in_ok-step.step in
-    let nothing : old.header.items ≡ [] = nil_from old.header.items (λ some. let t = c.if-between.ensures.1 (old.gathering some) in cc) in
+    let nothing : old.header.items ≡ [] = nil_from old.header.items (λ some. let t = c.between.ensures.1 (old.gathering some) in cc) in
     let held : held_of old ≡ old.assembler.held = ap (λ h. old.assembler.held ++ h) nothing ∙ append-nil old.assembler.held in
     let goes_on : old.assembler.ended ≡ false = false_from old.assembler.ended (λ over. let is = c.step.ensures.ended.1 over in let was = c.in_ok-step.was in cc) in
     let limit : old.assembler.limit ≡ LARGEST_PAYLOAD = old.limit goes_on in
-    let first = old.first goes_on (λ e. let t = c.if-between.ensures.1 (e, goes_on) in cc) in
+    let first = old.first goes_on (λ e. let t = c.between.ensures.1 (e, goes_on) in cc) in
     let now : new.held ++ old.header.items ≡ new.held = ap (λ h. new.held ++ h) nothing ∙ append-nil new.held in
     record {
       in_range = c.in_ok-step.ensures.used;
