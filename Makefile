@@ -1,6 +1,6 @@
 # make        prove and build mrep, put it at bin/mrep, and run it on a sample
 # make test   the whole gate: every proof from nothing, the wrong bodies, the tests and the program
-# make bench  time mrep against a plain Rust program that does the same job (needs rustc)
+# make bench  time mrep and the sets against plain Rust programs that do the same jobs (needs rustc)
 
 .PHONY: all build test bench
 
@@ -16,7 +16,9 @@ test:
 	rt ci
 
 bench: build
+	cd crates/gtid_bench && rt run
 	mkdir -p bench/out
 	rustc -O --edition 2024 -o bench/out/packets bench/packets.rs
+	rustc -O --edition 2024 -o bench/out/gtid bench/gtid.rs
 	rustc -O --edition 2024 -o bench/out/bench bench/bench.rs
-	bench/out/bench bin/mrep bench/out/packets bench/out
+	bench/out/bench bin/mrep bench/out/packets crates/gtid_bench/out/gtid_bench bench/out/gtid bench/out

@@ -1,10 +1,11 @@
-//! Times `mrep packets` against `packets.rs`, a plain Rust program that does the same job.
+//! Times `mrep packets` and `gtid_bench` against `packets.rs` and `gtid.rs`, plain Rust programs that do the
+//! same jobs.
 //!
-//!     bench MREP BASELINE FOLDER
+//!     bench MREP PACKETS GTID_BENCH GTID FOLDER
 //!
-//! It makes each input in the folder, runs both programs on it in turn, five times each, and prints the best
-//! times, their ratio and the greatest resident size of each. Both have to print the same. The status is 1
-//! where a goal is missed.
+//! It makes each input of `mrep packets` in the folder. Both programs of a job run in turn, five times each, and
+//! have to print the same; the line has their best times, the ratio of these and the greatest resident size of
+//! each. The status is 1 where a goal is missed.
 
 use std::fs::{self, File};
 use std::io::{self, BufReader, BufWriter, Read, Write};
@@ -15,10 +16,15 @@ use std::time::Instant;
 const MIB: usize = 1 << 20;
 const RUNS: usize = 5;
 
-/// The goal: at most this many times the time of the Rust program,
-const TIMES: f64 = 1.3;
+/// The goal of `mrep packets`: at most this many times the time of the Rust program,
+const PACKETS_TIMES: f64 = 1.3;
 /// and at most the largest payload twice and this much more.
 const MORE: usize = 16 * MIB;
+
+/// The goal of each operation on sets of a million intervals.
+const GTID_TIMES: f64 = 1.5;
+
+const OPERATIONS: [&str; 6] = ["contains", "ascending", "scattered", "union", "subtract", "print"];
 
 struct Input {
     name: &'static str,
@@ -75,14 +81,10 @@ fn make(input: &Input, path: &Path) -> io::Result<()> {
     out.flush()
 }
 
-fn run(program: &[&str], input: &Path, output: &Path) -> io::Result<Run> {
+fn run(program: &[&str], output: &Path) -> io::Result<Run> {
     let out = File::create(output)?;
     let start = Instant::now();
-    let child = Command::new(program[0])
-        .args(&program[1..])
-        .arg(input)
-        .stdout(out)
-        .spawn()?;
+    let child = Command::new(program[0]).args(&program[1..]).stdout(out).spawn()?;
     let mut status = 0;
     let mut usage = Usage::default();
     // Sound: both pointers are to live values of the types that the call fills in.
@@ -122,46 +124,52 @@ fn mib(bytes: usize) -> f64 {
     bytes as f64 / MIB as f64
 }
 
-/// Whether the goal is met on this input.
-fn compare(mrep: &str, baseline: &str, folder: &Path, input: &Input) -> io::Result<bool> {
-    let path = folder.join("input");
-    let (ours_out, theirs_out) = (folder.join("mrep"), folder.join("rust"));
-    make(input, &path)?;
-    let (mut ours, mut theirs) = (Vec::new(), Vec::new());
+/// Whether the goal is met by the first of two programs that do the same job.
+fn compare(job: &str, ours: &[&str], theirs: &[&str], folder: &Path, times: f64, bound: usize) -> io::Result<bool> {
+    let (ours_out, theirs_out) = (folder.join("ours"), folder.join("theirs"));
+    let (mut our_runs, mut their_runs) = (Vec::new(), Vec::new());
     for _ in 0..RUNS {
-        ours.push(run(&[mrep, "packets"], &path, &ours_out)?);
-        theirs.push(run(&[baseline], &path, &theirs_out)?);
+        our_runs.push(run(ours, &ours_out)?);
+        their_runs.push(run(theirs, &theirs_out)?);
     }
-    let agree = ours.iter().zip(&theirs).all(|(a, b)| a.status == b.status) && same(&ours_out, &theirs_out)?;
-    for file in [&path, &ours_out, &theirs_out] {
-        fs::remove_file(file)?;
-    }
-    let ratio = best(&ours) / best(&theirs);
-    let bound = 2 * input.payload + MORE;
+    let agree = our_runs.iter().zip(&their_runs).all(|(a, b)| a.status == b.status) && same(&ours_out, &theirs_out)?;
+    fs::remove_file(ours_out)?;
+    fs::remove_file(theirs_out)?;
+    let ratio = best(&our_runs) / best(&their_runs);
     println!(
-        "{}: mrep {:.3} s, Rust {:.3} s, ratio {ratio:.2} (goal {TIMES}); mrep {:.1} MiB, Rust {:.1} MiB (goal {:.1} MiB)",
-        input.name,
-        best(&ours),
-        best(&theirs),
-        mib(most(&ours)),
-        mib(most(&theirs)),
-        mib(bound),
+        "{job}: ours {:.3} s, Rust {:.3} s, ratio {ratio:.2} (goal {times}); ours {:.1} MiB, Rust {:.1} MiB",
+        best(&our_runs),
+        best(&their_runs),
+        mib(most(&our_runs)),
+        mib(most(&their_runs)),
     );
     if !agree {
         println!("the two programs do not print the same");
     }
-    Ok(agree && ratio <= TIMES && most(&ours) <= bound)
+    if most(&our_runs) > bound {
+        println!("more than {:.1} MiB", mib(bound));
+    }
+    Ok(agree && ratio <= times && most(&our_runs) <= bound)
 }
 
 fn main() -> io::Result<ExitCode> {
     let words: Vec<String> = std::env::args().collect();
-    let [_, mrep, baseline, folder] = words.as_slice() else {
-        eprintln!("usage: bench MREP BASELINE FOLDER");
+    let [_, mrep, packets, gtid_bench, gtid, folder] = words.as_slice() else {
+        eprintln!("usage: bench MREP PACKETS GTID_BENCH GTID FOLDER");
         return Ok(ExitCode::from(2));
     };
+    let folder = Path::new(folder);
     let mut met = true;
+    let path = folder.join("input");
+    let name = path.to_str().ok_or(io::ErrorKind::InvalidInput)?;
     for input in &INPUTS {
-        met &= compare(mrep, baseline, Path::new(folder), input)?;
+        make(input, &path)?;
+        let bound = 2 * input.payload + MORE;
+        met &= compare(input.name, &[mrep, "packets", name], &[packets, name], folder, PACKETS_TIMES, bound)?;
+    }
+    fs::remove_file(&path)?;
+    for operation in OPERATIONS {
+        met &= compare(operation, &[gtid_bench, operation], &[gtid, operation], folder, GTID_TIMES, usize::MAX)?;
     }
     Ok(if met { ExitCode::SUCCESS } else { ExitCode::FAILURE })
 }

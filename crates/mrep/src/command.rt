@@ -3,6 +3,7 @@
 ghost use Rattle.std.specs.Prelude.{◌≤◌, IfOk};
 
 use crate::failure::{DONE, Failure, MEMORY, REFUSED};
+use crate::minus::minus;
 use crate::packets::packets;
 use clap::error::ErrorKind;
 use clap::{Arg, ArgAction, Command};
@@ -21,12 +22,25 @@ fn grammar<'a>(alloc: Global) -> Result<Command<'a>, AllocError> {
     let packets = Command::new(alloc, "packets")
         .about("List the payloads of a stream of packets: offset, sequence id, length")
         .arg(file)?;
+    let left = Arg::new(alloc, "X")
+        .required(true)
+        .action(ArgAction::Set)
+        .help("A GTID set");
+    let right = Arg::new(alloc, "Y")
+        .required(true)
+        .action(ArgAction::Set)
+        .help("The GTID set that is taken away");
+    let minus = Command::new(alloc, "minus")
+        .about("Print a GTID set without another")
+        .arg(left)?
+        .arg(right)?;
     Ok(
         Command::new(alloc, "mrep")
             .version("0.1.0")
             .about("A follower of MySQL")
             .subcommand_required(true)
-            .subcommand(packets)?,
+            .subcommand(packets)?
+            .subcommand(minus)?,
     )
 }
 
@@ -49,6 +63,12 @@ fn run<'a, R: Files + AllocGlobal, S: AsStr, O: Write>(
     };
     let status = match matches.subcommand() {
         Some(("packets", given)) => packets(rt, given.get_str("FILE").unwrap_or(""), out)?,
+        Some(("minus", given)) => minus(
+            rt,
+            given.get_str("X").unwrap_or(""),
+            given.get_str("Y").unwrap_or(""),
+            out,
+        )?,
         _ => {
             let error = command.error(ErrorKind::MissingSubcommand, "a command is needed")?;
             return Err(Failure::Words(error));

@@ -5,6 +5,7 @@ ghost use Rattle.mrep.specs.Failure.{IsFileStatus, IsStatus};
 ghost use Rattle.mrep.specs.declared.failure.Failure.TheVariants as variants;
 
 use clap::error::ErrorKind;
+use gtid::GtidFault;
 use std::alloc::{AllocError, AllocFailed};
 use std::io;
 use std::io::Write;
@@ -25,6 +26,8 @@ pub const MEMORY: u8 = 4;
 pub enum Failure<'a> {
     /// The words are no command.
     Words(clap::Error),
+    /// The word of this name is not the text of a GTID set.
+    Set { word: &'a str, cause: GtidFault },
     /// The file of this name could not be opened or read.
     File { name: &'a str, cause: io::Error },
     /// The output could not be written.
@@ -52,7 +55,7 @@ impl Failure<'_> {
     {
         match self {
             Failure::Words(error) if error.kind() == ErrorKind::OutOfMemory => MEMORY,
-            Failure::Words(_) => USAGE,
+            Failure::Words(_) | Failure::Set { .. } => USAGE,
             Failure::File { cause, .. } | Failure::Output(cause) => status_of(cause),
             Failure::Memory => MEMORY,
         }
@@ -62,6 +65,7 @@ impl Failure<'_> {
     pub fn write<E: Write>(&self, err: &mut E) -> io::Result<()> {
         match self {
             Failure::Words(error) => write!(err, "{error}"),
+            Failure::Set { word, cause } => writeln!(err, "mrep: {word}: {cause}"),
             Failure::File { name, cause } => writeln!(err, "mrep: {name}: {cause}"),
             Failure::Output(cause) => writeln!(err, "mrep: output: {cause}"),
             Failure::Memory => writeln!(err, "mrep: out of memory"),

@@ -7,6 +7,7 @@
 mod command;
 mod failure;
 mod listing;
+mod minus;
 mod packets;
 mod reason;
 #[cfg(test)]

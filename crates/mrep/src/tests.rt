@@ -119,12 +119,13 @@ fn reasons(rt: HostRuntime) {
 /// to the errors, with nothing on the other.
 #[test]
 fn words(rt: HostRuntime) -> Result<(), Fail> {
-    let cases: [(&[&str], u8, &str); 7] = [
+    let cases: [(&[&str], u8, &str); 8] = [
         (&["mrep", "--help"], 0, "A follower of MySQL"),
         (&["mrep", "--version"], 0, "mrep 0.1.0\n"),
         (&["mrep", "packets", "--help"], 0, "List the payloads"),
         (&["mrep"], 2, "error: "),
-        (&["mrep", "minus"], 2, "error: "),
+        (&["mrep", "minus", "--help"], 0, "Print a GTID set"),
+        (&["mrep", "minus", ""], 2, "error: "),
         (&["mrep", "packets"], 2, "error: "),
         (&["mrep", "packets", "a", "b"], 2, "error: "),
     ];
@@ -135,6 +136,56 @@ fn words(rt: HostRuntime) -> Result<(), Fail> {
         assert!(rt; text.as_str().starts_with(beginning), "{words:?}: {text}");
         assert_eq!(rt; other.as_str(), "", "{words:?}");
     }
+    Ok(())
+}
+
+const A: &str = "3e11fa47-71ca-11e1-9e33-c80aa9429562";
+
+/// Intervals of A, those that are taken away, and what is left, or the text of what is wrong.
+#[test]
+fn minus(rt: HostRuntime) -> Result<(), Fail> {
+    let cases = [
+        (":1-5", ":2:4", 0, ":1:3:5\n", ""),
+        (
+            ":1-9223372036854775806",
+            ":2",
+            0,
+            ":1:3-9223372036854775806\n",
+            "",
+        ),
+        (":1-3", ":9", 0, ":1-3\n", ""),
+        (":3-1", ":1", 2, "", "mrep: X: an interval is empty\n"),
+        (
+            ":1",
+            ":0",
+            2,
+            "",
+            "mrep: Y: a number is outside its range\n",
+        ),
+        (
+            ":1",
+            ":1,",
+            2,
+            "",
+            "mrep: Y: no GTID set: the text is wrong at byte 39\n",
+        ),
+    ];
+    for (left, right, want, printed, failed) in cases {
+        let x = format!(in rt.alloc(); "{A}{left}")?;
+        let y = format!(in rt.alloc(); "{A}{right}")?;
+        let (status, out, err) = run(&rt, &["mrep", "minus", x.as_str(), y.as_str()])?;
+        assert_eq!(rt; status, want, "{left} {right}");
+        let whole = if want == 0 {
+            format!(in rt.alloc(); "{A}{printed}")?
+        } else {
+            String::new(rt.alloc())
+        };
+        assert_eq!(rt; out.as_str(), whole.as_str(), "{left} {right}");
+        assert_eq!(rt; err.as_str(), failed, "{left} {right}");
+    }
+    let (status, out, _) = run(&rt, &["mrep", "minus", " ", ""])?;
+    assert_eq!(rt; status, 0);
+    assert_eq!(rt; out.as_str(), "\n");
     Ok(())
 }
 

@@ -1,0 +1,121 @@
+-- The set of the groups that were read.
+use Rattle.std.proofs.Common.{◌≡◌, ℕ, ◌-◌, ◌<◌, ◌≤◌, ◌^◌, ◌⊎◌, inl, inr, Bool, true, false, if◌then◌else◌, List, [], ◌∷◌, ◌++◌, length, map, flat_map, take, drop, Option, Some, None, refl, ap, sym, subst, ◌∙◌, arith, length-drop}
+use Rattle.std.proofs.Math.Seq.{take-append_seam}
+use Rattle.std.proofs.lemmas.List.{length-append, take-append-drop}
+use Rattle.std.proofs.lemmas.Slice.Eq.{bytes_eq-Decides}
+use Rattle.std.specs.FinSet as set
+use Rattle.std.specs.List.{list_any}
+use Rattle.std.specs.Str.{bytes_eq}
+use Rattle.byteorder.specs.Endian.{little_bytes}
+use Rattle.std.specs.declared.cmp.Ordering.{Ordering}
+use Rattle.std.specs.declared.cmp.Ordering.TheVariants.{Less, Equal, Greater}
+use Rattle.std.specs.Ordering.{is_lt, nat_cmp}
+use Rattle.std.specs.Cmp.Lexicographic.{slice_cmp}
+use Rattle.gtid.specs.Identifier.{Ids}
+use Rattle.gtid.specs.Span.{is_in, IsLeastList}
+use Rattle.gtid.specs.Spans.{spans_of}
+use Rattle.gtid.specs.declared.span.Span.{Span}
+use Rattle.gtid.specs.declared.fault.GtidFault.{GtidFault}
+use Rattle.gtid.specs.declared.fault.GtidFault.TheVariants.{Memory}
+use Rattle.gtid.specs.Group.{Ascend, sources, IsBelow, ids_of}
+use Rattle.gtid.specs.Blocks.{blocks}
+use Rattle.gtid.specs.Encoding.{SidBlock, join_block, grouped, interval_bytes, block_bytes, blocks_bytes, AreBlocks, IsEncoding, IsDecodeFault}
+use Rattle.gtid.specs.declared.group.Group.{Group}
+use Rattle.gtid.proofs.Merged.{ascend_nil, ascend_cons, below_all}
+use Rattle.gtid.proofs.Grouped.{grouped_groups, encodes}
+use Rattle.gtid.proofs.LeastList.{least_list}
+use Rattle.gtid.proofs.OneEncoding.{one_encoding, no_fault}
+use Rattle.gtid.proofs.Sets.{id_cmp_total, id_cmp-same}
+
+pub less_from : (o : Ordering) → is_lt o ≡ true → o ≡ Less
+less_from Less e = refl
+less_from Equal e = absurd (Prim.cc)
+less_from Greater e = absurd (Prim.cc)
+
+below_blocks : (s : List ℕ) (groups : List Group) → AreBlocks (Some s) (blocks groups) → IsBelow s (sources groups)
+below_blocks s [] lawful = tt
+below_blocks s (g ∷ groups) lawful =
+    let less = less_from (slice_cmp nat_cmp s g.source) lawful.1 in
+    (less, below_all s g.source (sources groups) less (below_blocks g.source groups lawful.5))
+
+-- the sources of lawful blocks ascend
+pub ascend_blocks : (before : Option (List ℕ)) (groups : List Group) → AreBlocks before (blocks groups) → Ascend (sources groups)
+ascend_blocks before [] lawful = ascend_nil
+ascend_blocks before (g ∷ groups) lawful = ascend_cons g.source (sources groups) (below_blocks g.source groups lawful.5) (ascend_blocks (Some g.source) groups lawful.5)
+
+front : (a x bytes : List ℕ) (used : ℕ) → bytes ≡ a ++ x → used ≡ length bytes - length x → take used bytes ≡ a
+front a x bytes used split is =
+    let long : used ≡ length a = omega (arith, ap length split, length-append a x) in
+    (λ i. take (long i) (split i)) ∙ take-append_seam a x
+
+pub found_encoding : (groups : List Group) (rest bytes : List ℕ) (used : ℕ) → AreBlocks None (blocks groups) → bytes ≡ blocks_bytes (blocks groups) ++ rest → used ≡ length bytes - length rest →
+    IsEncoding (ids_of groups) (take used bytes)
+found_encoding groups rest bytes used lawful split is =
+    subst (IsEncoding (ids_of groups)) (sym (front (blocks_bytes (blocks groups)) rest bytes used split is)) (encodes groups (ascend_blocks None groups lawful))
+
+-- ---- One set, and one number of bytes.
+
+span_of : List ℕ → ℕ × ℕ → Span
+span_of source i = record { source = source; lo = i.0; hi = i.1 }
+
+spans_of_block : SidBlock → List Span
+spans_of_block b = map (span_of b.source) b.intervals
+
+joined : (s : Span) (some : List SidBlock) → flat_map spans_of_block (join_block s some) ≡ s ∷ flat_map spans_of_block some
+unfolding span_of spans_of_block
+joined s [] = refl
+joined s (b ∷ some) = by_source (bytes_eq s.source b.source) refl
+  where
+    same : List SidBlock
+    same = record { source = b.source; intervals = (s.lo, s.hi) ∷ b.intervals } ∷ some
+
+    apart : List SidBlock
+    apart = record { source = s.source; intervals = (s.lo, s.hi) ∷ [] } ∷ (b ∷ some)
+
+    by_source : (e : Bool) → bytes_eq s.source b.source ≡ e → flat_map spans_of_block (join_block s (b ∷ some)) ≡ s ∷ flat_map spans_of_block (b ∷ some)
+    by_source false is = ap (λ c. flat_map spans_of_block (if c then same else apart)) is
+    by_source true is =
+        ap (λ c. flat_map spans_of_block (if c then same else apart)) is ∙ ap (λ t. span_of t (s.lo, s.hi) ∷ flat_map spans_of_block (b ∷ some)) (sym ((bytes_eq-Decides s.source b.source).0 is))
+
+ungrouped : (spans : List Span) → flat_map spans_of_block (grouped spans) ≡ spans
+ungrouped [] = refl
+ungrouped (s ∷ spans) = joined s (grouped spans) ∙ ap (λ l. s ∷ l) (ungrouped spans)
+
+one_set : (a b : List Span) (x y : Ids) → IsLeastList a x → IsLeastList b y → a ≡ b → x ≡ y
+one_set a b x y left right same =
+    set.same_set id_cmp_total id_cmp-same x y (λ q. left.covers q ∙ ap (λ l. list_any (is_in q) l) same ∙ sym (right.covers q))
+
+few_blocks : (l : List SidBlock) → length l ≤ length (flat_map block_bytes l)
+few_blocks [] = omega arith
+few_blocks (b ∷ l) =
+    omega (
+      arith,
+      few_blocks l,
+      length-append (block_bytes b) (flat_map block_bytes l),
+      length-append (b.source ++ little_bytes 8 (length b.intervals)) (flat_map interval_bytes b.intervals),
+      length-append b.source (little_bytes 8 (length b.intervals)),
+    )
+
+fits_in : (l : List SidBlock) (x bytes : List ℕ) → bytes ≡ blocks_bytes l ++ x → length bytes < 2 ^ 64 → length l < 2 ^ 64
+fits_in l x bytes is fits =
+    omega (arith, few_blocks l, ap length is, length-append (blocks_bytes l) x, length-append (little_bytes 8 (length l)) (flat_map block_bytes l))
+
+at_front : (ids : Ids) (n : ℕ) (bytes : List ℕ) (e : IsEncoding ids (take n bytes)) → bytes ≡ blocks_bytes (grouped e.spans) ++ drop n bytes
+at_front ids n bytes e = sym (take-append-drop n bytes) ∙ ap (λ l. l ++ drop n bytes) e.spelled
+
+pub only_found : (groups : List Group) (rest bytes : List ℕ) (used : ℕ) → AreBlocks None (blocks groups) → bytes ≡ blocks_bytes (blocks groups) ++ rest → used ≡ length bytes - length rest → length bytes < 2 ^ 64 →
+    (ids : Ids) (n : ℕ) → n ≤ length bytes → IsEncoding ids (take n bytes) → ◌≡◌ {A = Ids × ℕ} (ids_of groups, used) (ids, n)
+only_found groups rest bytes used lawful split is fits ids n short e =
+    let other = at_front ids n bytes e in
+    let o = one_encoding (blocks groups) (grouped e.spans) rest (drop n bytes) lawful e.lawful (fits_in (blocks groups) rest bytes split fits) (fits_in (grouped e.spans) (drop n bytes) bytes other fits) (sym split ∙ other) in
+    let ascend = ascend_blocks None groups lawful in
+    let spans : spans_of groups ≡ e.spans = sym (ungrouped (spans_of groups)) ∙ ap (flat_map spans_of_block) (grouped_groups groups ascend ∙ o.0) ∙ ungrouped e.spans in
+    let ids_are : ids_of groups ≡ ids = one_set (spans_of groups) e.spans (ids_of groups) ids (least_list groups ascend) e.least spans in
+    let used_is : used ≡ n = omega (arith, ap length o.1, length-append (blocks_bytes (grouped e.spans)) (drop n bytes), length-drop n bytes, ap length other, is) in
+    (λ i. (ids_are i, used_is i))
+
+pub only_fault : (bytes : List ℕ) (fault : GtidFault) → (fault ≡ Memory) ⊎ IsDecodeFault bytes fault → length bytes < 2 ^ 64 → (ids : Ids) (n : ℕ) → IsEncoding ids (take n bytes) → fault ≡ Memory
+only_fault bytes fault (inl memory) fits ids n e = memory
+only_fault bytes fault (inr faulty) fits ids n e =
+    let other = at_front ids n bytes e in
+    absurd (no_fault (grouped e.spans) (drop n bytes) bytes fault e.lawful (fits_in (grouped e.spans) (drop n bytes) bytes other fits) other faulty)

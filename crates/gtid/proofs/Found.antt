@@ -1,0 +1,117 @@
+-- A group found or missed, and the groups with one more number.
+use Rattle.std.proofs.Common.{◌≡◌, ℕ, zero, suc, ◌<◌, Bool, true, false, nat_eq, ◌&&◌, ◌||◌, List, [], ◌∷◌, ◌++◌, length, take, drop, slice_index_or, slice_set, refl, ap, sym, subst, ◌∙◌, Result, Ok, Err, IfOk, OnOk, OnErr, arith}
+use Rattle.std.specs.declared.cmp.Ordering.TheVariants.{Less}
+use Rattle.std.specs.Ordering.{nat_cmp}
+use Rattle.std.specs.Cmp.Lexicographic.{slice_cmp}
+use Rattle.std.specs.Str.{bytes_eq}
+use Rattle.std.proofs.lemmas.Bool.{and_right}
+use Rattle.std.proofs.lemmas.List.{take-append-drop}
+use Rattle.std.proofs.lemmas.List.Folds.{list_any-append}
+use Rattle.std.proofs.lemmas.Slice.Eq.{bytes_eq-Decides}
+use Rattle.gtid.specs.Identifier.{Id, is_one}
+use Rattle.gtid.specs.Interval.{has}
+use Rattle.gtid.specs.Group.{Ascend, sources, IsBelow, is_of, is_listed, IsGap}
+use Rattle.gtid.specs.declared.group.Group.{Group}
+use Rattle.gtid.proofs.Merged.{ascend_first, ascend_cons, ascend_nil, none_below, none_above}
+use Rattle.gtid.proofs.Placed.{below_at, or_false}
+
+-- ---- A group that is there, with one more number.
+
+pub sources_set : (groups : List Group) (k : ℕ) (g : Group) → ((d : Group) → (slice_index_or groups k d).source ≡ g.source) → sources (slice_set groups k g) ≡ sources groups
+sources_set [] zero g same = refl
+sources_set [] (suc k) g same = refl
+sources_set (f ∷ groups) zero g same = ap (λ s. s ∷ sources groups) (sym (same f))
+sources_set (f ∷ groups) (suc k) g same = ap (λ ss. f.source ∷ ss) (sources_set groups k g same)
+
+or_swap : (a b c : Bool) → (a || (b || c)) ≡ (b || (a || c))
+or_swap true true c = refl
+or_swap true false c = refl
+or_swap false b c = refl
+
+distribute : (e x y rest : Bool) → ((e && (x || y)) || rest) ≡ ((e && x) || ((e && y) || rest))
+distribute true true y rest = refl
+distribute true false y rest = refl
+distribute false x y rest = refl
+
+-- `extra` are the numbers that the source's group got
+pub listed_set : (groups : List Group) (k : ℕ) (old new : Group) (s : List ℕ) (extra : ℕ → Bool) → k < length groups → ((d : Group) → slice_index_or groups k d ≡ old) → old.source ≡ s → new.source ≡ s →
+    ((n : ℕ) → has new.intervals.items n ≡ (extra n || has old.intervals.items n)) → (q : Id) → is_listed q (slice_set groups k new) ≡ ((bytes_eq q.0 s && extra q.1) || is_listed q groups)
+listed_set [] k old new s extra short at from to adds q = absurd (omega (arith, short))
+listed_set (g ∷ groups) zero old new s extra short at from to adds q =
+    (λ i. (bytes_eq q.0 (to i) && adds q.1 i) || is_listed q groups)
+    ∙ distribute (bytes_eq q.0 s) (extra q.1) (has old.intervals.items q.1) (is_listed q groups)
+    ∙ ap (λ b. (bytes_eq q.0 s && extra q.1) || (b || is_listed q groups)) (ap (λ t. bytes_eq q.0 t && has old.intervals.items q.1) (sym from) ∙ ap (is_of q) (sym (at g)))
+listed_set (g ∷ groups) (suc k) old new s extra short at from to adds q =
+    ap (λ b. is_of q g || b) (listed_set groups k old new s extra (omega (arith, short)) at from to adds q) ∙ or_swap (is_of q g) (bytes_eq q.0 s && extra q.1) (is_listed q groups)
+
+-- the source's numbers are those of its group
+pub listed_at : (groups : List Group) (k : ℕ) (g : Group) (s : List ℕ) → Ascend (sources groups) → k < length groups → ((d : Group) → slice_index_or groups k d ≡ g) → g.source ≡ s →
+    (n : ℕ) → is_listed (s, n) groups ≡ has g.intervals.items n
+listed_at [] k g s ascend short at same n = absurd (omega (arith, short))
+listed_at (f ∷ groups) zero g s ascend short at same n =
+    let one : f.source ≡ s = ap (λ x. x.source) (at f) ∙ same in
+    let q : Id = (s, n) in
+    (λ i. (eq_itself one i && has ((at f) i).intervals.items n) || none_above f.source groups q (ascend_first f.source (sources groups) ascend).0 (eq_itself one) i) ∙ or_false (has g.intervals.items n)
+  where
+    eq_itself : {t : List ℕ} → t ≡ s → bytes_eq s t ≡ true
+    eq_itself e = (bytes_eq-Decides s _).1 (sym e)
+listed_at (f ∷ groups) (suc k) g s ascend short at same n =
+    let split = ascend_first f.source (sources groups) ascend in
+    let less = subst (λ t. slice_cmp nat_cmp f.source t ≡ Less) (ap (λ x. x.source) (at g) ∙ same) (below_at f.source groups k g split.0 (omega (arith, short))) in
+    let none = sym (or_false (is_of (s, n) f)) ∙ none_below s (f ∷ []) (s, n) ((less, tt), tt) ((bytes_eq-Decides s s).1 refl) in
+    (λ i. none i || listed_at groups k g s split.1 (omega (arith, short)) at same n i)
+
+-- ---- A group of one number where the source has none.
+
+pub listed_gap : (groups : List Group) (k : ℕ) (s : List ℕ) → IsGap s groups k → (n : ℕ) → is_listed (s, n) groups ≡ false
+listed_gap groups k s gap n =
+    let same = (bytes_eq-Decides s s).1 refl in
+    ap (is_listed (s, n)) (sym (take-append-drop k groups))
+    ∙ list_any-append (is_of (s, n)) (take k groups) (drop k groups)
+    ∙ (λ i. none_below s (take k groups) (s, n) gap.1 same i || none_above s (drop k groups) (s, n) gap.2 same i)
+
+pub listed_insert : (groups : List Group) (k : ℕ) (g : Group) (s : List ℕ) (number : ℕ) → g.source ≡ s → ((n : ℕ) → has g.intervals.items n ≡ nat_eq n number) → (now : List Group) → now ≡ take k groups ++ g ∷ drop k groups →
+    (q : Id) → is_listed q now ≡ (is_one q (s, number) || is_listed q groups)
+listed_insert groups k g s number same numbers now now_is q =
+    ap (is_listed q) now_is
+    ∙ list_any-append (is_of q) (take k groups) (g ∷ drop k groups)
+    ∙ or_swap (is_listed q (take k groups)) (is_of q g) (is_listed q (drop k groups))
+    ∙ (λ i. (bytes_eq q.0 (same i) && numbers q.1 i) || (sym (list_any-append (is_of q) (take k groups) (drop k groups)) ∙ ap (is_listed q) (take-append-drop k groups)) i)
+
+below_insert : (t : List ℕ) (groups : List Group) (k : ℕ) (g : Group) → IsBelow t (sources groups) → slice_cmp nat_cmp t g.source ≡ Less → IsBelow t (sources (take k groups ++ g ∷ drop k groups))
+below_insert t [] zero g below less = (less, tt)
+below_insert t [] (suc k) g below less = (less, tt)
+below_insert t (f ∷ groups) zero g below less = (less, below)
+below_insert t (f ∷ groups) (suc k) g below less = (below.0, below_insert t groups k g below.1 less)
+
+pub ascend_insert : (groups : List Group) (k : ℕ) (g : Group) (s : List ℕ) → Ascend (sources groups) → IsGap s groups k → g.source ≡ s → Ascend (sources (take k groups ++ g ∷ drop k groups))
+ascend_insert [] zero g s ascend gap same = ascend_cons g.source [] tt ascend_nil
+ascend_insert [] (suc k) g s ascend gap same = ascend_cons g.source [] tt ascend_nil
+ascend_insert (f ∷ groups) zero g s ascend gap same = ascend_cons g.source (sources (f ∷ groups)) (subst (λ t. IsBelow t (sources (f ∷ groups))) (sym same) gap.2) ascend
+ascend_insert (f ∷ groups) (suc k) g s ascend gap same =
+    let split = ascend_first f.source (sources groups) ascend in
+    ascend_cons f.source (sources (take k groups ++ g ∷ drop k groups)) (below_insert f.source groups k g split.0 (subst (λ t. slice_cmp nat_cmp f.source t ≡ Less) (sym same) gap.1.0.0))
+    (ascend_insert groups k g s split.1 (omega (arith, gap.0), gap.1.1, gap.2) same)
+
+pub any_default : (groups : List Group) (k : ℕ) (g : Group) → k < length groups → g ≡ slice_index_or groups k g → (d : Group) → slice_index_or groups k d ≡ g
+any_default [] k g short is d = absurd (omega (arith, short))
+any_default (f ∷ groups) zero g short is d = sym is
+any_default (f ∷ groups) (suc k) g short is d = any_default groups k g (omega (arith, short)) is d
+
+pub on_ok : {T E P Q : Type 0} (r : Result T E) → OnOk r P → (P → Q) → OnOk r Q
+on_ok (Ok x) p f = f p
+on_ok (Err e) p f = tt
+
+pub on_err : {T E P Q : Type 0} (r : Result T E) → OnErr r P → (P → Q) → OnErr r Q
+on_err (Ok x) p f = tt
+on_err (Err e) p f = f p
+
+-- the same identifiers, where the source's group has the same numbers
+pub listed_same : (groups : List Group) (k : ℕ) (old new : Group) (s : List ℕ) → k < length groups → ((d : Group) → slice_index_or groups k d ≡ old) → old.source ≡ s → new.source ≡ s →
+    new.intervals.items ≡ old.intervals.items → (q : Id) → is_listed q (slice_set groups k new) ≡ is_listed q groups
+listed_same groups k old new s short at from to same q =
+    listed_set groups k old new s (λ n. false) short at from to (λ n. ap (λ is. has is n) same) q ∙ ap (λ b. b || is_listed q groups) (and_right (bytes_eq q.0 s) false refl)
+
+pub if_ok : {T E P : Type 0} {A B : T → Type 0} (r : Result T E) → IfOk r A → OnOk r P → ((x : T) → A x → P → B x) → IfOk r B
+if_ok (Ok x) a p f = f x a p
+if_ok (Err e) a p f = tt

@@ -1,0 +1,122 @@
+-- The spans of groups, grouped by source.
+use Rattle.std.proofs.Common.{◌≡◌, ◌≢◌, ℕ, suc, ◌+◌, ◌<◌, ◌^◌, length, arith, Option, Some, None, Bool, true, false, if◌then◌else◌, List, [], ◌∷◌, ◌++◌, map, refl, ap, sym, subst, ◌∙◌, Result, Ok, Err, OnOk}
+use Rattle.std.specs.declared.cmp.Ordering.{Ordering}
+use Rattle.std.specs.declared.cmp.Ordering.TheVariants.{Less, Equal}
+use Rattle.std.specs.Ordering.{nat_cmp, is_lt}
+use Rattle.std.specs.Cmp.{tied_itself}
+use Rattle.std.specs.Cmp.Lexicographic.{slice_cmp, nat_list_cmp_total}
+use Rattle.std.specs.Str.{bytes_eq}
+use Rattle.std.proofs.lemmas.Slice.Eq.{bytes_eq-Decides}
+use Rattle.gtid.specs.Identifier.{Ids}
+use Rattle.gtid.specs.Interval.{AreLeast}
+use Rattle.gtid.specs.Group.{Ascend, sources, IsBelow, ids_of}
+use Rattle.gtid.specs.Spans.{span, spans_of}
+use Rattle.gtid.specs.Encoding.{SidBlock, AreIntervals, AreBlocks, is_above, join_block, grouped, blocks_bytes, IsEncoding, AppendsEncoding}
+use Rattle.gtid.specs.Blocks.{pair, block, blocks}
+use Rattle.gtid.specs.declared.interval.Interval.{Interval}
+use Rattle.gtid.specs.declared.group.Group.{Group}
+use Rattle.gtid.specs.declared.span.Span.{Span}
+use Rattle.gtid.proofs.Merged.{ascend_first}
+use Rattle.gtid.proofs.LeastList.{least_list}
+
+-- the first block is of another source
+abbrev IsOther : List ℕ → List SidBlock → Type 0
+IsOther s [] = Unit {0}
+IsOther s (b ∷ blocks) = bytes_eq s b.source ≡ false
+
+join_other : (s : List ℕ) (i : Interval) (behind : List SidBlock) → IsOther s behind → join_block (span s i) behind ≡ block s (i ∷ []) ∷ behind
+join_other s i [] other = refl
+join_other s i (b ∷ behind) other =
+    ap (λ c. if c then record { source = b.source; intervals = (i.lo, i.hi) ∷ b.intervals } ∷ behind else record { source = s; intervals = (i.lo, i.hi) ∷ [] } ∷ (b ∷ behind)) other
+
+join_same : (s : List ℕ) (i : Interval) (intervals : List Interval) (behind : List SidBlock) → join_block (span s i) (block s intervals ∷ behind) ≡ block s (i ∷ intervals) ∷ behind
+join_same s i intervals behind =
+    ap (λ c. if c then record { source = s; intervals = (i.lo, i.hi) ∷ map pair intervals } ∷ behind else record { source = s; intervals = (i.lo, i.hi) ∷ [] } ∷ (block s intervals ∷ behind))
+    ((bytes_eq-Decides s s).1 refl)
+
+grouped_one : (s : List ℕ) (i : Interval) (intervals : List Interval) (rest : List Span) (behind : List SidBlock) → grouped rest ≡ behind → IsOther s behind →
+    grouped (map (span s) (i ∷ intervals) ++ rest) ≡ block s (i ∷ intervals) ∷ behind
+grouped_one s i [] rest behind is other = ap (join_block (span s i)) is ∙ join_other s i behind other
+grouped_one s i (j ∷ intervals) rest behind is other =
+    ap (join_block (span s i)) (grouped_one s j intervals rest behind is other) ∙ join_same s i (j ∷ intervals) behind
+
+grouped_some : (s : List ℕ) (intervals : List Interval) (rest : List Span) (behind : List SidBlock) → intervals ≢ [] → grouped rest ≡ behind → IsOther s behind →
+    grouped (map (span s) intervals ++ rest) ≡ block s intervals ∷ behind
+grouped_some s [] rest behind some is other = absurd (some refl)
+grouped_some s (i ∷ intervals) rest behind some is other = grouped_one s i intervals rest behind is other
+
+not_both : (o : Ordering) → o ≡ Less → o ≡ Equal → ⊥
+not_both o less equal = Prim.cc
+
+other_below : (s t : List ℕ) (e : Bool) → bytes_eq s t ≡ e → slice_cmp nat_cmp s t ≡ Less → bytes_eq s t ≡ false
+other_below s t false is less = is
+other_below s t true is less =
+    absurd (not_both (slice_cmp nat_cmp s s) (ap (λ u. slice_cmp nat_cmp s u) ((bytes_eq-Decides s t).0 is) ∙ less) (tied_itself nat_list_cmp_total s))
+
+other_groups : (s : List ℕ) (groups : List Group) → IsBelow s (sources groups) → IsOther s (blocks groups)
+other_groups s [] below = tt
+other_groups s (g ∷ groups) below = other_below s g.source (bytes_eq s g.source) refl below.0
+
+pub grouped_groups : (groups : List Group) → Ascend (sources groups) → grouped (spans_of groups) ≡ blocks groups
+grouped_groups [] ascend = refl
+grouped_groups (g ∷ groups) ascend =
+    let f = ascend_first g.source (sources groups) ascend in
+    grouped_some g.source g.intervals.items (spans_of groups) (blocks groups) g.some (grouped_groups groups f.1) (other_groups g.source groups f.0)
+
+few : (end : ℕ) (intervals : List Interval) → AreLeast end intervals → end < 2 ^ 63 → length intervals + end < 2 ^ 63
+few end [] least fits = omega arith
+few end (i ∷ intervals) least fits = omega (arith, least.0, least.1, few i.hi intervals least.3 least.2)
+
+pair_intervals : (end : ℕ) (intervals : List Interval) → AreLeast end intervals → AreIntervals end (map pair intervals)
+pair_intervals end [] least = tt
+pair_intervals end (i ∷ intervals) least = (least.0, least.1, least.2, pair_intervals i.hi intervals least.3)
+
+pair_length : (intervals : List Interval) → length (map pair intervals) ≡ length intervals
+pair_length [] = refl
+pair_length (i ∷ intervals) = ap suc (pair_length intervals)
+
+some_length : (intervals : List Interval) → intervals ≢ [] → 0 < length intervals
+some_length [] some = absurd (some refl)
+some_length (i ∷ intervals) some = omega arith
+
+-- the source before is below the first of these
+abbrev IsBehind : Option (List ℕ) → List (List ℕ) → Type 0
+IsBehind None ss = Unit {0}
+IsBehind (Some s) ss = IsBelow s ss
+
+above_first : (before : Option (List ℕ)) (s : List ℕ) (ss : List (List ℕ)) → IsBehind before (s ∷ ss) → is_above before s ≡ true
+above_first None s ss behind = refl
+above_first (Some t) s ss behind = ap is_lt behind.0
+
+lawful_blocks : (before : Option (List ℕ)) (groups : List Group) → IsBehind before (sources groups) → Ascend (sources groups) → AreBlocks before (blocks groups)
+lawful_blocks before [] behind ascend = tt
+lawful_blocks before (g ∷ groups) behind ascend =
+    let f = ascend_first g.source (sources groups) ascend in
+    let count = pair_length g.intervals.items in (
+      g.long,
+      above_first before g.source (sources groups) behind,
+      omega (arith, some_length g.intervals.items g.some, count),
+      omega (arith, few 0 g.intervals.items g.least (omega arith), count),
+      pair_intervals 0 g.intervals.items g.least,
+      lawful_blocks (Some g.source) groups f.0 f.1,
+    )
+
+pub encodes : (groups : List Group) → Ascend (sources groups) → IsEncoding (ids_of groups) (blocks_bytes (blocks groups))
+encodes groups ascend = record {
+  spans = spans_of groups;
+  least = least_list groups ascend;
+  lawful = subst (AreBlocks None) (sym (grouped_groups groups ascend)) (lawful_blocks None groups tt ascend);
+  spelled = ap blocks_bytes (sym (grouped_groups groups ascend));
+}
+
+appends : (groups all : List Group) (ids : Ids) (old new : List ℕ) → Ascend (sources all) → groups ≡ all → ids_of all ≡ ids → new ≡ old ++ blocks_bytes (blocks groups) → AppendsEncoding ids old new
+appends groups all ids old new ascend same is written = record {
+  bytes = blocks_bytes (blocks all);
+  encodes = subst (λ x. IsEncoding x (blocks_bytes (blocks all))) is (encodes all ascend);
+  appended = written ∙ ap (λ g. old ++ blocks_bytes (blocks g)) same;
+}
+
+pub appends_on_ok : {T E : Type 0} (r : Result T E) (groups all : List Group) (ids : Ids) (old new : List ℕ) → Ascend (sources all) → groups ≡ all → ids_of all ≡ ids →
+    OnOk r (new ≡ old ++ blocks_bytes (blocks groups)) → OnOk r (AppendsEncoding ids old new)
+appends_on_ok (Ok x) groups all ids old new ascend same is written = appends groups all ids old new ascend same is written
+appends_on_ok (Err e) groups all ids old new ascend same is written = tt

@@ -1,0 +1,82 @@
+-- The spans of groups are the least intervals of their set.
+use Rattle.std.proofs.Common.{◌≡◌, ◌≢◌, ℕ, ◌<◌, inl, inr, Bool, true, false, ◌&&◌, ◌||◌, List, [], ◌∷◌, ◌++◌, map, refl, ap, sym, subst, ◌∙◌}
+use Rattle.std.specs.declared.cmp.Ordering.TheVariants.{Less}
+use Rattle.std.specs.Ordering.{nat_cmp}
+use Rattle.std.specs.Cmp.Lexicographic.{slice_cmp}
+use Rattle.std.specs.List.{list_any}
+use Rattle.std.specs.Str.{bytes_eq}
+use Rattle.std.proofs.lemmas.Bool.{and_right}
+use Rattle.std.proofs.lemmas.List.Folds.{list_any-append}
+use Rattle.gtid.specs.Identifier.{Id, Ids}
+use Rattle.gtid.specs.Interval.{AreLeast, is_within, has}
+use Rattle.gtid.specs.Group.{Ascend, sources, IsBelow, is_listed, ids_of}
+use Rattle.gtid.specs.Span.{is_in, IsBefore, IsLeast, IsLeastList}
+use Rattle.gtid.specs.Spans.{span, spans_of_group, spans_of}
+use Rattle.gtid.specs.declared.interval.Interval.{Interval}
+use Rattle.gtid.specs.declared.group.Group.{Group}
+use Rattle.gtid.specs.declared.span.Span.{Span}
+use Rattle.gtid.proofs.Merged.{ascend_first}
+use Rattle.gtid.proofs.Sets.{contains_listed}
+
+-- the span is before the first of the list
+abbrev pub Leads : Span → List Span → Type 0
+Leads a [] = Unit {0}
+Leads a (b ∷ spans) = IsBefore a b
+
+pub least_cons : (a : Span) (spans : List Span) → a.lo < a.hi → Leads a spans → IsLeast spans → IsLeast (a ∷ spans)
+least_cons a [] some leads least = some
+least_cons a (b ∷ spans) some leads least = (some, leads, least)
+
+-- the source is below that of the first of the list
+abbrev IsUnder : List ℕ → List Span → Type 0
+IsUnder s [] = Unit {0}
+IsUnder s (b ∷ spans) = slice_cmp nat_cmp s b.source ≡ Less
+
+under_leads : (a : Span) (spans : List Span) → IsUnder a.source spans → Leads a spans
+under_leads a [] under = tt
+under_leads a (b ∷ spans) under = inl under
+
+least_group : (s : List ℕ) (end : ℕ) (intervals : List Interval) (rest : List Span) → AreLeast end intervals → IsUnder s rest → IsLeast rest → IsLeast (map (span s) intervals ++ rest)
+least_group s end [] rest least under behind = behind
+least_group s end (i ∷ intervals) rest least under behind =
+    least_cons (span s i) (map (span s) intervals ++ rest) least.1 (leads intervals least.3) (least_group s i.hi intervals rest least.3 under behind)
+  where
+    leads : (intervals : List Interval) → AreLeast i.hi intervals → Leads (span s i) (map (span s) intervals ++ rest)
+    leads [] least = under_leads (span s i) rest under
+    leads (j ∷ intervals) least = inr (refl, least.0)
+
+under_first : (s t : List ℕ) (intervals : List Interval) (rest : List Span) → slice_cmp nat_cmp s t ≡ Less → intervals ≢ [] → IsUnder s (map (span t) intervals ++ rest)
+under_first s t [] rest less some = absurd (some refl)
+under_first s t (i ∷ intervals) rest less some = less
+
+under_groups : (s : List ℕ) (groups : List Group) → IsBelow s (sources groups) → IsUnder s (spans_of groups)
+under_groups s [] below = tt
+under_groups s (g ∷ groups) below = under_first s g.source g.intervals.items (spans_of groups) below.0 g.some
+
+pub least_spans : (groups : List Group) → Ascend (sources groups) → IsLeast (spans_of groups)
+least_spans [] ascend = tt
+least_spans (g ∷ groups) ascend =
+    let f = ascend_first g.source (sources groups) ascend in
+    least_group g.source 0 g.intervals.items (spans_of groups) g.least (under_groups g.source groups f.0) (least_spans groups f.1)
+
+both : (a x y : Bool) → ((a && x) || (a && y)) ≡ (a && (x || y))
+both true x y = refl
+both false x y = refl
+
+in_group : (q : Id) (s : List ℕ) (intervals : List Interval) → list_any (is_in q) (map (span s) intervals) ≡ (bytes_eq q.0 s && has intervals q.1)
+in_group q s [] = sym (and_right (bytes_eq q.0 s) false refl)
+in_group q s (i ∷ intervals) = ap (λ b. is_in q (span s i) || b) (in_group q s intervals) ∙ both (bytes_eq q.0 s) (is_within q.1 i) (has intervals q.1)
+
+in_spans : (q : Id) (groups : List Group) → list_any (is_in q) (spans_of groups) ≡ is_listed q groups
+in_spans q [] = refl
+in_spans q (g ∷ groups) =
+    list_any-append (is_in q) (spans_of_group g) (spans_of groups) ∙ (λ i. in_group q g.source g.intervals.items i || in_spans q groups i)
+
+pub least_list : (groups : List Group) → Ascend (sources groups) → IsLeastList (spans_of groups) (ids_of groups)
+least_list groups ascend = record {
+  least = least_spans groups ascend;
+  covers = λ q. contains_listed groups q ∙ sym (in_spans q groups);
+}
+
+pub least_list_of : (spans : List Span) (groups all : List Group) (ids : Ids) → Ascend (sources all) → spans ≡ spans_of groups → groups ≡ all → ids_of all ≡ ids → IsLeastList spans ids
+least_list_of spans groups all ids ascend of same is = rw (of, same) (subst (IsLeastList (spans_of all)) is (least_list all ascend))

@@ -1,0 +1,104 @@
+-- Where the scan stands, some text of the grammar goes on. Where it stops, none does.
+use Rattle.std.proofs.Common.{◌≡◌, ℕ, zero, suc, ◌+◌, ◌-◌, ◌<◌, ◌≤◌, ◌==◌, Bool, true, false, if◌then◌else◌, Some, None, List, [], ◌∷◌, ◌++◌, length, take, drop, get_or, refl, ap, sym, subst, ◌∙◌, arith, append-nil, true≢false, take-add, take_all}
+use Rattle.std.proofs.lemmas.Bool.Decides.{nat_tests}
+use Rattle.uuid.specs.Text.{is_hyphen_place, is_hex_digit}
+use Rattle.gtid.specs.Encoding.{SidBlock}
+use Rattle.gtid.specs.Text.{IsList, IsInGrammar, BeginsText, IsOutsideFrom}
+use Rattle.gtid.specs.Scan.{step, ends, stands_at, IsPlaced}
+use Rattle.gtid.specs.declared.grammar.State.{State}
+use Rattle.gtid.specs.declared.grammar.State.TheVariants.{Start, Item, Source, First, Lo, Second, Hi, Behind}
+use Rattle.gtid.proofs.Scanned.{run, run_none, run_append, run_on, run_list, begins_none, tested_second, Ended}
+use Rattle.gtid.proofs.Recognized.{recognized, same_state}
+
+-- the rest of a UUID from a place on, and an interval
+abbrev filling : ℕ → ℕ → List ℕ
+filling place zero = 58 ∷ 49 ∷ []
+filling place (suc n) = (if is_hyphen_place place then 45 else 48) ∷ filling (place + 1) n
+
+-- what a text may go on with
+abbrev ending : State → List ℕ
+ending Start = []
+ending Item = 48 ∷ filling 1 35
+ending (Source place) = filling place (36 - place)
+ending First = 49 ∷ []
+ending Lo = []
+ending Second = 49 ∷ []
+ending Hi = []
+ending Behind = []
+
+filling_stands : (place : ℕ) → stands_at place (if is_hyphen_place place then 45 else 48) ≡ true
+filling_stands place = by (is_hyphen_place place)
+  where
+    by : (hyphen : Bool) → (if hyphen then (if hyphen then 45 else 48) == 45 else is_hex_digit (if hyphen then 45 else 48)) ≡ true
+    by true = refl
+    by false = refl
+
+filled : (n place : ℕ) → place + n ≡ 36 → run (Some (Source place)) (filling place n) ≡ Some Lo
+filled zero place long =
+    let same : place ≡ 36 = omega arith in
+    ap (λ p. run (Some (Source p)) (58 ∷ 49 ∷ [])) same
+filled (suc n) place long =
+    let before : (place == 36) ≡ false = grind (arith, nat_tests) in
+    ap (λ o. run o (filling (place + 1) n)) (tested_second (place == 36) (stands_at place (if is_hyphen_place place then 45 else 48)) (Source (place + 1)) _ _ before (filling_stands place))
+    ∙ filled n (place + 1) (omega arith)
+
+ended : (s : State) → IsPlaced s → Ended (run (Some s) (ending s))
+ended Start placed = record { state = Start; is = refl; end = refl }
+ended Item placed = record { state = Lo; is = filled 35 1 refl; end = refl }
+ended (Source place) placed = record { state = Lo; is = filled (36 - place) place (omega arith); end = refl }
+ended First placed = record { state = Lo; is = refl; end = refl }
+ended Lo placed = record { state = Lo; is = refl; end = refl }
+ended Second placed = record { state = Hi; is = refl; end = refl }
+ended Hi placed = record { state = Hi; is = refl; end = refl }
+ended Behind placed = record { state = Behind; is = refl; end = refl }
+
+begins_some : (front : List ℕ) (s : State) → run (Some Start) front ≡ Some s → IsPlaced s → BeginsText front
+begins_some front s ran placed =
+    let e = ended s placed in
+    let whole : run (Some Start) (front ++ ending s) ≡ Some e.state =
+    run_append (Some Start) front (ending s) ∙ ap (λ o. run o (ending s)) ran ∙ e.is in
+    let g = recognized (front ++ ending s) e.state whole e.end in
+    (ending s, g.items, g.is_list)
+
+not_listed : (text : List ℕ) → (BeginsText text → ⊥) → (items : List SidBlock) → IsList text items → ⊥
+not_listed text begins_not items is_list = begins_not ([], items, subst (λ t. IsList t items) (sym (append-nil text)) is_list)
+
+-- what goes beyond a place where the scan stops
+stopped : (text : List ℕ) (i n : ℕ) → run (Some Start) (take i text) ≡ None → i ≤ n → run (Some Start) (take n text) ≡ None
+stopped text i n none more =
+    let same : n ≡ i + (n - i) = omega arith in
+    ap (λ (k : ℕ). run (Some Start) (take k text)) same
+    ∙ ap (run (Some Start)) (take-add i (n - i) text)
+    ∙ run_append (Some Start) (take i text) (take (n - i) (drop i text))
+    ∙ ap (λ o. run o (take (n - i) (drop i text))) none
+    ∙ run_none (take (n - i) (drop i text))
+
+-- No step leads on.
+pub outside_at : (text : List ℕ) (i b : ℕ) (s : State) → i < length text → b ≡ get_or text i 0 → run (Some Start) (take i text) ≡ Some s → IsPlaced s → step s b ≡ None →
+    IsOutsideFrom text i
+outside_at text i b s short is ran placed none =
+    let here : run (Some Start) (take (i + 1) text) ≡ None = run_on text i b s None short is ran none in
+    let whole : take (length text) text ≡ text = take_all (length text) text (omega arith) in
+    record {
+      outside = not_listed text (begins_none text (ap (run (Some Start)) (sym whole) ∙ stopped text (i + 1) (length text) here (omega arith)));
+      within = omega arith;
+      begins = begins_some (take i text) s ran placed;
+      no_longer = λ n longer within. begins_none (take n text) (stopped text (i + 1) n here (omega arith));
+    }
+
+-- The text may not end where the scan stands.
+pub outside_end : (text : List ℕ) (i : ℕ) (s : State) → length text ≤ i → run (Some Start) (take i text) ≡ Some s → IsPlaced s → ends s ≡ false → IsOutsideFrom text (length text)
+outside_end text i s all ran placed open_end =
+    let here : run (Some Start) text ≡ Some s = ap (run (Some Start)) (sym (take_all i text all)) ∙ ran in
+    record {
+      outside = λ items is_list.
+          let e = run_list text items is_list in
+          true≢false (sym e.end ∙ ap ends (same_state e.state s (sym e.is ∙ here)) ∙ open_end);
+      within = omega arith;
+      begins = begins_some (take (length text) text) s (ap (run (Some Start)) (take_all (length text) text (omega arith)) ∙ here) placed;
+      no_longer = λ n longer within begins. absurd (omega arith);
+    }
+
+-- The text ends where it may.
+pub in_grammar_end : (text : List ℕ) (i : ℕ) (s : State) → length text ≤ i → run (Some Start) (take i text) ≡ Some s → ends s ≡ true → IsInGrammar text
+in_grammar_end text i s all ran end = recognized text s (ap (run (Some Start)) (sym (take_all i text all)) ∙ ran) end

@@ -1,0 +1,41 @@
+-- What was read of a text.
+use Rattle.std.proofs.Common.{◌≡◌, ℕ, List, ap, sym, ◌∙◌, inl, inr, ◌⊎◌, Some, None}
+use Rattle.std.specs.List.{list_any}
+use Rattle.gtid.specs.Identifier.{Id, Ids}
+use Rattle.gtid.specs.Span.{is_in}
+use Rattle.gtid.specs.Group.{ids_of, is_listed}
+use Rattle.gtid.specs.Encoding.{SidBlock}
+use Rattle.gtid.specs.Text.{IsList, list_fault, written_spans, IsInGrammar, IsRead, IsOutsideFrom, IsParseFault}
+use Rattle.gtid.specs.Text.IsParseFault.{outside, written}
+use Rattle.gtid.specs.declared.fault.GtidFault.{GtidFault}
+use Rattle.gtid.specs.declared.fault.GtidFault.TheVariants.{Text, Memory}
+use Rattle.gtid.specs.declared.group.Group.{Group}
+use Rattle.gtid.specs.declared.span.Span.{Span}
+use Rattle.gtid.proofs.Sets.{contains_listed, same_ids}
+
+-- the spans of each list of items that the text has
+abbrev pub AreRead : List ℕ → List Span → Type 0
+AreRead text spans = (items : List SidBlock) → IsList text items → (list_fault items ≡ None) × (spans ≡ written_spans items)
+
+pub is_read : (text : List ℕ) (spans listed_of : List Span) (groups : List Group) → IsInGrammar text → AreRead text spans → listed_of ≡ spans → ((q : Id) → is_listed q groups ≡ list_any (is_in q) listed_of) →
+    IsRead text (ids_of groups)
+is_read text spans listed_of groups g read same listed =
+    let r = read g.items g.is_list in
+    record {
+      items = g.items;
+      is_list = g.is_list;
+      lawful = r.0;
+      union = λ q. contains_listed groups q ∙ listed q ∙ ap (list_any (is_in q)) (same ∙ r.1);
+    }
+
+pub only_read : (text : List ℕ) (spans listed_of : List Span) (groups : List Group) → AreRead text spans → listed_of ≡ spans → ((q : Id) → is_listed q groups ≡ list_any (is_in q) listed_of) → (ids : Ids) →
+    IsRead text ids → ids_of groups ≡ ids
+only_read text spans listed_of groups read same listed ids r = same_ids ids groups (λ q. listed q ∙ ap (list_any (is_in q)) (same ∙ (read r.items r.is_list).1) ∙ sym (r.union q))
+
+-- a fault of each list of items that the text has
+pub written_fault : (text : List ℕ) (fault : GtidFault) → IsInGrammar text → (fault ≡ Memory) ⊎ ((items : List SidBlock) → IsList text items → list_fault items ≡ Some fault) → (fault ≡ Memory) ⊎ IsParseFault text fault
+written_fault text fault g (inl memory) = inl memory
+written_fault text fault g (inr faulty) = inr (written fault (record { items = g.items; is_list = g.is_list; faulty = faulty g.items g.is_list }))
+
+pub text_fault : (text : List ℕ) (offset : ℕ) → IsOutsideFrom text offset → (Text offset ≡ Memory) ⊎ IsParseFault text (Text offset)
+text_fault text offset is = inr (outside offset is)

@@ -1,0 +1,5 @@
+use Rattle.gtid.proofs.Read.{ReadGroups}
+use Rattle.gtid.proofs.decoding.read_groups.Given as goal
+
+abbrev pub invariant-loop-done : goal.invariant-loop-done
+invariant-loop-done l = ReadGroups l.groups.items l._done l.before l.rest l.initial.rest

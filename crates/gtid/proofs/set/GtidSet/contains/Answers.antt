@@ -1,0 +1,12 @@
+use Rattle.std.proofs.Common.{ap, ◌∙◌}
+use Rattle.gtid.specs.Identifier.{id}
+use Rattle.gtid.specs.Group.{is_listed}
+use Rattle.gtid.proofs.Sets.{contained}
+use Rattle.gtid.proofs.set.GtidSet.contains.Goals as goal
+
+pub returns : goal.returns
+returns c =
+    c.contains.ensures
+    ∙ c.intervals_of.ensures.listed c.args.gtid.number
+    ∙ ap (is_listed (id c.args.gtid)) c.deref.ensures.value
+    ∙ contained c.self.inside.groups.items c.args.self.now c.self.view_is (id c.args.gtid)

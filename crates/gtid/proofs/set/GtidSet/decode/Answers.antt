@@ -1,0 +1,19 @@
+use Rattle.std.proofs.Common.{None, refl, arith}
+use Rattle.std.proofs.lemmas.Result.{err_from_is_err_and}
+use Rattle.gtid.proofs.Decoded.{ascend_blocks, found_encoding, only_found, only_fault}
+use Rattle.gtid.proofs.set.GtidSet.decode.Goals as goal
+
+pub invariant_of-result : goal.invariant_of-result
+invariant_of-result c = ascend_blocks None c.in_ok-groups.groups.items c.in_ok-groups.ensures.lawful
+
+pub returns-clause-found : goal.returns-clause-found
+returns-clause-found c = found_encoding c.in_ok-groups.groups.items c.in_ok-groups.rest.now c.args.bytes.now _ c.in_ok-groups.ensures.lawful c.in_ok-groups.ensures.split refl
+
+pub returns-clause-only : goal.returns-clause-only
+returns-clause-only c ids n short encoding =
+    only_found c.in_ok-groups.groups.items c.in_ok-groups.rest.now c.args.bytes.now _ c.in_ok-groups.ensures.lawful c.in_ok-groups.ensures.split refl (omega arith) ids n short encoding
+
+pub returns-in_err-groups-clause-only : goal.returns-in_err-groups-clause-only
+returns-in_err-groups-clause-only c ids n short encoding =
+    let p = err_from_is_err_and c.from_residual.result c.from_residual.ensures.1 in
+    rw (p.1, p.2) (only_fault c.args.bytes.now _ c.in_err-groups.ensures.err (omega arith) ids n encoding)

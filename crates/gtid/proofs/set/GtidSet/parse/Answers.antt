@@ -1,0 +1,21 @@
+use Rattle.std.proofs.lemmas.Result.{err_from_is_err_and}
+use Rattle.gtid.proofs.Parsed.{is_read, only_read, written_fault, text_fault}
+use Rattle.gtid.proofs.set.GtidSet.parse.Goals as goal
+
+pub returns-in-Err-clause-fault : goal.returns-in-Err-clause-fault
+returns-in-Err-clause-fault c = text_fault c.args.text.now c.in-Err.offset (rw c.as_bytes-bytes.ensures.value at c.in-Err.ensures.err)
+
+pub returns-in_err-spans-clause-fault : goal.returns-in_err-spans-clause-fault
+returns-in_err-spans-clause-fault c =
+    let p = err_from_is_err_and c.from_residual.result c.from_residual.ensures.1 in
+    rw (p.1, p.2) (written_fault c.args.text.now c.in_err-spans.field-0.0 (rw c.as_bytes-bytes.ensures.value at c.in_default.ensures.ok) (rw c.as_bytes-bytes.ensures.value at c.in_err-spans.ensures.err))
+
+pub returns-clause-found : goal.returns-clause-found
+returns-clause-found c =
+    is_read c.args.text.now c.in_ok-spans.spans.items c.deref.result.now c.in_ok-groups.groups.items (rw c.as_bytes-bytes.ensures.value at c.in_default.ensures.ok)
+    (rw c.as_bytes-bytes.ensures.value at c.in_ok-spans.ensures.ok) c.deref.ensures.value c.in_ok-groups.ensures.ok
+
+pub returns-clause-only : goal.returns-clause-only
+returns-clause-only c =
+    only_read c.args.text.now c.in_ok-spans.spans.items c.deref.result.now c.in_ok-groups.groups.items (rw c.as_bytes-bytes.ensures.value at c.in_ok-spans.ensures.ok) c.deref.ensures.value
+    c.in_ok-groups.ensures.ok

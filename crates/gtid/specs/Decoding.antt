@@ -1,0 +1,27 @@
+-- Where the bytes of a set's parts are at fault.
+use Rattle.std.specs.Prelude.{◌≡◌, ℕ, ◌<◌, ◌^◌, ◌⊎◌, true, List, ◌++◌, length, Option, Some, flat_map}
+use Rattle.byteorder.specs.Endian.{little_bytes}
+use Rattle.gtid.specs.Encoding.{interval_bytes, interval_fault, is_above, source_fault, end_of, AreIntervals}
+use Rattle.gtid.specs.declared.fault.GtidFault.{GtidFault}
+
+-- Behind some lawful intervals, fewer than there are to be, the next one is at fault.
+pub record FaultsInIntervals (size : ℕ) (bytes : List ℕ) (fault : GtidFault) : Type 0 where
+  pub intervals : List (ℕ × ℕ)
+  pub rest : List ℕ
+  pub some : length intervals < size
+  pub so_far : AreIntervals 0 intervals
+  pub bytes_are : bytes ≡ flat_map interval_bytes intervals ++ rest
+  pub faulty : interval_fault (end_of intervals) rest ≡ Some fault
+
+-- The intervals of a source that is not at fault are.
+pub record FaultsInBlock (before : Option (List ℕ)) (bytes : List ℕ) (fault : GtidFault) : Type 0 where
+  pub source : List ℕ
+  pub size : ℕ
+  pub behind : List ℕ
+  pub above : (length source ≡ 16) × (is_above before source ≡ true)
+  pub fits : size < 2 ^ 64
+  pub bytes_are : bytes ≡ source ++ little_bytes 8 size ++ behind
+  pub faulty : FaultsInIntervals size behind fault
+
+abbrev pub IsBlockFault : Option (List ℕ) → List ℕ → GtidFault → Type 0
+IsBlockFault before bytes fault = (source_fault before bytes ≡ Some fault) ⊎ FaultsInBlock before bytes fault

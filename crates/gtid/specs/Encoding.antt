@@ -1,0 +1,139 @@
+-- A set of identifiers as bytes. MySQL Source Documentation, Replication Protocol, COM_BINLOG_DUMP_GTID (the field
+-- `data`). Numbers are eight bytes each, the lowest byte first; intervals end one past their last number.
+use Rattle.std.specs.Prelude.{◌≡◌, ℕ, ◌-◌, ◌<◌, ◌^◌, Bool, true, ◌||◌, not, List, [], ◌∷◌, ◌++◌, length, take, drop, map, nat_lt, nat_le, ◌==◌, if◌then◌else◌, Option, Some, None, option_map, find, flat_map}
+use Rattle.std.specs.List.{last_or}
+use Rattle.std.specs.Str.{bytes_eq}
+use Rattle.std.specs.Ordering.{is_lt, nat_cmp}
+use Rattle.std.specs.Cmp.Lexicographic.{slice_cmp}
+use Rattle.byteorder.specs.Endian.{little_bytes, little_number}
+use Rattle.gtid.specs.Identifier.{Ids}
+use Rattle.gtid.specs.Span.{IsLeastList}
+use Rattle.gtid.specs.declared.span.Span.{Span}
+use Rattle.gtid.specs.declared.fault.GtidFault.{GtidFault}
+use Rattle.gtid.specs.declared.fault.GtidFault.TheVariants.{Number, Interval, Truncated, Order}
+
+-- a source with its intervals (lo, hi): a block of the list
+pub record SidBlock : Type 0 where
+  pub source : List ℕ
+  pub intervals : List (ℕ × ℕ)
+
+abbrev pub join_block : Span → List SidBlock → List SidBlock
+join_block s [] = record { source = s.source; intervals = (s.lo, s.hi) ∷ [] } ∷ []
+join_block s (block ∷ blocks) =
+    if bytes_eq s.source block.source then record { source = block.source; intervals = (s.lo, s.hi) ∷ block.intervals } ∷ blocks
+    else record { source = s.source; intervals = (s.lo, s.hi) ∷ [] } ∷ (block ∷ blocks)
+
+-- the spans, neighbours of one source together
+abbrev pub grouped : List Span → List SidBlock
+grouped [] = []
+grouped (s ∷ spans) = join_block s (grouped spans)
+
+abbrev pub interval_bytes : ℕ × ℕ → List ℕ
+interval_bytes i = little_bytes 8 i.0 ++ little_bytes 8 i.1
+
+-- a source's 16 bytes, the number of its intervals, and these
+abbrev pub block_bytes : SidBlock → List ℕ
+block_bytes block = block.source ++ little_bytes 8 (length block.intervals) ++ flat_map interval_bytes block.intervals
+
+-- the number of sources, and these
+abbrev pub blocks_bytes : List SidBlock → List ℕ
+blocks_bytes blocks = little_bytes 8 (length blocks) ++ flat_map block_bytes blocks
+
+-- ---- The first fault of bytes that begin with no encoding, from left to right.
+
+-- the first line of a table of tests that holds
+abbrev pub first_fault : List (Bool × GtidFault) → Option GtidFault
+first_fault table = option_map (λ line. line.1) (find (λ line. line.0) table)
+
+-- what can be wrong with an interval behind one that ended at `after` (0 before the first)
+abbrev pub interval_fault : ℕ → List ℕ → Option GtidFault
+interval_fault after bytes =
+    let lo = little_number 8 bytes in
+    let hi = little_number 8 (drop 8 bytes) in
+    first_fault (
+    (nat_lt (length bytes) 16, Truncated)
+    ∷ ((lo == 0) || nat_lt (2 ^ 63 - 1) hi, Number)
+    ∷ (nat_le hi lo, Interval)
+    ∷ (nat_le lo after, Order)
+    ∷ [])
+
+-- the bytes are above those of the source before, where there is one
+abbrev pub is_above : Option (List ℕ) → List ℕ → Bool
+is_above None source = true
+is_above (Some before) source = is_lt (slice_cmp nat_cmp before source)
+
+-- what can be wrong with a source and the number of its intervals
+abbrev pub source_fault : Option (List ℕ) → List ℕ → Option GtidFault
+source_fault before bytes =
+    first_fault (
+    (nat_lt (length bytes) 16, Truncated)
+    ∷ (not (is_above before (take 16 bytes)), Order)
+    ∷ (nat_lt (length bytes) 24, Truncated)
+    ∷ (little_number 8 (drop 16 bytes) == 0, Interval)
+    ∷ [])
+
+-- where the last interval ended
+abbrev pub end_of : List (ℕ × ℕ) → ℕ
+end_of [] = 0
+end_of (i ∷ []) = i.1
+end_of (i ∷ j ∷ intervals) = end_of (j ∷ intervals)
+
+abbrev pub last_source : List SidBlock → Option (List ℕ)
+last_source blocks = last_or None (map (λ block. block.source) blocks)
+
+-- lawful intervals: in range, not empty, ascending with gaps
+abbrev pub AreIntervals : ℕ → List (ℕ × ℕ) → Type 0
+AreIntervals after [] = Unit {0}
+AreIntervals after (i ∷ intervals) = (after < i.0) × (i.0 < i.1) × (i.1 < 2 ^ 63) × AreIntervals i.1 intervals
+
+-- lawful blocks: ascending sources of 16 bytes, each with one interval or more
+abbrev pub AreBlocks : Option (List ℕ) → List SidBlock → Type 0
+AreBlocks before [] = Unit {0}
+AreBlocks before (block ∷ blocks) =
+    (length block.source ≡ 16) × (is_above before block.source ≡ true) × (0 < length block.intervals) × (length block.intervals < 2 ^ 64)
+    × AreIntervals 0 block.intervals × AreBlocks (Some block.source) blocks
+
+-- The bytes encode the set: they are its least intervals, and these are lawful.
+pub record IsEncoding (ids : Ids) (bytes : List ℕ) : Type 0 where
+  pub spans : List Span
+  pub least : IsLeastList spans ids
+  pub lawful : AreBlocks None (grouped spans)
+  pub spelled : bytes ≡ blocks_bytes (grouped spans)
+
+-- An encoding of the set stands behind the old bytes.
+pub record AppendsEncoding (ids : Ids) (old new : List ℕ) : Type 0 where
+  pub bytes : List ℕ
+  pub encodes : IsEncoding ids bytes
+  pub appended : new ≡ old ++ bytes
+
+-- Behind some lawful sources, fewer than the first number says, the next one is at fault.
+pub record FaultsAtSource (bytes : List ℕ) (fault : GtidFault) : Type 0 where
+  pub count : ℕ
+  pub blocks : List SidBlock
+  pub rest : List ℕ
+  pub lawful : AreBlocks None blocks
+  pub counted : (length blocks < count) × (count < 2 ^ 64)
+  pub bytes_are : bytes ≡ little_bytes 8 count ++ flat_map block_bytes blocks ++ rest
+  pub faulty : source_fault (last_source blocks) rest ≡ Some fault
+
+-- The same, and in a source that is not at fault, behind some lawful intervals, the next interval is.
+pub record FaultsAtInterval (bytes : List ℕ) (fault : GtidFault) : Type 0 where
+  pub count : ℕ
+  pub blocks : List SidBlock
+  pub source : List ℕ
+  pub size : ℕ
+  pub intervals : List (ℕ × ℕ)
+  pub rest : List ℕ
+  pub lawful : AreBlocks None blocks
+  pub counted : (length blocks < count) × (count < 2 ^ 64)
+  pub above : (length source ≡ 16) × (is_above (last_source blocks) source ≡ true)
+  pub some : (length intervals < size) × (size < 2 ^ 64)
+  pub so_far : AreIntervals 0 intervals
+  pub bytes_are : bytes ≡ little_bytes 8 count ++ flat_map block_bytes blocks ++ source ++ little_bytes 8 size ++ flat_map interval_bytes intervals ++ rest
+  pub faulty : interval_fault (end_of intervals) rest ≡ Some fault
+
+-- the first fault of the bytes
+pub data IsDecodeFault (bytes : List ℕ) : GtidFault → Type 0 where
+  no_count : length bytes < 8 → IsDecodeFault bytes Truncated
+  at_source : (fault : GtidFault) → FaultsAtSource bytes fault → IsDecodeFault bytes fault
+  at_interval : (fault : GtidFault) → FaultsAtInterval bytes fault → IsDecodeFault bytes fault

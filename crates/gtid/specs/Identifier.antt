@@ -1,0 +1,32 @@
+-- Global transaction identifiers, and the plain sets of them. MySQL Reference Manual, "GTID Format and Storage".
+use Rattle.std.specs.Prelude.{ℕ, Bool, ◌&&◌, nat_eq, List}
+use Rattle.std.specs.Str.{bytes_eq}
+use Rattle.std.specs.declared.cmp.Ordering.{Ordering}
+use Rattle.std.specs.Ordering.{nat_cmp, ordering_then}
+use Rattle.std.specs.Cmp.Lexicographic.{slice_cmp}
+use Rattle.std.specs.FinSet as set
+use Rattle.std.specs.Coded.{Coded, coded_list, coded_ℕ, coded×}
+use Rattle.gtid.specs.declared.identifier.Gtid.{Gtid}
+
+-- a source's 16 bytes, and a number
+abbrev pub Id : Type 0
+Id = List ℕ × ℕ
+
+-- identifiers by source bytes, and then by number
+abbrev pub id_cmp : Id → Id → Ordering
+id_cmp a b = ordering_then (slice_cmp nat_cmp a.0 b.0) (nat_cmp a.1 b.1)
+
+-- a plain set of identifiers
+abbrev pub Ids : Type 0
+Ids = set.FinSet id_cmp
+
+abbrev pub ids_code : Coded Ids
+ids_code = set.code (coded× (coded_list coded_ℕ) coded_ℕ)
+
+-- the identifier that a value of `Gtid` stands for
+abbrev pub id : Gtid → Id
+id g = (g.source, g.number)
+
+-- whether two identifiers are one
+abbrev pub is_one : Id → Id → Bool
+is_one a b = bytes_eq a.0 b.0 && nat_eq a.1 b.1

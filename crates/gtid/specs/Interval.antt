@@ -1,0 +1,26 @@
+-- The numbers of one source as intervals. MySQL Reference Manual, "GTID Format and Storage" (GTID sets); MySQL Source
+-- Documentation, Replication Protocol, COM_BINLOG_DUMP_GTID, whose intervals end one past their last number.
+use Rattle.std.specs.Prelude.{ℕ, ◌<◌, ◌^◌, ◌&&◌, Bool, List, [], ◌∷◌, nat_le, nat_lt}
+use Rattle.std.specs.List.{list_any}
+use Rattle.std.proofs.Props.{props}
+use Rattle.gtid.specs.declared.interval.Interval.{Interval}
+
+-- whether the number is in the interval
+abbrev pub is_within : ℕ → Interval → Bool
+is_within n i = nat_le i.lo n && nat_lt n i.hi
+
+-- whether the number is in one of the intervals
+abbrev pub has : List Interval → ℕ → Bool
+has intervals n = list_any (is_within n) intervals
+
+-- The intervals ascend, with a gap before each, and none is empty. What is before the first ends here. No number is above 2^63 - 2.
+abbrev pub AreLeast : ℕ → List Interval → Type 0
+AreLeast end [] = Unit {0}
+AreLeast end (i ∷ intervals) = (end < i.lo) × (i.lo < i.hi) × (i.hi < 2 ^ 63) × AreLeast i.hi intervals
+
+below-prop : {a b : ℕ} → IsProp (a < b)
+below-prop = Prim.hlevel props
+
+pub AreLeast-prop : (end : ℕ) (intervals : List Interval) → IsProp (AreLeast end intervals)
+AreLeast-prop end [] = Prim.hlevel props
+AreLeast-prop end (i ∷ intervals) = λ a b. λ k. (below-prop a.0 b.0 k, below-prop a.1 b.1 k, below-prop a.2 b.2 k, AreLeast-prop i.hi intervals a.3 b.3 k)

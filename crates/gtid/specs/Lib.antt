@@ -1,0 +1,13 @@
+pub mod Identifier
+pub mod Interval
+pub mod Combination
+pub mod Merged
+pub mod Group
+pub mod Span
+pub mod Spans
+pub mod Encoding
+pub mod Decoding
+pub mod Blocks
+pub mod Text
+pub mod Scan
+pub mod Reading

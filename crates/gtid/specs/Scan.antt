@@ -1,0 +1,59 @@
+-- How a text is scanned: what was read last, and what may stand next. The steps of `scan` are said in these words, and `scan` itself in those of the grammar alone.
+use Rattle.std.specs.Prelude.{ℕ, ◌+◌, ◌≤◌, ◌==◌, ◌||◌, ◌&&◌, Bool, true, false, nat_le, Option, Some, None, if◌then◌else◌}
+use Rattle.uuid.specs.Text.{is_hex_digit, is_hyphen_place}
+use Rattle.gtid.specs.declared.grammar.State.{State}
+use Rattle.gtid.specs.declared.grammar.State.TheVariants.{Start, Item, Source, First, Lo, Second, Hi, Behind}
+
+abbrev pub is_blank : ℕ → Bool
+is_blank b = (b == 0x20) || (b == 0x0A) || (b == 0x0D)
+
+abbrev pub is_digit : ℕ → Bool
+is_digit b = nat_le 48 b && nat_le b 57
+
+-- whether a byte may stand at a place of a hyphenated UUID
+abbrev pub stands_at : ℕ → ℕ → Bool
+stands_at place b = if is_hyphen_place place then b == 45 else is_hex_digit b
+
+-- before an item
+abbrev pub begin : State → ℕ → Option State
+begin state b = if is_hex_digit b then Some (Source 1) else if is_blank b then Some state else None
+
+-- behind a number that may be an item's last, at no digit
+abbrev pub end_number : ℕ → Option State
+end_number b = if b == 58 then Some First else if is_blank b then Some Behind else if b == 44 then Some Item else None
+
+-- where a byte leads, if it may stand next
+abbrev pub step : State → ℕ → Option State
+step Start b = begin Start b
+step Item b = begin Item b
+step (Source place) b =
+    if place == 36 then (if b == 58 then Some First else None)
+    else if stands_at place b then Some (Source (place + 1))
+    else None
+step First b = if is_digit b then Some Lo else None
+step Lo b = if is_digit b then Some Lo else if b == 45 then Some Second else end_number b
+step Second b = if is_digit b then Some Hi else None
+step Hi b = if is_digit b then Some Hi else end_number b
+step Behind b = if is_blank b then Some Behind else if b == 44 then Some Item else None
+
+-- whether the text may end there
+abbrev pub ends : State → Bool
+ends Start = true
+ends Item = false
+ends (Source place) = false
+ends First = false
+ends Lo = true
+ends Second = false
+ends Hi = true
+ends Behind = true
+
+-- No more of a UUID than it has was read.
+abbrev pub IsPlaced : State → Type 0
+IsPlaced Start = Unit {0}
+IsPlaced Item = Unit {0}
+IsPlaced (Source place) = place ≤ 36
+IsPlaced First = Unit {0}
+IsPlaced Lo = Unit {0}
+IsPlaced Second = Unit {0}
+IsPlaced Hi = Unit {0}
+IsPlaced Behind = Unit {0}

@@ -1,0 +1,47 @@
+//! Sets as bytes.
+
+ghost use Rattle.std.specs.Prelude.{◌≡◌, ◌++◌, OnOk, OnErr, Err};
+ghost use Rattle.gtid.specs.Encoding.{interval_bytes, block_bytes, blocks_bytes};
+ghost use Rattle.gtid.specs.Blocks.{pair, of_group, blocks, Grows};
+
+use crate::fault::GtidFault;
+use crate::group::Group;
+use crate::interval::Interval;
+
+/// Appends the number of sources, and each of them.
+pub(crate) fn write_groups(groups: &[Group], out: &mut Vec<u8>) -> Result<(), GtidFault>
+    ensures ok { OnOk result (out.new.items ≡ out.old.items ++ blocks_bytes (blocks groups.now)) }
+    ensures err { OnErr result (result ≡ Err GtidFault.Memory) }
+    ensures grows { Grows out.old.items out.new.items }
+{
+    out.extend_from_slice(&(groups.len() as u64).to_le_bytes())?;
+    for group in groups {
+        write_group(group, out)?;
+    }
+    Ok(())
+}
+
+/// Appends a source, the number of its intervals, and these.
+fn write_group(group: &Group, out: &mut Vec<u8>) -> Result<(), GtidFault>
+    ensures ok { OnOk result (out.new.items ≡ out.old.items ++ block_bytes (of_group group.now)) }
+    ensures err { OnErr result (result ≡ Err GtidFault.Memory) }
+    ensures grows { Grows out.old.items out.new.items }
+{
+    out.extend_from_slice(&group.source)?;
+    out.extend_from_slice(&(group.intervals.len() as u64).to_le_bytes())?;
+    for interval in &group.intervals {
+        write_interval(*interval, out)?;
+    }
+    Ok(())
+}
+
+/// Appends where an interval begins, and where it ends.
+fn write_interval(interval: Interval, out: &mut Vec<u8>) -> Result<(), GtidFault>
+    ensures ok { OnOk result (out.new.items ≡ out.old.items ++ interval_bytes (pair interval)) }
+    ensures err { OnErr result (result ≡ Err GtidFault.Memory) }
+    ensures grows { Grows out.old.items out.new.items }
+{
+    out.extend_from_slice(&interval.lo.to_le_bytes())?;
+    out.extend_from_slice(&interval.hi.to_le_bytes())?;
+    Ok(())
+}

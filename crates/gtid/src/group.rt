@@ -1,0 +1,46 @@
+//! The identifiers of one source.
+
+ghost use Rattle.std.specs.Prelude.{◌≡◌, ◌≢◌, ℕ, length, ◌≤◌, ◌-◌, ◌^◌, ◌||◌, true, false, not, nat_eq, [], IfOk, IfErr, OnOk, OnErr, Ok, Err};
+ghost use Rattle.gtid.specs.Interval.{has, AreLeast, AreLeast-prop};
+
+use crate::fault::GtidFault;
+use crate::identifier::Gtid;
+use crate::interval;
+use crate::interval::Interval;
+use std::alloc::Global;
+
+/// The numbers of one source, of which there is one or more.
+#[derive(Debug, Drop)]
+pub(crate) struct Group {
+    pub(crate) source: [u8; 16],
+    pub(crate) intervals: Vec<Interval>,
+    ghost long: { length source ≡ 16 },
+    ghost least: { AreLeast 0 intervals.items } by { AreLeast-prop 0 intervals.items },
+    ghost some: { intervals.items ≢ [] },
+}
+
+impl Group {
+    /// The group of one identifier. The only refusal is `Memory`.
+    pub(crate) fn of(alloc: Global, gtid: Gtid) -> Result<Group, GtidFault>
+        ensures source { IfOk result (λ group. group.source ≡ gtid.source) }
+        ensures numbers { IfOk result (λ group. (n : ℕ) → has group.intervals.items n ≡ nat_eq n gtid.number) }
+        ensures err { IfErr result (λ fault. fault ≡ GtidFault.Memory) }
+    {
+        let mut intervals = Vec::new(alloc);
+        interval::insert(&mut intervals, gtid.number)?;
+        let source = gtid.source;
+        Ok(Group { source, intervals })
+    }
+
+    /// Adds a number, and says whether it is new. The only refusal is `Memory`, where it is.
+    pub(crate) fn insert(&mut self, number: u64) -> Result<bool, GtidFault>
+        requires { (1 ≤ number) × (number ≤ 2 ^ 63 - 2) }
+        ensures source { self.new.source ≡ self.old.source }
+        ensures answer { IfOk result (λ new. new ≡ not (has self.old.intervals.items number)) }
+        ensures ok { OnOk result ((n : ℕ) → has self.new.intervals.items n ≡ (nat_eq n number || has self.old.intervals.items n)) }
+        ensures there { has self.old.intervals.items number ≡ true → result ≡ Ok false }
+        ensures err { OnErr result ((result ≡ Err GtidFault.Memory) × (self.new.intervals.items ≡ self.old.intervals.items)) }
+    {
+        interval::insert(&mut self.intervals, number)
+    }
+}

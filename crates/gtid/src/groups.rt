@@ -1,0 +1,123 @@
+//! The groups of a set, in the order of their sources' bytes.
+
+ghost use Rattle.std.specs.Prelude.{◌≡◌, ℕ, ◌≤◌, ◌⊎◌, ◌↔◌, ◌||◌, [], ◌∷◌, true, false, not, length, take, drop, IsTrue, OnOk, OnErr, Ok, Err, IfOk, IfErr, IfSome, IfNone};
+ghost use Rattle.gtid.specs.Identifier.{Id, id, is_one};
+ghost use Rattle.gtid.specs.Interval.{has, AreLeast};
+ghost use Rattle.gtid.specs.Combination.{keeps};
+ghost use Rattle.gtid.specs.Group.{Ascend, sources, is_listed, IsNext, IsNoHigher, Splits, AreBelow, IsAt, IsGap};
+
+use crate::combination::{Combination, combine};
+use crate::fault::GtidFault;
+use crate::group::Group;
+use crate::identifier::Gtid;
+use crate::interval::{Interval, is_subset};
+use std::alloc::Global;
+use std::cmp::Ordering;
+
+/// The lowest source in two lists of groups.
+fn lowest(left: &[Group], right: &[Group]) -> Option<[u8; 16]>
+    ensures none { IfNone result ((left.now ≡ []) × (right.now ≡ [])) }
+    ensures some { IfSome result (λ source. (IsNext source left.now × IsNoHigher source right.now) ⊎ (IsNoHigher source left.now × IsNext source right.now)) }
+{
+    match (left, right) {
+        ([], []) => None,
+        ([group, ..], []) | ([], [group, ..]) => Some(group.source),
+        ([a, ..], [b, ..]) => match a.source.cmp(&b.source) {
+            Ordering::Greater => Some(b.source),
+            _ => Some(a.source),
+        },
+    }
+}
+
+/// The intervals of a source that none of the groups is below, and the groups behind it.
+fn split<'a>(groups: &'a [Group], source: &[u8; 16]) -> (&'a [Interval], &'a [Group])
+    ensures { Splits groups.now source.now result.0.now result.1.now }
+{
+    match groups {
+        [first, rest @ ..] if first.source == *source => (first.intervals.as_slice(), rest),
+        _ => (&[], groups),
+    }
+}
+
+/// Where the group of a source is, or where it would go.
+fn find(groups: &[Group], source: &[u8; 16]) -> Result<usize, usize>
+    requires { Ascend (sources groups.now) }
+    ensures found { IfOk result (IsAt source.now groups.now) }
+    ensures absent { IfErr result (IsGap source.now groups.now) }
+{
+    groups.binary_search_by(|group| group.source.cmp(source))
+}
+
+/// The intervals of a source, none where it has no group.
+pub(crate) fn intervals_of<'a>(groups: &'a [Group], source: &[u8; 16]) -> &'a [Interval]
+    requires { Ascend (sources groups.now) }
+    ensures least { AreLeast 0 result.now }
+    ensures listed { (n : ℕ) → has result.now n ≡ is_listed (source.now, n) groups.now }
+{
+    match find(groups, source) {
+        Ok(at) => &groups[at].intervals,
+        Err(_) => &[],
+    }
+}
+
+/// Whether each identifier of the first is one of the second.
+pub(crate) fn are_subset(groups: &[Group], of: &[Group]) -> bool
+    requires groups { Ascend (sources groups.now) }
+    requires of { Ascend (sources of.now) }
+    ensures { IsTrue result ↔ ((q : Id) → is_listed q groups.now ≡ true → is_listed q of.now ≡ true) }
+{
+    for group in groups {
+        if !is_subset(&group.intervals, intervals_of(of, &group.source)) {
+            return false;
+        }
+    }
+    true
+}
+
+/// Adds an identifier, and says whether it is new. The only refusal is `Memory`, where it is.
+pub(crate) fn insert(groups: &mut Vec<Group>, gtid: Gtid) -> Result<bool, GtidFault>
+    requires ascend { Ascend (sources groups.old.items) }
+    ensures ascend { Ascend (sources groups.new.items) }
+    ensures answer { IfOk result (λ new. new ≡ not (is_listed (id gtid) groups.old.items)) }
+    ensures ok { OnOk result ((q : Id) → is_listed q groups.new.items ≡ (is_one q (id gtid) || is_listed q groups.old.items)) }
+    ensures there { is_listed (id gtid) groups.old.items ≡ true → result ≡ Ok false }
+    ensures err { OnErr result ((result ≡ Err GtidFault.Memory) × ((q : Id) → is_listed q groups.new.items ≡ is_listed q groups.old.items)) }
+{
+    match find(groups, &gtid.source) {
+        Ok(at) => groups[at].insert(gtid.number),
+        Err(at) => {
+            let group = Group::of(*groups.allocator(), gtid)?;
+            groups.insert(at, group)?;
+            Ok(true)
+        }
+    }
+}
+
+/// The groups of the identifiers that are kept, in one pass over both lists.
+pub(crate) fn combine_groups(
+    alloc: Global,
+    combination: Combination,
+    left: &[Group],
+    right: &[Group],
+) -> Result<Vec<Group>, GtidFault>
+    requires left { Ascend (sources left.now) }
+    requires right { Ascend (sources right.now) }
+    ensures ascend { IfOk result (λ combined. Ascend (sources combined.items)) }
+    ensures ok { IfOk result (λ combined. (q : Id) → is_listed q combined.items ≡ keeps combination (is_listed q left.now) (is_listed q right.now)) }
+    ensures err { IfErr result (λ fault. fault ≡ GtidFault.Memory) }
+{
+    let mut combined = Vec::new(alloc);
+    let (mut left, mut right) = (left, right);
+    while let Some(source) = lowest(left, right) {
+        let (of_left, left_rest) = split(left, &source);
+        let (of_right, right_rest) = split(right, &source);
+        let intervals = combine(alloc, combination, of_left, of_right)?;
+        left = left_rest;
+        right = right_rest;
+        if intervals.is_empty() {
+            continue;
+        }
+        combined.push(Group { source, intervals })?;
+    }
+    Ok(combined)
+}

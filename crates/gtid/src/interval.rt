@@ -1,0 +1,129 @@
+//! The numbers of one source, as intervals.
+
+ghost use Rattle.std.specs.Prelude.{◌≡◌, ℕ, ◌≤◌, ◌<◌, ◌-◌, ◌^◌, ◌||◌, ◌↔◌, true, false, not, nat_eq, length, slice_index_or, vec_len, IsTrue, IfOk, OnOk, OnErr, Ok, Err};
+ghost use Rattle.std.specs.List.{AllWithin};
+ghost use Rattle.gtid.specs.Interval.{has, is_within, AreLeast};
+ghost use Rattle.gtid.specs.declared.interval.Interval.{Interval};
+
+use crate::fault::GtidFault;
+
+/// The numbers from `lo` up to, but without, `hi`.
+#[derive(Clone, Copy, Debug, PartialEq, Eq)]
+pub(crate) struct Interval {
+    pub(crate) lo: u64,
+    pub(crate) hi: u64,
+}
+
+/// Whether a number is in one of the intervals.
+pub(crate) fn contains(intervals: &[Interval], number: u64) -> bool
+    requires { AreLeast 0 intervals.now }
+    ensures { result ≡ has intervals.now number }
+{
+    let at = intervals.partition_point(|interval| interval.hi <= number);
+    match intervals.get(at) {
+        Some(next) => next.lo <= number,
+        None => false,
+    }
+}
+
+/// Whether each number of the first is in the second.
+pub(crate) fn is_subset(intervals: &[Interval], of: &[Interval]) -> bool
+    requires intervals { AreLeast 0 intervals.now }
+    requires of { AreLeast 0 of.now }
+    ensures { IsTrue result ↔ ((n : ℕ) → has intervals.now n ≡ true → has of.now n ≡ true) }
+{
+    for interval in intervals {
+        if !lies_in(*interval, of) {
+            return false;
+        }
+    }
+    true
+}
+
+/// Whether each number of an interval is in the others.
+fn lies_in(interval: Interval, of: &[Interval]) -> bool
+    requires some { interval.lo < interval.hi }
+    requires of { AreLeast 0 of.now }
+    ensures { IsTrue result ↔ ((n : ℕ) → is_within n interval ≡ true → has of.now n ≡ true) }
+{
+    let at = of.partition_point(|other| other.hi < interval.hi);
+    match of.get(at) {
+        Some(other) => other.lo <= interval.lo,
+        None => false,
+    }
+}
+
+/// Adds a number, and says whether it is new. The only refusal is `Memory`, where it is.
+pub(crate) fn insert(intervals: &mut Vec<Interval>, number: u64) -> Result<bool, GtidFault>
+    requires least { AreLeast 0 intervals.old.items }
+    requires number { (1 ≤ number) × (number ≤ 2 ^ 63 - 2) }
+    ensures least { AreLeast 0 intervals.new.items }
+    ensures answer { IfOk result (λ new. new ≡ not (has intervals.old.items number)) }
+    ensures ok { OnOk result ((n : ℕ) → has intervals.new.items n ≡ (nat_eq n number || has intervals.old.items n)) }
+    ensures there { has intervals.old.items number ≡ true → result ≡ Ok false }
+    ensures err { OnErr result ((result ≡ Err GtidFault.Memory) × (intervals.new.items ≡ intervals.old.items)) }
+{
+    let at = place(intervals, number);
+    let alone = Interval {
+        lo: number,
+        hi: number + 1,
+    };
+    match intervals.get(at).copied() {
+        None => {
+            intervals.push(alone)?;
+            Ok(true)
+        }
+        Some(next) if next.hi == number => {
+            extend(intervals, at, number);
+            Ok(true)
+        }
+        Some(next) if next.lo <= number => Ok(false),
+        Some(next) if next.lo == number + 1 => {
+            intervals[at].lo = number;
+            Ok(true)
+        }
+        Some(_) => {
+            intervals.insert(at, alone)?;
+            Ok(true)
+        }
+    }
+}
+
+/// How many intervals end before the number. The last is looked at first: numbers mostly come in order.
+fn place(intervals: &[Interval], number: u64) -> usize
+    requires { AreLeast 0 intervals.now }
+    ensures within { result ≤ length intervals.now }
+    ensures before { AllWithin (λ i. i.hi < number) intervals.now 0 result }
+    ensures behind { AllWithin (λ i. number ≤ i.hi) intervals.now result (length intervals.now) }
+{
+    let Some(last) = intervals.last() else {
+        return 0;
+    };
+    if last.hi < number {
+        intervals.len()
+    } else if last.lo <= number {
+        intervals.len() - 1
+    } else {
+        intervals.partition_point(|interval| interval.hi < number)
+    }
+}
+
+/// Adds the number that an interval ends before, and joins the interval with the next where they now touch.
+fn extend(intervals: &mut Vec<Interval>, at: usize, number: u64)
+    requires least { AreLeast 0 intervals.old.items }
+    requires number { number ≤ 2 ^ 63 - 2 }
+    requires within { at < vec_len intervals.old }
+    requires end { (d : Interval) → (slice_index_or intervals.old.items at d).hi ≡ number }
+    ensures least { AreLeast 0 intervals.new.items }
+    ensures new { has intervals.old.items number ≡ false }
+    ensures adds { (n : ℕ) → has intervals.new.items n ≡ (nat_eq n number || has intervals.old.items n) }
+{
+    let joined = match intervals.get(at + 1).copied() {
+        Some(following) if following.lo == number + 1 => {
+            intervals.remove(at + 1);
+            following.hi
+        }
+        _ => number + 1,
+    };
+    intervals[at].hi = joined;
+}

@@ -1,0 +1,191 @@
+//! Sets of identifiers.
+
+ghost use Rattle.std.specs.Prelude.{◌≡◌, ℕ, ◌≤◌, ◌⊎◌, true, false, not, length, take, string_bytes, MatchResult, IfOk, OnOk, IfErr, OnErr, Ok, Err};
+ghost use Rattle.std.specs.FinSet as set;
+ghost use Rattle.gtid.specs.Identifier.{Ids, id};
+ghost use Rattle.gtid.specs.Span.{IsLeastList};
+ghost use Rattle.gtid.specs.Encoding.{IsEncoding, IsDecodeFault, AppendsEncoding};
+ghost use Rattle.gtid.specs.Text.{IsRead, IsParseFault, AppendsText};
+
+use crate::combination::Combination;
+use crate::decoding::read_groups;
+use crate::encoding::write_groups;
+use crate::fault::GtidFault;
+use crate::gathering::gather;
+use crate::grammar::scan;
+use crate::group::Group;
+use crate::groups::{are_subset, combine_groups, insert, intervals_of};
+use crate::identifier::Gtid;
+use crate::interval;
+use crate::reading::read_spans;
+use crate::spans::Spans;
+use crate::text::print_groups;
+use std::alloc::Global;
+use std::marker::Model;
+
+/// A set of identifiers.
+///
+/// It keeps the least intervals of each source, the sources in the order of their bytes.
+#[derive(Debug, Drop)]
+pub struct GtidSet {
+    groups: Vec<Group>,
+}
+
+impl Model for GtidSet {
+    ghost use Rattle.gtid.specs.Identifier.{Ids, ids_code};
+
+    ghost Value = { Ids };
+
+    ghost coded = { ids_code };
+
+    ghost use Rattle.gtid.specs.Group.{ids_of, Ascend, sources};
+
+    ghost view = { λ s. ids_of s.groups.items };
+
+    ghost invariant = { λ s. Ascend (sources s.groups.items) };
+}
+
+impl GtidSet {
+    /// The empty set.
+    pub fn new(alloc: Global) -> GtidSet
+        ensures { result ≡ set.empty }
+    {
+        GtidSet {
+            groups: Vec::new(alloc),
+        }
+    }
+
+    /// Whether an identifier is in the set.
+    pub fn contains(&self, gtid: Gtid) -> bool
+        ensures { result ≡ set.contains self.now (id gtid) }
+    {
+        interval::contains(intervals_of(&self.groups, &gtid.source), gtid.number)
+    }
+
+    /// Whether each identifier of the set is in the other.
+    pub fn is_subset(&self, other: &GtidSet) -> bool
+        ensures { result ≡ set.is_subset self.now other.now }
+    {
+        are_subset(&self.groups, &other.groups)
+    }
+
+    /// Adds an identifier, and says whether it is new. The only refusal is `Memory`, where it is; it leaves the
+    /// set as it was.
+    pub fn insert(&mut self, gtid: Gtid) -> Result<bool, GtidFault>
+        ensures ok { IfOk result (λ new. (new ≡ not (set.contains self.old (id gtid))) × (self.new ≡ set.insert self.old (id gtid))) }
+        ensures there { set.contains self.old (id gtid) ≡ true → result ≡ Ok false }
+        ensures err { OnErr result ((result ≡ Err GtidFault.Memory) × (self.new ≡ self.old)) }
+    {
+        insert(&mut self.groups, gtid)
+    }
+
+    /// Adds what is in the other set. The only refusal is `Memory`, which leaves the set as it was.
+    pub fn union(&mut self, other: &GtidSet) -> Result<(), GtidFault>
+        ensures ok { OnOk result (self.new ≡ set.union self.old other.now) }
+        ensures err { OnErr result ((result ≡ Err GtidFault.Memory) × (self.new ≡ self.old)) }
+    {
+        let alloc = *self.groups.allocator();
+        self.groups = combine_groups(alloc, Combination::Union, &self.groups, &other.groups)?;
+        Ok(())
+    }
+
+    /// Takes away what is in the other set. The only refusal is `Memory`, which leaves the set as it was.
+    pub fn subtract(&mut self, other: &GtidSet) -> Result<(), GtidFault>
+        ensures ok { OnOk result (self.new ≡ set.difference self.old other.now) }
+        ensures err { OnErr result ((result ≡ Err GtidFault.Memory) × (self.new ≡ self.old)) }
+    {
+        let alloc = *self.groups.allocator();
+        self.groups = combine_groups(alloc, Combination::Difference, &self.groups, &other.groups)?;
+        Ok(())
+    }
+
+    /// The same set again. The only refusal is `Memory`.
+    pub fn copy(&self) -> Result<GtidSet, GtidFault>
+        ensures ok { IfOk result (λ copied. copied ≡ self.now) }
+        ensures err { IfErr result (λ fault. fault ≡ GtidFault.Memory) }
+    {
+        let alloc = *self.groups.allocator();
+        let groups = combine_groups(alloc, Combination::Union, &self.groups, &[])?;
+        Ok(GtidSet { groups })
+    }
+
+    /// The least intervals of the set, in order.
+    pub fn spans(&self) -> Spans<'_>
+        ensures { IsLeastList result self.now }
+    {
+        Spans::new(&self.groups)
+    }
+
+    /// Appends the set as the data of COM_BINLOG_DUMP_GTID: the number of sources, and for each its 16 bytes, the
+    /// number of its intervals, and these. The only refusal is `Memory`, which leaves the vector as it was.
+    pub fn encode(&self, out: &mut Vec<u8>) -> Result<(), GtidFault>
+        ensures ok { OnOk result (AppendsEncoding self.now out.old.items out.new.items) }
+        ensures err { OnErr result ((result ≡ Err GtidFault.Memory) × (out.new.items ≡ out.old.items)) }
+    {
+        let len = out.len();
+        let written = write_groups(&self.groups, out);
+        if written.is_err() {
+            out.truncate(len);
+        }
+        written
+    }
+
+    /// The set at the front of the bytes, and the number of bytes that it takes.
+    ///
+    /// The faults, of which it tells the first from left to right:
+    /// - `Truncated` where the bytes end early.
+    /// - `Order` where a source is not above the one before, or an interval does not begin above the end of the
+    ///   one before.
+    /// - `Interval` where a source has no interval, or an interval no number.
+    /// - `Number` where an interval begins at 0 or ends above 2^63 - 1.
+    /// - `Memory` where an allocation was refused.
+    ///
+    /// Of one interval it tells `Number` before `Interval`, and that before `Order`.
+    pub fn decode(alloc: Global, bytes: &[u8]) -> Result<(GtidSet, usize), GtidFault>
+        ensures length { IfOk result (λ found. found.1 ≤ length bytes.now) }
+        ensures found { IfOk result (λ found. IsEncoding found.0 (take found.1 bytes.now)) }
+        ensures fault { IfErr result (λ fault. (fault ≡ GtidFault.Memory) ⊎ IsDecodeFault bytes.now fault) }
+        ensures only { (ids : Ids) (n : ℕ) → n ≤ length bytes.now → IsEncoding ids (take n bytes.now) → MatchResult result (λ found. found ≡ (ids, n)) (λ fault. fault ≡ GtidFault.Memory) }
+    {
+        let (groups, rest) = read_groups(alloc, bytes)?;
+        let used = bytes.len() - rest.len();
+        Ok((GtidSet { groups }, used))
+    }
+
+    /// The set that a text stands for: empty or blanks alone, or items with commas between, each a hyphenated UUID in
+    /// either case and one interval or more, `:n` or `:n-m`, with spaces, line feeds and carriage returns before and
+    /// behind it. Items may come in any order, and intervals may overlap.
+    ///
+    /// The faults, of which it tells the first:
+    /// - `Text` where the text is no such text, with the length of its longest beginning that begins one.
+    /// - `Number` or `Interval` where the first interval that is wrong has a number outside 1 to 2^63 - 2, or else a
+    ///   second number below the first.
+    /// - `Memory` where an allocation was refused.
+    pub fn parse(alloc: Global, text: &str) -> Result<GtidSet, GtidFault>
+        ensures found { IfOk result (IsRead text.now) }
+        ensures fault { IfErr result (λ fault. (fault ≡ GtidFault.Memory) ⊎ IsParseFault text.now fault) }
+        ensures only { (ids : Ids) → IsRead text.now ids → MatchResult result (λ read. read ≡ ids) (λ fault. fault ≡ GtidFault.Memory) }
+    {
+        let bytes = text.as_bytes();
+        if let Err(offset) = scan(bytes) {
+            return Err(GtidFault::Text(offset));
+        }
+        let spans = read_spans(alloc, bytes)?;
+        let groups = gather(alloc, &spans)?;
+        Ok(GtidSet { groups })
+    }
+
+    /// Appends the text of the set: sources in lower case, ascending by their bytes, each with its least intervals, a
+    /// single number as `n`, and commas between. The only refusal is `Memory`, which leaves the text as it was.
+    pub fn print(&self, out: &mut String) -> Result<(), GtidFault>
+        ensures ok { OnOk result (AppendsText self.now (string_bytes out.old) (string_bytes out.new)) }
+        ensures err { OnErr result ((result ≡ Err GtidFault.Memory) × (string_bytes out.new ≡ string_bytes out.old)) }
+    {
+        let start = out.len();
+        let printed = print_groups(&self.groups, out);
+        if printed.is_err() {
+            out.truncate(start);
+        }
+        printed
+    }
+}

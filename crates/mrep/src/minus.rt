@@ -1,0 +1,52 @@
+//! `mrep minus`: a GTID set without another.
+
+ghost use Rattle.std.specs.Prelude.{◌≡◌, ◌≤◌, [], string_bytes, IfOk};
+ghost use Rattle.std.specs.FinSet as set;
+ghost use Rattle.gtid.specs.Identifier.{Ids};
+ghost use Rattle.gtid.specs.Text.{IsRead, AppendsText};
+
+use crate::failure::{DONE, Failure};
+use gtid::{GtidFault, GtidSet};
+use std::alloc::Global;
+use std::io::Write;
+
+/// Prints a set without another, both given as texts.
+pub fn minus<'a, R: AllocGlobal, W: Write>(
+    rt: &R,
+    left: &str,
+    right: &str,
+    out: &mut W,
+) -> Result<u8, Failure<'a>>
+    ensures { IfOk result (λ status. status ≡ DONE) }
+{
+    let text = difference(rt.alloc(), left, right)?;
+    writeln!(out, "{text}")?;
+    Ok(DONE)
+}
+
+/// The text of a set without another.
+fn difference<'a>(alloc: Global, left: &str, right: &str) -> Result<String, Failure<'a>>
+    ensures { IfOk result (λ text. (x y : Ids) → IsRead left.now x → IsRead right.now y → AppendsText (set.difference x y) [] (string_bytes text)) }
+{
+    let mut kept = read(alloc, "X", left)?;
+    let taken = read(alloc, "Y", right)?;
+    let Ok(()) = kept.subtract(&taken) else {
+        return Err(Failure::Memory);
+    };
+    let mut text = String::new(alloc);
+    let Ok(()) = kept.print(&mut text) else {
+        return Err(Failure::Memory);
+    };
+    Ok(text)
+}
+
+/// The set that the text in a word stands for.
+fn read<'a>(alloc: Global, word: &'a str, text: &str) -> Result<GtidSet, Failure<'a>>
+    ensures { IfOk result (λ read. (ids : Ids) → IsRead text.now ids → read ≡ ids) }
+{
+    match GtidSet::parse(alloc, text) {
+        Ok(set) => Ok(set),
+        Err(GtidFault::Memory) => Err(Failure::Memory),
+        Err(cause) => Err(Failure::Set { word, cause }),
+    }
+}
