@@ -81,7 +81,7 @@ ungrouped : (spans : List Span) → flat_map spans_of_block (grouped spans) ≡ 
 ungrouped [] = refl
 ungrouped (s ∷ spans) = joined s (grouped spans) ∙ ap (λ l. s ∷ l) (ungrouped spans)
 
-one_set : (a b : List Span) (x y : Ids) → IsLeastList a x → IsLeastList b y → a ≡ b → x ≡ y
+pub one_set : (a b : List Span) (x y : Ids) → IsLeastList a x → IsLeastList b y → a ≡ b → x ≡ y
 one_set a b x y left right same =
     set.same_set id_cmp_total id_cmp-same x y (λ q. left.covers q ∙ ap (λ l. list_any (is_in q) l) same ∙ sym (right.covers q))
 
@@ -96,7 +96,7 @@ few_blocks (b ∷ l) =
       length-append b.source (little_bytes 8 (length b.intervals)),
     )
 
-fits_in : (l : List SidBlock) (x bytes : List ℕ) → bytes ≡ blocks_bytes l ++ x → length bytes < 2 ^ 64 → length l < 2 ^ 64
+pub fits_in : (l : List SidBlock) (x bytes : List ℕ) → bytes ≡ blocks_bytes l ++ x → length bytes < 2 ^ 64 → length l < 2 ^ 64
 fits_in l x bytes is fits =
     omega (arith, few_blocks l, ap length is, length-append (blocks_bytes l) x, length-append (little_bytes 8 (length l)) (flat_map block_bytes l))
 
@@ -119,3 +119,17 @@ only_fault bytes fault (inl memory) fits ids n e = memory
 only_fault bytes fault (inr faulty) fits ids n e =
     let other = at_front ids n bytes e in
     absurd (no_fault (grouped e.spans) (drop n bytes) bytes fault e.lawful (fits_in (grouped e.spans) (drop n bytes) bytes other fits) other faulty)
+
+-- two encodings at the front of the same bytes
+pub one_front : (a b : Ids) (bytes others x y : List ℕ) → length (bytes ++ x) < 2 ^ 64 → IsEncoding a bytes → IsEncoding b others → bytes ++ x ≡ others ++ y → (a ≡ b) × (bytes ≡ others)
+one_front a b bytes others x y fits is_a is_b same =
+    let first : bytes ++ x ≡ blocks_bytes (grouped is_a.spans) ++ x = ap (λ l. l ++ x) is_a.spelled in
+    let second : bytes ++ x ≡ blocks_bytes (grouped is_b.spans) ++ y = same ∙ ap (λ l. l ++ y) is_b.spelled in
+    let o = one_encoding (grouped is_a.spans) (grouped is_b.spans) x y is_a.lawful is_b.lawful (fits_in (grouped is_a.spans) x (bytes ++ x) first fits) (fits_in (grouped is_b.spans) y (bytes ++ x) second fits) (sym first ∙ second) in
+    let spans : is_a.spans ≡ is_b.spans = sym (ungrouped is_a.spans) ∙ ap (flat_map spans_of_block) o.0 ∙ ungrouped is_b.spans in
+    (one_set is_a.spans is_b.spans a b is_a.least is_b.least spans, is_a.spelled ∙ ap blocks_bytes o.0 ∙ sym is_b.spelled)
+
+pub no_fault_at_front : (ids : Ids) (bytes more : List ℕ) (fault : GtidFault) → length (bytes ++ more) < 2 ^ 64 → IsEncoding ids bytes → IsDecodeFault (bytes ++ more) fault → ⊥
+no_fault_at_front ids bytes more fault fits is =
+    let front : bytes ++ more ≡ blocks_bytes (grouped is.spans) ++ more = ap (λ l. l ++ more) is.spelled in
+    no_fault (grouped is.spans) more (bytes ++ more) fault is.lawful (fits_in (grouped is.spans) more (bytes ++ more) front fits) front

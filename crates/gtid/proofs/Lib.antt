@@ -21,3 +21,4 @@ pub mod Collected
 pub mod Judged
 pub mod Parsed
 pub mod SourceRead
+pub mod OneReading
