@@ -242,7 +242,6 @@ fn parsed(rt: HostRuntime) -> Result<(), Fail> {
         (":3:2:1", ":1-3"),
         (":0000000000000000000000000000007", ":7"),
         (":1-9223372036854775806", ":1-9223372036854775806"),
-        (" \r\n ,\r3E11FA47-71CA-11E1-9E33-C80AA9429562:9", ""),
     ];
     for (behind, want) in cases {
         let written = of_a(&rt, behind)?;
