@@ -21,10 +21,11 @@ const PACKETS_TIMES: f64 = 1.3;
 /// and at most the largest payload twice and this much more.
 const MORE: usize = 16 * MIB;
 
-/// The goal of each operation on sets of a million intervals.
+/// The goal of each operation on sets.
 const GTID_TIMES: f64 = 1.5;
 
-const OPERATIONS: [&str; 6] = ["contains", "ascending", "scattered", "union", "subtract", "print"];
+const OPERATIONS: [&str; 8] =
+    ["contains", "ascending", "scattered", "union", "subtract", "print", "parse", "parse_scattered"];
 
 struct Input {
     name: &'static str,

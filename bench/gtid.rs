@@ -1,11 +1,17 @@
 //! The jobs of `crates/gtid_bench` in plain Rust with the standard library alone, by the same algorithms over
-//! `Vec<(u64, u64)>`: the yardstick of `make bench`.
+//! `Vec<(u64, u64)>`: the yardstick of `make bench`. A text is read in one pass, with the same refusals.
 
 use std::fmt::Write;
 use std::process::ExitCode;
 
 const INTERVALS: u64 = 1_000_000;
 const SOURCE: &str = "3e11fa47-71ca-11e1-9e33-c80aa9429562";
+
+/// How many items the scattered text has.
+const ITEMS: u64 = 200_000;
+
+/// Their sources but for the last digit.
+const HEAD: &str = "3e11fa47-71ca-11e1-9e33-c80aa942956";
 
 fn next(seed: &mut u64) -> u64 {
     *seed = seed.wrapping_mul(6_364_136_223_846_793_005).wrapping_add(1_442_695_040_888_963_407);
@@ -155,19 +161,189 @@ fn combined(combine: fn(&Set, &Set) -> Set) -> u64 {
     (0..20).map(|_| combine(&left.clone(), &right).len() as u64).sum()
 }
 
+fn print_into(set: &Set, text: &mut String) {
+    text.push_str(SOURCE);
+    for (lo, hi) in set {
+        let written = if *hi == lo + 1 { write!(text, ":{lo}") } else { write!(text, ":{lo}-{}", hi - 1) };
+        written.expect("a string takes all");
+    }
+}
+
 fn print() -> u64 {
     let mut seed = 1;
     let set = intervals(&mut seed);
     let mut found = 0;
     for _ in 0..20 {
-        let mut text = String::from(SOURCE);
-        for (lo, hi) in &set {
-            let written = if *hi == lo + 1 { write!(text, ":{lo}") } else { write!(text, ":{lo}-{}", hi - 1) };
-            written.expect("a string takes all");
-        }
+        let mut text = String::new();
+        print_into(&set, &mut text);
         found += text.len() as u64;
     }
     found
+}
+
+/// Why a text is refused.
+enum Fault {
+    Text,
+    Number,
+    Interval,
+}
+
+/// An interval of a source, from its first number up to, but without, its end.
+struct Span {
+    source: [u8; 16],
+    lo: u64,
+    hi: u64,
+}
+
+/// The text of a set, and how much of it was read.
+struct Reader<'a> {
+    text: &'a [u8],
+    at: usize,
+}
+
+impl Reader<'_> {
+    fn peek(&self) -> Option<u8> {
+        self.text.get(self.at).copied()
+    }
+
+    fn take(&mut self, byte: u8) -> bool {
+        let there = self.peek() == Some(byte);
+        self.at += usize::from(there);
+        there
+    }
+
+    fn skip_blanks(&mut self) {
+        while let Some(b' ' | b'\n' | b'\r') = self.peek() {
+            self.at += 1;
+        }
+    }
+
+    /// The sixteen bytes of a hyphenated UUID.
+    fn source(&mut self) -> Result<[u8; 16], Fault> {
+        let mut source = [0; 16];
+        let mut digits = 0;
+        for place in 0..36 {
+            let Some(byte) = self.peek() else {
+                return Err(Fault::Text);
+            };
+            if let 8 | 13 | 18 | 23 = place {
+                if byte != b'-' {
+                    return Err(Fault::Text);
+                }
+            } else {
+                let Some(value) = char::from(byte).to_digit(16) else {
+                    return Err(Fault::Text);
+                };
+                source[digits / 2] = source[digits / 2] << 4 | value as u8;
+                digits += 1;
+            }
+            self.at += 1;
+        }
+        Ok(source)
+    }
+
+    /// A number of one digit or more, or the greatest one.
+    fn number(&mut self) -> Result<u64, Fault> {
+        let start = self.at;
+        let mut number = 0u64;
+        while let Some(byte @ b'0'..=b'9') = self.peek() {
+            number = number.saturating_mul(10).saturating_add(u64::from(byte - b'0'));
+            self.at += 1;
+        }
+        if self.at == start { Err(Fault::Text) } else { Ok(number) }
+    }
+}
+
+/// The intervals as they are written. A text that is none comes before a number that is wrong.
+fn read(text: &str) -> Result<Vec<Span>, Fault> {
+    let mut reader = Reader { text: text.as_bytes(), at: 0 };
+    let mut spans = Vec::new();
+    let mut wrong = None;
+    let numbers = 1..i64::MAX as u64;
+    reader.skip_blanks();
+    if reader.peek().is_none() {
+        return Ok(spans);
+    }
+    loop {
+        let source = reader.source()?;
+        if !reader.take(b':') {
+            return Err(Fault::Text);
+        }
+        loop {
+            let lo = reader.number()?;
+            let last = if reader.take(b'-') { reader.number()? } else { lo };
+            if !numbers.contains(&lo) || !numbers.contains(&last) {
+                wrong = wrong.or(Some(Fault::Number));
+            } else if last < lo {
+                wrong = wrong.or(Some(Fault::Interval));
+            } else {
+                spans.push(Span { source, lo, hi: last + 1 });
+            }
+            if !reader.take(b':') {
+                break;
+            }
+        }
+        reader.skip_blanks();
+        if reader.peek().is_none() {
+            break;
+        }
+        if !reader.take(b',') {
+            return Err(Fault::Text);
+        }
+        reader.skip_blanks();
+    }
+    match wrong {
+        Some(fault) => Err(fault),
+        None => Ok(spans),
+    }
+}
+
+/// The least intervals of each source, in the order of the sources' bytes.
+fn gather(mut spans: Vec<Span>) -> Vec<([u8; 16], Set)> {
+    if !spans.is_sorted_by_key(|span| (span.source, span.lo)) {
+        spans.sort_unstable_by_key(|span| (span.source, span.lo));
+    }
+    let mut groups: Vec<([u8; 16], Set)> = Vec::new();
+    for Span { source, lo, hi } in spans {
+        match groups.last_mut() {
+            Some((last, set)) if *last == source => match set.last_mut() {
+                Some((_, end)) if lo <= *end => *end = hi.max(*end),
+                _ => set.push((lo, hi)),
+            },
+            _ => groups.push((source, vec![(lo, hi)])),
+        }
+    }
+    groups
+}
+
+/// How many intervals the set of a text has, or 0 where it is none.
+fn read_count(text: &str) -> u64 {
+    match read(text) {
+        Ok(spans) => gather(spans).iter().map(|(_, set)| set.len() as u64).sum(),
+        Err(_) => 0,
+    }
+}
+
+/// The text of a set is read five times.
+fn parse() -> u64 {
+    let mut seed = 1;
+    let set = intervals(&mut seed);
+    let mut text = String::new();
+    print_into(&set, &mut text);
+    (0..5).map(|_| read_count(&text)).sum()
+}
+
+/// A text of 10 MB with an item for each interval, of sixteen sources, at any places, is read five times.
+fn parse_scattered() -> u64 {
+    let mut seed = 1;
+    let mut text = String::new();
+    for _ in 0..ITEMS {
+        let draw = next(&mut seed);
+        let lo = draw / 128 % (8 * INTERVALS) + 1;
+        let comma = if text.is_empty() { "" } else { "," };
+        write!(text, "{comma}{HEAD}{:x}:{lo}-{}", draw % 16, lo + draw / 16 % 8).expect("a string takes all");
+    }
+    (0..5).map(|_| read_count(&text)).sum()
 }
 
 fn main() -> ExitCode {
@@ -178,6 +354,8 @@ fn main() -> ExitCode {
         Some("union") => combined(join),
         Some("subtract") => combined(without),
         Some("print") => print(),
+        Some("parse") => parse(),
+        Some("parse_scattered") => parse_scattered(),
         _ => return ExitCode::FAILURE,
     };
     println!("{found}");

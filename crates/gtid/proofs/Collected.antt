@@ -1,21 +1,19 @@
 -- What is found in a text of the grammar.
-use Rattle.std.proofs.Common.{◌≡◌, ℕ, ◌+◌, ◌*◌, ◌-◌, ◌<◌, ◌≤◌, ◌==◌, ◌⊎◌, inl, inr, true, false, Some, None, Result, Ok, Err, drop, List, [], ◌∷◌, ◌++◌, length, map, flat_map, fold, get_or, refl, ap, sym, subst, ◌∙◌, arith, append_assoc, append-nil}
+use Rattle.std.proofs.Common.{◌≡◌, ℕ, ◌+◌, ◌*◌, ◌-◌, ◌<◌, ◌==◌, ◌⊎◌, inl, inr, true, false, Some, None, Result, Ok, Err, List, [], ◌∷◌, ◌++◌, length, map, flat_map, fold, refl, ap, sym, subst, ◌∙◌, arith, append_assoc, append-nil}
 use Rattle.std.specs.List.{AllByRecursion}
 use Rattle.std.specs.Char.{IsAsciiDigit}
 use Rattle.std.proofs.lemmas.Bool.Decides.{nat_tests}
 use Rattle.gtid.specs.Encoding.{SidBlock}
 use Rattle.gtid.specs.Scan.{is_digit}
 use Rattle.gtid.specs.Text.{IsBlank, IsIntervalText, AreIntervalTexts, IsItem, IsList, first_some, list_fault, written_spans}
-use Rattle.gtid.specs.Reading.{at_most, appended, behind_number, advance, put, Found, ended, judge, collected}
-use Rattle.gtid.proofs.Judged.{saturated, found_in, judge_ok, judge_err, judged_ok, judged_err, item_faults, item_spans}
+use Rattle.gtid.specs.Reading.{at_most, appended, behind_number, Found, judge, collected}
+use Rattle.gtid.proofs.Judged.{saturated, found_in, judged_ok, judged_err, item_faults, item_spans}
 use Rattle.gtid.proofs.SourceRead.{read_source}
-use Rattle.std.proofs.Math.ListN.{drop_of_length-le}
-use Rattle.std.proofs.lemmas.List.{drop_more}
 use Rattle.gtid.specs.declared.fault.GtidFault.{GtidFault}
 use Rattle.gtid.specs.declared.fault.GtidFault.TheVariants.{Memory}
 use Rattle.gtid.specs.declared.span.Span.{Span}
-use Rattle.gtid.specs.declared.reading.Part.{Part}
-use Rattle.gtid.specs.declared.reading.Part.TheVariants.{Source, First, Second, Behind}
+use Rattle.gtid.specs.Reading.{Part}
+use Rattle.gtid.specs.Reading.Part.{Source, First, Second, Behind}
 
 -- ---- Blanks.
 
@@ -213,31 +211,6 @@ pub faults_list : (text s : List ℕ) (fault : GtidFault) → length s ≡ 16 �
 faults_list text s fault long h items is_list =
     sym (ap first_some (item_faults items))
     ∙ judged_err [] fault (flat_map found_in items) (sym (ap (judge []) (read_list items text s long is_list)) ∙ h)
-
--- ---- One byte more.
-
--- the part and the source behind a byte
-pub read_on : (all : Result (List Span) GtidFault) (spans out : List Span) (part next : Part) (source new text : List ℕ) (i : ℕ) → i < length text →
-    all ≡ judge spans (collected part source (drop i text)) → judge spans (ended part (get_or text i 0) source) ≡ Ok out →
-    next ≡ advance part (get_or text i 0) → new ≡ put source part (get_or text i 0) → all ≡ judge out (collected next new (drop (i + 1) text))
-read_on all spans out part next source new text i short so_far now on onto =
-    so_far
-    ∙ ap (λ (bs : List ℕ). judge spans (collected part source bs)) (drop_more text i 0 short)
-    ∙ judge_ok spans out (ended part (get_or text i 0) source) (collected (advance part (get_or text i 0)) (put source part (get_or text i 0)) (drop (i + 1) text)) now
-    ∙ ap (λ (p : Part). judge out (collected p (put source part (get_or text i 0)) (drop (i + 1) text))) (sym on)
-    ∙ ap (λ (s : List ℕ). judge out (collected next s (drop (i + 1) text))) (sym onto)
-
-pub read_fault : (all : Result (List Span) GtidFault) (spans : List Span) (fault : GtidFault) (part : Part) (source text : List ℕ) (i : ℕ) → i < length text →
-    all ≡ judge spans (collected part source (drop i text)) → judge spans (ended part (get_or text i 0) source) ≡ Err fault → all ≡ Err fault
-read_fault all spans fault part source text i short so_far now =
-    so_far
-    ∙ ap (λ (bs : List ℕ). judge spans (collected part source bs)) (drop_more text i 0 short)
-    ∙ judge_err spans fault (ended part (get_or text i 0) source) (collected (advance part (get_or text i 0)) (put source part (get_or text i 0)) (drop (i + 1) text)) now
-
-pub read_end : (all r : Result (List Span) GtidFault) (spans : List Span) (part : Part) (source text : List ℕ) (i : ℕ) → length text ≤ i →
-    all ≡ judge spans (collected part source (drop i text)) → judge spans (ended part 44 source) ≡ r → all ≡ r
-read_end all r spans part source text i over so_far now =
-    so_far ∙ ap (λ (bs : List ℕ). judge spans (collected part source bs)) (drop_of_length-le text over) ∙ now
 
 -- The exit with what is wrong with an interval, or with memory.
 pub err_exit : (text s : List ℕ) (r : Result (List Span) GtidFault) (fault : GtidFault) → length s ≡ 16 → (fault ≡ Memory) ⊎ (r ≡ Err fault) →

@@ -9,7 +9,7 @@ use Rattle.gtid.specs.Interval.{has, is_within, AreLeast}
 use Rattle.gtid.specs.declared.combination.Merged.{Merged}
 use Rattle.gtid.specs.Merged.{AreFrom, IsFrom, has_left, AreLeastBefore}
 
-has-append : (xs ys : List Interval) (n : ℕ) → has (xs ++ ys) n ≡ (has xs n || has ys n)
+pub has-append : (xs ys : List Interval) (n : ℕ) → has (xs ++ ys) n ≡ (has xs n || has ys n)
 has-append xs ys n = list_any-append (is_within n) xs ys
 
 pub before_more : (end place later : ℕ) (intervals : List Interval) → AreLeastBefore end place intervals → place ≤ later → AreLeastBefore end later intervals
@@ -25,7 +25,7 @@ before_push end lo hi place (i ∷ intervals) b some fits ends = (b.0, b.1, b.2,
 outside : (i : Interval) (n : ℕ) → i.hi ≤ n → is_within n i ≡ false
 outside i n h = grind (arith, nat_tests)
 
-least_from_before : (end place : ℕ) (intervals : List Interval) → AreLeastBefore end place intervals → AreLeast end intervals
+pub least_from_before : (end place : ℕ) (intervals : List Interval) → AreLeastBefore end place intervals → AreLeast end intervals
 least_from_before end place [] b = tt
 least_from_before end place (i ∷ intervals) b = (b.0, b.1, b.2, least_from_before i.hi place intervals b.3)
 
@@ -67,7 +67,7 @@ pub record IsNext (m : Merged) (next : Interval) (m' : Merged) (place : ℕ) : T
   pub from : IsFrom next.lo m'
   pub same : (n : ℕ) → has_left m n ≡ (is_within n next || has_left m' n)
 
-within_wider : (n lo hi lo' hi' : ℕ) → lo ≤ lo' → lo' ≤ hi → (nat_le lo n && nat_lt n (max hi hi')) ≡ ((nat_le lo n && nat_lt n hi) || (nat_le lo' n && nat_lt n hi'))
+pub within_wider : (n lo hi lo' hi' : ℕ) → lo ≤ lo' → lo' ≤ hi → (nat_le lo n && nat_lt n (max hi hi')) ≡ ((nat_le lo n && nat_lt n hi) || (nat_le lo' n && nat_lt n hi'))
 within_wider n lo hi lo' hi' le touch = grind (arith, nat_tests)
 
 wider : (j w x m : Bool) → (j || (w || (x || m))) ≡ (j || ((w || x) || m))

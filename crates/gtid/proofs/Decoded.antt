@@ -55,14 +55,13 @@ found_encoding groups rest bytes used lawful split is =
 
 -- ---- One set, and one number of bytes.
 
-span_of : List ℕ → ℕ × ℕ → Span
+abbrev pub span_of : List ℕ → ℕ × ℕ → Span
 span_of source i = record { source = source; lo = i.0; hi = i.1 }
 
-spans_of_block : SidBlock → List Span
+abbrev pub spans_of_block : SidBlock → List Span
 spans_of_block b = map (span_of b.source) b.intervals
 
 joined : (s : Span) (some : List SidBlock) → flat_map spans_of_block (join_block s some) ≡ s ∷ flat_map spans_of_block some
-unfolding span_of spans_of_block
 joined s [] = refl
 joined s (b ∷ some) = by_source (bytes_eq s.source b.source) refl
   where
@@ -77,7 +76,7 @@ joined s (b ∷ some) = by_source (bytes_eq s.source b.source) refl
     by_source true is =
         ap (λ c. flat_map spans_of_block (if c then same else apart)) is ∙ ap (λ t. span_of t (s.lo, s.hi) ∷ flat_map spans_of_block (b ∷ some)) (sym ((bytes_eq-Decides s.source b.source).0 is))
 
-ungrouped : (spans : List Span) → flat_map spans_of_block (grouped spans) ≡ spans
+pub ungrouped : (spans : List Span) → flat_map spans_of_block (grouped spans) ≡ spans
 ungrouped [] = refl
 ungrouped (s ∷ spans) = joined s (grouped spans) ∙ ap (λ l. s ∷ l) (ungrouped spans)
 

@@ -13,7 +13,8 @@ use Rattle.gtid.specs.Interval.{has}
 use Rattle.gtid.specs.Group.{Ascend, sources, IsBelow, is_of, is_listed, IsGap}
 use Rattle.gtid.specs.declared.group.Group.{Group}
 use Rattle.gtid.proofs.Merged.{ascend_first, ascend_cons, ascend_nil, none_below, none_above}
-use Rattle.gtid.proofs.Placed.{below_at, or_false}
+use Rattle.std.proofs.Math.Bool.{or-false}
+use Rattle.gtid.proofs.Placed.{below_at}
 
 -- ---- A group that is there, with one more number.
 
@@ -51,14 +52,14 @@ listed_at [] k g s ascend short at same n = absurd (omega (arith, short))
 listed_at (f ∷ groups) zero g s ascend short at same n =
     let one : f.source ≡ s = ap (λ x. x.source) (at f) ∙ same in
     let q : Id = (s, n) in
-    (λ i. (eq_itself one i && has ((at f) i).intervals.items n) || none_above f.source groups q (ascend_first f.source (sources groups) ascend).0 (eq_itself one) i) ∙ or_false (has g.intervals.items n)
+    (λ i. (eq_itself one i && has ((at f) i).intervals.items n) || none_above f.source groups q (ascend_first f.source (sources groups) ascend).0 (eq_itself one) i) ∙ or-false (has g.intervals.items n)
   where
     eq_itself : {t : List ℕ} → t ≡ s → bytes_eq s t ≡ true
     eq_itself e = (bytes_eq-Decides s _).1 (sym e)
 listed_at (f ∷ groups) (suc k) g s ascend short at same n =
     let split = ascend_first f.source (sources groups) ascend in
     let less = subst (λ t. slice_cmp nat_cmp f.source t ≡ Less) (ap (λ x. x.source) (at g) ∙ same) (below_at f.source groups k g split.0 (omega (arith, short))) in
-    let none = sym (or_false (is_of (s, n) f)) ∙ none_below s (f ∷ []) (s, n) ((less, tt), tt) ((bytes_eq-Decides s s).1 refl) in
+    let none = sym (or-false (is_of (s, n) f)) ∙ none_below s (f ∷ []) (s, n) ((less, tt), tt) ((bytes_eq-Decides s s).1 refl) in
     (λ i. none i || listed_at groups k g s split.1 (omega (arith, short)) at same n i)
 
 -- ---- A group of one number where the source has none.
@@ -101,6 +102,10 @@ any_default (f ∷ groups) (suc k) g short is d = any_default groups k g (omega 
 pub on_ok : {T E P Q : Type 0} (r : Result T E) → OnOk r P → (P → Q) → OnOk r Q
 on_ok (Ok x) p f = f p
 on_ok (Err e) p f = tt
+
+pub on_ok_both : {T E P Q R : Type 0} (r : Result T E) → OnOk r P → OnOk r Q → (P → Q → R) → OnOk r R
+on_ok_both (Ok x) p q f = f p q
+on_ok_both (Err e) p q f = tt
 
 pub on_err : {T E P Q : Type 0} (r : Result T E) → OnErr r P → (P → Q) → OnErr r Q
 on_err (Ok x) p f = tt

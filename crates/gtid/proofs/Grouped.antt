@@ -1,10 +1,8 @@
 -- The spans of groups, grouped by source.
 use Rattle.std.proofs.Common.{◌≡◌, ◌≢◌, ℕ, suc, ◌+◌, ◌<◌, ◌^◌, length, arith, Option, Some, None, Bool, true, false, if◌then◌else◌, List, [], ◌∷◌, ◌++◌, map, refl, ap, sym, subst, ◌∙◌, Result, Ok, Err, OnOk}
-use Rattle.std.specs.declared.cmp.Ordering.{Ordering}
-use Rattle.std.specs.declared.cmp.Ordering.TheVariants.{Less, Equal}
+use Rattle.std.specs.declared.cmp.Ordering.TheVariants.{Less}
 use Rattle.std.specs.Ordering.{nat_cmp, is_lt}
-use Rattle.std.specs.Cmp.{tied_itself}
-use Rattle.std.specs.Cmp.Lexicographic.{slice_cmp, nat_list_cmp_total}
+use Rattle.std.specs.Cmp.Lexicographic.{slice_cmp}
 use Rattle.std.specs.Str.{bytes_eq}
 use Rattle.std.proofs.lemmas.Slice.Eq.{bytes_eq-Decides}
 use Rattle.gtid.specs.Identifier.{Ids}
@@ -18,9 +16,10 @@ use Rattle.gtid.specs.declared.group.Group.{Group}
 use Rattle.gtid.specs.declared.span.Span.{Span}
 use Rattle.gtid.proofs.Merged.{ascend_first}
 use Rattle.gtid.proofs.LeastList.{least_list}
+use Rattle.gtid.proofs.NotBelow.{not_below_itself}
 
 -- the first block is of another source
-abbrev IsOther : List ℕ → List SidBlock → Type 0
+abbrev pub IsOther : List ℕ → List SidBlock → Type 0
 IsOther s [] = Unit {0}
 IsOther s (b ∷ blocks) = bytes_eq s b.source ≡ false
 
@@ -40,18 +39,15 @@ grouped_one s i [] rest behind is other = ap (join_block (span s i)) is ∙ join
 grouped_one s i (j ∷ intervals) rest behind is other =
     ap (join_block (span s i)) (grouped_one s j intervals rest behind is other) ∙ join_same s i (j ∷ intervals) behind
 
-grouped_some : (s : List ℕ) (intervals : List Interval) (rest : List Span) (behind : List SidBlock) → intervals ≢ [] → grouped rest ≡ behind → IsOther s behind →
+pub grouped_some : (s : List ℕ) (intervals : List Interval) (rest : List Span) (behind : List SidBlock) → intervals ≢ [] → grouped rest ≡ behind → IsOther s behind →
     grouped (map (span s) intervals ++ rest) ≡ block s intervals ∷ behind
 grouped_some s [] rest behind some is other = absurd (some refl)
 grouped_some s (i ∷ intervals) rest behind some is other = grouped_one s i intervals rest behind is other
 
-not_both : (o : Ordering) → o ≡ Less → o ≡ Equal → ⊥
-not_both o less equal = Prim.cc
-
-other_below : (s t : List ℕ) (e : Bool) → bytes_eq s t ≡ e → slice_cmp nat_cmp s t ≡ Less → bytes_eq s t ≡ false
+pub other_below : (s t : List ℕ) (e : Bool) → bytes_eq s t ≡ e → slice_cmp nat_cmp s t ≡ Less → bytes_eq s t ≡ false
 other_below s t false is less = is
 other_below s t true is less =
-    absurd (not_both (slice_cmp nat_cmp s s) (ap (λ u. slice_cmp nat_cmp s u) ((bytes_eq-Decides s t).0 is) ∙ less) (tied_itself nat_list_cmp_total s))
+    absurd (not_below_itself s (ap (λ u. slice_cmp nat_cmp s u) ((bytes_eq-Decides s t).0 is) ∙ less))
 
 other_groups : (s : List ℕ) (groups : List Group) → IsBelow s (sources groups) → IsOther s (blocks groups)
 other_groups s [] below = tt

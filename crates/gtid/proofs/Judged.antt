@@ -4,8 +4,7 @@ use Rattle.std.specs.List.{AllByRecursion}
 use Rattle.std.proofs.lemmas.Bool.Decides.{nat_tests}
 use Rattle.gtid.specs.Encoding.{SidBlock}
 use Rattle.gtid.specs.Text.{written_fault, first_some, list_fault, written_spans, is_number}
-use Rattle.gtid.specs.Reading.{IsLawfulSpan, at_most, interval_before, Found, found, ended, span_of, judged, judge}
-use Rattle.gtid.specs.declared.reading.Part.{Part}
+use Rattle.gtid.specs.Reading.{IsLawfulSpan, at_most, Found, span_of, judged, judge}
 use Rattle.gtid.specs.declared.fault.GtidFault.TheVariants.{Number, Interval}
 use Rattle.gtid.specs.declared.fault.GtidFault.{GtidFault}
 use Rattle.gtid.specs.declared.span.Span.{Span}
@@ -24,11 +23,6 @@ same_value spans out e = Prim.cc
 
 same_fault : (a b : GtidFault) → ◌≡◌ {A = Result (List Span) GtidFault} (Err a) (Err b) → a ≡ b
 same_fault a b e = Prim.cc
-
-pub judge_some : (spans : List Span) (part : Part) (b : ℕ) (s : List ℕ) (i : ℕ × ℕ) (o : Option GtidFault) → interval_before part b ≡ Some i → written_fault i ≡ o →
-    judge spans (ended part b s) ≡ judged o (Ok (spans ++ span_of (s, i) ∷ []))
-judge_some spans part b s i o before is =
-    ap (λ (p : Option (ℕ × ℕ)). judge spans (found s p)) before ∙ ap (λ p. judged p (Ok (spans ++ span_of (s, i) ∷ []))) is
 
 ok_case : (o : Option GtidFault) (one two all : Result (List Span) GtidFault) (out : List Span) → (one ≡ Ok out → two ≡ all) → judged o one ≡ Ok out → judged o two ≡ all
 ok_case None one two all out next e = next e

@@ -28,7 +28,7 @@ least_cons a [] some leads least = some
 least_cons a (b ∷ spans) some leads least = (some, leads, least)
 
 -- the source is below that of the first of the list
-abbrev IsUnder : List ℕ → List Span → Type 0
+abbrev pub IsUnder : List ℕ → List Span → Type 0
 IsUnder s [] = Unit {0}
 IsUnder s (b ∷ spans) = slice_cmp nat_cmp s b.source ≡ Less
 
@@ -36,7 +36,7 @@ under_leads : (a : Span) (spans : List Span) → IsUnder a.source spans → Lead
 under_leads a [] under = tt
 under_leads a (b ∷ spans) under = inl under
 
-least_group : (s : List ℕ) (end : ℕ) (intervals : List Interval) (rest : List Span) → AreLeast end intervals → IsUnder s rest → IsLeast rest → IsLeast (map (span s) intervals ++ rest)
+pub least_group : (s : List ℕ) (end : ℕ) (intervals : List Interval) (rest : List Span) → AreLeast end intervals → IsUnder s rest → IsLeast rest → IsLeast (map (span s) intervals ++ rest)
 least_group s end [] rest least under behind = behind
 least_group s end (i ∷ intervals) rest least under behind =
     least_cons (span s i) (map (span s) intervals ++ rest) least.1 (leads intervals least.3) (least_group s i.hi intervals rest least.3 under behind)
@@ -45,7 +45,7 @@ least_group s end (i ∷ intervals) rest least under behind =
     leads [] least = under_leads (span s i) rest under
     leads (j ∷ intervals) least = inr (refl, least.0)
 
-under_first : (s t : List ℕ) (intervals : List Interval) (rest : List Span) → slice_cmp nat_cmp s t ≡ Less → intervals ≢ [] → IsUnder s (map (span t) intervals ++ rest)
+pub under_first : (s t : List ℕ) (intervals : List Interval) (rest : List Span) → slice_cmp nat_cmp s t ≡ Less → intervals ≢ [] → IsUnder s (map (span t) intervals ++ rest)
 under_first s t [] rest less some = absurd (some refl)
 under_first s t (i ∷ intervals) rest less some = less
 

@@ -1,3 +1,4 @@
+pub mod NotBelow
 pub mod Combined
 pub mod Found
 pub mod Grouped
@@ -22,3 +23,9 @@ pub mod Judged
 pub mod Parsed
 pub mod SourceRead
 pub mod OneReading
+pub mod SomeLeastList
+pub mod TextRead
+pub mod OneFault
+pub mod SomeReading
+pub mod SomeDecoding
+pub mod Gathered

@@ -1,12 +1,11 @@
 -- Two ascending lists of groups, taken source by source.
 use Rattle.std.proofs.Common.{◌≡◌, ℕ, ◌⊎◌, inl, inr, Bool, true, false, ◌&&◌, ◌||◌, List, [], ◌∷◌, ◌++◌, refl, ap, sym, subst, ◌∙◌}
-use Rattle.std.specs.declared.cmp.Ordering.{Ordering}
-use Rattle.std.specs.declared.cmp.Ordering.TheVariants.{Less, Equal}
+use Rattle.std.specs.declared.cmp.Ordering.TheVariants.{Less}
 use Rattle.std.specs.Ordering.{nat_cmp}
-use Rattle.std.specs.Cmp.{tied_itself}
 use Rattle.std.specs.Cmp.Lexicographic.{slice_cmp, nat_list_cmp_total}
 use Rattle.std.specs.List.Sorted.{IsStrictlySortedBy}
 use Rattle.std.specs.Str.{bytes_eq}
+use Rattle.std.proofs.Math.Bool.{or-false}
 use Rattle.std.proofs.lemmas.Bool.{and_right, or_from}
 use Rattle.std.proofs.lemmas.List.Folds.{list_any-append}
 use Rattle.std.proofs.lemmas.Slice.Eq.{bytes_eq-Decides}
@@ -18,6 +17,7 @@ use Rattle.gtid.specs.declared.combination.Combination.TheVariants.{Union, Diffe
 use Rattle.gtid.specs.Group.{Ascend, sources, IsBelow, AreBelow, is_of, is_listed, IsNext, IsNoHigher, Splits}
 use Rattle.gtid.specs.declared.group.Group.{Group}
 use Rattle.gtid.specs.declared.interval.Interval.{Interval}
+use Rattle.gtid.proofs.NotBelow.{not_below_itself}
 
 pub ascend_first : (s : List ℕ) (ss : List (List ℕ)) → Ascend (s ∷ ss) → IsBelow s ss × Ascend ss
 unfolding IsStrictlySortedBy
@@ -50,7 +50,7 @@ pub below_push : (ss : List (List ℕ)) (s : List ℕ) (ts : List (List ℕ)) �
 below_push [] s ts h last = (last, tt)
 below_push (t ∷ ss) s ts h last = (h.0, below_push ss s ts h.1 last)
 
-below_head : (ss : List (List ℕ)) (t : List ℕ) (ts : List (List ℕ)) → AreBelow ss (t ∷ ts) → AreBelow ss (t ∷ [])
+pub below_head : (ss : List (List ℕ)) (t : List ℕ) (ts : List (List ℕ)) → AreBelow ss (t ∷ ts) → AreBelow ss (t ∷ [])
 below_head [] t ts h = tt
 below_head (s ∷ ss) t ts h = ((h.0.0, tt), below_head ss t ts h.1)
 
@@ -58,12 +58,9 @@ below_tail : (ss : List (List ℕ)) (t : List ℕ) (ts : List (List ℕ)) → Ar
 below_tail [] t ts h = tt
 below_tail (s ∷ ss) t ts h = (h.0.1, below_tail ss t ts h.1)
 
-sources_push : (groups : List Group) (g : Group) → sources (groups ++ g ∷ []) ≡ sources groups ++ g.source ∷ []
+pub sources_push : (groups : List Group) (g : Group) → sources (groups ++ g ∷ []) ≡ sources groups ++ g.source ∷ []
 sources_push [] g = refl
 sources_push (f ∷ groups) g = ap (λ ss. f.source ∷ ss) (sources_push groups g)
-
-not_both : (o : Ordering) → o ≡ Less → o ≡ Equal → ⊥
-not_both o less equal = Prim.cc
 
 -- No group behind the source is the source's.
 pub none_above : (s : List ℕ) (groups : List Group) (q : Id) → IsBelow s (sources groups) → bytes_eq q.0 s ≡ true → is_listed q groups ≡ false
@@ -75,7 +72,7 @@ none_above s (g ∷ groups) q below same = or_from (is_of q g) (is_listed q grou
     other true e =
         let one : s ≡ g.source = sym ((bytes_eq-Decides q.0 s).0 same) ∙ (bytes_eq-Decides q.0 g.source).0 e in
         let less : slice_cmp nat_cmp s s ≡ Less = ap (λ t. slice_cmp nat_cmp s t) one ∙ below.0 in
-        absurd (not_both (slice_cmp nat_cmp s s) less (tied_itself nat_list_cmp_total s))
+        absurd (not_below_itself s less)
 
 -- what a list has of a source that none of its groups is below, and what is behind it
 pub record Taken (out : List Group) (s : List ℕ) (groups : List Group) (intervals : List Interval) (rest : List Group) : Type 0 where
@@ -167,7 +164,7 @@ or_nothing : (a b : Bool) → (a || (b || false)) ≡ (a || b)
 or_nothing a true = refl
 or_nothing a false = refl
 
-listed_push : (q : Id) (done : List Group) (g : Group) → is_listed q (done ++ g ∷ []) ≡ (is_listed q done || is_of q g)
+pub listed_push : (q : Id) (done : List Group) (g : Group) → is_listed q (done ++ g ∷ []) ≡ (is_listed q done || is_of q g)
 listed_push q done g = list_any-append (is_of q) done (g ∷ []) ∙ or_nothing (is_listed q done) (is_of q g)
 
 -- the same, of what both lists have of a source
@@ -212,21 +209,13 @@ merged_nothing {c} {all_left} {all_right} {left} {right} {done} s a b kept_of l 
   same = λ q.
       m.same q ∙ same_next c left right done s a b kept_of l r from_left from_right numbers q
       ∙ ap (λ o. o || keeps c (is_listed q l) (is_listed q r))
-      (ap (λ is. is_listed q done || (bytes_eq q.0 s && has is q.1)) none ∙ ap (λ b. is_listed q done || b) (and_right (bytes_eq q.0 s) false refl) ∙ or_false (is_listed q done));
+      (ap (λ is. is_listed q done || (bytes_eq q.0 s && has is q.1)) none ∙ ap (λ b. is_listed q done || b) (and_right (bytes_eq q.0 s) false refl) ∙ or-false (is_listed q done));
 }
-  where
-    or_false : (a : Bool) → (a || false) ≡ a
-    or_false true = refl
-    or_false false = refl
 
 pub merged_all : {c : Combination} {all_left all_right left right done : List Group} → Merged c all_left all_right left right done → left ≡ [] → right ≡ [] →
     (q : Id) → is_listed q done ≡ keeps c (is_listed q all_left) (is_listed q all_right)
 merged_all {c} {done = done} m no_left no_right q =
-    sym (m.same q ∙ (λ i. is_listed q done || keeps c (is_listed q (no_left i)) (is_listed q (no_right i))) ∙ ap (λ b. is_listed q done || b) (keeps_none c) ∙ or_false (is_listed q done))
-  where
-    or_false : (a : Bool) → (a || false) ≡ a
-    or_false true = refl
-    or_false false = refl
+    sym (m.same q ∙ (λ i. is_listed q done || keeps c (is_listed q (no_left i)) (is_listed q (no_right i))) ∙ ap (λ b. is_listed q done || b) (keeps_none c) ∙ or-false (is_listed q done))
 
 -- what the next source says of both lists
 pub turn : {c : Combination} {all_left all_right left right done : List Group} (s : List ℕ) → Merged c all_left all_right left right done →
@@ -244,7 +233,7 @@ none_below s (g ∷ groups) q below same = or_from (is_of q g) (is_listed q grou
     other true e =
         let one : g.source ≡ s = sym ((bytes_eq-Decides q.0 g.source).0 e) ∙ (bytes_eq-Decides q.0 s).0 same in
         let less : slice_cmp nat_cmp s s ≡ Less = ap (λ t. slice_cmp nat_cmp t s) (sym one) ∙ below.0.0 in
-        absurd (not_both (slice_cmp nat_cmp s s) less (tied_itself nat_list_cmp_total s))
+        absurd (not_below_itself s less)
 
 pub ascend_one : (s : List ℕ) → Ascend (s ∷ [])
 ascend_one s = ascend_cons s [] tt ascend_nil

@@ -13,20 +13,20 @@ use Rattle.gtid.specs.declared.fault.GtidFault.TheVariants.{Number, Interval, Tr
 
 -- ---- Fronts.
 
-same_front : (a b x y : List ℕ) → length a ≡ length b → a ++ x ≡ b ++ y → (a ≡ b) × (x ≡ y)
+pub same_front : (a b x y : List ℕ) → length a ≡ length b → a ++ x ≡ b ++ y → (a ≡ b) × (x ≡ y)
 same_front a b x y long same =
     (sym (take-append_seam a x) ∙ (λ i. take (long i) (same i)) ∙ take-append_seam b y, sym (drop-append_seam a x) ∙ (λ i. drop (long i) (same i)) ∙ drop-append_seam b y)
 
-same_number : (m n : ℕ) (x y : List ℕ) → m < 2 ^ 64 → n < 2 ^ 64 → little_bytes 8 m ++ x ≡ little_bytes 8 n ++ y → (m ≡ n) × (x ≡ y)
+pub same_number : (m n : ℕ) (x y : List ℕ) → m < 2 ^ 64 → n < 2 ^ 64 → little_bytes 8 m ++ x ≡ little_bytes 8 n ++ y → (m ≡ n) × (x ≡ y)
 same_number m n x y small fits same =
     (sym (little_number-reads_back 8 m x small) ∙ ap (little_number 8) same ∙ little_number-reads_back 8 n y fits, (same_front (little_bytes 8 m) (little_bytes 8 n) x y refl same).1)
 
 -- ---- What is lawful is not at fault.
 
-abbrev interval_table : Bool → Bool → Bool → Bool → Option GtidFault
+abbrev pub interval_table : Bool → Bool → Bool → Bool → Option GtidFault
 interval_table short number empty order = first_fault ((short, Truncated) ∷ (number, Number) ∷ (empty, Interval) ∷ (order, Order) ∷ [])
 
-abbrev source_table : Bool → Bool → Bool → Bool → Option GtidFault
+abbrev pub source_table : Bool → Bool → Bool → Bool → Option GtidFault
 source_table short order shorter empty = first_fault ((short, Truncated) ∷ (order, Order) ∷ (shorter, Truncated) ∷ (empty, Interval) ∷ [])
 
 not_less : (a b : ℕ) → b ≤ a → nat_lt a b ≡ false
@@ -54,7 +54,7 @@ lawful_interval after i x rest above some fits is =
     ((ap (λ n. nat_le (little_number 8 (drop 8 rest)) n) lo ∙ ap (λ n. nat_le n i.0) hi ∙ not_most i.1 i.0 some) k)
     ((ap (λ n. nat_le n after) lo ∙ not_most i.0 after above) k))
 
-lawful_source : (before : Option (List ℕ)) (source : List ℕ) (size : ℕ) (x rest : List ℕ) → length source ≡ 16 → is_above before source ≡ true → 0 < size → size < 2 ^ 64 →
+pub lawful_source : (before : Option (List ℕ)) (source : List ℕ) (size : ℕ) (x rest : List ℕ) → length source ≡ 16 → is_above before source ≡ true → 0 < size → size < 2 ^ 64 →
     rest ≡ source ++ (little_bytes 8 size ++ x) → source_fault before rest ≡ None
 lawful_source before source size x rest long above some fits split =
     let front : take 16 rest ≡ source = ap (λ l. take 16 l) split ∙ ap (λ k. take k (source ++ (little_bytes 8 size ++ x))) (sym long) ∙ take-append_seam source (little_bytes 8 size ++ x) in
@@ -71,7 +71,7 @@ lawful_source before source size x rest long above some fits split =
 
 -- ---- Intervals.
 
-abbrev pair_end : ℕ → List (ℕ × ℕ) → ℕ
+abbrev pub pair_end : ℕ → List (ℕ × ℕ) → ℕ
 pair_end after [] = after
 pair_end after (i ∷ intervals) = pair_end i.1 intervals
 
@@ -79,7 +79,7 @@ end_is : (i : ℕ × ℕ) (intervals : List (ℕ × ℕ)) → end_of (i ∷ inte
 end_is i [] = refl
 end_is i (j ∷ intervals) = end_is j intervals
 
-ends_at : (intervals : List (ℕ × ℕ)) → end_of intervals ≡ pair_end 0 intervals
+pub ends_at : (intervals : List (ℕ × ℕ)) → end_of intervals ≡ pair_end 0 intervals
 ends_at [] = refl
 ends_at (i ∷ intervals) = end_is i intervals
 
@@ -91,13 +91,13 @@ same_interval i j x y some fits also too same =
     ((λ k. (lo.0 k, hi.0 k)), hi.1)
 
 -- the next interval of a lawful list, of which some were read
-record NextInterval (after : ℕ) (x rest : List ℕ) : Type 0 where
+pub record NextInterval (after : ℕ) (x rest : List ℕ) : Type 0 where
   next : ℕ × ℕ
   more : List (ℕ × ℕ)
   lawful : AreIntervals after (next ∷ more)
   rest_is : rest ≡ interval_bytes next ++ (flat_map interval_bytes more ++ x)
 
-next_interval : (a b : ℕ) (some all : List (ℕ × ℕ)) (rest x : List ℕ) → AreIntervals a some → AreIntervals b all → length some < length all → flat_map interval_bytes some ++ rest ≡ flat_map interval_bytes all ++ x →
+pub next_interval : (a b : ℕ) (some all : List (ℕ × ℕ)) (rest x : List ℕ) → AreIntervals a some → AreIntervals b all → length some < length all → flat_map interval_bytes some ++ rest ≡ flat_map interval_bytes all ++ x →
     NextInterval (pair_end b some) x rest
 next_interval a b [] [] rest x p q short same = absurd (omega (arith, short))
 next_interval a b [] (j ∷ all) rest x p q short same =
@@ -108,14 +108,14 @@ next_interval a b (i ∷ some) (j ∷ all) rest x p q short same =
     (sym (append_assoc (interval_bytes i) (flat_map interval_bytes some) rest) ∙ same ∙ append_assoc (interval_bytes j) (flat_map interval_bytes all) x) in
     subst (λ e. NextInterval (pair_end e some) x rest) (ap (λ k. k.1) (sym s.0)) (next_interval i.1 j.1 some all rest x p.3 q.3 (omega (arith, short)) s.1)
 
-none_some : {A : Type 0} {o : Option A} {a : A} → o ≡ None → o ≡ Some a → ⊥
+pub none_some : {A : Type 0} {o : Option A} {a : A} → o ≡ None → o ≡ Some a → ⊥
 none_some none some = Prim.cc
 
-no_interval_fault : (after : ℕ) (x rest : List ℕ) (fault : GtidFault) → NextInterval after x rest → interval_fault after rest ≡ Some fault → ⊥
+pub no_interval_fault : (after : ℕ) (x rest : List ℕ) (fault : GtidFault) → NextInterval after x rest → interval_fault after rest ≡ Some fault → ⊥
 no_interval_fault after x rest fault n faulty =
     none_some (lawful_interval after n.next (flat_map interval_bytes n.more ++ x) rest n.lawful.0 n.lawful.1 n.lawful.2 n.rest_is) faulty
 
-same_intervals : (a b : ℕ) (l m : List (ℕ × ℕ)) (x y : List ℕ) → AreIntervals a l → AreIntervals b m → length l ≡ length m → flat_map interval_bytes l ++ x ≡ flat_map interval_bytes m ++ y → (l ≡ m) × (x ≡ y)
+pub same_intervals : (a b : ℕ) (l m : List (ℕ × ℕ)) (x y : List ℕ) → AreIntervals a l → AreIntervals b m → length l ≡ length m → flat_map interval_bytes l ++ x ≡ flat_map interval_bytes m ++ y → (l ≡ m) × (x ≡ y)
 same_intervals a b [] [] x y p q long same = (refl, same)
 same_intervals a b [] (j ∷ m) x y p q long same = absurd (omega (arith, long))
 same_intervals a b (i ∷ l) [] x y p q long same = absurd (omega (arith, long))
@@ -127,7 +127,7 @@ same_intervals a b (i ∷ l) (j ∷ m) x y p q long same =
 
 -- ---- Blocks.
 
-abbrev source_of : SidBlock → List ℕ
+abbrev pub source_of : SidBlock → List ℕ
 source_of block = block.source
 
 abbrev behind_source : SidBlock → List ℕ → List ℕ
@@ -146,13 +146,13 @@ same_block b c p q l m x y left right same =
     ((λ k. record { source = s.0 k; intervals = i.0 k }), i.1)
 
 -- the next block of a lawful list, of which some were read
-record NextBlock (before : Option (List ℕ)) (x rest : List ℕ) : Type 0 where
+pub record NextBlock (before : Option (List ℕ)) (x rest : List ℕ) : Type 0 where
   next : SidBlock
   more : List SidBlock
   lawful : AreBlocks before (next ∷ more)
   rest_is : rest ≡ block_bytes next ++ (flat_map block_bytes more ++ x)
 
-next_block : (b c : Option (List ℕ)) (some all : List SidBlock) (rest x : List ℕ) → AreBlocks b some → AreBlocks c all → length some < length all → flat_map block_bytes some ++ rest ≡ flat_map block_bytes all ++ x →
+pub next_block : (b c : Option (List ℕ)) (some all : List SidBlock) (rest x : List ℕ) → AreBlocks b some → AreBlocks c all → length some < length all → flat_map block_bytes some ++ rest ≡ flat_map block_bytes all ++ x →
     NextBlock (last_or c (map source_of some)) x rest
 next_block b c [] [] rest x left right short same = absurd (omega (arith, short))
 next_block b c [] (q ∷ all) rest x left right short same =
@@ -164,14 +164,14 @@ next_block b c (p ∷ some) (q ∷ all) rest x left right short same =
     subst (λ (r : SidBlock). NextBlock (last_or (Some r.source) (map source_of some)) x rest) (sym s.0)
     (next_block (Some p.source) (Some q.source) some all rest x left.5 right.5 (omega (arith, short)) s.1)
 
-no_source_fault : (before : Option (List ℕ)) (x rest : List ℕ) (fault : GtidFault) → NextBlock before x rest → source_fault before rest ≡ Some fault → ⊥
+pub no_source_fault : (before : Option (List ℕ)) (x rest : List ℕ) (fault : GtidFault) → NextBlock before x rest → source_fault before rest ≡ Some fault → ⊥
 no_source_fault before x rest fault n faulty =
     let y = flat_map block_bytes n.more ++ x in
     none_some
     (lawful_source before n.next.source (length n.next.intervals) (flat_map interval_bytes n.next.intervals ++ y) rest n.lawful.0 n.lawful.1 n.lawful.2 n.lawful.3 (n.rest_is ∙ parts n.next y))
     faulty
 
-no_block_fault : (before : Option (List ℕ)) (x source : List ℕ) (size : ℕ) (intervals : List (ℕ × ℕ)) (rest : List ℕ) (fault : GtidFault) →
+pub no_block_fault : (before : Option (List ℕ)) (x source : List ℕ) (size : ℕ) (intervals : List (ℕ × ℕ)) (rest : List ℕ) (fault : GtidFault) →
     NextBlock before x (source ++ (little_bytes 8 size ++ (flat_map interval_bytes intervals ++ rest))) → length source ≡ 16 → size < 2 ^ 64 → length intervals < size → AreIntervals 0 intervals →
     interval_fault (end_of intervals) rest ≡ Some fault → ⊥
 no_block_fault before x source size intervals rest fault n long fits fewer so_far faulty =
@@ -182,7 +182,7 @@ no_block_fault before x source size intervals rest fault n long fits fewer so_fa
     no_interval_fault (pair_end 0 intervals) y rest fault (next_interval 0 0 intervals n.next.intervals rest y so_far n.lawful.4 (omega (arith, k.0, fewer)) k.1)
     (ap (λ e. interval_fault e rest) (sym (ends_at intervals)) ∙ faulty)
 
-same_blocks : (b c : Option (List ℕ)) (l m : List SidBlock) (x y : List ℕ) → AreBlocks b l → AreBlocks c m → length l ≡ length m → flat_map block_bytes l ++ x ≡ flat_map block_bytes m ++ y → (l ≡ m) × (x ≡ y)
+pub same_blocks : (b c : Option (List ℕ)) (l m : List SidBlock) (x y : List ℕ) → AreBlocks b l → AreBlocks c m → length l ≡ length m → flat_map block_bytes l ++ x ≡ flat_map block_bytes m ++ y → (l ≡ m) × (x ≡ y)
 same_blocks b c [] [] x y left right long same = (refl, same)
 same_blocks b c [] (q ∷ m) x y left right long same = absurd (omega (arith, long))
 same_blocks b c (p ∷ l) [] x y left right long same = absurd (omega (arith, long))
@@ -200,7 +200,7 @@ one_encoding l m x y left right fits also same =
     (sym (append_assoc (little_bytes 8 (length l)) (flat_map block_bytes l) x) ∙ same ∙ append_assoc (little_bytes 8 (length m)) (flat_map block_bytes m) y) in
     same_blocks None None l m x y left right n.0 n.1
 
-flatten : (a b c d e f : List ℕ) → ((((a ++ b) ++ c) ++ d) ++ e) ++ f ≡ a ++ (b ++ (c ++ (d ++ (e ++ f))))
+pub flatten : (a b c d e f : List ℕ) → ((((a ++ b) ++ c) ++ d) ++ e) ++ f ≡ a ++ (b ++ (c ++ (d ++ (e ++ f))))
 flatten a b c d e f = simp append_assoc
 
 from_left : (a b c d e f bytes : List ℕ) → bytes ≡ ((((a ++ b) ++ c) ++ d) ++ e) ++ f → (g h x : List ℕ) → bytes ≡ (g ++ h) ++ x → a ++ (b ++ (c ++ (d ++ (e ++ f)))) ≡ g ++ (h ++ x)

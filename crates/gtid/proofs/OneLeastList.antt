@@ -3,7 +3,6 @@ use Rattle.std.proofs.Common.{◌≡◌, ◌<◌, ◌≤◌, ◌⊎◌, inl, inr
 use Rattle.std.specs.declared.cmp.Ordering.{Ordering}
 use Rattle.std.specs.declared.cmp.Ordering.TheVariants.{Less, Equal, Greater}
 use Rattle.std.specs.Ordering.{nat_cmp, ordering_reverse}
-use Rattle.std.specs.Cmp.{tied_itself}
 use Rattle.std.specs.Cmp.Lexicographic.{slice_cmp, nat_list_cmp_total}
 use Rattle.std.specs.FinSet as set
 use Rattle.std.specs.List.{list_any}
@@ -14,30 +13,27 @@ use Rattle.std.proofs.lemmas.Slice.Eq.{bytes_eq-Decides}
 use Rattle.gtid.specs.Identifier.{Id, Ids}
 use Rattle.gtid.specs.Span.{is_in, IsBefore, IsLeast, IsLeastList}
 use Rattle.gtid.specs.declared.span.Span.{Span}
+use Rattle.gtid.proofs.NotBelow.{not_below_itself}
 
 -- the identifier is below the span
-abbrev Below : Id → Span → Type 0
+abbrev pub Below : Id → Span → Type 0
 Below q b = (slice_cmp nat_cmp q.0 b.source ≡ Less) ⊎ ((q.0 ≡ b.source) × (q.1 < b.lo))
 
 -- the identifier is below the first span
-abbrev IsEarly : Id → List Span → Type 0
+abbrev pub IsEarly : Id → List Span → Type 0
 IsEarly q [] = Unit {0}
 IsEarly q (b ∷ spans) = Below q b
 
-some_first : (a : Span) (spans : List Span) → IsLeast (a ∷ spans) → a.lo < a.hi
+pub some_first : (a : Span) (spans : List Span) → IsLeast (a ∷ spans) → a.lo < a.hi
 some_first a [] least = least
 some_first a (b ∷ spans) least = least.0
 
-tail_least : (a : Span) (spans : List Span) → IsLeast (a ∷ spans) → IsLeast spans
+pub tail_least : (a : Span) (spans : List Span) → IsLeast (a ∷ spans) → IsLeast spans
 tail_least a [] least = tt
 tail_least a (b ∷ spans) least = least.2
 
-not_both : (o : Ordering) → o ≡ Less → o ≡ Equal → ⊥
-not_both o less equal = Prim.cc
-
 not_same : (s t : List ℕ) → slice_cmp nat_cmp s t ≡ Less → s ≡ t → ⊥
-not_same s t less same =
-    not_both (slice_cmp nat_cmp s s) (ap (λ u. slice_cmp nat_cmp s u) same ∙ less) (tied_itself nat_list_cmp_total s)
+not_same s t less same = not_below_itself s (ap (λ u. slice_cmp nat_cmp s u) same ∙ less)
 
 -- whether the numbers of a source are in a span of it
 in_same : (q : Id) (b : Span) (e : Bool) → bytes_eq q.0 b.source ≡ e → (q.0 ≡ b.source → (nat_le b.lo q.1 && nat_lt q.1 b.hi) ≡ false) → is_in q b ≡ false
@@ -60,7 +56,7 @@ out_below q b (inr (same, less)) = in_same q b (bytes_eq q.0 b.source) refl (λ 
 out_above : (q : Id) (b : Span) → b.hi ≤ q.1 → is_in q b ≡ false
 out_above q b h = in_same q b (bytes_eq q.0 b.source) refl (λ _. above_out q.1 b.lo b.hi h)
 
-inside : (q : Id) (b : Span) → q.0 ≡ b.source → b.lo ≤ q.1 → q.1 < b.hi → is_in q b ≡ true
+pub inside : (q : Id) (b : Span) → q.0 ≡ b.source → b.lo ≤ q.1 → q.1 < b.hi → is_in q b ≡ true
 inside q b same low high =
     (λ i. (bytes_eq-Decides q.0 b.source).1 same i && between_in q.1 b.lo b.hi low high i)
 

@@ -1,19 +1,18 @@
 -- What a text says, it says alone.
-use Rattle.std.proofs.Common.{◌≡◌, ℕ, ◌<◌, List, [], ◌∷◌, map, refl, ap, sym, ◌∙◌, arith, inl, inr, Some, None}
+use Rattle.std.proofs.Common.{◌≡◌, ℕ, List, [], ◌∷◌, map, refl, ap, sym, ◌∙◌, inl, inr, Some, None}
 use Rattle.std.proofs.lemmas.Bool.{cases_order}
 use Rattle.std.specs.FinSet as set
 use Rattle.gtid.specs.Identifier.{Ids}
 use Rattle.gtid.specs.Span.{is_in}
 use Rattle.std.specs.List.{list_any}
 use Rattle.gtid.specs.Encoding.{SidBlock}
-use Rattle.gtid.specs.Reading.{collected, span_of}
+use Rattle.gtid.specs.Reading.{span_of}
 use Rattle.gtid.specs.Text.{IsList, list_fault, written_spans, first_some, IsRead, IsOutsideFrom, IsParseFault}
 use Rattle.gtid.specs.Text.IsParseFault.{outside, written}
 use Rattle.gtid.specs.declared.fault.GtidFault.{GtidFault}
 use Rattle.gtid.specs.declared.fault.GtidFault.TheVariants.{Text}
-use Rattle.gtid.specs.declared.reading.Part.TheVariants.{Source}
 use Rattle.gtid.proofs.Sets.{id_cmp_total, id_cmp-same}
-use Rattle.gtid.proofs.Judged.{faults_of, item_faults, item_spans, found_in}
+use Rattle.gtid.proofs.Judged.{faults_of, item_faults, item_spans}
 use Rattle.gtid.proofs.Collected.{read_list}
 
 abbrev zeros : List ℕ

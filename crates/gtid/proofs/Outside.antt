@@ -1,13 +1,13 @@
 -- Where the scan stands, some text of the grammar goes on. Where it stops, none does.
-use Rattle.std.proofs.Common.{◌≡◌, ℕ, zero, suc, ◌+◌, ◌-◌, ◌<◌, ◌≤◌, ◌==◌, Bool, true, false, if◌then◌else◌, Some, None, List, [], ◌∷◌, ◌++◌, length, take, drop, get_or, refl, ap, sym, subst, ◌∙◌, arith, append-nil, true≢false, take-add, take_all}
+use Rattle.std.proofs.Common.{◌≡◌, ℕ, zero, suc, ◌+◌, ◌-◌, ◌<◌, ◌≤◌, ◌==◌, Bool, true, false, if◌then◌else◌, Some, None, List, [], ◌∷◌, ◌++◌, length, take, drop, get_or, refl, ap, sym, subst, ◌∙◌, arith, append-nil, length-append, true≢false, take-add, take_all}
 use Rattle.std.proofs.lemmas.Bool.Decides.{nat_tests}
 use Rattle.uuid.specs.Text.{is_hyphen_place, is_hex_digit}
 use Rattle.gtid.specs.Encoding.{SidBlock}
 use Rattle.gtid.specs.Text.{IsList, IsInGrammar, BeginsText, IsOutsideFrom}
-use Rattle.gtid.specs.Scan.{step, ends, stands_at, IsPlaced}
+use Rattle.gtid.specs.Scan.{step, ends, stands_at, IsPlaced, run, IsPassed}
 use Rattle.gtid.specs.declared.grammar.State.{State}
 use Rattle.gtid.specs.declared.grammar.State.TheVariants.{Start, Item, Source, First, Lo, Second, Hi, Behind}
-use Rattle.gtid.proofs.Scanned.{run, run_none, run_append, run_on, run_list, begins_none, tested_second, Ended}
+use Rattle.gtid.proofs.Scanned.{run_none, run_append, run_on, run_list, begins_none, tested_second, Ended}
 use Rattle.gtid.proofs.Recognized.{recognized, same_state}
 
 -- the rest of a UUID from a place on, and an interval
@@ -73,7 +73,6 @@ stopped text i n none more =
     ∙ ap (λ o. run o (take (n - i) (drop i text))) none
     ∙ run_none (take (n - i) (drop i text))
 
--- No step leads on.
 pub outside_at : (text : List ℕ) (i b : ℕ) (s : State) → i < length text → b ≡ get_or text i 0 → run (Some Start) (take i text) ≡ Some s → IsPlaced s → step s b ≡ None →
     IsOutsideFrom text i
 outside_at text i b s short is ran placed none =
@@ -86,10 +85,32 @@ outside_at text i b s short is ran placed none =
       no_longer = λ n longer within. begins_none (take n text) (stopped text (i + 1) n here (omega arith));
     }
 
+take_front : (front left : List ℕ) → take (length front) (front ++ left) ≡ front
+take_front [] left = refl
+take_front (b ∷ front) left = ap (λ bs. b ∷ bs) (take_front front left)
+
+get_behind : (front left : List ℕ) (b : ℕ) → b ≡ get_or (front ++ b ∷ left) (length front) 0
+get_behind [] left b = refl
+get_behind (c ∷ front) left b = get_behind front left b
+
+-- No step leads on.
+pub outside_here : (text left : List ℕ) (d : ℕ) (s : State) → IsPassed Start text s left → IsPlaced s → 1 ≤ length left → step s (get_or left 0 d) ≡ None → IsOutsideFrom text (length text - length left)
+outside_here text [] d s p placed some none = absurd (omega arith)
+outside_here text (b ∷ rest) d s p placed some none =
+    let long : length text ≡ length p.front + length (b ∷ rest) = ap length p.is ∙ length-append p.front (b ∷ rest) in
+    let same : length p.front ≡ length text - length (b ∷ rest) = omega (arith, long) in
+    subst (IsOutsideFrom text) same
+    (outside_at text (length p.front) b s (omega (arith, long)) (get_behind p.front rest b ∙ ap (λ t. get_or t (length p.front) 0) (sym p.is))
+    (ap (λ t. run (Some Start) (take (length p.front) t)) p.is ∙ ap (run (Some Start)) (take_front p.front (b ∷ rest)) ∙ p.ran) placed none)
+
+passed_all : {s : State} (text left : List ℕ) → IsPassed Start text s left → length left < 1 → run (Some Start) text ≡ Some s
+passed_all {s} text [] p none = ap (run (Some Start)) (p.is ∙ append-nil p.front) ∙ p.ran
+passed_all text (b ∷ rest) p none = absurd (omega arith)
+
 -- The text may not end where the scan stands.
-pub outside_end : (text : List ℕ) (i : ℕ) (s : State) → length text ≤ i → run (Some Start) (take i text) ≡ Some s → IsPlaced s → ends s ≡ false → IsOutsideFrom text (length text)
-outside_end text i s all ran placed open_end =
-    let here : run (Some Start) text ≡ Some s = ap (run (Some Start)) (sym (take_all i text all)) ∙ ran in
+pub outside_end : (text left : List ℕ) (s : State) → IsPassed Start text s left → IsPlaced s → length left < 1 → ends s ≡ false → IsOutsideFrom text (length text)
+outside_end text left s p placed none open_end =
+    let here : run (Some Start) text ≡ Some s = passed_all text left p none in
     record {
       outside = λ items is_list.
           let e = run_list text items is_list in
@@ -100,5 +121,5 @@ outside_end text i s all ran placed open_end =
     }
 
 -- The text ends where it may.
-pub in_grammar_end : (text : List ℕ) (i : ℕ) (s : State) → length text ≤ i → run (Some Start) (take i text) ≡ Some s → ends s ≡ true → IsInGrammar text
-in_grammar_end text i s all ran end = recognized text s (ap (run (Some Start)) (sym (take_all i text all)) ∙ ran) end
+pub in_grammar_end : (text left : List ℕ) (s : State) → IsPassed Start text s left → length left < 1 → ends s ≡ true → IsInGrammar text
+in_grammar_end text left s p none end = recognized text s (passed_all text left p none) end

@@ -17,20 +17,18 @@ use Rattle.gtid.proofs.Sets.{contains_listed, same_ids}
 abbrev pub AreRead : List ℕ → List Span → Type 0
 AreRead text spans = (items : List SidBlock) → IsList text items → (list_fault items ≡ None) × (spans ≡ written_spans items)
 
-pub is_read : (text : List ℕ) (spans listed_of : List Span) (groups : List Group) → IsInGrammar text → AreRead text spans → listed_of ≡ spans → ((q : Id) → is_listed q groups ≡ list_any (is_in q) listed_of) →
-    IsRead text (ids_of groups)
-is_read text spans listed_of groups g read same listed =
+pub is_read : (text : List ℕ) (spans : List Span) (groups : List Group) → IsInGrammar text → AreRead text spans → ((q : Id) → is_listed q groups ≡ list_any (is_in q) spans) → IsRead text (ids_of groups)
+is_read text spans groups g read listed =
     let r = read g.items g.is_list in
     record {
       items = g.items;
       is_list = g.is_list;
       lawful = r.0;
-      union = λ q. contains_listed groups q ∙ listed q ∙ ap (list_any (is_in q)) (same ∙ r.1);
+      union = λ q. contains_listed groups q ∙ listed q ∙ ap (list_any (is_in q)) r.1;
     }
 
-pub only_read : (text : List ℕ) (spans listed_of : List Span) (groups : List Group) → AreRead text spans → listed_of ≡ spans → ((q : Id) → is_listed q groups ≡ list_any (is_in q) listed_of) → (ids : Ids) →
-    IsRead text ids → ids_of groups ≡ ids
-only_read text spans listed_of groups read same listed ids r = same_ids ids groups (λ q. listed q ∙ ap (list_any (is_in q)) (same ∙ (read r.items r.is_list).1) ∙ sym (r.union q))
+pub only_read : (text : List ℕ) (spans : List Span) (groups : List Group) → AreRead text spans → ((q : Id) → is_listed q groups ≡ list_any (is_in q) spans) → (ids : Ids) → IsRead text ids → ids_of groups ≡ ids
+only_read text spans groups read listed ids r = same_ids ids groups (λ q. listed q ∙ ap (list_any (is_in q)) ((read r.items r.is_list).1) ∙ sym (r.union q))
 
 -- a fault of each list of items that the text has
 pub written_fault : (text : List ℕ) (fault : GtidFault) → IsInGrammar text → (fault ≡ Memory) ⊎ ((items : List SidBlock) → IsList text items → list_fault items ≡ Some fault) → (fault ≡ Memory) ⊎ IsParseFault text fault

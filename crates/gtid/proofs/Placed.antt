@@ -1,5 +1,5 @@
 -- The place of a source among ascending groups.
-use Rattle.std.proofs.Common.{◌≡◌, ℕ, zero, suc, ◌<◌, ◌≤◌, ◌+◌, inl, inr, Bool, true, false, ◌||◌, List, [], ◌∷◌, length, take, drop, slice_index_or, refl, ap, sym, subst, ◌∙◌, Result, Ok, Err, IfOk, IfErr, arith}
+use Rattle.std.proofs.Common.{◌≡◌, ℕ, zero, suc, ◌<◌, ◌≤◌, ◌+◌, inl, inr, true, ◌||◌, List, [], ◌∷◌, length, take, drop, slice_index_or, refl, ap, sym, subst, ◌∙◌, Result, Ok, Err, IfOk, IfErr, arith}
 use Rattle.std.specs.declared.cmp.Ordering.{Ordering}
 use Rattle.std.specs.declared.cmp.Ordering.TheVariants.{Less, Equal, Greater}
 use Rattle.std.specs.Ordering.{nat_cmp, ordering_index, ordering_reverse}
@@ -74,10 +74,6 @@ ascend_dropped [] zero ascend = ascend
 ascend_dropped [] (suc k) ascend = ascend
 ascend_dropped (g ∷ groups) zero ascend = ascend
 ascend_dropped (g ∷ groups) (suc k) ascend = ascend_dropped groups k (ascend_first g.source (sources groups) ascend).1
-
-pub or_false : (a : Bool) → (a || false) ≡ a
-or_false true = refl
-or_false false = refl
 
 -- one group more, whose numbers the others have
 pub subset_more : (groups of : List Group) (k : ℕ) (g : Group) → k < length groups → g ≡ slice_index_or groups k g → ((n : ℕ) → has g.intervals.items n ≡ true → is_listed (g.source, n) of ≡ true) →

@@ -1,19 +1,26 @@
 -- Text that grows by ASCII.
-use Rattle.std.proofs.Common.{◌≡◌, ℕ, List, [], ◌∷◌, ◌++◌, refl, ap, sym, ◌∙◌, append_assoc, ◌<◌, ◌≤◌, ◌+◌, zero, suc, length, drop, map, flat_map, get_or, codes, subst, arith}
+use Rattle.std.proofs.Common.{◌≡◌, ℕ, List, [], ◌∷◌, ◌++◌, refl, ap, sym, ◌∙◌, append_assoc, ◌<◌, ◌≤◌, ◌+◌, zero, suc, length, drop, map, flat_map, get_or, take, add-one, codes, subst, arith, ◌-◌, ◌^◌, true, nat_le, nat_lt, inl, inr}
 use Rattle.std.specs.Str.{IsAscii}
 use Rattle.std.proofs.Math.ListN.{drop_of_length-le}
 use Rattle.std.proofs.lemmas.List.{append-nil, drop_more}
 use Rattle.std.proofs.lemmas.Str.{IsAscii-append}
 use Rattle.std.proofs.lemmas.Str.Ascii.{IsAscii-nil}
-use Rattle.std.specs.List.{join_by}
-use Rattle.gtid.specs.Identifier.{Ids}
-use Rattle.gtid.specs.Group.{Ascend, sources, ids_of}
+use Rattle.std.specs.List.{join_by, AllByRecursion}
+use Rattle.std.specs.Str.{bytes_eq}
+use Rattle.std.proofs.lemmas.Bool.{false≢true, or_cases, and_parts}
+use Rattle.std.proofs.lemmas.Bool.Decides.{nat_tests}
+use Rattle.std.proofs.lemmas.Slice.Eq.{bytes_eq-Decides}
+use Rattle.gtid.specs.Identifier.{Id, Ids, IsSource, IsGtid, AreGtids}
+use Rattle.gtid.specs.Interval.{is_within, has, AreLeast}
+use Rattle.gtid.specs.Group.{Ascend, sources, is_of, is_listed, ids_of}
 use Rattle.gtid.specs.Spans.{spans_of}
 use Rattle.gtid.specs.Text.{block_text, AppendsText}
 use Rattle.gtid.specs.Blocks.{blocks, GrowsByAscii}
+use Rattle.gtid.specs.declared.interval.Interval.{Interval}
 use Rattle.gtid.specs.declared.group.Group.{Group}
 use Rattle.gtid.proofs.LeastList.{least_list_of}
 use Rattle.gtid.proofs.Grouped.{grouped_groups}
+use Rattle.gtid.proofs.Sets.{contains_listed}
 
 pub grows_none : (old : List ℕ) → GrowsByAscii old old
 grows_none old = record { more = []; grown = sym (append-nil old); ascii = IsAscii-nil }
@@ -69,11 +76,48 @@ prints_none text of items old front out all is grows all_is = record {
 pub prints_all : {X Y : Type 0} {text : Y → List ℕ} {of : X → Y} {items : List X} {at : ℕ} {old out all : List ℕ} → Prints text of items at old out all → length items ≤ at → out ≡ old ++ all
 prints_all {text = text} {of} {items} {at} {old} {out} {all} p end = sym (append-nil out) ∙ ap (λ xs. out ++ flat_map text (map of xs)) (sym (drop_of_length-le items end)) ∙ p.rest
 
+-- one item more of which it holds
+pub all_more : {X : Type 0} (P : X → Type 0) (items : List X) (at : ℕ) (x : X) → AllByRecursion P (take at items) → at < length items → x ≡ get_or items at x → P x → AllByRecursion P (take (at + 1) items)
+all_more {X = X} P items at x all short is holds = subst (λ k. AllByRecursion P (take k items)) (sym (add-one at)) (one_more items at all short is)
+  where
+    one_more : (items : List X) (at : ℕ) → AllByRecursion P (take at items) → at < length items → x ≡ get_or items at x → AllByRecursion P (take (suc at) items)
+    one_more [] at all short is = absurd (omega arith)
+    one_more (y ∷ items) zero all short is = (subst P is holds, tt)
+    one_more (y ∷ items) (suc at) all short is = (all.0, one_more items at all.1 (omega arith) is)
+
+-- ---- The set that groups stand for.
+
+-- The source is of 16 bytes, and the numbers are in range.
+least_number : (end : ℕ) (intervals : List Interval) (n : ℕ) → AreLeast end intervals → has intervals n ≡ true → (end < n) × (n < 2 ^ 63 - 1)
+least_number end [] n least one = absurd (false≢true one)
+least_number end (i ∷ intervals) n least one = elim (or_cases (is_within n i) (has intervals n) one) [
+  | inl first ↦ within (and_parts (nat_le i.lo n) (nat_lt n i.hi) first)
+  | inr later ↦ let l = least_number i.hi intervals n least.3 later in (omega (arith, least.0, least.1, l.0), l.1)
+]
+  where
+    within : (nat_le i.lo n ≡ true) × (nat_lt n i.hi ≡ true) → (end < n) × (n < 2 ^ 63 - 1)
+    within both = (grind (arith, nat_tests, least.0, both.0), grind (arith, nat_tests, least.2, both.1))
+
+listed_gtid : (groups : List Group) (q : Id) → AllByRecursion (λ g. IsSource g.source) groups → is_listed q groups ≡ true → IsGtid q
+listed_gtid [] q all one = absurd (false≢true one)
+listed_gtid (g ∷ groups) q all one = elim (or_cases (is_of q g) (is_listed q groups) one) [
+  | inl first ↦
+      let both = and_parts (bytes_eq q.0 g.source) (has g.intervals.items q.1) first in
+      let n = least_number 0 g.intervals.items q.1 g.least both.1 in
+      (subst IsSource (sym ((bytes_eq-Decides q.0 g.source).0 both.0)) all.0, omega (arith, n.0), omega (arith, n.1))
+  | inr later ↦ listed_gtid groups q all.1 later
+]
+
+gtids_of : (groups : List Group) → AllByRecursion (λ g. IsSource g.source) groups → AreGtids (ids_of groups)
+gtids_of groups all q one = listed_gtid groups q all (sym (contains_listed groups q) ∙ one)
+
 -- the printed form of the set that groups stand for
-pub appends_text : (groups all : List Group) (ids : Ids) (old new : List ℕ) → Ascend (sources all) → groups ≡ all → ids_of all ≡ ids → new ≡ old ++ join_by block_text (codes ",") (blocks groups) → AppendsText ids old new
-appends_text groups all ids old new ascend same is printed = record {
+pub appends_text : (groups all : List Group) (ids : Ids) (old new : List ℕ) → Ascend (sources all) → groups ≡ all → ids_of all ≡ ids → new ≡ old ++ join_by block_text (codes ",") (blocks groups) → AllByRecursion (λ g. IsSource g.source) groups →
+    AppendsText ids old new
+appends_text groups all ids old new ascend same is printed lawful = record {
   text = join_by block_text (codes ",") (blocks groups);
   is_text = record {
+    lawful = subst AreGtids (ap ids_of same ∙ is) (gtids_of groups lawful);
     spans = spans_of groups;
     least = least_list_of (spans_of groups) groups all ids ascend refl same is;
     printed = ap (join_by block_text (codes ",")) (sym (grouped_groups groups (subst (λ gs. Ascend (sources gs)) (sym same) ascend)));

@@ -4,7 +4,7 @@ use Rattle.std.specs.List.{last_or}
 use Rattle.std.proofs.lemmas.List.{length-append}
 use Rattle.gtid.specs.Interval.{AreLeast}
 use Rattle.byteorder.specs.Endian.{little_bytes}
-use Rattle.gtid.specs.Encoding.{SidBlock, interval_bytes, block_bytes, blocks_bytes, interval_fault, is_above, source_fault, end_of, last_source, AreIntervals, AreBlocks, IsDecodeFault}
+use Rattle.gtid.specs.Encoding.{SidBlock, interval_bytes, block_bytes, blocks_bytes, interval_fault, is_above, end_of, last_source, AreIntervals, AreBlocks, IsDecodeFault}
 use Rattle.gtid.specs.Encoding.IsDecodeFault.{no_count, at_source, at_interval}
 use Rattle.gtid.specs.declared.fault.GtidFault.TheVariants.{Truncated, Memory}
 use Rattle.gtid.specs.Blocks.{pair, of_group, blocks}
@@ -145,36 +145,43 @@ faults_too_short bytes short = no_count short
 flatten : (a b c d e f : List ℕ) → a ++ (b ++ ((c ++ d) ++ (e ++ f))) ≡ ((((a ++ b) ++ c) ++ d) ++ e) ++ f
 flatten a b c d e f = simp append_assoc
 
-group_faults : (groups : List Group) (done count : ℕ) (before : Option (List ℕ)) (rest behind bytes : List ℕ) (fault : GtidFault) → ReadGroups groups done before rest behind →
-    done < count → count < 2 ^ 64 → bytes ≡ little_bytes 8 count ++ behind → IsBlockFault before rest fault → IsDecodeFault bytes fault
-group_faults groups done count before rest behind bytes fault r fewer fits split (inl faulty) = at_source fault (record {
+-- Behind lawful blocks, fewer than are to be, the next is at fault.
+pub next_faults : (some : List SidBlock) (count : ℕ) (rest bytes : List ℕ) (fault : GtidFault) → AreBlocks None some → length some < count → count < 2 ^ 64 →
+    bytes ≡ little_bytes 8 count ++ (flat_map block_bytes some ++ rest) → IsBlockFault (last_source some) rest fault → IsDecodeFault bytes fault
+next_faults some count rest bytes fault lawful fewer fits split (inl faulty) = at_source fault (record {
   count = count;
-  blocks = blocks groups;
+  blocks = some;
   rest = rest;
-  lawful = r.lawful;
-  counted = (omega (arith, length_map of_group groups, r.counted), fits);
-  bytes_are = split ∙ ap (λ l. little_bytes 8 count ++ l) r.split ∙ sym (append_assoc (little_bytes 8 count) (flat_map block_bytes (blocks groups)) rest);
-  faulty = ap (λ b. source_fault b rest) r.last ∙ faulty;
+  lawful = lawful;
+  counted = (fewer, fits);
+  bytes_are = split ∙ sym (append_assoc (little_bytes 8 count) (flat_map block_bytes some) rest);
+  faulty = faulty;
 })
-group_faults groups done count before rest behind bytes fault r fewer fits split (inr b) =
+next_faults some count rest bytes fault lawful fewer fits split (inr b) =
     let i = b.faulty in
     at_interval fault (record {
       count = count;
-      blocks = blocks groups;
+      blocks = some;
       source = b.source;
       size = b.size;
       intervals = i.intervals;
       rest = i.rest;
-      lawful = r.lawful;
-      counted = (omega (arith, length_map of_group groups, r.counted), fits);
-      above = (b.above.0, ap (λ s. is_above s b.source) r.last ∙ b.above.1);
+      lawful = lawful;
+      counted = (fewer, fits);
+      above = b.above;
       some = (i.some, b.fits);
       so_far = i.so_far;
       bytes_are = split
-          ∙ ap (λ l. little_bytes 8 count ++ l) (r.split ∙ ap (λ l. flat_map block_bytes (blocks groups) ++ l) (b.bytes_are ∙ ap (λ l. b.source ++ little_bytes 8 b.size ++ l) i.bytes_are))
-          ∙ flatten (little_bytes 8 count) (flat_map block_bytes (blocks groups)) b.source (little_bytes 8 b.size) (flat_map interval_bytes i.intervals) i.rest;
+          ∙ ap (λ l. little_bytes 8 count ++ (flat_map block_bytes some ++ l)) (b.bytes_are ∙ ap (λ l. b.source ++ little_bytes 8 b.size ++ l) i.bytes_are)
+          ∙ flatten (little_bytes 8 count) (flat_map block_bytes some) b.source (little_bytes 8 b.size) (flat_map interval_bytes i.intervals) i.rest;
       faulty = i.faulty;
     })
+
+group_faults : (groups : List Group) (done count : ℕ) (before : Option (List ℕ)) (rest behind bytes : List ℕ) (fault : GtidFault) → ReadGroups groups done before rest behind →
+    done < count → count < 2 ^ 64 → bytes ≡ little_bytes 8 count ++ behind → IsBlockFault before rest fault → IsDecodeFault bytes fault
+group_faults groups done count before rest behind bytes fault r fewer fits split faulty =
+    next_faults (blocks groups) count rest bytes fault r.lawful (omega (arith, length_map of_group groups, r.counted)) fits (split ∙ ap (λ l. little_bytes 8 count ++ l) r.split)
+    (subst (λ b. IsBlockFault b rest fault) (sym r.last) faulty)
 
 pub groups_fault : (groups : List Group) (done count : ℕ) (before : Option (List ℕ)) (rest behind bytes : List ℕ) (fault : GtidFault) → ReadGroups groups done before rest behind →
     done < count → count < 2 ^ 64 → bytes ≡ little_bytes 8 count ++ behind → (fault ≡ Memory) ⊎ IsBlockFault before rest fault → (fault ≡ Memory) ⊎ IsDecodeFault bytes fault

@@ -10,7 +10,8 @@ use Rattle.gtid.specs.Scan.{step, ends, stands_at, is_digit, is_blank, end_numbe
 use Rattle.gtid.specs.declared.grammar.State.{State}
 use Rattle.gtid.specs.declared.grammar.State.TheVariants.{Start, Item, Source, First, Lo, Second, Hi, Behind}
 use Rattle.gtid.proofs.SourceText.{StandFrom, spells}
-use Rattle.gtid.proofs.Scanned.{run, run_none, no_state}
+use Rattle.gtid.specs.Scan.{run}
+use Rattle.gtid.proofs.Scanned.{run_none, no_state}
 
 -- ---- What may follow each state, as the pieces of the grammar.
 
@@ -240,12 +241,12 @@ hex_listed b text hex p =
 -- ---- One step back.
 
 -- the choice of the first test that holds
-choose : (test : Bool) (s : State) (o : Option State) (P : State → Type 0) → (test ≡ true → P s) → ((t : State) → o ≡ Some t → P t) →
+pub choose : (test : Bool) (s : State) (o : Option State) (P : State → Type 0) → (test ≡ true → P s) → ((t : State) → o ≡ Some t → P t) →
     (t : State) → (if test then Some s else o) ≡ Some t → P t
 choose true s o P holds other t e = let same : s ≡ t = Prim.cc in subst P same (holds refl)
 choose false s o P holds other t e = other t e
 
-nothing : (P : State → Type 0) (t : State) → None ≡ Some t → P t
+pub nothing : (P : State → Type 0) (t : State) → None ≡ Some t → P t
 nothing P t e = absurd (no_state None t refl e)
 
 end_back : (b : ℕ) (text : List ℕ) (t : State) → end_number b ≡ Some t → Completes t text → Numbers 0 (b ∷ text)

@@ -1,5 +1,5 @@
 -- The scan, byte after byte: each text of the grammar brings it to an end.
-use Rattle.std.proofs.Common.{◌≡◌, ℕ, ◌+◌, ◌<◌, ◌==◌, inl, inr, Bool, true, false, if◌then◌else◌, Option, Some, None, List, [], ◌∷◌, ◌++◌, length, take, get_or, refl, ap, sym, subst, ◌∙◌, arith}
+use Rattle.std.proofs.Common.{◌≡◌, ℕ, ◌+◌, ◌<◌, ◌==◌, inl, inr, Bool, true, false, if◌then◌else◌, Option, Some, None, List, [], ◌∷◌, ◌++◌, length, take, drop, get_or, ◌-◌, ◌≤◌, append_assoc, length-append, take_all, refl, ap, sym, subst, ◌∙◌, arith}
 use Rattle.std.specs.List.{AllByRecursion}
 use Rattle.std.specs.Char.{IsAsciiDigit}
 use Rattle.std.proofs.lemmas.Bool.Decides.{nat_tests}
@@ -7,19 +7,10 @@ use Rattle.std.proofs.lemmas.List.{take_more}
 use Rattle.uuid.specs.Text.{is_hex_digit}
 use Rattle.gtid.specs.Encoding.{SidBlock}
 use Rattle.gtid.specs.Text.{IsBlank, IsNumeral, IsIntervalText, AreIntervalTexts, IsItem, IsList, BeginsText}
-use Rattle.gtid.specs.Scan.{step, ends, stands_at, is_digit}
+use Rattle.gtid.specs.Scan.{step, ends, stands_at, is_digit, stepped, run, IsPassed}
 use Rattle.gtid.specs.declared.grammar.State.{State}
 use Rattle.gtid.specs.declared.grammar.State.TheVariants.{Start, Item, Source, First, Lo, Second, Hi, Behind}
 use Rattle.gtid.proofs.SourceText.{StandFrom, source_length, source_stands}
-
-abbrev pub stepped : Option State → ℕ → Option State
-stepped None b = None
-stepped (Some s) b = step s b
-
--- where the bytes lead
-abbrev pub run : Option State → List ℕ → Option State
-run o [] = o
-run o (b ∷ bs) = run (stepped o b) bs
 
 pub run_append : (o : Option State) (xs ys : List ℕ) → run o (xs ++ ys) ≡ run (run o xs) ys
 run_append o [] ys = refl
@@ -197,3 +188,32 @@ pub begins_none : (front : List ℕ) → run (Some Start) front ≡ None → Beg
 begins_none front none (rest, items, is_list) =
     let ended = run_list (front ++ rest) items is_list in
     no_state _ ended.state (run_append (Some Start) front rest ∙ ap (λ o. run o rest) none ∙ run_none rest) ended.is
+
+-- ---- The scan's own steps.
+
+pub passed_none : (s : State) (text : List ℕ) → IsPassed s text s text
+passed_none s text = record { front = []; is = refl; ran = refl }
+
+pub passed_on : {s t u : State} {text left rest : List ℕ} → IsPassed s text t left → IsPassed t left u rest → IsPassed s text u rest
+passed_on {s} {t} {u} {text} {left} {rest} p q = record {
+  front = p.front ++ q.front;
+  is = p.is ∙ ap (λ l. p.front ++ l) q.is ∙ sym (append_assoc p.front q.front rest);
+  ran = run_append (Some s) p.front q.front ∙ ap (λ o. run o q.front) p.ran ∙ q.ran;
+}
+
+pub passed_byte : {s t u : State} {text : List ℕ} (left : List ℕ) (d : ℕ) → IsPassed s text t left → 1 ≤ length left → step t (get_or left 0 d) ≡ Some u → IsPassed s text u (take (length left - 1) (drop 1 left))
+passed_byte [] d p some leads = absurd (omega arith)
+passed_byte {s} {t} {u} {text} (b ∷ rest) d p some leads =
+    subst (λ l. IsPassed s text u l) (sym (take_all (length (b ∷ rest) - 1) rest (omega arith))) (passed_on p (record { front = b ∷ []; is = refl; ran = leads }))
+
+digit_stays : (b : ℕ) → is_digit b ≡ true → (step Lo b ≡ Some Lo) × (step Hi b ≡ Some Hi)
+digit_stays b is = (tested (is_digit b) Lo _ is, tested (is_digit b) Hi _ is)
+
+pub passed_lo : {text : List ℕ} {left rest : List ℕ} (b : ℕ) → IsPassed Lo text Lo left → left ≡ b ∷ rest → is_digit b ≡ true → IsPassed Lo text Lo rest
+passed_lo {left = left} {rest = rest} b p e is = passed_on p (record { front = b ∷ []; is = e; ran = (digit_stays b is).0 })
+
+pub passed_hi : {text : List ℕ} {left rest : List ℕ} (b : ℕ) → IsPassed Hi text Hi left → left ≡ b ∷ rest → is_digit b ≡ true → IsPassed Hi text Hi rest
+passed_hi {left = left} {rest = rest} b p e is = passed_on p (record { front = b ∷ []; is = e; ran = (digit_stays b is).1 })
+
+pub passed_shorter : {s t : State} {text left : List ℕ} → IsPassed s text t left → length left ≤ length text
+passed_shorter {left = left} p = omega (arith, length-append p.front left, ap length p.is)

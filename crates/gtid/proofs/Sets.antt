@@ -12,6 +12,7 @@ use Rattle.std.specs.Str.{bytes_eq}
 use Rattle.std.proofs.lemmas.List.Folds.{list_any-append}
 use Rattle.std.proofs.lemmas.Map.Text.{is_eq-slice_cmp}
 use Rattle.std.specs.Bool.{IsTrue}
+use Rattle.std.proofs.Math.Bool.{or-false}
 use Rattle.std.proofs.lemmas.Bool.{and_right, false_from_ne_true, false≢true}
 use Rattle.std.proofs.lemmas.Bool.Decides.{nat_tests}
 use Rattle.std.proofs.lemmas.Grind.{common_steps}
@@ -37,7 +38,7 @@ id_cmp-same a b e =
     λ i. (set.slice_cmp-IsAntisymmetric set.nat_cmp-IsAntisymmetric a.0 b.0 both.0 i, set.nat_cmp-IsAntisymmetric a.1 b.1 both.1 i)
 
 -- whether two identifiers are one, by source and number
-tied : (a b : Id) → eq_by_cmp id_cmp a b ≡ (bytes_eq a.0 b.0 && nat_eq a.1 b.1)
+pub tied : (a b : Id) → eq_by_cmp id_cmp a b ≡ (bytes_eq a.0 b.0 && nat_eq a.1 b.1)
 tied a b =
     sym (tied_then (slice_cmp nat_cmp a.0 b.0) (nat_cmp a.1 b.1))
     ∙ (λ i. is_eq-slice_cmp a.0 b.0 i && unsigned_tied a.1 b.1 i)
@@ -64,7 +65,7 @@ listed_in_range q source lo (suc count) =
 same_end : (lo hi n : ℕ) → (nat_le lo n && nat_lt n (lo + (hi - lo))) ≡ (nat_le lo n && nat_lt n hi)
 same_end lo hi n = grind (arith, common_steps, nat_tests)
 
-listed_in_interval : (q : Id) (source : List ℕ) (i : Interval) → list_any (eq_by_cmp id_cmp q) (ids_of_interval source i) ≡ (bytes_eq q.0 source && is_within q.1 i)
+pub listed_in_interval : (q : Id) (source : List ℕ) (i : Interval) → list_any (eq_by_cmp id_cmp q) (ids_of_interval source i) ≡ (bytes_eq q.0 source && is_within q.1 i)
 listed_in_interval q source i = listed_in_range q source i.lo (i.hi - i.lo) ∙ ap (λ b. bytes_eq q.0 source && b) (same_end i.lo i.hi q.1)
 
 listed_in_intervals : (q : Id) (source : List ℕ) (intervals : List Interval) →
@@ -115,11 +116,7 @@ is_difference x y z left right is_left is_right kept = same_ids (set.difference 
 
 -- a set with nothing is the set
 pub is_copy : (x z : List Group) (ids : Ids) → ids_of x ≡ ids → ((q : Id) → is_listed q z ≡ keeps Union (is_listed q x) (is_listed q [])) → ids_of z ≡ ids
-is_copy x z ids is kept = same_ids ids z (λ q. kept q ∙ or_false (is_listed q x) ∙ sym (contains_listed x q) ∙ ap (λ s. set.contains s q) is)
-  where
-    or_false : (a : Bool) → (a || false) ≡ a
-    or_false true = refl
-    or_false false = refl
+is_copy x z ids is kept = same_ids ids z (λ q. kept q ∙ or-false (is_listed q x) ∙ sym (contains_listed x q) ∙ ap (λ s. set.contains s q) is)
 
 -- what the groups list is what the set has
 pub contained : (groups : List Group) (ids : Ids) → ids_of groups ≡ ids → (q : Id) → is_listed q groups ≡ set.contains ids q

@@ -9,9 +9,9 @@ use Rattle.std.proofs.lemmas.List.Elements.{All-from_recursion, All-get_or}
 use Rattle.std.proofs.lemmas.Grind.{same_number_lists}
 use Rattle.uuid.specs.Text.{hyphenated_text, lower, hex_digit, nibble, digit_place, is_hyphen_place, is_hex_digit, value_of}
 use Rattle.uuid.proofs.TextLemmas.{by_index_at, nibble_small}
-use Rattle.gtid.specs.Text.{IsSource}
+use Rattle.gtid.specs.Identifier.{IsSource}
 use Rattle.gtid.specs.Reading.{collected}
-use Rattle.gtid.specs.declared.reading.Part.TheVariants.{Source}
+use Rattle.gtid.specs.Reading.Part.{Source}
 use Rattle.gtid.proofs.SourceText.{source_length}
 
 -- The bytes hold so many of the source's digits.

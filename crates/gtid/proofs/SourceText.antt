@@ -7,7 +7,7 @@ use Rattle.std.proofs.lemmas.List.{get_or-map, length-map}
 use Rattle.std.proofs.lemmas.List.Elements.{recursion_from_All}
 use Rattle.uuid.specs.Text.{by_index, hyphenated_text, lower, hex_digit, nibble, digit_place, hyphen_place, digits_of, is_hyphen_place, is_hex_digit, value_of, byte_of_digits}
 use Rattle.uuid.proofs.TextLemmas.{by_index_at, by_index_length, by_index_same, nibble_small}
-use Rattle.gtid.specs.Text.{IsSource}
+use Rattle.gtid.specs.Identifier.{IsSource}
 use Rattle.gtid.specs.Scan.{stands_at}
 
 -- The bytes may stand at the places of a UUID from this one on.

@@ -276,5 +276,12 @@ ends_later of at x least front past some all =
     cc (no, yes)
 
 -- an insert at the end
-pub insert_end : (intervals : List Interval) (at : ℕ) (i : Interval) → length intervals ≤ at → intervals ++ i ∷ [] ≡ insert intervals at i
+insert_end : (intervals : List Interval) (at : ℕ) (i : Interval) → length intervals ≤ at → intervals ++ i ∷ [] ≡ insert intervals at i
 insert_end intervals at i end = λ k. sym (take_all at intervals end) k ++ i ∷ sym (drop_of_length-le intervals end) k
+
+-- behind all the others
+pub added_last : (intervals new : List Interval) (number : ℕ) → AreLeast 0 intervals → 1 ≤ number → number ≤ 2 ^ 63 - 2 → AllWithin (λ i. i.hi < number) intervals 0 (length intervals) →
+    new ≡ intervals ++ record { lo = number; hi = number + 1 } ∷ [] → Added number intervals new
+added_last intervals new number least low high before is =
+    added_alone intervals new (length intervals) number least (omega arith) low high before (λ d h. absurd (omega (arith, h)))
+    (is ∙ insert_end intervals (length intervals) (record { lo = number; hi = number + 1 }) (omega arith))

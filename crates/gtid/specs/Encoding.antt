@@ -100,6 +100,14 @@ pub record IsEncoding (ids : Ids) (bytes : List ℕ) : Type 0 where
   pub lawful : AreBlocks None (grouped spans)
   pub spelled : bytes ≡ blocks_bytes (grouped spans)
 
+-- The bytes begin with an encoding of some set.
+pub record BeginsWithEncoding (bytes : List ℕ) : Type 0 where
+  pub ids : Ids
+  pub encoding : List ℕ
+  pub rest : List ℕ
+  pub encodes : IsEncoding ids encoding
+  pub bytes_are : bytes ≡ encoding ++ rest
+
 -- An encoding of the set stands behind the old bytes.
 pub record AppendsEncoding (ids : Ids) (old new : List ℕ) : Type 0 where
   pub bytes : List ℕ
@@ -137,3 +145,8 @@ pub data IsDecodeFault (bytes : List ℕ) : GtidFault → Type 0 where
   no_count : length bytes < 8 → IsDecodeFault bytes Truncated
   at_source : (fault : GtidFault) → FaultsAtSource bytes fault → IsDecodeFault bytes fault
   at_interval : (fault : GtidFault) → FaultsAtInterval bytes fault → IsDecodeFault bytes fault
+
+-- The bytes have a fault.
+pub record HasDecodeFault (bytes : List ℕ) : Type 0 where
+  pub fault : GtidFault
+  pub is_fault : IsDecodeFault bytes fault

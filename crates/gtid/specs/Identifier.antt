@@ -1,5 +1,6 @@
 -- Global transaction identifiers, and the plain sets of them. MySQL Reference Manual, "GTID Format and Storage".
-use Rattle.std.specs.Prelude.{ℕ, Bool, ◌&&◌, nat_eq, List}
+use Rattle.std.specs.Prelude.{◌≡◌, ℕ, ◌-◌, ◌<◌, ◌≤◌, ◌^◌, Bool, true, ◌&&◌, nat_eq, List, length}
+use Rattle.std.specs.List.{AllByRecursion}
 use Rattle.std.specs.Str.{bytes_eq}
 use Rattle.std.specs.declared.cmp.Ordering.{Ordering}
 use Rattle.std.specs.Ordering.{nat_cmp, ordering_then}
@@ -19,6 +20,18 @@ id_cmp a b = ordering_then (slice_cmp nat_cmp a.0 b.0) (nat_cmp a.1 b.1)
 -- a plain set of identifiers
 abbrev pub Ids : Type 0
 Ids = set.FinSet id_cmp
+
+-- a source's 16 bytes
+abbrev pub IsSource : List ℕ → Type 0
+IsSource bytes = (length bytes ≡ 16) × AllByRecursion (λ b. b < 256) bytes
+
+-- a source, and a number from 1 to 2 ^ 63 - 2
+abbrev pub IsGtid : Id → Type 0
+IsGtid q = IsSource q.0 × (1 ≤ q.1) × (q.1 ≤ 2 ^ 63 - 2)
+
+-- What the set has are identifiers of transactions.
+abbrev pub AreGtids : Ids → Type 0
+AreGtids ids = (q : Id) → set.contains ids q ≡ true → IsGtid q
 
 abbrev pub ids_code : Coded Ids
 ids_code = set.code (coded× (coded_list coded_ℕ) coded_ℕ)

@@ -11,3 +11,4 @@ pub mod Blocks
 pub mod Text
 pub mod Scan
 pub mod Reading
+pub mod Gathering

@@ -5,12 +5,21 @@ use Rattle.gtid.specs.Scan.{is_digit}
 use Rattle.gtid.specs.Text.{written_fault}
 use Rattle.gtid.specs.declared.fault.GtidFault.{GtidFault}
 use Rattle.gtid.specs.declared.span.Span.{Span}
-use Rattle.gtid.specs.declared.reading.Part.{Part}
-use Rattle.gtid.specs.declared.reading.Part.TheVariants.{Source, First, Second, Behind}
 
 -- A span that has a number, and none outside 1 to 2 ^ 63 - 2.
 abbrev pub IsLawfulSpan : Span → Type 0
 IsLawfulSpan s = (1 ≤ s.lo) × (s.lo < s.hi) × (s.hi < 2 ^ 63)
+
+-- Where in an item the reading stands.
+pub data Part : Type 0 where
+  -- before so many of its UUID's digits
+  Source : ℕ → Part
+  -- in the first number of an interval, which is so much by now
+  First : ℕ → Part
+  -- in the second number, behind the first
+  Second : ℕ → ℕ → Part
+  -- behind the intervals
+  Behind : Part
 
 -- the number, or the greatest that eight bytes hold
 abbrev pub at_most : ℕ → ℕ
@@ -24,21 +33,29 @@ appended n digit = at_most (at_most (n * 10) + (digit - 48))
 abbrev pub behind_number : ℕ → Part
 behind_number b = if b == 58 then First 0 else if b == 44 then Source 0 else Behind
 
+-- how many digits of a UUID there are with a byte, up to what one byte holds
+abbrev pub more_digits : ℕ → ℕ → ℕ
+more_digits digits b = if is_hex_digit b then (if nat_lt (digits + 1) 256 then digits + 1 else 255) else digits
+
 -- where a byte leads
 abbrev pub advance : Part → ℕ → Part
-advance (Source digits) b = if b == 58 then First 0 else if is_hex_digit b then Source (if nat_lt (digits + 1) 256 then digits + 1 else 255) else Source digits
+advance (Source digits) b = if b == 58 then First 0 else Source (more_digits digits b)
 advance (First lo) b = if is_digit b then First (appended lo b) else if b == 45 then Second lo 0 else behind_number b
 advance (Second lo hi) b = if is_digit b then Second lo (appended hi b) else behind_number b
 advance Behind b = if b == 44 then Source 0 else Behind
 
 -- the source, with a digit of the UUID at its place
-abbrev pub put : List ℕ → Part → ℕ → List ℕ
-put source (Source digits) b =
+abbrev pub put : List ℕ → ℕ → ℕ → List ℕ
+put source digits b =
     if is_hex_digit b then (if nat_lt (digits / 2) 16 then set source (digits / 2) (slice_index source (digits / 2) % 16 * 16 + value_of b) else source)
     else source
-put source (First lo) b = source
-put source (Second lo hi) b = source
-put source Behind b = source
+
+-- the source behind a byte
+abbrev pub source_after : List ℕ → Part → ℕ → List ℕ
+source_after source (Source digits) b = put source digits b
+source_after source (First lo) b = source
+source_after source (Second lo hi) b = source
+source_after source Behind b = source
 
 -- the interval that ends before a byte
 abbrev pub interval_before : Part → ℕ → Option (ℕ × ℕ)
@@ -73,4 +90,9 @@ judge spans (f ∷ fs) = judged (written_fault f.1) (judge (spans ++ span_of f �
 -- what is found from a part on
 abbrev pub collected : Part → List ℕ → List ℕ → List Found
 collected part source [] = ended part 44 source
-collected part source (b ∷ bs) = ended part b source ++ collected (advance part b) (put source part b) bs
+collected part source (b ∷ bs) = ended part b source ++ collected (advance part b) (source_after source part b) bs
+
+-- what is found behind an interval
+abbrev pub behind_interval : List ℕ → List ℕ → List Found
+behind_interval source [] = []
+behind_interval source (b ∷ bs) = collected (behind_number b) source bs

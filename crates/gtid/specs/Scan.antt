@@ -1,5 +1,5 @@
 -- How a text is scanned: what was read last, and what may stand next. The steps of `scan` are said in these words, and `scan` itself in those of the grammar alone.
-use Rattle.std.specs.Prelude.{ℕ, ◌+◌, ◌≤◌, ◌==◌, ◌||◌, ◌&&◌, Bool, true, false, nat_le, Option, Some, None, if◌then◌else◌}
+use Rattle.std.specs.Prelude.{◌≡◌, ℕ, ◌+◌, ◌≤◌, ◌==◌, ◌||◌, ◌&&◌, Bool, true, false, nat_le, Option, Some, None, List, [], ◌∷◌, ◌++◌, if◌then◌else◌}
 use Rattle.uuid.specs.Text.{is_hex_digit, is_hyphen_place}
 use Rattle.gtid.specs.declared.grammar.State.{State}
 use Rattle.gtid.specs.declared.grammar.State.TheVariants.{Start, Item, Source, First, Lo, Second, Hi, Behind}
@@ -57,3 +57,24 @@ IsPlaced Lo = Unit {0}
 IsPlaced Second = Unit {0}
 IsPlaced Hi = Unit {0}
 IsPlaced Behind = Unit {0}
+
+-- where a byte leads, if those before it led on
+abbrev pub stepped : Option State → ℕ → Option State
+stepped None b = None
+stepped (Some s) b = step s b
+
+-- where the bytes lead
+abbrev pub run : Option State → List ℕ → Option State
+run o [] = o
+run o (b ∷ bs) = run (stepped o b) bs
+
+-- From the one state to the other a front of the text leads, and this is left.
+pub record IsPassed (from : State) (text : List ℕ) (to : State) (left : List ℕ) : Type 0 where
+  pub front : List ℕ
+  pub is : text ≡ front ++ left
+  pub ran : run (Some from) front ≡ Some to
+
+-- The first byte, if there is one, is no digit.
+abbrev pub BeginsWithNoDigit : List ℕ → Type 0
+BeginsWithNoDigit [] = Unit {0}
+BeginsWithNoDigit (b ∷ bs) = is_digit b ≡ false

@@ -32,3 +32,8 @@ IsLeast (a ∷ b ∷ spans) = (a.lo < a.hi) × IsBefore a b × IsLeast (b ∷ sp
 pub record IsLeastList (spans : List Span) (ids : Ids) : Type 0 where
   pub least : IsLeast spans
   pub covers : Covers spans ids
+
+-- The set has a list of least intervals.
+pub record HasLeastList (ids : Ids) : Type 0 where
+  pub spans : List Span
+  pub is_least : IsLeastList spans ids

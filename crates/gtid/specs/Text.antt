@@ -4,7 +4,7 @@ use Rattle.std.specs.List.{join_by, AllByRecursion}
 use Rattle.std.specs.Str.{str_to_ascii_lowercase, byte}
 use Rattle.std.specs.Char.{IsAsciiDigit}
 use Rattle.uuid.specs.Text.{hyphenated_text, lower}
-use Rattle.gtid.specs.Identifier.{Ids}
+use Rattle.gtid.specs.Identifier.{Ids, IsSource, AreGtids}
 use Rattle.gtid.specs.Span.{IsLeastList, Covers}
 use Rattle.gtid.specs.declared.span.Span.{Span}
 use Rattle.gtid.specs.Encoding.{SidBlock, grouped}
@@ -22,8 +22,9 @@ interval_text i =
 abbrev pub block_text : SidBlock → List ℕ
 block_text block = hyphenated_text lower block.source ++ flat_map interval_text block.intervals
 
--- The text is the printed form of the set.
+-- The set is one of identifiers of transactions, and the text is its printed form.
 pub record IsText (ids : Ids) (text : List ℕ) : Type 0 where
+  pub lawful : AreGtids ids
   pub spans : List Span
   pub least : IsLeastList spans ids
   pub printed : text ≡ join_by block_text (codes ",") (grouped spans)
@@ -39,10 +40,6 @@ pub record AppendsText (ids : Ids) (old new : List ℕ) : Type 0 where
 -- from 1 to 2 ^ 63 - 2
 abbrev pub is_number : ℕ → Bool
 is_number n = nat_le 1 n && nat_lt n (2 ^ 63 - 1)
-
--- a source's 16 bytes
-abbrev pub IsSource : List ℕ → Type 0
-IsSource bytes = (length bytes ≡ 16) × AllByRecursion (λ b. b < 256) bytes
 
 -- the digits, of which there is one or more, are this number
 abbrev pub IsNumeral : List ℕ → ℕ → Type 0
@@ -113,6 +110,11 @@ pub record IsRead (text : List ℕ) (ids : Ids) : Type 0 where
   pub lawful : list_fault items ≡ None
   pub union : Covers (written_spans items) ids
 
+-- The text stands for some set.
+pub record HasReading (text : List ℕ) : Type 0 where
+  pub ids : Ids
+  pub is_read : IsRead text ids
+
 -- The text is in the grammar, and the first interval at fault has this fault.
 pub record IsWrittenFault (text : List ℕ) (fault : GtidFault) : Type 0 where
   pub items : List SidBlock
@@ -134,3 +136,8 @@ pub record IsOutsideFrom (text : List ℕ) (offset : ℕ) : Type 0 where
 pub data IsParseFault (text : List ℕ) : GtidFault → Type 0 where
   outside : (offset : ℕ) → IsOutsideFrom text offset → IsParseFault text (Text offset)
   written : (fault : GtidFault) → IsWrittenFault text fault → IsParseFault text fault
+
+-- Something is wrong with the text.
+pub record HasParseFault (text : List ℕ) : Type 0 where
+  pub fault : GtidFault
+  pub is_fault : IsParseFault text fault

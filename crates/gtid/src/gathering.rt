@@ -1,52 +1,115 @@
 //! Groups made of spans in any order.
 
-ghost use Rattle.std.specs.Prelude.{◌≡◌, IfOk, IfErr};
+ghost use Rattle.std.specs.Prelude.{◌≡◌, ◌≤◌, ◌||◌, ◌∷◌, length, IfOk, IfErr, IfSome, IfNone};
 ghost use Rattle.std.specs.List.{list_any, AllByRecursion};
-ghost use Rattle.gtid.specs.Identifier.{Id};
+ghost use Rattle.gtid.specs.Identifier.{Id, id_cmp};
 ghost use Rattle.gtid.specs.Span.{is_in};
 ghost use Rattle.gtid.specs.Reading.{IsLawfulSpan};
-ghost use Rattle.gtid.specs.Group.{Ascend, sources, is_listed};
+ghost use Rattle.gtid.specs.Group.{Ascend, sources, is_of, is_listed};
+ghost use Rattle.gtid.specs.Gathering.{start, Rise, AreAbove, IsTaken, IsOther};
 
-use crate::combination::Combination;
 use crate::fault::GtidFault;
 use crate::group::Group;
-use crate::groups::combine_groups;
 use crate::interval::Interval;
 use crate::span::Span;
 use std::alloc::Global;
+use std::cmp::Ordering;
 
 /// The groups of the identifiers that are in some span.
-pub(crate) fn gather(alloc: Global, spans: &[Span]) -> Result<Vec<Group>, GtidFault>
-    requires { AllByRecursion IsLawfulSpan spans.now }
+///
+/// The sort takes linear time where the spans ascend already, as those of a printed text do.
+pub(crate) fn gather(alloc: Global, spans: Vec<Span>) -> Result<Vec<Group>, GtidFault>
+    requires { AllByRecursion IsLawfulSpan spans.items }
+    ensures ascend { IfOk result (λ groups. Ascend (sources groups.items)) }
+    ensures ok { IfOk result (λ groups. (q : Id) → is_listed q groups.items ≡ list_any (is_in q) spans.items) }
+    ensures err { IfErr result (λ fault. fault ≡ GtidFault.Memory) }
+{
+    let mut spans = spans;
+    spans.sort_unstable_by(|a, b| order(a, b));
+    gather_rising(alloc, &spans)
+}
+
+/// How two spans compare by where they begin.
+fn order(a: &Span, b: &Span) -> Ordering
+    ensures { result ≡ id_cmp (start a.now) (start b.now) }
+{
+    if a.source == b.source {
+        return a.lo.cmp(&b.lo);
+    }
+    a.source.cmp(&b.source)
+}
+
+/// The groups of the identifiers that are in some span, where the spans stand in the order in which they begin.
+fn gather_rising(alloc: Global, spans: &[Span]) -> Result<Vec<Group>, GtidFault>
+    requires lawful { AllByRecursion IsLawfulSpan spans.now }
+    requires rise { Rise spans.now }
     ensures ascend { IfOk result (λ groups. Ascend (sources groups.items)) }
     ensures ok { IfOk result (λ groups. (q : Id) → is_listed q groups.items ≡ list_any (is_in q) spans.now) }
     ensures err { IfErr result (λ fault. fault ≡ GtidFault.Memory) }
 {
-    match spans {
-        [] => Ok(Vec::new(alloc)),
-        [span] => gather_one(alloc, *span),
-        _ => {
-            let (left, right) = spans.split_at(spans.len() / 2);
-            let left = gather(alloc, left)?;
-            let right = gather(alloc, right)?;
-            combine_groups(alloc, Combination::Union, &left, &right)
-        }
+    let mut groups = Vec::new(alloc);
+    let mut left = spans;
+    while let [first, behind @ ..] = left {
+        let (group, others) = join(alloc, *first, behind)?;
+        left = others;
+        groups.push(group)?;
     }
+    Ok(groups)
 }
 
-/// The group of one span.
-fn gather_one(alloc: Global, span: Span) -> Result<Vec<Group>, GtidFault>
-    requires { IsLawfulSpan span }
-    ensures ascend { IfOk result (λ groups. Ascend (sources groups.items)) }
-    ensures ok { IfOk result (λ groups. (q : Id) → is_listed q groups.items ≡ is_in q span) }
+/// The group of a source, by its first span and those behind it, and the spans behind the source's.
+fn join<'a>(
+    alloc: Global,
+    first: Span,
+    behind: &'a [Span],
+) -> Result<(Group, &'a [Span]), GtidFault>
+    requires lawful { AllByRecursion IsLawfulSpan (first ∷ behind.now) }
+    requires rise { Rise (first ∷ behind.now) }
+    ensures source { IfOk result (λ joined. joined.0.source ≡ first.source) }
+    ensures listed { IfOk result (λ joined. (q : Id) → list_any (is_in q) (first ∷ behind.now) ≡ (is_of q joined.0 || list_any (is_in q) joined.1.now)) }
+    ensures lawful { IfOk result (λ joined. AllByRecursion IsLawfulSpan joined.1.now) }
+    ensures rise { IfOk result (λ joined. Rise joined.1.now) }
+    ensures above { IfOk result (λ joined. AreAbove first.source joined.1.now) }
+    ensures fewer { IfOk result (λ joined. length joined.1.now ≤ length behind.now) }
     ensures err { IfErr result (λ fault. fault ≡ GtidFault.Memory) }
 {
-    let interval = Interval {
-        lo: span.lo,
-        hi: span.hi,
+    let source = first.source;
+    let mut joined = Vec::new(alloc);
+    let mut last = Interval {
+        lo: first.lo,
+        hi: first.hi,
     };
-    let intervals = vec![in alloc; interval]?;
-    let source = span.source;
-    let group = Group { source, intervals };
-    Ok(vec![in alloc; group]?)
+    let mut left = behind;
+    while let Some((next, others)) = take_one(&source, left) {
+        left = others;
+        if next.lo <= last.hi {
+            last.hi = last.hi.max(next.hi);
+        } else {
+            joined.push(last)?;
+            last = next;
+        }
+    }
+    joined.push(last)?;
+    let group = Group {
+        source,
+        intervals: joined,
+    };
+    Ok((group, left))
+}
+
+/// The interval of the first span, and the spans behind it, where it is the source's.
+fn take_one<'a>(source: &[u8; 16], spans: &'a [Span]) -> Option<(Interval, &'a [Span])>
+    ensures some { IfSome result (λ taken. IsTaken source.now spans.now taken.0 taken.1.now) }
+    ensures none { IfNone result (IsOther source.now spans.now) }
+{
+    match spans {
+        [span, others @ ..] if span.source == *source => {
+            let interval = Interval {
+                lo: span.lo,
+                hi: span.hi,
+            };
+            Some((interval, others))
+        }
+        _ => None,
+    }
 }

@@ -1,10 +1,10 @@
 //! The grammar of sets as text.
 
-ghost use Rattle.std.specs.Prelude.{◌≡◌, ◌≤◌, OnOk, IfErr, IfSome};
+ghost use Rattle.std.specs.Prelude.{◌≡◌, ◌+◌, ◌<◌, ◌≤◌, ◌∷◌, length, true, Some, OnOk, IfErr, IfSome, IfNone, IsTrue};
 ghost use Rattle.gtid.specs.Text.{IsInGrammar, IsOutsideFrom};
 ghost use Rattle.gtid.specs.Scan;
-ghost use Rattle.gtid.specs.Scan.{IsPlaced};
-ghost use Rattle.gtid.specs.declared.grammar.State.TheVariants.{Source};
+ghost use Rattle.gtid.specs.Scan.{IsPlaced, IsPassed, is_digit, BeginsWithNoDigit};
+ghost use Rattle.gtid.specs.declared.grammar.State.TheVariants.{Source, Lo, Hi};
 
 /// What was read last, and so what may stand next.
 #[derive(Clone, Copy)]
@@ -33,13 +33,90 @@ pub(crate) fn scan(text: &[u8]) -> Result<(), usize>
     ensures err { IfErr result (IsOutsideFrom text.now) }
 {
     let mut state = State::Start;
-    for (index, byte) in text.iter().enumerate() {
-        match step(state, *byte) {
-            Some(next) => state = next,
-            None => return Err(index),
-        }
+    let mut left = text;
+    while let [byte, rest @ ..] = left {
+        let Some(next) = step(state, *byte) else {
+            return Err(text.len() - left.len());
+        };
+        let (next, rest) = pass(next, rest);
+        state = next;
+        left = rest;
     }
     if ends(state) { Ok(()) } else { Err(text.len()) }
+}
+
+/// Passes over more digits of a number, or more of a UUID, without a look at the state for each byte.
+fn pass(state: State, text: &[u8]) -> (State, &[u8])
+    requires { IsPlaced state }
+    ensures passed { IsPassed state text.now result.0 result.1.now }
+    ensures placed { IsPlaced result.0 }
+    ensures shorter { length result.1.now ≤ length text.now }
+{
+    match state {
+        State::Lo | State::Hi => (state, pass_digits(text)),
+        State::Source(place) => {
+            let (place, left) = pass_source(place, text);
+            (State::Source(place), left)
+        }
+        _ => (state, text),
+    }
+}
+
+/// What is behind the digits at the front.
+fn pass_digits(text: &[u8]) -> &[u8]
+    ensures lo { IsPassed Lo text.now Lo result.now }
+    ensures hi { IsPassed Hi text.now Hi result.now }
+    ensures shorter { length result.now ≤ length text.now }
+{
+    let mut left = text;
+    while let Some((_, rest)) = take_digit(left) {
+        left = rest;
+    }
+    left
+}
+
+/// The digit at the front, and what is behind it.
+pub(crate) fn take_digit(text: &[u8]) -> Option<(u8, &[u8])>
+    ensures some { IfSome result (λ taken. (text.now ≡ taken.0 ∷ taken.1.now) × (is_digit taken.0 ≡ true)) }
+    ensures none { IfNone result (BeginsWithNoDigit text.now) }
+{
+    match text {
+        [digit @ b'0'..=b'9', rest @ ..] => Some((*digit, rest)),
+        _ => None,
+    }
+}
+
+/// How much of a UUID there is with the bytes at the front that may go on with it, and what is behind them.
+fn pass_source(place: u8, text: &[u8]) -> (u8, &[u8])
+    requires { place ≤ 36 }
+    ensures passed { IsPassed (Source place) text.now (Source result.0) result.1.now }
+    ensures placed { result.0 ≤ 36 }
+    ensures shorter { length result.1.now ≤ length text.now }
+{
+    let mut place = place;
+    let mut left = text;
+    while let [byte, rest @ ..] = left {
+        if !stands_at(place, *byte) {
+            return (place, left);
+        }
+        place += 1;
+        left = rest;
+    }
+    (place, left)
+}
+
+/// Whether a byte may stand at a place of a UUID. At its end none may.
+fn stands_at(place: u8, byte: u8) -> bool
+    requires { place ≤ 36 }
+    ensures within { IsTrue result → place < 36 }
+    ensures value { place < 36 → result ≡ Scan.stands_at place byte }
+    ensures step { IsTrue result → Scan.step (Source place) byte ≡ Some (Source (place + 1)) }
+{
+    match place {
+        36 => false,
+        8 | 13 | 18 | 23 => byte == b'-',
+        _ => byte.is_ascii_hexdigit(),
+    }
 }
 
 /// Where a byte leads, if it may stand next.
@@ -94,8 +171,7 @@ fn continue_source(place: u8, byte: u8) -> Option<State>
 {
     match place {
         36 => (byte == b':').then_some(State::First),
-        8 | 13 | 18 | 23 => (byte == b'-').then_some(State::Source(place + 1)),
-        _ => byte.is_ascii_hexdigit().then_some(State::Source(place + 1)),
+        _ => stands_at(place, byte).then_some(State::Source(place + 1)),
     }
 }
 

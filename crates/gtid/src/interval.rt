@@ -2,7 +2,7 @@
 
 ghost use Rattle.std.specs.Prelude.{◌≡◌, ℕ, ◌≤◌, ◌<◌, ◌-◌, ◌^◌, ◌||◌, ◌↔◌, true, false, not, nat_eq, length, slice_index_or, vec_len, IsTrue, IfOk, OnOk, OnErr, Ok, Err};
 ghost use Rattle.std.specs.List.{AllWithin};
-ghost use Rattle.gtid.specs.Interval.{has, is_within, AreLeast};
+ghost use Rattle.gtid.specs.Interval.{has, is_within, AreLeast, Reaches};
 ghost use Rattle.gtid.specs.declared.interval.Interval.{Interval};
 
 use crate::fault::GtidFault;
@@ -54,6 +54,8 @@ fn lies_in(interval: Interval, of: &[Interval]) -> bool
 }
 
 /// Adds a number, and says whether it is new. The only refusal is `Memory`, where it is.
+///
+/// Numbers mostly come in order, so the end is looked at first.
 pub(crate) fn insert(intervals: &mut Vec<Interval>, number: u64) -> Result<bool, GtidFault>
     requires least { AreLeast 0 intervals.old.items }
     requires number { (1 ≤ number) × (number ≤ 2 ^ 63 - 2) }
@@ -63,49 +65,76 @@ pub(crate) fn insert(intervals: &mut Vec<Interval>, number: u64) -> Result<bool,
     ensures there { has intervals.old.items number ≡ true → result ≡ Ok false }
     ensures err { OnErr result ((result ≡ Err GtidFault.Memory) × (intervals.new.items ≡ intervals.old.items)) }
 {
-    let at = place(intervals, number);
+    if reaches(intervals, number) {
+        return insert_within(intervals, number);
+    }
     let alone = Interval {
         lo: number,
         hi: number + 1,
     };
-    match intervals.get(at).copied() {
-        None => {
-            intervals.push(alone)?;
-            Ok(true)
-        }
-        Some(next) if next.hi == number => {
-            extend(intervals, at, number);
-            Ok(true)
-        }
-        Some(next) if next.lo <= number => Ok(false),
-        Some(next) if next.lo == number + 1 => {
-            intervals[at].lo = number;
-            Ok(true)
-        }
-        Some(_) => {
-            intervals.insert(at, alone)?;
-            Ok(true)
-        }
+    intervals.push(alone)?;
+    Ok(true)
+}
+
+/// Whether some interval ends at the number or behind it.
+fn reaches(intervals: &[Interval], number: u64) -> bool
+    requires { AreLeast 0 intervals.now }
+    ensures ends { IsTrue result → Reaches intervals.now number }
+    ensures before { result ≡ false → AllWithin (λ i. i.hi < number) intervals.now 0 (length intervals.now) }
+{
+    match intervals {
+        [.., last] => number <= last.hi,
+        [] => false,
     }
 }
 
-/// How many intervals end before the number. The last is looked at first: numbers mostly come in order.
+/// The same as `insert`, where some interval ends at the number or behind it. A call, so that what is done without
+/// it stays short.
+#[inline(never)]
+fn insert_within(intervals: &mut Vec<Interval>, number: u64) -> Result<bool, GtidFault>
+    requires least { AreLeast 0 intervals.old.items }
+    requires number { (1 ≤ number) × (number ≤ 2 ^ 63 - 2) }
+    requires reaches { Reaches intervals.old.items number }
+    ensures least { AreLeast 0 intervals.new.items }
+    ensures answer { IfOk result (λ new. new ≡ not (has intervals.old.items number)) }
+    ensures ok { OnOk result ((n : ℕ) → has intervals.new.items n ≡ (nat_eq n number || has intervals.old.items n)) }
+    ensures there { has intervals.old.items number ≡ true → result ≡ Ok false }
+    ensures err { OnErr result ((result ≡ Err GtidFault.Memory) × (intervals.new.items ≡ intervals.old.items)) }
+{
+    let at = place(intervals, number);
+    let next = intervals[at];
+    if next.hi == number {
+        extend(intervals, at, number);
+        return Ok(true);
+    }
+    if next.lo <= number {
+        return Ok(false);
+    }
+    if next.lo == number + 1 {
+        intervals[at].lo = number;
+        return Ok(true);
+    }
+    let alone = Interval {
+        lo: number,
+        hi: number + 1,
+    };
+    intervals.insert(at, alone)?;
+    Ok(true)
+}
+
+/// How many intervals end before the number, where not all do. The last is looked at first.
 fn place(intervals: &[Interval], number: u64) -> usize
-    requires { AreLeast 0 intervals.now }
-    ensures within { result ≤ length intervals.now }
+    requires least { AreLeast 0 intervals.now }
+    requires reaches { Reaches intervals.now number }
+    ensures within { result < length intervals.now }
     ensures before { AllWithin (λ i. i.hi < number) intervals.now 0 result }
     ensures behind { AllWithin (λ i. number ≤ i.hi) intervals.now result (length intervals.now) }
 {
-    let Some(last) = intervals.last() else {
-        return 0;
-    };
-    if last.hi < number {
-        intervals.len()
-    } else if last.lo <= number {
-        intervals.len() - 1
-    } else {
-        intervals.partition_point(|interval| interval.hi < number)
+    let last = intervals.len() - 1;
+    if intervals[last].lo <= number {
+        return last;
     }
+    intervals.partition_point(|interval| interval.hi < number)
 }
 
 /// Adds the number that an interval ends before, and joins the interval with the next where they now touch.

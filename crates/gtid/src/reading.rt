@@ -1,30 +1,20 @@
 //! The intervals that a text of the grammar says.
 
-ghost use Rattle.std.specs.Prelude.{◌≡◌, ◌⊎◌, ◌<◌, List, Some, Ok, Err, OnOk, IfOk, IfErr, IfSome};
+ghost use Rattle.std.specs.Prelude.{◌≡◌, ℕ, ◌⊎◌, ◌<◌, ◌≤◌, List, [], ◌∷◌, length, Some, None, Ok, Err, IfOk, IfErr, IfSome, IfNone};
 ghost use Rattle.std.specs.List.{AllByRecursion};
 ghost use Rattle.uuid.specs.Text.{hex_digit_value};
 ghost use Rattle.gtid.specs.Encoding.{SidBlock};
+ghost use Rattle.gtid.specs.Scan.{BeginsWithNoDigit};
 ghost use Rattle.gtid.specs.Text;
 ghost use Rattle.gtid.specs.Text.{IsList, list_fault, written_fault, written_spans};
 ghost use Rattle.gtid.specs.Reading;
-ghost use Rattle.gtid.specs.Reading.{IsLawfulSpan};
+ghost use Rattle.gtid.specs.Reading.{IsLawfulSpan, collected, behind_interval, judge};
+ghost use Rattle.gtid.specs.Reading.Part.{Source, First, Second, Behind};
 
 use crate::fault::GtidFault;
+use crate::grammar::take_digit;
 use crate::span::Span;
 use std::alloc::Global;
-
-/// Where in an item the reading stands.
-#[derive(Clone, Copy)]
-enum Part {
-    /// Before so many of its UUID's digits.
-    Source(u8),
-    /// In the first number of an interval, which is so much by now.
-    First(u64),
-    /// In the second number, behind the first.
-    Second(u64, u64),
-    /// Behind the intervals.
-    Behind,
-}
 
 /// The intervals of a text of the grammar, in the order in which they are written.
 pub(crate) fn read_spans(alloc: Global, text: &[u8]) -> Result<Vec<Span>, GtidFault>
@@ -34,52 +24,113 @@ pub(crate) fn read_spans(alloc: Global, text: &[u8]) -> Result<Vec<Span>, GtidFa
 {
     let mut spans = Vec::new(alloc);
     let mut source = [0; 16];
-    let mut part = Part::Source(0);
-    for byte in text {
-        push_ended(part, *byte, source, &mut spans)?;
-        put(&mut source, part, *byte);
-        part = advance(part, *byte);
+    let mut left = text;
+    while let Some(behind) = read_source(left, &mut source) {
+        left = read_intervals(behind, source, &mut spans)?;
     }
-    push_ended(part, b',', source, &mut spans)?;
     Ok(spans)
 }
 
-/// Appends the interval that ends before a byte, if one does.
-fn push_ended(
-    part: Part,
-    byte: u8,
+/// Reads a source up to its colon, and answers what is behind that.
+fn read_source<'a>(text: &'a [u8], source: &mut [u8; 16]) -> Option<&'a [u8]>
+    ensures some { IfSome result (λ behind. collected (Source 0) source.old text.now ≡ collected (First 0) source.new behind.now) }
+    ensures none { IfNone result (collected (Source 0) source.old text.now ≡ []) }
+    ensures shorter { IfSome result (λ behind. length behind.now < length text.now) }
+{
+    let mut digits = 0;
+    let mut left = text;
+    while let [byte, rest @ ..] = left {
+        if *byte == b':' {
+            return Some(rest);
+        }
+        put(source, digits, *byte);
+        digits = more_digits(digits, *byte);
+        left = rest;
+    }
+    None
+}
+
+/// Appends the intervals of a source, the first of which begins here behind its colon, and answers the items behind.
+fn read_intervals<'a>(
+    text: &'a [u8],
     source: [u8; 16],
     spans: &mut Vec<Span>,
-) -> Result<(), GtidFault>
-    ensures ok { OnOk result (Reading.judge spans.old.items (Reading.ended part byte source) ≡ Ok spans.new.items) }
-    ensures err { IfErr result (λ fault. (fault ≡ GtidFault.Memory) ⊎ (Reading.judge spans.old.items (Reading.ended part byte source) ≡ Err fault)) }
+) -> Result<&'a [u8], GtidFault>
+    ensures ok { IfOk result (λ items. judge spans.old.items (collected (First 0) source text.now) ≡ judge spans.new.items (collected (Source 0) source items.now)) }
+    ensures err { IfErr result (λ fault. (fault ≡ GtidFault.Memory) ⊎ (judge spans.old.items (collected (First 0) source text.now) ≡ Err fault)) }
+    ensures shorter { IfOk result (λ items. length items.now ≤ length text.now) }
 {
-    let Some((lo, hi)) = interval_before(part, byte) else {
-        return Ok(());
-    };
+    let mut behind = push_interval(text, source, spans)?;
+    while let [b':', rest @ ..] = behind {
+        behind = push_interval(rest, source, spans)?;
+    }
+    Ok(behind_comma(behind))
+}
+
+/// Appends the interval that begins here behind its colon, and answers what is behind it.
+fn push_interval<'a>(
+    text: &'a [u8],
+    source: [u8; 16],
+    spans: &mut Vec<Span>,
+) -> Result<&'a [u8], GtidFault>
+    ensures ok { IfOk result (λ behind. judge spans.old.items (collected (First 0) source text.now) ≡ judge spans.new.items (behind_interval source behind.now)) }
+    ensures err { IfErr result (λ fault. (fault ≡ GtidFault.Memory) ⊎ (judge spans.old.items (collected (First 0) source text.now) ≡ Err fault)) }
+    ensures shorter { IfOk result (λ behind. length behind.now ≤ length text.now) }
+{
+    let (lo, hi, behind) = read_interval(text);
     if let Some(fault) = fault_of(lo, hi) {
         return Err(fault);
     }
     let hi = hi + 1;
     spans.push(Span { source, lo, hi })?;
-    Ok(())
+    Ok(behind)
 }
 
-/// The interval that ends before a byte.
-fn interval_before(part: Part, byte: u8) -> Option<(u64, u64)>
-    ensures { result ≡ Reading.interval_before part byte }
+/// The two numbers of an interval that begins here behind its colon, and what is behind it. A single number stands for
+/// both.
+fn read_interval(text: &[u8]) -> (u64, u64, &[u8])
+    ensures found { (source : List ℕ) → collected (First 0) source text.now ≡ (source, (result.0, result.1)) ∷ behind_interval source result.2.now }
+    ensures shorter { length result.2.now ≤ length text.now }
 {
-    match part {
-        Part::Source(_) | Part::Behind => None,
-        Part::First(lo) => match byte {
-            b'0'..=b'9' | b'-' => None,
-            _ => Some((lo, lo)),
-        },
-        Part::Second(lo, hi) => match byte {
-            b'0'..=b'9' => None,
-            _ => Some((lo, hi)),
-        },
+    let (lo, behind) = read_number(text);
+    match behind {
+        [b'-', rest @ ..] => {
+            let (hi, behind) = read_number(rest);
+            (lo, hi, behind)
+        }
+        _ => (lo, lo, behind),
     }
+}
+
+/// The number at the front, and what is behind it.
+fn read_number(text: &[u8]) -> (u64, &[u8])
+    ensures first { (source : List ℕ) → collected (First 0) source text.now ≡ collected (First result.0) source result.1.now }
+    ensures second { (lo : ℕ) (source : List ℕ) → collected (Second lo 0) source text.now ≡ collected (Second lo result.0) source result.1.now }
+    ensures behind { BeginsWithNoDigit result.1.now }
+    ensures shorter { length result.1.now ≤ length text.now }
+{
+    let mut number = 0;
+    let mut left = text;
+    while let Some((digit, rest)) = take_digit(left) {
+        number = appended(number, digit);
+        left = rest;
+    }
+    (number, left)
+}
+
+/// What is behind the next comma.
+fn behind_comma(text: &[u8]) -> &[u8]
+    ensures items { (source : List ℕ) → collected Behind source text.now ≡ collected (Source 0) source result.now }
+    ensures shorter { length result.now ≤ length text.now }
+{
+    let mut left = text;
+    while let [byte, rest @ ..] = left {
+        if *byte == b',' {
+            return rest;
+        }
+        left = rest;
+    }
+    left
 }
 
 /// What is wrong with an interval as it is written.
@@ -100,18 +151,25 @@ fn is_number(number: u64) -> bool
 }
 
 /// Puts a digit of the UUID at its place.
-fn put(source: &mut [u8; 16], part: Part, byte: u8)
-    ensures { source.new ≡ Reading.put source.old part byte }
+fn put(source: &mut [u8; 16], digits: u8, byte: u8)
+    ensures { source.new ≡ Reading.put source.old digits byte }
 {
-    let Part::Source(digits) = part else {
-        return;
-    };
     let Some(value) = hex_value(byte) else {
         return;
     };
     let place = usize::from(digits / 2);
     if place < 16 {
         source[place] = source[place] % 16 * 16 + value;
+    }
+}
+
+/// How many digits of the UUID there are with a byte.
+fn more_digits(digits: u8, byte: u8) -> u8
+    ensures { result ≡ Reading.more_digits digits byte }
+{
+    match byte {
+        b'0'..=b'9' | b'a'..=b'f' | b'A'..=b'F' => digits.saturating_add(1),
+        _ => digits,
     }
 }
 
@@ -125,43 +183,6 @@ fn hex_value(byte: u8) -> Option<u8>
         b'a'..=b'f' => Some(byte - b'a' + 10),
         b'A'..=b'F' => Some(byte - b'A' + 10),
         _ => None,
-    }
-}
-
-/// Where a byte leads.
-fn advance(part: Part, byte: u8) -> Part
-    ensures { result ≡ Reading.advance part byte }
-{
-    match part {
-        Part::Source(digits) => match byte {
-            b':' => Part::First(0),
-            b'0'..=b'9' | b'a'..=b'f' | b'A'..=b'F' => Part::Source(digits.saturating_add(1)),
-            _ => part,
-        },
-        Part::First(lo) => match byte {
-            b'0'..=b'9' => Part::First(appended(lo, byte)),
-            b'-' => Part::Second(lo, 0),
-            _ => behind_number(byte),
-        },
-        Part::Second(lo, hi) => match byte {
-            b'0'..=b'9' => Part::Second(lo, appended(hi, byte)),
-            _ => behind_number(byte),
-        },
-        Part::Behind => match byte {
-            b',' => Part::Source(0),
-            _ => part,
-        },
-    }
-}
-
-/// Where a byte that ends an interval leads.
-fn behind_number(byte: u8) -> Part
-    ensures { result ≡ Reading.behind_number byte }
-{
-    match byte {
-        b':' => Part::First(0),
-        b',' => Part::Source(0),
-        _ => Part::Behind,
     }
 }
 

@@ -171,7 +171,7 @@ impl GtidSet {
             return Err(GtidFault::Text(offset));
         }
         let spans = read_spans(alloc, bytes)?;
-        let groups = gather(alloc, &spans)?;
+        let groups = gather(alloc, spans)?;
         Ok(GtidSet { groups })
     }
 

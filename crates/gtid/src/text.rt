@@ -1,7 +1,9 @@
 //! Sets as text.
 
 ghost use Rattle.std.specs.Prelude.{◌≡◌, ◌<◌, ◌++◌, string_bytes, codes, OnOk, OnErr, Err};
-ghost use Rattle.std.specs.List.{join_by};
+ghost use Rattle.std.specs.List.{join_by, AllByRecursion};
+ghost use Rattle.uuid.specs.Text.{hyphenated_text, lower};
+ghost use Rattle.gtid.specs.Identifier.{IsSource};
 ghost use Rattle.gtid.specs.Text.{interval_text, block_text};
 ghost use Rattle.gtid.specs.Blocks.{pair, of_group, blocks, GrowsByAscii};
 
@@ -14,6 +16,7 @@ use uuid::Uuid;
 /// Appends the sources with their intervals, with commas between.
 pub(crate) fn print_groups(groups: &[Group], out: &mut String) -> Result<(), GtidFault>
     ensures ok { OnOk result (string_bytes out.new ≡ string_bytes out.old ++ join_by block_text (codes ",") (blocks groups.now)) }
+    ensures sources { OnOk result (AllByRecursion (λ g. IsSource g.source) groups.now) }
     ensures err { OnErr result (result ≡ Err GtidFault.Memory) }
     ensures grows { GrowsByAscii (string_bytes out.old) (string_bytes out.new) }
 {
@@ -33,17 +36,28 @@ fn print_group(group: &Group, out: &mut String) -> Result<(), GtidFault>
     ensures ok { OnOk result (string_bytes out.new ≡ string_bytes out.old ++ block_text (of_group group.now)) }
     ensures err { OnErr result (result ≡ Err GtidFault.Memory) }
     ensures grows { GrowsByAscii (string_bytes out.old) (string_bytes out.new) }
+    ensures source { IsSource group.now.source }
 {
-    let source = group.source;
-    let mut buffer = Uuid::encode_buffer();
-    out.push_str(
-        Uuid::from_bytes(source)
-            .hyphenated()
-            .encode_lower(&mut buffer),
-    )?;
+    print_source(&group.source, out)?;
     for interval in &group.intervals {
         print_interval(*interval, out)?;
     }
+    Ok(())
+}
+
+/// Appends a source as a hyphenated UUID in lower case.
+fn print_source(source: &[u8; 16], out: &mut String) -> Result<(), GtidFault>
+    ensures source { IsSource source.now }
+    ensures ok { OnOk result (string_bytes out.new ≡ string_bytes out.old ++ hyphenated_text lower source.now) }
+    ensures err { OnErr result (result ≡ Err GtidFault.Memory) }
+    ensures grows { GrowsByAscii (string_bytes out.old) (string_bytes out.new) }
+{
+    let mut buffer = Uuid::encode_buffer();
+    out.push_str(
+        Uuid::from_bytes(*source)
+            .hyphenated()
+            .encode_lower(&mut buffer),
+    )?;
     Ok(())
 }
 

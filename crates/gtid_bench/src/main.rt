@@ -13,6 +13,12 @@ use std::{env, io};
 /// How many intervals a set has.
 const INTERVALS: u64 = 1_000_000;
 
+/// How many items the scattered text has.
+const ITEMS: u64 = 200_000;
+
+/// Their sources but for the last digit.
+const HEAD: &str = "3e11fa47-71ca-11e1-9e33-c80aa942956";
+
 const SOURCE: [u8; 16] = [
     0x3e, 0x11, 0xfa, 0x47, 0x71, 0xca, 0x11, 0xe1, 0x9e, 0x33, 0xc8, 0x0a, 0xa9, 0x42, 0x95, 0x62,
 ];
@@ -128,6 +134,39 @@ fn print(alloc: Global) -> Result<u64, GtidFault> {
     Ok(found)
 }
 
+/// How many intervals the set of a text has, summed over five readings.
+fn read(alloc: Global, text: &str) -> Result<u64, GtidFault> {
+    let mut found = 0u64;
+    for _ in 0..5 {
+        found = found.wrapping_add(count(&GtidSet::parse(alloc, text)?));
+    }
+    Ok(found)
+}
+
+/// The text of a set is read five times.
+fn parse(alloc: Global) -> Result<u64, GtidFault> {
+    let mut seed = 1;
+    let set = intervals(alloc, &mut seed)?;
+    let mut text = String::new(alloc);
+    set.print(&mut text)?;
+    read(alloc, &text)
+}
+
+/// A text of 10 MB with an item for each interval, of sixteen sources, at any places, is read five times.
+fn parse_scattered(alloc: Global) -> Result<u64, GtidFault> {
+    let mut seed = 1;
+    let mut text = String::new(alloc);
+    for _ in 0..ITEMS {
+        let draw = next(&mut seed);
+        let source = draw % 16;
+        let lo = draw / 128 % (8 * INTERVALS) + 1;
+        let last = lo + draw / 16 % 8;
+        let comma = if text.is_empty() { "" } else { "," };
+        write!(text, "{comma}{HEAD}{source:x}:{lo}-{last}")?;
+    }
+    read(alloc, &text)
+}
+
 fn count(set: &GtidSet) -> u64 {
     let mut found = 0u64;
     for _ in set.spans() {
@@ -146,8 +185,12 @@ fn run(rt: &HostRuntime) -> io::Result<bool> {
         Some("union") => union(alloc),
         Some("subtract") => subtract(alloc),
         Some("print") => print(alloc),
+        Some("parse") => parse(alloc),
+        Some("parse_scattered") => parse_scattered(alloc),
         _ => {
-            println!(rt; "usage: gtid_bench contains|ascending|scattered|union|subtract|print")?;
+            println!(rt;
+                "usage: gtid_bench contains|ascending|scattered|union|subtract|print|parse|parse_scattered"
+            )?;
             return Ok(true);
         }
     };

@@ -1,18 +1,21 @@
 use Rattle.std.proofs.Common.{◌++◌, codes, ap, ◌∙◌, append_assoc}
 use Rattle.std.specs.String.{string_bytes}
+use Rattle.gtid.specs.Identifier.{IsSource}
 use Rattle.gtid.specs.Text.{block_text}
 use Rattle.gtid.specs.Blocks.{of_group}
-use Rattle.gtid.proofs.Printed.{grows_none, grows_by, grows_all, comma_ascii, prints_more}
+use Rattle.gtid.proofs.Printed.{grows_none, grows_by, grows_all, comma_ascii, prints_more, all_more}
 use Rattle.gtid.proofs.text.print_groups.Goals as goal
 
 pub returns-in_err-print_group-2-clause-grows : goal.returns-in_err-print_group-2-clause-grows
 returns-in_err-print_group-2-clause-grows c =
-    grows_all _ _ _ (grows_by _ _ _ _ c.loop-group.invariant.grows c.in_ok-push_str.ensures.bytes comma_ascii) c.in_err-print_group-2.ensures.grows
+    grows_all _ _ _ (grows_by _ _ _ _ c.loop-group.invariant.0.grows c.in_ok-push_str.ensures.bytes comma_ascii) c.in_err-print_group-2.ensures.grows
 
 pub loop-group-preserved : goal.loop-group-preserved
 loop-group-preserved c =
     let out = string_bytes c.loop-group.out in
-    let text = block_text (of_group c.group-item.result) in
-    prints_more c.loop-group.group-index c.group-item.result (string_bytes c.print_group-in-loop-group.new.out) c.loop-group.invariant c.loop-group-test.true c.group-item.is
-    (c.in_ok-print_group-2.ensures.ok ∙ ap (λ bs. bs ++ text) c.in_ok-push_str.ensures.bytes ∙ append_assoc out (codes ",") text)
-    (grows_all _ _ _ (grows_by _ _ _ _ (grows_none out) c.in_ok-push_str.ensures.bytes comma_ascii) c.in_ok-print_group-2.ensures.grows)
+    let text = block_text (of_group c.group-item.result) in (
+      prints_more c.loop-group.group-index c.group-item.result (string_bytes c.print_group-in-loop-group.new.out) c.loop-group.invariant.0 c.loop-group-test.true c.group-item.is
+          (c.in_ok-print_group-2.ensures.ok ∙ ap (λ bs. bs ++ text) c.in_ok-push_str.ensures.bytes ∙ append_assoc out (codes ",") text)
+          (grows_all _ _ _ (grows_by _ _ _ _ (grows_none out) c.in_ok-push_str.ensures.bytes comma_ascii) c.in_ok-print_group-2.ensures.grows),
+      all_more (λ g. IsSource g.source) _ c.loop-group.group-index c.group-item.result c.loop-group.invariant.1 c.loop-group-test.true c.group-item.is c.in_ok-print_group-2.ensures.source,
+    )

@@ -12,10 +12,9 @@ returns-in_err-spans-clause-fault c =
 
 pub returns-clause-found : goal.returns-clause-found
 returns-clause-found c =
-    is_read c.args.text.now c.in_ok-spans.spans.items c.deref.result.now c.in_ok-groups.groups.items (rw c.as_bytes-bytes.ensures.value at c.in_default.ensures.ok)
-    (rw c.as_bytes-bytes.ensures.value at c.in_ok-spans.ensures.ok) c.deref.ensures.value c.in_ok-groups.ensures.ok
+    is_read c.args.text.now c.in_ok-spans.spans.items c.in_ok-groups.groups.items (rw c.as_bytes-bytes.ensures.value at c.in_default.ensures.ok)
+    (rw c.as_bytes-bytes.ensures.value at c.in_ok-spans.ensures.ok) c.in_ok-groups.ensures.ok
 
 pub returns-clause-only : goal.returns-clause-only
 returns-clause-only c =
-    only_read c.args.text.now c.in_ok-spans.spans.items c.deref.result.now c.in_ok-groups.groups.items (rw c.as_bytes-bytes.ensures.value at c.in_ok-spans.ensures.ok) c.deref.ensures.value
-    c.in_ok-groups.ensures.ok
+    only_read c.args.text.now c.in_ok-spans.spans.items c.in_ok-groups.groups.items (rw c.as_bytes-bytes.ensures.value at c.in_ok-spans.ensures.ok) c.in_ok-groups.ensures.ok

@@ -1,9 +1,9 @@
 use Rattle.std.specs.String.{string_bytes}
-use Rattle.gtid.proofs.Found.{on_ok}
+use Rattle.gtid.proofs.Found.{on_ok_both}
 use Rattle.gtid.proofs.Printed.{appends_text}
 use Rattle.gtid.proofs.set.GtidSet.print.Goals as goal
 
 pub returns-else-is_err-clause-ok : goal.returns-else-is_err-clause-ok
 returns-else-is_err-clause-ok c =
-    on_ok c.print_groups-printed.result c.print_groups-printed.ensures.ok
+    on_ok_both c.print_groups-printed.result c.print_groups-printed.ensures.ok c.print_groups-printed.ensures.sources
     (appends_text c.deref.result.now c.self.inside.groups.items c.args.self.now (string_bytes c.args.out.now) (string_bytes c.print_groups-printed.new.out) c.self.invariant c.deref.ensures.value c.self.view_is)

@@ -1,7 +1,7 @@
 use Rattle.std.proofs.Common.{rules}
 use Rattle.std.proofs.lemmas.Fn.{always_returns_same}
 use Rattle.gtid.proofs.Placed.{compares, found, missed}
-use Rattle.gtid.proofs.groups.find.Goals as goal
+use Rattle.gtid.proofs.groups.search.Goals as goal
 
 pub returns-clause-found : goal.returns-clause-found
 returns-clause-found c =

@@ -1,0 +1,43 @@
+-- Spans in the order in which they begin.
+use Rattle.std.specs.Prelude.{◌≡◌, ℕ, ◌≤◌, ◌⊎◌, List, [], ◌∷◌, map}
+use Rattle.std.specs.List.{AllByRecursion}
+use Rattle.std.specs.Ordering.{nat_cmp}
+use Rattle.std.specs.declared.cmp.Ordering.TheVariants.{Less}
+use Rattle.std.specs.Cmp.Lexicographic.{slice_cmp}
+use Rattle.gtid.specs.Identifier.{Id}
+use Rattle.gtid.specs.Group.{IsBelow}
+use Rattle.gtid.specs.declared.interval.Interval.{Interval}
+use Rattle.gtid.specs.declared.span.Span.{Span}
+
+-- the identifier that a span begins with
+abbrev pub start : Span → Id
+start s = (s.source, s.lo)
+
+-- The span is of a higher source, or of the same and begins no earlier.
+abbrev pub Follows : List ℕ → ℕ → Span → Type 0
+Follows source lo s = (slice_cmp nat_cmp source s.source ≡ Less) ⊎ ((s.source ≡ source) × (lo ≤ s.lo))
+
+-- each span follows those before it
+abbrev pub Rise : List Span → Type 0
+Rise [] = Unit {0}
+Rise (s ∷ spans) = AllByRecursion (Follows s.source s.lo) spans × Rise spans
+
+abbrev pub span_sources : List Span → List (List ℕ)
+span_sources = map (λ s. s.source)
+
+-- each span is of a higher source
+abbrev pub AreAbove : List ℕ → List Span → Type 0
+AreAbove source spans = IsBelow source (span_sources spans)
+
+abbrev pub interval_of : Span → Interval
+interval_of s = record { lo = s.lo; hi = s.hi }
+
+-- The first span is the source's, with this interval and the rest behind it.
+abbrev pub IsTaken : List ℕ → List Span → Interval → List Span → Type 0
+IsTaken source [] interval rest = ⊥
+IsTaken source (s ∷ spans) interval rest = (s.source ≡ source) × (interval ≡ interval_of s) × (rest ≡ spans)
+
+-- the first span, if there is one, is another source's
+abbrev pub IsOther : List ℕ → List Span → Type 0
+IsOther source [] = Unit {0}
+IsOther source (s ∷ spans) = s.source ≡ source → ⊥
