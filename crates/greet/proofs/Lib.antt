@@ -1,0 +1,9 @@
+mod Cuts
+mod Readers
+mod Greetings
+mod Replies
+mod Responses
+mod Dumps
+mod Errors
+mod Written
+mod Complete

@@ -1,0 +1,49 @@
+use Rattle.std.proofs.Common.{◌≡◌, ◌++◌, ◌∷◌, ◌-◌, max, ℕ, List, length, get_or, take, drop, bit_and, sym, ap, subst, ◌∙◌, arith}
+use Rattle.std.proofs.lemmas.List.{take_rest, length-drop}
+use Rattle.std.proofs.lemmas.Result.{err_from_is_err_and}
+use Rattle.greet.specs.Message.{GreetingValue, IsGreeting, needed}
+use Rattle.greet.specs.Refusal.{fields_refusal, behind_zero}
+use Rattle.greet.specs.View.{Refuses}
+use Rattle.greet.proofs.Cuts.{IsBytes, IsBytes-rest, IsBytes-behind, behind_zero-text}
+use Rattle.greet.proofs.Greetings.{no_fields, short_second, is_greeting}
+use Rattle.greet.proofs.greeting.read_body.Goals as goal
+
+-- src/greeting.rt:105:9
+pub returns-in_default-clause-fault : goal.returns-in_default-clause-fault
+returns-in_default-clause-fault c = no_fields c.args.body.now c.in_default.ensures.none
+
+-- src/greeting.rt:107:17
+pub returns-in_err-fixed-clause-fault : goal.returns-in_err-fixed-clause-fault
+returns-in_err-fixed-clause-fault c =
+    let p = err_from_is_err_and c.from_residual.result c.from_residual.ensures.1 in
+    let fields = c.in-Some.fields.now in
+    let behind : fields ≡ behind_zero c.args.body.now = sym (ap behind_zero c.in-Some.ensures.bytes ∙ behind_zero-text c.in-Some.version.now fields c.in-Some.ensures.text) in
+    rw (p.1, p.2) (subst (λ f. Refuses (fields_refusal f) c.in_err-fixed.field-0.0) behind c.in_err-fixed.ensures.fault)
+
+-- src/greeting.rt:110:9
+pub returns-then-second-max-clause-fault : goal.returns-then-second-max-clause-fault
+returns-then-second-max-clause-fault c =
+    let fields = c.in-Some.fields.now in
+    let behind : behind_zero c.args.body.now ≡ fields = ap behind_zero c.in-Some.ensures.bytes ∙ behind_zero-text c.in-Some.version.now fields c.in-Some.ensures.text in
+    let rest : length (take (length fields - 31) (drop 31 fields)) ≡ length fields - 31 = ap length (take_rest fields 31) ∙ length-drop 31 fields in
+    let size : c.max.result ≡ max 13 (get_or fields 20 0 - 8) = c.max.ensures ∙ ap (max 13) (c.saturating_sub.ensures ∙ ap (λ n. n - 8) (c.from.ensures ∙ c.in_ok-fixed.ensures.size)) in
+    ap fields_refusal behind
+    ∙ short_second fields c.in_ok-fixed.ensures.long (sym (ap (λ n. bit_and n needed) c.in_ok-fixed.ensures.capabilities) ∙ c.in_ok-fixed.ensures.has_needed) (omega (arith, c.if-second-max.true, rest, size, c.in_ok-fixed.ensures.long))
+
+-- src/greeting.rt:100:1
+pub returns-clause-found : goal.returns-clause-found
+returns-clause-found c =
+    let version = c.in-Some.version.now in
+    let fields = c.in-Some.fields.now in
+    let body : version ++ 0 ∷ fields ≡ c.args.body.now = sym c.in-Some.ensures.bytes in
+    let fits : IsBytes fields = IsBytes-rest 0 fields (IsBytes-behind version (0 ∷ fields) (subst IsBytes c.in-Some.ensures.bytes (λ i. omega (arith, c.type_inv.body i)))) in
+    let rest : length (take (length fields - 31) (drop 31 fields)) ≡ length fields - 31 = ap length (take_rest fields 31) ∙ length-drop 31 fields in
+    let size : c.max.result ≡ max 13 (get_or fields 20 0 - 8) = c.max.ensures ∙ ap (max 13) (c.saturating_sub.ensures ∙ ap (λ n. n - 8) (c.from.ensures ∙ c.in_ok-fixed.ensures.size)) in
+    let e = sym c.in_ok-from_slice.ensures.items in
+    let t = sym c.in_ok-fixed.ensures.thread in
+    let s = sym (c.join.ensures ∙ ap (λ f. f ++ take 12 (take (length fields - 31) (drop 31 fields))) c.in_ok-fixed.ensures.first ∙ ap (λ r. take 8 (drop 4 fields) ++ take 12 r) (take_rest fields 31)) in
+    let p = sym c.in_ok-fixed.ensures.capabilities in
+    let h = sym c.in_ok-fixed.ensures.charset in
+    let u = sym c.in_ok-fixed.ensures.status in
+    subst (λ (x : GreetingValue × List ℕ). IsGreeting x.0 (10 ∷ x.1)) (λ i. (record { version = e i; thread = t i; scramble = s i; capabilities = p i; charset = h i; status = u i }, body i))
+    (is_greeting version fields c.in-Some.ensures.text fits (omega (arith, c.if-second-max.false, rest, size, c.in_ok-fixed.ensures.long)) (sym (ap (λ n. bit_and n needed) c.in_ok-fixed.ensures.capabilities) ∙ c.in_ok-fixed.ensures.has_needed))

@@ -1,0 +1,17 @@
+use Rattle.greet.proofs.Greetings.{one_value, not_refused}
+use Rattle.greet.proofs.Written.{written_greeting}
+use Rattle.greet.proofs.Cuts.{IsBytes-all}
+use Rattle.greet.proofs.Complete.{some_greeting}
+use Rattle.greet.proofs.laws.greetings.Goals as goal
+
+pub returns-clause-one : goal.returns-clause-one
+returns-clause-one c = one_value
+
+pub returns-clause-not_refused : goal.returns-clause-not_refused
+returns-clause-not_refused c = not_refused
+
+pub returns-clause-written : goal.returns-clause-written
+returns-clause-written c = written_greeting
+
+pub returns-clause-some : goal.returns-clause-some
+returns-clause-some c payload all none = some_greeting payload (IsBytes-all payload all) none

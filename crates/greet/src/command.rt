@@ -1,0 +1,113 @@
+//! The replica's commands. MySQL Source Documentation, "Client/Server Protocol", the page `COM_QUERY`, and
+//! "Replication Protocol", the page `COM_BINLOG_DUMP_GTID`.
+
+ghost use Rattle.std.specs.Prelude.{◌≡◌, ◌≢◌, ◌<◌, ◌^◌, ◌+◌, [], ◌++◌, List, length, drop, IsTrue, ◌↔◌, IfOk, IfErr, MatchResult, OnOk, OnErr, Ok, Err};
+ghost use Rattle.byteorder.specs.Endian.{little_bytes, little_number};
+ghost use Rattle.greet.specs.Message.{DumpValue, IsDump, FitsDump, dump_bytes, query_bytes};
+ghost use Rattle.greet.specs.Refusal.{dump_refusal, dump_name_size, dump_set_size};
+ghost use Rattle.greet.specs.View.{dump_value, Refuses};
+
+use crate::fault::GreetFault;
+use crate::parts::append;
+use byteorder::{ByteOrder, LittleEndian};
+
+const COM_QUERY: u8 = 0x03;
+
+const COM_BINLOG_DUMP_GTID: u8 = 0x1e;
+
+/// Where a binary log's events begin.
+const FIRST_POSITION: u64 = 4;
+
+/// Appends the query of a text. The only refusal is `Memory`, which leaves the vector as it was.
+pub fn query(text: &[u8], out: &mut Vec<u8>) -> Result<(), GreetFault>
+    ensures ok { OnOk result (out.new.items ≡ out.old.items ++ query_bytes text.now) }
+    ensures err { OnErr result ((result ≡ Err GreetFault.Memory) × (out.new.items ≡ out.old.items)) }
+{
+    append(&[&[COM_QUERY], text], out)
+}
+
+/// A request for the transactions outside a set.
+#[derive(Clone, Copy, Debug)]
+pub struct Dump<'a> {
+    /// `BINLOG_THROUGH_GTID` (0x0004), and 0x0001 (`BINLOG_DUMP_NON_BLOCK`) where an EOF is to end the log.
+    pub flags: u16,
+    /// The replica's server id.
+    pub server_id: u32,
+    /// The set of GTIDs that the replica has, encoded.
+    pub set: &'a [u8],
+}
+
+impl<'a> Dump<'a> {
+    /// Whether the command can be written: the set has fewer than 2^32 bytes.
+    pub fn fits(&self) -> bool
+        ensures { IsTrue result ↔ FitsDump (dump_value self.now) }
+    {
+        self.set.len() <= u32::MAX as usize
+    }
+
+    /// Appends the command, with an empty name and position 4. The only refusal is `Memory`, which leaves the vector as
+    /// it was.
+    pub fn write(&self, out: &mut Vec<u8>) -> Result<(), GreetFault>
+        requires { FitsDump (dump_value self.now) }
+        ensures ok { OnOk result (out.new.items ≡ out.old.items ++ dump_bytes (dump_value self.now) [] (little_bytes 8 4)) }
+        ensures err { OnErr result ((result ≡ Err GreetFault.Memory) × (out.new.items ≡ out.old.items)) }
+    {
+        let size = self.set.len() as u32;
+        append(
+            &[
+                &[COM_BINLOG_DUMP_GTID],
+                &self.flags.to_le_bytes(),
+                &self.server_id.to_le_bytes(),
+                &[0; 4],
+                &FIRST_POSITION.to_le_bytes(),
+                &size.to_le_bytes(),
+                self.set,
+            ],
+            out,
+        )
+    }
+
+    /// The command that the payload is, whatever its name and position. Takes no memory.
+    ///
+    /// Refused are another first byte as `Unexpected`, and an empty payload, a field that does not fit or bytes left over
+    /// as `Truncated`.
+    pub fn read(payload: &'a [u8]) -> Result<Dump<'a>, GreetFault>
+        ensures found { IfOk result (λ dump. IsDump (dump_value dump) payload.now) }
+        ensures only { (d : DumpValue) → IsDump d payload.now → MatchResult result (λ dump. dump_value dump ≡ d) (λ _. ⊥) }
+        ensures fault { IfErr result (Refuses (dump_refusal payload.now)) }
+        ensures no_memory { IfErr result (λ fault. fault ≢ GreetFault.Memory) }
+    {
+        match payload {
+            [] => Err(GreetFault::Truncated),
+            [COM_BINLOG_DUMP_GTID, body @ ..] => Dump::read_fields(body),
+            [other, ..] => Err(GreetFault::Unexpected(*other)),
+        }
+    }
+
+    /// Reads the fields behind the first byte, where they have the lengths that they say.
+    fn read_fields(body: &'a [u8]) -> Result<Dump<'a>, GreetFault>
+        ensures flags { IfOk result (λ dump. dump.flags ≡ little_number 2 body.now) }
+        ensures server_id { IfOk result (λ dump. dump.server_id ≡ little_number 4 (drop 2 body.now)) }
+        ensures set { IfOk result (λ dump. dump.set.now ≡ drop (22 + dump_name_size body.now) body.now) }
+        ensures whole { IfOk result (λ _. length body.now ≡ 22 + dump_name_size body.now + dump_set_size body.now) }
+        ensures fault { IfErr result (λ fault. (fault ≡ GreetFault.Truncated) × (length body.now ≢ 22 + dump_name_size body.now + dump_set_size body.now)) }
+    {
+        if body.len() < 22 {
+            return Err(GreetFault::Truncated);
+        }
+        let name_size = LittleEndian::read_u32(&body[6..]) as usize;
+        if body.len() < 22 + name_size {
+            return Err(GreetFault::Truncated);
+        }
+        let set_size = LittleEndian::read_u32(&body[18 + name_size..]) as usize;
+        let set = &body[22 + name_size..];
+        if set.len() != set_size {
+            return Err(GreetFault::Truncated);
+        }
+        Ok(Dump {
+            flags: LittleEndian::read_u16(body),
+            server_id: LittleEndian::read_u32(&body[2..]),
+            set,
+        })
+    }
+}

@@ -1,0 +1,48 @@
+//! Errors that a source answers.
+
+ghost use Rattle.std.specs.Prelude.{◌≡◌, Some};
+ghost use Rattle.greet.specs.Refusal.{error_of, state_of, message_of};
+ghost use Rattle.greet.specs.View.{Refuses};
+
+use crate::fault::GreetFault;
+use byteorder::{ByteOrder, LittleEndian};
+use std::alloc::Global;
+
+/// The first byte of an ERR.
+pub(crate) const ERR: u8 = 0xff;
+
+/// How many bytes of an ERR's message are kept.
+const KEPT: usize = 512;
+
+#[tactic(auto, unfolding(crate::specs::Refusal::error_of))]
+/// What an ERR says, by the bytes behind its first.
+pub(crate) fn server_error(alloc: Global, bytes: &[u8]) -> GreetFault
+    ensures { Refuses (Some (error_of bytes.now)) result }
+{
+    if bytes.len() < 2 {
+        return GreetFault::Truncated;
+    }
+    let (code, text) = bytes.split_at(2);
+    let code = LittleEndian::read_u16(code);
+    let (state, message) = split_state(text);
+    let kept = &message[..KEPT.min(message.len())];
+    match Vec::from_slice(alloc, kept) {
+        Ok(message) => GreetFault::ServerError {
+            code,
+            state,
+            message,
+        },
+        Err(_) => GreetFault::Memory,
+    }
+}
+
+/// The SQL state and the message.
+fn split_state(text: &[u8]) -> (Option<[u8; 5]>, &[u8])
+    ensures state { result.0 ≡ state_of text.now }
+    ensures message { result.1.now ≡ message_of text.now }
+{
+    match text {
+        [b'#', a, b, c, d, e, message @ ..] => (Some([*a, *b, *c, *d, *e]), message),
+        _ => (None, text),
+    }
+}

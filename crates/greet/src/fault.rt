@@ -1,0 +1,58 @@
+//! Why a message could not be read or written.
+
+ghost use Rattle.std.specs.Prelude.{◌≡◌};
+ghost use Rattle.greet.specs.declared.fault.GreetFault.TheVariants.{Memory};
+
+use std::alloc::{AllocError, AllocFailed};
+use thiserror::Error;
+
+/// Why a message could not be read or written.
+#[derive(Debug, Drop, Error)]
+pub enum GreetFault {
+    /// The source sent an ERR in place of the message.
+    #[error("the source answered error {code}")]
+    ServerError {
+        code: u16,
+        /// The SQL state, where the ERR has one.
+        state: Option<[u8; 5]>,
+        /// The first 512 bytes of the message.
+        message: Vec<u8>,
+    },
+    /// A byte is another than the layout's: the protocol's version, or one of a response's leading bytes.
+    #[error("unexpected protocol byte {0}")]
+    Protocol(u8),
+    /// A field does not fit the payload, or bytes are left over where none may be.
+    #[error("the message has another length than its fields")]
+    Truncated,
+    /// The source lacks these of the capabilities that are needed.
+    #[error("the source lacks the capabilities {0:#x}")]
+    Capabilities(u32),
+    /// An authentication plugin other than `mysql_native_password`.
+    #[error("another authentication plugin than mysql_native_password")]
+    Plugin,
+    /// The source asks for the authentication from before version 4.1.
+    #[error("the source asks for the old authentication")]
+    OldAuth,
+    /// The payload begins with a byte that begins none of the messages due.
+    #[error("a payload that begins with {0} is not due")]
+    Unexpected(u8),
+    /// An allocation was refused.
+    #[error("out of memory")]
+    Memory,
+}
+
+impl From<AllocError> for GreetFault {
+    ghost from_gives = { λ _ fault. fault ≡ Memory };
+
+    fn from(_error: AllocError) -> GreetFault {
+        GreetFault::Memory
+    }
+}
+
+impl<T: Drop> From<AllocFailed<T>> for GreetFault {
+    ghost from_gives = { λ _ fault. fault ≡ Memory };
+
+    fn from(_error: AllocFailed<T>) -> GreetFault {
+        GreetFault::Memory
+    }
+}

@@ -1,0 +1,193 @@
+//! The source's greeting. MySQL Source Documentation, "Client/Server Protocol", the page
+//! `Protocol::HandshakeV10`.
+
+ghost use Rattle.std.specs.Prelude.{◌≡◌, ◌≤◌, ◌+◌, ◌*◌, ◌/◌, ◌^◌, replicate, ◌++◌, ◌∷◌, length, take, drop, slice_index, bit_and, ◌↔◌, IsTrue, IfOk, IfErr, MatchResult, OnOk, OnErr, Err};
+ghost use Rattle.byteorder.specs.Endian.{little_bytes, little_number};
+ghost use Rattle.greet.specs.Message.{GreetingValue, IsGreeting, FitsGreeting, greeting_bytes, needed};
+ghost use Rattle.greet.specs.Refusal.{greeting_refusal, fields_refusal, behind_zero};
+ghost use Rattle.greet.specs.View.{greeting_value, Refuses};
+
+use crate::error::{ERR, server_error};
+use crate::fault::GreetFault;
+use crate::parts::{append, is_text, split_text};
+use byteorder::{ByteOrder, LittleEndian};
+use std::alloc::Global;
+
+/// The protocol's version.
+const VERSION: u8 = 10;
+
+/// CLIENT_PROTOCOL_41, CLIENT_SECURE_CONNECTION and CLIENT_PLUGIN_AUTH.
+const NEEDED: u32 = 0x0008_8200;
+
+/// From the thread id up to the reserved bytes.
+const FIXED: usize = 31;
+
+/// The least length of the second part of the scramble.
+const SECOND: usize = 13;
+
+/// The length of a greeting's authentication data: the scramble and a zero byte.
+const AUTH_SIZE: u8 = 21;
+
+/// What a greeting ends in: the scramble's zero byte, and the plugin's name with its own.
+const END: &[u8] = b"\0mysql_native_password\0";
+
+/// What a source says of itself.
+#[derive(Debug, Drop)]
+pub struct Greeting {
+    /// The server's version, without a zero byte.
+    pub version: Vec<u8>,
+    /// The connection's thread id.
+    pub thread: u32,
+    pub scramble: [u8; 20],
+    /// The source's capabilities, both halves.
+    pub capabilities: u32,
+    /// The server's character set.
+    pub charset: u8,
+    /// The server's status.
+    pub status: u16,
+}
+
+impl Greeting {
+    /// Whether the greeting can be written: its version has no zero byte, and the needed capabilities are there.
+    pub fn fits(&self) -> bool
+        ensures { IsTrue result ↔ FitsGreeting (greeting_value self.now) }
+    {
+        is_text(&self.version) && self.capabilities & NEEDED == NEEDED
+    }
+
+    /// Reads the greeting that the payload is.
+    ///
+    /// Refused are, in this order: an empty payload as `Truncated`; an ERR as `ServerError`; another protocol as
+    /// `Protocol`; fields up to the reserved bytes that are not all there as `Truncated`; a source that lacks needed
+    /// capabilities as `Capabilities`; a short second part of the scramble as `Truncated`.
+    pub fn read(alloc: Global, payload: &[u8]) -> Result<Greeting, GreetFault>
+        ensures found { IfOk result (λ greeting. IsGreeting (greeting_value greeting) payload.now) }
+        ensures only { (g : GreetingValue) → IsGreeting g payload.now → MatchResult result (λ greeting. greeting_value greeting ≡ g) (λ fault. fault ≡ GreetFault.Memory) }
+        ensures fault { IfErr result (Refuses (greeting_refusal payload.now)) }
+    {
+        match payload {
+            [] => Err(GreetFault::Truncated),
+            [ERR, body @ ..] => Err(server_error(alloc, body)),
+            [VERSION, body @ ..] => read_body(alloc, body),
+            [other, ..] => Err(GreetFault::Protocol(*other)),
+        }
+    }
+
+    /// Appends the greeting as a payload. The only refusal is `Memory`, which leaves the vector as it was.
+    pub fn write(&self, out: &mut Vec<u8>) -> Result<(), GreetFault>
+        requires { FitsGreeting (greeting_value self.now) }
+        ensures ok { OnOk result (out.new.items ≡ out.old.items ++ greeting_bytes (greeting_value self.now)) }
+        ensures err { OnErr result ((result ≡ Err GreetFault.Memory) × (out.new.items ≡ out.old.items)) }
+    {
+        let [a, b, c, d] = self.thread.to_le_bytes();
+        let (first, second) = self.scramble.split_at(8);
+        append(
+            &[
+                &[VERSION],
+                &self.version,
+                &[0, a, b, c, d],
+                first,
+                &self.middle(),
+                second,
+                END,
+            ],
+            out,
+        )
+    }
+
+    /// What stands between the two parts of the scramble.
+    fn middle(&self) -> [u8; 19]
+        ensures { result ≡ 0 ∷ little_bytes 2 self.now.capabilities ++ self.now.charset ∷ little_bytes 2 self.now.status ++ little_bytes 2 (self.now.capabilities / 2 ^ 16) ++ 21 ∷ replicate 10 0 }
+    {
+        let [a, b, c, d] = self.capabilities.to_le_bytes();
+        let [e, f] = self.status.to_le_bytes();
+        let charset = self.charset;
+        [
+            0, a, b, charset, e, f, c, d, AUTH_SIZE, 0, 0, 0, 0, 0, 0, 0, 0, 0, 0,
+        ]
+    }
+}
+
+/// Reads what stands behind the first byte.
+fn read_body(alloc: Global, body: &[u8]) -> Result<Greeting, GreetFault>
+    ensures found { IfOk result (λ greeting. IsGreeting (greeting_value greeting) (10 ∷ body.now)) }
+    ensures fault { IfErr result (Refuses (fields_refusal (behind_zero body.now))) }
+{
+    let Some((version, fields)) = split_text(body) else {
+        return Err(GreetFault::Truncated);
+    };
+    let fixed = Fixed::read(fields)?;
+    let second = &fields[FIXED..];
+    if second.len() < SECOND.max(usize::from(fixed.size).saturating_sub(8)) {
+        return Err(GreetFault::Truncated);
+    }
+    Ok(Greeting {
+        version: Vec::from_slice(alloc, version)?,
+        thread: fixed.thread,
+        scramble: join(fixed.first, second),
+        capabilities: fixed.capabilities,
+        charset: fixed.charset,
+        status: fixed.status,
+    })
+}
+
+/// The fields of a fixed length.
+#[derive(Drop)]
+struct Fixed<'a> {
+    thread: u32,
+    /// The first part of the scramble.
+    first: &'a [u8],
+    capabilities: u32,
+    charset: u8,
+    status: u16,
+    /// The length of the authentication data, both parts of the scramble.
+    size: u8,
+}
+
+impl<'a> Fixed<'a> {
+    #[tactic(auto, unfolding(crate::specs::Refusal::fields_refusal))]
+    /// Reads the fields from the thread id up to the reserved bytes: the capabilities have to have those needed.
+    fn read(fields: &'a [u8]) -> Result<Fixed<'a>, GreetFault>
+        ensures long { IfOk result (λ _. 31 ≤ length fields.now) }
+        ensures thread { IfOk result (λ fixed. fixed.thread ≡ little_number 4 fields.now) }
+        ensures first { IfOk result (λ fixed. fixed.first.now ≡ take 8 (drop 4 fields.now)) }
+        ensures capabilities { IfOk result (λ fixed. fixed.capabilities ≡ little_number 2 (drop 13 fields.now) + 2 ^ 16 * little_number 2 (drop 18 fields.now)) }
+        ensures has_needed { IfOk result (λ fixed. bit_and fixed.capabilities needed ≡ needed) }
+        ensures charset { IfOk result (λ fixed. fixed.charset ≡ slice_index fields.now 15) }
+        ensures status { IfOk result (λ fixed. fixed.status ≡ little_number 2 (drop 16 fields.now)) }
+        ensures size { IfOk result (λ fixed. fixed.size ≡ slice_index fields.now 20) }
+        ensures fault { IfErr result (Refuses (fields_refusal fields.now)) }
+    {
+        if fields.len() < FIXED {
+            return Err(GreetFault::Truncated);
+        }
+        let low = LittleEndian::read_u16(&fields[13..]);
+        let high = LittleEndian::read_u16(&fields[18..]);
+        let capabilities = u32::from(low) + u32::from(high) * 0x1_0000;
+        let has = capabilities & NEEDED;
+        if has != NEEDED {
+            return Err(GreetFault::Capabilities(NEEDED - has));
+        }
+        Ok(Fixed {
+            thread: LittleEndian::read_u32(fields),
+            first: &fields[4..12],
+            capabilities,
+            charset: fields[15],
+            status: LittleEndian::read_u16(&fields[16..]),
+            size: fields[20],
+        })
+    }
+}
+
+/// A scramble of its two parts, the second without its end.
+fn join(first: &[u8], second: &[u8]) -> [u8; 20]
+    requires first { length first.now ≡ 8 }
+    requires second { 12 ≤ length second.now }
+    ensures { result ≡ first.now ++ take 12 second.now }
+{
+    let mut scramble = [0; 20];
+    let (front, back) = scramble.split_at_mut(8);
+    front.copy_from_slice(first);
+    back.copy_from_slice(&second[..12]);
+    scramble
+}

@@ -1,0 +1,30 @@
+//! The messages of a MySQL replica's connection before the first event: the source's greeting, the response to
+//! it, the replies, and the two commands, COM_QUERY and COM_BINLOG_DUMP_GTID.
+//!
+//! Each message is a whole payload, without its packet headers. A reader takes what the layout leaves free and
+//! names the first fault of anything else; an ERR in place of a message is [`GreetFault::ServerError`].
+//!
+//! The layouts are those of the MySQL Source Documentation, "Client/Server Protocol" (the page "Connection
+//! Phase" and those of the messages) and "Replication Protocol". `specs/` states them as relations on whole byte
+//! lists, and [`laws`] what follows from them.
+#![tactic(auto)]
+
+mod command;
+mod error;
+mod fault;
+mod greeting;
+pub mod laws;
+mod native_auth;
+mod parts;
+mod reply;
+mod response;
+
+pub use command::{Dump, query};
+pub use fault::GreetFault;
+pub use greeting::Greeting;
+pub use native_auth::native;
+pub use reply::{AuthReply, read_eof, read_ok};
+pub use response::Response;
+
+#[cfg(test)]
+mod tests;

@@ -1,0 +1,42 @@
+//! What the messages are made of.
+
+ghost use Rattle.std.specs.Prelude.{◌≡◌, ◌++◌, ◌∷◌, true, false, take, drop, length, flat_map, IfSome, IfNone, IsTrue, ◌↔◌, OnOk, OnErr, Err};
+ghost use Rattle.greet.specs.Message.{IsText};
+ghost use Rattle.greet.specs.Refusal.{has_zero, before_zero, behind_zero};
+
+use crate::fault::GreetFault;
+
+/// The plugin that authenticates the replica.
+pub(crate) const PLUGIN_NAME: &[u8] = b"mysql_native_password";
+
+/// The text that the first zero byte ends, and the bytes behind it.
+pub(crate) fn split_text(bytes: &[u8]) -> Option<(&[u8], &[u8])>
+    ensures text { IfSome result (λ split. IsText split.0.now) }
+    ensures bytes { IfSome result (λ split. bytes.now ≡ split.0.now ++ 0 ∷ split.1.now) }
+    ensures none { IfNone result (IsText bytes.now) }
+{
+    let end = bytes.iter().position(|byte| *byte == 0)?;
+    Some((&bytes[..end], &bytes[end + 1..]))
+}
+
+/// Whether a text has no zero byte.
+pub(crate) fn is_text(bytes: &[u8]) -> bool
+    ensures { IsTrue result ↔ IsText bytes.now }
+{
+    !bytes.contains(&0)
+}
+
+/// Appends the parts, one after the other. The only refusal is `Memory`, which leaves the vector as it was.
+pub(crate) fn append(parts: &[&[u8]], out: &mut Vec<u8>) -> Result<(), GreetFault>
+    ensures ok { OnOk result (out.new.items ≡ out.old.items ++ flat_map (λ part. part.now) parts.now) }
+    ensures err { OnErr result ((result ≡ Err GreetFault.Memory) × (out.new.items ≡ out.old.items)) }
+{
+    let len = out.len();
+    for part in parts {
+        if out.extend_from_slice(part).is_err() {
+            out.truncate(len);
+            return Err(GreetFault::Memory);
+        }
+    }
+    Ok(())
+}

@@ -1,0 +1,142 @@
+//! The source's replies: OK, a request to switch the authentication, and EOF. MySQL Source Documentation,
+//! "Client/Server Protocol": the pages `OK_Packet`, `EOF_Packet`, `ERR_Packet` and
+//! `Protocol::AuthSwitchRequest`.
+
+ghost use Rattle.std.specs.Prelude.{◌≡◌, ◌≢◌, ℕ, ◌++◌, ◌∷◌, List, true, false, IfOk, IfErr, IfSome, IfNone, MatchResult, ⊤, OnOk, OnErr, Ok, Err, Some, None};
+ghost use Rattle.greet.specs.Message.{IsOkPacket, IsSwitch, IsEofPacket};
+ghost use Rattle.greet.specs.Refusal.{reply_refusal, ok_refusal, eof_refusal, switch_refusal, behind_int, has_insert_id};
+ghost use Rattle.greet.specs.View.{Refuses};
+
+use crate::error::{ERR, server_error};
+use crate::fault::GreetFault;
+use crate::parts::{PLUGIN_NAME, split_text};
+use std::alloc::Global;
+use wire::read_int;
+
+/// The first byte of an OK.
+const OK: u8 = 0x00;
+
+/// The first byte of an EOF and of a request to switch the authentication.
+const EOF: u8 = 0xfe;
+
+/// An EOF is shorter than this.
+const EOF_END: usize = 9;
+
+/// The reply to a response.
+#[derive(Clone, Copy, Debug, PartialEq, Eq)]
+pub enum AuthReply {
+    /// The replica is let in.
+    Ok,
+    /// The source wants native authentication with another scramble.
+    Switch { scramble: [u8; 20] },
+}
+
+impl AuthReply {
+    /// Reads the reply that the payload is.
+    ///
+    /// Refused are an ERR as `ServerError`, an empty payload or an OK that ends early as `Truncated`, and another first
+    /// byte as `Unexpected`. Of a switch, in this order: one byte alone is `OldAuth`, a name without its zero byte
+    /// `Truncated`, another plugin `Plugin`, and a scramble of less than 20 bytes `Truncated`.
+    pub fn read(alloc: Global, payload: &[u8]) -> Result<AuthReply, GreetFault>
+        ensures ok { result ≡ Ok AuthReply.Ok → IsOkPacket payload.now }
+        ensures switch { (scramble : List ℕ) → result ≡ Ok (AuthReply.Switch scramble) → IsSwitch scramble payload.now }
+        ensures only_ok { IsOkPacket payload.now → MatchResult result (λ reply. reply ≡ AuthReply.Ok) (λ fault. fault ≡ GreetFault.Memory) }
+        ensures only_switch { (scramble : List ℕ) → IsSwitch scramble payload.now → MatchResult result (λ reply. reply ≡ AuthReply.Switch scramble) (λ fault. fault ≡ GreetFault.Memory) }
+        ensures fault { IfErr result (Refuses (reply_refusal payload.now)) }
+    {
+        let [first, body @ ..] = payload else {
+            return Err(GreetFault::Truncated);
+        };
+        if *first == EOF {
+            let scramble = read_switch(body)?;
+            return Ok(AuthReply::Switch { scramble });
+        }
+        read_ok(alloc, payload)?;
+        Ok(AuthReply::Ok)
+    }
+}
+
+/// The scramble of a switch, by the bytes behind its first. Takes no memory.
+fn read_switch(body: &[u8]) -> Result<[u8; 20], GreetFault>
+    ensures found { IfOk result (λ scramble. IsSwitch scramble (0xFE ∷ body.now)) }
+    ensures fault { IfErr result (Refuses (switch_refusal body.now)) }
+    ensures no_memory { IfErr result (λ fault. fault ≢ GreetFault.Memory) }
+{
+    if body.is_empty() {
+        return Err(GreetFault::OldAuth);
+    }
+    let Some((name, rest)) = split_text(body) else {
+        return Err(GreetFault::Truncated);
+    };
+    if name != PLUGIN_NAME {
+        return Err(GreetFault::Plugin);
+    }
+    if rest.len() < 20 {
+        return Err(GreetFault::Truncated);
+    }
+    let mut scramble = [0; 20];
+    scramble.copy_from_slice(&rest[..20]);
+    Ok(scramble)
+}
+
+/// Reads the OK that the payload is.
+///
+/// Refused are an ERR as `ServerError`, an empty payload or an OK that ends early as `Truncated`, and another first byte as
+/// `Unexpected`.
+pub fn read_ok(alloc: Global, payload: &[u8]) -> Result<(), GreetFault>
+    ensures ok { OnOk result (IsOkPacket payload.now) }
+    ensures only { IsOkPacket payload.now → MatchResult result (λ _. ⊤) (λ fault. fault ≡ GreetFault.Memory) }
+    ensures fault { IfErr result (Refuses (ok_refusal payload.now)) }
+{
+    match payload {
+        [] => Err(GreetFault::Truncated),
+        [ERR, body @ ..] => Err(server_error(alloc, body)),
+        [OK, body @ ..] => read_counters(body),
+        [other, ..] => Err(GreetFault::Unexpected(*other)),
+    }
+}
+
+/// Reads what stands behind the first byte of an OK.
+fn read_counters(body: &[u8]) -> Result<(), GreetFault>
+    ensures ok { OnOk result (has_insert_id (behind_int body.now) ≡ true) }
+    ensures err { OnErr result ((result ≡ Err GreetFault.Truncated) × (has_insert_id (behind_int body.now) ≡ false)) }
+{
+    let Some(body) = behind_int(body) else {
+        return Err(GreetFault::Truncated);
+    };
+    let Some(body) = behind_int(body) else {
+        return Err(GreetFault::Truncated);
+    };
+    if body.len() < 4 {
+        return Err(GreetFault::Truncated);
+    }
+    Ok(())
+}
+
+/// The bytes behind the length-encoded integer at the front.
+fn behind_int(bytes: &[u8]) -> Option<&[u8]>
+    ensures some { IfSome result (λ rest. behind_int bytes.now ≡ Some rest.now) }
+    ensures none { IfNone result (behind_int bytes.now ≡ None) }
+{
+    let (_, size) = read_int(bytes)?;
+    Some(&bytes[size..])
+}
+
+/// Reads the EOF that the payload is.
+///
+/// Refused are an ERR as `ServerError`, an empty payload or an EOF that ends early as `Truncated`, and another first byte,
+/// or a payload of nine bytes or more, as `Unexpected`.
+pub fn read_eof(alloc: Global, payload: &[u8]) -> Result<(), GreetFault>
+    ensures ok { OnOk result (IsEofPacket payload.now) }
+    ensures only { IsEofPacket payload.now → MatchResult result (λ _. ⊤) (λ fault. fault ≡ GreetFault.Memory) }
+    ensures fault { IfErr result (Refuses (eof_refusal payload.now)) }
+{
+    match payload {
+        [] => Err(GreetFault::Truncated),
+        [ERR, body @ ..] => Err(server_error(alloc, body)),
+        [EOF, ..] if payload.len() >= EOF_END => Err(GreetFault::Unexpected(EOF)),
+        [EOF, body @ ..] if body.len() < 4 => Err(GreetFault::Truncated),
+        [EOF, ..] => Ok(()),
+        [other, ..] => Err(GreetFault::Unexpected(*other)),
+    }
+}
