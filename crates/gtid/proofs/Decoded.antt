@@ -1,12 +1,11 @@
 -- The set of the groups that were read.
 use Rattle.std.proofs.Common.{◌≡◌, ℕ, ◌-◌, ◌<◌, ◌≤◌, ◌^◌, ◌⊎◌, inl, inr, Bool, true, false, if◌then◌else◌, List, [], ◌∷◌, ◌++◌, length, map, flat_map, take, drop, Option, Some, None, refl, ap, sym, subst, ◌∙◌, arith, length-drop}
 use Rattle.std.proofs.Math.Seq.{take-append_seam}
-use Rattle.std.proofs.lemmas.List.{length-append, take-append-drop}
+use Rattle.std.proofs.lemmas.List.{length-append, length-map, take-append-drop}
 use Rattle.std.proofs.lemmas.Slice.Eq.{bytes_eq-Decides}
 use Rattle.std.specs.FinSet as set
 use Rattle.std.specs.List.{list_any}
 use Rattle.std.specs.Str.{bytes_eq}
-use Rattle.byteorder.specs.Endian.{little_bytes}
 use Rattle.std.specs.declared.cmp.Ordering.{Ordering}
 use Rattle.std.specs.declared.cmp.Ordering.TheVariants.{Less, Equal, Greater}
 use Rattle.std.specs.Ordering.{is_lt, nat_cmp}
@@ -18,8 +17,8 @@ use Rattle.gtid.specs.declared.span.Span.{Span}
 use Rattle.gtid.specs.declared.fault.GtidFault.{GtidFault}
 use Rattle.gtid.specs.declared.fault.GtidFault.TheVariants.{Memory}
 use Rattle.gtid.specs.Group.{Ascend, sources, IsBelow, ids_of}
-use Rattle.gtid.specs.Blocks.{blocks}
-use Rattle.gtid.specs.Encoding.{SidBlock, join_block, grouped, interval_bytes, block_bytes, blocks_bytes, AreBlocks, IsEncoding, IsDecodeFault}
+use Rattle.gtid.specs.Blocks.{of_group, blocks}
+use Rattle.gtid.specs.Encoding.{SidBlock, join_block, grouped, blocks_bytes, AreBlocks, IsEncoding, IsDecodeFault}
 use Rattle.gtid.specs.declared.group.Group.{Group}
 use Rattle.gtid.proofs.Merged.{ascend_nil, ascend_cons, below_all}
 use Rattle.gtid.proofs.Grouped.{grouped_groups, encodes}
@@ -48,10 +47,10 @@ front a x bytes used split is =
     let long : used ≡ length a = omega (arith, ap length split, length-append a x) in
     (λ i. take (long i) (split i)) ∙ take-append_seam a x
 
-pub found_encoding : (groups : List Group) (rest bytes : List ℕ) (used : ℕ) → AreBlocks None (blocks groups) → bytes ≡ blocks_bytes (blocks groups) ++ rest → used ≡ length bytes - length rest →
+pub found_encoding : (groups : List Group) (rest bytes : List ℕ) (used : ℕ) → AreBlocks None (blocks groups) → length groups < 2 ^ 64 → bytes ≡ blocks_bytes (blocks groups) ++ rest → used ≡ length bytes - length rest →
     IsEncoding (ids_of groups) (take used bytes)
-found_encoding groups rest bytes used lawful split is =
-    subst (IsEncoding (ids_of groups)) (sym (front (blocks_bytes (blocks groups)) rest bytes used split is)) (encodes groups (ascend_blocks None groups lawful))
+found_encoding groups rest bytes used lawful fits split is =
+    subst (IsEncoding (ids_of groups)) (sym (front (blocks_bytes (blocks groups)) rest bytes used split is)) (encodes groups (ascend_blocks None groups lawful) fits)
 
 -- ---- One set, and one number of bytes.
 
@@ -84,51 +83,34 @@ pub one_set : (a b : List Span) (x y : Ids) → IsLeastList a x → IsLeastList 
 one_set a b x y left right same =
     set.same_set id_cmp_total id_cmp-same x y (λ q. left.covers q ∙ ap (λ l. list_any (is_in q) l) same ∙ sym (right.covers q))
 
-few_blocks : (l : List SidBlock) → length l ≤ length (flat_map block_bytes l)
-few_blocks [] = omega arith
-few_blocks (b ∷ l) =
-    omega (
-      arith,
-      few_blocks l,
-      length-append (block_bytes b) (flat_map block_bytes l),
-      length-append (b.source ++ little_bytes 8 (length b.intervals)) (flat_map interval_bytes b.intervals),
-      length-append b.source (little_bytes 8 (length b.intervals)),
-    )
-
-pub fits_in : (l : List SidBlock) (x bytes : List ℕ) → bytes ≡ blocks_bytes l ++ x → length bytes < 2 ^ 64 → length l < 2 ^ 64
-fits_in l x bytes is fits =
-    omega (arith, few_blocks l, ap length is, length-append (blocks_bytes l) x, length-append (little_bytes 8 (length l)) (flat_map block_bytes l))
-
 at_front : (ids : Ids) (n : ℕ) (bytes : List ℕ) (e : IsEncoding ids (take n bytes)) → bytes ≡ blocks_bytes (grouped e.spans) ++ drop n bytes
 at_front ids n bytes e = sym (take-append-drop n bytes) ∙ ap (λ l. l ++ drop n bytes) e.spelled
 
-pub only_found : (groups : List Group) (rest bytes : List ℕ) (used : ℕ) → AreBlocks None (blocks groups) → bytes ≡ blocks_bytes (blocks groups) ++ rest → used ≡ length bytes - length rest → length bytes < 2 ^ 64 →
+pub only_found : (groups : List Group) (rest bytes : List ℕ) (used : ℕ) → AreBlocks None (blocks groups) → length groups < 2 ^ 64 → bytes ≡ blocks_bytes (blocks groups) ++ rest → used ≡ length bytes - length rest →
     (ids : Ids) (n : ℕ) → n ≤ length bytes → IsEncoding ids (take n bytes) → ◌≡◌ {A = Ids × ℕ} (ids_of groups, used) (ids, n)
-only_found groups rest bytes used lawful split is fits ids n short e =
+only_found groups rest bytes used lawful fits split is ids n short e =
     let other = at_front ids n bytes e in
-    let o = one_encoding (blocks groups) (grouped e.spans) rest (drop n bytes) lawful e.lawful (fits_in (blocks groups) rest bytes split fits) (fits_in (grouped e.spans) (drop n bytes) bytes other fits) (sym split ∙ other) in
+    let o = one_encoding (blocks groups) (grouped e.spans) rest (drop n bytes) lawful e.lawful (omega (arith, fits, length-map groups of_group)) e.counted (sym split ∙ other) in
     let ascend = ascend_blocks None groups lawful in
     let spans : spans_of groups ≡ e.spans = sym (ungrouped (spans_of groups)) ∙ ap (flat_map spans_of_block) (grouped_groups groups ascend ∙ o.0) ∙ ungrouped e.spans in
     let ids_are : ids_of groups ≡ ids = one_set (spans_of groups) e.spans (ids_of groups) ids (least_list groups ascend) e.least spans in
     let used_is : used ≡ n = omega (arith, ap length o.1, length-append (blocks_bytes (grouped e.spans)) (drop n bytes), length-drop n bytes, ap length other, is) in
     (λ i. (ids_are i, used_is i))
 
-pub only_fault : (bytes : List ℕ) (fault : GtidFault) → (fault ≡ Memory) ⊎ IsDecodeFault bytes fault → length bytes < 2 ^ 64 → (ids : Ids) (n : ℕ) → IsEncoding ids (take n bytes) → fault ≡ Memory
-only_fault bytes fault (inl memory) fits ids n e = memory
-only_fault bytes fault (inr faulty) fits ids n e =
-    let other = at_front ids n bytes e in
-    absurd (no_fault (grouped e.spans) (drop n bytes) bytes fault e.lawful (fits_in (grouped e.spans) (drop n bytes) bytes other fits) other faulty)
+pub only_fault : (bytes : List ℕ) (fault : GtidFault) → (fault ≡ Memory) ⊎ IsDecodeFault bytes fault → (ids : Ids) (n : ℕ) → IsEncoding ids (take n bytes) → fault ≡ Memory
+only_fault bytes fault (inl memory) ids n e = memory
+only_fault bytes fault (inr faulty) ids n e =
+    absurd (no_fault (grouped e.spans) (drop n bytes) bytes fault e.lawful e.counted (at_front ids n bytes e) faulty)
 
 -- two encodings at the front of the same bytes
-pub one_front : (a b : Ids) (bytes others x y : List ℕ) → length (bytes ++ x) < 2 ^ 64 → IsEncoding a bytes → IsEncoding b others → bytes ++ x ≡ others ++ y → (a ≡ b) × (bytes ≡ others)
-one_front a b bytes others x y fits is_a is_b same =
+pub one_front : (a b : Ids) (bytes others x y : List ℕ) → IsEncoding a bytes → IsEncoding b others → bytes ++ x ≡ others ++ y → (a ≡ b) × (bytes ≡ others)
+one_front a b bytes others x y is_a is_b same =
     let first : bytes ++ x ≡ blocks_bytes (grouped is_a.spans) ++ x = ap (λ l. l ++ x) is_a.spelled in
     let second : bytes ++ x ≡ blocks_bytes (grouped is_b.spans) ++ y = same ∙ ap (λ l. l ++ y) is_b.spelled in
-    let o = one_encoding (grouped is_a.spans) (grouped is_b.spans) x y is_a.lawful is_b.lawful (fits_in (grouped is_a.spans) x (bytes ++ x) first fits) (fits_in (grouped is_b.spans) y (bytes ++ x) second fits) (sym first ∙ second) in
+    let o = one_encoding (grouped is_a.spans) (grouped is_b.spans) x y is_a.lawful is_b.lawful is_a.counted is_b.counted (sym first ∙ second) in
     let spans : is_a.spans ≡ is_b.spans = sym (ungrouped is_a.spans) ∙ ap (flat_map spans_of_block) o.0 ∙ ungrouped is_b.spans in
     (one_set is_a.spans is_b.spans a b is_a.least is_b.least spans, is_a.spelled ∙ ap blocks_bytes o.0 ∙ sym is_b.spelled)
 
-pub no_fault_at_front : (ids : Ids) (bytes more : List ℕ) (fault : GtidFault) → length (bytes ++ more) < 2 ^ 64 → IsEncoding ids bytes → IsDecodeFault (bytes ++ more) fault → ⊥
-no_fault_at_front ids bytes more fault fits is =
-    let front : bytes ++ more ≡ blocks_bytes (grouped is.spans) ++ more = ap (λ l. l ++ more) is.spelled in
-    no_fault (grouped is.spans) more (bytes ++ more) fault is.lawful (fits_in (grouped is.spans) more (bytes ++ more) front fits) front
+pub no_fault_at_front : (ids : Ids) (bytes more : List ℕ) (fault : GtidFault) → IsEncoding ids bytes → IsDecodeFault (bytes ++ more) fault → ⊥
+no_fault_at_front ids bytes more fault is =
+    no_fault (grouped is.spans) more (bytes ++ more) fault is.lawful is.counted (ap (λ l. l ++ more) is.spelled)

@@ -4,13 +4,14 @@ use Rattle.std.specs.declared.cmp.Ordering.TheVariants.{Less}
 use Rattle.std.specs.Ordering.{nat_cmp, is_lt}
 use Rattle.std.specs.Cmp.Lexicographic.{slice_cmp}
 use Rattle.std.specs.Str.{bytes_eq}
+use Rattle.std.proofs.lemmas.List.{length-map}
 use Rattle.std.proofs.lemmas.Slice.Eq.{bytes_eq-Decides}
 use Rattle.gtid.specs.Identifier.{Ids}
 use Rattle.gtid.specs.Interval.{AreLeast}
 use Rattle.gtid.specs.Group.{Ascend, sources, IsBelow, ids_of}
 use Rattle.gtid.specs.Spans.{span, spans_of}
 use Rattle.gtid.specs.Encoding.{SidBlock, AreIntervals, AreBlocks, is_above, join_block, grouped, blocks_bytes, IsEncoding, AppendsEncoding}
-use Rattle.gtid.specs.Blocks.{pair, block, blocks}
+use Rattle.gtid.specs.Blocks.{pair, block, of_group, blocks}
 use Rattle.gtid.specs.declared.interval.Interval.{Interval}
 use Rattle.gtid.specs.declared.group.Group.{Group}
 use Rattle.gtid.specs.declared.span.Span.{Span}
@@ -97,22 +98,23 @@ lawful_blocks before (g ∷ groups) behind ascend =
       lawful_blocks (Some g.source) groups f.0 f.1,
     )
 
-pub encodes : (groups : List Group) → Ascend (sources groups) → IsEncoding (ids_of groups) (blocks_bytes (blocks groups))
-encodes groups ascend = record {
+pub encodes : (groups : List Group) → Ascend (sources groups) → length groups < 2 ^ 64 → IsEncoding (ids_of groups) (blocks_bytes (blocks groups))
+encodes groups ascend fits = record {
   spans = spans_of groups;
   least = least_list groups ascend;
   lawful = subst (AreBlocks None) (sym (grouped_groups groups ascend)) (lawful_blocks None groups tt ascend);
+  counted = omega (arith, fits, ap length (grouped_groups groups ascend), length-map groups of_group);
   spelled = ap blocks_bytes (sym (grouped_groups groups ascend));
 }
 
-appends : (groups all : List Group) (ids : Ids) (old new : List ℕ) → Ascend (sources all) → groups ≡ all → ids_of all ≡ ids → new ≡ old ++ blocks_bytes (blocks groups) → AppendsEncoding ids old new
-appends groups all ids old new ascend same is written = record {
+appends : (groups all : List Group) (ids : Ids) (old new : List ℕ) → Ascend (sources all) → length all < 2 ^ 64 → groups ≡ all → ids_of all ≡ ids → new ≡ old ++ blocks_bytes (blocks groups) → AppendsEncoding ids old new
+appends groups all ids old new ascend fits same is written = record {
   bytes = blocks_bytes (blocks all);
-  encodes = subst (λ x. IsEncoding x (blocks_bytes (blocks all))) is (encodes all ascend);
+  encodes = subst (λ x. IsEncoding x (blocks_bytes (blocks all))) is (encodes all ascend fits);
   appended = written ∙ ap (λ g. old ++ blocks_bytes (blocks g)) same;
 }
 
-pub appends_on_ok : {T E : Type 0} (r : Result T E) (groups all : List Group) (ids : Ids) (old new : List ℕ) → Ascend (sources all) → groups ≡ all → ids_of all ≡ ids →
+pub appends_on_ok : {T E : Type 0} (r : Result T E) (groups all : List Group) (ids : Ids) (old new : List ℕ) → Ascend (sources all) → length all < 2 ^ 64 → groups ≡ all → ids_of all ≡ ids →
     OnOk r (new ≡ old ++ blocks_bytes (blocks groups)) → OnOk r (AppendsEncoding ids old new)
-appends_on_ok (Ok x) groups all ids old new ascend same is written = appends groups all ids old new ascend same is written
-appends_on_ok (Err e) groups all ids old new ascend same is written = tt
+appends_on_ok (Ok x) groups all ids old new ascend fits same is written = appends groups all ids old new ascend fits same is written
+appends_on_ok (Err e) groups all ids old new ascend fits same is written = tt

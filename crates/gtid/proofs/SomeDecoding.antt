@@ -349,14 +349,15 @@ regrouped before (b ∷ some) lawful =
     ∙ grouped_some b.source (map unpair b.intervals) (flat_map spans_of_block some) some (some_of b.intervals lawful.2) (regrouped (Some b.source) some lawful.5) (other_blocks b.source some lawful.5)
     ∙ ap (λ is. record { source = b.source; intervals = is } ∷ some) (paired b.intervals)
 
-encodes_blocks : (some : List SidBlock) → AreBlocks None some → IsEncoding (set_of (flat_map spans_of_block some)) (blocks_bytes some)
-encodes_blocks some lawful =
+encodes_blocks : (some : List SidBlock) → AreBlocks None some → length some < 2 ^ 64 → IsEncoding (set_of (flat_map spans_of_block some)) (blocks_bytes some)
+encodes_blocks some lawful fits =
     let spans = flat_map spans_of_block some in
     let same = regrouped None some lawful in
     record {
       spans = spans;
       least = record { least = least_blocks None some lawful; covers = covers_set spans };
       lawful = subst (AreBlocks None) (sym same) lawful;
+      counted = omega (arith, fits, ap length same);
       spelled = ap blocks_bytes (sym same);
     }
 
@@ -368,7 +369,7 @@ by_blocks bytes are long (inl r) = inl (record {
   ids = set_of (flat_map spans_of_block r.blocks);
   encoding = blocks_bytes r.blocks;
   rest = r.rest;
-  encodes = encodes_blocks r.blocks r.lawful;
+  encodes = encodes_blocks r.blocks r.lawful (omega (arith, r.counted, number_small bytes are));
   bytes_are =
       number_front bytes are long
       ∙ (λ i. little_bytes 8 (sym r.counted i) ++ r.split i)

@@ -93,11 +93,13 @@ AreBlocks before (block ∷ blocks) =
     (length block.source ≡ 16) × (is_above before block.source ≡ true) × (0 < length block.intervals) × (length block.intervals < 2 ^ 64)
     × AreIntervals 0 block.intervals × AreBlocks (Some block.source) blocks
 
--- The bytes encode the set: they are its least intervals, and these are lawful.
+-- The bytes encode the set: they are its least intervals, these are lawful, and the number of sources fits in its
+-- eight bytes.
 pub record IsEncoding (ids : Ids) (bytes : List ℕ) : Type 0 where
   pub spans : List Span
   pub least : IsLeastList spans ids
   pub lawful : AreBlocks None (grouped spans)
+  pub counted : length (grouped spans) < 2 ^ 64
   pub spelled : bytes ≡ blocks_bytes (grouped spans)
 
 -- The bytes begin with an encoding of some set.

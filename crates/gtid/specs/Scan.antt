@@ -1,5 +1,5 @@
 -- How a text is scanned: what was read last, and what may stand next. The steps of `scan` are said in these words, and `scan` itself in those of the grammar alone.
-use Rattle.std.specs.Prelude.{◌≡◌, ℕ, ◌+◌, ◌≤◌, ◌==◌, ◌||◌, ◌&&◌, Bool, true, false, nat_le, Option, Some, None, List, [], ◌∷◌, ◌++◌, if◌then◌else◌}
+use Rattle.std.specs.Prelude.{◌≡◌, ℕ, ◌+◌, ◌<◌, ◌≤◌, ◌==◌, ◌||◌, ◌&&◌, Bool, true, false, nat_le, Option, Some, None, List, [], ◌∷◌, ◌++◌, if◌then◌else◌}
 use Rattle.uuid.specs.Text.{is_hex_digit, is_hyphen_place}
 use Rattle.gtid.specs.declared.grammar.State.{State}
 use Rattle.gtid.specs.declared.grammar.State.TheVariants.{Start, Item, Source, First, Lo, Second, Hi, Behind}
@@ -78,3 +78,8 @@ pub record IsPassed (from : State) (text : List ℕ) (to : State) (left : List �
 abbrev pub BeginsWithNoDigit : List ℕ → Type 0
 BeginsWithNoDigit [] = Unit {0}
 BeginsWithNoDigit (b ∷ bs) = is_digit b ≡ false
+
+-- The first byte, if there is one, may not stand at this place of a UUID.
+abbrev pub EndsAt : ℕ → List ℕ → Type 0
+EndsAt place [] = Unit {0}
+EndsAt place (b ∷ bs) = place < 36 → stands_at place b ≡ false

@@ -3,7 +3,7 @@
 ghost use Rattle.std.specs.Prelude.{◌≡◌, ◌+◌, ◌<◌, ◌≤◌, ◌∷◌, length, true, Some, OnOk, IfErr, IfSome, IfNone, IsTrue};
 ghost use Rattle.gtid.specs.Text.{IsInGrammar, IsOutsideFrom};
 ghost use Rattle.gtid.specs.Scan;
-ghost use Rattle.gtid.specs.Scan.{IsPlaced, IsPassed, is_digit, BeginsWithNoDigit};
+ghost use Rattle.gtid.specs.Scan.{IsPlaced, IsPassed, is_digit, BeginsWithNoDigit, EndsAt};
 ghost use Rattle.gtid.specs.declared.grammar.State.TheVariants.{Source, Lo, Hi};
 
 /// What was read last, and so what may stand next.
@@ -66,6 +66,7 @@ fn pass(state: State, text: &[u8]) -> (State, &[u8])
 fn pass_digits(text: &[u8]) -> &[u8]
     ensures lo { IsPassed Lo text.now Lo result.now }
     ensures hi { IsPassed Hi text.now Hi result.now }
+    ensures end { BeginsWithNoDigit result.now }
     ensures shorter { length result.now ≤ length text.now }
 {
     let mut left = text;
@@ -91,6 +92,7 @@ fn pass_source(place: u8, text: &[u8]) -> (u8, &[u8])
     requires { place ≤ 36 }
     ensures passed { IsPassed (Source place) text.now (Source result.0) result.1.now }
     ensures placed { result.0 ≤ 36 }
+    ensures end { EndsAt result.0 result.1.now }
     ensures shorter { length result.1.now ≤ length text.now }
 {
     let mut place = place;

@@ -40,11 +40,11 @@ pub fn one_reading_of_a_text()
     ensures one_fault { (text : List ℕ) (a b : GtidFault) → IsParseFault text a → IsParseFault text b → a ≡ b }
 {}
 
-/// Bytes begin with an encoding or have a fault, which is then the only one. Of fewer than 2^64 bytes none do both, and
-/// none begin with two encodings.
+/// Bytes begin with an encoding or have a fault, and not both. What they begin with is one encoding, of one set, and
+/// else there is one fault.
 pub fn one_reading_of_bytes()
     ensures some { (bytes : List ℕ) → AllByRecursion (λ b. b < 256) bytes → BeginsWithEncoding bytes ⊎ HasDecodeFault bytes }
-    ensures one_set { (a b : Ids) (bytes others x y : List ℕ) → length (bytes ++ x) < 2 ^ 64 → IsEncoding a bytes → IsEncoding b others → bytes ++ x ≡ others ++ y → (a ≡ b) × (bytes ≡ others) }
-    ensures no_fault { (ids : Ids) (bytes more : List ℕ) (fault : GtidFault) → length (bytes ++ more) < 2 ^ 64 → IsEncoding ids bytes → IsDecodeFault (bytes ++ more) fault → ⊥ }
+    ensures one_set { (a b : Ids) (bytes others x y : List ℕ) → IsEncoding a bytes → IsEncoding b others → bytes ++ x ≡ others ++ y → (a ≡ b) × (bytes ≡ others) }
+    ensures no_fault { (ids : Ids) (bytes more : List ℕ) (fault : GtidFault) → IsEncoding ids bytes → IsDecodeFault (bytes ++ more) fault → ⊥ }
     ensures one_fault { (bytes : List ℕ) (a b : GtidFault) → IsDecodeFault bytes a → IsDecodeFault bytes b → a ≡ b }
 {}
