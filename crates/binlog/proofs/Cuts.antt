@@ -1,0 +1,86 @@
+-- Bytes cut into parts.
+use Rattle.std.proofs.Common.{◌≡◌, ℕ, zero, suc, ◌+◌, ◌-◌, ◌<◌, ◌≤◌, ◌^◌, ◌%◌, ◌/◌, List, [], ◌∷◌, ◌++◌, length, get_or, take, drop, refl, sym, ap, ◌∙◌, arith}
+use Rattle.std.proofs.Math.Seq.{drop-cons, drop-append-add}
+use Rattle.std.proofs.lemmas.List.{take-append-drop, take_rest}
+use Rattle.std.proofs.Math.Nat.{div-div-eq-div-mul, div-one, pow-suc}
+use Rattle.std.specs.Int.{bytes_low_first, byte_at}
+use Rattle.std.specs.List.{AllByRecursion}
+use Rattle.byteorder.specs.Endian.{little_bytes, little_number}
+use Rattle.byteorder.specs.Numbers.{little_from-cons}
+
+abbrev pub IsBytes : List ℕ → Type 0
+IsBytes bytes = (i : ℕ) → get_or bytes i 0 < 256
+
+pub IsBytes-all : (bytes : List ℕ) → AllByRecursion (λ b. b < 256) bytes → IsBytes bytes
+IsBytes-all [] all i = omega arith
+IsBytes-all (b ∷ bytes) all zero = all.0
+IsBytes-all (b ∷ bytes) all (suc i) = IsBytes-all bytes all.1 i
+
+pub IsBytes-rest : (b : ℕ) (bytes : List ℕ) → IsBytes (b ∷ bytes) → IsBytes bytes
+IsBytes-rest b bytes h i = h (suc i)
+
+-- ---- Numbers.
+
+byte_at-pow : (j n : ℕ) → byte_at j n ≡ n / 256 ^ j % 256
+byte_at-pow zero n = ap (λ (y : ℕ). y % 256) (sym (div-one n))
+byte_at-pow (suc j) n = refl
+
+-- the bytes of the number that bytes spell, from one of its bytes on
+low_bytes : (k j n : ℕ) (xs : List ℕ) → k ≤ length xs → IsBytes xs → n / 256 ^ j ≡ little_number k xs → bytes_low_first j k n ≡ take k xs
+low_bytes zero j n xs long fits is = refl
+low_bytes (suc k) j n [] long fits is = absurd (omega (arith, long))
+low_bytes (suc k) j n (x ∷ xs) long fits is =
+    let small : x < 256 = fits 0 in
+    let moved = little_from-cons 0 k x xs in
+    let first : byte_at j n ≡ x = byte_at-pow j n ∙ (omega (arith, is, moved)) in
+    let shift : n / 256 ^ suc j ≡ n / 256 ^ j / 256 = ap (λ (p : ℕ). n / p) (pow-suc 256 j) ∙ sym (div-div-eq-div-mul n (256 ^ j) 256) in
+    let others : n / 256 ^ suc j ≡ little_number k xs = shift ∙ (omega (arith, is, moved)) in
+    λ i. first i ∷ low_bytes k (suc j) n xs (omega (arith, long)) (IsBytes-rest x xs fits) others i
+
+-- the first bytes are those of the number that they spell
+pub take_is_number : (k : ℕ) (xs : List ℕ) → k ≤ length xs → IsBytes xs → take k xs ≡ little_bytes k (little_number k xs)
+take_is_number k xs long fits =
+    let whole : little_number k xs / 256 ^ 0 ≡ little_number k xs = omega arith in
+    sym (low_bytes k 0 (little_number k xs) xs long fits whole)
+
+-- bytes begin with those of the number that they spell
+pub number_at_front : (k : ℕ) (xs : List ℕ) → k ≤ length xs → IsBytes xs → xs ≡ little_bytes k (little_number k xs) ++ drop k xs
+number_at_front k xs long fits = sym (take-append-drop k xs) ∙ ap (λ front. front ++ drop k xs) (take_is_number k xs long fits)
+
+-- ---- Cuts at a place.
+
+abbrev none : List ℕ
+none = []
+
+drop_none : (m : ℕ) → drop m none ≡ none
+drop_none zero = refl
+drop_none (suc m) = refl
+
+pub drop_drop : (n m : ℕ) (xs : List ℕ) → drop m (drop n xs) ≡ drop (n + m) xs
+drop_drop zero m xs = let e : m ≡ 0 + m = omega arith in ap (λ k. drop k xs) e
+drop_drop (suc n) m [] = drop_none m ∙ sym (drop_none (suc n + m))
+drop_drop (suc n) m (x ∷ xs) = let e : suc (n + m) ≡ suc n + m = omega arith in drop_drop n m xs ∙ ap (λ k. drop k (x ∷ xs)) e
+
+pub cut : (n m : ℕ) (xs : List ℕ) → drop n xs ≡ take m (drop n xs) ++ drop (n + m) xs
+cut n m xs = sym (take-append-drop m (drop n xs)) ∙ ap (λ rest. take m (drop n xs) ++ rest) (drop_drop n m xs)
+
+pub one : (n : ℕ) (xs : List ℕ) → n < length xs → drop n xs ≡ get_or xs n 0 ∷ drop (suc n) xs
+one n xs short = drop-cons xs n 0 short
+
+-- what stands behind a front
+pub behind : (n m : ℕ) (front rest : List ℕ) → length front ≡ n → drop (n + m) (front ++ rest) ≡ drop m rest
+behind n m front rest long = ap (λ k. drop (k + m) (front ++ rest)) (sym long) ∙ drop-append-add front rest m
+
+pub drop_front : (front rest : List ℕ) → drop (length front) (front ++ rest) ≡ rest
+drop_front front rest = let e : length front ≡ length front + 0 = omega arith in ap (λ k. drop k (front ++ rest)) e ∙ behind (length front) 0 front rest refl
+
+-- ---- One byte or two, and the rest.
+
+pub one_and_rest : (xs : List ℕ) → 1 ≤ length xs → xs ≡ get_or xs 0 0 ∷ take (length xs - 1) (drop 1 xs)
+one_and_rest xs long = drop-cons xs 0 0 (omega (arith, long)) ∙ ap (λ rest. get_or xs 0 0 ∷ rest) (sym (take_rest xs 1))
+
+pub two_and_rest : (xs : List ℕ) → 2 ≤ length xs → xs ≡ get_or xs 0 0 ∷ get_or xs 1 0 ∷ take (length xs - 2) (drop 2 xs)
+two_and_rest xs long = drop-cons xs 0 0 (omega (arith, long)) ∙ ap (λ rest. get_or xs 0 0 ∷ rest) (drop-cons xs 1 0 (omega (arith, long)) ∙ ap (λ rest. get_or xs 1 0 ∷ rest) (sym (take_rest xs 2)))
+
+pub drop_at : (front rest : List ℕ) (n : ℕ) → length front ≡ n → drop n (front ++ rest) ≡ rest
+drop_at front rest n long = ap (λ k. drop k (front ++ rest)) (sym long) ∙ drop_front front rest

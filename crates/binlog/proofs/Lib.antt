@@ -1,0 +1,8 @@
+pub mod Cuts
+pub mod Tables
+pub mod Headers
+pub mod Columns
+pub mod Rows
+pub mod Examples
+pub mod Bodies
+pub mod Formats

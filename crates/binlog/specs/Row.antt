@@ -1,0 +1,80 @@
+-- Rows. MySQL Source Documentation, Binlog Event: binary_log::Rows_event (row images, null bitmaps).
+use Rattle.std.specs.Prelude.{◌≡◌, ℕ, suc, ◌+◌, ◌/◌, ◌%◌, ◌<◌, ◌≤◌, ◌^◌, Bool, List, [], ◌∷◌, ◌++◌, length, take, drop, map, slice_get, slice_index, nat_lt, ◌==◌, if◌then◌else◌, Some, Result, Ok, Err}
+use Rattle.std.specs.Int.{div_ceil}
+use Rattle.binlog.specs.Cell.{CellValue, null_cell, is_null}
+use Rattle.binlog.specs.Shape.{shape, IsValue, value_end, cell_of}
+use Rattle.binlog.specs.declared.column.ColumnKind.{ColumnKind}
+use Rattle.binlog.specs.declared.column.ColumnType.{ColumnType}
+
+-- the kinds of types
+abbrev pub kinds : List ColumnType → List ColumnKind
+kinds types = map (λ t. t.kind) types
+
+-- the bytes of a bitmap of n bits
+abbrev pub bitmap_size : ℕ → ℕ
+bitmap_size n = div_ceil n 8
+
+-- bit i of a bitmap, the lowest bit of each byte first
+abbrev pub is_set : List ℕ → ℕ → Bool
+is_set bitmap i = slice_index bitmap (i / 8) / 2 ^ (i % 8) % 2 == 1
+
+-- the values of the cells that are not null, one after the other
+abbrev pub AreValues : List ColumnKind → List CellValue → List ℕ → Type 0
+AreValues [] [] bytes = bytes ≡ []
+AreValues (t ∷ types) (null_cell ∷ cells) bytes = AreValues types cells bytes
+AreValues (t ∷ types) (cell ∷ cells) bytes = (first : List ℕ) × (others : List ℕ) × (bytes ≡ first ++ others) × IsValue (shape t) cell first × AreValues types cells others
+AreValues _ _ bytes = ⊥
+
+-- The bytes are the row of the cells: a bitmap whose bit i says that cell i is null, and the values of the others. Bits
+-- behind the last column are left free.
+pub record IsRow (types : List ColumnKind) (cells : List CellValue) (bytes : List ℕ) : Type 0 where
+  pub bitmap : List ℕ
+  pub values : List ℕ
+  pub bytes_are : bytes ≡ bitmap ++ values
+  pub bitmap_length : length bitmap ≡ bitmap_size (length types)
+  pub nulls : (i : ℕ) → i < length types → slice_get (map is_null cells) i ≡ Some (is_set bitmap i)
+  pub values_are : AreValues types cells values
+
+-- some cells, whose row is the first bytes up to the end
+pub record HasRow (types : List ColumnKind) (end : ℕ) (bytes : List ℕ) : Type 0 where
+  pub cells : List CellValue
+  pub within : end ≤ length bytes
+  pub is_row : IsRow types cells (take end bytes)
+
+-- ---- The row at the front of bytes.
+
+-- a place so much further on
+abbrev pub further : ℕ → Result ℕ ℕ → Result ℕ ℕ
+further n (Ok place) = Ok (n + place)
+further n (Err place) = Err (n + place)
+
+infixl 10 ◌>>=◌
+abbrev pub ◌>>=◌ : Result ℕ ℕ → (ℕ → Result ℕ ℕ) → Result ℕ ℕ
+(Ok size) >>= next = further size (next size)
+(Err place) >>= next = Err place
+
+-- where the values of the columns from column i on end, those that are null left out, or (Err) the place of the first
+-- length or value that doesn't fit
+abbrev pub values_end : List ℕ → ℕ → List ColumnKind → List ℕ → Result ℕ ℕ
+values_end bitmap i [] bytes = Ok 0
+values_end bitmap i (t ∷ types) bytes =
+    if is_set bitmap i then values_end bitmap (suc i) types bytes
+    else value_end (shape t) bytes >>= (λ size. values_end bitmap (suc i) types (drop size bytes))
+
+-- where the row ends, or (Err) the place of the bitmap, length or value that doesn't fit
+unfoldable pub row_end : List ColumnKind → List ℕ → Result ℕ ℕ
+row_end types bytes =
+    let size = bitmap_size (length types) in
+    if nat_lt (length bytes) size then Err 0
+    else further size (values_end (take size bytes) 0 types (drop size bytes))
+
+-- the cells of the columns from column i on, as far as their values fit
+abbrev pub cell_front : Result ℕ ℕ → CellValue → (ℕ → List CellValue) → List CellValue
+cell_front (Ok size) cell others = cell ∷ others size
+cell_front (Err place) cell others = []
+
+abbrev pub cells_of : List ℕ → ℕ → List ColumnKind → List ℕ → List CellValue
+cells_of bitmap i [] bytes = []
+cells_of bitmap i (t ∷ types) bytes =
+    if is_set bitmap i then null_cell ∷ cells_of bitmap (suc i) types bytes
+    else cell_front (value_end (shape t) bytes) (cell_of (shape t) bytes) (λ size. cells_of bitmap (suc i) types (drop size bytes))

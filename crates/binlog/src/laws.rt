@@ -1,0 +1,36 @@
+//! What callers rely on, as laws about the definitions.
+//!
+//! A law is a function with an empty body: its clauses are proved of the definitions themselves.
+
+ghost use Rattle.std.specs.Prelude.{◌≡◌, ℕ, ◌<◌, ◌++◌, Bool, List, length, Some, None, Ok};
+ghost use Rattle.std.specs.List.{AllByRecursion};
+ghost use Rattle.binlog.specs.Column.{type_code, metadata, IsColumn, HasColumn, metadata_size, column_fault};
+ghost use Rattle.binlog.specs.Header.{IsFramed, HasFrame, header_fault};
+ghost use Rattle.binlog.specs.Cell.{CellValue};
+ghost use Rattle.binlog.specs.Row.{IsRow, HasRow, row_end};
+ghost use Rattle.binlog.specs.declared.column.ColumnKind.{ColumnKind};
+
+/// Bytes have a header's frame or a fault, and not both, and a frame has one type, one mark and one body.
+pub fn one_header()
+    ensures some { (bytes : List ℕ) → AllByRecursion (λ b. b < 256) bytes → header_fault bytes ≡ None → HasFrame bytes }
+    ensures no_fault { (code : ℕ) (may_ignore : Bool) (body bytes : List ℕ) → IsFramed code may_ignore body bytes → header_fault bytes ≡ None }
+    ensures one { (code code' : ℕ) (may_ignore may_ignore' : Bool) (body body' bytes : List ℕ) →
+        IsFramed code may_ignore body bytes → IsFramed code' may_ignore' body' bytes → (code ≡ code') × (may_ignore ≡ may_ignore') × (body ≡ body') }
+{}
+
+/// A type byte and bytes that begin with its metadata are those of a type whose metadata is in range, or have a
+/// fault, and not both, and they are those of one type. So types and their bytes, the type byte with the metadata,
+/// are one to one.
+pub fn one_column()
+    ensures some { (code : ℕ) (bytes : List ℕ) → AllByRecursion (λ b. b < 256) bytes → column_fault code bytes ≡ None → HasColumn code bytes }
+    ensures no_fault { (kind : ColumnKind) (code : ℕ) (rest bytes : List ℕ) → IsColumn kind code rest bytes → column_fault code bytes ≡ None }
+    ensures one { (code : ℕ) (a b : ColumnKind) (x y bytes : List ℕ) → IsColumn a code x bytes → IsColumn b code y bytes → (a ≡ b) × (x ≡ y) }
+    ensures size { (kind : ColumnKind) → metadata_size (type_code kind) ≡ Some (length (metadata kind)) }
+{}
+
+/// Bytes begin with a row exactly where no part of it fails to fit, and then with one row of one list of cells.
+pub fn one_row()
+    ensures some { (types : List ColumnKind) (bytes : List ℕ) (end : ℕ) → AllByRecursion (λ b. b < 256) bytes → row_end types bytes ≡ Ok end → HasRow types end bytes }
+    ensures whole { (types : List ColumnKind) (cells : List CellValue) (first rest : List ℕ) → IsRow types cells first → row_end types (first ++ rest) ≡ Ok (length first) }
+    ensures one { (types : List ColumnKind) (a b : List CellValue) (first second x y : List ℕ) → IsRow types a first → IsRow types b second → first ++ x ≡ second ++ y → (a ≡ b) × (first ≡ second) }
+{}

@@ -1,0 +1,30 @@
+//! Events and rows of the binary log.
+//!
+//! [`Header`] is the first part of every event. [`read_format`] and its kin read what follows it in an event other
+//! than a table map and rows. [`ColumnType`] is a type of column as a table map has it with its metadata, and [`Row`]
+//! a row of a rows event, whose [`Cells`] borrow from the event's bytes.
+//!
+//! The layouts are those of the MySQL Source Documentation, "Binlog Event". `specs/` states them as relations on whole
+//! byte lists, and [`laws`] what follows from them.
+#![tactic(auto)]
+
+mod body;
+mod cell;
+mod column;
+mod fault;
+mod header;
+pub mod laws;
+mod row;
+mod shape;
+
+pub use body::{Query, read_format, read_gtid, read_query, read_rotate, read_xid};
+pub use cell::Cell;
+pub use column::{ColumnKind, ColumnType};
+pub use fault::{EventFault, EventFaultKind};
+pub use header::Header;
+pub use row::{Cells, Row};
+
+#[cfg(test)]
+mod body_tests;
+#[cfg(test)]
+mod tests;

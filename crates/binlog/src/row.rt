@@ -1,0 +1,140 @@
+//! Rows. MySQL Source Documentation, "Binlog Event", the page `binary_log::Rows_event`.
+
+ghost use Rattle.std.specs.Prelude.{◌≡◌, ℕ, ◌≤◌, ◌++◌, List, length, take, IfOk, IfErr, MatchResult, Err};
+ghost use Rattle.std.specs.Iterator.{YieldsFirstBy, item_count};
+ghost use Rattle.binlog.specs.Cell.{CellValue, cell_value};
+ghost use Rattle.binlog.specs.Row.{kinds, is_set, IsRow, row_end};
+
+use crate::cell::Cell;
+use crate::column::ColumnType;
+use crate::shape::{read_value, shape_of};
+use std::marker::Model;
+
+/// A row, seen as its cells.
+#[derive(Debug, Drop)]
+pub struct Row<'a> {
+    types: &'a [ColumnType],
+    /// Which cells are null.
+    bitmap: &'a [u8],
+    /// The values of the other cells.
+    values: &'a [u8],
+}
+
+impl<'a> Model for Row<'a> {
+    ghost use Rattle.std.specs.Prelude.{List};
+    ghost use Rattle.binlog.specs.Cell.{CellValue};
+
+    ghost Value = { List CellValue };
+
+    ghost use Rattle.binlog.specs.Row.{kinds, cells_of};
+
+    ghost view = { λ r. cells_of r.bitmap.now 0 (kinds r.types.now) r.values.now };
+}
+
+/// The cells of a row, one after another, seen as the list of those that are left.
+#[derive(Debug, Drop)]
+pub struct Cells<'a> {
+    types: &'a [ColumnType],
+    bitmap: &'a [u8],
+    /// The next column.
+    index: usize,
+    /// The values from the next column on.
+    values: &'a [u8],
+}
+
+impl<'a> Model for Cells<'a> {
+    ghost use Rattle.std.specs.Prelude.{List, drop};
+    ghost use Rattle.binlog.specs.Cell.{CellValue};
+
+    ghost Value = { List CellValue };
+
+    ghost use Rattle.binlog.specs.Row.{kinds, cells_of};
+
+    ghost view = { λ c. cells_of c.bitmap.now c.index (drop c.index (kinds c.types.now)) c.values.now };
+}
+
+impl<'a> Row<'a> {
+    /// Reads the row at the front of the bytes: the row, and how many bytes it takes. Where its bitmap, or the length
+    /// or the bytes of a value do not fit, the answer is the place where they begin.
+    pub(crate) fn read(types: &'a [ColumnType], bytes: &'a [u8]) -> Result<(Row<'a>, usize), usize>
+        ensures found { IfOk result (λ read. IsRow (kinds types.now) read.0 (take read.1 bytes.now)) }
+        ensures within { IfOk result (λ read. read.1 ≤ length bytes.now) }
+        ensures only { (cells : List CellValue) (first rest : List ℕ) → bytes.now ≡ first ++ rest → IsRow (kinds types.now) cells first → MatchResult result (λ read. (read.0 ≡ cells) × (read.1 ≡ length first)) (λ _. ⊥) }
+        ensures fault { IfErr result (λ place. row_end (kinds types.now) bytes.now ≡ Err place) }
+    {
+        let end = row_end(types, bytes)?;
+        let (bitmap, values) = bytes[..end].split_at(types.len().div_ceil(8));
+        let row = Row {
+            types,
+            bitmap,
+            values,
+        };
+        Ok((row, end))
+    }
+
+    /// The cells in order.
+    pub fn cells(&self) -> Cells<'a>
+        ensures { result ≡ self.now }
+    {
+        Cells {
+            types: self.types,
+            bitmap: self.bitmap,
+            index: 0,
+            values: self.values,
+        }
+    }
+}
+
+impl<'a> Iterator for Cells<'a> {
+    type Item = Cell<'a>;
+
+    ghost next_gives = { YieldsFirstBy cell_value (λ rest. rest) };
+
+    ghost remaining = { item_count (λ rest. rest) };
+
+    fn next(&mut self) -> Option<Cell<'a>> {
+        let column = *self.types.get(self.index)?;
+        if is_set(self.bitmap, self.index) {
+            self.index += 1;
+            return Some(Cell::Null);
+        }
+        let Ok((cell, size)) = read_value(shape_of(column), self.values) else {
+            return None;
+        };
+        self.index += 1;
+        self.values = &self.values[size..];
+        Some(cell)
+    }
+}
+
+/// Where the row at the front of the bytes ends, or where it ends early.
+fn row_end(types: &[ColumnType], bytes: &[u8]) -> Result<usize, usize>
+    ensures { result ≡ row_end (kinds types.now) bytes.now }
+{
+    let size = types.len().div_ceil(8);
+    if bytes.len() < size {
+        return Err(0);
+    }
+    let bitmap = &bytes[..size];
+    let mut place = size;
+    for i in 0..types.len() {
+        if is_set(bitmap, i) {
+            continue;
+        }
+        match read_value(shape_of(types[i]), &bytes[place..]) {
+            Ok((_, size)) => place += size,
+            Err(at) => return Err(place + at),
+        }
+    }
+    Ok(place)
+}
+
+/// Bit i of a bitmap, the lowest bit of each byte first.
+fn is_set(bitmap: &[u8], i: usize) -> bool
+    ensures { result ≡ is_set bitmap.now i }
+{
+    match bitmap.get(i / 8) {
+        Some(byte) => (byte >> (i % 8)) % 2 == 1,
+        None => false,
+    }
+}
