@@ -19,7 +19,6 @@ const LENGTHS: [(usize, u8); 6] = [(2, 13), (4, 8), (19, 8), (30, 10), (31, 10),
 /// Reads a format description: version 4, the lengths of the types that are read, and no checksum.
 #[tactic(auto, unfolding(crate::specs::Body::format_fault))]
 pub fn read_format(bytes: &[u8]) -> Result<(), EventFault>
-    requires { 19 ≤ length bytes.now }
     ensures found { OnOk result (IsFormat (drop 19 bytes.now)) }
     ensures only { IsFormat (drop 19 bytes.now) → IsOk result }
     ensures fault { IfErr result (λ fault. format_fault bytes.now ≡ Some fault) }
@@ -85,7 +84,6 @@ fn wrong_length(bytes: &[u8]) -> Option<usize>
 /// Reads the end of a transaction: its number.
 #[tactic(auto, unfolding(crate::specs::Body::xid_fault))]
 pub fn read_xid(bytes: &[u8]) -> Result<u64, EventFault>
-    requires { 19 ≤ length bytes.now }
     ensures found { IfOk result (λ number. IsXid number (drop 19 bytes.now)) }
     ensures only { (number : ℕ) → IsXid number (drop 19 bytes.now) → result ≡ Ok number }
     ensures fault { IfErr result (λ fault. xid_fault bytes.now ≡ Some fault) }
@@ -105,7 +103,6 @@ pub fn read_xid(bytes: &[u8]) -> Result<u64, EventFault>
 /// Reads a rotation: the position and the name of the next file.
 #[tactic(auto, unfolding(crate::specs::Body::rotate_fault))]
 pub fn read_rotate(bytes: &[u8]) -> Result<(u64, &[u8]), EventFault>
-    requires { 19 ≤ length bytes.now }
     ensures found { IfOk result (λ read. IsRotate read.0 read.1.now (drop 19 bytes.now)) }
     ensures only { (position : ℕ) (name : List ℕ) → IsRotate position name (drop 19 bytes.now) → IfOk result (λ read. (read.0 ≡ position) × (read.1.now ≡ name)) }
     ensures fault { IfErr result (λ fault. rotate_fault bytes.now ≡ Some fault) }
@@ -119,7 +116,6 @@ pub fn read_rotate(bytes: &[u8]) -> Result<(u64, &[u8]), EventFault>
 /// Reads a transaction's identifier.
 #[tactic(auto, unfolding(crate::specs::Body::gtid_fault))]
 pub fn read_gtid(bytes: &[u8]) -> Result<Gtid, EventFault>
-    requires { 19 ≤ length bytes.now }
     ensures found { IfOk result (λ gtid. IsGtid gtid.source gtid.number (drop 19 bytes.now)) }
     ensures only { (source : List ℕ) (number : ℕ) → IsGtid source number (drop 19 bytes.now) → IfOk result (λ gtid. (gtid.source ≡ source) × (gtid.number ≡ number)) }
     ensures fault { IfErr result (λ fault. gtid_fault bytes.now ≡ Some fault) }
@@ -156,7 +152,6 @@ pub enum Query {
 /// Reads a query whose text is one of the statements that are read.
 #[tactic(auto, unfolding(crate::specs::Body::query_fault))]
 pub fn read_query(bytes: &[u8]) -> Result<Query, EventFault>
-    requires { 19 ≤ length bytes.now }
     ensures found { IfOk result (λ query. IsQuery (statement query) (drop 19 bytes.now)) }
     ensures only { (query : Query) → IsQuery (statement query) (drop 19 bytes.now) → result ≡ Ok query }
     ensures fault { IfErr result (λ fault. query_fault bytes.now ≡ Some fault) }
@@ -178,7 +173,6 @@ pub fn read_query(bytes: &[u8]) -> Result<Query, EventFault>
 /// Where the text of a query begins.
 #[tactic(auto, unfolding(crate::specs::Body::query_fault))]
 fn read_text(bytes: &[u8]) -> Result<usize, EventFault>
-    requires { 19 ≤ length bytes.now }
     ensures place { IfOk result (λ text. text ≡ text_place bytes.now) }
     ensures within { IfOk result (λ text. text ≤ length bytes.now) }
     ensures fault { IfErr result (λ fault. query_fault bytes.now ≡ Some fault) }

@@ -32,6 +32,11 @@ fn format(alloc: Global) -> Result<Vec<u8>, Fail> {
     Ok(event)
 }
 
+/// The first bytes of an event.
+fn front(event: &[u8], len: usize) -> Result<&[u8], Fail> {
+    Ok(event.get(..len).ok_or("a shorter event")?)
+}
+
 /// The fault of a result, as its offset and its kind's text; or `read`.
 fn told<T: Drop>(alloc: Global, read: Result<T, EventFault>) -> Result<String, Fail> {
     Ok(match read {
@@ -56,7 +61,7 @@ fn formats(rt: HostRuntime) -> Result<(), Fail> {
         (77, 77),
         (80, 77),
     ] {
-        let fault = read_format(&event[..len]).err().ok_or("read")?;
+        let fault = read_format(front(&event, len)?).err().ok_or("read")?;
         assert_eq!(rt;
             fault,
             EventFault {
@@ -83,7 +88,7 @@ fn formats(rt: HostRuntime) -> Result<(), Fail> {
         let fault = read_format(&changed).err().ok_or("read")?;
         assert_eq!(rt; fault, EventFault { kind, at }, "{place}");
     }
-    let fault = read_format(&event[..115]).err().ok_or("read")?;
+    let fault = read_format(front(&event, 115)?).err().ok_or("read")?;
     assert_eq!(rt;
         fault,
         EventFault {
@@ -128,7 +133,7 @@ fn queries(rt: HostRuntime) -> Result<(), Fail> {
         (36, 34),
         (37, 37),
     ] {
-        let fault = read_query(&event[..len]).err().ok_or("read")?;
+        let fault = read_query(front(&event, len)?).err().ok_or("read")?;
         assert_eq!(rt;
             fault,
             EventFault {
@@ -166,7 +171,7 @@ fn identifiers(rt: HostRuntime) -> Result<(), Fail> {
             assert_eq!(rt; (gtid.source, gtid.number), (source, number));
         }
         for (len, at) in [(19, 19), (20, 20), (35, 20), (36, 36), (43, 36)] {
-            let fault = read_gtid(&event[..len]).err().ok_or("read")?;
+            let fault = read_gtid(front(&event, len)?).err().ok_or("read")?;
             assert_eq!(rt;
                 fault,
                 EventFault {
@@ -187,7 +192,7 @@ fn ends_and_rotations(rt: HostRuntime) -> Result<(), Fail> {
     event.extend_from_slice(&[1, 0, 0, 0, 0, 0, 0, 0])?;
     assert_eq!(rt; read_xid(&event)?, 1);
     assert_eq!(rt;
-        told(alloc, read_xid(&event[..26]))?.as_str(),
+        told(alloc, read_xid(front(&event, 26)?))?.as_str(),
         "the event ends early at 19"
     );
     event.extend_from_slice(b"log.2")?;
@@ -197,7 +202,7 @@ fn ends_and_rotations(rt: HostRuntime) -> Result<(), Fail> {
     );
     assert_eq!(rt; read_rotate(&event)?, (1, b"log.2".as_slice()));
     assert_eq!(rt;
-        told(alloc, read_rotate(&event[..26]))?.as_str(),
+        told(alloc, read_rotate(front(&event, 26)?))?.as_str(),
         "the event ends early at 19"
     );
     Ok(())

@@ -49,6 +49,11 @@ fn changed(alloc: Global, bytes: &[u8], at: usize, byte: u8) -> Result<Vec<u8>, 
     Ok(bytes)
 }
 
+/// The first of the bytes.
+fn front(bytes: &[u8], len: usize) -> Result<&[u8], Fail> {
+    Ok(bytes.get(..len).ok_or("fewer bytes")?)
+}
+
 /// A fault by its name and its numbers.
 fn told(alloc: Global, fault: &GreetFault) -> Result<String, Fail> {
     Ok(match fault {
@@ -131,7 +136,7 @@ fn refused_greetings(rt: HostRuntime) -> Result<(), Fail> {
     }
     // Without the needed capabilities and with a short scramble: capabilities come first.
     assert_eq!(rt;
-        answer(alloc, Greeting::read(alloc, &no_high[..45]))?.as_str(),
+        answer(alloc, Greeting::read(alloc, front(&no_high, 45)?))?.as_str(),
         "Capabilities 524288"
     );
     // A longer second part of the scramble is due where the length says so.
@@ -218,6 +223,18 @@ fn replies(rt: HostRuntime) -> Result<(), Fail> {
             due
         );
     }
+    // The texts of both kinds of error.
+    for (payload, due) in [
+        (access.as_slice(), b"Access".as_slice()),
+        (TOO_MANY, b"Too many connections"),
+    ] {
+        match AuthReply::read(alloc, payload) {
+            Err(GreetFault::ServerError { message, .. }) => {
+                assert_eq!(rt; message.as_slice(), due);
+            }
+            _ => return Err("no error of the source".into()),
+        }
+    }
     Ok(())
 }
 
@@ -295,10 +312,10 @@ fn commands(rt: HostRuntime) -> Result<(), Fail> {
     once.write(&mut out)?;
     assert_eq!(rt; out.len(), 87);
     assert_eq!(rt;
-        &out[..23],
+        front(&out, 23)?,
         b"\x1e\x05\0\x07\0\0\0\0\0\0\0\x04\0\0\0\0\0\0\0\x40\0\0\0".as_slice()
     );
-    assert_eq!(rt; &out[23..], SET);
+    assert_eq!(rt; out.get(23..).ok_or("a shorter command")?, SET);
     let read = Dump::read(&out)?;
     assert_eq!(rt; (read.flags, read.server_id, read.set), (5, 7, SET));
     // A name and another position are read over.
@@ -310,8 +327,8 @@ fn commands(rt: HostRuntime) -> Result<(), Fail> {
     out.push(0)?;
     let cases: [(&[u8], &str); 5] = [
         (&out, "Truncated"),
-        (&out[..86], "Truncated"),
-        (&out[..22], "Truncated"),
+        (front(&out, 86)?, "Truncated"),
+        (front(&out, 22)?, "Truncated"),
         (&[], "Truncated"),
         (&[0x12, 0, 0], "Unexpected 18"),
     ];

@@ -314,3 +314,22 @@ fn parse_faults(rt: HostRuntime) -> Result<(), Fail> {
     }
     Ok(())
 }
+
+/// A number may have any count of digits.
+#[test]
+fn long_numbers(rt: HostRuntime) -> Result<(), Fail> {
+    let mut nines = of_a(&rt, ":")?;
+    let mut zeros = of_a(&rt, ":")?;
+    for _ in 0..1000 {
+        nines.push_str("9")?;
+        zeros.push_str("0")?;
+    }
+    zeros.push_str("17")?;
+    assert_eq!(rt;
+        GtidSet::parse(rt.alloc(), &nines).err(),
+        Some(GtidFault::Number)
+    );
+    let set = GtidSet::parse(rt.alloc(), &zeros)?;
+    assert_eq!(rt; text(&rt, &set)?, of_a(&rt, ":17")?);
+    Ok(())
+}
