@@ -5,3 +5,6 @@ pub mod Cell
 pub mod Shape
 pub mod Row
 pub mod Body
+pub mod Count
+pub mod Table
+pub mod Rows

@@ -11,10 +11,12 @@
 mod body;
 mod cell;
 mod column;
+mod count;
 mod fault;
 mod header;
 pub mod laws;
 mod row;
+mod rows_event;
 mod shape;
 
 pub use body::{Query, read_format, read_gtid, read_query, read_rotate, read_xid};
@@ -23,6 +25,7 @@ pub use column::{ColumnKind, ColumnType};
 pub use fault::{EventFault, EventFaultKind};
 pub use header::Header;
 pub use row::{Cells, Row};
+pub use rows_event::RowsKind;
 
 #[cfg(test)]
 mod body_tests;

@@ -1,0 +1,34 @@
+//! Counts: length-encoded integers at a place of an event.
+
+ghost use Rattle.std.specs.Prelude.{◌≡◌, ◌+◌, ◌≤◌, length, take, drop, IfOk, IfErr, Some, None};
+ghost use Rattle.wire.specs.Integer.{IsLengthEncoded};
+ghost use Rattle.binlog.specs.Count.{count_width, count_at, no_count};
+
+use crate::fault::{EventFault, EventFaultKind};
+use wire::read_int;
+
+/// Reads the count at a place: its value, and how many bytes it takes.
+///
+/// One that does not fit the bytes is `Truncated`; where the first byte begins none, the refusal is of the kind given.
+#[tactic(auto, unfolding(crate::specs::Count::no_count))]
+pub(crate) fn read_count(
+    bytes: &[u8],
+    at: usize,
+    kind: EventFaultKind,
+) -> Result<(u64, usize), EventFault>
+    requires { at ≤ length bytes.now }
+    ensures value { IfOk result (λ read. (read.0 ≡ count_at bytes.now at) × (read.1 ≡ count_width bytes.now at)) }
+    ensures found { IfOk result (λ read. IsLengthEncoded read.0 (take read.1 (drop at bytes.now))) }
+    ensures within { IfOk result (λ read. at + read.1 ≤ length bytes.now) }
+    ensures whole { IfOk result (λ _. no_count bytes.now at kind ≡ None) }
+    ensures fault { IfErr result (λ fault. no_count bytes.now at kind ≡ Some fault) }
+{
+    let rest = &bytes[at..];
+    if let Some(read) = read_int(rest) {
+        return Ok(read);
+    }
+    match rest.first() {
+        Some(0xfb | 0xff) => Err(EventFault { kind, at }),
+        _ => Err(EventFault::truncated(at)),
+    }
+}
