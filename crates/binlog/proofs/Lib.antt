@@ -7,3 +7,4 @@ pub mod Examples
 pub mod Bodies
 pub mod Formats
 mod Counts
+mod Followed

@@ -8,3 +8,5 @@ pub mod Body
 pub mod Count
 pub mod Table
 pub mod Rows
+pub mod Follow
+pub mod FollowView
