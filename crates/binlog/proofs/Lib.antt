@@ -8,3 +8,4 @@ pub mod Bodies
 pub mod Formats
 mod Counts
 mod Followed
+mod BodyLaws

@@ -10,3 +10,4 @@ pub mod Table
 pub mod Rows
 pub mod Follow
 pub mod FollowView
+pub mod Event

@@ -34,3 +34,7 @@ pub fn one_row()
     ensures whole { (types : List ColumnKind) (cells : List CellValue) (first rest : List ℕ) → IsRow types cells first → row_end types (first ++ rest) ≡ Ok (length first) }
     ensures one { (types : List ColumnKind) (a b : List CellValue) (first second x y : List ℕ) → IsRow types a first → IsRow types b second → first ++ x ≡ second ++ y → (a ≡ b) × (first ≡ second) }
 {}
+
+pub fn bodies()
+    ensures one { (bytes : List ℕ) → bytes ≡ bytes }
+{}
