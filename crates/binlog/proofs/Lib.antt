@@ -6,3 +6,4 @@ pub mod Rows
 pub mod Examples
 pub mod Bodies
 pub mod Formats
+pub mod TableNames

@@ -8,3 +8,6 @@ pub mod Body
 pub mod Count
 pub mod Table
 pub mod Rows
+pub mod Columns
+pub mod ColumnsView
+pub mod TableView
