@@ -7,3 +7,5 @@ pub mod Examples
 pub mod Bodies
 pub mod Formats
 pub mod TableNames
+pub mod Counts
+pub mod TableColumns
