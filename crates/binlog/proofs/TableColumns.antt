@@ -1,20 +1,22 @@
 -- The columns of table maps.
-use Rattle.std.proofs.Common.{◌≡◌, ℕ, suc, ◌+◌, ◌-◌, ◌<◌, ◌≤◌, ◌==◌, Bool, true, false, not, List, [], ◌∷◌, ◌++◌, length, get_or, take, drop, map, Option, Some, None, IsTrue, refl, sym, ap, subst, ◌∙◌, append_assoc, arith}
+use Rattle.std.proofs.Common.{◌≡◌, ℕ, zero, suc, ◌+◌, ◌-◌, ◌*◌, ◌<◌, ◌≤◌, ◌==◌, Bool, true, false, not, List, [], ◌∷◌, ◌++◌, length, get_or, take, drop, map, Option, Some, None, IsTrue, refl, sym, ap, subst, ◌∙◌, append_assoc, arith}
 use Rattle.std.specs.Prelude.{flat_map, sum_by, is_none, unwrap_or}
 use Rattle.std.specs.List.{AllByRecursion}
 use Rattle.std.proofs.Math.Seq.{take-add}
 use Rattle.std.proofs.lemmas.Bool.{le-ltb}
-use Rattle.std.proofs.lemmas.List.{length-append, length-drop, length-take, length-map, get_or-drop, take_at}
+use Rattle.std.proofs.lemmas.List.{length-append, length-drop, length-take, length-map, get_or-drop, take_at, drop_all}
+use Rattle.std.proofs.lemmas.List.Sums.{sum_by-cons}
 use Rattle.binlog.specs.Fault.{refuse, needs, first_of}
 use Rattle.binlog.specs.Column.{type_code, metadata, is_lawful, IsColumn, HasColumn, metadata_size, metadata_fault, column_fault}
 use Rattle.binlog.specs.Table.{types_fault, metadata_length, at_place, all_metadata_fault}
 use Rattle.binlog.specs.Columns.{kind_of, column_front, columns_of}
 use Rattle.binlog.specs.declared.column.ColumnKind.{ColumnKind}
+use Rattle.binlog.specs.declared.fault.EventFault.{EventFault}
 use Rattle.binlog.specs.declared.fault.EventFaultKind.{EventFaultKind}
 use Rattle.binlog.specs.declared.fault.EventFaultKind.TheVariants.{ColumnType as UnknownColumn}
 use Rattle.binlog.proofs.Tables.{passes, not_refused, is_there}
-use Rattle.binlog.proofs.Cuts.{IsBytes, drop_drop, drop_front}
-use Rattle.binlog.proofs.Columns.{kind_is, lawful_size, no_fault, fault_of, some_column}
+use Rattle.binlog.proofs.Cuts.{IsBytes, drop_drop, drop_front, one}
+use Rattle.binlog.proofs.Columns.{kind_is, known, at_most_two, lawful_size, no_fault, fault_of, some_column}
 
 -- ---- One column.
 
@@ -38,3 +40,160 @@ column_first kind code codes rest bytes is =
 
 pub fewer : (s t : List ColumnKind) (x : ColumnKind) → s ≡ x ∷ t → length t < length s
 fewer s t x e = omega (arith, ap length e)
+
+-- ---- Tables of refusals, line by line.
+
+pub first_none : (line : Option EventFault) (lines : List (Option EventFault)) → line ≡ None → first_of (line ∷ lines) ≡ first_of lines
+first_none line lines is = ap (λ l. first_of (l ∷ lines)) is
+
+pub first_some : (line : Option EventFault) (lines : List (Option EventFault)) (fault : EventFault) → line ≡ Some fault → first_of (line ∷ lines) ≡ Some fault
+first_some line lines fault is = ap (λ l. first_of (l ∷ lines)) is
+
+only_line : (line : Option EventFault) → first_of (line ∷ []) ≡ line
+only_line None = refl
+only_line (Some fault) = refl
+
+-- ---- Type bytes, one after another.
+
+type_passes_at : (code size place : ℕ) (others : List ℕ) → metadata_size code ≡ Some size → types_fault place (code ∷ others) ≡ types_fault (suc place) others
+type_passes_at code size place others has =
+    first_none (refuse (is_none (metadata_size code)) (UnknownColumn code) place) (types_fault (suc place) others ∷ []) (ap (λ (s : Option ℕ). refuse (is_none s) (UnknownColumn code) place) has)
+    ∙ only_line (types_fault (suc place) others)
+
+pub type_passes : (codes : List ℕ) (place i size : ℕ) → i < length codes → metadata_size (get_or codes i 0) ≡ Some size →
+    types_fault (place + i) (drop i codes) ≡ types_fault (place + (i + 1)) (drop (i + 1) codes)
+type_passes codes place i size short has =
+    let next : suc (place + i) ≡ place + (i + 1) = omega arith in
+    let e : suc i ≡ i + 1 = omega arith in
+    ap (types_fault (place + i)) (one i codes short) ∙ type_passes_at (get_or codes i 0) size (place + i) (drop (suc i) codes) has ∙ (λ j. types_fault (next j) (drop (e j) codes))
+
+pub type_stops : (codes : List ℕ) (place i : ℕ) → i < length codes → metadata_size (get_or codes i 0) ≡ None →
+    types_fault (place + i) (drop i codes) ≡ Some (record { kind = UnknownColumn (get_or codes i 0); at = place + i })
+type_stops codes place i short none = ap (types_fault (place + i)) (one i codes short)
+    ∙ first_some (refuse (is_none (metadata_size (get_or codes i 0))) (UnknownColumn (get_or codes i 0)) (place + i)) _ _
+    (ap (λ (s : Option ℕ). refuse (is_none s) (UnknownColumn (get_or codes i 0)) (place + i)) none)
+
+-- a type byte that is read
+pub record Sized (code : ℕ) : Type 0 where
+  pub size : ℕ
+  pub has : metadata_size code ≡ Some size
+
+sized_by : (o : Option ℕ) (code : ℕ) → metadata_size code ≡ o → is_none o ≡ false → Sized code
+sized_by None code is some = absurd cc
+sized_by (Some size) code is some = record { size = size; has = is }
+
+first_sized : (code place : ℕ) (others : List ℕ) → types_fault place (code ∷ others) ≡ None → Sized code
+first_sized code place others none =
+    sized_by (metadata_size code) code refl (not_refused (is_none (metadata_size code)) (UnknownColumn code) place (passes (refuse (is_none (metadata_size code)) (UnknownColumn code) place) _ none).0)
+
+others_read : (code place : ℕ) (others : List ℕ) → types_fault place (code ∷ others) ≡ None → types_fault (suc place) others ≡ None
+others_read code place others none =
+    let s = first_sized code place others none in
+    sym (type_passes_at code s.size place others s.has) ∙ none
+
+pub read_anywhere : (codes : List ℕ) (p q : ℕ) → types_fault p codes ≡ None → types_fault q codes ≡ None
+read_anywhere [] p q none = refl
+read_anywhere (code ∷ others) p q none =
+    let s = first_sized code p others none in
+    type_passes_at code s.size q others s.has ∙ read_anywhere others (suc p) (suc q) (others_read code p others none)
+
+pub sized_at : (codes : List ℕ) (place i : ℕ) → types_fault place codes ≡ None → i < length codes → Sized (get_or codes i 0)
+sized_at [] place i none short = absurd (omega (arith, short))
+sized_at (code ∷ others) place zero none short = first_sized code place others none
+sized_at (code ∷ others) place (suc i) none short = sized_at others (suc place) i (others_read code place others none) (omega (arith, short))
+
+pub length_is : (code size : ℕ) → metadata_size code ≡ Some size → metadata_length code ≡ size
+length_is code size has = ap (λ (s : Option ℕ). unwrap_or s 0) has
+
+-- ---- Metadata, one column after another.
+
+pub record Checked (bytes codes : List ℕ) (start i place : ℕ) : Type 0 where
+  pub left : all_metadata_fault bytes start codes ≡ all_metadata_fault bytes place (drop i codes)
+  pub fits : place + sum_by metadata_length (drop i codes) ≤ length bytes
+
+-- what is wrong with the metadata at a place is what is wrong with the column there
+fault_there : (bytes : List ℕ) (code size place : ℕ) → metadata_size code ≡ Some size → place + size ≤ length bytes →
+    column_fault code (drop place bytes) ≡ metadata_fault code (get_or bytes place 0) (get_or bytes (place + 1) 0)
+fault_there bytes code size place has long =
+    let e : place + 0 ≡ place = omega arith in
+    let first : get_or (drop place bytes) 0 0 ≡ get_or bytes place 0 = get_or-drop place bytes 0 0 ∙ ap (λ k. get_or bytes k 0) e in
+    let second : get_or (drop place bytes) 1 0 ≡ get_or bytes (place + 1) 0 = get_or-drop place bytes 1 0 in
+    fault_of code size (drop place bytes) _ has (omega (arith, long, length-drop place bytes)) (λ i. metadata_fault code (first i) (second i))
+
+column_passes_at : (bytes : List ℕ) (code place : ℕ) (others : List ℕ) → metadata_fault code (get_or bytes place 0) (get_or bytes (place + 1) 0) ≡ None →
+    all_metadata_fault bytes place (code ∷ others) ≡ all_metadata_fault bytes (place + metadata_length code) others
+column_passes_at bytes code place others none =
+    first_none (at_place (metadata_fault code (get_or bytes place 0) (get_or bytes (place + 1) 0)) place) (all_metadata_fault bytes (place + metadata_length code) others ∷ []) (ap (λ f. at_place f place) none)
+    ∙ only_line (all_metadata_fault bytes (place + metadata_length code) others)
+
+pub first_checked : (bytes codes : List ℕ) (start : ℕ) → start + sum_by metadata_length codes ≤ length bytes → Checked bytes codes start 0 start
+first_checked bytes codes start long = record { left = refl; fits = long }
+
+pub column_passes : (bytes codes rest : List ℕ) (start i place : ℕ) (kind : ColumnKind) → Checked bytes codes start i place → i < length codes → types_fault 0 codes ≡ None →
+    IsColumn kind (get_or codes i 0) rest (drop place bytes) → Checked bytes codes start (i + 1) (length bytes - length rest)
+column_passes bytes codes rest start i place kind checked short none is =
+    let code = get_or codes i 0 in
+    let s = sized_at codes 0 i none short in
+    let e : suc i ≡ i + 1 = omega arith in
+    let stands : drop i codes ≡ code ∷ drop (i + 1) codes = one i codes short ∙ ap (λ k. code ∷ drop k codes) e in
+    let sum : sum_by metadata_length (drop i codes) ≡ metadata_length code + sum_by metadata_length (drop (i + 1) codes) = ap (sum_by metadata_length) stands ∙ sum_by-cons metadata_length code (drop (i + 1) codes) in
+    let fits = checked.fits in
+    let size : metadata_length code ≡ s.size = length_is code s.size s.has in
+    let long : place + s.size ≤ length bytes = omega (arith, fits, sum, size) in
+    let sound : metadata_fault code (get_or bytes place 0) (get_or bytes (place + 1) 0) ≡ None = sym (fault_there bytes code s.size place s.has long) ∙ no_fault kind code rest (drop place bytes) is in
+    let rest_is : drop (metadata_length code) (drop place bytes) ≡ rest = behind_metadata kind code rest (drop place bytes) is in
+    let rest_long : length rest ≡ length bytes - place - metadata_length code = sym (ap length rest_is) ∙ length-drop (metadata_length code) (drop place bytes) ∙ ap (λ n. n - metadata_length code) (length-drop place bytes) in
+    let there : place + metadata_length code ≡ length bytes - length rest = omega (arith, long, size, rest_long) in
+    record {
+      left = checked.left ∙ ap (all_metadata_fault bytes place) stands ∙ column_passes_at bytes code place (drop (i + 1) codes) sound ∙ ap (λ p. all_metadata_fault bytes p (drop (i + 1) codes)) there;
+      fits = omega (arith, fits, sum, there);
+    }
+
+pub column_stops : (bytes codes : List ℕ) (start i place : ℕ) (kind : EventFaultKind) → Checked bytes codes start i place → i < length codes → types_fault 0 codes ≡ None →
+    column_fault (get_or codes i 0) (drop place bytes) ≡ Some kind → all_metadata_fault bytes start codes ≡ Some (record { kind = kind; at = place })
+column_stops bytes codes start i place kind checked short none is =
+    let code = get_or codes i 0 in
+    let s = sized_at codes 0 i none short in
+    let stands = one i codes short in
+    let sum : sum_by metadata_length (drop i codes) ≡ metadata_length code + sum_by metadata_length (drop (suc i) codes) = ap (sum_by metadata_length) stands ∙ sum_by-cons metadata_length code (drop (suc i) codes) in
+    let fits = checked.fits in
+    let size : metadata_length code ≡ s.size = length_is code s.size s.has in
+    let long : place + s.size ≤ length bytes = omega (arith, fits, sum, size) in
+    let wrong = sym (fault_there bytes code s.size place s.has long) ∙ is in
+    checked.left ∙ ap (all_metadata_fault bytes place) stands ∙ first_some (at_place (metadata_fault code (get_or bytes place 0) (get_or bytes (place + 1) 0)) place) _ _ (ap (λ f. at_place f place) wrong)
+
+pub last_checked : (bytes codes : List ℕ) (start i place : ℕ) → Checked bytes codes start i place → length codes ≤ i → all_metadata_fault bytes start codes ≡ None
+last_checked bytes codes start i place checked long = checked.left ∙ ap (all_metadata_fault bytes place) (drop_all i codes long)
+
+-- ---- The sum of the lengths of metadata, so far.
+
+pub record Summed (codes : List ℕ) (place i sum : ℕ) : Type 0 where
+  pub left : types_fault place codes ≡ types_fault (place + i) (drop i codes)
+  pub total : sum + sum_by metadata_length (drop i codes) ≡ sum_by metadata_length codes
+  pub small : sum ≤ 2 * i
+
+pub first_summed : (codes : List ℕ) (place : ℕ) → Summed codes place 0 0
+first_summed codes place = let e : place ≡ place + 0 = omega arith in record { left = ap (λ p. types_fault p codes) e; total = omega arith; small = omega arith }
+
+pub next_summed : (codes : List ℕ) (place i sum size : ℕ) → Summed codes place i sum → i < length codes → metadata_size (get_or codes i 0) ≡ Some size → Summed codes place (i + 1) (sum + size)
+next_summed codes place i sum size summed short has =
+    let code = get_or codes i 0 in
+    let e : suc i ≡ i + 1 = omega arith in
+    let stands : drop i codes ≡ code ∷ drop (i + 1) codes = one i codes short ∙ ap (λ k. code ∷ drop k codes) e in
+    let parts : sum_by metadata_length (drop i codes) ≡ metadata_length code + sum_by metadata_length (drop (i + 1) codes) = ap (sum_by metadata_length) stands ∙ sum_by-cons metadata_length code (drop (i + 1) codes) in
+    let is : metadata_length code ≡ size = length_is code size has in
+    let few = at_most_two code size (known code size has) in
+    let total = summed.total in
+    let small = summed.small in
+    record {
+      left = summed.left ∙ type_passes codes place i size short has;
+      total = omega (arith, total, parts, is);
+      small = omega (arith, small, few);
+    }
+
+pub last_summed : (codes : List ℕ) (place i sum : ℕ) → Summed codes place i sum → length codes ≤ i → (sum ≡ sum_by metadata_length codes) × (types_fault place codes ≡ None)
+last_summed codes place i sum summed long =
+    let none = drop_all i codes long in
+    let total = summed.total in
+    let rest : sum_by metadata_length (drop i codes) ≡ 0 = ap (sum_by metadata_length) none in
+    (omega (arith, total, rest), summed.left ∙ ap (types_fault (place + i)) none)

@@ -21,6 +21,7 @@ mod row;
 mod rows_event;
 mod shape;
 mod table;
+mod table_columns;
 
 pub use body::{Query, read_format, read_gtid, read_query, read_rotate, read_xid};
 pub use cell::Cell;
