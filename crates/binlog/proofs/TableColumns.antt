@@ -1,19 +1,21 @@
 -- The columns of table maps.
-use Rattle.std.proofs.Common.{◌≡◌, ℕ, zero, suc, ◌+◌, ◌-◌, ◌*◌, ◌<◌, ◌≤◌, ◌==◌, Bool, true, false, not, List, [], ◌∷◌, ◌++◌, length, get_or, take, drop, map, Option, Some, None, IsTrue, refl, sym, ap, subst, ◌∙◌, append_assoc, arith}
+use Rattle.std.proofs.Common.{◌≡◌, ℕ, zero, suc, ◌+◌, ◌-◌, ◌*◌, ◌<◌, ◌≤◌, ◌==◌, Bool, true, false, not, List, [], ◌∷◌, ◌++◌, length, get_or, take, drop, map, Option, Some, None, IsTrue, refl, sym, ap, subst, ◌∙◌, append_assoc, arith, inl, inr}
 use Rattle.std.specs.Prelude.{flat_map, sum_by, is_none, unwrap_or}
 use Rattle.std.specs.List.{AllByRecursion}
 use Rattle.std.proofs.Math.Seq.{take-add}
-use Rattle.std.proofs.lemmas.Bool.{le-ltb}
+use Rattle.std.proofs.lemmas.Bool.{le-ltb, lt-ltb, le-leb, lt-leb, ne_eqb, eq-eqb, cases_lt}
 use Rattle.std.proofs.lemmas.List.{length-append, length-drop, length-take, length-map, get_or-drop, take_at, drop_all}
 use Rattle.std.proofs.lemmas.List.Sums.{sum_by-cons}
 use Rattle.binlog.specs.Fault.{refuse, needs, first_of}
 use Rattle.binlog.specs.Column.{type_code, metadata, is_lawful, IsColumn, HasColumn, metadata_size, metadata_fault, column_fault}
-use Rattle.binlog.specs.Table.{types_fault, metadata_length, at_place, all_metadata_fault}
+use Rattle.binlog.specs.Count.{count_width, count_at, no_count}
+use Rattle.binlog.specs.Row.{bitmap_size}
+use Rattle.binlog.specs.Table.{is_column_count, types_fault, metadata_length, at_place, all_metadata_fault, columns_fault}
 use Rattle.binlog.specs.Columns.{kind_of, column_front, columns_of}
 use Rattle.binlog.specs.declared.column.ColumnKind.{ColumnKind}
 use Rattle.binlog.specs.declared.fault.EventFault.{EventFault}
 use Rattle.binlog.specs.declared.fault.EventFaultKind.{EventFaultKind}
-use Rattle.binlog.specs.declared.fault.EventFaultKind.TheVariants.{ColumnType as UnknownColumn}
+use Rattle.binlog.specs.declared.fault.EventFaultKind.TheVariants.{Truncated, Columns, Metadata, ColumnType as UnknownColumn}
 use Rattle.binlog.proofs.Tables.{passes, not_refused, is_there}
 use Rattle.binlog.proofs.Cuts.{IsBytes, drop_drop, drop_front, one}
 use Rattle.binlog.proofs.Columns.{kind_is, known, at_most_two, lawful_size, no_fault, fault_of, some_column}
@@ -197,3 +199,117 @@ last_summed codes place i sum summed long =
     let total = summed.total in
     let rest : sum_by metadata_length (drop i codes) ≡ 0 = ap (sum_by metadata_length) none in
     (omega (arith, total, rest), summed.left ∙ ap (types_fault (place + i)) none)
+
+-- ---- The table of refusals by what the code has read: the number of columns and the bytes that it takes, the length of
+-- all metadata as it is stated and the bytes that it takes, the type bytes, and the length that they have.
+
+abbrev pub table : List ℕ → ℕ → ℕ → ℕ → ℕ → ℕ → List ℕ → ℕ → Option EventFault
+table bytes at n w m v codes size = first_of (
+    no_count bytes at Columns
+    ∷ refuse (not (is_column_count n)) Columns at
+    ∷ needs bytes (at + w) n
+    ∷ types_fault (at + w) codes
+    ∷ no_count bytes (at + w + n) Metadata
+    ∷ refuse (not (m == size)) Metadata (at + w + n)
+    ∷ needs bytes (at + w + n + v) size
+    ∷ all_metadata_fault bytes (at + w + n + v) codes
+    ∷ needs bytes (at + w + n + v + size) (bitmap_size n)
+    ∷ [])
+
+pub record Opened (bytes : List ℕ) (at n w : ℕ) (codes : List ℕ) (size : ℕ) : Type 0 where
+  pub n_is : n ≡ count_at bytes at
+  pub w_is : w ≡ count_width bytes at
+  pub codes_are : codes ≡ take n (drop (at + w) bytes)
+  pub size_is : size ≡ sum_by metadata_length codes
+
+table_of_opened : (bytes : List ℕ) (at n w : ℕ) (codes : List ℕ) (size : ℕ) → Opened bytes at n w codes size →
+    columns_fault bytes at ≡ table bytes at n w (count_at bytes (at + w + n)) (count_width bytes (at + w + n)) codes size
+unfolding columns_fault
+table_of_opened bytes at n w codes size is =
+    let n_is = sym is.n_is in
+    let w_is = sym is.w_is in
+    let codes_are = sym is.codes_are in
+    (λ i. table bytes at (n_is i) (w_is i) (count_at bytes (at + w_is i + n_is i)) (count_width bytes (at + w_is i + n_is i)) (take (n_is i) (drop (at + w_is i) bytes)) (sum_by metadata_length (take (n_is i) (drop (at + w_is i) bytes))))
+    ∙ (λ i. table bytes at n w (count_at bytes (at + w + n)) (count_width bytes (at + w + n)) (codes_are i) (sum_by metadata_length (codes_are i)))
+    ∙ ap (table bytes at n w (count_at bytes (at + w + n)) (count_width bytes (at + w + n)) codes) (sym is.size_is)
+
+pub table_is : (bytes : List ℕ) (at n w m v : ℕ) (codes : List ℕ) (size : ℕ) → Opened bytes at n w codes size → m ≡ count_at bytes (at + w + n) → v ≡ count_width bytes (at + w + n) →
+    columns_fault bytes at ≡ table bytes at n w m v codes size
+table_is bytes at n w m v codes size is m_is v_is = table_of_opened bytes at n w codes size is ∙ (λ i. table bytes at n w (sym m_is i) (sym v_is i) codes size)
+
+pub codes_cut : (bytes : List ℕ) (p n : ℕ) → take (p + n - p) (drop p bytes) ≡ take n (drop p bytes)
+codes_cut bytes p n = let e : p + n - p ≡ n = omega arith in ap (λ k. take k (drop p bytes)) e
+
+-- The refusals at each line.
+
+pub no_number : (bytes : List ℕ) (at : ℕ) (fault : EventFault) → no_count bytes at Columns ≡ Some fault → columns_fault bytes at ≡ Some fault
+unfolding columns_fault
+no_number bytes at fault is = rw is refl
+
+pub wrong_number : (bytes : List ℕ) (at n : ℕ) → no_count bytes at Columns ≡ None → n ≡ count_at bytes at → (1 ≤ n → n ≤ 4096 → ⊥) →
+    columns_fault bytes at ≡ Some (record { kind = Columns; at = at })
+unfolding columns_fault
+wrong_number bytes at n l1 is not_in =
+    let outside : is_column_count (count_at bytes at) ≡ false = ap is_column_count (sym is) ∙ (elim (cases_lt n 1) as (λ _. is_column_count n ≡ false) [
+      | inl below ↦ rw (lt-leb _ _ below) refl
+      | inr some ↦ elim (cases_lt 4096 n) as (λ _. is_column_count n ≡ false) [
+        | inl many ↦ rw (le-leb _ _ some, lt-leb _ _ many) refl
+        | inr few ↦ absurd (not_in some few)
+      ]
+    ]) in
+    rw (l1, outside) refl
+
+pub record Counts (bytes : List ℕ) (at n w : ℕ) (codes : List ℕ) (size : ℕ) : Type 0 where
+  pub opened : Opened bytes at n w codes size
+  pub l1 : no_count bytes at Columns ≡ None
+  pub some : 1 ≤ n
+  pub few : n ≤ 4096
+
+pub short_types : (bytes : List ℕ) (at n w : ℕ) (codes : List ℕ) (size : ℕ) → Counts bytes at n w codes size → length bytes < at + w + n →
+    columns_fault bytes at ≡ Some (record { kind = Truncated; at = at + w })
+short_types bytes at n w codes size c short = table_of_opened bytes at n w codes size c.opened ∙ rw (c.l1, le-leb _ _ c.some, le-leb _ _ c.few, lt-ltb _ _ short) refl
+
+pub wrong_type : (bytes : List ℕ) (at n w : ℕ) (codes : List ℕ) (size : ℕ) (fault : EventFault) → Counts bytes at n w codes size → at + w + n ≤ length bytes →
+    types_fault (at + w) codes ≡ Some fault → columns_fault bytes at ≡ Some fault
+wrong_type bytes at n w codes size fault c long l4 = table_of_opened bytes at n w codes size c.opened ∙ rw (c.l1, le-leb _ _ c.some, le-leb _ _ c.few, le-ltb _ _ long, l4) refl
+
+pub no_measure : (bytes : List ℕ) (at n w : ℕ) (codes : List ℕ) (size : ℕ) (fault : EventFault) → Counts bytes at n w codes size → at + w + n ≤ length bytes →
+    types_fault (at + w) codes ≡ None → no_count bytes (at + w + n) Metadata ≡ Some fault → columns_fault bytes at ≡ Some fault
+no_measure bytes at n w codes size fault c long l4 l5 = table_of_opened bytes at n w codes size c.opened ∙ rw (c.l1, le-leb _ _ c.some, le-leb _ _ c.few, le-ltb _ _ long, l4, l5) refl
+
+pub record Measured (bytes : List ℕ) (at n w m v : ℕ) (codes : List ℕ) (size : ℕ) : Type 0 where
+  pub counts : Counts bytes at n w codes size
+  pub long : at + w + n ≤ length bytes
+  pub l4 : types_fault (at + w) codes ≡ None
+  pub l5 : no_count bytes (at + w + n) Metadata ≡ None
+  pub m_is : m ≡ count_at bytes (at + w + n)
+  pub v_is : v ≡ count_width bytes (at + w + n)
+
+lines_6 : (bytes : List ℕ) (at n w m v : ℕ) (codes : List ℕ) (size : ℕ) → Measured bytes at n w m v codes size → columns_fault bytes at ≡ first_of (
+    refuse (not (m == size)) Metadata (at + w + n)
+    ∷ needs bytes (at + w + n + v) size
+    ∷ all_metadata_fault bytes (at + w + n + v) codes
+    ∷ needs bytes (at + w + n + v + size) (bitmap_size n)
+    ∷ [])
+lines_6 bytes at n w m v codes size c = table_is bytes at n w m v codes size c.counts.opened c.m_is c.v_is
+    ∙ rw (c.counts.l1, le-leb _ _ c.counts.some, le-leb _ _ c.counts.few, le-ltb _ _ c.long, c.l4, c.l5) refl
+
+pub wrong_measure : (bytes : List ℕ) (at n w m v : ℕ) (codes : List ℕ) (size : ℕ) → Measured bytes at n w m v codes size → (m ≡ size → ⊥) →
+    columns_fault bytes at ≡ Some (record { kind = Metadata; at = at + w + n })
+wrong_measure bytes at n w m v codes size c other = lines_6 bytes at n w m v codes size c ∙ rw (ne_eqb _ _ other) refl
+
+pub short_metadata : (bytes : List ℕ) (at n w m v : ℕ) (codes : List ℕ) (size : ℕ) → Measured bytes at n w m v codes size → m ≡ size → length bytes < at + w + n + v + size →
+    columns_fault bytes at ≡ Some (record { kind = Truncated; at = at + w + n + v })
+short_metadata bytes at n w m v codes size c same short = lines_6 bytes at n w m v codes size c ∙ rw (eq-eqb _ _ same, lt-ltb _ _ short) refl
+
+pub wrong_metadata : (bytes : List ℕ) (at n w m v : ℕ) (codes : List ℕ) (size : ℕ) (fault : EventFault) → Measured bytes at n w m v codes size → m ≡ size → at + w + n + v + size ≤ length bytes →
+    all_metadata_fault bytes (at + w + n + v) codes ≡ Some fault → columns_fault bytes at ≡ Some fault
+wrong_metadata bytes at n w m v codes size fault c same long l8 = lines_6 bytes at n w m v codes size c ∙ rw (eq-eqb _ _ same, le-ltb _ _ long, l8) refl
+
+pub short_bitmap : (bytes : List ℕ) (at n w m v : ℕ) (codes : List ℕ) (size : ℕ) → Measured bytes at n w m v codes size → m ≡ size → at + w + n + v + size ≤ length bytes →
+    all_metadata_fault bytes (at + w + n + v) codes ≡ None → length bytes < at + w + n + v + size + bitmap_size n → columns_fault bytes at ≡ Some (record { kind = Truncated; at = at + w + n + v + size })
+short_bitmap bytes at n w m v codes size c same long l8 short = lines_6 bytes at n w m v codes size c ∙ rw (eq-eqb _ _ same, le-ltb _ _ long, l8, lt-ltb _ _ short) refl
+
+pub no_line : (bytes : List ℕ) (at n w m v : ℕ) (codes : List ℕ) (size : ℕ) → Measured bytes at n w m v codes size → m ≡ size → at + w + n + v + size ≤ length bytes →
+    all_metadata_fault bytes (at + w + n + v) codes ≡ None → at + w + n + v + size + bitmap_size n ≤ length bytes → columns_fault bytes at ≡ None
+no_line bytes at n w m v codes size c same long l8 enough = lines_6 bytes at n w m v codes size c ∙ rw (eq-eqb _ _ same, le-ltb _ _ long, l8, le-ltb _ _ enough) refl

@@ -36,13 +36,15 @@ fn find_columns(bytes: &[u8], at: usize) -> Result<(&[u8], &[u8]), EventFault>
     ensures fault { IfErr result (λ fault. columns_fault bytes.now at ≡ Some fault) }
 {
     let (columns, width) = read_count(bytes, at, EventFaultKind::Columns)?;
-    if !(1..=4096).contains(&columns) {
-        return Err(EventFault {
-            kind: EventFaultKind::Columns,
-            at,
-        });
-    }
-    let columns = columns as usize;
+    let columns = match columns {
+        1..=4096 => columns as usize,
+        _ => {
+            return Err(EventFault {
+                kind: EventFaultKind::Columns,
+                at,
+            });
+        }
+    };
     let types = at + width;
     if bytes.len() - types < columns {
         return Err(EventFault::truncated(types));
