@@ -6,6 +6,8 @@ pub mod Rows
 pub mod Examples
 pub mod Bodies
 pub mod Formats
-mod Counts
 mod Followed
 mod BodyLaws
+pub mod TableNames
+pub mod Counts
+pub mod TableColumns

@@ -11,3 +11,6 @@ pub mod Rows
 pub mod Follow
 pub mod FollowView
 pub mod Event
+pub mod Columns
+pub mod ColumnsView
+pub mod TableView

@@ -2,12 +2,14 @@
 //!
 //! A law is a function with an empty body: its clauses are proved of the definitions themselves.
 
-ghost use Rattle.std.specs.Prelude.{◌≡◌, ℕ, ◌<◌, ◌++◌, Bool, List, length, Some, None, Ok};
+ghost use Rattle.std.specs.Prelude.{◌≡◌, ℕ, ◌<◌, ◌≤◌, ◌++◌, Bool, List, length, drop, Some, None, Ok};
 ghost use Rattle.std.specs.List.{AllByRecursion};
 ghost use Rattle.binlog.specs.Column.{type_code, metadata, IsColumn, HasColumn, metadata_size, column_fault};
 ghost use Rattle.binlog.specs.Header.{IsFramed, HasFrame, header_fault};
 ghost use Rattle.binlog.specs.Cell.{CellValue};
 ghost use Rattle.binlog.specs.Row.{IsRow, HasRow, row_end};
+ghost use Rattle.binlog.specs.Table.{IsNamed, names_fault, AreColumns, columns_fault};
+ghost use Rattle.binlog.specs.Columns.{HasNames, HasColumns};
 ghost use Rattle.binlog.specs.declared.column.ColumnKind.{ColumnKind};
 
 /// Bytes have a header's frame or a fault, and not both, and a frame has one type, one mark and one body.
@@ -35,6 +37,19 @@ pub fn one_row()
     ensures one { (types : List ColumnKind) (a b : List CellValue) (first second x y : List ℕ) → IsRow types a first → IsRow types b second → first ++ x ≡ second ++ y → (a ≡ b) × (first ≡ second) }
 {}
 
-pub fn bodies()
-    ensures one { (bytes : List ℕ) → bytes ≡ bytes }
+/// The body of an event begins with a table's number and names, or the event has a fault in them, and not both, and
+/// they are determined.
+pub fn one_names()
+    ensures some { (bytes : List ℕ) → AllByRecursion (λ b. b < 256) bytes → names_fault bytes ≡ None → HasNames (drop 19 bytes) }
+    ensures no_fault { (id : ℕ) (schema table rest bytes : List ℕ) → IsNamed id schema table rest (drop 19 bytes) → names_fault bytes ≡ None }
+    ensures one { (id id' : ℕ) (schema schema' table table' rest rest' bytes : List ℕ) → IsNamed id schema table rest (drop 19 bytes) → IsNamed id' schema' table' rest' (drop 19 bytes) →
+        (id ≡ id') × (schema ≡ schema') × (table ≡ table') × (rest ≡ rest') }
+{}
+
+/// The bytes from a place on are the columns of a table, or the event has a fault in them, and not both, and they are
+/// of one list of types.
+pub fn one_columns()
+    ensures some { (bytes : List ℕ) (place : ℕ) → AllByRecursion (λ b. b < 256) bytes → place ≤ length bytes → columns_fault bytes place ≡ None → HasColumns (drop place bytes) }
+    ensures no_fault { (columns : List ColumnKind) (bytes : List ℕ) (place : ℕ) → place ≤ length bytes → AreColumns columns (drop place bytes) → columns_fault bytes place ≡ None }
+    ensures one { (a b : List ColumnKind) (bytes : List ℕ) → AreColumns a bytes → AreColumns b bytes → a ≡ b }
 {}

@@ -11,23 +11,29 @@
 mod body;
 mod cell;
 mod column;
+mod column_types;
 mod count;
 mod fault;
 mod follow;
 mod header;
 pub mod laws;
+mod names;
 mod row;
 mod rows_event;
 mod shape;
+mod table;
+mod table_columns;
 
 pub use body::{Query, read_format, read_gtid, read_query, read_rotate, read_xid};
 pub use cell::Cell;
 pub use column::{ColumnKind, ColumnType};
+pub use column_types::{ColumnTypes, ColumnTypesIter};
 pub use fault::{EventFault, EventFaultKind};
 pub use follow::Follow;
 pub use header::Header;
 pub use row::{Cells, Row};
 pub use rows_event::RowsKind;
+pub use table::{TableDef, TableMap};
 
 #[cfg(test)]
 mod body_tests;
