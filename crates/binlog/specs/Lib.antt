@@ -8,3 +8,4 @@ pub mod Body
 pub mod Count
 pub mod Table
 pub mod Rows
+pub mod RowsView

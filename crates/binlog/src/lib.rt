@@ -16,7 +16,9 @@ mod fault;
 mod header;
 pub mod laws;
 mod row;
+mod rows;
 mod rows_event;
+mod rows_head;
 mod shape;
 
 pub use body::{Query, read_format, read_gtid, read_query, read_rotate, read_xid};
@@ -25,7 +27,8 @@ pub use column::{ColumnKind, ColumnType};
 pub use fault::{EventFault, EventFaultKind};
 pub use header::Header;
 pub use row::{Cells, Row};
-pub use rows_event::RowsKind;
+pub use rows::{RowPair, Rows};
+pub use rows_event::{RowsEvent, RowsKind};
 
 #[cfg(test)]
 mod body_tests;
