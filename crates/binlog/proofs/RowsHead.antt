@@ -1,6 +1,6 @@
 -- What stands before the rows of a rows event.
 use Rattle.std.proofs.Common.{◌≡◌, ℕ, zero, suc, ◌+◌, ◌-◌, ◌<◌, ◌≤◌, ◌^◌, Bool, true, false, not, List, [], ◌∷◌, ◌++◌, length, get_or, take, drop, Option, Some, None, refl, sym, ap, subst, ◌∙◌, append_assoc, arith, inl, inr}
-use Rattle.std.specs.Prelude.{nat_lt}
+use Rattle.std.specs.Prelude.{nat_lt, nat_le}
 use Rattle.std.specs.List.{list_all, range_with_len}
 use Rattle.std.proofs.Math.Seq.{take-add}
 use Rattle.std.proofs.lemmas.Bool.{le-ltb, le-leb, cases_Bool, cases_lt, false≢true, not-false, ltb-false, leb-true}
@@ -270,3 +270,55 @@ one_more i p before last k below = elim (cases_lt k i) as (λ _. p k ≡ true) [
   | inl lt ↦ before k lt
   | inr ge ↦ (let e : i ≡ k = omega (arith, ge, below) in ap p (sym e) ∙ last)
 ]
+
+-- the refusals that are left behind the number of columns
+pub rows_then : (kind : RowsKind) (bytes : List ℕ) → 29 ≤ length bytes → 2 ≤ number_at 2 bytes 27 → count_place bytes ≤ length bytes → no_count bytes (count_place bytes) Columns ≡ None → 1 ≤ columns_of bytes → columns_of bytes ≤ 4096 →
+    rows_fault kind bytes ≡ first_of (presents_fault kind bytes (presents_place bytes) (columns_of bytes) ∷ [])
+unfolding rows_fault
+rows_then kind bytes head extra fits uncounted low high =
+    let h25 : 25 ≤ length bytes = omega (arith, head) in
+    let h27 : 27 ≤ length bytes = omega (arith, head) in
+    let there : 29 + (number_at 2 bytes 27 - 2) ≤ length bytes = omega (arith, extra, fits) in
+    rw (le-ltb _ _ h25, le-ltb _ _ h27, le-ltb _ _ head, le-ltb _ _ extra, le-ltb _ _ there, uncounted, le-leb _ _ low, le-leb _ _ high) refl
+
+pub only_line : (line : Option EventFault) (fault : EventFault) → line ≡ Some fault → first_of (line ∷ []) ≡ Some fault
+only_line line fault is = ap (λ l. first_of (l ∷ [])) is
+
+pub rows_not_refused : (kind : RowsKind) (bytes : List ℕ) → AreParts kind bytes → rows_fault kind bytes ≡ None
+rows_not_refused kind bytes are =
+    rows_then kind bytes are.head are.extra are.extra_fits (not_uncounted kind bytes are) are.columns.0 are.columns.1 ∙ ap (λ l. first_of (l ∷ [])) are.presents
+
+-- Without a refusal each part is there.
+pub parts_of : (kind : RowsKind) (bytes : List ℕ) → IsBytes bytes → rows_fault kind bytes ≡ None → AreParts kind bytes
+unfolding rows_fault
+parts_of kind bytes fits none =
+    let extra_length = number_at 2 bytes 27 in
+    let a = passes (needs bytes 19 6) _ none in
+    let b = passes (needs bytes 25 2) _ a.1 in
+    let c = passes (needs bytes 27 2) _ b.1 in
+    let d = passes (refuse (nat_lt extra_length 2) Size 27) _ c.1 in
+    let e = passes (needs bytes 29 (extra_length - 2)) _ d.1 in
+    let f = passes (no_count bytes (count_place bytes) Columns) _ e.1 in
+    let g = passes (refuse (not (is_column_count (columns_of bytes))) Columns (count_place bytes)) _ f.1 in
+    let h = passes (presents_fault kind bytes (presents_place bytes) (columns_of bytes)) _ g.1 in
+    let head = is_there bytes 27 2 c.0 in
+    let extra : 2 ≤ number_at 2 bytes 27 = ltb-false _ _ (not_refused (nat_lt (number_at 2 bytes 27) 2) Size 27 d.0) in
+    let extra_fits = is_there bytes 29 (number_at 2 bytes 27 - 2) e.0 in
+    let in_range = in_column_range (columns_of bytes) (not-false (is_column_count (columns_of bytes)) (not_refused (not (is_column_count (columns_of bytes))) Columns (count_place bytes) g.0)) in
+    record {
+      head = omega (arith, head);
+      extra = extra;
+      extra_fits = omega (arith, extra, extra_fits);
+      count = is_counted bytes (count_place bytes) Columns fits f.0;
+      columns = in_range;
+      presents = h.0;
+    }
+  where
+    in_column_range : (n : ℕ) → is_column_count n ≡ true → (1 ≤ n) × (n ≤ 4096)
+    in_column_range n is = elim (cases_Bool (nat_le 1 n)) as (λ _. (1 ≤ n) × (n ≤ 4096)) [
+      | inl low ↦ (leb-true _ _ low, leb-true _ _ (sym (rw low refl) ∙ is))
+      | inr none ↦ absurd (false≢true (sym (rw none refl) ∙ is))
+    ]
+
+pub one_rows_event : (a b : RowsValue) (bytes : List ℕ) → a.kind ≡ b.kind → IsRows a (drop 19 bytes) → IsRows b (drop 19 bytes) → a ≡ b
+one_rows_event a b bytes same is_a is_b = sym (rows_told a bytes is_a).is ∙ ap (λ k. stated k bytes) same ∙ (rows_told b bytes is_b).is

@@ -2,7 +2,7 @@
 use Rattle.std.proofs.Common.{◌≡◌, ℕ, zero, suc, ◌+◌, ◌-◌, ◌<◌, ◌≤◌, true, false, List, [], ◌∷◌, ◌++◌, length, take, drop, map, Result, Ok, Err, refl, sym, ap, subst, ◌∙◌, append_assoc, arith, inl, inr}
 use Rattle.std.proofs.Math.Seq.{take-add}
 use Rattle.std.proofs.lemmas.Bool.{le-ltb, lt-ltb, cases_lt, cases_Bool}
-use Rattle.std.proofs.lemmas.List.{length-append, length-drop, length-take, take-append-drop, take_at}
+use Rattle.std.proofs.lemmas.List.{length-append, length-drop, length-take, take-append-drop, append-nil, take_at}
 use Rattle.byteorder.specs.Endian.{little_number}
 use Rattle.binlog.specs.Cell.{CellValue}
 use Rattle.binlog.specs.Shape.{shape, value_end}
@@ -262,3 +262,96 @@ are_items (suc most) kind types (x ∷ bytes) at fits some all = by_end (pair_en
         more_items kind types (x ∷ bytes) at size (pair_of kind types (x ∷ bytes)) (items_of most kind types (drop size (x ∷ bytes)) (at + size)) there.within there.is_pair (others size there.some)
     by_end (Err place) is others =
         inr ([], place, record { whole = []; rest = x ∷ bytes; early = place; bytes_are = refl; pairs_are = refl; left_over = omega arith; ends = is; place_is = omega arith }, refl)
+
+-- ---- One list of rows.
+
+-- The items of rows, and what follows them.
+behind_rows : (pairs : List PairValue) (most : ℕ) (kind : RowsKind) (types : List ColumnKind) (bytes rest : List ℕ) (at : ℕ) → 1 ≤ length types → AreRows kind types pairs bytes → length (bytes ++ rest) ≤ most →
+    items_of most kind types (bytes ++ rest) at ≡ map Ok pairs ++ items_of (length rest) kind types rest (at + length bytes)
+behind_rows [] most kind types bytes rest at some are all =
+    let none = ap length are in
+    let here : at ≡ at + length bytes = omega (arith, none) in
+    let long : length rest ≤ most = omega (arith, all, none, length-append bytes rest) in
+    let own : length rest ≤ length rest = omega arith in
+    (λ i. items_of most kind types (are i ++ rest) (here i)) ∙ enough most (length rest) kind types rest (at + length bytes) some long own
+behind_rows (pair ∷ pairs) most kind types bytes rest at some are all =
+    let first = are.0 in
+    let tail = are.1 ++ rest in
+    let cut : bytes ++ rest ≡ first ++ tail = ap (λ l. l ++ rest) are.2 ∙ append_assoc first are.1 rest in
+    let read = pair_is_read kind types pair first tail are.3 in
+    let not_none = pair_some kind types (first ++ tail) (length first) some read.0 in
+    let total = length-append first tail in
+    let fits : length (first ++ tail) ≤ most = omega (arith, all, ap length cut) in
+    let left : 1 ≤ length (first ++ tail) = omega (arith, not_none, total) in
+    let own : length tail ≤ length tail = omega arith in
+    let behind = drop_front first tail in
+    let place : at + length first + length are.1 ≡ at + length bytes = omega (arith, ap length are.2, length-append first are.1) in
+    ap (λ l. items_of most kind types l at) cut
+    ∙ pair_first most kind types (first ++ tail) at (length first) some fits left read.0
+    ∙ (λ i. Ok (read.1 i) ∷ items_of (length (behind i)) kind types (behind i) (at + length first))
+    ∙ ap (λ l. Ok pair ∷ l) (behind_rows pairs (length tail) kind types are.1 rest (at + length first) some are.4 own
+        ∙ ap (λ k. map Ok pairs ++ items_of (length rest) kind types rest k) place)
+
+rows_items : (kind : RowsKind) (types : List ColumnKind) (pairs : List PairValue) (bytes : List ℕ) (at : ℕ) → 1 ≤ length types → AreRows kind types pairs bytes → items_of (length bytes) kind types bytes at ≡ map Ok pairs
+rows_items kind types pairs bytes at some are =
+    let whole = append-nil bytes in
+    let all : length (bytes ++ []) ≤ length bytes = omega (arith, ap length whole) in
+    ap (λ l. items_of (length bytes) kind types l at) (sym whole) ∙ behind_rows pairs (length bytes) kind types bytes [] at some are all ∙ append-nil (map Ok pairs)
+
+early_items : (kind : RowsKind) (types : List ColumnKind) (pairs : List PairValue) (bytes : List ℕ) (place at : ℕ) → 1 ≤ length types → EndsEarly kind types pairs bytes place →
+    items_of (length bytes) kind types bytes at ≡ map Ok pairs ++ Err (record { kind = Truncated; at = at + place }) ∷ []
+early_items kind types pairs bytes place at some e =
+    let cut = e.bytes_are in
+    let place_is = e.place_is in
+    let all : length (e.whole ++ e.rest) ≤ length bytes = omega (arith, ap length cut) in
+    let own : length e.rest ≤ length e.rest = omega arith in
+    let further_on : at + length e.whole + e.early ≡ at + place = omega (arith, place_is) in
+    ap (λ l. items_of (length bytes) kind types l at) cut ∙ behind_rows pairs (length bytes) kind types e.whole e.rest at some e.pairs_are all
+    ∙ ap (λ l. map Ok pairs ++ l) (fault_first (length e.rest) kind types e.rest (at + length e.whole) e.early own e.left_over e.ends ∙ ap (λ (k : ℕ). Err (record { kind = Truncated; at = k }) ∷ []) further_on)
+
+abbrev Items : Type 0
+Items = List (Result PairValue EventFault)
+
+same_pairs : (a b : List PairValue) → ◌≡◌ {A = Items} (map Ok a) (map Ok b) → a ≡ b
+same_pairs [] [] same = refl
+same_pairs [] (y ∷ b) same = absurd cc
+same_pairs (x ∷ a) [] same = absurd cc
+same_pairs (x ∷ a) (y ∷ b) same = let first : x ≡ y = cc in let others : ◌≡◌ {A = Items} (map Ok a) (map Ok b) = cc in λ i. first i ∷ same_pairs a b others i
+
+no_fault_there : (a b : List PairValue) (fault : EventFault) → ◌≡◌ {A = Items} (map Ok a) (map Ok b ++ Err fault ∷ []) → ⊥
+no_fault_there [] [] fault same = cc
+no_fault_there [] (y ∷ b) fault same = cc
+no_fault_there (x ∷ a) [] fault same = cc
+no_fault_there (x ∷ a) (y ∷ b) fault same = let others : ◌≡◌ {A = Items} (map Ok a) (map Ok b ++ Err fault ∷ []) = cc in no_fault_there a b fault others
+
+same_ends : (a b : List PairValue) (f g : EventFault) → ◌≡◌ {A = Items} (map Ok a ++ Err f ∷ []) (map Ok b ++ Err g ∷ []) → (a ≡ b) × (f ≡ g)
+same_ends [] [] f g same = let e : f ≡ g = cc in (refl, e)
+same_ends [] (y ∷ b) f g same = absurd cc
+same_ends (x ∷ a) [] f g same = absurd cc
+same_ends (x ∷ a) (y ∷ b) f g same =
+    let first : x ≡ y = cc in
+    let others : ◌≡◌ {A = Items} (map Ok a ++ Err f ∷ []) (map Ok b ++ Err g ∷ []) = cc in
+    let s = same_ends a b f g others in
+    ((λ i. first i ∷ s.0 i), s.1)
+
+pub one_list : (kind : RowsKind) (types : List ColumnKind) (a b : List PairValue) (bytes : List ℕ) → 1 ≤ length types → AreRows kind types a bytes → AreRows kind types b bytes → a ≡ b
+one_list kind types a b bytes some are_a are_b = same_pairs a b (sym (rows_items kind types a bytes 0 some are_a) ∙ rows_items kind types b bytes 0 some are_b)
+
+pub whole_or_early : (kind : RowsKind) (types : List ColumnKind) (a b : List PairValue) (bytes : List ℕ) (place : ℕ) → 1 ≤ length types → AreRows kind types a bytes → EndsEarly kind types b bytes place → ⊥
+whole_or_early kind types a b bytes place some are early = no_fault_there a b _ (sym (rows_items kind types a bytes 0 some are) ∙ early_items kind types b bytes place 0 some early)
+
+pub one_end : (kind : RowsKind) (types : List ColumnKind) (a b : List PairValue) (bytes : List ℕ) (p q : ℕ) → 1 ≤ length types → EndsEarly kind types a bytes p → EndsEarly kind types b bytes q → (a ≡ b) × (p ≡ q)
+one_end kind types a b bytes p q some early_a early_b =
+    let s = same_ends a b _ _ (sym (early_items kind types a bytes p 0 some early_a) ∙ early_items kind types b bytes q 0 some early_b) in
+    let place = ap (λ (f : EventFault). f.at) s.1 in
+    (s.0, omega (arith, place))
+
+items_are : (kind : RowsKind) (types : List ColumnKind) (bytes : List ℕ) (at : ℕ) (items : Items) → 1 ≤ length types → AreItemsAt kind types bytes at items → items_of (length bytes) kind types bytes at ≡ items
+items_are kind types bytes at items some (inl are) = rows_items kind types are.0 bytes at some are.1 ∙ sym are.2
+items_are kind types bytes at items some (inr are) = early_items kind types are.0 bytes are.1 at some are.2 ∙ sym are.3
+
+pub one_items : (kind : RowsKind) (types : List ColumnKind) (bytes : List ℕ) (at : ℕ) (x y : List (Result PairValue EventFault)) → 1 ≤ length types → AreItemsAt kind types bytes at x → AreItemsAt kind types bytes at y → x ≡ y
+one_items kind types bytes at x y some are_x are_y = sym (items_are kind types bytes at x some are_x) ∙ items_are kind types bytes at y some are_y
+
+pub some_items : (kind : RowsKind) (types : List ColumnKind) (bytes : List ℕ) (at : ℕ) → IsBytes bytes → 1 ≤ length types → AreItemsAt kind types bytes at (items_of (length bytes) kind types bytes at)
+some_items kind types bytes at fits some = let all : length bytes ≤ length bytes = omega arith in are_items (length bytes) kind types bytes at fits some all

@@ -53,6 +53,12 @@ pub record IsRows (r : RowsValue) (body : List ℕ) : Type 0 where
   pub columns_place : r.columns_at ≡ 29 + length extra
   pub bytes_place : r.bytes_at ≡ r.columns_at + length count + length present
 
+-- some event of a kind
+pub record HasRows (kind : RowsKind) (body : List ℕ) : Type 0 where
+  pub value : RowsValue
+  pub kind_is : value.kind ≡ kind
+  pub is_rows : IsRows value body
+
 -- the event's type
 abbrev pub rows_code : RowsKind → ℕ
 rows_code Write = 30
@@ -142,6 +148,11 @@ AreItemsAt kind types bytes at items =
 
 abbrev pub AreItems : RowsValue → List ColumnKind → List (Result PairValue EventFault) → Type 0
 AreItems r types items = AreItemsAt r.kind types r.bytes r.bytes_at items
+
+-- some items
+pub record HasItems (kind : RowsKind) (types : List ColumnKind) (bytes : List ℕ) (at : ℕ) : Type 0 where
+  pub items : List (Result PairValue EventFault)
+  pub are : AreItemsAt kind types bytes at items
 
 -- ---- Its items, by its bytes.
 
