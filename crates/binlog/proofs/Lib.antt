@@ -9,3 +9,4 @@ pub mod Formats
 mod Counts
 mod RowsHead
 mod RowsItems
+mod Followed

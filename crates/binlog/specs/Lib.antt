@@ -9,3 +9,5 @@ pub mod Count
 pub mod Table
 pub mod Rows
 pub mod RowsView
+pub mod Follow
+pub mod FollowView

@@ -13,6 +13,7 @@ mod cell;
 mod column;
 mod count;
 mod fault;
+mod follow;
 mod header;
 pub mod laws;
 mod row;
@@ -25,6 +26,7 @@ pub use body::{Query, read_format, read_gtid, read_query, read_rotate, read_xid}
 pub use cell::Cell;
 pub use column::{ColumnKind, ColumnType};
 pub use fault::{EventFault, EventFaultKind};
+pub use follow::Follow;
 pub use header::Header;
 pub use row::{Cells, Row};
 pub use rows::{RowPair, Rows};
