@@ -3,11 +3,15 @@ pub mod Tables
 pub mod Headers
 pub mod Columns
 pub mod Rows
+pub mod RowCells
 pub mod Examples
 pub mod Bodies
 pub mod Formats
-mod Followed
-mod BodyLaws
-pub mod TableNames
+pub mod BodyLaws
 pub mod Counts
+pub mod TableNames
 pub mod TableColumns
+pub mod RowsHead
+pub mod RowsItems
+pub mod Followed
+pub mod Events

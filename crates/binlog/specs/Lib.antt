@@ -8,6 +8,7 @@ pub mod Body
 pub mod Count
 pub mod Table
 pub mod Rows
+pub mod RowsView
 pub mod Follow
 pub mod FollowView
 pub mod Event

@@ -19,7 +19,9 @@ mod header;
 pub mod laws;
 mod names;
 mod row;
+mod rows;
 mod rows_event;
+mod rows_head;
 mod shape;
 mod table;
 mod table_columns;
@@ -32,8 +34,9 @@ pub use fault::{EventFault, EventFaultKind};
 pub use follow::Follow;
 pub use header::Header;
 pub use row::{Cells, Row};
-pub use rows_event::RowsKind;
 pub use table::{TableDef, TableMap};
+pub use rows::{RowPair, Rows};
+pub use rows_event::{RowsEvent, RowsKind};
 
 #[cfg(test)]
 mod body_tests;
