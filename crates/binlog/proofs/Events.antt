@@ -12,6 +12,7 @@ use Rattle.binlog.specs.Columns.{HasColumns, HasNames, columns_at}
 use Rattle.binlog.specs.Rows.{RowsValue, IsRows, rows_code, rows_fault}
 use Rattle.binlog.specs.Follow.{Names, follows}
 use Rattle.binlog.specs.Event.{EventValue, format, begin, commit, neutral, stop, rotate, gtid, table_map, other_map, rows, xid, is_one_of, neutral_codes, refused_codes, known_codes, IsNeutral, IsOtherMap, HasBody, IsEvent, HasEvent, code_of, may_ignore_of, type_fault, table_map_fault, body_fault, event_fault}
+use Rattle.binlog.specs.declared.body.Query.{Query}
 use Rattle.binlog.specs.declared.body.Query.TheVariants.{Begin, Commit}
 use Rattle.binlog.specs.declared.rows_event.RowsKind.{RowsKind}
 use Rattle.binlog.specs.declared.rows_event.RowsKind.TheVariants.{Write, Update, Delete}
@@ -23,8 +24,8 @@ use Rattle.binlog.proofs.Headers as headers
 use Rattle.binlog.proofs.Bodies.{gtid_told, query_told, query_not_refused}
 use Rattle.binlog.proofs.BodyLaws.{format_not_refused, format_some, rotate_not_refused, rotate_some, rotate_one, xid_not_refused, xid_some, xid_one, gtid_not_refused, gtid_some, HasQuery, query_some}
 use Rattle.binlog.proofs.TableNames.{names_told, names_not_refused, has_names}
-use Rattle.binlog.proofs.TableColumns.{columns_told, columns_not_refused, has_columns}
-use Rattle.binlog.proofs.RowsHead.{stated, rows_told, rows_not_refused, has_rows}
+use Rattle.binlog.proofs.Temp.{columns_told, columns_not_refused, has_columns}
+use Rattle.binlog.proofs.RowsHead.{stated, parts_of, is_rows, rows_told, rows_not_refused}
 
 -- ---- Types that are not read.
 
@@ -115,7 +116,7 @@ unmarked : (m : Bool) → (true && not m) ≡ false → m ≡ true
 unmarked true is = refl
 unmarked false is = absurd cc
 
-pub is_neutral : (code : ℕ) (may_ignore : Bool) → NotRead code → type_fault code may_ignore ≡ None → IsNeutral code may_ignore
+is_neutral : (code : ℕ) (may_ignore : Bool) → NotRead code → type_fault code may_ignore ≡ None → IsNeutral code may_ignore
 is_neutral code may_ignore n none =
     let p1 = passes (refuse (code == 34) Anonymous 4) _ none in
     let p2 = passes (refuse (is_one_of refused_codes code) (TypeCode code) 4) _ p1.1 in
@@ -232,7 +233,7 @@ fine names (other_map id) code may_ignore bytes (is, body) =
     let n = names_told id body.schema body.table body.rest bytes body.named in
     let left : follows names (schema_of bytes) (table_of bytes) ≡ false = (λ i. follows names (n.schema_is i) (n.table_is i)) ∙ body.other in
     subst (IsFine names bytes may_ignore) (sym is) (refl, map_not_refused names bytes false (names_not_refused id body.schema body.table body.rest bytes body.named) left (λ no. absurd (false≢true no)))
-fine names (rows r) code may_ignore bytes (is, body) = rows_fine names r.kind code may_ignore bytes is (rows_not_refused r bytes body)
+fine names (rows r) code may_ignore bytes (is, body) = rows_fine names r.kind code may_ignore bytes is (rows_not_refused r.kind bytes (rows_told r bytes body).are)
 fine names (xid number) code may_ignore bytes (is, body) = subst (IsFine names bytes may_ignore) (sym is) (refl, xid_not_refused number bytes body)
 
 -- the refusals behind a header that is there
@@ -255,9 +256,9 @@ record HasSome (names : Names) (code : ℕ) (may_ignore : Bool) (body : List ℕ
   event : EventValue
   has_body : HasBody names event code may_ignore body
 
-some_query : (names : Names) (code : ℕ) (may_ignore : Bool) (bytes : List ℕ) → code ≡ 2 → HasQuery bytes → HasSome names code may_ignore (drop 19 bytes)
-some_query names code may_ignore bytes is record { query = Begin; is_query = body } = record { event = begin; has_body = (is, body) }
-some_query names code may_ignore bytes is record { query = Commit; is_query = body } = record { event = commit; has_body = (is, body) }
+some_query : (names : Names) (code : ℕ) (may_ignore : Bool) (bytes : List ℕ) → code ≡ 2 → (query : Query) → IsQuery (statement query) (drop 19 bytes) → HasSome names code may_ignore (drop 19 bytes)
+some_query names code may_ignore bytes is Begin body = record { event = begin; has_body = (is, body) }
+some_query names code may_ignore bytes is Commit body = record { event = commit; has_body = (is, body) }
 
 some_map : (names : Names) (code : ℕ) (may_ignore : Bool) (bytes : List ℕ) → IsBytes bytes → code ≡ 19 → table_map_fault names bytes ≡ None → HasSome names code may_ignore (drop 19 bytes)
 unfolding table_map_fault
@@ -285,7 +286,7 @@ unfolding body_fault
 some_body names code may_ignore bytes fits typed none =
     let at : (c : ℕ) → code ≡ c → body_fault names c bytes ≡ None = λ c e. subst (λ k. body_fault names k bytes ≡ None) e none in
     elim (cases_eq code 2) as (λ _. HasSome names code may_ignore (drop 19 bytes)) [
-      | inl e ↦ some_query names code may_ignore bytes e (query_some bytes fits (at 2 e))
+      | inl e ↦ (let q = query_some bytes fits (at 2 e) in some_query names code may_ignore bytes e q.query q.is_query)
       | inr n2 ↦ elim (cases_eq code 3) as (λ _. HasSome names code may_ignore (drop 19 bytes)) [
         | inl e ↦ record { event = stop; has_body = e }
         | inr n3 ↦ elim (cases_eq code 4) as (λ _. HasSome names code may_ignore (drop 19 bytes)) [
@@ -297,11 +298,11 @@ some_body names code may_ignore bytes fits typed none =
               | inr n16 ↦ elim (cases_eq code 19) as (λ _. HasSome names code may_ignore (drop 19 bytes)) [
                 | inl e ↦ some_map names code may_ignore bytes fits e (at 19 e)
                 | inr n19 ↦ elim (cases_eq code 30) as (λ _. HasSome names code may_ignore (drop 19 bytes)) [
-                  | inl e ↦ let h = has_rows Write bytes fits (at 30 e) in record { event = rows h.rows; has_body = (e ∙ ap rows_code (sym h.kind_is), h.is_rows) }
+                  | inl e ↦ record { event = rows (stated Write bytes); has_body = (e, is_rows Write bytes fits (parts_of Write bytes fits (at 30 e))) }
                   | inr n30 ↦ elim (cases_eq code 31) as (λ _. HasSome names code may_ignore (drop 19 bytes)) [
-                    | inl e ↦ let h = has_rows Update bytes fits (at 31 e) in record { event = rows h.rows; has_body = (e ∙ ap rows_code (sym h.kind_is), h.is_rows) }
+                    | inl e ↦ record { event = rows (stated Update bytes); has_body = (e, is_rows Update bytes fits (parts_of Update bytes fits (at 31 e))) }
                     | inr n31 ↦ elim (cases_eq code 32) as (λ _. HasSome names code may_ignore (drop 19 bytes)) [
-                      | inl e ↦ let h = has_rows Delete bytes fits (at 32 e) in record { event = rows h.rows; has_body = (e ∙ ap rows_code (sym h.kind_is), h.is_rows) }
+                      | inl e ↦ record { event = rows (stated Delete bytes); has_body = (e, is_rows Delete bytes fits (parts_of Delete bytes fits (at 32 e))) }
                       | inr n32 ↦ elim (cases_eq code 33) as (λ _. HasSome names code may_ignore (drop 19 bytes)) [
                         | inl e ↦ record { event = gtid (take 16 (drop 20 bytes)) (number_at 8 bytes 36); has_body = (e, gtid_some bytes fits (at 33 e)) }
                         | inr n33 ↦
@@ -318,10 +319,17 @@ some_body names code may_ignore bytes fits typed none =
       ]
     ]
 
-pub has_event : (names : Names) (bytes : List ℕ) → IsBytes bytes → HasFrame bytes → event_fault names bytes ≡ None → HasEvent names bytes
-has_event names bytes fits h none =
+has_body : (names : Names) (bytes : List ℕ) → IsBytes bytes → HasFrame bytes → event_fault names bytes ≡ None → HasEvent names bytes
+has_body names bytes fits h none =
     let t = headers.told h.code h.may_ignore h.body bytes h.framed in
     let p1 = passes (type_fault h.code h.may_ignore) _ (sym (behind_header names h.code h.may_ignore h.body bytes h.framed) ∙ none) in
     let p2 = passes (body_fault names h.code bytes) _ p1.1 in
     let s = some_body names h.code h.may_ignore bytes fits p1.0 p2.0 in
     record { event = s.event; is_event = record { code = h.code; may_ignore = h.may_ignore; body = h.body; framed = h.framed; has_body = subst (HasBody names s.event h.code h.may_ignore) (sym t.body_is) s.has_body } }
+
+has_frame : (bytes : List ℕ) → IsBytes bytes → header_fault bytes ≡ None → HasFrame bytes
+has_frame bytes fits none = let s = headers.stated bytes none in record { code = get_or bytes 4 0; may_ignore = nat_le 128 (get_or bytes 17 0); body = drop 19 bytes; framed = headers.is_framed bytes fits s.0 s.1 }
+
+pub has_event : (names : Names) (bytes : List ℕ) → IsBytes bytes → event_fault names bytes ≡ None → HasEvent names bytes
+unfolding event_fault
+has_event names bytes fits none = has_body names bytes fits (has_frame bytes fits (passes (header_fault bytes) _ none).0) none

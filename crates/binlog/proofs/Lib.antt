@@ -2,7 +2,6 @@ pub mod Cuts
 pub mod Tables
 pub mod Headers
 pub mod Columns
-pub mod Rows
 pub mod RowCells
 pub mod Examples
 pub mod Bodies
@@ -14,4 +13,5 @@ pub mod TableColumns
 pub mod RowsHead
 pub mod RowsItems
 pub mod Followed
+pub mod Temp
 pub mod Events

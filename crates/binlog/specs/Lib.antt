@@ -12,6 +12,7 @@ pub mod RowsView
 pub mod Follow
 pub mod FollowView
 pub mod Event
+pub mod EventView
 pub mod Columns
 pub mod ColumnsView
 pub mod TableView

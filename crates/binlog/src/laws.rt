@@ -11,6 +11,8 @@ ghost use Rattle.binlog.specs.Row.{IsRow, HasRow, row_end};
 ghost use Rattle.binlog.specs.Table.{IsNamed, names_fault, AreColumns, columns_fault};
 ghost use Rattle.binlog.specs.Columns.{HasNames, HasColumns};
 ghost use Rattle.binlog.specs.Rows.{RowsValue, IsRows, HasRows, rows_fault, PairValue, AreRows, EndsEarly, AreItemsAt, HasItems};
+ghost use Rattle.binlog.specs.Follow.{Names};
+ghost use Rattle.binlog.specs.Event.{EventValue, IsEvent, HasEvent, event_fault};
 ghost use Rattle.binlog.specs.declared.fault.EventFault.{EventFault};
 ghost use Rattle.binlog.specs.declared.rows_event.RowsKind.{RowsKind};
 ghost use Rattle.binlog.specs.declared.column.ColumnKind.{ColumnKind};
@@ -74,4 +76,11 @@ pub fn one_list_of_rows()
     ensures some { (kind : RowsKind) (types : List ColumnKind) (bytes : List ℕ) (at : ℕ) → AllByRecursion (λ b. b < 256) bytes → 1 ≤ length types → HasItems kind types bytes at }
     ensures items { (kind : RowsKind) (types : List ColumnKind) (bytes : List ℕ) (at : ℕ) (x y : List (Result PairValue EventFault)) → 1 ≤ length types →
         AreItemsAt kind types bytes at x → AreItemsAt kind types bytes at y → x ≡ y }
+{}
+
+/// Bytes are an event or have a fault, and not both, and they are one event, whichever tables are followed.
+pub fn one_event()
+    ensures some { (names : Names) (bytes : List ℕ) → AllByRecursion (λ b. b < 256) bytes → event_fault names bytes ≡ None → HasEvent names bytes }
+    ensures no_fault { (names : Names) (e : EventValue) (bytes : List ℕ) → IsEvent names e bytes → event_fault names bytes ≡ None }
+    ensures one { (names : Names) (a b : EventValue) (bytes : List ℕ) → IsEvent names a bytes → IsEvent names b bytes → a ≡ b }
 {}

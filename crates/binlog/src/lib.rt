@@ -13,6 +13,7 @@ mod cell;
 mod column;
 mod column_types;
 mod count;
+mod event;
 mod fault;
 mod follow;
 mod header;
@@ -30,6 +31,7 @@ pub use body::{Query, read_format, read_gtid, read_query, read_rotate, read_xid}
 pub use cell::Cell;
 pub use column::{ColumnKind, ColumnType};
 pub use column_types::{ColumnTypes, ColumnTypesIter};
+pub use event::{Event, read_event, read_event_only};
 pub use fault::{EventFault, EventFaultKind};
 pub use follow::Follow;
 pub use header::Header;
