@@ -9,3 +9,4 @@ pub mod Formats
 pub mod TableNames
 pub mod Counts
 pub mod TableColumns
+pub mod WholeColumns
