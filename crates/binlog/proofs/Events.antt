@@ -24,7 +24,7 @@ use Rattle.binlog.proofs.Headers as headers
 use Rattle.binlog.proofs.Bodies.{gtid_told, query_told, query_not_refused}
 use Rattle.binlog.proofs.BodyLaws.{format_not_refused, format_some, rotate_not_refused, rotate_some, rotate_one, xid_not_refused, xid_some, xid_one, gtid_not_refused, gtid_some, HasQuery, query_some}
 use Rattle.binlog.proofs.TableNames.{names_told, names_not_refused, has_names}
-use Rattle.binlog.proofs.Temp.{columns_told, columns_not_refused, has_columns}
+use Rattle.binlog.proofs.WholeColumns.{columns_told, columns_not_refused, has_columns}
 use Rattle.binlog.proofs.RowsHead.{stated, parts_of, is_rows, rows_told, rows_not_refused}
 
 -- ---- Types that are not read.
@@ -167,8 +167,8 @@ rows_said names Delete r code bytes is said = ap (event_at names bytes) is ∙ a
 columns_said : (t : TableValue) (rest bytes : List ℕ) → IsNamed t.id t.schema t.table rest (drop 19 bytes) → AreColumns t.columns rest → table_at bytes ≡ t
 columns_said t rest bytes named are =
     let n = names_told t.id t.schema t.table rest bytes named in
-    let columns = columns_told t.columns bytes (terminator_place bytes + 1) n.long (subst (AreColumns t.columns) (sym n.rest_is) are) in
-    λ i. record { id = n.id_is i; schema = n.schema_is i; table = n.table_is i; columns = columns i }
+    let columns = columns_told t.columns bytes (terminator_place bytes + 1) (subst (AreColumns t.columns) (sym n.rest_is) are) in
+    λ i. record { id = n.id_is i; schema = n.schema_is i; table = n.table_is i; columns = columns.columns i }
 
 said : (names : Names) (e : EventValue) (code : ℕ) (may_ignore : Bool) (bytes : List ℕ) → HasBody names e code may_ignore (drop 19 bytes) → event_at names bytes code ≡ e
 said names format code may_ignore bytes (is, body) = ap (event_at names bytes) is
@@ -227,7 +227,7 @@ fine names (gtid source number) code may_ignore bytes (is, body) = subst (IsFine
 fine names (table_map t) code may_ignore bytes (is, body, followed) =
     let n = names_told t.id t.schema t.table body.rest bytes body.named in
     let taken : follows names (schema_of bytes) (table_of bytes) ≡ true = (λ i. follows names (n.schema_is i) (n.table_is i)) ∙ followed in
-    let columns = columns_not_refused t.columns bytes (terminator_place bytes + 1) n.long (subst (AreColumns t.columns) (sym n.rest_is) body.columns) in
+    let columns = columns_not_refused t.columns bytes (terminator_place bytes + 1) (subst (AreColumns t.columns) (sym n.rest_is) body.columns) in
     subst (IsFine names bytes may_ignore) (sym is) (refl, map_not_refused names bytes true (names_not_refused t.id t.schema t.table body.rest bytes body.named) taken (λ _. columns))
 fine names (other_map id) code may_ignore bytes (is, body) =
     let n = names_told id body.schema body.table body.rest bytes body.named in
@@ -270,7 +270,7 @@ some_map names code may_ignore bytes fits is none =
     elim (cases_Bool (follows names (schema_of bytes) (table_of bytes))) as (λ _. HasSome names code may_ignore (drop 19 bytes)) [
       | inl taken ↦
           let fine = ap (λ b. if b then columns_fault bytes (terminator_place bytes + 1) else None) (sym taken) ∙ p2.0 in
-          let c = has_columns bytes (terminator_place bytes + 1) n.long fits fine in
+          let c = has_columns bytes (terminator_place bytes + 1) fits fine in
           record {
             event = table_map (record { id = h.id; schema = h.schema; table = h.table; columns = c.columns });
             has_body = (is, record { rest = h.rest; named = h.named; columns = subst (AreColumns c.columns) n.rest_is c.are_columns }, (λ i. follows names (sym n.schema_is i) (sym n.table_is i)) ∙ taken);

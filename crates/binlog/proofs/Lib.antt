@@ -10,8 +10,8 @@ pub mod BodyLaws
 pub mod Counts
 pub mod TableNames
 pub mod TableColumns
+pub mod WholeColumns
 pub mod RowsHead
 pub mod RowsItems
 pub mod Followed
-pub mod Temp
 pub mod Events

@@ -29,10 +29,10 @@ same_kind kind code rest bytes is = (λ i. kind_of (is.code_is i) (get_or (is.by
 pub metadata_long : (kind : ColumnKind) → metadata_length (type_code kind) ≡ length (metadata kind)
 metadata_long kind = ap (λ (size : Option ℕ). unwrap_or size 0) (lawful_size kind)
 
-behind_metadata : (kind : ColumnKind) (code : ℕ) (rest bytes : List ℕ) → IsColumn kind code rest bytes → drop (metadata_length code) bytes ≡ rest
+pub behind_metadata : (kind : ColumnKind) (code : ℕ) (rest bytes : List ℕ) → IsColumn kind code rest bytes → drop (metadata_length code) bytes ≡ rest
 behind_metadata kind code rest bytes is = (λ i. drop (metadata_length (is.code_is i)) (is.bytes_are i)) ∙ ap (λ n. drop n (metadata kind ++ rest)) (metadata_long kind) ∙ drop_front (metadata kind) rest
 
-before_metadata : (kind : ColumnKind) (code : ℕ) (rest bytes : List ℕ) → IsColumn kind code rest bytes → take (metadata_length code) bytes ≡ metadata kind
+pub before_metadata : (kind : ColumnKind) (code : ℕ) (rest bytes : List ℕ) → IsColumn kind code rest bytes → take (metadata_length code) bytes ≡ metadata kind
 before_metadata kind code rest bytes is = (λ i. take (metadata_length (is.code_is i)) (is.bytes_are i)) ∙ take_at (metadata kind) rest (metadata_length (type_code kind)) (sym (metadata_long kind))
 
 -- the columns of type bytes that begin with a column's
@@ -51,13 +51,13 @@ first_none line lines is = ap (λ l. first_of (l ∷ lines)) is
 pub first_some : (line : Option EventFault) (lines : List (Option EventFault)) (fault : EventFault) → line ≡ Some fault → first_of (line ∷ lines) ≡ Some fault
 first_some line lines fault is = ap (λ l. first_of (l ∷ lines)) is
 
-only_line : (line : Option EventFault) → first_of (line ∷ []) ≡ line
+pub only_line : (line : Option EventFault) → first_of (line ∷ []) ≡ line
 only_line None = refl
 only_line (Some fault) = refl
 
 -- ---- Type bytes, one after another.
 
-type_passes_at : (code size place : ℕ) (others : List ℕ) → metadata_size code ≡ Some size → types_fault place (code ∷ others) ≡ types_fault (suc place) others
+pub type_passes_at : (code size place : ℕ) (others : List ℕ) → metadata_size code ≡ Some size → types_fault place (code ∷ others) ≡ types_fault (suc place) others
 type_passes_at code size place others has =
     first_none (refuse (is_none (metadata_size code)) (UnknownColumn code) place) (types_fault (suc place) others ∷ []) (ap (λ (s : Option ℕ). refuse (is_none s) (UnknownColumn code) place) has)
     ∙ only_line (types_fault (suc place) others)
@@ -84,11 +84,11 @@ sized_by : (o : Option ℕ) (code : ℕ) → metadata_size code ≡ o → is_non
 sized_by None code is some = absurd cc
 sized_by (Some size) code is some = record { size = size; has = is }
 
-first_sized : (code place : ℕ) (others : List ℕ) → types_fault place (code ∷ others) ≡ None → Sized code
+pub first_sized : (code place : ℕ) (others : List ℕ) → types_fault place (code ∷ others) ≡ None → Sized code
 first_sized code place others none =
     sized_by (metadata_size code) code refl (not_refused (is_none (metadata_size code)) (UnknownColumn code) place (passes (refuse (is_none (metadata_size code)) (UnknownColumn code) place) _ none).0)
 
-others_read : (code place : ℕ) (others : List ℕ) → types_fault place (code ∷ others) ≡ None → types_fault (suc place) others ≡ None
+pub others_read : (code place : ℕ) (others : List ℕ) → types_fault place (code ∷ others) ≡ None → types_fault (suc place) others ≡ None
 others_read code place others none =
     let s = first_sized code place others none in
     sym (type_passes_at code s.size place others s.has) ∙ none
@@ -114,7 +114,7 @@ pub record Checked (bytes codes : List ℕ) (start i place : ℕ) : Type 0 where
   pub fits : place + sum_by metadata_length (drop i codes) ≤ length bytes
 
 -- what is wrong with the metadata at a place is what is wrong with the column there
-fault_there : (bytes : List ℕ) (code size place : ℕ) → metadata_size code ≡ Some size → place + size ≤ length bytes →
+pub fault_there : (bytes : List ℕ) (code size place : ℕ) → metadata_size code ≡ Some size → place + size ≤ length bytes →
     column_fault code (drop place bytes) ≡ metadata_fault code (get_or bytes place 0) (get_or bytes (place + 1) 0)
 fault_there bytes code size place has long =
     let e : place + 0 ≡ place = omega arith in
@@ -122,7 +122,7 @@ fault_there bytes code size place has long =
     let second : get_or (drop place bytes) 1 0 ≡ get_or bytes (place + 1) 0 = get_or-drop place bytes 1 0 in
     fault_of code size (drop place bytes) _ has (omega (arith, long, length-drop place bytes)) (λ i. metadata_fault code (first i) (second i))
 
-column_passes_at : (bytes : List ℕ) (code place : ℕ) (others : List ℕ) → metadata_fault code (get_or bytes place 0) (get_or bytes (place + 1) 0) ≡ None →
+pub column_passes_at : (bytes : List ℕ) (code place : ℕ) (others : List ℕ) → metadata_fault code (get_or bytes place 0) (get_or bytes (place + 1) 0) ≡ None →
     all_metadata_fault bytes place (code ∷ others) ≡ all_metadata_fault bytes (place + metadata_length code) others
 column_passes_at bytes code place others none =
     first_none (at_place (metadata_fault code (get_or bytes place 0) (get_or bytes (place + 1) 0)) place) (all_metadata_fault bytes (place + metadata_length code) others ∷ []) (ap (λ f. at_place f place) none)

@@ -54,8 +54,8 @@ pub fn one_names()
 /// The bytes from a place on are the columns of a table, or the event has a fault in them, and not both, and they are
 /// of one list of types.
 pub fn one_columns()
-    ensures some { (bytes : List ℕ) (place : ℕ) → AllByRecursion (λ b. b < 256) bytes → place ≤ length bytes → columns_fault bytes place ≡ None → HasColumns (drop place bytes) }
-    ensures no_fault { (columns : List ColumnKind) (bytes : List ℕ) (place : ℕ) → place ≤ length bytes → AreColumns columns (drop place bytes) → columns_fault bytes place ≡ None }
+    ensures some { (bytes : List ℕ) (place : ℕ) → AllByRecursion (λ b. b < 256) bytes → columns_fault bytes place ≡ None → HasColumns (drop place bytes) }
+    ensures no_fault { (columns : List ColumnKind) (bytes : List ℕ) (place : ℕ) → AreColumns columns (drop place bytes) → columns_fault bytes place ≡ None }
     ensures one { (a b : List ColumnKind) (bytes : List ℕ) → AreColumns a bytes → AreColumns b bytes → a ≡ b }
 {}
 
