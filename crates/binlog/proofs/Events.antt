@@ -1,6 +1,6 @@
 -- Events: bytes are one or are refused, and what they say is determined.
 use Rattle.std.proofs.Common.{◌≡◌, ℕ, suc, ◌+◌, ◌-◌, ◌<◌, ◌≤◌, ◌^◌, ◌==◌, ◌&&◌, ◌||◌, Bool, true, false, List, [], ◌∷◌, ◌++◌, length, get_or, take, drop, codes, Option, Some, None, refl, sym, ap, subst, ◌∙◌, arith, inl, inr}
-use Rattle.std.specs.Prelude.{nat_le, not, ◌⊎◌, if◌then◌else◌}
+use Rattle.std.specs.Prelude.{nat_le, not, ◌⊎◌, if◌then◌else◌, Result, Ok, Err, IfOk, IfErr, MatchResult}
 use Rattle.std.specs.Str.{bytes_eq}
 use Rattle.std.proofs.lemmas.Bool.{cases_eq, cases_Bool, ne_eqb, eqb-true, false≢true}
 use Rattle.byteorder.specs.Endian.{little_number}
@@ -333,3 +333,27 @@ has_frame bytes fits none = let s = headers.stated bytes none in record { code =
 pub has_event : (names : Names) (bytes : List ℕ) → IsBytes bytes → event_fault names bytes ≡ None → HasEvent names bytes
 unfolding event_fault
 has_event names bytes fits none = has_body names bytes fits (has_frame bytes fits (passes (header_fault bytes) _ none).0) none
+
+-- ---- What every reader of an event keeps to.
+
+pub header_refused : (names : Names) (bytes : List ℕ) (fault : EventFault) → header_fault bytes ≡ Some fault → event_fault names bytes ≡ Some fault
+unfolding event_fault
+header_refused names bytes fault is = ap (λ line. first_of (line ∷ type_fault (code_of bytes) (may_ignore_of bytes) ∷ body_fault names (code_of bytes) bytes ∷ [])) is
+
+none_some : {X : Type 0} {x : X} → None ≡ Some x → ⊥
+none_some e = cc
+
+pub answered : {X : Type 0} (names : Names) (bytes : List ℕ) (value : X → EventValue) (result : Result X EventFault) → IfOk result (λ x. IsEvent names (value x) bytes) →
+    IfErr result (λ fault. event_fault names bytes ≡ Some fault) → (e : EventValue) → IsEvent names e bytes → MatchResult result (λ x. value x ≡ e) (λ _. ⊥)
+answered names bytes value (Ok x) found fault e is = one_event names (value x) e bytes found is
+answered names bytes value (Err f) found fault e is = absurd (none_some (sym (event_not_refused names e bytes is) ∙ fault))
+
+-- what is wrong behind a header
+pub if_err_by : {X : Type 0} (result : Result X EventFault) (a b : Option EventFault) → a ≡ b → IfErr result (λ fault. b ≡ Some fault) → IfErr result (λ fault. a ≡ Some fault)
+if_err_by (Ok x) a b same fault = tt
+if_err_by (Err f) a b same fault = same ∙ fault
+
+pub if_event : {X : Type 0} (names : Names) (value : X → EventValue) (result : Result X EventFault) (code : ℕ) (may_ignore : Bool) (bytes : List ℕ) → IsFramed code may_ignore (drop 19 bytes) bytes →
+    IfOk result (λ x. HasBody names (value x) code may_ignore (drop 19 bytes)) → IfOk result (λ x. IsEvent names (value x) bytes)
+if_event names value (Ok x) code may_ignore bytes framed found = record { code = code; may_ignore = may_ignore; body = drop 19 bytes; framed = framed; has_body = found }
+if_event names value (Err f) code may_ignore bytes framed found = tt

@@ -1,5 +1,6 @@
 -- Events, whatever memory holds them, and the tables that a reader of them follows.
-use Rattle.std.specs.Prelude.{Option, Some, None, Bor}
+use Rattle.std.specs.Prelude.{Option, Some, None}
+use Rattle.std.specs.Borrow.{Bor}
 use Rattle.std.specs.FinSet as set
 use Rattle.binlog.specs.Follow.{Names}
 use Rattle.binlog.specs.Event.{EventValue, format, begin, commit, neutral, stop, rotate, gtid, table_map, other_map, rows, xid}

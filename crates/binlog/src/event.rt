@@ -72,11 +72,14 @@ pub fn read_event_only<'a>(bytes: &'a [u8], follow: &Follow) -> Result<Event<'a>
 
 /// Reads an event; without a list of tables all are followed.
 fn read<'a>(bytes: &'a [u8], follow: Option<&Follow>) -> Result<Event<'a>, EventFault>
-    ensures found { IfOk result (λ event. IsEvent (followed follow) (event_value event) bytes.now) }
-    ensures fault { IfErr result (λ fault. event_fault (followed follow) bytes.now ≡ Some fault) }
+    ensures found { IfOk result (λ event. IsEvent (followed follow.entry) (event_value event) bytes.now) }
+    ensures only { (e : EventValue) → IsEvent (followed follow.entry) e bytes.now → MatchResult result (λ event. event_value event ≡ e) (λ _. ⊥) }
+    ensures fault { IfErr result (λ fault. event_fault (followed follow.entry) bytes.now ≡ Some fault) }
 {
-    let header = Header::read(bytes)?;
-    read_body(header, bytes, follow)
+    match Header::read(bytes) {
+        Ok(header) => read_body(header, bytes, follow),
+        Err(fault) => Err(fault),
+    }
 }
 
 /// Reads what follows the header of an event.
@@ -87,8 +90,8 @@ fn read_body<'a>(
     follow: Option<&Follow>,
 ) -> Result<Event<'a>, EventFault>
     requires { IsFramed header.code header.may_ignore (drop 19 bytes.now) bytes.now }
-    ensures found { IfOk result (λ event. HasBody (followed follow) (event_value event) header.code header.may_ignore (drop 19 bytes.now)) }
-    ensures fault { IfErr result (λ fault. first_of (type_fault header.code header.may_ignore ∷ body_fault (followed follow) header.code bytes.now ∷ []) ≡ Some fault) }
+    ensures found { IfOk result (λ event. HasBody (followed follow.entry) (event_value event) header.code header.may_ignore (drop 19 bytes.now)) }
+    ensures fault { IfErr result (λ fault. first_of (type_fault header.code header.may_ignore ∷ body_fault (followed follow.entry) header.code bytes.now ∷ []) ≡ Some fault) }
 {
     match header.code {
         2 => match read_query(bytes)? {
@@ -138,8 +141,8 @@ fn read_map<'a>(
     follow: Option<&Follow>,
 ) -> Result<Event<'a>, EventFault>
     requires { header.code ≡ 19 }
-    ensures found { IfOk result (λ event. HasBody (followed follow) (event_value event) header.code header.may_ignore (drop 19 bytes.now)) }
-    ensures fault { IfErr result (λ fault. table_map_fault (followed follow) bytes.now ≡ Some fault) }
+    ensures found { IfOk result (λ event. HasBody (followed follow.entry) (event_value event) header.code header.may_ignore (drop 19 bytes.now)) }
+    ensures fault { IfErr result (λ fault. table_map_fault (followed follow.entry) bytes.now ≡ Some fault) }
 {
     let names = read_names(bytes)?;
     if !is_followed(follow, names.schema, names.table) {
@@ -156,7 +159,7 @@ fn read_map<'a>(
 
 /// Whether a table is followed; without a list all are.
 fn is_followed(follow: Option<&Follow>, schema: &[u8], table: &[u8]) -> bool
-    ensures { result ≡ follows (followed follow) schema.now table.now }
+    ensures { result ≡ follows (followed follow.entry) schema.now table.now }
 {
     match follow {
         Some(follow) => follow.follows(schema, table),
