@@ -66,8 +66,8 @@ columned (code ∷ codes) place types bytes fits read none long =
     let rest_is : h.rest ≡ drop next bytes = sym (behind_metadata h.kind code h.rest (drop place bytes) h.is_column) ∙ drop_drop place (metadata_length code) bytes in
     let others_sound : all_metadata_fault bytes next codes ≡ None = sym (only_line (all_metadata_fault bytes next codes)) ∙ lines.1 in
     let others = columned codes next (suc types) bytes fits (others_read code types codes read) others_sound (omega (arith, long, sum)) in
-    let at_rest : Columned (columns_of codes h.rest) codes h.rest = subst (λ r. Columned (columns_of codes r) codes r) (sym rest_is) others in
-    subst (λ l. Columned l (code ∷ codes) (drop place bytes)) (sym (column_first h.kind code codes h.rest (drop place bytes) h.is_column))
+    let at_rest : Columned (columns_of codes h.rest) codes h.rest = subst (λ r. Columned (columns_of codes r) codes r) {x = drop next bytes} (sym rest_is) others in
+    subst (λ l. Columned l (code ∷ codes) (drop place bytes)) {x = h.kind ∷ columns_of codes h.rest} (sym (column_first h.kind code codes h.rest (drop place bytes) h.is_column))
     (columned_cons h.kind code (columns_of codes h.rest) codes h.rest (drop place bytes) h.is_column at_rest)
 
 pub record Standing (bytes : List ℕ) (at : ℕ) : Type 0 where
