@@ -8,6 +8,11 @@ pub mod Body
 pub mod Count
 pub mod Table
 pub mod Rows
+pub mod RowsView
+pub mod Follow
+pub mod FollowView
+pub mod Event
+pub mod EventView
 pub mod Columns
 pub mod ColumnsView
 pub mod TableView

@@ -78,3 +78,7 @@ cells_of bitmap i [] bytes = []
 cells_of bitmap i (t ∷ types) bytes =
     if is_set bitmap i then null_cell ∷ cells_of bitmap (suc i) types bytes
     else cell_front (value_end (shape t) bytes) (cell_of (shape t) bytes) (λ size. cells_of bitmap (suc i) types (drop size bytes))
+
+-- the cells of the row at the front of bytes
+abbrev pub row_cells : List ColumnKind → List ℕ → List CellValue
+row_cells types bytes = cells_of (take (bitmap_size (length types)) bytes) 0 types (drop (bitmap_size (length types)) bytes)

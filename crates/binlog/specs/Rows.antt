@@ -1,13 +1,13 @@
 -- Rows events. MySQL Source Documentation, Binlog Event: binary_log::Rows_event, and its classes Write_rows_event,
 -- Update_rows_event and Delete_rows_event of version 2.
-use Rattle.std.specs.Prelude.{◌≡◌, ℕ, suc, ◌+◌, ◌-◌, ◌<◌, ◌≤◌, ◌^◌, ◌⊎◌, Bool, not, List, [], ◌∷◌, ◌++◌, length, take, drop, map, slice_index, nat_lt, ◌==◌, if◌then◌else◌, IsTrue, Option, Result, Ok, Err}
+use Rattle.std.specs.Prelude.{◌≡◌, ℕ, zero, suc, ◌+◌, ◌-◌, ◌<◌, ◌≤◌, ◌^◌, ◌⊎◌, Bool, not, List, [], ◌∷◌, ◌++◌, length, take, drop, map, slice_index, nat_lt, ◌==◌, if◌then◌else◌, IsTrue, Option, Result, Ok, Err}
 use Rattle.std.specs.List.{list_all, range_with_len}
 use Rattle.byteorder.specs.Endian.{little_bytes}
 use Rattle.wire.specs.Integer.{IsLengthEncoded}
 use Rattle.binlog.specs.Fault.{refuse, needs, first_of, number_at}
 use Rattle.binlog.specs.Count.{count_width, count_at, no_count}
 use Rattle.binlog.specs.Cell.{CellValue}
-use Rattle.binlog.specs.Row.{bitmap_size, is_set, IsRow, row_end, ◌>>=◌, cells_of}
+use Rattle.binlog.specs.Row.{bitmap_size, is_set, IsRow, row_end, ◌>>=◌, row_cells}
 use Rattle.binlog.specs.Table.{is_column_count}
 use Rattle.binlog.specs.declared.column.ColumnKind.{ColumnKind}
 use Rattle.binlog.specs.declared.fault.EventFault.{EventFault}
@@ -53,6 +53,12 @@ pub record IsRows (r : RowsValue) (body : List ℕ) : Type 0 where
   pub columns_place : r.columns_at ≡ 29 + length extra
   pub bytes_place : r.bytes_at ≡ r.columns_at + length count + length present
 
+-- some event of a kind
+pub record HasRows (kind : RowsKind) (body : List ℕ) : Type 0 where
+  pub value : RowsValue
+  pub kind_is : value.kind ≡ kind
+  pub is_rows : IsRows value body
+
 -- the event's type
 abbrev pub rows_code : RowsKind → ℕ
 rows_code Write = 30
@@ -77,6 +83,12 @@ abbrev pub presents_fault : RowsKind → List ℕ → ℕ → ℕ → Option Eve
 presents_fault Update bytes place n = first_of (present_fault bytes place n ∷ present_fault bytes (place + bitmap_size n) n ∷ [])
 presents_fault Write bytes place n = present_fault bytes place n
 presents_fault Delete bytes place n = present_fault bytes place n
+
+-- their bytes
+abbrev pub presents_size : RowsKind → ℕ → ℕ
+presents_size Update n = bitmap_size n + bitmap_size n
+presents_size Write n = bitmap_size n
+presents_size Delete n = bitmap_size n
 
 unfoldable pub rows_fault : RowsKind → List ℕ → Option EventFault
 rows_fault kind bytes =
@@ -127,9 +139,41 @@ pub record EndsEarly (kind : RowsKind) (types : List ColumnKind) (pairs : List P
   pub ends : pair_end kind types rest ≡ Err early
   pub place_is : place ≡ length whole + early
 
--- The items are the pairs of the event's rows, or the pairs before the first fault and then that fault.
+-- The items are the pairs of the rows, which begin at a place of the event, or the pairs before the first fault and then that fault.
+abbrev pub AreItemsAt : RowsKind → List ColumnKind → List ℕ → ℕ → List (Result PairValue EventFault) → Type 0
+AreItemsAt kind types bytes at items =
+    ((pairs : List PairValue) × AreRows kind types pairs bytes × (items ≡ map Ok pairs))
+    ⊎ ((pairs : List PairValue) × (place : ℕ) × EndsEarly kind types pairs bytes place
+    × (items ≡ map Ok pairs ++ Err (record { kind = Truncated; at = at + place }) ∷ []))
+
 abbrev pub AreItems : RowsValue → List ColumnKind → List (Result PairValue EventFault) → Type 0
-AreItems r types items =
-    ((pairs : List PairValue) × AreRows r.kind types pairs r.bytes × (items ≡ map Ok pairs))
-    ⊎ ((pairs : List PairValue) × (place : ℕ) × EndsEarly r.kind types pairs r.bytes place
-    × (items ≡ map Ok pairs ++ Err (record { kind = Truncated; at = r.bytes_at + place }) ∷ []))
+AreItems r types items = AreItemsAt r.kind types r.bytes r.bytes_at items
+
+-- some items
+pub record HasItems (kind : RowsKind) (types : List ColumnKind) (bytes : List ℕ) (at : ℕ) : Type 0 where
+  pub items : List (Result PairValue EventFault)
+  pub are : AreItemsAt kind types bytes at items
+
+-- ---- Its items, by its bytes.
+
+-- a place, found or not
+abbrev pub reached : Result ℕ ℕ → ℕ
+reached (Ok place) = place
+reached (Err place) = place
+
+-- the pair at the front of bytes, where it fits
+abbrev pub pair_of : RowsKind → List ColumnKind → List ℕ → PairValue
+pair_of Write types bytes = inserted (row_cells types bytes)
+pair_of Delete types bytes = deleted (row_cells types bytes)
+pair_of Update types bytes = updated (row_cells types bytes) (row_cells types (drop (reached (row_end types bytes)) bytes))
+
+-- what the bytes say that begin at a place of the event, at most so many items
+abbrev pub item_front : Result ℕ ℕ → PairValue → ℕ → (ℕ → List (Result PairValue EventFault)) → List (Result PairValue EventFault)
+item_front (Ok size) pair at others = Ok pair ∷ others size
+item_front (Err place) pair at others = Err (record { kind = Truncated; at = at + place }) ∷ []
+
+abbrev pub items_of : ℕ → RowsKind → List ColumnKind → List ℕ → ℕ → List (Result PairValue EventFault)
+items_of zero kind types bytes at = []
+items_of (suc most) kind types [] at = []
+items_of (suc most) kind types (b ∷ bytes) at =
+    item_front (pair_end kind types (b ∷ bytes)) (pair_of kind types (b ∷ bytes)) at (λ size. items_of most kind types (drop size (b ∷ bytes)) (at + size))

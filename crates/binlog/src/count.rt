@@ -23,12 +23,15 @@ pub(crate) fn read_count(
     ensures whole { IfOk result (λ _. no_count bytes.now at kind ≡ None) }
     ensures fault { IfErr result (λ fault. no_count bytes.now at kind ≡ Some fault) }
 {
-    let rest = &bytes[at..];
-    if let Some(read) = read_int(rest) {
+    if let Some(read) = read_int(&bytes[at..]) {
         return Ok(read);
     }
-    match rest.first() {
-        Some(0xfb | 0xff) => Err(EventFault { kind, at }),
+    if at == bytes.len() {
+        return Err(EventFault::truncated(at));
+    }
+    match bytes[at] {
+        0xfb => Err(EventFault { kind, at }),
+        0xff => Err(EventFault { kind, at }),
         _ => Err(EventFault::truncated(at)),
     }
 }

@@ -13,12 +13,16 @@ mod cell;
 mod column;
 mod column_types;
 mod count;
+mod event;
 mod fault;
+mod follow;
 mod header;
 pub mod laws;
 mod names;
 mod row;
+mod rows;
 mod rows_event;
+mod rows_head;
 mod shape;
 mod table;
 mod table_columns;
@@ -27,11 +31,14 @@ pub use body::{Query, read_format, read_gtid, read_query, read_rotate, read_xid}
 pub use cell::Cell;
 pub use column::{ColumnKind, ColumnType};
 pub use column_types::{ColumnTypes, ColumnTypesIter};
+pub use event::{Event, read_event, read_event_only};
 pub use fault::{EventFault, EventFaultKind};
+pub use follow::Follow;
 pub use header::Header;
 pub use row::{Cells, Row};
-pub use rows_event::RowsKind;
 pub use table::{TableDef, TableMap};
+pub use rows::{RowPair, Rows};
+pub use rows_event::{RowsEvent, RowsKind};
 
 #[cfg(test)]
 mod body_tests;

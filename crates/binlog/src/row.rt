@@ -130,7 +130,7 @@ fn row_end(types: &[ColumnType], bytes: &[u8]) -> Result<usize, usize>
 }
 
 /// Bit i of a bitmap, the lowest bit of each byte first.
-fn is_set(bitmap: &[u8], i: usize) -> bool
+pub(crate) fn is_set(bitmap: &[u8], i: usize) -> bool
     ensures { result ≡ is_set bitmap.now i }
 {
     match bitmap.get(i / 8) {

@@ -1,9 +1,29 @@
 //! Rows events. MySQL Source Documentation, "Binlog Event", the page `binary_log::Rows_event`.
 
+ghost use Rattle.std.specs.Prelude.{◌+◌, ◌<◌, ◌≤◌, ◌^◌, length};
+
 /// What a rows event does to the rows of its table.
 #[derive(Clone, Copy, Debug, PartialEq, Eq)]
 pub enum RowsKind {
     Write,
     Update,
     Delete,
+}
+
+/// A rows event. It borrows the bytes of its rows.
+#[derive(Clone, Copy, Debug)]
+pub struct RowsEvent<'a> {
+    /// The table's number.
+    pub id: u64,
+    pub kind: RowsKind,
+    /// The number of columns, from 1 to 4,096.
+    pub columns: usize,
+    /// The bytes of its rows.
+    pub bytes: &'a [u8],
+    /// Where in the event the number of columns stands.
+    pub columns_at: usize,
+    /// Where in the event the rows stand.
+    pub bytes_at: usize,
+    ghost some_columns: { 1 ≤ columns },
+    ghost in_event: { bytes_at + length bytes.now < 2 ^ 32 },
 }

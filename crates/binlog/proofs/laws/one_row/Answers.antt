@@ -1,5 +1,5 @@
 use Rattle.binlog.proofs.Cuts.{IsBytes-all}
-use Rattle.binlog.proofs.Rows as lemma
+use Rattle.binlog.proofs.RowCells as lemma
 use Rattle.binlog.proofs.laws.one_row.Goals as goal
 
 pub returns-clause-some : goal.returns-clause-some

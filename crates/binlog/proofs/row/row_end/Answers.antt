@@ -2,7 +2,7 @@ use Rattle.std.proofs.Common.{◌≡◌, ◌<◌, ◌≤◌, Ok, Err, length, ta
 use Rattle.std.proofs.lemmas.List.{take_rest}
 use Rattle.binlog.specs.Shape.{shape, value_end}
 use Rattle.binlog.specs.Row.{bitmap_size}
-use Rattle.binlog.proofs.Rows.{Reached, short_bitmap, first_column, null_column, value_column, early_column}
+use Rattle.binlog.proofs.RowCells.{Reached, short_bitmap, first_column, null_column, value_column, early_column}
 use Rattle.binlog.proofs.row.row_end.Goals as goal
 
 pub returns-then-bytes-size : goal.returns-then-bytes-size

@@ -1,4 +1,4 @@
-use Rattle.binlog.proofs.Rows.{Reached}
+use Rattle.binlog.proofs.RowCells.{Reached}
 use Rattle.binlog.proofs.row.row_end.Given as goal
 
 abbrev pub invariant-loop-i : goal.invariant-loop-i

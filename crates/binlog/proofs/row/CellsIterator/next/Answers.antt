@@ -3,7 +3,7 @@ use Rattle.std.proofs.lemmas.Bool.{ltb-true}
 use Rattle.std.proofs.lemmas.List.{take_rest}
 use Rattle.binlog.specs.Shape.{shape, value_end, cell_of}
 use Rattle.binlog.specs.Row.{kinds, cells_of}
-use Rattle.binlog.proofs.Rows.{null_first, value_first, none_first, fewer}
+use Rattle.binlog.proofs.RowCells.{null_first, value_first, none_first, fewer}
 use Rattle.binlog.proofs.row.CellsIterator.next.Goals as goal
 
 pub returns-then-is_set-clause-steps : goal.returns-then-is_set-clause-steps

@@ -8,7 +8,7 @@ use Rattle.byteorder.specs.Endian.{little_bytes, little_number}
 use Rattle.byteorder.specs.Numbers.{little_number-reads_back, little_from-lt, length-bytes_low_first}
 use Rattle.binlog.specs.Cell.{CellValue, null_cell, number_cell, bytes_cell, is_null}
 use Rattle.binlog.specs.Shape.{shape, IsValue, value_end, cell_of}
-use Rattle.binlog.specs.Row.{kinds, bitmap_size, is_set, AreValues, IsRow, further, ◌>>=◌, values_end, row_end, cell_front, cells_of}
+use Rattle.binlog.specs.Row.{kinds, bitmap_size, is_set, AreValues, IsRow, further, ◌>>=◌, values_end, row_end, cell_front, cells_of, row_cells}
 use Rattle.binlog.specs.declared.column.ColumnKind.{ColumnKind}
 use Rattle.binlog.specs.declared.column.ColumnType.{ColumnType}
 use Rattle.binlog.specs.declared.shape.Shape.{Shape}
@@ -128,7 +128,7 @@ pub record Valued (s : Shape) (bytes : List ℕ) (size : ℕ) : Type 0 where
 sized : (s : Shape) (bytes : List ℕ) (a b : ℕ) → a ≡ b → Valued s bytes a → Valued s bytes b
 sized s bytes a b e v = subst (λ n. Valued s bytes n) e v
 
-value_is_there : (s : Shape) (bytes : List ℕ) (size : ℕ) → IsBytes bytes → value_end s bytes ≡ Ok size → Valued s bytes size
+pub value_is_there : (s : Shape) (bytes : List ℕ) (size : ℕ) → IsBytes bytes → value_end s bytes ≡ Ok size → Valued s bytes size
 value_is_there (Number width) bytes size fits is =
     elim (cases_lt (length bytes) width) as (λ _. Valued (Number width) bytes size) [
       | inl short ↦ (let e : value_end (Number width) bytes ≡ Err 0 = rw (lt-ltb _ _ short) refl in absurd cc)
@@ -219,7 +219,7 @@ are_values t types null_cell cells bytes first others not_null e is are = absurd
 are_values t types (number_cell n w) cells bytes first others not_null e is are = (first, others, e, is, are)
 are_values t types (bytes_cell v) cells bytes first others not_null e is are = (first, others, e, is, are)
 
-drop_bytes : (n : ℕ) (bytes : List ℕ) → IsBytes bytes → IsBytes (drop n bytes)
+pub drop_bytes : (n : ℕ) (bytes : List ℕ) → IsBytes bytes → IsBytes (drop n bytes)
 drop_bytes n bytes fits i = rw get_or-drop (fits (n + i))
 
 -- the rest of the values, where the first ends at a place
@@ -266,9 +266,6 @@ values_are_there bitmap i (t ∷ types) bytes size fits is = elim (cases_Bool (i
 
 -- ---- A row.
 
-abbrev pub row_cells : List ColumnKind → List ℕ → List CellValue
-row_cells types bytes = cells_of (take (bitmap_size (length types)) bytes) 0 types (drop (bitmap_size (length types)) bytes)
-
 -- A row is read to its end, whatever follows it,
 pub row_is_read : (types : List ColumnKind) (cells : List CellValue) (first rest : List ℕ) → IsRow types cells first → (row_end types (first ++ rest) ≡ Ok (length first)) × (row_cells types (first ++ rest) ≡ cells)
 unfolding row_end
@@ -285,7 +282,7 @@ row_is_read types cells first rest is =
       (λ i. cells_of (front i) 0 types (back i)) ∙ read.cells_are,
     )
 
-split_end : (size end : ℕ) (r : Result ℕ ℕ) → further size r ≡ Ok end → (n : ℕ) × (r ≡ Ok n) × (size + n ≡ end)
+pub split_end : (size end : ℕ) (r : Result ℕ ℕ) → further size r ≡ Ok end → (n : ℕ) × (r ≡ Ok n) × (size + n ≡ end)
 split_end size end (Ok n) is = let e : size + n ≡ end = cc in (n, refl, e)
 split_end size end (Err place) is = absurd cc
 

@@ -1,0 +1,32 @@
+-- The tables whose changes are taken: a plain set of names, of which the empty one means all.
+use Rattle.std.specs.Prelude.{ℕ, Bool, ◌||◌, ◌&&◌, List}
+use Rattle.std.specs.List.{list_any}
+use Rattle.std.specs.Str.{bytes_eq}
+use Rattle.std.specs.Ordering.{nat_cmp, ordering_then}
+use Rattle.std.specs.declared.cmp.Ordering.{Ordering}
+use Rattle.std.specs.Cmp.Lexicographic.{slice_cmp}
+use Rattle.std.specs.FinSet as set
+use Rattle.std.specs.Coded.{Coded, coded_list, coded_ℕ, coded×}
+
+-- a schema and a table
+abbrev pub Name : Type 0
+Name = List ℕ × List ℕ
+
+-- names by the bytes of their schema, and then by those of their table
+abbrev pub name_cmp : Name → Name → Ordering
+name_cmp a b = ordering_then (slice_cmp nat_cmp a.0 b.0) (slice_cmp nat_cmp a.1 b.1)
+
+-- a plain set of names
+abbrev pub Names : Type 0
+Names = set.FinSet name_cmp
+
+abbrev pub names_code : Coded Names
+names_code = set.code (coded× (coded_list coded_ℕ) (coded_list coded_ℕ))
+
+-- whether a name is one of the list's
+abbrev pub is_listed : Name → List Name → Bool
+is_listed name names = list_any (λ n. bytes_eq n.0 name.0 && bytes_eq n.1 name.1) names
+
+-- whether the changes of a table are taken
+abbrev pub follows : Names → List ℕ → List ℕ → Bool
+follows names schema table = set.is_subset names set.empty || set.contains names (schema, table)

@@ -1,0 +1,22 @@
+-- Rows events and their pairs, whatever memory holds them.
+use Rattle.std.specs.Prelude.{Result, Ok, Err}
+use Rattle.binlog.specs.Rows.{RowsValue, PairValue, inserted, deleted, updated}
+use Rattle.binlog.specs.declared.fault.EventFault.{EventFault}
+use Rattle.binlog.specs.declared.rows_event.RowsEvent.{RowsEvent}
+use Rattle.binlog.specs.declared.rows.RowPair.{RowPair}
+use Rattle.binlog.specs.declared.rows.RowPair.TheVariants.{Insert, Delete, Update}
+
+-- what a rows event says
+abbrev pub rows_value : RowsEvent → RowsValue
+rows_value e = record { id = e.id; kind = e.kind; columns = e.columns; bytes = e.bytes.now; columns_at = e.columns_at; bytes_at = e.bytes_at }
+
+-- what a pair says
+abbrev pub pair_value : RowPair → PairValue
+pair_value (Insert after) = inserted after
+pair_value (Delete before) = deleted before
+pair_value (Update before after) = updated before after
+
+-- what an item says: a pair or a fault
+abbrev pub item_value : Result RowPair EventFault → Result PairValue EventFault
+item_value (Ok pair) = Ok (pair_value pair)
+item_value (Err fault) = Err fault
