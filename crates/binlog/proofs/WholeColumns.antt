@@ -67,7 +67,8 @@ columned (code ∷ codes) place types bytes fits read none long =
     let others_sound : all_metadata_fault bytes next codes ≡ None = sym (only_line (all_metadata_fault bytes next codes)) ∙ lines.1 in
     let others = columned codes next (suc types) bytes fits (others_read code types codes read) others_sound (omega (arith, long, sum)) in
     let at_rest : Columned (columns_of codes h.rest) codes h.rest = subst (λ r. Columned (columns_of codes r) codes r) {x = drop next bytes} (sym rest_is) others in
-    subst (λ l. Columned l (code ∷ codes) (drop place bytes)) {x = h.kind ∷ columns_of codes h.rest} (sym (column_first h.kind code codes h.rest (drop place bytes) h.is_column))
+    let first : columns_of (code ∷ codes) (drop place bytes) ≡ h.kind ∷ columns_of codes h.rest = column_first h.kind code codes h.rest (drop place bytes) h.is_column in
+    subst (λ l. Columned l (code ∷ codes) (drop place bytes)) {x = h.kind ∷ columns_of codes h.rest} (sym {b = h.kind ∷ columns_of codes h.rest} first)
     (columned_cons h.kind code (columns_of codes h.rest) codes h.rest (drop place bytes) h.is_column at_rest)
 
 pub record Standing (bytes : List ℕ) (at : ℕ) : Type 0 where
