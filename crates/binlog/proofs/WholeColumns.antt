@@ -4,16 +4,17 @@ use Rattle.std.specs.Prelude.{flat_map, sum_by, nat_le}
 use Rattle.std.specs.List.{AllByRecursion}
 use Rattle.std.proofs.Math.Seq.{take-add}
 use Rattle.std.proofs.lemmas.Bool.{not-false, and_parts, leb-true, eqb-true}
-use Rattle.std.proofs.lemmas.List.{length-append, length-drop, length-take, length-map, get_or-drop, take_at, take-append-drop}
+use Rattle.std.proofs.lemmas.List.{length-append, length-drop, length-take, length-map, get_or-drop, take_at, take-append-drop, append-nil, map-append}
 use Rattle.std.proofs.lemmas.List.Sums.{sum_by-cons}
 use Rattle.wire.specs.Integer.{IsLengthEncoded}
 use Rattle.binlog.specs.Fault.{refuse, needs, first_of}
 use Rattle.binlog.specs.Count.{count_width, count_at, no_count}
-use Rattle.binlog.specs.Row.{bitmap_size}
+use Rattle.binlog.specs.Row.{bitmap_size, kinds}
 use Rattle.binlog.specs.Column.{type_code, metadata, is_lawful, IsColumn, metadata_fault, column_fault}
 use Rattle.binlog.specs.Table.{AreColumns, is_column_count, types_fault, metadata_length, at_place, all_metadata_fault, codes_at, measure_place, metadata_place, columns_fault}
 use Rattle.binlog.specs.Columns.{columns_of, columns_at, HasColumns}
 use Rattle.binlog.specs.declared.column.ColumnKind.{ColumnKind}
+use Rattle.binlog.specs.declared.column.ColumnType.{ColumnType}
 use Rattle.binlog.specs.declared.fault.EventFault.{EventFault}
 use Rattle.binlog.specs.declared.fault.EventFaultKind.{EventFaultKind}
 use Rattle.binlog.specs.declared.fault.EventFaultKind.TheVariants.{Columns, Metadata}
@@ -65,8 +66,9 @@ columned (code ∷ codes) place types bytes fits read none long =
     let rest_is : h.rest ≡ drop next bytes = sym (behind_metadata h.kind code h.rest (drop place bytes) h.is_column) ∙ drop_drop place (metadata_length code) bytes in
     let others_sound : all_metadata_fault bytes next codes ≡ None = sym (only_line (all_metadata_fault bytes next codes)) ∙ lines.1 in
     let others = columned codes next (suc types) bytes fits (others_read code types codes read) others_sound (omega (arith, long, sum)) in
-    let at_rest : Columned (columns_of codes h.rest) codes h.rest = subst (λ r. Columned (columns_of codes r) codes r) (sym rest_is) others in
-    subst (λ l. Columned l (code ∷ codes) (drop place bytes)) (sym (column_first h.kind code codes h.rest (drop place bytes) h.is_column))
+    let at_rest : Columned (columns_of codes h.rest) codes h.rest = subst (λ r. Columned (columns_of codes r) codes r) {x = drop next bytes} (sym rest_is) others in
+    let first : columns_of (code ∷ codes) (drop place bytes) ≡ h.kind ∷ columns_of codes h.rest = column_first h.kind code codes h.rest (drop place bytes) h.is_column in
+    subst (λ l. Columned l (code ∷ codes) (drop place bytes)) {x = h.kind ∷ columns_of codes h.rest} (sym {b = h.kind ∷ columns_of codes h.rest} first)
     (columned_cons h.kind code (columns_of codes h.rest) codes h.rest (drop place bytes) h.is_column at_rest)
 
 pub record Standing (bytes : List ℕ) (at : ℕ) : Type 0 where
@@ -226,3 +228,12 @@ columns_not_refused columns bytes at is = (columns_told columns bytes at is).fau
 
 pub not_both : (kinds : List ColumnKind) (bytes : List ℕ) (at : ℕ) (fault : EventFault) → AreColumns kinds (drop at bytes) → columns_fault bytes at ≡ Some fault → ⊥
 not_both kinds bytes at fault is is_fault = let none = columns_not_refused kinds bytes at is in absurd cc
+
+-- ---- Types into a vector.
+
+pub one_more : (types : List ColumnType) (t : ColumnType) (left rest self : List ColumnKind) → kinds types ++ left ≡ self → left ≡ t.kind ∷ rest → kinds (types ++ t ∷ []) ++ rest ≡ self
+one_more types t left rest self so_far first =
+    ap (λ l. l ++ rest) (map-append (λ (t : ColumnType). t.kind) types (t ∷ [])) ∙ append_assoc (kinds types) (t.kind ∷ []) rest ∙ ap (λ l. kinds types ++ l) (sym first) ∙ so_far
+
+pub no_more : (types : List ColumnType) (left self : List ColumnKind) → kinds types ++ left ≡ self → left ≡ [] → kinds types ≡ self
+no_more types left self so_far none = sym (append-nil (kinds types)) ∙ ap (λ l. kinds types ++ l) (sym none) ∙ so_far

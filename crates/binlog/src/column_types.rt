@@ -1,12 +1,15 @@
 //! The types of a table's columns. MySQL Source Documentation, "Binlog Event", the page
 //! `binary_log::Table_map_event`.
 
-ghost use Rattle.std.specs.Prelude.{◌≡◌, ℕ, ◌==◌, Bool, List, length};
+ghost use Rattle.std.specs.Prelude.{◌≡◌, ℕ, ◌==◌, Bool, List, length, IfOk, OnErr, Err};
 ghost use Rattle.std.specs.Iterator.{YieldsFirstBy, item_count};
 ghost use Rattle.binlog.specs.Row.{kinds};
 ghost use Rattle.binlog.specs.Columns.{columns_of};
+ghost use Rattle.binlog.specs.declared.fault.EventFaultKind.TheVariants.{Memory};
 
 use crate::column::ColumnType;
+use crate::fault::EventFault;
+use std::alloc::Global;
 use std::marker::Model;
 
 /// Where the types are.
@@ -95,6 +98,18 @@ impl<'a> ColumnTypes<'a> {
         ensures { result ≡ self.now }
     {
         ColumnTypesIter { left: self.columns }
+    }
+
+    /// The types in a vector. The only refusal is `Memory`.
+    pub fn to_vec(&self, alloc: Global) -> Result<Vec<ColumnType>, EventFault>
+        ensures ok { IfOk result (λ types. kinds types.items ≡ self.now) }
+        ensures err { OnErr result (result ≡ Err (record { kind = Memory; at = 0 })) }
+    {
+        let mut types = Vec::with_capacity(alloc, self.len())?;
+        for column in self.iter() {
+            types.push(column)?;
+        }
+        Ok(types)
     }
 }
 

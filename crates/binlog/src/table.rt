@@ -2,10 +2,11 @@
 
 ghost use Rattle.std.specs.Prelude.{◌≡◌, IfOk, OnErr, Err};
 ghost use Rattle.binlog.specs.Row.{kinds};
+ghost use Rattle.binlog.specs.declared.fault.EventFaultKind.TheVariants.{Memory};
 
 use crate::column::ColumnType;
 use crate::column_types::ColumnTypes;
-use crate::fault::{EventFault, EventFaultKind};
+use crate::fault::EventFault;
 use std::alloc::Global;
 
 /// A table map: which table the rows events behind it mean by a number. It borrows from the event's bytes.
@@ -51,5 +52,19 @@ impl TableDef {
             table: &self.table,
             columns: ColumnTypes::of(&self.types),
         }
+    }
+}
+
+impl TableMap<'_> {
+    /// The table that the map names, which outlives the event. The only refusal is `Memory`.
+    pub fn copy(&self, alloc: Global) -> Result<TableDef, EventFault>
+        ensures ok { IfOk result (λ copied. (copied.schema.items ≡ self.now.schema.now) × (copied.table.items ≡ self.now.table.now) × (kinds copied.types.items ≡ self.now.columns)) }
+        ensures err { OnErr result (result ≡ Err (record { kind = Memory; at = 0 })) }
+    {
+        Ok(TableDef {
+            schema: Vec::from_slice(alloc, self.schema)?,
+            table: Vec::from_slice(alloc, self.table)?,
+            types: self.columns.to_vec(alloc)?,
+        })
     }
 }

@@ -1,20 +1,26 @@
-use Rattle.std.proofs.Common.{rules, ◌≡◌, ℕ, ◌+◌, ◌<◌, ◌≤◌, ◌^◌, List, length, drop, IfOk, IfErr, OnOk, MatchResult, Some, None, sum_by, ◌-◌, ◌*◌, ◌/◌, ◌%◌, Bool, true, false, nat_eq, nat_lt, [], ◌∷◌, ◌++◌, slice_index_or, slice_set, bit_and, bit_or, Fits, w8, w32, w64, Bor, MutBor}
-use Rattle.binlog.specs.Table.{AreColumns, columns_fault, codes_at, metadata_place, metadata_length, types_fault, all_metadata_fault}
+use Rattle.std.proofs.Common.{◌≡◌, List, length, drop, sym, ap, subst, ◌∙◌, arith}
+use Rattle.binlog.specs.Table.{AreColumns, codes_at, metadata_place}
+use Rattle.binlog.specs.Columns.{columns_of, columns_at}
 use Rattle.binlog.specs.declared.column.ColumnKind.{ColumnKind}
+use Rattle.binlog.proofs.WholeColumns.{standing, as_many, columns_told, not_both}
 use Rattle.binlog.proofs.table_columns.read_columns.Goals as goal
 
--- src/table_columns.rt:26:29
 pub returns-in_err-codes-clause-only : goal.returns-in_err-codes-clause-only
-returns-in_err-codes-clause-only c = ?
+returns-in_err-codes-clause-only c kinds is = absurd (not_both kinds c.args.bytes.now c.args.at c.in_err-codes.field-0.0 is c.in_err-codes.ensures.fault)
 
--- src/table_columns.rt:27:8
 pub encoded-requires : goal.encoded-requires
-encoded-requires c = ?
+encoded-requires c =
+    let s = standing c.args.bytes.now c.args.at (λ i. omega (arith, c.type_inv.bytes i)) c.in_ok-codes.ensures.none in
+    (λ i. length (columns_of (c.in_ok-codes.ensures.codes i) (c.in_ok-codes.ensures.metadata i)))
+    ∙ as_many (columns_at c.args.bytes.now c.args.at) (codes_at c.args.bytes.now c.args.at) (drop (metadata_place c.args.bytes.now c.args.at) c.args.bytes.now) s.columned
+    ∙ sym (ap length c.in_ok-codes.ensures.codes)
 
--- src/table_columns.rt:19:1
 pub returns-clause-found : goal.returns-clause-found
-returns-clause-found c = ?
+returns-clause-found c =
+    let s = standing c.args.bytes.now c.args.at (λ i. omega (arith, c.type_inv.bytes i)) c.in_ok-codes.ensures.none in
+    let value : c.encoded.result ≡ columns_at c.args.bytes.now c.args.at = c.encoded.ensures ∙ (λ i. columns_of (c.in_ok-codes.ensures.codes i) (c.in_ok-codes.ensures.metadata i)) in
+    subst (λ (l : List ColumnKind). AreColumns l (drop c.args.at c.args.bytes.now)) (sym value) s.are
 
--- src/table_columns.rt:19:1
 pub returns-clause-only : goal.returns-clause-only
-returns-clause-only c = ?
+returns-clause-only c kinds is =
+    c.encoded.ensures ∙ (λ i. columns_of (c.in_ok-codes.ensures.codes i) (c.in_ok-codes.ensures.metadata i)) ∙ (columns_told kinds c.args.bytes.now c.args.at is).columns
