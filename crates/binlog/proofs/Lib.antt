@@ -9,4 +9,5 @@ pub mod Formats
 mod Counts
 mod RowsHead
 mod RowsItems
+mod RowsWritten
 mod Followed

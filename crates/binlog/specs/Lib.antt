@@ -9,5 +9,6 @@ pub mod Count
 pub mod Table
 pub mod Rows
 pub mod RowsView
+pub mod RowsWritten
 pub mod Follow
 pub mod FollowView

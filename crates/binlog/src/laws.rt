@@ -9,6 +9,7 @@ ghost use Rattle.binlog.specs.Header.{IsFramed, HasFrame, header_fault};
 ghost use Rattle.binlog.specs.Cell.{CellValue};
 ghost use Rattle.binlog.specs.Row.{IsRow, HasRow, row_end};
 ghost use Rattle.binlog.specs.Rows.{RowsValue, IsRows, HasRows, rows_fault, PairValue, AreRows, EndsEarly, AreItemsAt, HasItems};
+ghost use Rattle.binlog.specs.RowsWritten.{HaveRows, rows_bytes};
 ghost use Rattle.binlog.specs.declared.fault.EventFault.{EventFault};
 ghost use Rattle.binlog.specs.declared.rows_event.RowsKind.{RowsKind};
 ghost use Rattle.binlog.specs.declared.column.ColumnKind.{ColumnKind};
@@ -55,4 +56,9 @@ pub fn one_list_of_rows()
     ensures some { (kind : RowsKind) (types : List ColumnKind) (bytes : List ℕ) (at : ℕ) → AllByRecursion (λ b. b < 256) bytes → 1 ≤ length types → HasItems kind types bytes at }
     ensures items { (kind : RowsKind) (types : List ColumnKind) (bytes : List ℕ) (at : ℕ) (x y : List (Result PairValue EventFault)) → 1 ≤ length types →
         AreItemsAt kind types bytes at x → AreItemsAt kind types bytes at y → x ≡ y }
+{}
+
+/// Pairs that have rows are written as rows of theirs.
+pub fn written_rows()
+    ensures { (kind : RowsKind) (types : List ColumnKind) (pairs : List PairValue) → HaveRows kind types pairs → AreRows kind types pairs (rows_bytes types pairs) }
 {}
