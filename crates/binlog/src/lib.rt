@@ -20,10 +20,11 @@ mod row;
 mod rows;
 mod rows_event;
 mod rows_head;
+mod rows_writing;
 mod shape;
 
 pub use body::{Query, read_format, read_gtid, read_query, read_rotate, read_xid};
-pub use cell::Cell;
+pub use cell::{Cell, OwnedCell};
 pub use column::{ColumnKind, ColumnType};
 pub use fault::{EventFault, EventFaultKind};
 pub use follow::Follow;
@@ -31,6 +32,7 @@ pub use header::Header;
 pub use row::{Cells, Row};
 pub use rows::{RowPair, Rows};
 pub use rows_event::{RowsEvent, RowsKind};
+pub use rows_writing::{OwnedPair, rows_fit};
 
 #[cfg(test)]
 mod body_tests;
