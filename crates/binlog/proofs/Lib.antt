@@ -15,3 +15,8 @@ pub mod RowsHead
 pub mod RowsItems
 pub mod Followed
 pub mod Events
+mod Counts
+mod RowsHead
+mod RowsItems
+mod RowsWritten
+mod Followed

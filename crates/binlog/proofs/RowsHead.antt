@@ -118,9 +118,11 @@ presents_there Update bytes place n none =
     record {
       within = omega (arith, within);
       present = (
-        take (bitmap_size n) (drop place bytes), take (bitmap_size n) (drop (place + bitmap_size n) bytes),
+        take (bitmap_size n) (drop place bytes),
+        take (bitmap_size n) (drop (place + bitmap_size n) bytes),
         take-add (bitmap_size n) (bitmap_size n) (drop place bytes) ∙ ap (λ l. take (bitmap_size n) (drop place bytes) ++ take (bitmap_size n) l) (drop_drop place (bitmap_size n) bytes),
-        first.present, second.present,
+        first.present,
+        second.present,
       );
     }
 

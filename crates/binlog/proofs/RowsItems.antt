@@ -232,7 +232,8 @@ more_items kind types bytes at size pair items within is (inr are) =
     let place_is = e.place_is in
     let further_on : at + size + are.1 ≡ at + (size + are.1) = omega arith in
     inr (
-      pair ∷ are.0, size + are.1,
+      pair ∷ are.0,
+      size + are.1,
       record {
         whole = take size bytes ++ e.whole;
         rest = e.rest;
@@ -290,7 +291,7 @@ behind_rows (pair ∷ pairs) most kind types bytes rest at some are all =
     ∙ pair_first most kind types (first ++ tail) at (length first) some fits left read.0
     ∙ (λ i. Ok (read.1 i) ∷ items_of (length (behind i)) kind types (behind i) (at + length first))
     ∙ ap (λ l. Ok pair ∷ l) (behind_rows pairs (length tail) kind types are.1 rest (at + length first) some are.4 own
-        ∙ ap (λ k. map Ok pairs ++ items_of (length rest) kind types rest k) place)
+    ∙ ap (λ k. map Ok pairs ++ items_of (length rest) kind types rest k) place)
 
 rows_items : (kind : RowsKind) (types : List ColumnKind) (pairs : List PairValue) (bytes : List ℕ) (at : ℕ) → 1 ≤ length types → AreRows kind types pairs bytes → items_of (length bytes) kind types bytes at ≡ map Ok pairs
 rows_items kind types pairs bytes at some are =

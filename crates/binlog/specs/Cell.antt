@@ -1,7 +1,9 @@
 -- Cells, whatever memory holds them.
-use Rattle.std.specs.Prelude.{ℕ, Bool, true, false, List}
+use Rattle.std.specs.Prelude.{ℕ, Bool, true, false, List, map}
 use Rattle.binlog.specs.declared.cell.Cell.{Cell}
 use Rattle.binlog.specs.declared.cell.Cell.TheVariants.{Null, Number, Bytes}
+use Rattle.binlog.specs.declared.cell.OwnedCell.{OwnedCell}
+use Rattle.binlog.specs.declared.cell.OwnedCell.TheVariants.{Null as OwnNull, Number as OwnNumber, Bytes as OwnBytes}
 
 -- a cell: null, a whole number of so many bytes, or bytes
 pub data CellValue : Type 0 where
@@ -18,3 +20,11 @@ abbrev pub cell_value : Cell → CellValue
 cell_value Null = null_cell
 cell_value (Number value width) = number_cell value width
 cell_value (Bytes value) = bytes_cell value.now
+
+abbrev pub owned_value : OwnedCell → CellValue
+owned_value OwnNull = null_cell
+owned_value (OwnNumber value width) = number_cell value width
+owned_value (OwnBytes value) = bytes_cell value.items
+
+abbrev pub owned_values : List OwnedCell → List CellValue
+owned_values cells = map owned_value cells

@@ -9,6 +9,7 @@ pub mod Count
 pub mod Table
 pub mod Rows
 pub mod RowsView
+pub mod RowsWritten
 pub mod Follow
 pub mod FollowView
 pub mod Event

@@ -1,10 +1,13 @@
 -- Rows events and their pairs, whatever memory holds them.
-use Rattle.std.specs.Prelude.{Result, Ok, Err}
+use Rattle.std.specs.Prelude.{List, map, Result, Ok, Err}
+use Rattle.binlog.specs.Cell.{owned_values}
 use Rattle.binlog.specs.Rows.{RowsValue, PairValue, inserted, deleted, updated}
 use Rattle.binlog.specs.declared.fault.EventFault.{EventFault}
 use Rattle.binlog.specs.declared.rows_event.RowsEvent.{RowsEvent}
 use Rattle.binlog.specs.declared.rows.RowPair.{RowPair}
 use Rattle.binlog.specs.declared.rows.RowPair.TheVariants.{Insert, Delete, Update}
+use Rattle.binlog.specs.declared.rows_writing.OwnedPair.{OwnedPair}
+use Rattle.binlog.specs.declared.rows_writing.OwnedPair.TheVariants.{Insert as OwnInsert, Delete as OwnDelete, Update as OwnUpdate}
 
 -- what a rows event says
 abbrev pub rows_value : RowsEvent → RowsValue
@@ -20,3 +23,12 @@ pair_value (Update before after) = updated before after
 abbrev pub item_value : Result RowPair EventFault → Result PairValue EventFault
 item_value (Ok pair) = Ok (pair_value pair)
 item_value (Err fault) = Err fault
+
+-- the same of a pair with cells of its own
+abbrev pub owned_pair : OwnedPair → PairValue
+owned_pair (OwnInsert after) = inserted (owned_values after.items)
+owned_pair (OwnDelete before) = deleted (owned_values before.items)
+owned_pair (OwnUpdate before after) = updated (owned_values before.items) (owned_values after.items)
+
+abbrev pub owned_pairs : List OwnedPair → List PairValue
+owned_pairs pairs = map owned_pair pairs

@@ -13,6 +13,7 @@ ghost use Rattle.binlog.specs.Columns.{HasNames, HasColumns};
 ghost use Rattle.binlog.specs.Rows.{RowsValue, IsRows, HasRows, rows_fault, PairValue, AreRows, EndsEarly, AreItemsAt, HasItems};
 ghost use Rattle.binlog.specs.Follow.{Names};
 ghost use Rattle.binlog.specs.Event.{EventValue, IsEvent, HasEvent, event_fault};
+ghost use Rattle.binlog.specs.RowsWritten.{HaveRows, rows_bytes};
 ghost use Rattle.binlog.specs.declared.fault.EventFault.{EventFault};
 ghost use Rattle.binlog.specs.declared.rows_event.RowsKind.{RowsKind};
 ghost use Rattle.binlog.specs.declared.column.ColumnKind.{ColumnKind};
@@ -83,4 +84,7 @@ pub fn one_event()
     ensures some { (names : Names) (bytes : List ℕ) → AllByRecursion (λ b. b < 256) bytes → event_fault names bytes ≡ None → HasEvent names bytes }
     ensures no_fault { (names : Names) (e : EventValue) (bytes : List ℕ) → IsEvent names e bytes → event_fault names bytes ≡ None }
     ensures one { (names : Names) (a b : EventValue) (bytes : List ℕ) → IsEvent names a bytes → IsEvent names b bytes → a ≡ b }
+/// Pairs that have rows are written as rows of theirs.
+pub fn written_rows()
+    ensures { (kind : RowsKind) (types : List ColumnKind) (pairs : List PairValue) → HaveRows kind types pairs → AreRows kind types pairs (rows_bytes types pairs) }
 {}

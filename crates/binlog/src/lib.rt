@@ -23,12 +23,13 @@ mod row;
 mod rows;
 mod rows_event;
 mod rows_head;
+mod rows_writing;
 mod shape;
 mod table;
 mod table_columns;
 
 pub use body::{Query, read_format, read_gtid, read_query, read_rotate, read_xid};
-pub use cell::Cell;
+pub use cell::{Cell, OwnedCell};
 pub use column::{ColumnKind, ColumnType};
 pub use column_types::{ColumnTypes, ColumnTypesIter};
 pub use event::{Event, read_event, read_event_only};
@@ -39,6 +40,7 @@ pub use row::{Cells, Row};
 pub use table::{TableDef, TableMap};
 pub use rows::{RowPair, Rows};
 pub use rows_event::{RowsEvent, RowsKind};
+pub use rows_writing::{OwnedPair, rows_fit};
 
 #[cfg(test)]
 mod body_tests;

@@ -122,7 +122,11 @@ impl<'a> RowPair<'a> {
 
     /// Reads the pair at the front of the bytes: the pair, and how many bytes it takes. Where a part of it does not
     /// fit, the answer is the place of that part.
-    fn read(kind: RowsKind, types: &'a [ColumnType], bytes: &'a [u8]) -> Result<(RowPair<'a>, usize), usize>
+    fn read(
+        kind: RowsKind,
+        types: &'a [ColumnType],
+        bytes: &'a [u8],
+    ) -> Result<(RowPair<'a>, usize), usize>
         requires { length bytes.now < 2 ^ 32 }
         ensures pair { IfOk result (λ read. pair_value read.0 ≡ pair_of kind (kinds types.now) bytes.now) }
         ensures end { IfOk result (λ read. pair_end kind (kinds types.now) bytes.now ≡ Ok read.1) }

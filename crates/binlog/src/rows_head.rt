@@ -69,7 +69,12 @@ pub(crate) fn read_rows(kind: RowsKind, bytes: &[u8]) -> Result<RowsEvent<'_>, E
 }
 
 /// Reads the bitmaps of present columns at a place: where they end.
-fn read_presents(kind: RowsKind, bytes: &[u8], at: usize, columns: usize) -> Result<usize, EventFault>
+fn read_presents(
+    kind: RowsKind,
+    bytes: &[u8],
+    at: usize,
+    columns: usize,
+) -> Result<usize, EventFault>
     requires place { at ≤ length bytes.now }
     requires within { length bytes.now < 2 ^ 32 }
     requires columns { columns ≤ 4096 }

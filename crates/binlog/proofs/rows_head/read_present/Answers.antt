@@ -14,7 +14,7 @@ returns-then-not-is_set-clause-fault c =
     let clear = sym c.is_set.ensures ∙ c.if-not-is_set.true in
     present_partial c.args.bytes.now c.args.at c.args.columns within
     (not_full c.args.columns c.loop-i.i (take (bitmap_size c.args.columns) (drop c.args.at c.args.bytes.now)) c.loop-i-test.true
-      (subst (λ n. is_set (take n (drop c.args.at c.args.bytes.now)) c.loop-i.i ≡ false) size clear))
+    (subst (λ n. is_set (take n (drop c.args.at c.args.bytes.now)) c.loop-i.i ≡ false) size clear))
 
 pub loop-i-preserved : goal.loop-i-preserved
 loop-i-preserved c = one_more c.loop-i.i (is_set (take (c.args.at + c.div_ceil.result - c.args.at) (drop c.args.at c.args.bytes.now))) c.loop-i.invariant (sym c.is_set.ensures ∙ c.if-not-is_set.false)
@@ -25,4 +25,4 @@ returns-clause-whole c =
     let within : c.args.at + bitmap_size c.args.columns ≤ length c.args.bytes.now = omega (arith, c.if-bytes-end.false, c.div_ceil.ensures) in
     present_whole c.args.bytes.now c.args.at c.args.columns within
     (full c.args.columns (take (bitmap_size c.args.columns) (drop c.args.at c.args.bytes.now))
-      (λ i below. subst (λ n. is_set (take n (drop c.args.at c.args.bytes.now)) i ≡ true) size (c.loop-i.invariant i (omega (arith, below, c.loop-i-test.false)))))
+    (λ i below. subst (λ n. is_set (take n (drop c.args.at c.args.bytes.now)) i ≡ true) size (c.loop-i.invariant i (omega (arith, below, c.loop-i-test.false)))))

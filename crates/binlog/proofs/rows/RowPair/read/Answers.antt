@@ -41,7 +41,7 @@ returns-in-Ok-clause-pair c =
     let after = c.in-Ok.ensures.found in
     let within : c.in-Ok.rest ≤ length (drop c.in_ok-row.size c.args.bytes.now) = rw take_rest at c.in-Ok.ensures.within in
     sym (both_rows (kinds c.args.types.now) c.in_ok-row.row c.in-Ok.after c.args.bytes.now c.in_ok-row.size c.in-Ok.rest c.in_ok-row.ensures.within c.in_ok-row.ensures.found within
-      (subst (λ l. IsRow (kinds c.args.types.now) c.in-Ok.after (take c.in-Ok.rest l)) rest after)).1 ∙ ap (λ k. pair_of k (kinds c.args.types.now) c.args.bytes.now) (sym c.in-Update.is)
+    (subst (λ l. IsRow (kinds c.args.types.now) c.in-Ok.after (take c.in-Ok.rest l)) rest after)).1 ∙ ap (λ k. pair_of k (kinds c.args.types.now) c.args.bytes.now) (sym c.in-Update.is)
 
 pub returns-in-Ok-clause-end : goal.returns-in-Ok-clause-end
 returns-in-Ok-clause-end c =
@@ -50,7 +50,7 @@ returns-in-Ok-clause-end c =
     let within : c.in-Ok.rest ≤ length (drop c.in_ok-row.size c.args.bytes.now) = rw take_rest at c.in-Ok.ensures.within in
     ap (λ k. pair_end k (kinds c.args.types.now) c.args.bytes.now) c.in-Update.is ∙
     (both_rows (kinds c.args.types.now) c.in_ok-row.row c.in-Ok.after c.args.bytes.now c.in_ok-row.size c.in-Ok.rest c.in_ok-row.ensures.within c.in_ok-row.ensures.found within
-      (subst (λ l. IsRow (kinds c.args.types.now) c.in-Ok.after (take c.in-Ok.rest l)) rest after)).0
+    (subst (λ l. IsRow (kinds c.args.types.now) c.in-Ok.after (take c.in-Ok.rest l)) rest after)).0
 
 pub returns-in-Err-clause-fault : goal.returns-in-Err-clause-fault
 returns-in-Err-clause-fault c =

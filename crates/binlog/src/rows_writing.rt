@@ -1,0 +1,118 @@
+//! Rows as bytes. MySQL Source Documentation, "Binlog Event", the page `binary_log::Rows_event`.
+
+ghost use Rattle.std.specs.Prelude.{◌≡◌, ◌<◌, ◌≤◌, ◌^◌, ◌↔◌, nat_lt, IsTrue};
+ghost use Rattle.binlog.specs.Cell.{owned_value, owned_values};
+ghost use Rattle.binlog.specs.Row.{kinds};
+ghost use Rattle.binlog.specs.RowsView.{owned_pair, owned_pairs};
+ghost use Rattle.binlog.specs.RowsWritten.{HaveRows, value_fits, row_fits, pair_fits};
+ghost use Rattle.binlog.specs.Shape.{is_readable};
+
+use crate::cell::OwnedCell;
+use crate::column::ColumnType;
+use crate::rows_event::RowsKind;
+use crate::shape::{Shape, shape_of};
+
+/// What a rows event says of one row, with cells of its own.
+#[derive(Debug, Drop)]
+pub enum OwnedPair {
+    Insert {
+        after: Vec<OwnedCell>,
+    },
+    Delete {
+        before: Vec<OwnedCell>,
+    },
+    Update {
+        before: Vec<OwnedCell>,
+        after: Vec<OwnedCell>,
+    },
+}
+
+/// Whether some bytes are the rows of the pairs: each pair is of the event's kind, each row has a cell for each
+/// column, and each cell is null or of its column's size.
+pub fn rows_fit(kind: RowsKind, types: &[ColumnType], pairs: &[OwnedPair]) -> bool
+    ensures { IsTrue result ↔ HaveRows kind (kinds types.now) (owned_pairs pairs.now) }
+{
+    for i in 0..pairs.len() {
+        if !pair_fits(kind, types, &pairs[i]) {
+            return false;
+        }
+    }
+    true
+}
+
+/// Whether some bytes are the rows of the pair.
+fn pair_fits(kind: RowsKind, types: &[ColumnType], pair: &OwnedPair) -> bool
+    ensures { result ≡ pair_fits kind (kinds types.now) (owned_pair pair.now) }
+{
+    match kind {
+        RowsKind::Write => match pair {
+            OwnedPair::Insert { after } => row_fits(types, after),
+            _ => false,
+        },
+        RowsKind::Delete => match pair {
+            OwnedPair::Delete { before } => row_fits(types, before),
+            _ => false,
+        },
+        RowsKind::Update => match pair {
+            OwnedPair::Update { before, after } => row_fits(types, before) && row_fits(types, after),
+            _ => false,
+        },
+    }
+}
+
+/// Whether some bytes are the row of the cells.
+fn row_fits(types: &[ColumnType], cells: &[OwnedCell]) -> bool
+    ensures { result ≡ row_fits (kinds types.now) (owned_values cells.now) }
+{
+    if types.len() != cells.len() {
+        return false;
+    }
+    for i in 0..types.len() {
+        if !value_fits(shape_of(types[i]), &cells[i]) {
+            return false;
+        }
+    }
+    true
+}
+
+/// Whether the cell is null, or has a value of this shape.
+fn value_fits(shape: Shape, cell: &OwnedCell) -> bool
+    requires { IsTrue (is_readable shape) }
+    ensures { result ≡ value_fits shape (owned_value cell.now) }
+{
+    match cell {
+        OwnedCell::Null => true,
+        OwnedCell::Number { value, width } => match shape {
+            Shape::Number { width: size } => {
+                if *width != size {
+                    return false;
+                }
+                is_below(*value, size as usize)
+            }
+            _ => false,
+        },
+        OwnedCell::Bytes(bytes) => match shape {
+            Shape::Number { .. } => false,
+            Shape::Fixed { size } => bytes.len() == size,
+            Shape::Prefixed { size } => is_below(bytes.len() as u64, size),
+        },
+    }
+}
+
+/// Whether a number can be written in so many bytes.
+fn is_below(value: u64, size: usize) -> bool
+    requires low { 1 ≤ size }
+    requires high { size ≤ 8 }
+    ensures { result ≡ nat_lt value (256 ^ size) }
+{
+    match size {
+        1 => value < 0x100,
+        2 => value < 0x1_0000,
+        3 => value < 0x100_0000,
+        4 => value < 0x1_0000_0000,
+        5 => value < 0x100_0000_0000,
+        6 => value < 0x1_0000_0000_0000,
+        7 => value < 0x100_0000_0000_0000,
+        _ => true,
+    }
+}
