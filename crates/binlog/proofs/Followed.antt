@@ -76,6 +76,3 @@ follow_by count (name ∷ names) schema table empty is counts = (
 -- with the empty set all are followed
 pub all_follow : (schema table : List ℕ) → follows set.empty schema table ≡ true
 all_follow schema table = ap (λ b. b || set.contains (set.from_list {R = name_cmp} []) (schema, table)) all_of_none
-  (λ yes. absurd (false≢true (sym (is ∙ ap (λ n. n == 0) counts ∙ not_none (length names)) ∙ yes))),
-  (λ _. ap (λ b. b || set.contains (set.from_list {R = name_cmp} (name ∷ names)) (schema, table)) (some_name name names) ∙ listed (name ∷ names) (schema, table)),
-)

@@ -15,8 +15,4 @@ pub mod RowsHead
 pub mod RowsItems
 pub mod Followed
 pub mod Events
-mod Counts
-mod RowsHead
-mod RowsItems
-mod RowsWritten
-mod Followed
+pub mod RowsWritten

@@ -17,3 +17,4 @@ pub mod EventView
 pub mod Columns
 pub mod ColumnsView
 pub mod TableView
+pub mod Writing

@@ -84,6 +84,8 @@ pub fn one_event()
     ensures some { (names : Names) (bytes : List ℕ) → AllByRecursion (λ b. b < 256) bytes → event_fault names bytes ≡ None → HasEvent names bytes }
     ensures no_fault { (names : Names) (e : EventValue) (bytes : List ℕ) → IsEvent names e bytes → event_fault names bytes ≡ None }
     ensures one { (names : Names) (a b : EventValue) (bytes : List ℕ) → IsEvent names a bytes → IsEvent names b bytes → a ≡ b }
+{}
+
 /// Pairs that have rows are written as rows of theirs.
 pub fn written_rows()
     ensures { (kind : RowsKind) (types : List ColumnKind) (pairs : List PairValue) → HaveRows kind types pairs → AreRows kind types pairs (rows_bytes types pairs) }
