@@ -16,3 +16,4 @@ pub mod RowsItems
 pub mod Followed
 pub mod Events
 pub mod RowsWritten
+pub mod Framed

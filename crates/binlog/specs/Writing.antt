@@ -7,8 +7,8 @@ use Rattle.wire.specs.Integer.{length_encoded}
 use Rattle.binlog.specs.Column.{type_code, metadata}
 use Rattle.binlog.specs.Row.{bitmap_size}
 use Rattle.binlog.specs.Body.{statement}
-use Rattle.binlog.specs.Table.{TableValue}
-use Rattle.binlog.specs.Rows.{RowsValue, rows_code, presents_size}
+use Rattle.binlog.specs.Table.{TableValue, IsTableMap}
+use Rattle.binlog.specs.Rows.{RowsValue, IsRows, rows_code, presents_size}
 use Rattle.binlog.specs.RowsWritten.{bitmap_bytes}
 use Rattle.binlog.specs.Event.{EventValue, format, begin, commit, neutral, stop, rotate, gtid, table_map, other_map, rows, xid, IsEvent}
 use Rattle.binlog.specs.declared.body.Query.TheVariants.{Begin, Commit}
@@ -19,6 +19,15 @@ use Rattle.binlog.specs.declared.rows_event.RowsKind.TheVariants.{Write, Update,
 pub record IsWritable (e : EventValue) : Type 0 where
   pub bytes : List ℕ
   pub is_event : IsEvent set.empty e bytes
+
+-- the table map that some body is, and the rows event
+pub record HasMap (t : TableValue) : Type 0 where
+  pub body : List ℕ
+  pub is_map : IsTableMap t body
+
+pub record HasRowsBody (r : RowsValue) : Type 0 where
+  pub body : List ℕ
+  pub is_rows : IsRows r body
 
 -- a header: no time, server 1, no next position, no flags
 abbrev pub header_bytes : ℕ → ℕ → List ℕ
@@ -67,20 +76,37 @@ rows_body r =
     let width = r.bytes_at - r.columns_at - presents_size r.kind r.columns in
     little_bytes 6 r.id ++ 1 ∷ 0 ∷ little_bytes 2 (2 + extra) ++ replicate extra 0 ++ count_bytes width r.columns ++ presents_bytes r.kind r.columns ++ r.bytes
 
--- a header and this body
+-- the type that is written; of a neutral event IGNORABLE
+abbrev pub event_code : EventValue → ℕ
+event_code format = 15
+event_code begin = 2
+event_code commit = 2
+event_code neutral = 28
+event_code stop = 3
+event_code (rotate position name) = 4
+event_code (gtid source number) = 33
+event_code (table_map t) = 19
+event_code (other_map id) = 19
+event_code (rows r) = rows_code r.kind
+event_code (xid number) = 16
+
+-- the body; a table map of a table that is not followed has none
+abbrev pub event_body : EventValue → List ℕ
+event_body format = format_body
+event_body begin = query_body (statement Begin)
+event_body commit = query_body (statement Commit)
+event_body neutral = []
+event_body stop = []
+event_body (rotate position name) = little_bytes 8 position ++ name
+event_body (gtid source number) = gtid_body source number
+event_body (table_map t) = table_map_body t
+event_body (other_map id) = []
+event_body (rows r) = rows_body r
+event_body (xid number) = little_bytes 8 number
+
+-- an event with this body
 abbrev pub framed_bytes : ℕ → List ℕ → List ℕ
 framed_bytes code body = header_bytes code (19 + length body) ++ body
 
--- an event; a neutral one is IGNORABLE without a body, and a table map of a table that is not followed is none
 abbrev pub event_bytes : EventValue → List ℕ
-event_bytes format = framed_bytes 15 format_body
-event_bytes begin = framed_bytes 2 (query_body (statement Begin))
-event_bytes commit = framed_bytes 2 (query_body (statement Commit))
-event_bytes neutral = framed_bytes 28 []
-event_bytes stop = framed_bytes 3 []
-event_bytes (rotate position name) = framed_bytes 4 (little_bytes 8 position ++ name)
-event_bytes (gtid source number) = framed_bytes 33 (gtid_body source number)
-event_bytes (table_map t) = framed_bytes 19 (table_map_body t)
-event_bytes (other_map id) = []
-event_bytes (rows r) = framed_bytes (rows_code r.kind) (rows_body r)
-event_bytes (xid number) = framed_bytes 16 (little_bytes 8 number)
+event_bytes e = framed_bytes (event_code e) (event_body e)

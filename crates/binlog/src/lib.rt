@@ -18,15 +18,18 @@ mod fault;
 mod follow;
 mod header;
 pub mod laws;
+mod map_writing;
 mod names;
 mod row;
 mod rows;
 mod rows_event;
+mod rows_event_writing;
 mod rows_head;
 mod rows_writing;
 mod shape;
 mod table;
 mod table_columns;
+mod writing;
 
 pub use body::{Query, read_format, read_gtid, read_query, read_rotate, read_xid};
 pub use cell::{Cell, OwnedCell};
