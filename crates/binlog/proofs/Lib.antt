@@ -17,3 +17,5 @@ pub mod Followed
 pub mod Events
 pub mod RowsWritten
 pub mod Framed
+pub mod Temp
+pub mod Written

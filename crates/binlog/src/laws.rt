@@ -3,6 +3,7 @@
 //! A law is a function with an empty body: its clauses are proved of the definitions themselves.
 
 ghost use Rattle.std.specs.Prelude.{◌≡◌, ℕ, ◌<◌, ◌≤◌, ◌++◌, Bool, List, length, drop, Some, None, Result, Ok};
+ghost use Rattle.std.specs.FinSet as set;
 ghost use Rattle.std.specs.List.{AllByRecursion};
 ghost use Rattle.binlog.specs.Column.{type_code, metadata, IsColumn, HasColumn, metadata_size, column_fault};
 ghost use Rattle.binlog.specs.Header.{IsFramed, HasFrame, header_fault};
@@ -14,6 +15,7 @@ ghost use Rattle.binlog.specs.Rows.{RowsValue, IsRows, HasRows, rows_fault, Pair
 ghost use Rattle.binlog.specs.Follow.{Names};
 ghost use Rattle.binlog.specs.Event.{EventValue, IsEvent, HasEvent, event_fault};
 ghost use Rattle.binlog.specs.RowsWritten.{HaveRows, rows_bytes};
+ghost use Rattle.binlog.specs.Writing.{IsWritable, event_bytes};
 ghost use Rattle.binlog.specs.declared.fault.EventFault.{EventFault};
 ghost use Rattle.binlog.specs.declared.rows_event.RowsKind.{RowsKind};
 ghost use Rattle.binlog.specs.declared.column.ColumnKind.{ColumnKind};
@@ -89,4 +91,9 @@ pub fn one_event()
 /// Pairs that have rows are written as rows of theirs.
 pub fn written_rows()
     ensures { (kind : RowsKind) (types : List ColumnKind) (pairs : List PairValue) → HaveRows kind types pairs → AreRows kind types pairs (rows_bytes types pairs) }
+{}
+
+/// What is written of an event is that event. So what is written is read again as the same value.
+pub fn written_event()
+    ensures { (e : EventValue) → IsWritable e → IsEvent set.empty e (event_bytes e) }
 {}

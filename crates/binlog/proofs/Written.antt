@@ -1,0 +1,131 @@
+-- What is written of an event is that event.
+use Rattle.std.proofs.Common.{◌≡◌, ℕ, ◌+◌, ◌-◌, ◌<◌, ◌≤◌, ◌^◌, Bool, true, false, List, [], ◌∷◌, ◌++◌, length, replicate, codes, drop, refl, sym, ap, subst, ◌∙◌, append_assoc, arith, inl, inr}
+use Rattle.std.proofs.lemmas.Bool.{false≢true}
+use Rattle.std.proofs.lemmas.List.{length-append, length-drop, append-nil}
+use Rattle.std.specs.FinSet as set
+use Rattle.byteorder.specs.Endian.{little_bytes}
+use Rattle.binlog.specs.Header.{IsFramed}
+use Rattle.binlog.specs.Body.{IsFormat, IsRotate, IsXid, IsGtid, IsQuery, statement}
+use Rattle.binlog.specs.Table.{TableValue, IsTableMap}
+use Rattle.binlog.specs.Rows.{RowsValue, IsRows, rows_code}
+use Rattle.binlog.specs.Follow.{Names, follows}
+use Rattle.binlog.specs.Event.{EventValue, format, begin, commit, neutral, stop, rotate, gtid, table_map, other_map, rows, xid, IsOtherMap, HasBody, IsEvent}
+use Rattle.binlog.specs.Writing.{IsWritable, HasMap, HasRowsBody, header_bytes, format_body, query_body, gtid_body, table_map_body, rows_body, event_code, event_body, framed_bytes, event_bytes}
+use Rattle.binlog.specs.declared.body.Query.{Query}
+use Rattle.binlog.specs.declared.body.Query.TheVariants.{Begin, Commit}
+use Rattle.binlog.proofs.Headers as headers
+use Rattle.binlog.proofs.Followed.{all_follow}
+use Rattle.binlog.proofs.Temp.{map_written, map_short, rows_written, rows_long}
+
+-- ---- Frames.
+
+pub is_framed : (code : ℕ) (body : List ℕ) → 19 + length body < 2 ^ 32 → IsFramed code false body (framed_bytes code body)
+is_framed code body small =
+    let size : length (framed_bytes code body) ≡ 19 + length body = length-append (header_bytes code (19 + length body)) body in
+    record {
+      timestamp = replicate 4 0;
+      server_id = 1 ∷ replicate 3 0;
+      position = replicate 4 0;
+      low_flags = 0;
+      high_flags = 0;
+      bytes_are = ap (λ n. header_bytes code n ++ body) (sym size);
+      sizes = (refl, refl, refl);
+      a_size = omega (arith, size, small);
+      marked = refl;
+    }
+
+-- the length of framed bytes
+framed_length : (code : ℕ) (may_ignore : Bool) (body bytes : List ℕ) → IsFramed code may_ignore body bytes → length bytes ≡ 19 + length body
+framed_length code may_ignore body bytes is =
+    let t = headers.told code may_ignore body bytes is in
+    let long = t.long in
+    omega (arith, long, ap length t.body_is, length-drop 19 bytes)
+
+frame_long : (code : ℕ) (may_ignore : Bool) (body bytes : List ℕ) → IsFramed code may_ignore body bytes → 19 + length body < 2 ^ 32
+frame_long code may_ignore body bytes is = omega (arith, is.a_size, framed_length code may_ignore body bytes is)
+
+-- ---- Bodies.
+
+format_written : IsFormat format_body
+format_written = record {
+  server_version = codes "8.0.36" ++ replicate 44 0;
+  time = replicate 4 0;
+  lengths = 0 ∷ 13 ∷ 0 ∷ 8 ∷ replicate 14 0 ++ 8 ∷ replicate 10 0 ++ 10 ∷ 10 ∷ 10 ∷ 0 ∷ 0 ∷ 0 ∷ [];
+  unread = replicate 4 0;
+  body_is = refl;
+  sizes = (refl, refl, refl, omega arith);
+  query = refl;
+  rotate = refl;
+  table_map = refl;
+  rows = (refl, refl, refl);
+}
+
+query_written : (text : List ℕ) → IsQuery text (query_body text)
+query_written text = record {
+  thread = replicate 4 0;
+  time = replicate 4 0;
+  error = replicate 2 0;
+  status = [];
+  schema = [];
+  terminator = 0;
+  body_is = refl;
+  sizes = (refl, refl, refl, omega arith, omega arith);
+}
+
+gtid_written : (source : List ℕ) (number : ℕ) (body : List ℕ) → IsGtid source number body → IsGtid source number (gtid_body source number)
+gtid_written source number body is = record {
+  flags = 0;
+  ignored = [];
+  body_is = sym (append-nil (gtid_body source number));
+  source_length = is.source_length;
+  in_range = is.in_range;
+}
+
+not_other : (id : ℕ) (body : List ℕ) → IsOtherMap set.empty id body → ⊥
+not_other id body is = false≢true (sym is.other ∙ all_follow is.schema is.table)
+
+-- the body that is written, of some event
+pub body_written : (e : EventValue) (code : ℕ) (may_ignore : Bool) (body : List ℕ) → HasBody set.empty e code may_ignore body → HasBody set.empty e (event_code e) false (event_body e)
+body_written format code may_ignore body is = (refl, format_written)
+body_written begin code may_ignore body is = (refl, query_written (statement Begin))
+body_written commit code may_ignore body is = (refl, query_written (statement Commit))
+body_written neutral code may_ignore body is = inl refl
+body_written stop code may_ignore body is = refl
+body_written (rotate position name) code may_ignore body (is, of) = (refl, (of.0, refl))
+body_written (gtid source number) code may_ignore body (is, of) = (refl, gtid_written source number body of)
+body_written (table_map t) code may_ignore body (is, of, followed) = (refl, map_written t (record { body = body; is_map = of }), all_follow t.schema t.table)
+body_written (other_map id) code may_ignore body (is, of) = absurd (not_other id body of)
+body_written (rows r) code may_ignore body (is, of) = (refl, rows_written r (record { body = body; is_rows = of }))
+body_written (xid number) code may_ignore body (is, of) = (refl, (of.0, refl))
+
+-- it is no longer than that
+pub body_short : (e : EventValue) (code : ℕ) (may_ignore : Bool) (body : List ℕ) → 19 + length body < 2 ^ 32 → HasBody set.empty e code may_ignore body → 19 + length (event_body e) < 2 ^ 32
+body_short format code may_ignore body small is = omega arith
+body_short begin code may_ignore body small is = omega arith
+body_short commit code may_ignore body small is = omega arith
+body_short neutral code may_ignore body small is = omega arith
+body_short stop code may_ignore body small is = omega arith
+body_short (rotate position name) code may_ignore body small (is, of) = omega (arith, small, ap length of.1)
+body_short (gtid source number) code may_ignore body small (is, of) = omega (arith, of.source_length, length-append (0 ∷ source) (little_bytes 8 number))
+body_short (table_map t) code may_ignore body small (is, of, followed) = omega (arith, map_short t (record { body = body; is_map = of }))
+body_short (other_map id) code may_ignore body small is = omega arith
+body_short (rows r) code may_ignore body small (is, of) = omega (arith, small, rows_long r body of)
+body_short (xid number) code may_ignore body small is = omega arith
+
+-- ---- Events.
+
+pub writable_short : (e : EventValue) → IsWritable e → 19 + length (event_body e) < 2 ^ 32
+writable_short e is =
+    let w = is.is_event in
+    body_short e w.code w.may_ignore w.body (frame_long w.code w.may_ignore w.body is.bytes w.framed) w.has_body
+
+pub written : (e : EventValue) → IsWritable e → IsEvent set.empty e (event_bytes e)
+written e is =
+    let w = is.is_event in
+    record {
+      code = event_code e;
+      may_ignore = false;
+      body = event_body e;
+      framed = is_framed (event_code e) (event_body e) (writable_short e is);
+      has_body = body_written e w.code w.may_ignore w.body w.has_body;
+    }
