@@ -12,6 +12,6 @@ map_short t is = ?
 pub rows_written : (r : RowsValue) → HasRowsBody r → IsRows r (rows_body r)
 rows_written r is = ?
 
--- no rows event of this value is shorter than the one that is written
-pub rows_long : (r : RowsValue) (body : List ℕ) → IsRows r body → length (rows_body r) ≡ length body
-rows_long r body is = ?
+-- where it ends
+pub rows_end : (r : RowsValue) (body : List ℕ) → IsRows r body → 19 + length body ≡ r.bytes_at + length r.bytes
+rows_end r body is = ?

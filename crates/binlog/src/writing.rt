@@ -1,14 +1,14 @@
 //! Events as bytes. MySQL Source Documentation, "Binlog Event".
 
-ghost use Rattle.std.specs.Prelude.{◌≡◌, ℕ, ◌+◌, ◌<◌, ◌≤◌, ◌^◌, ◌++◌, List, length, take, drop, OnOk, OnErr, IfOk, IfErr, Err};
+ghost use Rattle.std.specs.Prelude.{◌≡◌, ℕ, ◌+◌, ◌<◌, ◌≤◌, ◌^◌, ◌++◌, ◌↔◌, List, IsTrue, length, take, drop, OnOk, OnErr, IfOk, IfErr, Err};
 ghost use Rattle.binlog.specs.EventView.{event_value};
 ghost use Rattle.binlog.specs.Writing.{IsWritable, header_bytes, event_code, event_body, event_bytes};
 ghost use Rattle.binlog.specs.declared.fault.EventFaultKind.TheVariants.{Memory};
 
 use crate::event::Event;
 use crate::fault::EventFault;
-use crate::map_writing::write_table_map;
-use crate::rows_event_writing::write_rows_event;
+use crate::map_writing::{map_fits, write_table_map};
+use crate::rows_event_writing::{rows_event_fits, write_rows_event};
 
 /// The body of a format description: version 4, server 8.0.36, and the lengths of 35 types, of which those that are
 /// not read are 0.
@@ -58,6 +58,26 @@ pub(crate) fn frame(code: u8, start: usize, out: &mut Vec<u8>)
 }
 
 impl Event<'_> {
+    /// Whether some bytes are the event, for a reader that follows all tables: its names, numbers and size fit their
+    /// fields. No bytes are a table map of a table that is not followed then. It takes no memory.
+    pub fn fits(&self) -> bool
+        ensures { IsTrue result ↔ IsWritable (event_value self.now) }
+    {
+        match self {
+            Event::Rotate { name, .. } => name.len() < (1 << 32) - 27,
+            Event::TableMap(map) => map_fits(map),
+            Event::OtherMap { .. } => false,
+            Event::Rows(rows) => rows_event_fits(rows),
+            Event::Format
+            | Event::Begin
+            | Event::Commit
+            | Event::Neutral
+            | Event::Stop
+            | Event::Gtid(_)
+            | Event::Xid { .. } => true,
+        }
+    }
+
     /// Appends bytes that are the event. What a reader takes no notice of is written in one way: no time, server 1, no
     /// next position, no flags; a neutral event as one that may be ignored, without a body.
     ///
