@@ -1,6 +1,6 @@
 -- Column types and their bytes.
 use Rattle.std.proofs.Common.{◌≡◌, ℕ, zero, suc, ◌+◌, ◌-◌, ◌*◌, ◌/◌, ◌%◌, ◌<◌, ◌≤◌, Bool, true, false, ◌==◌, ◌&&◌, not, List, [], ◌∷◌, ◌++◌, length, get_or, drop, Option, Some, None, Result, Ok, Err, IsTrue, IfOk, IfErr, bit_and, bit_or, add-zero, refl, sym, ap, subst, ◌∙◌, arith, inl, inr}
-use Rattle.std.specs.Prelude.{nat_le, bit_xor, if◌then◌else◌}
+use Rattle.std.specs.Prelude.{nat_le, bit_xor}
 use Rattle.std.proofs.lemmas.Bool.{cases_eq, ne_eqb, eqb-true, leb-true, ltb-true, le-leb, le-ltb, lt-ltb, and_parts, cases_lt}
 use Rattle.std.proofs.lemmas.List.{length-append}
 use Rattle.binlog.specs.Column.{type_code, metadata, string_metadata, is_lawful, IsColumn, HasColumn, metadata_size, metadata_fault, is_within, string_fault, when, column_fault}

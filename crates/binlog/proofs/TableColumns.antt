@@ -1,13 +1,11 @@
 -- The columns of table maps.
-use Rattle.std.proofs.Common.{◌≡◌, ℕ, zero, suc, ◌+◌, ◌-◌, ◌*◌, ◌<◌, ◌≤◌, ◌==◌, Bool, true, false, not, List, [], ◌∷◌, ◌++◌, length, get_or, take, drop, map, Option, Some, None, IsTrue, refl, sym, ap, subst, ◌∙◌, append_assoc, arith, inl, inr}
-use Rattle.std.specs.Prelude.{flat_map, sum_by, is_none, unwrap_or}
-use Rattle.std.specs.List.{AllByRecursion}
-use Rattle.std.proofs.Math.Seq.{take-add}
+use Rattle.std.proofs.Common.{◌≡◌, ℕ, zero, suc, ◌+◌, ◌-◌, ◌*◌, ◌<◌, ◌≤◌, ◌==◌, false, not, List, [], ◌∷◌, ◌++◌, length, get_or, take, drop, Option, Some, None, refl, sym, ap, ◌∙◌, arith, inl, inr}
+use Rattle.std.specs.Prelude.{sum_by, is_none, unwrap_or}
 use Rattle.std.proofs.lemmas.Bool.{le-ltb, lt-ltb, le-leb, lt-leb, ne_eqb, eq-eqb, cases_lt}
-use Rattle.std.proofs.lemmas.List.{length-append, length-drop, length-take, length-map, get_or-drop, take_at, drop_all}
+use Rattle.std.proofs.lemmas.List.{length-drop, get_or-drop, take_at, drop_all}
 use Rattle.std.proofs.lemmas.List.Sums.{sum_by-cons}
 use Rattle.binlog.specs.Fault.{refuse, needs, first_of}
-use Rattle.binlog.specs.Column.{type_code, metadata, is_lawful, IsColumn, HasColumn, metadata_size, metadata_fault, column_fault}
+use Rattle.binlog.specs.Column.{type_code, metadata, IsColumn, metadata_size, metadata_fault, column_fault}
 use Rattle.binlog.specs.Count.{count_width, count_at, no_count}
 use Rattle.binlog.specs.Row.{bitmap_size}
 use Rattle.binlog.specs.Table.{is_column_count, types_fault, metadata_length, at_place, all_metadata_fault, columns_fault}
@@ -16,9 +14,9 @@ use Rattle.binlog.specs.declared.column.ColumnKind.{ColumnKind}
 use Rattle.binlog.specs.declared.fault.EventFault.{EventFault}
 use Rattle.binlog.specs.declared.fault.EventFaultKind.{EventFaultKind}
 use Rattle.binlog.specs.declared.fault.EventFaultKind.TheVariants.{Truncated, Columns, Metadata, ColumnType as UnknownColumn}
-use Rattle.binlog.proofs.Tables.{passes, not_refused, is_there}
-use Rattle.binlog.proofs.Cuts.{IsBytes, drop_drop, drop_front, one}
-use Rattle.binlog.proofs.Columns.{kind_is, known, at_most_two, lawful_size, no_fault, fault_of, some_column}
+use Rattle.binlog.proofs.Tables.{passes, not_refused}
+use Rattle.binlog.proofs.Cuts.{drop_front, one}
+use Rattle.binlog.proofs.Columns.{kind_is, known, at_most_two, lawful_size, no_fault, fault_of}
 
 -- ---- One column.
 

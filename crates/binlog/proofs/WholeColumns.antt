@@ -1,5 +1,5 @@
 -- The columns of table maps: from the bytes to the types and back.
-use Rattle.std.proofs.Common.{◌≡◌, ℕ, suc, ◌+◌, ◌-◌, ◌<◌, ◌≤◌, ◌==◌, ◌&&◌, not, List, [], ◌∷◌, ◌++◌, length, get_or, take, drop, map, Option, Some, None, IsTrue, refl, sym, ap, subst, ◌∙◌, append_assoc, arith}
+use Rattle.std.proofs.Common.{◌≡◌, ℕ, suc, ◌+◌, ◌-◌, ◌≤◌, ◌==◌, not, List, [], ◌∷◌, ◌++◌, length, get_or, take, drop, map, Option, Some, None, IsTrue, refl, sym, ap, subst, ◌∙◌, append_assoc, arith}
 use Rattle.std.specs.Prelude.{flat_map, sum_by, nat_le}
 use Rattle.std.specs.List.{AllByRecursion}
 use Rattle.std.proofs.Math.Seq.{take-add}
@@ -7,7 +7,7 @@ use Rattle.std.proofs.lemmas.Bool.{not-false, and_parts, leb-true, eqb-true}
 use Rattle.std.proofs.lemmas.List.{length-append, length-drop, length-take, length-map, get_or-drop, take_at, take-append-drop, append-nil, map-append}
 use Rattle.std.proofs.lemmas.List.Sums.{sum_by-cons}
 use Rattle.wire.specs.Integer.{IsLengthEncoded}
-use Rattle.binlog.specs.Fault.{refuse, needs, first_of}
+use Rattle.binlog.specs.Fault.{refuse, needs}
 use Rattle.binlog.specs.Count.{count_width, count_at, no_count}
 use Rattle.binlog.specs.Row.{bitmap_size, kinds}
 use Rattle.binlog.specs.Column.{type_code, metadata, is_lawful, IsColumn, metadata_fault, column_fault}

@@ -1,8 +1,10 @@
 //! The columns of a table map. MySQL Source Documentation, "Binlog Event", the page `binary_log::Table_map_event`.
 
 ghost use Rattle.std.specs.Prelude.{◌≡◌, ℕ, ◌+◌, ◌<◌, ◌≤◌, ◌^◌, List, length, drop, IfOk, IfErr, OnOk, MatchResult, Some, None, sum_by};
+ghost use Rattle.binlog.specs.Count.{count_at, count_width, no_count};
 ghost use Rattle.binlog.specs.Table.{AreColumns, columns_fault, codes_at, metadata_place, metadata_length, types_fault, all_metadata_fault};
 ghost use Rattle.binlog.specs.declared.column.ColumnKind.{ColumnKind};
+ghost use Rattle.binlog.specs.declared.fault.EventFaultKind.TheVariants.{Columns};
 
 use crate::column::{ColumnType, metadata_size};
 use crate::column_types::ColumnTypes;
@@ -35,16 +37,7 @@ fn find_columns(bytes: &[u8], at: usize) -> Result<(&[u8], &[u8]), EventFault>
     ensures none { IfOk result (λ _. columns_fault bytes.now at ≡ None) }
     ensures fault { IfErr result (λ fault. columns_fault bytes.now at ≡ Some fault) }
 {
-    let (columns, width) = read_count(bytes, at, EventFaultKind::Columns)?;
-    let columns = match columns {
-        1..=4096 => columns as usize,
-        _ => {
-            return Err(EventFault {
-                kind: EventFaultKind::Columns,
-                at,
-            });
-        }
-    };
+    let (columns, width) = read_number(bytes, at)?;
     let types = at + width;
     if bytes.len() - types < columns {
         return Err(EventFault::truncated(types));
@@ -69,6 +62,31 @@ fn find_columns(bytes: &[u8], at: usize) -> Result<(&[u8], &[u8]), EventFault>
         return Err(EventFault::truncated(bitmap));
     }
     Ok((codes, &bytes[start..]))
+}
+
+/// Reads the number of columns, which stands at a place, and how many bytes it takes.
+fn read_number(bytes: &[u8], at: usize) -> Result<(usize, usize), EventFault>
+    requires { at ≤ length bytes.now }
+    ensures value { IfOk result (λ read. (read.0 ≡ count_at bytes.now at) × (read.1 ≡ count_width bytes.now at)) }
+    ensures range { IfOk result (λ read. (1 ≤ read.0) × (read.0 ≤ 4096)) }
+    ensures within { IfOk result (λ read. at + read.1 ≤ length bytes.now) }
+    ensures whole { IfOk result (λ _. no_count bytes.now at Columns ≡ None) }
+    ensures fault { IfErr result (λ fault. columns_fault bytes.now at ≡ Some fault) }
+{
+    let (columns, width) = read_count(bytes, at, EventFaultKind::Columns)?;
+    if columns < 1 {
+        return Err(EventFault {
+            kind: EventFaultKind::Columns,
+            at,
+        });
+    }
+    if columns > 4096 {
+        return Err(EventFault {
+            kind: EventFaultKind::Columns,
+            at,
+        });
+    }
+    Ok((columns as usize, width))
 }
 
 /// How many bytes of metadata the columns of these type bytes have, which stand from a place on. The first that is not

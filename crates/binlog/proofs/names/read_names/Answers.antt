@@ -1,8 +1,8 @@
-use Rattle.std.proofs.Common.{◌≡◌, ℕ, ◌+◌, ◌≤◌, List, length, get_or, take, drop, sym, ap, subst, ◌∙◌, arith}
+use Rattle.std.proofs.Common.{◌≡◌, ℕ, ◌+◌, ◌≤◌, List, length, drop, sym, ap, subst, ◌∙◌, arith}
 use Rattle.std.proofs.lemmas.List.{take_rest}
 use Rattle.byteorder.specs.Endian.{little_number}
 use Rattle.binlog.specs.Fault.{number_at}
-use Rattle.binlog.specs.Table.{IsNamed, terminator_place, schema_of, table_of}
+use Rattle.binlog.specs.Table.{IsNamed, terminator_place}
 use Rattle.binlog.proofs.TableNames.{is_named, names_told, found}
 use Rattle.binlog.proofs.names.read_names.Goals as goal
 

@@ -1,8 +1,6 @@
-use Rattle.std.proofs.Common.{rules, ◌≡◌, ◌≤◌, ◌+◌, Some, length, get_or, drop, sym, ap, ◌∙◌, subst, arith}
-use Rattle.std.specs.Prelude.{sum_by}
+use Rattle.std.proofs.Common.{rules, get_or, sym, ap, ◌∙◌, subst, arith}
 use Rattle.std.proofs.lemmas.List.{take_rest}
 use Rattle.binlog.specs.Column.{IsColumn, column_fault}
-use Rattle.binlog.specs.Table.{metadata_length}
 use Rattle.binlog.proofs.TableColumns.{first_checked, column_passes, column_stops, last_checked}
 use Rattle.binlog.proofs.table_columns.check_metadata.Goals as goal
 

@@ -1,22 +1,10 @@
-use Rattle.std.proofs.Common.{rules, ◌≡◌, ◌+◌, ◌-◌, ◌<◌, ◌≤◌, Some, None, length, take, drop, refl, sym, ap, ◌∙◌, arith}
+use Rattle.std.proofs.Common.{◌+◌, ◌-◌, ◌<◌, ◌≤◌, Some, length, take, drop, refl, sym, ap, ◌∙◌, arith}
 use Rattle.std.specs.Prelude.{sum_by}
-use Rattle.std.proofs.lemmas.List.{take_rest}
 use Rattle.std.proofs.lemmas.Result.{err_from_is_err_and}
 use Rattle.binlog.specs.Row.{bitmap_size}
 use Rattle.binlog.specs.Table.{metadata_length}
-use Rattle.binlog.proofs.TableColumns.{Opened, Counts, Measured, codes_cut, no_number, wrong_number, short_types, wrong_type, no_measure, wrong_measure, short_metadata, wrong_metadata, short_bitmap, no_line, read_anywhere}
-use Rattle.binlog.proofs.table_columns.find_columns.Goals.{in_default-via-then-columns-lt1, in_default-via-else-columns-lt1+else-columns-lt4097}
+use Rattle.binlog.proofs.TableColumns.{Opened, Counts, Measured, codes_cut, short_types, wrong_type, no_measure, wrong_measure, short_metadata, wrong_metadata, short_bitmap, no_line, read_anywhere}
 use Rattle.binlog.proofs.table_columns.find_columns.Goals as goal
-
-pub returns-in_err-columns-clause-fault : goal.returns-in_err-columns-clause-fault
-returns-in_err-columns-clause-fault c =
-    let p = err_from_is_err_and c.from_residual.result c.from_residual.ensures.1 in
-    rw (p.1, p.2) (no_number c.args.bytes.now c.args.at _ c.in_err-columns.ensures.fault)
-
-pub returns-in_default-clause-fault : goal.returns-in_default-clause-fault
-returns-in_default-clause-fault c =
-    wrong_number c.args.bytes.now c.args.at c.in_ok-columns.columns c.in_ok-columns.ensures.whole c.in_ok-columns.ensures.value.0
-    (λ some few. elim c.in_default.branch [ in_default-via-then-columns-lt1 w ↦ omega (arith, some, few) | in_default-via-else-columns-lt1+else-columns-lt4097 w ↦ omega (arith, some, few) ])
 
 pub returns-then-bytes-types-clause-fault : goal.returns-then-bytes-types-clause-fault
 returns-then-bytes-types-clause-fault c =
@@ -24,8 +12,8 @@ returns-then-bytes-types-clause-fault c =
     let at = c.args.at in
     let n = c.in_ok-columns.columns in
     let w = c.in_ok-columns.width in
-    let some : 1 ≤ n = omega arith in
-    let few : n ≤ 4096 = omega arith in
+    let some : 1 ≤ n = c.in_ok-columns.ensures.range.0 in
+    let few : n ≤ 4096 = c.in_ok-columns.ensures.range.1 in
     let codes = take n (drop (at + w) bytes) in
     let size = sum_by metadata_length codes in
     let opened : Opened bytes at n w codes size = record { n_is = c.in_ok-columns.ensures.value.0; w_is = c.in_ok-columns.ensures.value.1; codes_are = refl; size_is = refl } in
@@ -40,8 +28,8 @@ returns-in_err-size-clause-fault c =
     let at = c.args.at in
     let n = c.in_ok-columns.columns in
     let w = c.in_ok-columns.width in
-    let some : 1 ≤ n = omega arith in
-    let few : n ≤ 4096 = omega arith in
+    let some : 1 ≤ n = c.in_ok-columns.ensures.range.0 in
+    let few : n ≤ 4096 = c.in_ok-columns.ensures.range.1 in
     let codes = take (at + w + n - (at + w)) (drop (at + w) bytes) in
     let size = sum_by metadata_length codes in
     let opened : Opened bytes at n w codes size = record { n_is = c.in_ok-columns.ensures.value.0; w_is = c.in_ok-columns.ensures.value.1; codes_are = codes_cut bytes (at + w) n; size_is = refl } in
@@ -56,8 +44,8 @@ returns-in_err-stated-clause-fault c =
     let at = c.args.at in
     let n = c.in_ok-columns.columns in
     let w = c.in_ok-columns.width in
-    let some : 1 ≤ n = omega arith in
-    let few : n ≤ 4096 = omega arith in
+    let some : 1 ≤ n = c.in_ok-columns.ensures.range.0 in
+    let few : n ≤ 4096 = c.in_ok-columns.ensures.range.1 in
     let codes = take (at + w + n - (at + w)) (drop (at + w) bytes) in
     let size = c.in_ok-size.size in
     let opened : Opened bytes at n w codes size = record { n_is = c.in_ok-columns.ensures.value.0; w_is = c.in_ok-columns.ensures.value.1; codes_are = codes_cut bytes (at + w) n; size_is = c.in_ok-size.ensures.sum } in
@@ -71,8 +59,8 @@ returns-then-stated-size-clause-fault c =
     let at = c.args.at in
     let n = c.in_ok-columns.columns in
     let w = c.in_ok-columns.width in
-    let some : 1 ≤ n = omega arith in
-    let few : n ≤ 4096 = omega arith in
+    let some : 1 ≤ n = c.in_ok-columns.ensures.range.0 in
+    let few : n ≤ 4096 = c.in_ok-columns.ensures.range.1 in
     let codes = take (at + w + n - (at + w)) (drop (at + w) bytes) in
     let size = c.in_ok-size.size in
     let opened : Opened bytes at n w codes size = record { n_is = c.in_ok-columns.ensures.value.0; w_is = c.in_ok-columns.ensures.value.1; codes_are = codes_cut bytes (at + w) n; size_is = c.in_ok-size.ensures.sum } in
@@ -89,8 +77,8 @@ returns-then-bytes-start-clause-fault c =
     let at = c.args.at in
     let n = c.in_ok-columns.columns in
     let w = c.in_ok-columns.width in
-    let some : 1 ≤ n = omega arith in
-    let few : n ≤ 4096 = omega arith in
+    let some : 1 ≤ n = c.in_ok-columns.ensures.range.0 in
+    let few : n ≤ 4096 = c.in_ok-columns.ensures.range.1 in
     let codes = take (at + w + n - (at + w)) (drop (at + w) bytes) in
     let size = c.in_ok-size.size in
     let opened : Opened bytes at n w codes size = record { n_is = c.in_ok-columns.ensures.value.0; w_is = c.in_ok-columns.ensures.value.1; codes_are = codes_cut bytes (at + w) n; size_is = c.in_ok-size.ensures.sum } in
@@ -113,8 +101,8 @@ returns-in_err-check_metadata-clause-fault c =
     let at = c.args.at in
     let n = c.in_ok-columns.columns in
     let w = c.in_ok-columns.width in
-    let some : 1 ≤ n = omega arith in
-    let few : n ≤ 4096 = omega arith in
+    let some : 1 ≤ n = c.in_ok-columns.ensures.range.0 in
+    let few : n ≤ 4096 = c.in_ok-columns.ensures.range.1 in
     let codes = take (at + w + n - (at + w)) (drop (at + w) bytes) in
     let size = c.in_ok-size.size in
     let opened : Opened bytes at n w codes size = record { n_is = c.in_ok-columns.ensures.value.0; w_is = c.in_ok-columns.ensures.value.1; codes_are = codes_cut bytes (at + w) n; size_is = c.in_ok-size.ensures.sum } in
@@ -133,8 +121,8 @@ returns-then-bytes-bitmap-clause-fault c =
     let at = c.args.at in
     let n = c.in_ok-columns.columns in
     let w = c.in_ok-columns.width in
-    let some : 1 ≤ n = omega arith in
-    let few : n ≤ 4096 = omega arith in
+    let some : 1 ≤ n = c.in_ok-columns.ensures.range.0 in
+    let few : n ≤ 4096 = c.in_ok-columns.ensures.range.1 in
     let codes = take (at + w + n - (at + w)) (drop (at + w) bytes) in
     let size = c.in_ok-size.size in
     let opened : Opened bytes at n w codes size = record { n_is = c.in_ok-columns.ensures.value.0; w_is = c.in_ok-columns.ensures.value.1; codes_are = codes_cut bytes (at + w) n; size_is = c.in_ok-size.ensures.sum } in
@@ -154,8 +142,8 @@ returns-clause-none c =
     let at = c.args.at in
     let n = c.in_ok-columns.columns in
     let w = c.in_ok-columns.width in
-    let some : 1 ≤ n = omega arith in
-    let few : n ≤ 4096 = omega arith in
+    let some : 1 ≤ n = c.in_ok-columns.ensures.range.0 in
+    let few : n ≤ 4096 = c.in_ok-columns.ensures.range.1 in
     let codes = take (at + w + n - (at + w)) (drop (at + w) bytes) in
     let size = c.in_ok-size.size in
     let opened : Opened bytes at n w codes size = record { n_is = c.in_ok-columns.ensures.value.0; w_is = c.in_ok-columns.ensures.value.1; codes_are = codes_cut bytes (at + w) n; size_is = c.in_ok-size.ensures.sum } in

@@ -1,4 +1,4 @@
-use Rattle.std.proofs.Common.{◌≡◌, ◌++◌, sym, ap, ◌∙◌}
+use Rattle.std.proofs.Common.{◌++◌, ap, ◌∙◌}
 use Rattle.binlog.specs.Row.{kinds}
 use Rattle.binlog.proofs.WholeColumns.{one_more, no_more}
 use Rattle.binlog.proofs.column_types.ColumnTypes.to_vec.Goals as goal

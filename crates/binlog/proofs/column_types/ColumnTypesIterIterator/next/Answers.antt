@@ -1,4 +1,4 @@
-use Rattle.std.proofs.Common.{◌≡◌, sym, ap, ◌∙◌}
+use Rattle.std.proofs.Common.{sym, ap, ◌∙◌}
 use Rattle.binlog.specs.Columns.{columns_of}
 use Rattle.binlog.specs.ColumnsView.{columns_in}
 use Rattle.binlog.proofs.TableColumns.{column_first, fewer}
