@@ -1,6 +1,6 @@
 //! Events as bytes. MySQL Source Documentation, "Binlog Event".
 
-ghost use Rattle.std.specs.Prelude.{◌≡◌, ℕ, ◌+◌, ◌<◌, ◌≤◌, ◌^◌, ◌++◌, ◌↔◌, List, IsTrue, length, take, drop, OnOk, OnErr, IfOk, IfErr, Err};
+ghost use Rattle.std.specs.Prelude.{◌≡◌, ℕ, ◌+◌, ◌<◌, ◌≤◌, ◌^◌, ◌++◌, ◌↔◌, List, IsTrue, nat_lt, length, take, drop, OnOk, OnErr, IfOk, IfErr, Err};
 ghost use Rattle.binlog.specs.EventView.{event_value};
 ghost use Rattle.binlog.specs.Writing.{IsWritable, header_bytes, event_code, event_body, event_bytes};
 ghost use Rattle.binlog.specs.declared.fault.EventFaultKind.TheVariants.{Memory};
@@ -64,17 +64,17 @@ impl Event<'_> {
         ensures { IsTrue result ↔ IsWritable (event_value self.now) }
     {
         match self {
-            Event::Rotate { name, .. } => name.len() < (1 << 32) - 27,
+            Event::Format => true,
+            Event::Begin => true,
+            Event::Commit => true,
+            Event::Neutral => true,
+            Event::Stop => true,
+            Event::Rotate { name, .. } => name_fits(name),
+            Event::Gtid(_gtid) => true,
             Event::TableMap(map) => map_fits(map),
             Event::OtherMap { .. } => false,
             Event::Rows(rows) => rows_event_fits(rows),
-            Event::Format
-            | Event::Begin
-            | Event::Commit
-            | Event::Neutral
-            | Event::Stop
-            | Event::Gtid(_)
-            | Event::Xid { .. } => true,
+            Event::Xid { number: _number } => true,
         }
     }
 
@@ -96,6 +96,13 @@ impl Event<'_> {
             }
         }
     }
+}
+
+/// Whether a rotation to a file of this name is short enough.
+fn name_fits(name: &[u8]) -> bool
+    ensures { result ≡ nat_lt (27 + length name.now) (2 ^ 32) }
+{
+    name.len() < (1 << 32) - 27
 }
 
 /// Appends an event, or a part of it.
