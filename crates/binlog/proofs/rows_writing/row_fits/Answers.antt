@@ -1,4 +1,4 @@
-use Rattle.std.proofs.Common.{◌≡◌, ◌+◌, ◌<◌, ◌≤◌, Bool, true, false, ◌&&◌, length, drop, refl, sym, ap, ◌∙◌, arith}
+use Rattle.std.proofs.Common.{◌≡◌, ◌+◌, true, false, ◌&&◌, drop, refl, sym, ap, ◌∙◌, arith}
 use Rattle.binlog.specs.Cell.{owned_value, owned_values}
 use Rattle.binlog.specs.Row.{kinds}
 use Rattle.binlog.specs.RowsWritten.{value_fits, row_fits}

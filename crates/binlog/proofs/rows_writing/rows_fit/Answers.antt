@@ -1,7 +1,7 @@
-use Rattle.std.proofs.Common.{◌≡◌, ◌+◌, Bool, true, false, ◌&&◌, drop, refl, sym, ap, ◌∙◌}
+use Rattle.std.proofs.Common.{◌≡◌, ◌+◌, false, ◌&&◌, drop, refl, sym, ap, ◌∙◌}
 use Rattle.std.proofs.lemmas.Bool.{false≢true}
 use Rattle.binlog.specs.Row.{kinds}
-use Rattle.binlog.specs.RowsView.{owned_pair, owned_pairs}
+use Rattle.binlog.specs.RowsView.{owned_pairs}
 use Rattle.binlog.specs.RowsWritten.{pairs_fit}
 use Rattle.binlog.proofs.RowsWritten.{pairs_from, pairs_over, have_rows, have_no_rows}
 use Rattle.binlog.proofs.rows_writing.rows_fit.Goals as goal
