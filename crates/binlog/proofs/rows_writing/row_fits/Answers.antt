@@ -17,8 +17,8 @@ returns-then-not-value_fits c =
     let long = c.if-types-cells.false in
     let not : value_fits (shape c.index-types-i.result.kind) (owned_value c.index-cells-i.result) ≡ false = ap (λ s. value_fits s (owned_value c.index-cells-i.result)) (sym c.shape_of.ensures.shape) ∙ sym c.if-not-value_fits.ensures in
     sym (c.loop-i.invariant
-        ∙ row_from c.args.types.now c.args.cells.now c.loop-i.i c.index-types-i.result c.index-cells-i.result c.loop-i-test.true (omega (arith, long, c.loop-i-test.true)) c.index-types-i.is c.index-cells-i.is
-        ∙ ap (λ b. b && row_fits (drop (c.loop-i.i + 1) (kinds c.args.types.now)) (drop (c.loop-i.i + 1) (owned_values c.args.cells.now))) not)
+    ∙ row_from c.args.types.now c.args.cells.now c.loop-i.i c.index-types-i.result c.index-cells-i.result c.loop-i-test.true (omega (arith, long, c.loop-i-test.true)) c.index-types-i.is c.index-cells-i.is
+    ∙ ap (λ b. b && row_fits (drop (c.loop-i.i + 1) (kinds c.args.types.now)) (drop (c.loop-i.i + 1) (owned_values c.args.cells.now))) not)
 
 pub loop-i-preserved : goal.loop-i-preserved
 loop-i-preserved c =
