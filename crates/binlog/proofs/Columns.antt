@@ -9,6 +9,7 @@ use Rattle.binlog.specs.declared.fault.EventFaultKind.TheVariants.{Truncated, Me
 use Rattle.binlog.specs.declared.column.ColumnKind.{ColumnKind}
 use Rattle.binlog.specs.declared.column.ColumnType.{ColumnType}
 use Rattle.binlog.specs.declared.column.ColumnKind.TheVariants.{Tiny, Short, Int24, Long, LongLong, Varchar, Blob, Bit, NewDecimal, Float, Double, Date, Year, Timestamp2, Datetime2, Time2, Char, Enum, Set}
+use Rattle.binlog.specs.Columns.{kind_of}
 use Rattle.binlog.proofs.Cuts.{IsBytes, drop_front}
 
 -- ---- The types that are read, by their bytes.
@@ -301,29 +302,7 @@ no_fault kind code rest bytes is =
 
 -- ---- A type is determined by its bytes.
 
-kind_of : ℕ → ℕ → ℕ → ColumnKind
-kind_of code first second =
-    if code == 1 then Tiny
-    else if code == 2 then Short
-    else if code == 3 then Long
-    else if code == 4 then Float
-    else if code == 5 then Double
-    else if code == 8 then LongLong
-    else if code == 9 then Int24
-    else if code == 10 then Date
-    else if code == 13 then Year
-    else if code == 15 then Varchar (first + 256 * second)
-    else if code == 16 then Bit (8 * second + first)
-    else if code == 17 then Timestamp2 first
-    else if code == 18 then Datetime2 first
-    else if code == 19 then Time2 first
-    else if code == 246 then NewDecimal first second
-    else if code == 252 then Blob first
-    else if bit_or first 48 == 254 then Char (second + 16 * flipped first)
-    else if bit_or first 48 == 247 then Enum second
-    else Set second
-
-kind_is : (kind : ColumnKind) (rest : List ℕ) → IsTrue (is_lawful kind) →
+pub kind_is : (kind : ColumnKind) (rest : List ℕ) → IsTrue (is_lawful kind) →
     kind_of (type_code kind) (get_or (metadata kind ++ rest) 0 0) (get_or (metadata kind ++ rest) 1 0) ≡ kind
 unfolding kind_of
 kind_is Tiny rest lawful = refl

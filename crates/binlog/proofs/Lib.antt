@@ -6,8 +6,14 @@ pub mod RowCells
 pub mod Examples
 pub mod Bodies
 pub mod Formats
-mod Counts
-mod RowsHead
-mod RowsItems
-mod RowsWritten
-mod Followed
+pub mod BodyLaws
+pub mod Counts
+pub mod TableNames
+pub mod TableColumns
+pub mod WholeColumns
+pub mod RowsHead
+pub mod RowsItems
+pub mod Followed
+pub mod Events
+pub mod RowsWritten
+pub mod Framed

@@ -12,3 +12,9 @@ pub mod RowsView
 pub mod RowsWritten
 pub mod Follow
 pub mod FollowView
+pub mod Event
+pub mod EventView
+pub mod Columns
+pub mod ColumnsView
+pub mod TableView
+pub mod Writing

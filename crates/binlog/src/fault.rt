@@ -67,7 +67,7 @@ pub struct EventFault {
 
 impl EventFault {
     /// An allocation was refused.
-    const MEMORY: EventFault = EventFault {
+    pub(crate) const MEMORY: EventFault = EventFault {
         kind: EventFaultKind::Memory,
         at: 0,
     };

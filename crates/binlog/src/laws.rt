@@ -8,7 +8,11 @@ ghost use Rattle.binlog.specs.Column.{type_code, metadata, IsColumn, HasColumn, 
 ghost use Rattle.binlog.specs.Header.{IsFramed, HasFrame, header_fault};
 ghost use Rattle.binlog.specs.Cell.{CellValue};
 ghost use Rattle.binlog.specs.Row.{IsRow, HasRow, row_end};
+ghost use Rattle.binlog.specs.Table.{IsNamed, names_fault, AreColumns, columns_fault};
+ghost use Rattle.binlog.specs.Columns.{HasNames, HasColumns};
 ghost use Rattle.binlog.specs.Rows.{RowsValue, IsRows, HasRows, rows_fault, PairValue, AreRows, EndsEarly, AreItemsAt, HasItems};
+ghost use Rattle.binlog.specs.Follow.{Names};
+ghost use Rattle.binlog.specs.Event.{EventValue, IsEvent, HasEvent, event_fault};
 ghost use Rattle.binlog.specs.RowsWritten.{HaveRows, rows_bytes};
 ghost use Rattle.binlog.specs.declared.fault.EventFault.{EventFault};
 ghost use Rattle.binlog.specs.declared.rows_event.RowsKind.{RowsKind};
@@ -39,6 +43,23 @@ pub fn one_row()
     ensures one { (types : List ColumnKind) (a b : List CellValue) (first second x y : List ℕ) → IsRow types a first → IsRow types b second → first ++ x ≡ second ++ y → (a ≡ b) × (first ≡ second) }
 {}
 
+/// The body of an event begins with a table's number and names, or the event has a fault in them, and not both, and
+/// they are determined.
+pub fn one_names()
+    ensures some { (bytes : List ℕ) → AllByRecursion (λ b. b < 256) bytes → names_fault bytes ≡ None → HasNames (drop 19 bytes) }
+    ensures no_fault { (id : ℕ) (schema table rest bytes : List ℕ) → IsNamed id schema table rest (drop 19 bytes) → names_fault bytes ≡ None }
+    ensures one { (id id' : ℕ) (schema schema' table table' rest rest' bytes : List ℕ) → IsNamed id schema table rest (drop 19 bytes) → IsNamed id' schema' table' rest' (drop 19 bytes) →
+        (id ≡ id') × (schema ≡ schema') × (table ≡ table') × (rest ≡ rest') }
+{}
+
+/// The bytes from a place on are the columns of a table, or the event has a fault in them, and not both, and they are
+/// of one list of types.
+pub fn one_columns()
+    ensures some { (bytes : List ℕ) (place : ℕ) → AllByRecursion (λ b. b < 256) bytes → columns_fault bytes place ≡ None → HasColumns (drop place bytes) }
+    ensures no_fault { (columns : List ColumnKind) (bytes : List ℕ) (place : ℕ) → AreColumns columns (drop place bytes) → columns_fault bytes place ≡ None }
+    ensures one { (a b : List ColumnKind) (bytes : List ℕ) → AreColumns a bytes → AreColumns b bytes → a ≡ b }
+{}
+
 /// The body of an event is that of a rows event of a kind or has a fault, and not both, and it is that of one.
 pub fn one_rows_event()
     ensures some { (kind : RowsKind) (bytes : List ℕ) → AllByRecursion (λ b. b < 256) bytes → rows_fault kind bytes ≡ None → HasRows kind (drop 19 bytes) }
@@ -56,6 +77,13 @@ pub fn one_list_of_rows()
     ensures some { (kind : RowsKind) (types : List ColumnKind) (bytes : List ℕ) (at : ℕ) → AllByRecursion (λ b. b < 256) bytes → 1 ≤ length types → HasItems kind types bytes at }
     ensures items { (kind : RowsKind) (types : List ColumnKind) (bytes : List ℕ) (at : ℕ) (x y : List (Result PairValue EventFault)) → 1 ≤ length types →
         AreItemsAt kind types bytes at x → AreItemsAt kind types bytes at y → x ≡ y }
+{}
+
+/// Bytes are an event or have a fault, and not both, and they are one event, whichever tables are followed.
+pub fn one_event()
+    ensures some { (names : Names) (bytes : List ℕ) → AllByRecursion (λ b. b < 256) bytes → event_fault names bytes ≡ None → HasEvent names bytes }
+    ensures no_fault { (names : Names) (e : EventValue) (bytes : List ℕ) → IsEvent names e bytes → event_fault names bytes ≡ None }
+    ensures one { (names : Names) (a b : EventValue) (bytes : List ℕ) → IsEvent names a bytes → IsEvent names b bytes → a ≡ b }
 {}
 
 /// Pairs that have rows are written as rows of theirs.

@@ -1,0 +1,12 @@
+use Rattle.binlog.proofs.Cuts.{IsBytes-all}
+use Rattle.binlog.proofs.Events as lemma
+use Rattle.binlog.proofs.laws.one_event.Goals as goal
+
+pub returns-clause-some : goal.returns-clause-some
+returns-clause-some c names bytes all none = lemma.has_event names bytes (IsBytes-all bytes all) none
+
+pub returns-clause-no_fault : goal.returns-clause-no_fault
+returns-clause-no_fault c = lemma.event_not_refused
+
+pub returns-clause-one : goal.returns-clause-one
+returns-clause-one c = lemma.one_event

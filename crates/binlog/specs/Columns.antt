@@ -1,0 +1,57 @@
+-- The columns of a table, as type bytes and metadata stand for them.
+use Rattle.std.specs.Prelude.{ℕ, ◌+◌, ◌*◌, List, [], ◌∷◌, drop, slice_index, ◌==◌, if◌then◌else◌, Option, Some, None}
+use Rattle.binlog.specs.Column.{real_type, string_length, column_fault}
+use Rattle.binlog.specs.Table.{AreColumns, IsNamed, metadata_length, codes_at, metadata_place}
+use Rattle.binlog.specs.declared.fault.EventFaultKind.{EventFaultKind}
+use Rattle.binlog.specs.declared.column.ColumnKind.{ColumnKind}
+use Rattle.binlog.specs.declared.column.ColumnKind.TheVariants.{Tiny, Short, Int24, Long, LongLong, Varchar, Blob, Bit, NewDecimal, Float, Double, Date, Year, Timestamp2, Datetime2, Time2, Char, Enum, Set}
+
+-- the type of a column that is not at fault, by its type byte and the first two bytes from its metadata on
+unfoldable pub kind_of : ℕ → ℕ → ℕ → ColumnKind
+kind_of code first second =
+    if code == 1 then Tiny
+    else if code == 2 then Short
+    else if code == 3 then Long
+    else if code == 4 then Float
+    else if code == 5 then Double
+    else if code == 8 then LongLong
+    else if code == 9 then Int24
+    else if code == 10 then Date
+    else if code == 13 then Year
+    else if code == 15 then Varchar (first + 256 * second)
+    else if code == 16 then Bit (8 * second + first)
+    else if code == 17 then Timestamp2 first
+    else if code == 18 then Datetime2 first
+    else if code == 19 then Time2 first
+    else if code == 246 then NewDecimal first second
+    else if code == 252 then Blob first
+    else if real_type first == 254 then Char (string_length first second)
+    else if real_type first == 247 then Enum second
+    else Set second
+
+abbrev pub column_front : Option EventFaultKind → ColumnKind → List ColumnKind → List ColumnKind
+column_front None kind others = kind ∷ others
+column_front (Some fault) kind others = []
+
+-- the columns of these type bytes whose metadata, one after the other, begins the bytes: all of them, or those before
+-- the first that is at fault
+abbrev pub columns_of : List ℕ → List ℕ → List ColumnKind
+columns_of [] bytes = []
+columns_of (code ∷ codes) bytes = column_front (column_fault code bytes) (kind_of code (slice_index bytes 0) (slice_index bytes 1)) (columns_of codes (drop (metadata_length code) bytes))
+
+-- the columns that stand in an event from a place on
+abbrev pub columns_at : List ℕ → ℕ → List ColumnKind
+columns_at bytes place = columns_of (codes_at bytes place) (drop (metadata_place bytes place) bytes)
+
+-- some columns
+pub record HasColumns (bytes : List ℕ) : Type 0 where
+  pub columns : List ColumnKind
+  pub are_columns : AreColumns columns bytes
+
+-- some number and names, and what follows them
+pub record HasNames (body : List ℕ) : Type 0 where
+  pub id : ℕ
+  pub schema : List ℕ
+  pub table : List ℕ
+  pub rest : List ℕ
+  pub named : IsNamed id schema table rest body
