@@ -73,9 +73,9 @@ rotate_some bytes fits none = (little_from-lt 0 8 (drop 19 bytes) (λ i. rw get_
 
 pub rotate_one : (position : ℕ) (name bytes : List ℕ) → IsRotate position name (drop 19 bytes) → (number_at 8 bytes 19 ≡ position) × (drop 27 bytes ≡ name)
 rotate_one position name bytes is = (
-      ap (little_number 8) is.1 ∙ little_number-reads_back 8 position name is.0,
-      sym (drop_drop 19 8 bytes) ∙ ap (drop 8) is.1 ∙ behind 8 0 (little_bytes 8 position) name refl,
-    )
+  ap (little_number 8) is.1 ∙ little_number-reads_back 8 position name is.0,
+  sym (drop_drop 19 8 bytes) ∙ ap (drop 8) is.1 ∙ behind 8 0 (little_bytes 8 position) name refl,
+)
 
 -- ---- Ends of transactions.
 

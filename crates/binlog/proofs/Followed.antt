@@ -69,9 +69,9 @@ not_none n = ne_eqb (suc n) 0 (λ z. omega (arith, z))
 pub follow_by : (count : ℕ) (names : List Name) (schema table : List ℕ) (empty : Bool) → empty ≡ (count == 0) → count ≡ length names → (empty ≡ true → follows (set.from_list names) schema table ≡ true) × (empty ≡ false → follows (set.from_list names) schema table ≡ is_listed (schema, table) names)
 follow_by count [] schema table empty is counts = ((λ _. ap (λ b. b || set.contains (set.from_list {R = name_cmp} []) (schema, table)) all_of_none), (λ no. absurd (false≢true (sym no ∙ is ∙ ap (λ n. n == 0) counts))))
 follow_by count (name ∷ names) schema table empty is counts = (
-      (λ yes. absurd (false≢true (sym (is ∙ ap (λ n. n == 0) counts ∙ not_none (length names)) ∙ yes))),
-      (λ _. ap (λ b. b || set.contains (set.from_list {R = name_cmp} (name ∷ names)) (schema, table)) (some_name name names) ∙ listed (name ∷ names) (schema, table)),
-    )
+  (λ yes. absurd (false≢true (sym (is ∙ ap (λ n. n == 0) counts ∙ not_none (length names)) ∙ yes))),
+  (λ _. ap (λ b. b || set.contains (set.from_list {R = name_cmp} (name ∷ names)) (schema, table)) (some_name name names) ∙ listed (name ∷ names) (schema, table)),
+)
 
 -- with the empty set all are followed
 pub all_follow : (schema table : List ℕ) → follows set.empty schema table ≡ true

@@ -1,18 +1,22 @@
 -- The rows that pairs are written as.
-use Rattle.std.proofs.Common.{◌≡◌, ℕ, zero, suc, ◌+◌, ◌-◌, ◌*◌, ◌/◌, ◌%◌, ◌<◌, ◌≤◌, ◌^◌, ◌==◌, Bool, true, false, ◌&&◌, List, [], ◌∷◌, ◌++◌, length, get_or, map, Some, refl, sym, ap, subst, ◌∙◌, arith, inl, inr}
+use Rattle.std.proofs.Common.{◌≡◌, ℕ, zero, suc, ◌+◌, ◌-◌, ◌*◌, ◌/◌, ◌%◌, ◌<◌, ◌≤◌, ◌^◌, ◌==◌, Bool, true, false, ◌&&◌, List, [], ◌∷◌, ◌++◌, length, get_or, drop, map, Some, refl, sym, ap, subst, ◌∙◌, arith, inl, inr}
 use Rattle.std.specs.Prelude.{slice_get, nat_lt}
 use Rattle.std.specs.List.{list_all, range_with_len}
 use Rattle.std.proofs.Math.Nat.{div-div-eq-div-mul, div-one, pow-suc}
 use Rattle.std.proofs.lemmas.Bool.{and_parts, and_from, eqb-true, eq-eqb, ltb-true, lt-ltb, cases_Bool, false≢true}
-use Rattle.std.proofs.lemmas.List.{length-map}
+use Rattle.std.proofs.lemmas.List.{length-map, drop_all}
 use Rattle.std.proofs.lemmas.List.FromFn.{length-map-range_with_len, get_or-map-range_with_len}
 use Rattle.byteorder.specs.Endian.{little_bytes}
-use Rattle.binlog.specs.Cell.{CellValue, null_cell, number_cell, bytes_cell, is_null}
+use Rattle.binlog.specs.Cell.{CellValue, null_cell, number_cell, bytes_cell, is_null, owned_value, owned_values}
 use Rattle.binlog.specs.Shape.{shape, IsValue}
-use Rattle.binlog.specs.Row.{bitmap_size, is_set, AreValues, IsRow}
+use Rattle.binlog.specs.Row.{kinds, bitmap_size, is_set, AreValues, IsRow}
 use Rattle.binlog.specs.Rows.{PairValue, inserted, deleted, updated, IsPair, AreRows}
-use Rattle.binlog.specs.RowsWritten.{digit, bits_number, bitmap_byte, bitmap_bytes, value_bytes, values_bytes, row_bytes, pair_bytes, rows_bytes, value_fits, row_fits, pair_fits, pairs_fit}
+use Rattle.binlog.specs.RowsView.{owned_pair, owned_pairs}
+use Rattle.binlog.specs.RowsWritten.{HaveRows, digit, bits_number, bitmap_byte, bitmap_bytes, value_bytes, values_bytes, row_bytes, pair_bytes, rows_bytes, value_fits, row_fits, pair_fits, pairs_fit}
+use Rattle.binlog.specs.declared.cell.OwnedCell.{OwnedCell}
 use Rattle.binlog.specs.declared.column.ColumnKind.{ColumnKind}
+use Rattle.binlog.specs.declared.column.ColumnType.{ColumnType}
+use Rattle.binlog.specs.declared.rows_writing.OwnedPair.{OwnedPair}
 use Rattle.binlog.specs.declared.rows_event.RowsKind.{RowsKind}
 use Rattle.binlog.specs.declared.rows_event.RowsKind.TheVariants.{Write, Update, Delete}
 use Rattle.binlog.specs.declared.shape.Shape.{Shape}
@@ -156,3 +160,45 @@ are_written kind types (pair ∷ pairs) fits =
 pub they_fit : (kind : RowsKind) (types : List ColumnKind) (pairs : List PairValue) (bytes : List ℕ) → AreRows kind types pairs bytes → pairs_fit kind types pairs ≡ true
 they_fit kind types [] bytes are = refl
 they_fit kind types (pair ∷ pairs) bytes are = and_from (pair_fits kind types pair) (pairs_fit kind types pairs) (fits_pair kind types pair are.0 are.3) (they_fit kind types pairs are.1 are.4)
+
+-- ---- Item by item.
+
+abbrev pub column_kind : ColumnType → ColumnKind
+column_kind t = t.kind
+
+first_of : {X Y : Type 0} (f : X → Y) (xs : List X) (i : ℕ) (x : X) → i < length xs → x ≡ get_or xs i x → drop i (map f xs) ≡ f x ∷ drop (suc i) (map f xs)
+first_of f [] i x short at = absurd (omega (arith, short))
+first_of f (y ∷ xs) zero x short at = ap (λ z. f z ∷ map f xs) (sym at)
+first_of f (y ∷ xs) (suc i) x short at = first_of f xs i x (omega (arith, short)) at
+
+first_of_map : {X Y : Type 0} (f : X → Y) (xs : List X) (i : ℕ) (x : X) → i < length xs → x ≡ get_or xs i x → drop i (map f xs) ≡ f x ∷ drop (i + 1) (map f xs)
+first_of_map f xs i x short at = let next : suc i ≡ i + 1 = omega arith in first_of f xs i x short at ∙ ap (λ k. f x ∷ drop k (map f xs)) next
+
+pub row_from : (types : List ColumnType) (cells : List OwnedCell) (i : ℕ) (t : ColumnType) (cell : OwnedCell) → i < length types → i < length cells → t ≡ get_or types i t → cell ≡ get_or cells i cell →
+    row_fits (drop i (kinds types)) (drop i (owned_values cells)) ≡ (value_fits (shape t.kind) (owned_value cell) && row_fits (drop (i + 1) (kinds types)) (drop (i + 1) (owned_values cells)))
+row_from types cells i t cell a b is_t is_cell = λ j. row_fits (first_of_map column_kind types i t a is_t j) (first_of_map owned_value cells i cell b is_cell j)
+
+pub row_over : (types : List ColumnType) (cells : List OwnedCell) (i : ℕ) → length types ≤ i → length cells ≤ i → row_fits (drop i (kinds types)) (drop i (owned_values cells)) ≡ true
+row_over types cells i a b =
+    let x : drop i (kinds types) ≡ [] = drop_all i (kinds types) (omega (arith, a, length-map types column_kind)) in
+    let y : drop i (owned_values cells) ≡ [] = drop_all i (owned_values cells) (omega (arith, b, length-map cells owned_value)) in
+    λ j. row_fits (x j) (y j)
+
+pub row_of_others : (types : List ColumnType) (cells : List OwnedCell) → (length types ≡ length cells → ⊥) → row_fits (kinds types) (owned_values cells) ≡ false
+row_of_others types cells other = elim (cases_Bool (row_fits (kinds types) (owned_values cells))) as (λ _. row_fits (kinds types) (owned_values cells) ≡ false) [
+  | inl fits ↦ absurd (other (omega (arith, as_long (kinds types) (owned_values cells) fits, length-map types column_kind, length-map cells owned_value)))
+  | inr not ↦ not
+]
+
+pub pairs_from : (kind : RowsKind) (types : List ColumnKind) (pairs : List OwnedPair) (i : ℕ) (pair : OwnedPair) → i < length pairs → pair ≡ get_or pairs i pair →
+    pairs_fit kind types (drop i (owned_pairs pairs)) ≡ (pair_fits kind types (owned_pair pair) && pairs_fit kind types (drop (i + 1) (owned_pairs pairs)))
+pairs_from kind types pairs i pair short is = ap (pairs_fit kind types) (first_of_map owned_pair pairs i pair short is)
+
+pub pairs_over : (kind : RowsKind) (types : List ColumnKind) (pairs : List OwnedPair) (i : ℕ) → length pairs ≤ i → pairs_fit kind types (drop i (owned_pairs pairs)) ≡ true
+pairs_over kind types pairs i long = ap (pairs_fit kind types) (drop_all i (owned_pairs pairs) (omega (arith, long, length-map pairs owned_pair)))
+
+pub have_rows : (kind : RowsKind) (types : List ColumnKind) (pairs : List PairValue) → pairs_fit kind types pairs ≡ true → HaveRows kind types pairs
+have_rows kind types pairs fits = record { bytes = rows_bytes types pairs; are_rows = are_written kind types pairs fits }
+
+pub have_no_rows : (kind : RowsKind) (types : List ColumnKind) (pairs : List PairValue) → pairs_fit kind types pairs ≡ false → HaveRows kind types pairs → ⊥
+have_no_rows kind types pairs not have = false≢true (sym not ∙ they_fit kind types pairs have.bytes have.are_rows)

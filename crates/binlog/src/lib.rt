@@ -40,10 +40,10 @@ pub use fault::{EventFault, EventFaultKind};
 pub use follow::Follow;
 pub use header::Header;
 pub use row::{Cells, Row};
-pub use table::{TableDef, TableMap};
 pub use rows::{RowPair, Rows};
 pub use rows_event::{RowsEvent, RowsKind};
 pub use rows_writing::{OwnedPair, rows_fit};
+pub use table::{TableDef, TableMap};
 
 #[cfg(test)]
 mod body_tests;

@@ -6,6 +6,7 @@ use crate::column::ColumnType;
 use crate::fault::{EventFault, EventFaultKind};
 use crate::row::Row;
 use crate::rows_event::{RowsEvent, RowsKind};
+use crate::table::TableDef;
 use std::marker::Model;
 
 /// What a rows event says of one row: it came, it went, or it changed.
@@ -47,11 +48,23 @@ impl<'a> RowsEvent<'a> {
     ghost use Rattle.binlog.specs.Rows.{AreItems};
     ghost use Rattle.binlog.specs.RowsView.{rows_value};
 
+    /// The pairs of the event's rows, by its table.
+    ///
+    /// Another number of columns than the event's is `Columns` where that number stands. A row that does not fit is
+    /// the last item: `Truncated` where its bitmap, or the length or the bytes of a value, stands.
+    pub fn rows(&self, table: &'a TableDef) -> Result<Rows<'a>, EventFault>
+        ensures columns { (result ≡ Err (record { kind = EventFaultKind.Columns; at = self.now.columns_at })) ↔ (length table.now.types.items ≢ self.now.columns) }
+        ensures only { IfErr result (λ fault. fault.kind ≡ EventFaultKind.Columns) }
+        ensures items { IfOk result (AreItems (rows_value self.now) (kinds table.now.types.items)) }
+    {
+        self.rows_of(&table.types)
+    }
+
     /// The pairs of the event's rows, whose columns are of these types.
     ///
     /// Another number of types than the event's is `Columns` where that number stands. A row that does not fit is the
     /// last item: `Truncated` where its bitmap, or the length or the bytes of a value, stands.
-    pub(crate) fn rows_of(&self, types: &'a [ColumnType]) -> Result<Rows<'a>, EventFault>
+    fn rows_of(&self, types: &'a [ColumnType]) -> Result<Rows<'a>, EventFault>
         ensures columns { (result ≡ Err (record { kind = EventFaultKind.Columns; at = self.now.columns_at })) ↔ (length types.now ≢ self.now.columns) }
         ensures only { IfErr result (λ fault. fault.kind ≡ EventFaultKind.Columns) }
         ensures items { IfOk result (AreItems (rows_value self.now) (kinds types.now)) }

@@ -25,5 +25,6 @@ pub struct RowsEvent<'a> {
     /// Where in the event the rows stand.
     pub bytes_at: usize,
     ghost some_columns: { 1 ≤ columns },
+    ghost few_columns: { columns ≤ 4096 },
     ghost in_event: { bytes_at + length bytes.now < 2 ^ 32 },
 }

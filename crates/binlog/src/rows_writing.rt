@@ -54,7 +54,8 @@ fn pair_fits(kind: RowsKind, types: &[ColumnType], pair: &OwnedPair) -> bool
             _ => false,
         },
         RowsKind::Update => match pair {
-            OwnedPair::Update { before, after } => row_fits(types, before) && row_fits(types, after),
+            OwnedPair::Update { before, after } => row_fits(types, before)
+                && row_fits(types, after),
             _ => false,
         },
     }

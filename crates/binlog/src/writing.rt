@@ -13,12 +13,10 @@ use crate::rows_event_writing::{rows_event_fits, write_rows_event};
 /// The body of a format description: version 4, server 8.0.36, and the lengths of 35 types, of which those that are
 /// not read are 0.
 const FORMAT: &[u8] = &[
-    4, 0, 56, 46, 48, 46, 51, 54, 0, 0, 0, 0, 0, 0, 0, 0, 0, 0, 0,
-    0, 0, 0, 0, 0, 0, 0, 0, 0, 0, 0, 0, 0, 0, 0, 0, 0, 0, 0,
-    0, 0, 0, 0, 0, 0, 0, 0, 0, 0, 0, 0, 0, 0, 0, 0, 0, 0, 19,
-    0, 13, 0, 8, 0, 0, 0, 0, 0, 0, 0, 0, 0, 0, 0, 0, 0, 0, 8,
-    0, 0, 0, 0, 0, 0, 0, 0, 0, 0, 10, 10, 10, 0, 0, 0, 0, 0, 0,
-    0, 0,
+    4, 0, 56, 46, 48, 46, 51, 54, 0, 0, 0, 0, 0, 0, 0, 0, 0, 0, 0, 0, 0, 0, 0, 0, 0, 0, 0, 0, 0, 0,
+    0, 0, 0, 0, 0, 0, 0, 0, 0, 0, 0, 0, 0, 0, 0, 0, 0, 0, 0, 0, 0, 0, 0, 0, 0, 0, 19, 0, 13, 0, 8,
+    0, 0, 0, 0, 0, 0, 0, 0, 0, 0, 0, 0, 0, 0, 8, 0, 0, 0, 0, 0, 0, 0, 0, 0, 0, 10, 10, 10, 0, 0, 0,
+    0, 0, 0, 0, 0,
 ];
 
 /// The bodies of queries: no thread, time, schema, error and status, and the text.
@@ -31,9 +29,7 @@ pub(crate) fn header(code: u8, size: u32) -> [u8; 19]
     ensures { result ≡ header_bytes code size }
 {
     let [a, b, c, d] = size.to_le_bytes();
-    [
-        0, 0, 0, 0, code, 1, 0, 0, 0, a, b, c, d, 0, 0, 0, 0, 0, 0,
-    ]
+    [0, 0, 0, 0, code, 1, 0, 0, 0, a, b, c, d, 0, 0, 0, 0, 0, 0]
 }
 
 /// Sets the header of an event of which all other bytes stand.

@@ -1,7 +1,7 @@
-use Rattle.std.proofs.Common.{Some, ◌≡◌, ◌∙◌, ◌-◌, ◌+◌, ◌≤◌, ℕ, List, length, take, drop, sym, ap, subst, arith}
+use Rattle.std.proofs.Common.{Some, ◌∙◌, ◌≤◌, length, take, drop, sym, ap, subst, arith}
 use Rattle.std.proofs.lemmas.List.{take-append-drop, length-take-le, take_rest}
 use Rattle.wire.specs.Integer.{IsLengthEncoded}
-use Rattle.binlog.proofs.Counts.{counted, count_not_refused, too_few, none_begins}
+use Rattle.binlog.proofs.Counts.{counted, count_not_refused, too_few}
 use Rattle.binlog.proofs.count.read_count.Goals as goal
 
 pub returns-in-Some-clause-value : goal.returns-in-Some-clause-value

@@ -1,9 +1,10 @@
+use Rattle.binlog.specs.Row.{row_cells}
 use Rattle.binlog.proofs.Cuts.{IsBytes-all}
 use Rattle.binlog.proofs.RowCells as lemma
 use Rattle.binlog.proofs.laws.one_row.Goals as goal
 
 pub returns-clause-some : goal.returns-clause-some
-returns-clause-some c types bytes end all is = let there = lemma.row_is_there types bytes end (IsBytes-all bytes all) is in record { cells = lemma.row_cells types bytes; within = there.0; is_row = there.1 }
+returns-clause-some c types bytes end all is = let there = lemma.row_is_there types bytes end (IsBytes-all bytes all) is in record { cells = row_cells types bytes; within = there.0; is_row = there.1 }
 
 pub returns-clause-whole : goal.returns-clause-whole
 returns-clause-whole c types cells first rest is = (lemma.row_is_read types cells first rest is).0

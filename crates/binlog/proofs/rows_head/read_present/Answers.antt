@@ -1,5 +1,4 @@
-use Rattle.std.proofs.Common.{◌≡◌, ◌+◌, ◌-◌, ◌≤◌, ◌<◌, ℕ, true, false, List, length, take, drop, sym, ap, subst, ◌∙◌, arith, inl, inr}
-use Rattle.std.proofs.lemmas.Bool.{cases_lt}
+use Rattle.std.proofs.Common.{◌≡◌, ◌+◌, ◌-◌, ◌≤◌, true, false, length, take, drop, sym, subst, ◌∙◌, arith}
 use Rattle.binlog.specs.Row.{bitmap_size, is_set}
 use Rattle.binlog.proofs.RowsHead.{full, not_full, present_whole, present_partial, one_more}
 use Rattle.binlog.proofs.rows_head.read_present.Goals as goal

@@ -1,15 +1,14 @@
-use Rattle.std.proofs.Common.{◌≡◌, ℕ, ◌+◌, ◌-◌, ◌≤◌, List, length, take, drop, Some, None, refl, sym, ap, subst, ◌∙◌, arith}
-use Rattle.std.specs.Result.{IfErr}
+use Rattle.std.proofs.Common.{◌≡◌, ℕ, ◌+◌, ◌-◌, ◌≤◌, List, length, take, drop, None, sym, ap, subst, ◌∙◌, arith}
 use Rattle.std.proofs.lemmas.List.{take_rest}
 use Rattle.std.proofs.lemmas.Option.{none-some}
 use Rattle.std.proofs.lemmas.Result.{err_from_is_err_and}
 use Rattle.byteorder.specs.Endian.{little_number}
 use Rattle.binlog.specs.Count.{count_width, count_at, no_count}
 use Rattle.binlog.specs.Fault.{number_at}
-use Rattle.binlog.specs.Rows.{RowsValue, IsRows, presents_size, presents_fault, rows_fault}
+use Rattle.binlog.specs.Rows.{RowsValue, IsRows, presents_size, presents_fault}
 use Rattle.binlog.specs.declared.fault.EventFaultKind.TheVariants.{Columns}
 use Rattle.binlog.proofs.Counts.{is_counted}
-use Rattle.binlog.proofs.RowsHead.{AreParts, count_place, columns_of, presents_place, rows_place, stated, is_rows, rows_told, not_uncounted, rows_then, only_line}
+use Rattle.binlog.proofs.RowsHead.{AreParts, count_place, columns_of, rows_place, stated, is_rows, rows_told, not_uncounted, rows_then, only_line}
 use Rattle.binlog.proofs.rows_head.read_rows.Goals as goal
 
 -- the extra length, as the code reads it

@@ -1,27 +1,34 @@
-use Rattle.std.proofs.Common.{rules, ◌≡◌, ◌<◌, ◌≤◌, ◌^◌, ◌↔◌, nat_lt, IsTrue, ℕ, ◌+◌, ◌-◌, ◌*◌, length, ◌/◌, ◌%◌, Bool, true, false, nat_eq, List, [], ◌∷◌, ◌++◌, slice_index_or, slice_set, bit_and, bit_or, Fits, w8, w32, w64, Bor, MutBor}
+use Rattle.std.proofs.Common.{◌≡◌, ◌+◌, true, false, ◌&&◌, drop, refl, sym, ap, ◌∙◌, arith}
 use Rattle.binlog.specs.Cell.{owned_value, owned_values}
 use Rattle.binlog.specs.Row.{kinds}
-use Rattle.binlog.specs.RowsView.{owned_pair, owned_pairs}
-use Rattle.binlog.specs.RowsWritten.{HaveRows, value_fits, row_fits, pair_fits}
-use Rattle.binlog.specs.Shape.{is_readable}
+use Rattle.binlog.specs.RowsWritten.{value_fits, row_fits}
+use Rattle.binlog.specs.Shape.{shape}
+use Rattle.binlog.proofs.RowsWritten.{row_from, row_over, row_of_others}
 use Rattle.binlog.proofs.rows_writing.row_fits.Goals as goal
 
--- src/rows_writing.rt:68:9
 pub returns-then-types-cells : goal.returns-then-types-cells
-returns-then-types-cells c = ?
+returns-then-types-cells c = sym (row_of_others c.args.types.now c.args.cells.now c.if-types-cells.true)
 
--- src/rows_writing.rt:70:5
 pub loop-i-init : goal.loop-i-init
-loop-i-init c = ?
+loop-i-init c = refl
 
--- src/rows_writing.rt:72:13
 pub returns-then-not-value_fits : goal.returns-then-not-value_fits
-returns-then-not-value_fits c = ?
+returns-then-not-value_fits c =
+    let long = c.if-types-cells.false in
+    let not : value_fits (shape c.index-types-i.result.kind) (owned_value c.index-cells-i.result) ≡ false = ap (λ s. value_fits s (owned_value c.index-cells-i.result)) (sym c.shape_of.ensures.shape) ∙ sym c.if-not-value_fits.ensures in
+    sym (c.loop-i.invariant
+    ∙ row_from c.args.types.now c.args.cells.now c.loop-i.i c.index-types-i.result c.index-cells-i.result c.loop-i-test.true (omega (arith, long, c.loop-i-test.true)) c.index-types-i.is c.index-cells-i.is
+    ∙ ap (λ b. b && row_fits (drop (c.loop-i.i + 1) (kinds c.args.types.now)) (drop (c.loop-i.i + 1) (owned_values c.args.cells.now))) not)
 
--- src/rows_writing.rt:70:5
 pub loop-i-preserved : goal.loop-i-preserved
-loop-i-preserved c = ?
+loop-i-preserved c =
+    let long = c.if-types-cells.false in
+    let fits : value_fits (shape c.index-types-i.result.kind) (owned_value c.index-cells-i.result) ≡ true = ap (λ s. value_fits s (owned_value c.index-cells-i.result)) (sym c.shape_of.ensures.shape) ∙ sym c.if-not-value_fits.ensures in
+    c.loop-i.invariant
+    ∙ row_from c.args.types.now c.args.cells.now c.loop-i.i c.index-types-i.result c.index-cells-i.result c.loop-i-test.true (omega (arith, long, c.loop-i-test.true)) c.index-types-i.is c.index-cells-i.is
+    ∙ ap (λ b. b && row_fits (drop (c.loop-i.i + 1) (kinds c.args.types.now)) (drop (c.loop-i.i + 1) (owned_values c.args.cells.now))) fits
 
--- src/rows_writing.rt:64:1
 pub returns : goal.returns
-returns c = ?
+returns c =
+    let long = c.if-types-cells.false in
+    sym (c.loop-i.invariant ∙ row_over c.args.types.now c.args.cells.now c.loop-i.i c.loop-i-test.false (omega (arith, long, c.loop-i-test.false)))

@@ -1,7 +1,7 @@
 use Rattle.std.proofs.Common.{◌≡◌, ◌∙◌, length, sym, ap}
 use Rattle.std.proofs.lemmas.List.{length-map}
 use Rattle.std.specs.FinSet as set
-use Rattle.binlog.specs.Follow.{Names, name_cmp, follows}
+use Rattle.binlog.specs.Follow.{name_cmp, follows}
 use Rattle.binlog.specs.FollowView.{names_of}
 use Rattle.binlog.proofs.Followed.{follow_by}
 use Rattle.binlog.proofs.follow.Follow.follows.Goals as goal

@@ -1,10 +1,9 @@
-use Rattle.std.proofs.Common.{◌≡◌, ◌≤◌, ◌+◌, ◌-◌, ℕ, List, Result, Ok, Err, length, take, drop, refl, sym, ap, subst, ◌∙◌, arith}
+use Rattle.std.proofs.Common.{◌≡◌, ◌≤◌, Err, length, take, drop, sym, ap, subst, ◌∙◌, arith}
 use Rattle.std.proofs.lemmas.List.{length-drop, take_rest}
 use Rattle.std.specs.Result.{IfErr}
 use Rattle.std.proofs.lemmas.Result.{err_from_is_err_and}
-use Rattle.binlog.specs.Row.{kinds, IsRow, further, row_end, row_cells}
+use Rattle.binlog.specs.Row.{kinds, IsRow, row_end}
 use Rattle.binlog.specs.Rows.{inserted, deleted, pair_of, pair_end}
-use Rattle.binlog.specs.declared.rows_event.RowsKind.TheVariants.{Write, Update, Delete}
 use Rattle.binlog.proofs.RowCells.{drop_bytes}
 use Rattle.binlog.proofs.RowsItems.{row_early, row_front, both_rows, early_second}
 use Rattle.binlog.proofs.rows.RowPair.read.Goals as goal

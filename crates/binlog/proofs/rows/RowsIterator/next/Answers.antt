@@ -1,9 +1,9 @@
-use Rattle.std.proofs.Common.{◌≡◌, ◌+◌, ◌∷◌, ◌≤◌, List, Ok, Err, length, drop, sym, ap, ◌∙◌, arith}
+use Rattle.std.proofs.Common.{◌+◌, ◌∷◌, ◌≤◌, Ok, length, sym, ◌∙◌, arith}
 use Rattle.std.proofs.lemmas.List.{length-map, take_rest}
 use Rattle.binlog.specs.Row.{kinds}
-use Rattle.binlog.specs.Rows.{pair_end, items_of}
+use Rattle.binlog.specs.Rows.{items_of}
 use Rattle.binlog.specs.declared.column.ColumnType.{ColumnType}
-use Rattle.binlog.proofs.RowsItems.{pair_first, fault_first, shorter}
+use Rattle.binlog.proofs.RowsItems.{pair_first, shorter}
 use Rattle.binlog.proofs.rows.RowsIterator.next.Goals as goal
 
 pub returns-in-Ok-clause-steps : goal.returns-in-Ok-clause-steps
