@@ -1,6 +1,7 @@
 //! Events as bytes. MySQL Source Documentation, "Binlog Event".
 
-ghost use Rattle.std.specs.Prelude.{◌≡◌, ℕ, ◌+◌, ◌<◌, ◌≤◌, ◌^◌, ◌++◌, ◌↔◌, List, IsTrue, nat_lt, length, take, drop, OnOk, OnErr, IfOk, IfErr, Err};
+ghost use Rattle.std.specs.Prelude.{◌≡◌, ℕ, ◌+◌, ◌<◌, ◌≤◌, ◌^◌, ◌++◌, ◌↔◌, List, IsTrue, length, take, drop, OnOk, OnErr, IfOk, IfErr, Err};
+ghost use Rattle.binlog.specs.Event.{rotate, gtid, xid};
 ghost use Rattle.binlog.specs.EventView.{event_value};
 ghost use Rattle.binlog.specs.Writing.{IsWritable, header_bytes, event_code, event_body, event_bytes};
 ghost use Rattle.binlog.specs.declared.fault.EventFaultKind.TheVariants.{Memory};
@@ -9,6 +10,7 @@ use crate::event::Event;
 use crate::fault::EventFault;
 use crate::map_writing::{map_fits, write_table_map};
 use crate::rows_event_writing::{rows_event_fits, write_rows_event};
+use gtid::Gtid;
 
 /// The body of a format description: version 4, server 8.0.36, and the lengths of 35 types, of which those that are
 /// not read are 0.
@@ -65,12 +67,12 @@ impl Event<'_> {
             Event::Commit => true,
             Event::Neutral => true,
             Event::Stop => true,
-            Event::Rotate { name, .. } => name_fits(name),
-            Event::Gtid(_gtid) => true,
+            Event::Rotate { position, name } => rotate_fits(*position, name),
+            Event::Gtid(gtid) => gtid_fits(*gtid),
             Event::TableMap(map) => map_fits(map),
             Event::OtherMap { .. } => false,
             Event::Rows(rows) => rows_event_fits(rows),
-            Event::Xid { number: _number } => true,
+            Event::Xid { number } => xid_fits(*number),
         }
     }
 
@@ -94,11 +96,25 @@ impl Event<'_> {
     }
 }
 
-/// Whether a rotation to a file of this name is short enough.
-fn name_fits(name: &[u8]) -> bool
-    ensures { result ≡ nat_lt (27 + length name.now) (2 ^ 32) }
+/// Whether some bytes are the rotation: its file's name is short enough.
+fn rotate_fits(position: u64, name: &[u8]) -> bool
+    ensures { IsTrue result ↔ IsWritable (rotate position name.now) }
 {
     name.len() < (1 << 32) - 27
+}
+
+/// Whether some bytes are the identifier: all are.
+fn gtid_fits(id: Gtid) -> bool
+    ensures { IsTrue result ↔ IsWritable (gtid id.source id.number) }
+{
+    true
+}
+
+/// Whether some bytes are the end of a transaction of this number: all are.
+fn xid_fits(number: u64) -> bool
+    ensures { IsTrue result ↔ IsWritable (xid number) }
+{
+    true
 }
 
 /// Appends an event, or a part of it.

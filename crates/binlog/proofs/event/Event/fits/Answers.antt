@@ -1,10 +1,9 @@
-use Rattle.std.proofs.Common.{◌≡◌, ◌∙◌, sym, ap, subst, refl}
-use Rattle.std.proofs.lemmas.Bool.{ltb-true, lt-ltb}
+use Rattle.std.proofs.Common.{sym, subst, refl}
 use Rattle.binlog.specs.EventView.{event_value}
 use Rattle.binlog.specs.TableView.{table_value}
 use Rattle.binlog.specs.RowsView.{rows_value}
 use Rattle.binlog.specs.Writing.{IsWritable}
-use Rattle.binlog.proofs.Written.{writes_format, writes_begin, writes_commit, writes_neutral, writes_stop, writes_rotate, rotate_short, writes_gtid, writes_xid, writes_map, map_of, writes_rows, rows_body_of, no_other_map}
+use Rattle.binlog.proofs.Written.{writes_format, writes_begin, writes_commit, writes_neutral, writes_stop, writes_map, map_of, writes_rows, rows_body_of, no_other_map}
 use Rattle.binlog.proofs.event.Event.fits.Goals as goal
 
 pub returns-in-Format : goal.returns-in-Format
@@ -23,10 +22,16 @@ pub returns-in-Stop : goal.returns-in-Stop
 returns-in-Stop c = ((λ _. subst (λ e. IsWritable (event_value e)) (sym c.in-Stop.is) writes_stop), (λ _. refl))
 
 pub returns-in-Rotate : goal.returns-in-Rotate
-returns-in-Rotate c = ?
+returns-in-Rotate c = (
+      (λ yes. subst (λ e. IsWritable (event_value e)) (sym c.in-Rotate.is) (c.rotate_fits.ensures.0 yes)),
+      (λ w. c.rotate_fits.ensures.1 (subst (λ e. IsWritable (event_value e)) c.in-Rotate.is w)),
+    )
 
 pub returns-in-Gtid : goal.returns-in-Gtid
-returns-in-Gtid c = ?
+returns-in-Gtid c = (
+      (λ yes. subst (λ e. IsWritable (event_value e)) (sym c.in-Gtid.is) (c.gtid_fits.ensures.0 yes)),
+      (λ w. c.gtid_fits.ensures.1 (subst (λ e. IsWritable (event_value e)) c.in-Gtid.is w)),
+    )
 
 pub returns-in-TableMap : goal.returns-in-TableMap
 returns-in-TableMap c =
@@ -46,4 +51,7 @@ returns-in-Rows c =
     )
 
 pub returns-in-Xid : goal.returns-in-Xid
-returns-in-Xid c = ?
+returns-in-Xid c = (
+      (λ yes. subst (λ e. IsWritable (event_value e)) (sym c.in-Xid.is) (c.xid_fits.ensures.0 yes)),
+      (λ w. c.xid_fits.ensures.1 (subst (λ e. IsWritable (event_value e)) c.in-Xid.is w)),
+    )
