@@ -48,4 +48,6 @@ pub use table::{TableDef, TableMap};
 #[cfg(test)]
 mod body_tests;
 #[cfg(test)]
+mod event_tests;
+#[cfg(test)]
 mod tests;

@@ -28,7 +28,7 @@ lists-more offset bytes more (e ∷ entries) rest (packing, others, payload, nex
 
 -- and where they complete a payload, there is one more entry, and no rest
 lists-push : (offset : ℕ) (bytes more : List ℕ) (entries : List Entry) (rest : List ℕ) (entry : Entry) (payload : List ℕ) (next : ℕ) → Lists offset bytes entries rest →
-    IsWholePayload entry.sequence LARGEST_PAYLOAD (rest ++ more) payload next → entry.offset + length rest ≡ offset + length bytes → entry.length ≡ length payload →
+    IsWholePayload entry.sequence LARGEST_PAYLOAD (rest ++ more) payload next → entry.offset + length rest ≡ offset + length bytes → entry.payload.items ≡ payload →
     Lists offset (bytes ++ more) (entries ++ entry ∷ []) []
 lists-push offset bytes more [] rest entry payload next same whole at long =
     (rest ++ more, [], payload, next, ap (λ b. b ++ more) same ∙ sym (append-nil (rest ++ more)), whole, omega (arith, at, ap length same), long, refl)
@@ -81,7 +81,7 @@ listed_held {old} {mid} {piece} {rest} {listed} {entries} new used l in_range he
 
 pub listed_payload : {old mid : Listing} {piece rest : List ℕ} {listed entries : List Entry} (new : Listing) (used : ℕ) (entry : Entry) (payload : List ℕ) (next : ℕ) (now : List Entry) →
     Listed old mid piece rest listed entries → used ≤ length rest → IsWholePayload entry.sequence LARGEST_PAYLOAD (held_of mid ++ take used rest) payload next →
-    held_of new ≡ [] → entry.offset ≡ mid.begin → entry.length ≡ length payload → now ≡ entries ++ entry ∷ [] →
+    held_of new ≡ [] → entry.offset ≡ mid.begin → entry.payload.items ≡ payload → now ≡ entries ++ entry ∷ [] →
     (mid.seen + used < 2 ^ 64 → new.seen ≡ mid.seen + used) → new.begin ≡ new.seen → new.assembler.ended ≡ false → Listed old new piece (drop used rest) listed now
 listed_payload {old} {mid} {piece} {rest} {listed} {entries} new used entry payload next now l in_range whole held offset len now_is seen begin goes_on = record {
   taken = l.taken ++ take used rest;

@@ -9,13 +9,13 @@ use Rattle.mrep.specs.declared.listing.Entry.{Entry}
 use Rattle.mrep.specs.declared.listing.Listing.{Listing}
 
 -- The bytes are the packings of payloads, one behind the other, and then the rest. Each entry has the place of the
--- first byte of one of them, the sequence id of its first packet, and the payload's length. The first stands at this
+-- first byte of one of them, the sequence id of its first packet, and the payload's bytes. The first stands at this
 -- offset.
 abbrev pub Lists : ℕ → List ℕ → List Entry → List ℕ → Type 0
 Lists offset bytes [] rest = bytes ≡ rest
 Lists offset bytes (entry ∷ entries) rest =
     (packing : List ℕ) × (others : List ℕ) × (payload : List ℕ) × (next : ℕ) × (bytes ≡ packing ++ others) × IsWholePayload entry.sequence LARGEST_PAYLOAD packing payload next
-    × (entry.offset ≡ offset) × (entry.length ≡ length payload) × Lists (offset + length packing) others entries rest
+    × (entry.offset ≡ offset) × (entry.payload.items ≡ payload) × Lists (offset + length packing) others entries rest
 
 -- what has come of the payload at hand
 abbrev pub held_of : Listing → List ℕ

@@ -4,7 +4,7 @@ ghost use Rattle.std.specs.Prelude.{◌≤◌, IfOk};
 
 use crate::failure::{DONE, Failure, MEMORY, REFUSED};
 use crate::minus::minus;
-use crate::packets::packets;
+use crate::stream::{Lines, list};
 use clap::error::ErrorKind;
 use clap::{Arg, ArgAction, Command};
 use std::alloc::{AllocError, Global};
@@ -13,15 +13,22 @@ use std::io;
 use std::io::Write;
 use std::rt::Files;
 
-/// What the words may be.
-fn grammar<'a>(alloc: Global) -> Result<Command<'a>, AllocError> {
-    let file = Arg::new(alloc, "FILE")
+/// The word that names a stream.
+fn stream<'a>(alloc: Global) -> Arg<'a> {
+    Arg::new(alloc, "FILE")
         .required(true)
         .action(ArgAction::Set)
-        .help("A stream of packets, as a file");
+        .help("A stream of packets, as a file")
+}
+
+/// What the words may be.
+fn grammar<'a>(alloc: Global) -> Result<Command<'a>, AllocError> {
     let packets = Command::new(alloc, "packets")
         .about("List the payloads of a stream of packets: offset, sequence id, length")
-        .arg(file)?;
+        .arg(stream(alloc))?;
+    let events = Command::new(alloc, "events")
+        .about("List the events of a stream of packets: offset, sequence id, type, size, kind")
+        .arg(stream(alloc))?;
     let left = Arg::new(alloc, "X")
         .required(true)
         .action(ArgAction::Set)
@@ -40,6 +47,7 @@ fn grammar<'a>(alloc: Global) -> Result<Command<'a>, AllocError> {
             .about("A follower of MySQL")
             .subcommand_required(true)
             .subcommand(packets)?
+            .subcommand(events)?
             .subcommand(minus)?,
     )
 }
@@ -62,7 +70,12 @@ fn run<'a, R: Files + AllocGlobal, S: AsStr, O: Write>(
         Err(error) => return Err(Failure::Words(error)),
     };
     let status = match matches.subcommand() {
-        Some(("packets", given)) => packets(rt, given.get_str("FILE").unwrap_or(""), out)?,
+        Some(("packets", given)) => {
+            list(rt, given.get_str("FILE").unwrap_or(""), Lines::Packets, out)?
+        }
+        Some(("events", given)) => {
+            list(rt, given.get_str("FILE").unwrap_or(""), Lines::Events, out)?
+        }
         Some(("minus", given)) => minus(
             rt,
             given.get_str("X").unwrap_or(""),

@@ -10,12 +10,12 @@ use wire::{Assembler, LARGEST_PAYLOAD, Step, WireFault};
 /// The length of a packet's header, whose last byte is the sequence id.
 const HEADER: usize = 4;
 
-/// A payload of a stream: where its first packet begins, that packet's sequence id, and how long it is.
-#[derive(Clone, Copy, Debug, PartialEq, Eq)]
+/// A payload of a stream: where its first packet begins, that packet's sequence id, and its bytes.
+#[derive(Debug, PartialEq, Eq, Drop)]
 pub struct Entry {
     pub offset: u64,
     pub sequence: u8,
-    pub length: usize,
+    pub payload: Vec<u8>,
 }
 
 /// A reader of a stream that comes in any pieces. The first packet of each payload may have any sequence
@@ -125,7 +125,7 @@ impl Listing {
                 entries.push(Entry {
                     offset: self.begin,
                     sequence: self.sequence,
-                    length: payload.len(),
+                    payload,
                 })?;
                 self.begin = self.seen;
             }

@@ -5,11 +5,12 @@
 #![tactic(auto)]
 
 mod command;
+mod events;
 mod failure;
 mod listing;
 mod minus;
-mod packets;
 mod reason;
+mod stream;
 #[cfg(test)]
 mod tests;
 

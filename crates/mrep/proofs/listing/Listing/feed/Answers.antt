@@ -11,10 +11,10 @@ pub loop-rest-preserved-in-Some : goal.loop-rest-preserved-in-Some
 loop-rest-preserved-in-Some c =
     let t = c.in_ok-used.ensures.takes in
     let whole = rw c.in-Some.is at t.taken in
-    let entry : Entry = record { offset = c.take.new.self.begin; sequence = c.take.new.self.sequence; length = c.len.result } in
+    let entry : Entry = record { offset = c.take.new.self.begin; sequence = c.take.new.self.sequence; payload = c.in-Some.payload } in
     rw take_rest
     (listed_payload _ c.in_ok-used.field-0.used entry c.in-Some.payload.items whole.0 c.push.new.self.items c.loop-rest.invariant t.in_range whole.1 whole.2
-    t.begin (omega (arith, c.len.ensures, c.in-Some.payload.ok)) c.in_ok-push.ensures.items
+    t.begin refl c.in_ok-push.ensures.items
     (λ h. omega (arith, c.saturating_add-self.ensures, t.seen, h)) refl t.goes_on)
 
 pub loop-rest-preserved : goal.loop-rest-preserved

@@ -1,9 +1,10 @@
-//! `mrep packets`: the payloads of a stream, one a line.
+//! `mrep packets` and `mrep events`: the payloads of a stream, one a line.
 
 ghost use Rattle.std.specs.Prelude.{◌≤◌, IfOk};
 
+use crate::events::write_event;
 use crate::failure::{DONE, Failure, REFUSED};
-use crate::listing::Listing;
+use crate::listing::{Entry, Listing};
 use crate::reason::wire_reason;
 use std::io::{Read, Write};
 use std::rt::Files;
@@ -13,11 +14,21 @@ use wire::WireFault;
 /// How many bytes are read at once.
 const PIECE: usize = 65_536;
 
-/// Lists the payloads of a file, and answers the status: 0 where the file ends with a payload, 1 where
-/// it ends inside one or a fault stands in it.
-pub fn packets<'a, R: Files + AllocGlobal, W: Write>(
+/// What is said of a payload.
+#[derive(Clone, Copy, Debug, PartialEq, Eq)]
+pub enum Lines {
+    /// How long it is.
+    Packets,
+    /// Which event it carries.
+    Events,
+}
+
+/// Lists the payloads of a file, and answers the status: 0 where the file ends with a payload, 1 where it ends inside
+/// one or a fault stands in it.
+pub fn list<'a, R: Files + AllocGlobal, W: Write>(
     rt: &R,
     name: &'a str,
+    lines: Lines,
     out: &mut W,
 ) -> Result<u8, Failure<'a>>
     ensures { IfOk result (λ status. status ≤ REFUSED) }
@@ -34,8 +45,8 @@ pub fn packets<'a, R: Files + AllocGlobal, W: Write>(
             Err(cause) => return Err(Failure::File { name, cause }),
         };
         let listed = listing.feed(&piece[..count], &mut entries);
-        for entry in &entries {
-            writeln!(out, "{} {} {}", entry.offset, entry.sequence, entry.length)?;
+        if !write_entries(lines, &entries, out)? {
+            return Ok(REFUSED);
         }
         entries.clear();
         match listed {
@@ -50,4 +61,29 @@ pub fn packets<'a, R: Files + AllocGlobal, W: Write>(
     let rest = listing.rest();
     writeln!(out, "rest {rest}")?;
     Ok(if rest == 0 { DONE } else { REFUSED })
+}
+
+/// Writes a line for each payload, up to one with a fault, and answers whether there was none.
+fn write_entries<W: Write>(lines: Lines, entries: &[Entry], out: &mut W) -> io::Result<bool> {
+    for entry in entries {
+        if !write_entry(lines, entry, out)? {
+            return Ok(false);
+        }
+    }
+    Ok(true)
+}
+
+/// Writes the line of a payload, and answers whether it is without a fault.
+fn write_entry<W: Write>(lines: Lines, entry: &Entry, out: &mut W) -> io::Result<bool> {
+    let Entry {
+        offset, sequence, ..
+    } = entry;
+    match lines {
+        Lines::Packets => {
+            let length = entry.payload.len();
+            writeln!(out, "{offset} {sequence} {length}")?;
+            Ok(true)
+        }
+        Lines::Events => write_event(*offset, *sequence, &entry.payload, out),
+    }
 }

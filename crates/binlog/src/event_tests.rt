@@ -1,0 +1,362 @@
+//! Whole events, by worked values.
+
+use super::*;
+use gtid::Gtid;
+use std::alloc::Global;
+use std::test::Fail;
+
+const SOURCE: [u8; 16] = [
+    0x3e, 0x11, 0xfa, 0x47, 0x71, 0xca, 0x11, 0xe1, 0x9e, 0x33, 0xc8, 0x0a, 0xa9, 0x42, 0x95, 0x62,
+];
+
+/// The map of shop.items: LONG and VARCHAR(20).
+const MAP: [u8; 28] = *b"\x01\0\0\0\0\0\0\0\x04shop\0\x05items\0\x02\x03\x0f\x02\x14\0\x03";
+
+/// A rows event of two rows (7, "ab").
+const ROWS: [u8; 28] =
+    *b"\x01\0\0\0\0\0\x01\0\x02\0\x02\x03\0\x07\0\0\0\x02ab\0\x07\0\0\0\x02ab";
+
+/// An update of (7, "ab") to (null, "ab").
+const UPDATE: [u8; 25] = *b"\x01\0\0\0\0\0\x01\0\x02\0\x02\x03\x03\0\x07\0\0\0\x02ab\x01\x02ab";
+
+/// An event of this type, flags and body, from server 1.
+fn event(alloc: Global, code: u8, flags: u8, body: &[u8]) -> Result<Vec<u8>, Fail> {
+    let size = (19 + body.len() as u64) as u8;
+    let mut event = Vec::from_slice(
+        alloc,
+        &[
+            0, 0, 0, 0, code, 1, 0, 0, 0, size, 0, 0, 0, 0, 0, 0, 0, flags, 0,
+        ],
+    )?;
+    event.extend_from_slice(body)?;
+    Ok(event)
+}
+
+/// The same with some bytes changed.
+fn changed(
+    alloc: Global,
+    code: u8,
+    body: &[u8],
+    changes: &[(usize, u8)],
+) -> Result<Vec<u8>, Fail> {
+    let mut event = event(alloc, code, 0, body)?;
+    for (at, new) in changes {
+        let byte = event.get_mut(*at).ok_or("a shorter event")?;
+        *byte = *new;
+    }
+    Ok(event)
+}
+
+fn fault(kind: EventFaultKind, at: usize) -> EventFault {
+    EventFault { kind, at }
+}
+
+/// What is wrong with bytes that are no event.
+fn refused(bytes: &[u8]) -> Result<EventFault, Fail> {
+    Ok(read_event(bytes).err().ok_or("an event")?)
+}
+
+#[test]
+fn types(rt: HostRuntime) -> Result<(), Fail> {
+    let alloc = rt.alloc();
+    for code in [27, 28, 29, 35] {
+        let bytes = event(alloc, code, 0, b"any body")?;
+        assert!(rt; matches!(read_event(&bytes), Ok(Event::Neutral)), "{code}");
+    }
+    let marked = event(alloc, 99, 0x80, b"x")?;
+    assert!(rt; matches!(read_event(&marked), Ok(Event::Neutral)));
+    let stop = event(alloc, 3, 0, b"x")?;
+    assert!(rt; matches!(read_event(&stop), Ok(Event::Stop)));
+    let cases = [
+        (99, 0, EventFaultKind::TypeCode(99)),
+        (99, 0x7f, EventFaultKind::TypeCode(99)),
+        (34, 0, EventFaultKind::Anonymous),
+        (34, 0x80, EventFaultKind::Anonymous),
+        (38, 0, EventFaultKind::TypeCode(38)),
+        (39, 0x80, EventFaultKind::TypeCode(39)),
+        (40, 0x80, EventFaultKind::TypeCode(40)),
+    ];
+    for (code, flags, kind) in cases {
+        let bytes = event(alloc, code, flags, b"")?;
+        assert_eq!(rt; refused(&bytes)?, fault(kind, 4), "{code} {flags}");
+    }
+    Ok(())
+}
+
+#[test]
+fn table_maps(rt: HostRuntime) -> Result<(), Fail> {
+    let alloc = rt.alloc();
+    let bytes = event(alloc, 19, 0, &MAP)?;
+    let Ok(Event::TableMap(map)) = read_event(&bytes) else {
+        return Err("no table map")?;
+    };
+    assert_eq!(rt; (map.id, map.columns.len()), (1, 2));
+    assert!(rt; !map.columns.is_empty());
+    assert_eq!(rt; map.schema, b"shop".as_slice());
+    assert_eq!(rt; map.table, b"items".as_slice());
+    let mut kinds = Vec::new(alloc);
+    for column in map.columns.iter() {
+        kinds.push(column.kind)?;
+    }
+    let want = [ColumnKind::Long, ColumnKind::Varchar { maximum: 20 }];
+    assert_eq!(rt; kinds.as_slice(), want.as_slice());
+    let table = map.copy(alloc)?;
+    assert_eq!(rt; table.schema.as_slice(), b"shop".as_slice());
+    assert_eq!(rt; table.table.as_slice(), b"items".as_slice());
+    assert_eq!(rt; table.types.len(), 2);
+    let mut again = Vec::new(alloc);
+    Event::TableMap(table.map(1)).write(&mut again)?;
+    assert_eq!(rt; again.as_slice(), bytes.as_slice());
+    Ok(())
+}
+
+/// Bytes of an event changed, and the first refusal.
+#[test]
+fn refusals(rt: HostRuntime) -> Result<(), Fail> {
+    let alloc = rt.alloc();
+    let maps: [(&[(usize, u8)], EventFaultKind, usize); 14] = [
+        (&[(27, 200)], EventFaultKind::Truncated, 28),
+        (&[(27, 19)], EventFaultKind::Truncated, 47),
+        (&[(33, 200)], EventFaultKind::Truncated, 34),
+        (&[(33, 13)], EventFaultKind::Truncated, 47),
+        (&[(40, 0)], EventFaultKind::Columns, 40),
+        (&[(40, 0xfb)], EventFaultKind::Columns, 40),
+        (&[(40, 0xff)], EventFaultKind::Columns, 40),
+        (&[(40, 0xfc), (41, 1), (42, 16)], EventFaultKind::Columns, 40),
+        (&[(40, 200)], EventFaultKind::Truncated, 41),
+        (&[(42, 253)], EventFaultKind::ColumnType(253), 42),
+        (&[(41, 0), (42, 253), (43, 9)], EventFaultKind::ColumnType(0), 41),
+        (&[(43, 3)], EventFaultKind::Metadata, 43),
+        (&[(43, 0xfb)], EventFaultKind::Metadata, 43),
+        (&[(42, 246), (45, 21)], EventFaultKind::Metadata, 44),
+    ];
+    for (changes, kind, at) in maps {
+        let bytes = changed(alloc, 19, &MAP, changes)?;
+        assert_eq!(rt; refused(&bytes)?, fault(kind, at), "{changes:?}");
+    }
+    let strings: [(u8, u8, EventFaultKind); 4] = [
+        (253, 5, EventFaultKind::ColumnType(253)),
+        (247, 3, EventFaultKind::Metadata),
+        (248, 9, EventFaultKind::Metadata),
+        (0x8e, 0, EventFaultKind::ColumnType(0xbe)),
+    ];
+    for (first, second, kind) in strings {
+        let bytes = changed(alloc, 19, &MAP, &[(42, 254), (44, first), (45, second)])?;
+        assert_eq!(rt; refused(&bytes)?, fault(kind, 44), "{first} {second}");
+    }
+    let rows: [(u8, &[(usize, u8)], EventFaultKind, usize); 9] = [
+        (30, &[(27, 1)], EventFaultKind::Size, 27),
+        (30, &[(27, 0)], EventFaultKind::Size, 27),
+        (30, &[(27, 200)], EventFaultKind::Truncated, 29),
+        (30, &[(29, 0)], EventFaultKind::Columns, 29),
+        (30, &[(29, 0xff)], EventFaultKind::Columns, 29),
+        (30, &[(29, 200)], EventFaultKind::Truncated, 30),
+        (30, &[(30, 1)], EventFaultKind::Partial, 30),
+        (32, &[(30, 2)], EventFaultKind::Partial, 30),
+        (31, &[(31, 0)], EventFaultKind::Partial, 31),
+    ];
+    for (code, changes, kind, at) in rows {
+        let bytes = changed(alloc, code, &ROWS, changes)?;
+        assert_eq!(rt; refused(&bytes)?, fault(kind, at), "{code} {changes:?}");
+    }
+    Ok(())
+}
+
+/// Events cut short: each field that does not fit is named by its first byte.
+#[test]
+fn cut_events(rt: HostRuntime) -> Result<(), Fail> {
+    let alloc = rt.alloc();
+    let maps = [
+        (0, 19),
+        (5, 19),
+        (6, 25),
+        (8, 27),
+        (9, 28),
+        (12, 28),
+        (13, 32),
+        (14, 33),
+        (15, 34),
+        (20, 39),
+        (21, 40),
+        (22, 41),
+        (23, 41),
+        (24, 43),
+        (25, 44),
+        (26, 44),
+        (27, 46),
+    ];
+    for (len, at) in maps {
+        let bytes = event(alloc, 19, 0, MAP.get(..len).ok_or("a shorter body")?)?;
+        assert_eq!(rt; refused(&bytes)?, fault(EventFaultKind::Truncated, at), "{len}");
+    }
+    let rows = [(0, 19), (6, 25), (8, 27), (9, 27), (10, 29), (11, 30)];
+    for (len, at) in rows {
+        let bytes = event(alloc, 30, 0, ROWS.get(..len).ok_or("a shorter body")?)?;
+        assert_eq!(rt; refused(&bytes)?, fault(EventFaultKind::Truncated, at), "{len}");
+    }
+    let second = event(alloc, 31, 0, &[1, 0, 0, 0, 0, 0, 1, 0, 2, 0, 2, 3])?;
+    assert_eq!(rt; refused(&second)?, fault(EventFaultKind::Truncated, 31));
+    Ok(())
+}
+
+/// The table of `MAP`.
+fn items(alloc: Global) -> Result<TableDef, Fail> {
+    let bytes = event(alloc, 19, 0, &MAP)?;
+    let Ok(Event::TableMap(map)) = read_event(&bytes) else {
+        return Err("no table map")?;
+    };
+    Ok(map.copy(alloc)?)
+}
+
+/// A cell as `null`, as its number and width, or as its bytes.
+fn cells(alloc: Global, row: &Row<'_>) -> Result<String, Fail> {
+    let mut text = String::new(alloc);
+    for cell in row.cells() {
+        let cell = match cell {
+            Cell::Null => format!(in alloc; "null ")?,
+            Cell::Number { value, width } => format!(in alloc; "{value}/{width} ")?,
+            Cell::Bytes(bytes) => format!(in alloc; "{bytes:?} ")?,
+        };
+        text.push_str(&cell)?;
+    }
+    Ok(text)
+}
+
+/// The rows of an event, one item after another.
+fn told(alloc: Global, code: u8, body: &[u8], changes: &[(usize, u8)]) -> Result<String, Fail> {
+    let table = items(alloc)?;
+    let bytes = changed(alloc, code, body, changes)?;
+    let Ok(Event::Rows(rows)) = read_event(&bytes) else {
+        return Err("no rows event")?;
+    };
+    let mut text = String::new(alloc);
+    for item in rows.rows(&table)? {
+        let item = match item {
+            Ok(RowPair::Insert { after }) => format!(in alloc; "+ {}", cells(alloc, &after)?)?,
+            Ok(RowPair::Delete { before }) => format!(in alloc; "- {}", cells(alloc, &before)?)?,
+            Ok(RowPair::Update { before, after }) => {
+                format!(in alloc; "- {}+ {}", cells(alloc, &before)?, cells(alloc, &after)?)?
+            }
+            Err(fault) => format!(in alloc; "{fault}")?,
+        };
+        text.push_str(&item)?;
+    }
+    Ok(text)
+}
+
+#[test]
+fn rows(rt: HostRuntime) -> Result<(), Fail> {
+    let alloc = rt.alloc();
+    let cases: [(u8, &[u8], &[(usize, u8)], &str); 8] = [
+        (30, &ROWS, &[], "+ 7/4 [97, 98] + 7/4 [97, 98] "),
+        (32, &ROWS, &[], "- 7/4 [97, 98] - 7/4 [97, 98] "),
+        (
+            30,
+            &ROWS,
+            &[(30, 0xff), (31, 0xfc), (39, 0xfc)],
+            "+ 7/4 [97, 98] + 7/4 [97, 98] ",
+        ),
+        (
+            30,
+            &ROWS,
+            &[(44, 3)],
+            "+ 7/4 [97, 98] the event ends early at 45",
+        ),
+        (
+            30,
+            &ROWS,
+            &[(44, 1)],
+            "+ 7/4 [97, 98] + 7/4 [97] the event ends early at 47",
+        ),
+        (31, &UPDATE, &[], "- 7/4 [97, 98] + null [97, 98] "),
+        (31, &UPDATE, &[(41, 3)], "the event ends early at 42"),
+        (30, &ROWS[..12], &[], ""),
+    ];
+    for (code, body, changes, want) in cases {
+        let text = told(alloc, code, body, changes)?;
+        assert_eq!(rt; text.as_str(), want, "{code} {changes:?}");
+    }
+    let bytes = changed(alloc, 30, &ROWS, &[(29, 1)])?;
+    let Ok(Event::Rows(rows)) = read_event(&bytes) else {
+        return Err("no rows event")?;
+    };
+    let table = items(alloc)?;
+    let fault = rows.rows(&table).err().ok_or("rows of another table")?;
+    assert_eq!(rt; fault, EventFault { kind: EventFaultKind::Columns, at: 29 });
+    Ok(())
+}
+
+#[test]
+fn followed_tables(rt: HostRuntime) -> Result<(), Fail> {
+    let alloc = rt.alloc();
+    let name = (
+        Vec::from_slice(alloc, b"shop")?,
+        Vec::from_slice(alloc, b"other")?,
+    );
+    let items = (
+        Vec::from_slice(alloc, b"shop")?,
+        Vec::from_slice(alloc, b"items")?,
+    );
+    let other = Follow::new(alloc, &[name])?;
+    let shop = Follow::new(alloc, &[items])?;
+    assert!(rt; other.follows(b"shop", b"other"));
+    assert!(rt; !other.follows(b"shop", b"items"));
+    assert!(rt; !other.follows(b"other", b"shop"));
+    assert!(rt; Follow::all(alloc).follows(b"shop", b"items"));
+    let bytes = changed(alloc, 19, &MAP, &[(42, 253)])?;
+    assert!(rt; matches!(read_event_only(&bytes, &other), Ok(Event::OtherMap { id: 1 })));
+    let fault = EventFault {
+        kind: EventFaultKind::ColumnType(253),
+        at: 42,
+    };
+    for follow in [shop, Follow::all(alloc)] {
+        let answer = read_event_only(&bytes, &follow);
+        assert_eq!(rt; answer.err(), Some(fault));
+    }
+    let names = event(alloc, 19, 0, MAP.get(..21).ok_or("a shorter body")?)?;
+    assert!(rt; matches!(read_event_only(&names, &other), Ok(Event::OtherMap { id: 1 })));
+    let cut = event(alloc, 19, 0, MAP.get(..20).ok_or("a shorter body")?)?;
+    let fault = read_event_only(&cut, &other).err().ok_or("an event")?;
+    assert_eq!(rt; fault, EventFault { kind: EventFaultKind::Truncated, at: 39 });
+    Ok(())
+}
+
+/// What is written, byte for byte.
+#[test]
+fn written_events(rt: HostRuntime) -> Result<(), Fail> {
+    let alloc = rt.alloc();
+    let gtid = Gtid::new(SOURCE, 1).ok_or("a number in range")?;
+    let mut identifier = Vec::from_slice(alloc, &[0])?;
+    identifier.extend_from_slice(&SOURCE)?;
+    identifier.extend_from_slice(&[1, 0, 0, 0, 0, 0, 0, 0])?;
+    let cases = [
+        (Event::Begin, 2, b"\0\0\0\0\0\0\0\0\0\0\0\0\0\0BEGIN".as_slice()),
+        (Event::Commit, 2, b"\0\0\0\0\0\0\0\0\0\0\0\0\0\0COMMIT".as_slice()),
+        (Event::Stop, 3, b"".as_slice()),
+        (
+            Event::Rotate {
+                position: 4,
+                name: b"binlog.000002",
+            },
+            4,
+            b"\x04\0\0\0\0\0\0\0binlog.000002".as_slice(),
+        ),
+        (Event::Gtid(gtid), 33, identifier.as_slice()),
+        (Event::Xid { number: 1 }, 16, b"\x01\0\0\0\0\0\0\0".as_slice()),
+        (Event::Neutral, 28, b"".as_slice()),
+    ];
+    for (value, code, body) in cases {
+        assert!(rt; value.fits());
+        let mut out = Vec::new(alloc);
+        value.write(&mut out)?;
+        let want = event(alloc, code, 0, body)?;
+        assert_eq!(rt; out.as_slice(), want.as_slice(), "{code}");
+        assert!(rt; read_event(&out).is_ok(), "{code}");
+    }
+    let mut format = Vec::new(alloc);
+    Event::Format.write(&mut format)?;
+    assert_eq!(rt; format.len(), 116);
+    assert!(rt; matches!(read_event(&format), Ok(Event::Format)));
+    assert!(rt; !(Event::OtherMap { id: 1 }).fits());
+    Ok(())
+}

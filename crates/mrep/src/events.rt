@@ -1,0 +1,96 @@
+//! The lines of `mrep events`.
+
+use crate::reason::event_reason;
+use binlog::{Event, EventFault, Header, RowsEvent, RowsKind, TableMap, read_event};
+use std::io;
+use std::io::Write;
+use uuid::Uuid;
+
+/// The first byte of a payload that carries an event.
+const EVENT: u8 = 0;
+
+/// Writes the line of a payload that is to carry an event: its place, its sequence id, and the event's type, size and
+/// kind. Else it writes what is wrong with it. It answers whether nothing is.
+pub fn write_event<W: Write>(
+    offset: u64,
+    sequence: u8,
+    payload: &[u8],
+    out: &mut W,
+) -> io::Result<bool> {
+    let [first, bytes @ ..] = payload else {
+        writeln!(out, "fault Greet.Truncated at 0")?;
+        return Ok(false);
+    };
+    if *first != EVENT {
+        writeln!(out, "fault Greet.Unexpected at 0")?;
+        return Ok(false);
+    }
+    match read(bytes) {
+        Ok((header, event)) => {
+            write!(out, "{offset} {sequence} {} {} ", header.code, header.size)?;
+            write_kind(&event, out)?;
+            writeln!(out)?;
+            Ok(true)
+        }
+        Err(fault) => {
+            writeln!(out, "fault {} at {}", event_reason(fault.kind), fault.at)?;
+            Ok(false)
+        }
+    }
+}
+
+fn read(bytes: &[u8]) -> Result<(Header, Event<'_>), EventFault> {
+    let header = Header::read(bytes)?;
+    let event = read_event(bytes)?;
+    Ok((header, event))
+}
+
+/// Writes what an event says.
+fn write_kind<W: Write>(event: &Event<'_>, out: &mut W) -> io::Result<()> {
+    match event {
+        Event::Format => write!(out, "Format"),
+        Event::Begin => write!(out, "Begin"),
+        Event::Commit => write!(out, "Commit"),
+        Event::Neutral => write!(out, "Neutral"),
+        Event::Stop => write!(out, "Stop"),
+        Event::Rotate { .. } => write!(out, "Rotate"),
+        Event::Gtid(gtid) => {
+            let source = Uuid::from_bytes(gtid.source);
+            write!(out, "Gtid {source}:{}", gtid.number)
+        }
+        Event::TableMap(map) => write_map(map, out),
+        Event::OtherMap { id } => write!(out, "OtherMap {id}"),
+        Event::Rows(rows) => write_rows(rows, out),
+        Event::Xid { .. } => write!(out, "Xid"),
+    }
+}
+
+fn write_map<W: Write>(map: &TableMap<'_>, out: &mut W) -> io::Result<()> {
+    write!(out, "TableMap {} ", map.id)?;
+    write_name(map.schema, out)?;
+    write!(out, ".")?;
+    write_name(map.table, out)?;
+    write!(out, " {}", map.columns.len())
+}
+
+fn write_rows<W: Write>(rows: &RowsEvent<'_>, out: &mut W) -> io::Result<()> {
+    let kind = match rows.kind {
+        RowsKind::Write => "write",
+        RowsKind::Update => "update",
+        RowsKind::Delete => "delete",
+    };
+    write!(out, "Rows {} {kind}", rows.id)
+}
+
+/// Writes a name: digits, letters, `_` and `$` as they are, every other byte as `%` and two hexadecimal digits.
+fn write_name<W: Write>(name: &[u8], out: &mut W) -> io::Result<()> {
+    for byte in name {
+        match *byte {
+            plain @ (b'0'..=b'9' | b'A'..=b'Z' | b'a'..=b'z' | b'_' | b'$') => {
+                out.write_all(&[plain])?
+            }
+            other => write!(out, "%{other:02x}")?,
+        }
+    }
+    Ok(())
+}
