@@ -18,7 +18,7 @@ const LENGTHS: [(usize, u8); 6] = [(2, 13), (4, 8), (19, 8), (30, 10), (31, 10),
 
 /// Reads a format description: version 4, the lengths of the types that are read, and no checksum.
 #[tactic(auto, unfolding(crate::specs::Body::format_fault))]
-pub fn read_format(bytes: &[u8]) -> Result<(), EventFault>
+pub(crate) fn read_format(bytes: &[u8]) -> Result<(), EventFault>
     ensures found { OnOk result (IsFormat (drop 19 bytes.now)) }
     ensures only { IsFormat (drop 19 bytes.now) → IsOk result }
     ensures fault { IfErr result (λ fault. format_fault bytes.now ≡ Some fault) }
@@ -83,7 +83,7 @@ fn wrong_length(bytes: &[u8]) -> Option<usize>
 
 /// Reads the end of a transaction: its number.
 #[tactic(auto, unfolding(crate::specs::Body::xid_fault))]
-pub fn read_xid(bytes: &[u8]) -> Result<u64, EventFault>
+pub(crate) fn read_xid(bytes: &[u8]) -> Result<u64, EventFault>
     ensures found { IfOk result (λ number. IsXid number (drop 19 bytes.now)) }
     ensures only { (number : ℕ) → IsXid number (drop 19 bytes.now) → result ≡ Ok number }
     ensures fault { IfErr result (λ fault. xid_fault bytes.now ≡ Some fault) }
@@ -102,7 +102,7 @@ pub fn read_xid(bytes: &[u8]) -> Result<u64, EventFault>
 
 /// Reads a rotation: the position and the name of the next file.
 #[tactic(auto, unfolding(crate::specs::Body::rotate_fault))]
-pub fn read_rotate(bytes: &[u8]) -> Result<(u64, &[u8]), EventFault>
+pub(crate) fn read_rotate(bytes: &[u8]) -> Result<(u64, &[u8]), EventFault>
     ensures found { IfOk result (λ read. IsRotate read.0 read.1.now (drop 19 bytes.now)) }
     ensures only { (position : ℕ) (name : List ℕ) → IsRotate position name (drop 19 bytes.now) → IfOk result (λ read. (read.0 ≡ position) × (read.1.now ≡ name)) }
     ensures fault { IfErr result (λ fault. rotate_fault bytes.now ≡ Some fault) }
@@ -115,7 +115,7 @@ pub fn read_rotate(bytes: &[u8]) -> Result<(u64, &[u8]), EventFault>
 
 /// Reads a transaction's identifier.
 #[tactic(auto, unfolding(crate::specs::Body::gtid_fault))]
-pub fn read_gtid(bytes: &[u8]) -> Result<Gtid, EventFault>
+pub(crate) fn read_gtid(bytes: &[u8]) -> Result<Gtid, EventFault>
     ensures found { IfOk result (λ gtid. IsGtid gtid.source gtid.number (drop 19 bytes.now)) }
     ensures only { (source : List ℕ) (number : ℕ) → IsGtid source number (drop 19 bytes.now) → IfOk result (λ gtid. (gtid.source ≡ source) × (gtid.number ≡ number)) }
     ensures fault { IfErr result (λ fault. gtid_fault bytes.now ≡ Some fault) }
@@ -144,14 +144,14 @@ const COMMIT: &[u8] = b"COMMIT";
 
 /// A statement that is read.
 #[derive(Clone, Copy, Debug, PartialEq, Eq)]
-pub enum Query {
+pub(crate) enum Query {
     Begin,
     Commit,
 }
 
 /// Reads a query whose text is one of the statements that are read.
 #[tactic(auto, unfolding(crate::specs::Body::query_fault))]
-pub fn read_query(bytes: &[u8]) -> Result<Query, EventFault>
+pub(crate) fn read_query(bytes: &[u8]) -> Result<Query, EventFault>
     ensures found { IfOk result (λ query. IsQuery (statement query) (drop 19 bytes.now)) }
     ensures only { (query : Query) → IsQuery (statement query) (drop 19 bytes.now) → result ≡ Ok query }
     ensures fault { IfErr result (λ fault. query_fault bytes.now ≡ Some fault) }

@@ -1,6 +1,7 @@
 //! Bodies of events, by worked values.
 
 use super::*;
+use crate::body::{Query, read_format, read_gtid, read_query, read_rotate, read_xid};
 use std::alloc::Global;
 use std::test::Fail;
 
@@ -105,13 +106,13 @@ fn queries(rt: HostRuntime) -> Result<(), Fail> {
     for (text, due) in [
         (b"BEGIN".as_slice(), "read"),
         (b"COMMIT", "read"),
-        (b"begin", "a statement other than BEGIN at 33"),
-        (b"", "a statement other than BEGIN at 33"),
+        (b"begin", "a statement other than BEGIN and COMMIT at 33"),
+        (b"", "a statement other than BEGIN and COMMIT at 33"),
         (
             b"CREATE TABLE t (a INT)",
-            "a statement other than BEGIN at 33",
+            "a statement other than BEGIN and COMMIT at 33",
         ),
-        (b"SAVEPOINT a", "a statement other than BEGIN at 33"),
+        (b"SAVEPOINT a", "a statement other than BEGIN and COMMIT at 33"),
     ] {
         let mut event = header(alloc, 2, 0)?;
         event.extend_from_slice(&[0; 14])?;

@@ -1,8 +1,11 @@
 //! Events and rows of the binary log.
 //!
-//! [`Header`] is the first part of every event. [`read_format`] and its kin read what follows it in an event other
-//! than a table map and rows. [`ColumnType`] is a type of column as a table map has it with its metadata, and [`Row`]
-//! a row of a rows event, whose [`Cells`] borrow from the event's bytes.
+//! [`read_event`] reads an [`Event`] from the bytes of one payload, from which the event borrows: nothing is copied, and
+//! no memory is taken. [`read_event_only`] looks at table maps only where a [`Follow`] lists their tables. A
+//! [`TableMap`] that is to outlive its payload is copied to a [`TableDef`], and [`RowsEvent::rows`] goes over the rows
+//! of an event by such a table, one [`RowPair`] a step; [`Row::cells`] are its cells.
+//!
+//! [`Event::write`] and [`write_rows`] are the way back.
 //!
 //! The layouts are those of the MySQL Source Documentation, "Binlog Event". `specs/` states them as relations on whole
 //! byte lists, and [`laws`] what follows from them.
@@ -31,7 +34,6 @@ mod table;
 mod table_columns;
 mod writing;
 
-pub use body::{Query, read_format, read_gtid, read_query, read_rotate, read_xid};
 pub use cell::{Cell, OwnedCell};
 pub use column::{ColumnKind, ColumnType};
 pub use column_types::{ColumnTypes, ColumnTypesIter};

@@ -5,6 +5,7 @@ mod streams;
 use crate::command::command;
 use crate::listing::Listing;
 use crate::reason::wire_reason;
+use std::alloc::Global;
 use std::io::Write;
 use std::test::Fail;
 use std::{fs, io};
@@ -23,8 +24,13 @@ fn run(rt: &HostRuntime, words: &[&str]) -> Result<(u8, String, String), Fail> {
 
 /// What `mrep packets` answers for a file of these bytes.
 fn packets(rt: &HostRuntime, bytes: &[u8]) -> Result<(u8, String), Fail> {
+    listed(rt, "packets", bytes)
+}
+
+/// What a command answers for a file of these bytes.
+fn listed(rt: &HostRuntime, command: &str, bytes: &[u8]) -> Result<(u8, String), Fail> {
     fs::write(rt, "stream", bytes)?;
-    let (status, out, err) = run(rt, &["mrep", "packets", "stream"])?;
+    let (status, out, err) = run(rt, &["mrep", command, "stream"])?;
     if !err.is_empty() {
         Err("it printed errors")?;
     }
@@ -57,6 +63,79 @@ fn lists_payloads(rt: HostRuntime) -> Result<(), Fail> {
         let (status, out) = packets(&rt, bytes)?;
         assert_eq!(rt; out.as_str(), lines, "{bytes:?}");
         assert_eq!(rt; status, want, "{bytes:?}");
+    }
+    Ok(())
+}
+
+const EVENTS: &str = "0 1 15 116 Format\n\
+121 2 33 44 Gtid 3e11fa47-71ca-11e1-9e33-c80aa9429562:1\n\
+170 3 2 38 Begin\n\
+213 4 19 47 TableMap 1 shop.items 2\n\
+265 5 30 47 Rows 1 write\n\
+317 6 16 27 Xid\n\
+rest 0\n";
+
+/// The events of one transaction, which begin at 100.
+fn events(alloc: Global) -> Result<Vec<u8>, Fail> {
+    Ok(Vec::from_slice(alloc, &ONE_TRANSACTION[100..])?)
+}
+
+#[test]
+fn lists_events(rt: HostRuntime) -> Result<(), Fail> {
+    let alloc = rt.alloc();
+    let whole = events(alloc)?;
+    let (status, out) = listed(&rt, "events", &whole)?;
+    assert_eq!(rt; out.as_str(), EVENTS);
+    assert_eq!(rt; status, 0);
+    let mut plain = Vec::from_slice(alloc, &ONE_TRANSACTION[100..313])?;
+    plain.extend_from_slice(&ONE_TRANSACTION[417..])?;
+    plain[216] = 4;
+    let (status, out) = listed(&rt, "events", &plain)?;
+    assert!(rt; out.as_str().ends_with("213 4 16 27 Xid\nrest 0\n"), "{out}");
+    assert_eq!(rt; status, 0);
+    let (status, out) = listed(&rt, "events", &ONE_TRANSACTION)?;
+    assert_eq!(rt; out.as_str(), "fault Greet.Unexpected at 0\n");
+    assert_eq!(rt; status, 1);
+    let (status, out) = listed(&rt, "events", &[0, 0, 0, 7])?;
+    assert_eq!(rt; out.as_str(), "fault Greet.Truncated at 0\n");
+    assert_eq!(rt; status, 1);
+    let (status, out) = listed(&rt, "events", &whole[..300])?;
+    assert!(rt; out.as_str().ends_with("TableMap 1 shop.items 2\nrest 35\n"), "{out}");
+    assert_eq!(rt; status, 1);
+    Ok(())
+}
+
+/// One byte of the stream changed, and the line that ends the list.
+#[test]
+fn refused_events(rt: HostRuntime) -> Result<(), Fail> {
+    let cases: [(usize, u8, &str); 20] = [
+        (4, 1, "fault Greet.Unexpected at 0\n"),
+        (9, 0x22, "fault Event.Anonymous at 4\n"),
+        (9, 40, "fault Event.TypeCode at 4\n"),
+        (14, 0x75, "fault Event.Size at 9\n"),
+        (24, 3, "fault Event.FormatVersion at 19\n"),
+        (80, 0x12, "fault Event.HeaderLengths at 75\n"),
+        (82, 12, "fault Event.HeaderLengths at 77\n"),
+        (116, 1, "fault Event.Checksum at 111\n"),
+        (162, 0, "fault Event.Number at 36\n"),
+        (208, 0x43, "fault Event.Statement at 33\n"),
+        (245, 200, "fault Event.Truncated at 28\n"),
+        (258, 0, "fault Event.Columns at 40\n"),
+        (259, 253, "fault Event.ColumnType at 41\n"),
+        (260, 253, "fault Event.ColumnType at 42\n"),
+        (261, 3, "fault Event.Metadata at 43\n"),
+        (297, 1, "fault Event.Size at 27\n"),
+        (299, 0xfb, "fault Event.Columns at 29\n"),
+        (300, 1, "fault Event.Partial at 30\n"),
+        (103, 9, "rest 0\n"),
+        (124, 3, "rest 0\n"),
+    ];
+    for (at, new, line) in cases {
+        let mut stream = events(rt.alloc())?;
+        let byte = stream.get_mut(at).ok_or("a shorter stream")?;
+        *byte = new;
+        let (_, out) = listed(&rt, "events", &stream)?;
+        assert!(rt; out.as_str().ends_with(line), "{at}: {out}");
     }
     Ok(())
 }
@@ -119,7 +198,7 @@ fn reasons(rt: HostRuntime) {
 /// to the errors, with nothing on the other.
 #[test]
 fn words(rt: HostRuntime) -> Result<(), Fail> {
-    let cases: [(&[&str], u8, &str); 8] = [
+    let cases: [(&[&str], u8, &str); 10] = [
         (&["mrep", "--help"], 0, "A follower of MySQL"),
         (&["mrep", "--version"], 0, "mrep 0.1.0\n"),
         (&["mrep", "packets", "--help"], 0, "List the payloads"),
@@ -127,6 +206,8 @@ fn words(rt: HostRuntime) -> Result<(), Fail> {
         (&["mrep", "minus", "--help"], 0, "Print a GTID set"),
         (&["mrep", "minus", ""], 2, "error: "),
         (&["mrep", "packets"], 2, "error: "),
+        (&["mrep", "events"], 2, "error: "),
+        (&["mrep", "events", "--help"], 0, "List the events"),
         (&["mrep", "packets", "a", "b"], 2, "error: "),
     ];
     for (words, want, beginning) in cases {
