@@ -1,5 +1,6 @@
 # make        prove and build mrep, put it at bin/mrep, and run it on a sample
-# make test   the whole gate: every proof from nothing, the wrong bodies, the tests and the program
+# make test   the whole gate: a program that must not compile, every proof from nothing, the wrong bodies, the tests and
+#             the program
 # make bench  time mrep and the sets against plain Rust programs that do the same jobs (needs rustc)
 
 .PHONY: all build test bench
@@ -13,6 +14,7 @@ build:
 	cp crates/mrep/out/mrep bin/mrep
 
 test:
+	tests/borrows/run
 	rt ci
 
 bench: build
