@@ -21,7 +21,9 @@ const UPDATE: [u8; 25] = *b"\x01\0\0\0\0\0\x01\0\x02\0\x02\x03\x03\0\x07\0\0\0\x
 
 /// An event of this type, flags and body, from server 1.
 fn event(alloc: Global, code: u8, flags: u8, body: &[u8]) -> Result<Vec<u8>, Fail> {
-    let size = (19 + body.len() as u64) as u8;
+    let Ok(size) = u8::try_from(19 + body.len()) else {
+        return Err("a longer body")?;
+    };
     let mut event = Vec::from_slice(
         alloc,
         &[
