@@ -1,9 +1,9 @@
-//! Times `mrep packets` and `gtid_bench` against `packets.rs` and `gtid.rs`, plain Rust programs that do the
-//! same jobs.
+//! Times `mrep packets`, `mrep events`, `gtid_bench` and `binlog_bench` against `packets.rs`, `events.rs` and `gtid.rs`,
+//! plain Rust programs that do the same jobs.
 //!
-//!     bench MREP PACKETS GTID_BENCH GTID FOLDER
+//!     bench MREP PACKETS GTID_BENCH GTID BINLOG_BENCH EVENTS FOLDER
 //!
-//! It makes each input of `mrep packets` in the folder. Both programs of a job run in turn, five times each, and
+//! It makes each input of files in the folder. Both programs of a job run in turn, five times each, and
 //! have to print the same; the line has their best times, the ratio of these and the greatest resident size of
 //! each. The status is 1 where a goal is missed.
 
@@ -20,6 +20,9 @@ const RUNS: usize = 5;
 const PACKETS_TIMES: f64 = 1.3;
 /// and at most the largest payload twice and this much more.
 const MORE: usize = 16 * MIB;
+
+/// The goal of events: of their rows to the last cell, and of their list.
+const EVENTS_TIMES: f64 = 1.5;
 
 /// The goal of each operation on sets.
 const GTID_TIMES: f64 = 1.5;
@@ -79,6 +82,59 @@ fn make(input: &Input, path: &Path) -> io::Result<()> {
         out.write_all(&[a, b, c, n as u8])?;
         out.write_all(&payload)?;
     }
+    out.flush()
+}
+
+/// An event with the header of server 1, in a packet of its own.
+fn event(out: &mut impl Write, sequence: &mut u8, code: u8, body: &[u8]) -> io::Result<()> {
+    let size = 19 + body.len() as u32;
+    let [a, b, c, _] = (size + 1).to_le_bytes();
+    out.write_all(&[a, b, c, *sequence, 0, 0, 0, 0, 0, code, 1, 0, 0, 0])?;
+    out.write_all(&size.to_le_bytes())?;
+    out.write_all(&[0; 6])?;
+    out.write_all(body)?;
+    *sequence = sequence.wrapping_add(1);
+    Ok(())
+}
+
+/// A table of eight columns, and writes of 80 rows of 100 bytes each, of 200 MiB together.
+fn make_rows(path: &Path) -> io::Result<()> {
+    let mut out = BufWriter::new(File::create(path)?);
+    let mut sequence = 0;
+    let mut map = b"\x01\0\0\0\0\0\0\0\x04shop\0\x05items\0\x08".to_vec();
+    map.extend_from_slice(&[8, 3, 15, 18, 246, 15, 1, 5, 8, 50, 0, 0, 10, 2, 255, 0, 8, 255]);
+    event(&mut out, &mut sequence, 19, &map)?;
+    let mut row = vec![0];
+    row.extend_from_slice(&[1, 2, 3, 4, 5, 6, 7, 8, 1, 2, 3, 4, 28]);
+    row.extend_from_slice(&[b'a'; 28]);
+    row.extend_from_slice(&[0x99, 0xb1, 0x2c, 0, 0, 0x80, 0, 0, 1, 50, 38]);
+    row.extend_from_slice(&[b'b'; 38]);
+    row.extend_from_slice(&[7, 0, 0, 0, 0, 0, 0, 0xf0, 0x3f]);
+    let mut body = vec![1, 0, 0, 0, 0, 0, 1, 0, 2, 0, 8, 255];
+    for n in 0..80 {
+        row[1] = n;
+        body.extend_from_slice(&row);
+    }
+    for _ in 0..200 * MIB / (80 * row.len()) {
+        event(&mut out, &mut sequence, 30, &body)?;
+    }
+    out.flush()
+}
+
+/// A million events of empty transactions.
+fn make_small(path: &Path) -> io::Result<()> {
+    let mut out = BufWriter::new(File::create(path)?);
+    let mut sequence = 0;
+    let begin = *b"\0\0\0\0\0\0\0\0\0\0\0\0\0\0BEGIN";
+    for number in 1..=333_333u64 {
+        let mut gtid = vec![0];
+        gtid.extend_from_slice(b"\x3e\x11\xfaGq\xca\x11\xe1\x9e3\xc8\x0a\xa9B\x95b");
+        gtid.extend_from_slice(&number.to_le_bytes());
+        event(&mut out, &mut sequence, 33, &gtid)?;
+        event(&mut out, &mut sequence, 2, &begin)?;
+        event(&mut out, &mut sequence, 16, &number.to_le_bytes())?;
+    }
+    event(&mut out, &mut sequence, 27, &[])?;
     out.flush()
 }
 
@@ -155,8 +211,8 @@ fn compare(job: &str, ours: &[&str], theirs: &[&str], folder: &Path, times: f64,
 
 fn main() -> io::Result<ExitCode> {
     let words: Vec<String> = std::env::args().collect();
-    let [_, mrep, packets, gtid_bench, gtid, folder] = words.as_slice() else {
-        eprintln!("usage: bench MREP PACKETS GTID_BENCH GTID FOLDER");
+    let [_, mrep, packets, gtid_bench, gtid, binlog_bench, events, folder] = words.as_slice() else {
+        eprintln!("usage: bench MREP PACKETS GTID_BENCH GTID BINLOG_BENCH EVENTS FOLDER");
         return Ok(ExitCode::from(2));
     };
     let folder = Path::new(folder);
@@ -168,6 +224,12 @@ fn main() -> io::Result<ExitCode> {
         let bound = 2 * input.payload + MORE;
         met &= compare(input.name, &[mrep, "packets", name], &[packets, name], folder, PACKETS_TIMES, bound)?;
     }
+    make_rows(&path)?;
+    let rows = "200 MiB of rows to the last cell";
+    met &= compare(rows, &[binlog_bench, name], &[events, "sum", name], folder, EVENTS_TIMES, usize::MAX)?;
+    make_small(&path)?;
+    let small = "a list of a million small events";
+    met &= compare(small, &[mrep, "events", name], &[events, "list", name], folder, EVENTS_TIMES, MORE)?;
     fs::remove_file(&path)?;
     for operation in OPERATIONS {
         met &= compare(operation, &[gtid_bench, operation], &[gtid, operation], folder, GTID_TIMES, usize::MAX)?;

@@ -1,0 +1,150 @@
+//! What `binlog_bench` and `mrep events` do, in plain Rust, for `make bench`.
+//!
+//!     events sum FILE      the rows of a file of events, and a sum over their cells
+//!     events list FILE     a line for each event
+//!
+//! It reads the layouts as they stand and trusts its input: nothing is looked at but what is needed.
+
+use std::fs;
+use std::io::{self, BufWriter, Write};
+
+/// How the values of a column stand in a row.
+enum Shape {
+    Number(usize),
+    Fixed(usize),
+    Prefixed(usize),
+}
+
+fn number(bytes: &[u8]) -> u64 {
+    let mut all = [0; 8];
+    all[..bytes.len()].copy_from_slice(bytes);
+    u64::from_le_bytes(all)
+}
+
+fn digits(count: usize) -> usize {
+    4 * (count / 9) + (count % 9 + 1) / 2
+}
+
+/// The columns of a table map, from its body.
+fn shapes(body: &[u8]) -> Vec<Shape> {
+    let table = 10 + usize::from(body[8]);
+    let count = table + 2 + usize::from(body[table]);
+    let columns = usize::from(body[count]);
+    let codes = &body[count + 1..][..columns];
+    let mut metadata = &body[count + 1 + columns + 1..];
+    let mut shapes = Vec::new();
+    for code in codes {
+        let (shape, size) = match code {
+            1 => (Shape::Number(1), 0),
+            2 => (Shape::Number(2), 0),
+            3 => (Shape::Number(4), 0),
+            8 => (Shape::Number(8), 0),
+            9 => (Shape::Number(3), 0),
+            5 => (Shape::Fixed(8), 1),
+            15 => (Shape::Prefixed(if metadata[1] == 0 { 1 } else { 2 }), 2),
+            18 => (Shape::Fixed(5 + usize::from(metadata[0] + 1) / 2), 1),
+            246 => {
+                let (precision, scale) = (usize::from(metadata[0]), usize::from(metadata[1]));
+                (Shape::Fixed(digits(precision - scale) + digits(scale)), 2)
+            }
+            other => panic!("column type {other}"),
+        };
+        shapes.push(shape);
+        metadata = &metadata[size..];
+    }
+    shapes
+}
+
+/// The rows of a write, from its body: how many there are, and the sum of their cells.
+fn rows(shapes: &[Shape], body: &[u8], found: &mut (u64, u64)) {
+    let bitmap = shapes.len().div_ceil(8);
+    let mut rest = &body[8 + usize::from(body[8]) + 1 + bitmap..];
+    while !rest.is_empty() {
+        let (nulls, mut values) = rest.split_at(bitmap);
+        found.0 += 1;
+        for (i, shape) in shapes.iter().enumerate() {
+            if nulls[i / 8] >> (i % 8) & 1 == 1 {
+                found.1 = found.1.wrapping_add(1);
+                continue;
+            }
+            let bytes = match *shape {
+                Shape::Number(size) => {
+                    found.1 = found.1.wrapping_add(number(&values[..size]));
+                    values = &values[size..];
+                    continue;
+                }
+                Shape::Fixed(size) => {
+                    let bytes = &values[..size];
+                    values = &values[size..];
+                    bytes
+                }
+                Shape::Prefixed(size) => {
+                    let length = number(&values[..size]) as usize;
+                    let bytes = &values[size..][..length];
+                    values = &values[size + length..];
+                    bytes
+                }
+            };
+            let value = match bytes {
+                [first, rest @ ..] => u64::from(*first) + rest.len() as u64,
+                [] => 2,
+            };
+            found.1 = found.1.wrapping_add(value);
+        }
+        rest = values;
+    }
+}
+
+/// The line of an event but for its place.
+fn list(event: &[u8], out: &mut impl Write) -> io::Result<()> {
+    let body = &event[19..];
+    write!(out, "{} {} ", event[4], number(&event[9..13]))?;
+    match event[4] {
+        2 if body.ends_with(b"BEGIN") => writeln!(out, "Begin"),
+        2 => writeln!(out, "Commit"),
+        15 => writeln!(out, "Format"),
+        16 => writeln!(out, "Xid"),
+        33 => {
+            write!(out, "Gtid ")?;
+            for (i, byte) in body[1..17].iter().enumerate() {
+                if matches!(i, 4 | 6 | 8 | 10) {
+                    write!(out, "-")?;
+                }
+                write!(out, "{byte:02x}")?;
+            }
+            writeln!(out, ":{}", number(&body[17..25]))
+        }
+        _ => writeln!(out, "Neutral"),
+    }
+}
+
+fn main() -> io::Result<()> {
+    let words: Vec<String> = std::env::args().collect();
+    let stream = fs::read(&words[2])?;
+    let mut out = BufWriter::new(io::stdout());
+    let mut table = Vec::new();
+    let mut found = (0, 0);
+    let mut place = 0;
+    while place < stream.len() {
+        let header = &stream[place..place + 4];
+        let length = number(&header[..3]) as usize;
+        let event = &stream[place + 5..place + 4 + length];
+        match words[1].as_str() {
+            "list" => {
+                write!(out, "{place} {} ", header[3])?;
+                list(event, &mut out)?;
+            }
+            _ => match event[4] {
+                19 => table = shapes(&event[19..]),
+                30 => rows(&table, &event[19..], &mut found),
+                _ => {}
+            },
+        }
+        place += 4 + length;
+    }
+    match words[1].as_str() {
+        "list" => writeln!(out, "rest 0")?,
+        _ => writeln!(out, "{} {}", found.0, found.1)?,
+    }
+    out.flush()
+}
