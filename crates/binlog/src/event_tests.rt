@@ -107,7 +107,9 @@ fn table_maps(rt: HostRuntime) -> Result<(), Fail> {
     assert_eq!(rt; table.table.as_slice(), b"items".as_slice());
     assert_eq!(rt; table.types.len(), 2);
     let mut again = Vec::new(alloc);
-    Event::TableMap(table.map(1)).write(&mut again)?;
+    let map = Event::TableMap(table.map(1));
+    assert!(rt; map.fits());
+    map.write(&mut again)?;
     assert_eq!(rt; again.as_slice(), bytes.as_slice());
     Ok(())
 }
@@ -355,10 +357,12 @@ fn written_events(rt: HostRuntime) -> Result<(), Fail> {
         assert_eq!(rt; out.as_slice(), want.as_slice(), "{code}");
         assert!(rt; read_event(&out).is_ok(), "{code}");
     }
-    let mut format = Vec::new(alloc);
-    Event::Format.write(&mut format)?;
-    assert_eq!(rt; format.len(), 116);
-    assert!(rt; matches!(read_event(&format), Ok(Event::Format)));
+    let mut out = Vec::new(alloc);
+    let format = Event::Format;
+    assert!(rt; format.fits());
+    format.write(&mut out)?;
+    assert_eq!(rt; out.len(), 116);
+    assert!(rt; matches!(read_event(&out), Ok(Event::Format)));
     assert!(rt; !(Event::OtherMap { id: 1 }).fits());
     Ok(())
 }
