@@ -1,5 +1,5 @@
 -- What the writer of rows has written so far.
-use Rattle.std.proofs.Common.{◌≡◌, ℕ, zero, suc, ◌+◌, ◌<◌, ◌≤◌, ◌^◌, ◌==◌, Bool, true, false, ◌&&◌, List, [], ◌∷◌, ◌++◌, length, get_or, take, map, flat_map, refl, sym, ap, subst, ◌∙◌, arith}
+use Rattle.std.proofs.Common.{◌≡◌, ℕ, zero, suc, ◌+◌, ◌<◌, ◌≤◌, ◌^◌, ◌==◌, Bool, true, false, List, [], ◌∷◌, ◌++◌, length, get_or, take, map, sym, ap, ◌∙◌, arith}
 use Rattle.std.specs.Prelude.{nat_lt, nat_le, IsTrue}
 use Rattle.std.specs.List.{range_with_len}
 use Rattle.std.proofs.lemmas.Bool.{and_parts, eqb-true, leb-true}
@@ -8,12 +8,10 @@ use Rattle.std.proofs.Math.Seq.{take-append_seam}
 use Rattle.std.proofs.lemmas.List.FromFn.{map-range_with_len_more}
 use Rattle.byteorder.specs.Endian.{little_bytes}
 use Rattle.byteorder.proofs.Bytes.{take-bytes_low_first}
-use Rattle.binlog.specs.Cell.{CellValue, null_cell, number_cell, bytes_cell, is_null, owned_value, owned_values}
-use Rattle.binlog.specs.Column.{is_within}
+use Rattle.binlog.specs.Cell.{number_cell, is_null, owned_value, owned_values}
 use Rattle.binlog.specs.Shape.{shape, is_readable}
 use Rattle.binlog.specs.Row.{kinds}
 use Rattle.binlog.specs.RowsView.{owned_pair, owned_pairs}
-use Rattle.binlog.specs.Rows.{PairValue}
 use Rattle.binlog.specs.RowsWritten.{bitmap_byte, value_bytes, values_bytes, pair_bytes, rows_bytes, value_fits, row_fits, pair_fits, pairs_fit}
 use Rattle.binlog.proofs.RowsWritten.{column_kind, as_long}
 use Rattle.binlog.specs.declared.cell.OwnedCell.{OwnedCell}

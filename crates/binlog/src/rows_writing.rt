@@ -147,8 +147,8 @@ fn write_pairs(kind: RowsKind, types: &[ColumnType], pairs: &[OwnedPair], out: &
     ensures err { OnErr result (result ≡ Err (record { kind = Memory; at = 0 })) }
     ensures kept { OnErr result (take (length out.old.items) out.new.items ≡ out.old.items) }
 {
-    for i in 0..pairs.len() {
-        write_pair(kind, types, &pairs[i], out)?;
+    for pair in pairs {
+        write_pair(kind, types, pair, out)?;
     }
     Ok(())
 }

@@ -1,5 +1,4 @@
-use Rattle.std.proofs.Common.{◌∙◌, sym, ap, Bool, true, false}
-use Rattle.std.specs.Prelude.{nat_lt}
+use Rattle.std.proofs.Common.{◌∙◌, sym, ap}
 use Rattle.std.proofs.lemmas.Bool.{ltb-true}
 use Rattle.binlog.specs.Cell.{is_null, owned_value}
 use Rattle.binlog.specs.RowsWritten.{digit}

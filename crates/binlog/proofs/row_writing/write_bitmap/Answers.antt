@@ -1,4 +1,4 @@
-use Rattle.std.proofs.Common.{◌≡◌, ◌++◌, ◌∙◌, length, map, sym, ap, arith}
+use Rattle.std.proofs.Common.{◌≡◌, ◌++◌, ◌∙◌, length, map, ap, arith}
 use Rattle.std.specs.List.{range_with_len}
 use Rattle.binlog.specs.Cell.{is_null, owned_values}
 use Rattle.binlog.specs.Row.{bitmap_size}

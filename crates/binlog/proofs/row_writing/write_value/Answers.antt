@@ -1,8 +1,8 @@
-use Rattle.std.proofs.Common.{◌≡◌, ◌++◌, ◌∙◌, subst, sym, ap, take, length}
+use Rattle.std.proofs.Common.{◌++◌, ◌∙◌, subst, sym, ap, take, length}
 use Rattle.std.specs.Prelude.{IsTrue}
 use Rattle.std.proofs.lemmas.List.{append_assoc}
 use Rattle.byteorder.specs.Endian.{little_bytes}
-use Rattle.binlog.specs.Cell.{number_cell, bytes_cell, owned_value}
+use Rattle.binlog.specs.Cell.{bytes_cell, owned_value}
 use Rattle.binlog.specs.Shape.{is_readable}
 use Rattle.binlog.specs.RowsWritten.{value_bytes, value_fits}
 use Rattle.binlog.proofs.RowWriting.{low_bytes, number_bytes, prefix_short}

@@ -4,5 +4,5 @@ use Rattle.binlog.specs.RowsView.{owned_pairs}
 use Rattle.binlog.specs.RowsWritten.{rows_bytes}
 use Rattle.binlog.proofs.rows_writing.write_pairs.Given as goal
 
-abbrev pub invariant-loop-i : goal.invariant-loop-i
-invariant-loop-i l = l.out.items ≡ l.fn.out.items ++ rows_bytes (kinds l.types) (take l.i (owned_pairs l.pairs))
+abbrev pub invariant-loop-pair : goal.invariant-loop-pair
+invariant-loop-pair l = l.out.items ≡ l.fn.out.items ++ rows_bytes (kinds l.types) (take l.pair-index (owned_pairs l.pairs))
