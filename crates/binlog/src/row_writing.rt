@@ -13,7 +13,11 @@ use crate::fault::EventFault;
 use crate::shape::{Shape, shape_of};
 
 /// Appends the row of the cells, or a part of it: the bitmap of those that are null, and the values of the others.
-pub(crate) fn write_row(types: &[ColumnType], cells: &[OwnedCell], out: &mut Vec<u8>) -> Result<(), EventFault>
+pub(crate) fn write_row(
+    types: &[ColumnType],
+    cells: &[OwnedCell],
+    out: &mut Vec<u8>,
+) -> Result<(), EventFault>
     requires { IsTrue (row_fits (kinds types.now) (owned_values cells.now)) }
     ensures ok { OnOk result (out.new.items ≡ out.old.items ++ row_bytes (kinds types.now) (owned_values cells.now)) }
     ensures err { OnErr result (result ≡ Err (record { kind = Memory; at = 0 })) }
@@ -24,7 +28,11 @@ pub(crate) fn write_row(types: &[ColumnType], cells: &[OwnedCell], out: &mut Vec
 }
 
 /// Appends the values of the cells that are not null, or a part of them.
-fn write_values(types: &[ColumnType], cells: &[OwnedCell], out: &mut Vec<u8>) -> Result<(), EventFault>
+fn write_values(
+    types: &[ColumnType],
+    cells: &[OwnedCell],
+    out: &mut Vec<u8>,
+) -> Result<(), EventFault>
     requires as_many { length cells.now ≡ length types.now }
     requires fit { IsTrue (row_fits (kinds types.now) (owned_values cells.now)) }
     ensures ok { OnOk result (out.new.items ≡ out.old.items ++ values_bytes (kinds types.now) (owned_values cells.now)) }

@@ -125,7 +125,12 @@ fn is_below(value: u64, size: usize) -> bool
 /// first, and the values of the others. Bits behind the last column are 0.
 ///
 /// The only refusal is `Memory`, which leaves the vector as it was.
-pub fn write_rows(kind: RowsKind, types: &[ColumnType], pairs: &[OwnedPair], out: &mut Vec<u8>) -> Result<(), EventFault>
+pub fn write_rows(
+    kind: RowsKind,
+    types: &[ColumnType],
+    pairs: &[OwnedPair],
+    out: &mut Vec<u8>,
+) -> Result<(), EventFault>
     requires { HaveRows kind (kinds types.now) (owned_pairs pairs.now) }
     ensures ok { OnOk result (out.new.items ≡ out.old.items ++ rows_bytes (kinds types.now) (owned_pairs pairs.now)) }
     ensures err { OnErr result ((result ≡ Err (record { kind = Memory; at = 0 })) × (out.new.items ≡ out.old.items)) }
@@ -141,7 +146,12 @@ pub fn write_rows(kind: RowsKind, types: &[ColumnType], pairs: &[OwnedPair], out
 }
 
 /// Appends the rows of the pairs, or a part of them.
-fn write_pairs(kind: RowsKind, types: &[ColumnType], pairs: &[OwnedPair], out: &mut Vec<u8>) -> Result<(), EventFault>
+fn write_pairs(
+    kind: RowsKind,
+    types: &[ColumnType],
+    pairs: &[OwnedPair],
+    out: &mut Vec<u8>,
+) -> Result<(), EventFault>
     requires { IsTrue (pairs_fit kind (kinds types.now) (owned_pairs pairs.now)) }
     ensures ok { OnOk result (out.new.items ≡ out.old.items ++ rows_bytes (kinds types.now) (owned_pairs pairs.now)) }
     ensures err { OnErr result (result ≡ Err (record { kind = Memory; at = 0 })) }
@@ -154,7 +164,12 @@ fn write_pairs(kind: RowsKind, types: &[ColumnType], pairs: &[OwnedPair], out: &
 }
 
 /// Appends the rows of a pair, or a part of them.
-fn write_pair(kind: RowsKind, types: &[ColumnType], pair: &OwnedPair, out: &mut Vec<u8>) -> Result<(), EventFault>
+fn write_pair(
+    kind: RowsKind,
+    types: &[ColumnType],
+    pair: &OwnedPair,
+    out: &mut Vec<u8>,
+) -> Result<(), EventFault>
     requires { IsTrue (pair_fits kind (kinds types.now) (owned_pair pair.now)) }
     ensures ok { OnOk result (out.new.items ≡ out.old.items ++ pair_bytes (kinds types.now) (owned_pair pair.now)) }
     ensures err { OnErr result (result ≡ Err (record { kind = Memory; at = 0 })) }
