@@ -16,6 +16,7 @@ pub mod RowsItems
 pub mod Followed
 pub mod Events
 pub mod RowsWritten
+pub mod RowWriting
 pub mod Framed
 pub mod Temp
 pub mod Written

@@ -82,7 +82,7 @@ fits_value (Fixed size) (bytes_cell value) bytes is = eq-eqb _ _ is.1
 fits_value (Prefixed size) (number_cell n w) bytes is = absurd is
 fits_value (Prefixed size) (bytes_cell value) bytes is = lt-ltb _ _ is.0
 
-as_long : (types : List ColumnKind) (cells : List CellValue) → row_fits types cells ≡ true → length cells ≡ length types
+pub as_long : (types : List ColumnKind) (cells : List CellValue) → row_fits types cells ≡ true → length cells ≡ length types
 as_long [] [] fits = refl
 as_long [] (cell ∷ cells) fits = absurd cc
 as_long (t ∷ types) [] fits = absurd cc

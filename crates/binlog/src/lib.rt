@@ -24,6 +24,7 @@ pub mod laws;
 mod map_writing;
 mod names;
 mod row;
+mod row_writing;
 mod rows;
 mod rows_event;
 mod rows_event_writing;
@@ -44,7 +45,7 @@ pub use header::Header;
 pub use row::{Cells, Row};
 pub use rows::{RowPair, Rows};
 pub use rows_event::{RowsEvent, RowsKind};
-pub use rows_writing::{OwnedPair, rows_fit};
+pub use rows_writing::{OwnedPair, rows_fit, write_rows};
 pub use table::{TableDef, TableMap};
 
 #[cfg(test)]

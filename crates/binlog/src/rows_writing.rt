@@ -1,14 +1,17 @@
 //! Rows as bytes. MySQL Source Documentation, "Binlog Event", the page `binary_log::Rows_event`.
 
-ghost use Rattle.std.specs.Prelude.{◌≡◌, ◌<◌, ◌≤◌, ◌^◌, ◌↔◌, nat_lt, IsTrue};
+ghost use Rattle.std.specs.Prelude.{◌≡◌, ◌<◌, ◌≤◌, ◌^◌, ◌++◌, ◌↔◌, length, take, nat_lt, IsTrue, OnOk, OnErr, Err};
 ghost use Rattle.binlog.specs.Cell.{owned_value, owned_values};
 ghost use Rattle.binlog.specs.Row.{kinds};
 ghost use Rattle.binlog.specs.RowsView.{owned_pair, owned_pairs};
-ghost use Rattle.binlog.specs.RowsWritten.{HaveRows, value_fits, row_fits, pair_fits};
+ghost use Rattle.binlog.specs.RowsWritten.{HaveRows, pair_bytes, rows_bytes, value_fits, row_fits, pair_fits, pairs_fit};
 ghost use Rattle.binlog.specs.Shape.{is_readable};
+ghost use Rattle.binlog.specs.declared.fault.EventFaultKind.TheVariants.{Memory};
 
 use crate::cell::OwnedCell;
 use crate::column::ColumnType;
+use crate::fault::EventFault;
+use crate::row_writing::write_row;
 use crate::rows_event::RowsKind;
 use crate::shape::{Shape, shape_of};
 
@@ -115,5 +118,69 @@ fn is_below(value: u64, size: usize) -> bool
         6 => value < 0x1_0000_0000_0000,
         7 => value < 0x100_0000_0000_0000,
         _ => true,
+    }
+}
+
+/// Appends the rows of the pairs, one after the other: of each row the bitmap of the cells that are null, lowest bit
+/// first, and the values of the others. Bits behind the last column are 0.
+///
+/// The only refusal is `Memory`, which leaves the vector as it was.
+pub fn write_rows(
+    kind: RowsKind,
+    types: &[ColumnType],
+    pairs: &[OwnedPair],
+    out: &mut Vec<u8>,
+) -> Result<(), EventFault>
+    requires { HaveRows kind (kinds types.now) (owned_pairs pairs.now) }
+    ensures ok { OnOk result (out.new.items ≡ out.old.items ++ rows_bytes (kinds types.now) (owned_pairs pairs.now)) }
+    ensures err { OnErr result ((result ≡ Err (record { kind = Memory; at = 0 })) × (out.new.items ≡ out.old.items)) }
+{
+    let start = out.len();
+    match write_pairs(kind, types, pairs, out) {
+        Ok(()) => Ok(()),
+        Err(fault) => {
+            out.truncate(start);
+            Err(fault)
+        }
+    }
+}
+
+/// Appends the rows of the pairs, or a part of them.
+fn write_pairs(
+    kind: RowsKind,
+    types: &[ColumnType],
+    pairs: &[OwnedPair],
+    out: &mut Vec<u8>,
+) -> Result<(), EventFault>
+    requires { IsTrue (pairs_fit kind (kinds types.now) (owned_pairs pairs.now)) }
+    ensures ok { OnOk result (out.new.items ≡ out.old.items ++ rows_bytes (kinds types.now) (owned_pairs pairs.now)) }
+    ensures err { OnErr result (result ≡ Err (record { kind = Memory; at = 0 })) }
+    ensures kept { OnErr result (take (length out.old.items) out.new.items ≡ out.old.items) }
+{
+    for pair in pairs {
+        write_pair(kind, types, pair, out)?;
+    }
+    Ok(())
+}
+
+/// Appends the rows of a pair, or a part of them.
+fn write_pair(
+    kind: RowsKind,
+    types: &[ColumnType],
+    pair: &OwnedPair,
+    out: &mut Vec<u8>,
+) -> Result<(), EventFault>
+    requires { IsTrue (pair_fits kind (kinds types.now) (owned_pair pair.now)) }
+    ensures ok { OnOk result (out.new.items ≡ out.old.items ++ pair_bytes (kinds types.now) (owned_pair pair.now)) }
+    ensures err { OnErr result (result ≡ Err (record { kind = Memory; at = 0 })) }
+    ensures kept { OnErr result (take (length out.old.items) out.new.items ≡ out.old.items) }
+{
+    match pair {
+        OwnedPair::Insert { after } => write_row(types, after, out),
+        OwnedPair::Delete { before } => write_row(types, before, out),
+        OwnedPair::Update { before, after } => {
+            write_row(types, before, out)?;
+            write_row(types, after, out)
+        }
     }
 }

@@ -1,0 +1,140 @@
+-- What the writer of rows has written so far.
+use Rattle.std.proofs.Common.{◌≡◌, ℕ, zero, suc, ◌+◌, ◌<◌, ◌≤◌, ◌^◌, ◌==◌, Bool, true, false, List, [], ◌∷◌, ◌++◌, length, get_or, take, map, sym, ap, ◌∙◌, arith}
+use Rattle.std.specs.Prelude.{nat_lt, nat_le, IsTrue}
+use Rattle.std.specs.List.{range_with_len}
+use Rattle.std.proofs.lemmas.Bool.{and_parts, eqb-true, leb-true}
+use Rattle.std.proofs.lemmas.List.{length-map, length-append, append-nil, append_assoc, take_all, take-take}
+use Rattle.std.proofs.Math.Seq.{take-append_seam}
+use Rattle.std.proofs.lemmas.List.FromFn.{map-range_with_len_more}
+use Rattle.byteorder.specs.Endian.{little_bytes}
+use Rattle.byteorder.proofs.Bytes.{take-bytes_low_first}
+use Rattle.binlog.specs.Cell.{number_cell, is_null, owned_value, owned_values}
+use Rattle.binlog.specs.Shape.{shape, is_readable}
+use Rattle.binlog.specs.Row.{kinds}
+use Rattle.binlog.specs.RowsView.{owned_pair, owned_pairs}
+use Rattle.binlog.specs.RowsWritten.{bitmap_byte, value_bytes, values_bytes, pair_bytes, rows_bytes, value_fits, row_fits, pair_fits, pairs_fit}
+use Rattle.binlog.proofs.RowsWritten.{column_kind, as_long}
+use Rattle.binlog.specs.declared.cell.OwnedCell.{OwnedCell}
+use Rattle.binlog.specs.declared.column.ColumnKind.{ColumnKind}
+use Rattle.binlog.specs.declared.column.ColumnType.{ColumnType}
+use Rattle.binlog.specs.declared.rows_writing.OwnedPair.{OwnedPair}
+use Rattle.binlog.specs.declared.rows_event.RowsKind.{RowsKind}
+use Rattle.binlog.specs.declared.shape.Shape.{Shape}
+use Rattle.binlog.specs.declared.shape.Shape.TheVariants.{Number, Fixed, Prefixed}
+
+-- ---- Where memory ends.
+
+-- what was there before still is
+pub still_kept : (old written now new : List ℕ) → now ≡ old ++ written → take (length now) new ≡ now → take (length old) new ≡ old
+still_kept old written now new before kept =
+    let long : length now ≡ length old + length written = ap length before ∙ length-append old written in
+    sym (take-take (length old) (length now) new (omega (arith, long)))
+    ∙ ap (take (length old)) (kept ∙ before)
+    ∙ take-append_seam old written
+
+-- ---- The bitmap.
+
+pub null_there : (cells : List OwnedCell) (i : ℕ) (cell : OwnedCell) → i < length cells → cell ≡ get_or cells i cell → is_null (owned_value cell) ≡ get_or (map is_null (owned_values cells)) i false
+null_there [] i cell short is = absurd (omega (arith, short))
+null_there (first ∷ cells) zero cell short is = ap (λ c. is_null (owned_value c)) is
+null_there (first ∷ cells) (suc i) cell short is = null_there cells i cell (omega (arith, short)) is
+
+pub byte_more : (bits : List Bool) (i byte : ℕ) (old now : List ℕ) → now ≡ old ++ map (bitmap_byte bits) (range_with_len 0 i) → byte ≡ bitmap_byte bits i → now ++ byte ∷ [] ≡ old ++ map (bitmap_byte bits) (range_with_len 0 (i + 1))
+byte_more bits i byte old now before is =
+    let next : 0 + i ≡ i = omega arith in
+    ap (λ xs. xs ++ byte ∷ []) before
+    ∙ append_assoc old (map (bitmap_byte bits) (range_with_len 0 i)) (byte ∷ [])
+    ∙ ap (λ b. old ++ (map (bitmap_byte bits) (range_with_len 0 i) ++ b ∷ [])) is
+    ∙ ap (λ xs. old ++ xs) (sym (map-range_with_len_more (bitmap_byte bits) 0 i i next))
+
+pub bits_length : (cells : List OwnedCell) → length cells ≡ length (map is_null (owned_values cells))
+bits_length cells = sym (length-map (owned_values cells) is_null ∙ length-map cells owned_value)
+
+-- ---- Values.
+
+pub low_bytes : (size number : ℕ) → size ≤ 8 → take size (little_bytes 8 number) ≡ little_bytes size number
+low_bytes size number short = take-bytes_low_first 0 8 size number short
+
+pub number_bytes : (s : Shape) (n w : ℕ) → IsTrue (is_readable s) → value_fits s (number_cell n w) ≡ true → take w (little_bytes 8 n) ≡ value_bytes s (number_cell n w)
+number_bytes (Number width) n w readable fits =
+    let p = and_parts (w == width) (nat_lt n (256 ^ width)) fits in
+    let q = and_parts (nat_le 1 width) (nat_le width 8) readable in
+    let same = eqb-true w width p.0 in
+    ap (λ k. take k (little_bytes 8 n)) same ∙ low_bytes width n (leb-true _ _ q.1)
+number_bytes (Fixed size) n w readable fits = absurd cc
+number_bytes (Prefixed size) n w readable fits = absurd cc
+
+pub prefix_short : (size : ℕ) → IsTrue (is_readable (Prefixed size)) → size ≤ 8
+prefix_short size readable = let q = and_parts (nat_le 1 size) (nat_le size 4) readable in omega (arith, leb-true _ _ q.1)
+
+-- ---- Cells and pairs, item by item.
+
+pub as_many : (types : List ColumnType) (cells : List OwnedCell) → row_fits (kinds types) (owned_values cells) ≡ true → length cells ≡ length types
+as_many types cells fits = omega (arith, as_long (kinds types) (owned_values cells) fits, length-map types column_kind, length-map cells owned_value)
+
+pub value_there : (types : List ColumnType) (cells : List OwnedCell) (i : ℕ) (t : ColumnType) (cell : OwnedCell) → row_fits (kinds types) (owned_values cells) ≡ true → i < length types → t ≡ get_or types i t → cell ≡ get_or cells i cell →
+    value_fits (shape t.kind) (owned_value cell) ≡ true
+value_there [] cells i t cell fits short is_t is = absurd (omega (arith, short))
+value_there (u ∷ types) [] i t cell fits short is_t is = absurd cc
+value_there (u ∷ types) (c ∷ cells) zero t cell fits short is_t is =
+    let p = and_parts (value_fits (shape u.kind) (owned_value c)) (row_fits (kinds types) (owned_values cells)) fits in
+    (λ j. value_fits (shape (is_t j).kind) (owned_value (is j))) ∙ p.0
+value_there (u ∷ types) (c ∷ cells) (suc i) t cell fits short is_t is =
+    let p = and_parts (value_fits (shape u.kind) (owned_value c)) (row_fits (kinds types) (owned_values cells)) fits in
+    value_there types cells i t cell p.1 (omega (arith, short)) is_t is
+
+value_next : (types : List ColumnType) (cells : List OwnedCell) (i : ℕ) (t : ColumnType) (cell : OwnedCell) → i < length types → i < length cells → t ≡ get_or types i t → cell ≡ get_or cells i cell →
+    values_bytes (take (suc i) (kinds types)) (take (suc i) (owned_values cells)) ≡ values_bytes (take i (kinds types)) (take i (owned_values cells)) ++ value_bytes (shape t.kind) (owned_value cell)
+value_next [] cells i t cell a b is_t is = absurd (omega (arith, a))
+value_next (u ∷ types) [] i t cell a b is_t is = absurd (omega (arith, b))
+value_next (u ∷ types) (c ∷ cells) zero t cell a b is_t is =
+    append-nil (value_bytes (shape u.kind) (owned_value c)) ∙ (λ j. value_bytes (shape (sym is_t j).kind) (owned_value (sym is j)))
+value_next (u ∷ types) (c ∷ cells) (suc i) t cell a b is_t is =
+    let first = value_bytes (shape u.kind) (owned_value c) in
+    ap (λ xs. first ++ xs) (value_next types cells i t cell (omega (arith, a)) (omega (arith, b)) is_t is)
+    ∙ sym (append_assoc first (values_bytes (take i (kinds types)) (take i (owned_values cells))) (value_bytes (shape t.kind) (owned_value cell)))
+
+pub value_more : (types : List ColumnType) (cells : List OwnedCell) (i : ℕ) (t : ColumnType) (cell : OwnedCell) (old now : List ℕ) → i < length types → i < length cells → t ≡ get_or types i t → cell ≡ get_or cells i cell →
+    now ≡ old ++ values_bytes (take i (kinds types)) (take i (owned_values cells)) →
+    now ++ value_bytes (shape t.kind) (owned_value cell) ≡ old ++ values_bytes (take (i + 1) (kinds types)) (take (i + 1) (owned_values cells))
+value_more types cells i t cell old now a b is_t is before =
+    let next : suc i ≡ i + 1 = omega arith in
+    ap (λ xs. xs ++ value_bytes (shape t.kind) (owned_value cell)) before
+    ∙ append_assoc old (values_bytes (take i (kinds types)) (take i (owned_values cells))) (value_bytes (shape t.kind) (owned_value cell))
+    ∙ ap (λ xs. old ++ xs) (sym (value_next types cells i t cell a b is_t is))
+    ∙ ap (λ k. old ++ values_bytes (take k (kinds types)) (take k (owned_values cells))) next
+
+pub values_all : (types : List ColumnType) (cells : List OwnedCell) (i : ℕ) → length types ≤ i → length cells ≤ i → values_bytes (take i (kinds types)) (take i (owned_values cells)) ≡ values_bytes (kinds types) (owned_values cells)
+values_all types cells i a b =
+    let x : take i (kinds types) ≡ kinds types = take_all i (kinds types) (omega (arith, a, length-map types column_kind)) in
+    let y : take i (owned_values cells) ≡ owned_values cells = take_all i (owned_values cells) (omega (arith, b, length-map cells owned_value)) in
+    λ j. values_bytes (x j) (y j)
+
+pub pair_there : (kind : RowsKind) (types : List ColumnKind) (pairs : List OwnedPair) (i : ℕ) (pair : OwnedPair) → pairs_fit kind types (owned_pairs pairs) ≡ true → i < length pairs → pair ≡ get_or pairs i pair → pair_fits kind types (owned_pair pair) ≡ true
+pair_there kind types [] i pair fits short is = absurd (omega (arith, short))
+pair_there kind types (first ∷ pairs) zero pair fits short is =
+    let p = and_parts (pair_fits kind types (owned_pair first)) (pairs_fit kind types (owned_pairs pairs)) fits in
+    ap (λ q. pair_fits kind types (owned_pair q)) is ∙ p.0
+pair_there kind types (first ∷ pairs) (suc i) pair fits short is =
+    let p = and_parts (pair_fits kind types (owned_pair first)) (pairs_fit kind types (owned_pairs pairs)) fits in
+    pair_there kind types pairs i pair p.1 (omega (arith, short)) is
+
+pair_next : (types : List ColumnKind) (pairs : List OwnedPair) (i : ℕ) (pair : OwnedPair) → i < length pairs → pair ≡ get_or pairs i pair →
+    rows_bytes types (take (suc i) (owned_pairs pairs)) ≡ rows_bytes types (take i (owned_pairs pairs)) ++ pair_bytes types (owned_pair pair)
+pair_next types [] i pair short is = absurd (omega (arith, short))
+pair_next types (first ∷ pairs) zero pair short is = append-nil (pair_bytes types (owned_pair first)) ∙ ap (λ q. pair_bytes types (owned_pair q)) (sym is)
+pair_next types (first ∷ pairs) (suc i) pair short is =
+    ap (λ xs. pair_bytes types (owned_pair first) ++ xs) (pair_next types pairs i pair (omega (arith, short)) is)
+    ∙ sym (append_assoc (pair_bytes types (owned_pair first)) (rows_bytes types (take i (owned_pairs pairs))) (pair_bytes types (owned_pair pair)))
+
+pub pair_more : (types : List ColumnKind) (pairs : List OwnedPair) (i : ℕ) (pair : OwnedPair) (old now : List ℕ) → i < length pairs → pair ≡ get_or pairs i pair → now ≡ old ++ rows_bytes types (take i (owned_pairs pairs)) →
+    now ++ pair_bytes types (owned_pair pair) ≡ old ++ rows_bytes types (take (i + 1) (owned_pairs pairs))
+pair_more types pairs i pair old now short is before =
+    let next : suc i ≡ i + 1 = omega arith in
+    ap (λ xs. xs ++ pair_bytes types (owned_pair pair)) before
+    ∙ append_assoc old (rows_bytes types (take i (owned_pairs pairs))) (pair_bytes types (owned_pair pair))
+    ∙ ap (λ xs. old ++ xs) (sym (pair_next types pairs i pair short is))
+    ∙ ap (λ k. old ++ rows_bytes types (take k (owned_pairs pairs))) next
+
+pub pairs_all : (types : List ColumnKind) (pairs : List OwnedPair) (i : ℕ) → length pairs ≤ i → rows_bytes types (take i (owned_pairs pairs)) ≡ rows_bytes types (owned_pairs pairs)
+pairs_all types pairs i long = ap (rows_bytes types) (take_all i (owned_pairs pairs) (omega (arith, long, length-map pairs owned_pair)))
