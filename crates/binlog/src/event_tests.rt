@@ -366,3 +366,57 @@ fn written_events(rt: HostRuntime) -> Result<(), Fail> {
     assert!(rt; !(Event::OtherMap { id: 1 }).fits());
     Ok(())
 }
+
+/// A row of the table of `MAP`.
+fn row(alloc: Global, number: u64, text: &[u8]) -> Result<Vec<OwnedCell>, Fail> {
+    let mut cells = Vec::new(alloc);
+    cells.push(OwnedCell::Number {
+        value: number,
+        width: 4,
+    })?;
+    cells.push(OwnedCell::Bytes(Vec::from_slice(alloc, text)?))?;
+    Ok(cells)
+}
+
+/// Rows and their event, byte for byte.
+#[test]
+fn written_rows(rt: HostRuntime) -> Result<(), Fail> {
+    let alloc = rt.alloc();
+    let table = items(alloc)?;
+    let pairs = [
+        OwnedPair::Insert {
+            after: row(alloc, 7, b"ab")?,
+        },
+        OwnedPair::Insert {
+            after: row(alloc, 7, b"ab")?,
+        },
+    ];
+    assert!(rt; rows_fit(RowsKind::Write, &table.types, &pairs));
+    assert!(rt; !rows_fit(RowsKind::Delete, &table.types, &pairs));
+    let mut bytes = Vec::new(alloc);
+    write_rows(RowsKind::Write, &table.types, &pairs, &mut bytes)?;
+    let event = RowsEvent::new(1, RowsKind::Write, 2, &bytes).ok_or("no rows event")?;
+    let value = Event::Rows(event);
+    assert!(rt; value.fits());
+    let mut out = Vec::new(alloc);
+    value.write(&mut out)?;
+    let want = self::event(alloc, 30, 0, &ROWS)?;
+    assert_eq!(rt; out.as_slice(), want.as_slice());
+    let mut after = Vec::new(alloc);
+    after.push(OwnedCell::Null)?;
+    after.push(OwnedCell::Bytes(Vec::from_slice(alloc, b"ab")?))?;
+    assert_eq!(rt; after[0].as_cell(), Cell::Null);
+    let changed = [OwnedPair::Update {
+        before: row(alloc, 7, b"ab")?,
+        after,
+    }];
+    assert!(rt; rows_fit(RowsKind::Update, &table.types, &changed));
+    let mut bytes = Vec::new(alloc);
+    write_rows(RowsKind::Update, &table.types, &changed, &mut bytes)?;
+    assert_eq!(rt; bytes.as_slice(), &UPDATE[13..]);
+    let long = [OwnedPair::Insert {
+        after: row(alloc, 1 << 32, b"ab")?,
+    }];
+    assert!(rt; !rows_fit(RowsKind::Write, &table.types, &long));
+    Ok(())
+}
