@@ -17,6 +17,7 @@ pub mod Followed
 pub mod Events
 pub mod RowsWritten
 pub mod Framed
+pub mod LawfulColumns
 pub mod Kept
 pub mod FullBitmap
 pub mod MapWritten
