@@ -1,7 +1,7 @@
 -- Vectors that keep what they begin with.
-use Rattle.std.proofs.Common.{◌≡◌, ℕ, List, ◌++◌, length, take, drop, refl, sym, ap, ◌∙◌, append_assoc}
+use Rattle.std.proofs.Common.{◌≡◌, ℕ, ◌≤◌, List, [], ◌++◌, length, take, drop, sym, ap, ◌∙◌, append_assoc, arith}
 use Rattle.std.proofs.Math.Seq.{take-append_seam}
-use Rattle.std.proofs.lemmas.List.{take-append-drop}
+use Rattle.std.proofs.lemmas.List.{take-append-drop, take_all, append-nil}
 
 -- what was there stays
 pub kept : (old more new : List ℕ) → new ≡ old ++ more → take (length old) new ≡ old
@@ -18,3 +18,21 @@ pub kept_on : (old now more new : List ℕ) → take (length old) now ≡ old �
 kept_on old now more new stays is =
     let rest = drop (length old) now in
     kept old (rest ++ more) new (is ∙ ap (λ l. l ++ more) (sym (take-append-drop (length old) now) ∙ ap (λ l. l ++ rest) stays) ∙ append_assoc old rest more)
+
+-- ---- Items written one after another: what is written, and then what is left, is all.
+
+pub record Writes (old now left all : List ℕ) : Type 0 where
+  pub whole : now ++ left ≡ old ++ all
+  pub stays : take (length old) now ≡ old
+
+pub first_write : (old left all : List ℕ) → left ≡ all → Writes old old left all
+first_write old left all is = record { whole = ap (λ l. old ++ l) is; stays = take_all (length old) old (omega arith) }
+
+pub next_write : (old now left all part rest new : List ℕ) → Writes old now left all → left ≡ part ++ rest → new ≡ now ++ part → Writes old new rest all
+next_write old now left all part rest new w first is = record {
+  whole = ap (λ l. l ++ rest) is ∙ append_assoc now part rest ∙ ap (λ l. now ++ l) (sym first) ∙ w.whole;
+  stays = kept_on old now part new w.stays is;
+}
+
+pub last_write : (old now left all : List ℕ) → Writes old now left all → left ≡ [] → now ≡ old ++ all
+last_write old now left all w none = sym (append-nil now) ∙ ap (λ l. now ++ l) (sym none) ∙ w.whole

@@ -19,6 +19,7 @@ pub mod RowsWritten
 pub mod Framed
 pub mod LawfulColumns
 pub mod Kept
+pub mod ColumnsWritten
 pub mod FullBitmap
 pub mod MapWritten
 pub mod RowsEventWritten

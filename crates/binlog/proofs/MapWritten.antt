@@ -59,7 +59,7 @@ spelled n small = elim (cases_lt 250 n) as (λ _. Spelled n) [
 -- ---- The body.
 
 by_parts : (id flags schema table count codes m md nb : List ℕ) →
-    id ++ (flags ++ schema) ++ table ++ count ++ codes ++ m ++ md ++ nb ≡ id ++ flags ++ schema ++ table ++ (count ++ codes ++ m ++ md ++ nb ++ [])
+    id ++ (flags ++ schema) ++ table ++ (0 ∷ []) ++ count ++ codes ++ m ++ md ++ nb ≡ id ++ flags ++ schema ++ table ++ (0 ∷ (count ++ codes ++ m ++ md ++ nb ++ []))
 by_parts id flags schema table count codes m md nb = simp (append_assoc, append-nil)
 
 -- the table map, of which some body is
@@ -89,7 +89,7 @@ written_map t is =
         flags = 0 ∷ 0 ∷ [];
         first_terminator = 0;
         second_terminator = 0;
-        body_is = by_parts (little_bytes 6 t.id) (0 ∷ 0 ∷ []) (length t.schema ∷ t.schema) (0 ∷ length t.table ∷ t.table) (0 ∷ length_encoded n) (map type_code t.columns) (length_encoded (length all_metadata)) all_metadata (full_bitmap n);
+        body_is = by_parts (little_bytes 6 t.id) (0 ∷ 0 ∷ []) (length t.schema ∷ t.schema) (0 ∷ length t.table ∷ t.table) (length_encoded n) (map type_code t.columns) (length_encoded (length all_metadata)) all_metadata (full_bitmap n);
         an_id = is.an_id;
         sizes = (refl, is.schema, is.table);
       };
@@ -113,8 +113,8 @@ map_written t has = written_map t (suits t has)
 pub has_map : (t : TableValue) → Suits t → HasMap t
 has_map t is = record { body = table_map_body t; is_map = written_map t is }
 
-long_8 : (a b c d e f g h : List ℕ) → length (a ++ b ++ c ++ d ++ e ++ f ++ g ++ h) ≡ length a + length b + length c + length d + length e + length f + length g + length h
-long_8 a b c d e f g h = simp length-append
+long_9 : (a b c d e f g h i : List ℕ) → length (a ++ b ++ c ++ d ++ e ++ f ++ g ++ h ++ i) ≡ length a + length b + length c + length d + length e + length f + length g + length h + length i
+long_9 a b c d e f g h i = simp length-append
 
 size_small : (n : ℕ) → bitmap_size n ≤ n + 1
 size_small n = grind arith
@@ -127,5 +127,5 @@ map_short t has =
     let small = all_metadata_short t.columns in
     let count = spelled n (omega (arith, is.number.1)) in
     let measure = spelled (length all_metadata) (omega (arith, is.number.1, small)) in
-    let long = long_8 (little_bytes 6 t.id) (0 ∷ 0 ∷ length t.schema ∷ t.schema) (0 ∷ length t.table ∷ t.table) (0 ∷ length_encoded n) (map type_code t.columns) (length_encoded (length all_metadata)) all_metadata (full_bitmap n) in
+    let long = long_9 (little_bytes 6 t.id) (0 ∷ 0 ∷ length t.schema ∷ t.schema) (0 ∷ length t.table ∷ t.table) (0 ∷ []) (length_encoded n) (map type_code t.columns) (length_encoded (length all_metadata)) all_metadata (full_bitmap n) in
     omega (arith, long, length-bytes_low_first 0 6 t.id, is.schema, is.table, is.number.1, count.short, measure.short, small, full_long n, size_small n, length-map t.columns type_code)

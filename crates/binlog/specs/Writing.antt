@@ -48,12 +48,15 @@ gtid_body source number = 0 ∷ source ++ little_bytes 8 number
 abbrev pub full_bitmap : ℕ → List ℕ
 full_bitmap n = bitmap_bytes (replicate n true)
 
+-- the number, no flags, and the names with a terminator each
+abbrev pub names_bytes : TableValue → List ℕ
+names_bytes t = little_bytes 6 t.id ++ 0 ∷ 0 ∷ length t.schema ∷ t.schema ++ 0 ∷ length t.table ∷ t.table ++ 0 ∷ []
+
 -- a table map: all columns may be null
 abbrev pub table_map_body : TableValue → List ℕ
 table_map_body t =
     let all_metadata = flat_map metadata t.columns in
-    little_bytes 6 t.id ++ 0 ∷ 0 ∷ length t.schema ∷ t.schema ++ 0 ∷ length t.table ∷ t.table ++ 0 ∷ length_encoded (length t.columns) ++ map type_code t.columns
-    ++ length_encoded (length all_metadata) ++ all_metadata ++ full_bitmap (length t.columns)
+    names_bytes t ++ length_encoded (length t.columns) ++ map type_code t.columns ++ length_encoded (length all_metadata) ++ all_metadata ++ full_bitmap (length t.columns)
 
 -- a count in so many bytes
 abbrev pub count_bytes : ℕ → ℕ → List ℕ
