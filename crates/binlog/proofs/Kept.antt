@@ -36,3 +36,25 @@ next_write old now left all part rest new w first is = record {
 
 pub last_write : (old now left all : List ℕ) → Writes old now left all → left ≡ [] → now ≡ old ++ all
 last_write old now left all w none = sym (append-nil now) ∙ ap (λ l. now ++ l) (sym none) ∙ w.whole
+
+-- ---- Parts written one after another.
+
+regroup_6 : (old a b c d e f : List ℕ) → old ++ a ++ b ++ c ++ d ++ e ++ f ≡ old ++ (a ++ b ++ c ++ d ++ e ++ f)
+regroup_6 old a b c d e f = simp append_assoc
+
+pub six_parts : (old a b c d e f n1 n2 n3 n4 n5 n6 : List ℕ) → n1 ≡ old ++ a → n2 ≡ n1 ++ b → n3 ≡ n2 ++ c → n4 ≡ n3 ++ d → n5 ≡ n4 ++ e → n6 ≡ n5 ++ f → n6 ≡ old ++ (a ++ b ++ c ++ d ++ e ++ f)
+six_parts old a b c d e f n1 n2 n3 n4 n5 n6 h1 h2 h3 h4 h5 h6 =
+    let g2 : n2 ≡ old ++ a ++ b = h2 ∙ ap (λ l. l ++ b) h1 in
+    let g3 : n3 ≡ old ++ a ++ b ++ c = h3 ∙ ap (λ l. l ++ c) g2 in
+    let g4 : n4 ≡ old ++ a ++ b ++ c ++ d = h4 ∙ ap (λ l. l ++ d) g3 in
+    let g5 : n5 ≡ old ++ a ++ b ++ c ++ d ++ e = h5 ∙ ap (λ l. l ++ e) g4 in
+    h6 ∙ ap (λ l. l ++ f) g5 ∙ regroup_6 old a b c d e f
+
+regroup_4 : (old a b c d : List ℕ) → old ++ a ++ b ++ c ++ d ≡ old ++ (a ++ b ++ c ++ d)
+regroup_4 old a b c d = simp append_assoc
+
+pub four_parts : (old a b c d n1 n2 n3 n4 : List ℕ) → n1 ≡ old ++ a → n2 ≡ n1 ++ b → n3 ≡ n2 ++ c → n4 ≡ n3 ++ d → n4 ≡ old ++ (a ++ b ++ c ++ d)
+four_parts old a b c d n1 n2 n3 n4 h1 h2 h3 h4 =
+    let g2 : n2 ≡ old ++ a ++ b = h2 ∙ ap (λ l. l ++ b) h1 in
+    let g3 : n3 ≡ old ++ a ++ b ++ c = h3 ∙ ap (λ l. l ++ c) g2 in
+    h4 ∙ ap (λ l. l ++ d) g3 ∙ regroup_4 old a b c d

@@ -71,13 +71,18 @@ presents_bytes Update n = full_bitmap n ++ full_bitmap n
 presents_bytes Write n = full_bitmap n
 presents_bytes Delete n = full_bitmap n
 
--- a rows event that ends its statement, with as many bytes of extra data, and a count in as many bytes, as its places ask
--- for
+-- what stands before the number of columns of an event that ends its statement, with as many bytes of extra data as its
+-- place asks for
+abbrev pub rows_head : RowsValue → List ℕ
+rows_head r =
+    let extra = r.columns_at - 29 in
+    little_bytes 6 r.id ++ 1 ∷ 0 ∷ little_bytes 2 (2 + extra) ++ replicate extra 0
+
+-- a rows event, with a count in as many bytes as its places ask for
 abbrev pub rows_body : RowsValue → List ℕ
 rows_body r =
-    let extra = r.columns_at - 29 in
     let width = r.bytes_at - r.columns_at - presents_size r.kind r.columns in
-    little_bytes 6 r.id ++ 1 ∷ 0 ∷ little_bytes 2 (2 + extra) ++ replicate extra 0 ++ count_bytes width r.columns ++ presents_bytes r.kind r.columns ++ r.bytes
+    rows_head r ++ count_bytes width r.columns ++ presents_bytes r.kind r.columns ++ r.bytes
 
 -- the type that is written; of a neutral event IGNORABLE
 abbrev pub event_code : EventValue → ℕ

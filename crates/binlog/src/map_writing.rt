@@ -26,7 +26,8 @@ pub(crate) fn write_table_map(map: &TableMap<'_>, out: &mut Vec<u8>) -> Result<(
     write_codes(&map.columns, out)?;
     write_count(metadata_length(&map.columns), out)?;
     write_all_metadata(&map.columns, out)?;
-    write_full_bitmap(map.columns.len(), out)
+    write_full_bitmap(map.columns.len(), out)?;
+    Ok(())
 }
 
 /// Appends a table's number, its flags and its names, or a part of that.

@@ -1,15 +1,16 @@
 //! Rows events as bytes. MySQL Source Documentation, "Binlog Event", the page `binary_log::Rows_event`.
 
-ghost use Rattle.std.specs.Prelude.{◌≡◌, ◌++◌, ◌↔◌, length, take, OnOk, OnErr, IfOk, Err, IsTrue};
-ghost use Rattle.binlog.specs.Rows.{rows_code};
+ghost use Rattle.std.specs.Prelude.{◌≡◌, ◌+◌, ◌≤◌, ◌-◌, ◌++◌, ◌↔◌, length, take, OnOk, OnErr, IfOk, Err, IsTrue};
+ghost use Rattle.binlog.specs.Rows.{rows_code, presents_size};
 ghost use Rattle.binlog.specs.RowsView.{rows_value};
-ghost use Rattle.binlog.specs.Writing.{HasRowsBody, rows_body};
+ghost use Rattle.binlog.specs.Writing.{HasRowsBody, rows_head, count_bytes, presents_bytes, rows_body};
 ghost use Rattle.binlog.specs.declared.fault.EventFaultKind.TheVariants.{Memory};
 
 use crate::fault::EventFault;
-use crate::rows_event::RowsEvent;
+use crate::full_bitmap::write_full_bitmap;
+use crate::rows_event::{RowsEvent, RowsKind};
 
-/// Appends the body of a rows event, or a part of it: the event's type.
+/// Appends the body of a rows event that ends its statement, or a part of it: the event's type.
 pub(crate) fn write_rows_event(rows: &RowsEvent<'_>, out: &mut Vec<u8>) -> Result<u8, EventFault>
     requires { HasRowsBody (rows_value rows.now) }
     ensures code { IfOk result (λ code. code ≡ rows_code rows.now.kind) }
@@ -17,7 +18,81 @@ pub(crate) fn write_rows_event(rows: &RowsEvent<'_>, out: &mut Vec<u8>) -> Resul
     ensures err { OnErr result (result ≡ Err (record { kind = Memory; at = 0 })) }
     ensures kept { OnErr result (take (length out.old.items) out.new.items ≡ out.old.items) }
 {
-    Err(EventFault::MEMORY)
+    write_head(rows, out)?;
+    let width = rows.bytes_at - rows.columns_at - presents_size(rows.kind, rows.columns);
+    write_count(width, rows.columns, out)?;
+    write_presents(rows.kind, rows.columns, out)?;
+    out.extend_from_slice(rows.bytes)?;
+    match rows.kind {
+        RowsKind::Write => Ok(30),
+        RowsKind::Update => Ok(31),
+        RowsKind::Delete => Ok(32),
+    }
+}
+
+/// Appends what stands before the number of columns, or a part of it. The extra data is zeros.
+fn write_head(rows: &RowsEvent<'_>, out: &mut Vec<u8>) -> Result<(), EventFault>
+    requires { HasRowsBody (rows_value rows.now) }
+    ensures ok { OnOk result (out.new.items ≡ out.old.items ++ rows_head (rows_value rows.now)) }
+    ensures err { OnErr result (result ≡ Err (record { kind = Memory; at = 0 })) }
+    ensures kept { OnErr result (take (length out.old.items) out.new.items ≡ out.old.items) }
+{
+    let extra = rows.columns_at - 29;
+    let [a, b, c, d, e, f, ..] = rows.id.to_le_bytes();
+    let [low, high] = ((2 + extra) as u16).to_le_bytes();
+    out.extend_from_slice(&[a, b, c, d, e, f, 1, 0, low, high])?;
+    for _ in 0..extra {
+        out.push(0)?;
+    }
+    Ok(())
+}
+
+/// Appends a count in so many bytes.
+fn write_count(width: usize, count: usize, out: &mut Vec<u8>) -> Result<(), EventFault>
+    requires small { count ≤ 4096 }
+    requires fits { width ≡ 1 → count ≤ 250 }
+    ensures ok { OnOk result (out.new.items ≡ out.old.items ++ count_bytes width count) }
+    ensures err { OnErr result (result ≡ Err (record { kind = Memory; at = 0 })) }
+    ensures kept { OnErr result (take (length out.old.items) out.new.items ≡ out.old.items) }
+{
+    let [a, b, ..] = count.to_le_bytes();
+    match width {
+        1 => out.push(a)?,
+        3 => out.extend_from_slice(&[0xfc, a, b])?,
+        4 => out.extend_from_slice(&[0xfd, a, b, 0])?,
+        _ => out.extend_from_slice(&[0xfe, a, b, 0, 0, 0, 0, 0, 0])?,
+    }
+    Ok(())
+}
+
+/// Appends the bitmaps of present columns, or a part of them: two for an update, and all columns are present.
+fn write_presents(kind: RowsKind, columns: usize, out: &mut Vec<u8>) -> Result<(), EventFault>
+    requires { columns ≤ 4096 }
+    ensures ok { OnOk result (out.new.items ≡ out.old.items ++ presents_bytes kind columns) }
+    ensures err { OnErr result (result ≡ Err (record { kind = Memory; at = 0 })) }
+    ensures kept { OnErr result (take (length out.old.items) out.new.items ≡ out.old.items) }
+{
+    write_full_bitmap(columns, out)?;
+    match kind {
+        RowsKind::Update => write_full_bitmap(columns, out)?,
+        RowsKind::Write => {}
+        RowsKind::Delete => {}
+    }
+    Ok(())
+}
+
+/// How many bytes the bitmaps of present columns take.
+pub(crate) fn presents_size(kind: RowsKind, columns: usize) -> usize
+    requires { columns ≤ 4096 }
+    ensures size { result ≡ presents_size kind columns }
+    ensures bound { result ≤ 1024 }
+{
+    let size = columns.div_ceil(8);
+    match kind {
+        RowsKind::Update => size + size,
+        RowsKind::Write => size,
+        RowsKind::Delete => size,
+    }
 }
 
 /// Whether some bytes are the rows event: its number is below 2^48, it has 1 to 4,096 columns, and the places of their
@@ -25,5 +100,25 @@ pub(crate) fn write_rows_event(rows: &RowsEvent<'_>, out: &mut Vec<u8>) -> Resul
 pub(crate) fn rows_event_fits(rows: &RowsEvent<'_>) -> bool
     ensures { IsTrue result ↔ HasRowsBody (rows_value rows.now) }
 {
-    false
+    if rows.id >= 1 << 48 {
+        return false;
+    }
+    if rows.columns > 4096 {
+        return false;
+    }
+    if rows.columns_at < 29 {
+        return false;
+    }
+    if rows.columns_at > 29 + 65_533 {
+        return false;
+    }
+    let presents_at = rows.columns_at + presents_size(rows.kind, rows.columns);
+    if rows.bytes_at < presents_at {
+        return false;
+    }
+    match rows.bytes_at - presents_at {
+        1 => rows.columns <= 250,
+        3 | 4 | 9 => true,
+        _ => false,
+    }
 }
