@@ -58,3 +58,6 @@ four_parts old a b c d n1 n2 n3 n4 h1 h2 h3 h4 =
     let g2 : n2 ≡ old ++ a ++ b = h2 ∙ ap (λ l. l ++ b) h1 in
     let g3 : n3 ≡ old ++ a ++ b ++ c = h3 ∙ ap (λ l. l ++ c) g2 in
     h4 ∙ ap (λ l. l ++ d) g3 ∙ regroup_4 old a b c d
+
+pub two_parts : (old a b n1 n2 : List ℕ) → n1 ≡ old ++ a → n2 ≡ n1 ++ b → n2 ≡ old ++ (a ++ b)
+two_parts old a b n1 n2 h1 h2 = h2 ∙ ap (λ l. l ++ b) h1 ∙ append_assoc old a b

@@ -111,3 +111,25 @@ pub rows_end : (r : RowsValue) (body : List ℕ) → IsRows r body → 19 + leng
 rows_end r body is =
     let long = long_7 (little_bytes 6 r.id) is.flags (little_bytes 2 (2 + length is.extra)) is.extra is.count is.present r.bytes in
     omega (arith, ap length is.body_is, long, length-bytes_low_first 0 6 r.id, length-bytes_low_first 0 2 (2 + length is.extra), is.sizes.0, is.columns_place, is.bytes_place)
+
+-- ---- As the code finds it.
+
+pub small_1 : (n : ℕ) → Spells 1 n → n ≤ 250
+small_1 n s = small s.is
+  where
+    small : IsLengthEncoded n (n ∷ []) → n ≤ 250
+    small (inl (fits, is)) = fits
+    small (inr (inl (fits, is))) = absurd (omega (arith, ap length is))
+    small (inr (inr (inl (fits, is)))) = absurd (omega (arith, ap length is))
+    small (inr (inr (inr (fits, is)))) = absurd (omega (arith, ap length is))
+
+pub has_by_width : (r : RowsValue) (w : ℕ) → r.id < 2 ^ 48 → (1 ≤ r.columns) × (r.columns ≤ 4096) → (29 ≤ r.columns_at) × (r.columns_at ≤ 29 + 65533) →
+    r.bytes_at ≡ r.columns_at + w + presents_size r.kind r.columns → Spells w r.columns → HasRowsBody r
+has_by_width r w an_id number extra place s =
+    let width : w ≡ width_asked r = omega (arith, place) in
+    has_rows_body r (record { an_id = an_id; number = number; extra = extra; spells = subst (λ w. Spells w r.columns) width s; place = omega (arith, place) })
+
+pub by_width_1 : (r : RowsValue) → r.bytes_at ≡ r.columns_at + 1 + presents_size r.kind r.columns → HasRowsBody r → r.columns ≤ 250
+by_width_1 r place has =
+    let width : width_asked r ≡ 1 = omega (arith, place) in
+    small_1 r.columns (subst (λ w. Spells w r.columns) width (suits r has).spells)

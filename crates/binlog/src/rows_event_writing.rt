@@ -1,6 +1,7 @@
 //! Rows events as bytes. MySQL Source Documentation, "Binlog Event", the page `binary_log::Rows_event`.
 
-ghost use Rattle.std.specs.Prelude.{◌≡◌, ◌+◌, ◌≤◌, ◌-◌, ◌++◌, ◌↔◌, length, take, OnOk, OnErr, IfOk, Err, IsTrue};
+ghost use Rattle.std.specs.Prelude.{◌≡◌, ◌+◌, ◌≤◌, ◌-◌, ◌++◌, ◌∷◌, ◌↔◌, length, take, replicate, OnOk, OnErr, IfOk, Err, IsTrue};
+ghost use Rattle.byteorder.specs.Endian.{little_bytes};
 ghost use Rattle.binlog.specs.Rows.{rows_code, presents_size};
 ghost use Rattle.binlog.specs.RowsView.{rows_value};
 ghost use Rattle.binlog.specs.Writing.{HasRowsBody, rows_head, count_bytes, presents_bytes, rows_body};
@@ -38,10 +39,31 @@ fn write_head(rows: &RowsEvent<'_>, out: &mut Vec<u8>) -> Result<(), EventFault>
     ensures kept { OnErr result (take (length out.old.items) out.new.items ≡ out.old.items) }
 {
     let extra = rows.columns_at - 29;
-    let [a, b, c, d, e, f, ..] = rows.id.to_le_bytes();
+    write_front(rows.id, extra, out)?;
+    write_zeros(extra, out)?;
+    Ok(())
+}
+
+/// Appends a table's number, the flag that the event ends its statement, and the length of extra data.
+fn write_front(id: u64, extra: usize, out: &mut Vec<u8>) -> Result<(), EventFault>
+    requires { extra ≤ 65533 }
+    ensures ok { OnOk result (out.new.items ≡ out.old.items ++ (little_bytes 6 id ++ 1 ∷ 0 ∷ little_bytes 2 (2 + extra))) }
+    ensures err { OnErr result (result ≡ Err (record { kind = Memory; at = 0 })) }
+    ensures kept { OnErr result (take (length out.old.items) out.new.items ≡ out.old.items) }
+{
+    let [a, b, c, d, e, f, ..] = id.to_le_bytes();
     let [low, high] = ((2 + extra) as u16).to_le_bytes();
     out.extend_from_slice(&[a, b, c, d, e, f, 1, 0, low, high])?;
-    for _ in 0..extra {
+    Ok(())
+}
+
+/// Appends zeros, or some of them.
+fn write_zeros(n: usize, out: &mut Vec<u8>) -> Result<(), EventFault>
+    ensures ok { OnOk result (out.new.items ≡ out.old.items ++ replicate n 0) }
+    ensures err { OnErr result (result ≡ Err (record { kind = Memory; at = 0 })) }
+    ensures kept { OnErr result (take (length out.old.items) out.new.items ≡ out.old.items) }
+{
+    for _ in 0..n {
         out.push(0)?;
     }
     Ok(())
@@ -118,7 +140,9 @@ pub(crate) fn rows_event_fits(rows: &RowsEvent<'_>) -> bool
     }
     match rows.bytes_at - presents_at {
         1 => rows.columns <= 250,
-        3 | 4 | 9 => true,
+        3 => true,
+        4 => true,
+        9 => true,
         _ => false,
     }
 }
