@@ -24,3 +24,4 @@ pub mod FullBitmap
 pub mod MapWritten
 pub mod RowsEventWritten
 pub mod Written
+pub mod PlainRows

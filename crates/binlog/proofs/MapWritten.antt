@@ -43,11 +43,11 @@ all_metadata_short [] = omega arith
 all_metadata_short (kind ∷ kinds) = omega (arith, metadata_short kind, all_metadata_short kinds, length-append (metadata kind) (flat_map metadata kinds))
 
 -- the shortest spelling of a small number
-record Spelled (n : ℕ) : Type 0 where
-  is : IsLengthEncoded n (length_encoded n)
-  short : length (length_encoded n) ≤ 3
+pub record Spelled (n : ℕ) : Type 0 where
+  pub is : IsLengthEncoded n (length_encoded n)
+  pub short : length (length_encoded n) ≤ 3
 
-spelled : (n : ℕ) → n ≤ 8192 → Spelled n
+pub spelled : (n : ℕ) → n ≤ 8192 → Spelled n
 spelled n small = elim (cases_lt 250 n) as (λ _. Spelled n) [
   | inr low ↦ (let e : length_encoded n ≡ n ∷ [] = rw (le-leb n 250 low) refl in record { is = inl (low, e); short = omega (arith, ap length e) })
   | inl high ↦ (

@@ -25,7 +25,7 @@ pub record Spells (width n : ℕ) : Type 0 where
   pub is : IsLengthEncoded n (count_bytes width n)
   pub long : length (count_bytes width n) ≡ width
 
-spells : (n : ℕ) (count : List ℕ) → IsLengthEncoded n count → Spells (length count) n
+pub spells : (n : ℕ) (count : List ℕ) → IsLengthEncoded n count → Spells (length count) n
 spells n count is = let e = same_count n count is in record { is = subst (IsLengthEncoded n) (sym e) is; long = ap length e }
 
 pub spells_1 : (n : ℕ) → n ≤ 250 → Spells 1 n

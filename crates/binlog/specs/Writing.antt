@@ -71,6 +71,17 @@ presents_bytes Update n = full_bitmap n ++ full_bitmap n
 presents_bytes Write n = full_bitmap n
 presents_bytes Delete n = full_bitmap n
 
+-- the rows event of these rows without extra data and with the shortest count
+abbrev pub plain_rows : ℕ → RowsKind → ℕ → List ℕ → RowsValue
+plain_rows id kind columns bytes = record {
+  id = id;
+  kind = kind;
+  columns = columns;
+  bytes = bytes;
+  columns_at = 29;
+  bytes_at = 29 + length (length_encoded columns) + presents_size kind columns;
+}
+
 -- what stands before the number of columns of an event that ends its statement, with as many bytes of extra data as its
 -- place asks for
 abbrev pub rows_head : RowsValue → List ℕ

@@ -1,15 +1,57 @@
 //! Rows events as bytes. MySQL Source Documentation, "Binlog Event", the page `binary_log::Rows_event`.
 
-ghost use Rattle.std.specs.Prelude.{◌≡◌, ◌+◌, ◌≤◌, ◌-◌, ◌++◌, ◌∷◌, ◌↔◌, length, take, replicate, OnOk, OnErr, IfOk, Err, IsTrue};
+ghost use Rattle.std.specs.Prelude.{◌≡◌, ◌+◌, ◌≤◌, ◌-◌, ◌++◌, ◌∷◌, ◌↔◌, length, take, replicate, OnOk, OnErr, IfOk, IfSome, IsSome, Err, IsTrue};
 ghost use Rattle.byteorder.specs.Endian.{little_bytes};
+ghost use Rattle.wire.specs.Integer.{length_encoded};
+ghost use Rattle.binlog.specs.Event.{rows};
 ghost use Rattle.binlog.specs.Rows.{rows_code, presents_size};
 ghost use Rattle.binlog.specs.RowsView.{rows_value};
-ghost use Rattle.binlog.specs.Writing.{HasRowsBody, rows_head, count_bytes, presents_bytes, rows_body};
+ghost use Rattle.binlog.specs.Writing.{IsWritable, HasRowsBody, plain_rows, rows_head, count_bytes, presents_bytes, rows_body};
 ghost use Rattle.binlog.specs.declared.fault.EventFaultKind.TheVariants.{Memory};
 
 use crate::fault::EventFault;
 use crate::full_bitmap::write_full_bitmap;
 use crate::rows_event::{RowsEvent, RowsKind};
+
+impl<'a> RowsEvent<'a> {
+    /// The rows event of these rows, without extra data and with the shortest count. `None` where no bytes are such an
+    /// event: the table's number is 2^48 or more, the columns are not 1 to 4,096, or the event is too large.
+    pub fn new(id: u64, kind: RowsKind, columns: usize, bytes: &'a [u8]) -> Option<RowsEvent<'a>>
+        ensures in_range { IsSome result ↔ IsWritable (rows (plain_rows id kind columns bytes.now)) }
+        ensures values { IfSome result (λ event. rows_value event ≡ plain_rows id kind columns bytes.now) }
+    {
+        if id >= 1 << 48 {
+            return None;
+        }
+        if columns < 1 {
+            return None;
+        }
+        if columns > 4096 {
+            return None;
+        }
+        let bytes_at = 29 + count_width(columns) + presents_size(kind, columns);
+        if bytes.len() >= (1 << 32) - bytes_at {
+            return None;
+        }
+        Some(RowsEvent {
+            id,
+            kind,
+            columns,
+            bytes,
+            columns_at: 29,
+            bytes_at,
+        })
+    }
+}
+
+/// How many bytes the shortest count takes.
+fn count_width(count: usize) -> usize
+    requires { count ≤ 4096 }
+    ensures width { result ≡ length (length_encoded count) }
+    ensures bound { result ≤ 3 }
+{
+    if count <= 250 { 1 } else { 3 }
+}
 
 /// Appends the body of a rows event that ends its statement, or a part of it: the event's type.
 pub(crate) fn write_rows_event(rows: &RowsEvent<'_>, out: &mut Vec<u8>) -> Result<u8, EventFault>
