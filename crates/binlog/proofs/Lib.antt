@@ -18,5 +18,11 @@ pub mod Events
 pub mod RowsWritten
 pub mod RowWriting
 pub mod Framed
-pub mod Temp
+pub mod LawfulColumns
+pub mod Kept
+pub mod ColumnsWritten
+pub mod FullBitmap
+pub mod MapWritten
+pub mod RowsEventWritten
 pub mod Written
+pub mod PlainRows

@@ -15,7 +15,8 @@ use Rattle.binlog.specs.declared.body.Query.{Query}
 use Rattle.binlog.specs.declared.body.Query.TheVariants.{Begin, Commit}
 use Rattle.binlog.proofs.Headers as headers
 use Rattle.binlog.proofs.Followed.{all_follow}
-use Rattle.binlog.proofs.Temp.{map_written, map_short, rows_written, rows_end}
+use Rattle.binlog.proofs.MapWritten.{map_written, map_short}
+use Rattle.binlog.proofs.RowsEventWritten.{rows_written, rows_end}
 
 -- ---- Frames.
 

@@ -48,12 +48,15 @@ gtid_body source number = 0 ∷ source ++ little_bytes 8 number
 abbrev pub full_bitmap : ℕ → List ℕ
 full_bitmap n = bitmap_bytes (replicate n true)
 
+-- the number, no flags, and the names with a terminator each
+abbrev pub names_bytes : TableValue → List ℕ
+names_bytes t = little_bytes 6 t.id ++ 0 ∷ 0 ∷ length t.schema ∷ t.schema ++ 0 ∷ length t.table ∷ t.table ++ 0 ∷ []
+
 -- a table map: all columns may be null
 abbrev pub table_map_body : TableValue → List ℕ
 table_map_body t =
     let all_metadata = flat_map metadata t.columns in
-    little_bytes 6 t.id ++ 0 ∷ 0 ∷ length t.schema ∷ t.schema ++ 0 ∷ length t.table ∷ t.table ++ 0 ∷ length_encoded (length t.columns) ++ map type_code t.columns
-    ++ length_encoded (length all_metadata) ++ all_metadata ++ full_bitmap (length t.columns)
+    names_bytes t ++ length_encoded (length t.columns) ++ map type_code t.columns ++ length_encoded (length all_metadata) ++ all_metadata ++ full_bitmap (length t.columns)
 
 -- a count in so many bytes
 abbrev pub count_bytes : ℕ → ℕ → List ℕ
@@ -68,13 +71,29 @@ presents_bytes Update n = full_bitmap n ++ full_bitmap n
 presents_bytes Write n = full_bitmap n
 presents_bytes Delete n = full_bitmap n
 
--- a rows event that ends its statement, with as many bytes of extra data, and a count in as many bytes, as its places ask
--- for
+-- the rows event of these rows without extra data and with the shortest count
+abbrev pub plain_rows : ℕ → RowsKind → ℕ → List ℕ → RowsValue
+plain_rows id kind columns bytes = record {
+  id = id;
+  kind = kind;
+  columns = columns;
+  bytes = bytes;
+  columns_at = 29;
+  bytes_at = 29 + length (length_encoded columns) + presents_size kind columns;
+}
+
+-- what stands before the number of columns of an event that ends its statement, with as many bytes of extra data as its
+-- place asks for
+abbrev pub rows_head : RowsValue → List ℕ
+rows_head r =
+    let extra = r.columns_at - 29 in
+    little_bytes 6 r.id ++ 1 ∷ 0 ∷ little_bytes 2 (2 + extra) ++ replicate extra 0
+
+-- a rows event, with a count in as many bytes as its places ask for
 abbrev pub rows_body : RowsValue → List ℕ
 rows_body r =
-    let extra = r.columns_at - 29 in
     let width = r.bytes_at - r.columns_at - presents_size r.kind r.columns in
-    little_bytes 6 r.id ++ 1 ∷ 0 ∷ little_bytes 2 (2 + extra) ++ replicate extra 0 ++ count_bytes width r.columns ++ presents_bytes r.kind r.columns ++ r.bytes
+    rows_head r ++ count_bytes width r.columns ++ presents_bytes r.kind r.columns ++ r.bytes
 
 -- the type that is written; of a neutral event IGNORABLE
 abbrev pub event_code : EventValue → ℕ

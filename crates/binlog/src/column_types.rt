@@ -1,9 +1,11 @@
 //! The types of a table's columns. MySQL Source Documentation, "Binlog Event", the page
 //! `binary_log::Table_map_event`.
 
-ghost use Rattle.std.specs.Prelude.{◌≡◌, ℕ, ◌==◌, Bool, List, length, IfOk, OnErr, Err};
+ghost use Rattle.std.specs.Prelude.{◌≡◌, ℕ, ◌==◌, Bool, List, length, IfOk, OnErr, Err, IsTrue};
+ghost use Rattle.std.specs.List.{AllByRecursion};
 ghost use Rattle.std.specs.Iterator.{YieldsFirstBy, item_count};
 ghost use Rattle.binlog.specs.Row.{kinds};
+ghost use Rattle.binlog.specs.Column.{is_lawful};
 ghost use Rattle.binlog.specs.Columns.{columns_of};
 ghost use Rattle.binlog.specs.declared.fault.EventFaultKind.TheVariants.{Memory};
 
@@ -27,7 +29,9 @@ pub struct ColumnTypes<'a> {
 }
 
 impl<'a> Model for ColumnTypes<'a> {
-    ghost use Rattle.std.specs.Prelude.{◌≡◌, List, length};
+    ghost use Rattle.std.specs.Prelude.{◌≡◌, List, length, IsTrue};
+    ghost use Rattle.std.specs.List.{AllByRecursion};
+    ghost use Rattle.binlog.specs.Column.{is_lawful};
     ghost use Rattle.binlog.specs.declared.column.ColumnKind.{ColumnKind};
 
     ghost Value = { List ColumnKind };
@@ -36,7 +40,7 @@ impl<'a> Model for ColumnTypes<'a> {
 
     ghost view = { λ c. columns_in c.columns };
 
-    ghost invariant = { λ c. length (columns_in c.columns) ≡ column_count c.columns };
+    ghost invariant = { λ c. (length (columns_in c.columns) ≡ column_count c.columns) × AllByRecursion (λ kind. IsTrue (is_lawful kind)) (columns_in c.columns) };
 }
 
 /// The types of a table's columns, one after another, seen as the list of those that are left.
@@ -76,9 +80,10 @@ impl<'a> ColumnTypes<'a> {
         }
     }
 
-    /// How many columns there are.
+    /// How many columns there are. The metadata of each is in range.
     pub fn len(&self) -> usize
-        ensures { result ≡ length self.now }
+        ensures length { result ≡ length self.now }
+        ensures lawful { AllByRecursion (λ kind. IsTrue (is_lawful kind)) self.now }
     {
         match self.columns {
             Columns::Encoded { codes, .. } => codes.len(),

@@ -19,6 +19,7 @@ mod count;
 mod event;
 mod fault;
 mod follow;
+mod full_bitmap;
 mod header;
 pub mod laws;
 mod map_writing;

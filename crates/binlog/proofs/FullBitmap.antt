@@ -1,0 +1,61 @@
+-- Bitmaps of bits that are all set.
+use Rattle.std.proofs.Common.{◌≡◌, ℕ, suc, ◌+◌, ◌-◌, ◌*◌, ◌<◌, ◌≤◌, Bool, true, false, List, [], ◌∷◌, ◌++◌, length, get_or, map, replicate, refl, sym, ap, ◌∙◌, arith, inl, inr}
+use Rattle.std.specs.Prelude.{nat_lt}
+use Rattle.std.specs.List.{range_with_len}
+use Rattle.std.proofs.lemmas.Bool.{cases_lt, lt-ltb, le-ltb}
+use Rattle.std.proofs.lemmas.List.{length-replicate, get_or-replicate, get_or_past}
+use Rattle.std.proofs.lemmas.List.FromFn.{length-map-range_with_len}
+use Rattle.binlog.specs.Row.{bitmap_size, is_set}
+use Rattle.binlog.specs.Rows.{AllPresent}
+use Rattle.binlog.specs.RowsWritten.{bits_number, bitmap_byte, bitmap_bytes}
+use Rattle.binlog.specs.Writing.{full_bitmap}
+use Rattle.binlog.proofs.RowsWritten.{set_bit}
+
+pub full_long : (n : ℕ) → length (full_bitmap n) ≡ bitmap_size n
+full_long n = length-map-range_with_len (bitmap_byte (replicate n true)) 0 (bitmap_size (length (replicate n true))) ∙ ap bitmap_size (length-replicate n true)
+
+pub all_present : (n : ℕ) → AllPresent n (full_bitmap n)
+all_present n = record {
+  size = full_long n;
+  present = λ i short. set_bit (replicate n true) i (omega (arith, short, length-replicate n true)) ∙ get_or-replicate n i true false short;
+}
+
+-- ---- Byte by byte.
+
+bit_there : (n k : ℕ) → get_or (replicate n true) k false ≡ nat_lt k n
+bit_there n k = elim (cases_lt k n) as (λ _. get_or (replicate n true) k false ≡ nat_lt k n) [
+  | inl lt ↦ get_or-replicate n k true false lt ∙ sym (lt-ltb k n lt)
+  | inr ge ↦ get_or_past (replicate n true) k false (omega (arith, ge, length-replicate n true)) ∙ sym (le-ltb k n ge)
+]
+
+moved : (n j i : ℕ) → nat_lt (8 * j + i) n ≡ nat_lt i (n - 8 * j)
+moved n j i = elim (cases_lt (8 * j + i) n) as (λ _. nat_lt (8 * j + i) n ≡ nat_lt i (n - 8 * j)) [
+  | inl lt ↦ lt-ltb (8 * j + i) n lt ∙ sym (lt-ltb i (n - 8 * j) (omega (arith, lt)))
+  | inr ge ↦ le-ltb (8 * j + i) n ge ∙ sym (le-ltb i (n - 8 * j) (omega (arith, ge)))
+]
+
+byte_is : (n j : ℕ) → bits_number 8 (λ i. nat_lt i (n - 8 * j)) ≡ bitmap_byte (replicate n true) j
+byte_is n j = ap (bits_number 8) (λ k i. sym (bit_there n (8 * j + i) ∙ moved n j i) k)
+
+-- a byte of n bits, all set, where n is at least 8
+pub all_set : (n : ℕ) → 8 ≤ n → bits_number 8 (λ i. nat_lt i n) ≡ 255
+all_set n many =
+    let below : (i : ℕ) → i < 8 → nat_lt i n ≡ true = λ i short. lt-ltb i n (omega (arith, short, many)) in
+    rw (below 0 (omega arith), below 1 (omega arith), below 2 (omega arith), below 3 (omega arith), below 4 (omega arith), below 5 (omega arith), below 6 (omega arith), below 7 (omega arith)) refl
+
+-- the bytes from one on
+abbrev pub bytes_from : ℕ → ℕ → List ℕ
+bytes_from n j = map (bitmap_byte (replicate n true)) (range_with_len j (bitmap_size n - j))
+
+pub from_first : (n : ℕ) → bytes_from n 0 ≡ full_bitmap n
+from_first n =
+    let all : bitmap_size n - 0 ≡ bitmap_size (length (replicate n true)) = omega (arith, ap bitmap_size (length-replicate n true)) in
+    ap (λ k. map (bitmap_byte (replicate n true)) (range_with_len 0 k)) all
+
+pub one_byte : (n j : ℕ) → j < bitmap_size n → bytes_from n j ≡ bits_number 8 (λ i. nat_lt i (n - 8 * j)) ∷ bytes_from n (j + 1)
+one_byte n j short =
+    let more : bitmap_size n - j ≡ suc (bitmap_size n - (j + 1)) = omega (arith, short) in
+    ap (λ k. map (bitmap_byte (replicate n true)) (range_with_len j k)) more ∙ ap (λ b. b ∷ bytes_from n (j + 1)) (sym (byte_is n j))
+
+pub from_last : (n j : ℕ) → bitmap_size n ≤ j → bytes_from n j ≡ []
+from_last n j past = let none : bitmap_size n - j ≡ 0 = omega (arith, past) in ap (λ k. map (bitmap_byte (replicate n true)) (range_with_len j k)) none

@@ -1,0 +1,63 @@
+-- Vectors that keep what they begin with.
+use Rattle.std.proofs.Common.{◌≡◌, ℕ, ◌≤◌, List, [], ◌++◌, length, take, drop, sym, ap, ◌∙◌, append_assoc, arith}
+use Rattle.std.proofs.Math.Seq.{take-append_seam}
+use Rattle.std.proofs.lemmas.List.{take-append-drop, take_all, append-nil}
+
+-- what was there stays
+pub kept : (old more new : List ℕ) → new ≡ old ++ more → take (length old) new ≡ old
+kept old more new is = ap (take (length old)) is ∙ take-append_seam old more
+
+-- the same where a part was written before
+pub still_kept : (old more next new : List ℕ) → next ≡ old ++ more → take (length next) new ≡ next → take (length old) new ≡ old
+still_kept old more next new is stays =
+    let rest = drop (length next) new in
+    kept old (more ++ rest) new (sym (take-append-drop (length next) new) ∙ ap (λ l. l ++ rest) (stays ∙ is) ∙ append_assoc old more rest)
+
+-- the same where more is written then
+pub kept_on : (old now more new : List ℕ) → take (length old) now ≡ old → new ≡ now ++ more → take (length old) new ≡ old
+kept_on old now more new stays is =
+    let rest = drop (length old) now in
+    kept old (rest ++ more) new (is ∙ ap (λ l. l ++ more) (sym (take-append-drop (length old) now) ∙ ap (λ l. l ++ rest) stays) ∙ append_assoc old rest more)
+
+-- ---- Items written one after another: what is written, and then what is left, is all.
+
+pub record Writes (old now left all : List ℕ) : Type 0 where
+  pub whole : now ++ left ≡ old ++ all
+  pub stays : take (length old) now ≡ old
+
+pub first_write : (old left all : List ℕ) → left ≡ all → Writes old old left all
+first_write old left all is = record { whole = ap (λ l. old ++ l) is; stays = take_all (length old) old (omega arith) }
+
+pub next_write : (old now left all part rest new : List ℕ) → Writes old now left all → left ≡ part ++ rest → new ≡ now ++ part → Writes old new rest all
+next_write old now left all part rest new w first is = record {
+  whole = ap (λ l. l ++ rest) is ∙ append_assoc now part rest ∙ ap (λ l. now ++ l) (sym first) ∙ w.whole;
+  stays = kept_on old now part new w.stays is;
+}
+
+pub last_write : (old now left all : List ℕ) → Writes old now left all → left ≡ [] → now ≡ old ++ all
+last_write old now left all w none = sym (append-nil now) ∙ ap (λ l. now ++ l) (sym none) ∙ w.whole
+
+-- ---- Parts written one after another.
+
+regroup_6 : (old a b c d e f : List ℕ) → old ++ a ++ b ++ c ++ d ++ e ++ f ≡ old ++ (a ++ b ++ c ++ d ++ e ++ f)
+regroup_6 old a b c d e f = simp append_assoc
+
+pub six_parts : (old a b c d e f n1 n2 n3 n4 n5 n6 : List ℕ) → n1 ≡ old ++ a → n2 ≡ n1 ++ b → n3 ≡ n2 ++ c → n4 ≡ n3 ++ d → n5 ≡ n4 ++ e → n6 ≡ n5 ++ f → n6 ≡ old ++ (a ++ b ++ c ++ d ++ e ++ f)
+six_parts old a b c d e f n1 n2 n3 n4 n5 n6 h1 h2 h3 h4 h5 h6 =
+    let g2 : n2 ≡ old ++ a ++ b = h2 ∙ ap (λ l. l ++ b) h1 in
+    let g3 : n3 ≡ old ++ a ++ b ++ c = h3 ∙ ap (λ l. l ++ c) g2 in
+    let g4 : n4 ≡ old ++ a ++ b ++ c ++ d = h4 ∙ ap (λ l. l ++ d) g3 in
+    let g5 : n5 ≡ old ++ a ++ b ++ c ++ d ++ e = h5 ∙ ap (λ l. l ++ e) g4 in
+    h6 ∙ ap (λ l. l ++ f) g5 ∙ regroup_6 old a b c d e f
+
+regroup_4 : (old a b c d : List ℕ) → old ++ a ++ b ++ c ++ d ≡ old ++ (a ++ b ++ c ++ d)
+regroup_4 old a b c d = simp append_assoc
+
+pub four_parts : (old a b c d n1 n2 n3 n4 : List ℕ) → n1 ≡ old ++ a → n2 ≡ n1 ++ b → n3 ≡ n2 ++ c → n4 ≡ n3 ++ d → n4 ≡ old ++ (a ++ b ++ c ++ d)
+four_parts old a b c d n1 n2 n3 n4 h1 h2 h3 h4 =
+    let g2 : n2 ≡ old ++ a ++ b = h2 ∙ ap (λ l. l ++ b) h1 in
+    let g3 : n3 ≡ old ++ a ++ b ++ c = h3 ∙ ap (λ l. l ++ c) g2 in
+    h4 ∙ ap (λ l. l ++ d) g3 ∙ regroup_4 old a b c d
+
+pub two_parts : (old a b n1 n2 : List ℕ) → n1 ≡ old ++ a → n2 ≡ n1 ++ b → n2 ≡ old ++ (a ++ b)
+two_parts old a b n1 n2 h1 h2 = h2 ∙ ap (λ l. l ++ b) h1 ∙ append_assoc old a b

@@ -1,0 +1,38 @@
+-- The metadata of the columns that bytes or types stand for is in range.
+use Rattle.std.proofs.Common.{◌≡◌, ℕ, ◌+◌, List, [], ◌∷◌, length, get_or, drop, Option, Some, None, IsTrue, refl, sym, ap, subst, ◌∙◌, arith}
+use Rattle.std.specs.List.{AllByRecursion}
+use Rattle.std.proofs.lemmas.List.{get_or-drop}
+use Rattle.binlog.specs.Row.{kinds}
+use Rattle.binlog.specs.Column.{is_lawful, column_fault, HasColumn}
+use Rattle.binlog.specs.Table.{metadata_length}
+use Rattle.binlog.specs.Columns.{kind_of, column_front, columns_of}
+use Rattle.binlog.specs.declared.column.ColumnKind.{ColumnKind}
+use Rattle.binlog.specs.declared.column.ColumnType.{ColumnType}
+use Rattle.binlog.specs.declared.fault.EventFaultKind.{EventFaultKind}
+use Rattle.binlog.proofs.Cuts.{IsBytes}
+use Rattle.binlog.proofs.Columns.{some_column}
+use Rattle.binlog.proofs.TableColumns.{behind_metadata, column_first}
+
+abbrev pub AllLawful : List ColumnKind → Type 0
+AllLawful columns = AllByRecursion (λ kind. IsTrue (is_lawful kind)) columns
+
+pub lawful_kinds : (types : List ColumnType) → AllLawful (kinds types)
+lawful_kinds [] = tt
+lawful_kinds (t ∷ types) = (t.lawful, lawful_kinds types)
+
+front_lawful : (fault : Option EventFaultKind) (code : ℕ) (codes bytes : List ℕ) → column_fault code bytes ≡ fault → IsBytes bytes → AllLawful (columns_of codes (drop (metadata_length code) bytes)) → AllLawful (columns_of (code ∷ codes) bytes)
+front_lawful (Some fault) code codes bytes is fits others =
+    let none : columns_of (code ∷ codes) bytes ≡ [] = ap (λ f. column_front f (kind_of code (get_or bytes 0 0) (get_or bytes 1 0)) (columns_of codes (drop (metadata_length code) bytes))) is in
+    subst AllLawful {x = []} (sym none) tt
+front_lawful None code codes bytes is fits others =
+    let h = some_column code bytes fits is in
+    let first : columns_of (code ∷ codes) bytes ≡ h.kind ∷ columns_of codes h.rest = column_first h.kind code codes h.rest bytes h.is_column in
+    let behind : drop (metadata_length code) bytes ≡ h.rest = behind_metadata h.kind code h.rest bytes h.is_column in
+    let rest : AllLawful (columns_of codes h.rest) = subst (λ r. AllLawful (columns_of codes r)) behind others in
+    subst AllLawful {x = h.kind ∷ columns_of codes h.rest} (sym {b = h.kind ∷ columns_of codes h.rest} first) (h.is_column.lawful, rest)
+
+pub lawful_columns : (codes bytes : List ℕ) → IsBytes bytes → AllLawful (columns_of codes bytes)
+lawful_columns [] bytes fits = tt
+lawful_columns (code ∷ codes) bytes fits =
+    let behind : IsBytes (drop (metadata_length code) bytes) = λ i. rw get_or-drop (fits (metadata_length code + i)) in
+    front_lawful (column_fault code bytes) code codes bytes refl fits (lawful_columns codes (drop (metadata_length code) bytes) behind)

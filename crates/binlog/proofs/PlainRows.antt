@@ -1,0 +1,30 @@
+-- Rows events without extra data and with the shortest count.
+use Rattle.std.proofs.Common.{◌≡◌, ℕ, ◌+◌, ◌-◌, ◌<◌, ◌≤◌, ◌^◌, List, length, refl, sym, ap, ◌∙◌, arith}
+use Rattle.wire.specs.Integer.{length_encoded}
+use Rattle.binlog.specs.Rows.{presents_size}
+use Rattle.binlog.specs.Event.{rows}
+use Rattle.binlog.specs.Writing.{IsWritable, plain_rows, rows_body}
+use Rattle.binlog.specs.declared.rows_event.RowsKind.{RowsKind}
+use Rattle.binlog.proofs.MapWritten.{spelled}
+use Rattle.binlog.proofs.RowsEventWritten.{suits, spells, has_by_width, rows_written, rows_end}
+use Rattle.binlog.proofs.Written.{writes_rows, rows_body_of, writable_short}
+
+pub record Ranges (id : ℕ) (kind : RowsKind) (columns : ℕ) (bytes : List ℕ) : Type 0 where
+  pub an_id : id < 2 ^ 48
+  pub number : (1 ≤ columns) × (columns ≤ 4096)
+  pub size : 29 + length (length_encoded columns) + presents_size kind columns + length bytes < 2 ^ 32
+
+pub in_ranges : (id : ℕ) (kind : RowsKind) (columns : ℕ) (bytes : List ℕ) → IsWritable (rows (plain_rows id kind columns bytes)) → Ranges id kind columns bytes
+in_ranges id kind columns bytes is =
+    let r = plain_rows id kind columns bytes in
+    let has = rows_body_of r is in
+    let s = suits r has in
+    let end = rows_end r (rows_body r) (rows_written r has) in
+    let small = writable_short (rows r) is in
+    record { an_id = s.an_id; number = s.number; size = omega (arith, end, small) }
+
+pub of_ranges : (id : ℕ) (kind : RowsKind) (columns : ℕ) (bytes : List ℕ) → Ranges id kind columns bytes → IsWritable (rows (plain_rows id kind columns bytes))
+of_ranges id kind columns bytes are =
+    let r = plain_rows id kind columns bytes in
+    let short = spelled columns (omega (arith, are.number.1)) in
+    writes_rows r are.size (has_by_width r (length (length_encoded columns)) are.an_id are.number (omega arith, omega arith) refl (spells columns (length_encoded columns) short.is))
