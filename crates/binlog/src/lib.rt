@@ -49,4 +49,6 @@ pub use table::{TableDef, TableMap};
 #[cfg(test)]
 mod body_tests;
 #[cfg(test)]
+mod rows_writing_tests;
+#[cfg(test)]
 mod tests;
