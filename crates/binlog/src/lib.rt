@@ -53,5 +53,6 @@ pub use table::{TableDef, TableMap};
 mod body_tests;
 #[cfg(test)]
 mod event_tests;
+mod rows_writing_tests;
 #[cfg(test)]
 mod tests;
