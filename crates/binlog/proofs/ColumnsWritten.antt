@@ -5,7 +5,6 @@ use Rattle.std.proofs.lemmas.List.{length-append}
 use Rattle.binlog.specs.Column.{type_code, metadata}
 use Rattle.binlog.specs.Table.{metadata_length}
 use Rattle.binlog.specs.declared.column.ColumnKind.{ColumnKind}
-
 use Rattle.binlog.proofs.TableColumns.{metadata_long}
 
 -- how long the metadata is that is left behind the first column's

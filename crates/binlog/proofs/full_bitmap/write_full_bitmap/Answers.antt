@@ -12,8 +12,7 @@ loop-j-preserved c =
     let now = c.loop-j.out.items in
     let left = bytes_from c.args.n (c.loop-j.j + 1) in
     let next : c.full_byte.result ∷ left ≡ bytes_from c.args.n c.loop-j.j =
-        ap (λ b. b ∷ left) c.full_byte.ensures ∙ sym (one_byte c.args.n c.loop-j.j (omega (arith, c.loop-j-test.true, c.div_ceil-j-end.ensures))) in
-    (
+    ap (λ b. b ∷ left) c.full_byte.ensures ∙ sym (one_byte c.args.n c.loop-j.j (omega (arith, c.loop-j-test.true, c.div_ceil-j-end.ensures))) in (
       ap (λ l. l ++ left) c.in_ok-push.ensures.items ∙ append_assoc now (c.full_byte.result ∷ []) left ∙ ap (λ l. now ++ l) next ∙ c.loop-j.invariant.0,
       kept_on c.args.out.now.items now (c.full_byte.result ∷ []) c.push.new.self.items c.loop-j.invariant.1 c.in_ok-push.ensures.items,
     )

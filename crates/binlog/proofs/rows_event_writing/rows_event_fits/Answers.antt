@@ -8,8 +8,7 @@ use Rattle.binlog.proofs.rows_event_writing.rows_event_fits.Goals as goal
 pub returns-in-1 : goal.returns-in-1
 returns-in-1 c =
     let r = rows_value c.args.rows.now in
-    let place : r.bytes_at ≡ r.columns_at + 1 + presents_size r.kind r.columns = omega (arith, c.in-1.is, c.presents_size.ensures.size, c.if-rows-presents_at.false) in
-    (
+    let place : r.bytes_at ≡ r.columns_at + 1 + presents_size r.kind r.columns = omega (arith, c.in-1.is, c.presents_size.ensures.size, c.if-rows-presents_at.false) in (
       λ few. has_by_width r 1 c.if-rows.false (c.args.rows.now.some_columns, c.if-rows-gt4096.false) (c.if-rows-lt29.false, c.if-rows-2.false) place (spells_1 r.columns (leb-true _ _ few)),
       λ has. le-leb _ _ (by_width_1 r place has),
     )
