@@ -53,6 +53,7 @@ pub use table::{TableDef, TableMap};
 mod body_tests;
 #[cfg(test)]
 mod event_tests;
+#[cfg(test)]
 mod rows_writing_tests;
 #[cfg(test)]
 mod tests;
