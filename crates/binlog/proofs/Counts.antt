@@ -1,16 +1,13 @@
 -- Counts: length-encoded integers at a place.
-use Rattle.std.proofs.Common.{◌≡◌, ℕ, suc, ◌+◌, ◌-◌, ◌<◌, ◌≤◌, ◌^◌, ◌==◌, Bool, true, false, List, [], ◌∷◌, ◌++◌, length, get_or, take, drop, Option, Some, None, refl, sym, ap, subst, ◌∙◌, arith, inl, inr}
-use Rattle.std.specs.Prelude.{nat_le, nat_lt, ◌⊎◌, if◌then◌else◌}
-use Rattle.std.proofs.lemmas.Bool.{false≢true, cases_eq, cases_lt, le-leb, lt-leb, le-ltb, lt-ltb, ne_eqb}
-use Rattle.std.proofs.lemmas.List.{length-append, length-drop, get_or-drop, take-append-drop}
-use Rattle.std.proofs.Math.Seq.{take-append_seam}
-use Rattle.byteorder.specs.Endian.{little_bytes, little_number}
+use Rattle.std.proofs.Common.{◌≡◌, ℕ, suc, ◌+◌, ◌-◌, ◌<◌, ◌≤◌, ◌==◌, List, ◌∷◌, ◌++◌, length, get_or, take, drop, Some, None, refl, sym, ap, subst, ◌∙◌, arith, inl, inr}
+use Rattle.std.specs.Prelude.{nat_le, if◌then◌else◌}
+use Rattle.std.proofs.lemmas.Bool.{false≢true, cases_eq, cases_lt, le-leb, le-ltb, lt-ltb, ne_eqb}
+use Rattle.std.proofs.lemmas.List.{length-append, length-drop, get_or-drop}
+use Rattle.byteorder.specs.Endian.{little_number}
 use Rattle.byteorder.specs.Numbers.{little_number-reads_back, little_from-lt}
 use Rattle.wire.specs.Integer.{IsLengthEncoded}
-use Rattle.binlog.specs.Fault.{number_at}
 use Rattle.binlog.specs.Count.{width_of, count_width, count_at, no_count}
 use Rattle.binlog.specs.declared.fault.EventFaultKind.{EventFaultKind}
-use Rattle.binlog.specs.declared.fault.EventFault.{EventFault}
 use Rattle.binlog.specs.declared.fault.EventFaultKind.TheVariants.{Truncated}
 use Rattle.binlog.proofs.Tables.{passes, not_refused, is_there}
 use Rattle.binlog.proofs.Cuts.{IsBytes, drop_drop, one, take_is_number}

@@ -1,17 +1,16 @@
 -- Events: bytes are one or are refused, and what they say is determined.
-use Rattle.std.proofs.Common.{◌≡◌, ℕ, suc, ◌+◌, ◌-◌, ◌<◌, ◌≤◌, ◌^◌, ◌==◌, ◌&&◌, ◌||◌, Bool, true, false, List, [], ◌∷◌, ◌++◌, length, get_or, take, drop, codes, Option, Some, None, refl, sym, ap, subst, ◌∙◌, arith, inl, inr}
-use Rattle.std.specs.Prelude.{nat_le, not, ◌⊎◌, if◌then◌else◌, Result, Ok, Err, IfOk, IfErr, MatchResult}
+use Rattle.std.proofs.Common.{◌≡◌, ℕ, ◌+◌, ◌==◌, ◌&&◌, ◌||◌, Bool, true, false, List, [], ◌∷◌, get_or, take, drop, codes, Option, Some, None, refl, sym, ap, subst, ◌∙◌, inl, inr}
+use Rattle.std.specs.Prelude.{nat_le, not, if◌then◌else◌, Result, Ok, Err, IfOk, IfErr, MatchResult}
 use Rattle.std.specs.Str.{bytes_eq}
-use Rattle.std.proofs.lemmas.Bool.{cases_eq, cases_Bool, ne_eqb, eqb-true, false≢true}
-use Rattle.byteorder.specs.Endian.{little_number}
+use Rattle.std.proofs.lemmas.Bool.{cases_eq, cases_Bool, ne_eqb, false≢true}
 use Rattle.binlog.specs.Fault.{refuse, first_of, number_at}
 use Rattle.binlog.specs.Header.{IsFramed, HasFrame, header_fault}
-use Rattle.binlog.specs.Body.{IsFormat, IsRotate, IsXid, IsGtid, IsQuery, statement, text_place}
-use Rattle.binlog.specs.Table.{TableValue, IsNamed, IsTableMap, AreColumns, names_fault, columns_fault, schema_of, table_of, terminator_place}
-use Rattle.binlog.specs.Columns.{HasColumns, HasNames, columns_at}
-use Rattle.binlog.specs.Rows.{RowsValue, IsRows, rows_code, rows_fault}
+use Rattle.binlog.specs.Body.{IsQuery, statement, text_place}
+use Rattle.binlog.specs.Table.{TableValue, IsNamed, AreColumns, names_fault, columns_fault, schema_of, table_of, terminator_place}
+use Rattle.binlog.specs.Columns.{columns_at}
+use Rattle.binlog.specs.Rows.{RowsValue, rows_code, rows_fault}
 use Rattle.binlog.specs.Follow.{Names, follows}
-use Rattle.binlog.specs.Event.{EventValue, format, begin, commit, neutral, stop, rotate, gtid, table_map, other_map, rows, xid, is_one_of, neutral_codes, refused_codes, known_codes, IsNeutral, IsOtherMap, HasBody, IsEvent, HasEvent, code_of, may_ignore_of, type_fault, table_map_fault, body_fault, event_fault}
+use Rattle.binlog.specs.Event.{EventValue, format, begin, commit, neutral, stop, rotate, gtid, table_map, other_map, rows, xid, is_one_of, neutral_codes, refused_codes, known_codes, IsNeutral, HasBody, IsEvent, HasEvent, code_of, may_ignore_of, type_fault, table_map_fault, body_fault, event_fault}
 use Rattle.binlog.specs.declared.body.Query.{Query}
 use Rattle.binlog.specs.declared.body.Query.TheVariants.{Begin, Commit}
 use Rattle.binlog.specs.declared.rows_event.RowsKind.{RowsKind}
@@ -22,7 +21,7 @@ use Rattle.binlog.proofs.Cuts.{IsBytes}
 use Rattle.binlog.proofs.Tables.{passes, not_refused}
 use Rattle.binlog.proofs.Headers as headers
 use Rattle.binlog.proofs.Bodies.{gtid_told, query_told, query_not_refused}
-use Rattle.binlog.proofs.BodyLaws.{format_not_refused, format_some, rotate_not_refused, rotate_some, rotate_one, xid_not_refused, xid_some, xid_one, gtid_not_refused, gtid_some, HasQuery, query_some}
+use Rattle.binlog.proofs.BodyLaws.{format_not_refused, format_some, rotate_not_refused, rotate_some, rotate_one, xid_not_refused, xid_some, xid_one, gtid_not_refused, gtid_some, query_some}
 use Rattle.binlog.proofs.TableNames.{names_told, names_not_refused, has_names}
 use Rattle.binlog.proofs.WholeColumns.{columns_told, columns_not_refused, has_columns}
 use Rattle.binlog.proofs.RowsHead.{stated, parts_of, is_rows, rows_told, rows_not_refused}

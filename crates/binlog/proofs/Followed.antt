@@ -11,7 +11,7 @@ use Rattle.std.specs.Str.{bytes_eq}
 use Rattle.std.proofs.lemmas.Map.Text.{is_eq-slice_cmp}
 use Rattle.std.proofs.lemmas.Bool.{false≢true, ne_eqb}
 use Rattle.std.proofs.lemmas.Slice.Eq.{bytes_eq-Decides}
-use Rattle.binlog.specs.Follow.{Name, name_cmp, Names, is_listed, follows}
+use Rattle.binlog.specs.Follow.{Name, name_cmp, is_listed, follows}
 
 pub name_cmp_total : IsTotalOrder name_cmp
 name_cmp_total = then_total (on_total (λ (a : Name). a.0) nat_list_cmp_total) (on_total (λ (a : Name). a.1) nat_list_cmp_total)

@@ -1,9 +1,8 @@
 -- Events with their headers, as they are written.
-use Rattle.std.proofs.Common.{◌≡◌, ℕ, ◌+◌, ◌-◌, ◌≤◌, List, [], ◌∷◌, ◌++◌, length, take, drop, refl, sym, ap, ◌∙◌, append_assoc, arith}
+use Rattle.std.proofs.Common.{◌≡◌, ℕ, ◌+◌, ◌-◌, ◌≤◌, List, [], ◌++◌, length, take, drop, sym, ap, ◌∙◌, append_assoc, arith}
 use Rattle.std.proofs.Math.ListN.{drop_of_length-le}
 use Rattle.std.proofs.Math.Seq.{take-length}
 use Rattle.std.proofs.lemmas.List.{length-append, length-drop, length-take-le, append-nil}
-use Rattle.byteorder.specs.Endian.{little_bytes}
 use Rattle.binlog.specs.Writing.{header_bytes}
 use Rattle.binlog.proofs.Cuts.{drop_drop}
 

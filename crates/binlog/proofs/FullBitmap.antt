@@ -1,13 +1,13 @@
 -- Bitmaps of bits that are all set.
-use Rattle.std.proofs.Common.{◌≡◌, ℕ, suc, ◌+◌, ◌-◌, ◌*◌, ◌<◌, ◌≤◌, Bool, true, false, List, [], ◌∷◌, ◌++◌, length, get_or, map, replicate, refl, sym, ap, ◌∙◌, arith, inl, inr}
+use Rattle.std.proofs.Common.{◌≡◌, ℕ, suc, ◌+◌, ◌-◌, ◌*◌, ◌<◌, ◌≤◌, true, false, List, [], ◌∷◌, length, get_or, map, replicate, refl, sym, ap, ◌∙◌, arith, inl, inr}
 use Rattle.std.specs.Prelude.{nat_lt}
 use Rattle.std.specs.List.{range_with_len}
 use Rattle.std.proofs.lemmas.Bool.{cases_lt, lt-ltb, le-ltb}
 use Rattle.std.proofs.lemmas.List.{length-replicate, get_or-replicate, get_or_past}
 use Rattle.std.proofs.lemmas.List.FromFn.{length-map-range_with_len}
-use Rattle.binlog.specs.Row.{bitmap_size, is_set}
+use Rattle.binlog.specs.Row.{bitmap_size}
 use Rattle.binlog.specs.Rows.{AllPresent}
-use Rattle.binlog.specs.RowsWritten.{bits_number, bitmap_byte, bitmap_bytes}
+use Rattle.binlog.specs.RowsWritten.{bits_number, bitmap_byte}
 use Rattle.binlog.specs.Writing.{full_bitmap}
 use Rattle.binlog.proofs.RowsWritten.{set_bit}
 

@@ -1,9 +1,9 @@
 -- The metadata of the columns that bytes or types stand for is in range.
-use Rattle.std.proofs.Common.{◌≡◌, ℕ, ◌+◌, List, [], ◌∷◌, length, get_or, drop, Option, Some, None, IsTrue, refl, sym, ap, subst, ◌∙◌, arith}
+use Rattle.std.proofs.Common.{◌≡◌, ℕ, ◌+◌, List, [], ◌∷◌, get_or, drop, Option, Some, None, IsTrue, refl, sym, ap, subst}
 use Rattle.std.specs.List.{AllByRecursion}
 use Rattle.std.proofs.lemmas.List.{get_or-drop}
 use Rattle.binlog.specs.Row.{kinds}
-use Rattle.binlog.specs.Column.{is_lawful, column_fault, HasColumn}
+use Rattle.binlog.specs.Column.{is_lawful, column_fault}
 use Rattle.binlog.specs.Table.{metadata_length}
 use Rattle.binlog.specs.Columns.{kind_of, column_front, columns_of}
 use Rattle.binlog.specs.declared.column.ColumnKind.{ColumnKind}

@@ -1,5 +1,5 @@
 -- Rows events without extra data and with the shortest count.
-use Rattle.std.proofs.Common.{◌≡◌, ℕ, ◌+◌, ◌-◌, ◌<◌, ◌≤◌, ◌^◌, List, length, refl, sym, ap, ◌∙◌, arith}
+use Rattle.std.proofs.Common.{ℕ, ◌+◌, ◌<◌, ◌≤◌, ◌^◌, List, length, refl, arith}
 use Rattle.wire.specs.Integer.{length_encoded}
 use Rattle.binlog.specs.Rows.{presents_size}
 use Rattle.binlog.specs.Event.{rows}

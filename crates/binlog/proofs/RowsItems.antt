@@ -1,8 +1,8 @@
 -- The rows of a rows event.
-use Rattle.std.proofs.Common.{◌≡◌, ℕ, zero, suc, ◌+◌, ◌-◌, ◌<◌, ◌≤◌, true, false, List, [], ◌∷◌, ◌++◌, length, take, drop, map, Result, Ok, Err, refl, sym, ap, subst, ◌∙◌, append_assoc, arith, inl, inr}
+use Rattle.std.proofs.Common.{◌≡◌, ℕ, zero, suc, ◌+◌, ◌-◌, ◌<◌, ◌≤◌, List, [], ◌∷◌, ◌++◌, length, take, drop, map, Result, Ok, Err, refl, sym, ap, subst, ◌∙◌, append_assoc, arith, inl, inr}
 use Rattle.std.proofs.Math.Seq.{take-add}
 use Rattle.std.proofs.lemmas.Bool.{le-ltb, lt-ltb, cases_lt, cases_Bool}
-use Rattle.std.proofs.lemmas.List.{length-append, length-drop, length-take, take-append-drop, append-nil, take_at}
+use Rattle.std.proofs.lemmas.List.{length-append, length-drop, length-take, take-append-drop, append-nil}
 use Rattle.byteorder.specs.Endian.{little_number}
 use Rattle.binlog.specs.Cell.{CellValue}
 use Rattle.binlog.specs.Shape.{shape, value_end}
@@ -15,7 +15,7 @@ use Rattle.binlog.specs.declared.rows_event.RowsKind.{RowsKind}
 use Rattle.binlog.specs.declared.rows_event.RowsKind.TheVariants.{Write, Update, Delete}
 use Rattle.binlog.specs.declared.shape.Shape.{Shape}
 use Rattle.binlog.specs.declared.shape.Shape.TheVariants.{Number, Fixed, Prefixed}
-use Rattle.binlog.proofs.Cuts.{IsBytes, drop_drop, drop_at, drop_front}
+use Rattle.binlog.proofs.Cuts.{IsBytes, drop_front}
 use Rattle.binlog.proofs.RowCells.{value_is_there, drop_bytes, split_end, row_is_read, row_is_there}
 
 -- ---- What does not fit stands within the bytes.

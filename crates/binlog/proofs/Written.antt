@@ -1,17 +1,15 @@
 -- What is written of an event is that event.
-use Rattle.std.proofs.Common.{◌≡◌, ℕ, ◌+◌, ◌-◌, ◌<◌, ◌≤◌, ◌^◌, Bool, true, false, List, [], ◌∷◌, ◌++◌, length, replicate, codes, drop, refl, sym, ap, subst, ◌∙◌, append_assoc, arith, inl, inr}
+use Rattle.std.proofs.Common.{◌≡◌, ℕ, ◌+◌, ◌-◌, ◌<◌, ◌≤◌, ◌^◌, Bool, false, List, [], ◌∷◌, ◌++◌, length, replicate, codes, refl, sym, ap, ◌∙◌, arith, inl}
 use Rattle.std.proofs.lemmas.Bool.{false≢true}
 use Rattle.std.proofs.lemmas.List.{length-append, length-drop, append-nil}
 use Rattle.std.specs.FinSet as set
 use Rattle.byteorder.specs.Endian.{little_bytes}
 use Rattle.binlog.specs.Header.{IsFramed}
-use Rattle.binlog.specs.Body.{IsFormat, IsRotate, IsXid, IsGtid, IsQuery, statement}
-use Rattle.binlog.specs.Table.{TableValue, IsTableMap}
-use Rattle.binlog.specs.Rows.{RowsValue, IsRows, rows_code}
-use Rattle.binlog.specs.Follow.{Names, follows}
+use Rattle.binlog.specs.Body.{IsFormat, IsGtid, IsQuery, statement}
+use Rattle.binlog.specs.Table.{TableValue}
+use Rattle.binlog.specs.Rows.{RowsValue}
 use Rattle.binlog.specs.Event.{EventValue, format, begin, commit, neutral, stop, rotate, gtid, table_map, other_map, rows, xid, IsOtherMap, HasBody, IsEvent}
-use Rattle.binlog.specs.Writing.{IsWritable, HasMap, HasRowsBody, header_bytes, format_body, query_body, gtid_body, table_map_body, rows_body, event_code, event_body, framed_bytes, event_bytes}
-use Rattle.binlog.specs.declared.body.Query.{Query}
+use Rattle.binlog.specs.Writing.{IsWritable, HasMap, HasRowsBody, header_bytes, format_body, query_body, gtid_body, rows_body, event_code, event_body, framed_bytes, event_bytes}
 use Rattle.binlog.specs.declared.body.Query.TheVariants.{Begin, Commit}
 use Rattle.binlog.proofs.Headers as headers
 use Rattle.binlog.proofs.Followed.{all_follow}

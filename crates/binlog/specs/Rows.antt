@@ -1,6 +1,6 @@
 -- Rows events. MySQL Source Documentation, Binlog Event: binary_log::Rows_event, and its classes Write_rows_event,
 -- Update_rows_event and Delete_rows_event of version 2.
-use Rattle.std.specs.Prelude.{◌≡◌, ℕ, zero, suc, ◌+◌, ◌-◌, ◌<◌, ◌≤◌, ◌^◌, ◌⊎◌, Bool, not, List, [], ◌∷◌, ◌++◌, length, take, drop, map, slice_index, nat_lt, ◌==◌, if◌then◌else◌, IsTrue, Option, Result, Ok, Err}
+use Rattle.std.specs.Prelude.{◌≡◌, ℕ, zero, suc, ◌+◌, ◌-◌, ◌<◌, ◌≤◌, ◌^◌, ◌⊎◌, Bool, not, List, [], ◌∷◌, ◌++◌, length, take, drop, map, nat_lt, IsTrue, Option, Result, Ok, Err}
 use Rattle.std.specs.List.{list_all, range_with_len}
 use Rattle.byteorder.specs.Endian.{little_bytes}
 use Rattle.wire.specs.Integer.{IsLengthEncoded}

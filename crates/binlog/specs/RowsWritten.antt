@@ -5,7 +5,7 @@ use Rattle.std.specs.List.{list_all, range_with_len}
 use Rattle.byteorder.specs.Endian.{little_bytes}
 use Rattle.binlog.specs.Cell.{CellValue, null_cell, number_cell, bytes_cell, is_null}
 use Rattle.binlog.specs.Shape.{shape}
-use Rattle.binlog.specs.Row.{bitmap_size, AreValues, IsRow}
+use Rattle.binlog.specs.Row.{bitmap_size}
 use Rattle.binlog.specs.Rows.{PairValue, inserted, deleted, updated, AreRows}
 use Rattle.binlog.specs.declared.column.ColumnKind.{ColumnKind}
 use Rattle.binlog.specs.declared.rows_event.RowsKind.{RowsKind}

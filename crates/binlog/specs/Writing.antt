@@ -5,7 +5,6 @@ use Rattle.std.specs.FinSet as set
 use Rattle.byteorder.specs.Endian.{little_bytes}
 use Rattle.wire.specs.Integer.{length_encoded}
 use Rattle.binlog.specs.Column.{type_code, metadata}
-use Rattle.binlog.specs.Row.{bitmap_size}
 use Rattle.binlog.specs.Body.{statement}
 use Rattle.binlog.specs.Table.{TableValue, IsTableMap}
 use Rattle.binlog.specs.Rows.{RowsValue, IsRows, rows_code, presents_size}

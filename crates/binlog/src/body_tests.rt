@@ -112,7 +112,10 @@ fn queries(rt: HostRuntime) -> Result<(), Fail> {
             b"CREATE TABLE t (a INT)",
             "a statement other than BEGIN and COMMIT at 33",
         ),
-        (b"SAVEPOINT a", "a statement other than BEGIN and COMMIT at 33"),
+        (
+            b"SAVEPOINT a",
+            "a statement other than BEGIN and COMMIT at 33",
+        ),
     ] {
         let mut event = header(alloc, 2, 0)?;
         event.extend_from_slice(&[0; 14])?;

@@ -13,8 +13,7 @@ const SOURCE: [u8; 16] = [
 const MAP: [u8; 28] = *b"\x01\0\0\0\0\0\0\0\x04shop\0\x05items\0\x02\x03\x0f\x02\x14\0\x03";
 
 /// A rows event of two rows (7, "ab").
-const ROWS: [u8; 28] =
-    *b"\x01\0\0\0\0\0\x01\0\x02\0\x02\x03\0\x07\0\0\0\x02ab\0\x07\0\0\0\x02ab";
+const ROWS: [u8; 28] = *b"\x01\0\0\0\0\0\x01\0\x02\0\x02\x03\0\x07\0\0\0\x02ab\0\x07\0\0\0\x02ab";
 
 /// An update of (7, "ab") to (null, "ab").
 const UPDATE: [u8; 25] = *b"\x01\0\0\0\0\0\x01\0\x02\0\x02\x03\x03\0\x07\0\0\0\x02ab\x01\x02ab";
@@ -35,12 +34,7 @@ fn event(alloc: Global, code: u8, flags: u8, body: &[u8]) -> Result<Vec<u8>, Fai
 }
 
 /// The same with some bytes changed.
-fn changed(
-    alloc: Global,
-    code: u8,
-    body: &[u8],
-    changes: &[(usize, u8)],
-) -> Result<Vec<u8>, Fail> {
+fn changed(alloc: Global, code: u8, body: &[u8], changes: &[(usize, u8)]) -> Result<Vec<u8>, Fail> {
     let mut event = event(alloc, code, 0, body)?;
     for (at, new) in changes {
         let byte = event.get_mut(*at).ok_or("a shorter event")?;
@@ -126,10 +120,18 @@ fn refusals(rt: HostRuntime) -> Result<(), Fail> {
         (&[(40, 0)], EventFaultKind::Columns, 40),
         (&[(40, 0xfb)], EventFaultKind::Columns, 40),
         (&[(40, 0xff)], EventFaultKind::Columns, 40),
-        (&[(40, 0xfc), (41, 1), (42, 16)], EventFaultKind::Columns, 40),
+        (
+            &[(40, 0xfc), (41, 1), (42, 16)],
+            EventFaultKind::Columns,
+            40,
+        ),
         (&[(40, 200)], EventFaultKind::Truncated, 41),
         (&[(42, 253)], EventFaultKind::ColumnType(253), 42),
-        (&[(41, 0), (42, 253), (43, 9)], EventFaultKind::ColumnType(0), 41),
+        (
+            &[(41, 0), (42, 253), (43, 9)],
+            EventFaultKind::ColumnType(0),
+            41,
+        ),
         (&[(43, 3)], EventFaultKind::Metadata, 43),
         (&[(43, 0xfb)], EventFaultKind::Metadata, 43),
         (&[(42, 246), (45, 21)], EventFaultKind::Metadata, 44),
@@ -191,12 +193,20 @@ fn cut_events(rt: HostRuntime) -> Result<(), Fail> {
     ];
     for (len, at) in maps {
         let bytes = event(alloc, 19, 0, MAP.get(..len).ok_or("a shorter body")?)?;
-        assert_eq!(rt; refused(&bytes)?, fault(EventFaultKind::Truncated, at), "{len}");
+        assert_eq!(rt;
+            refused(&bytes)?,
+            fault(EventFaultKind::Truncated, at),
+            "{len}"
+        );
     }
     let rows = [(0, 19), (6, 25), (8, 27), (9, 27), (10, 29), (11, 30)];
     for (len, at) in rows {
         let bytes = event(alloc, 30, 0, ROWS.get(..len).ok_or("a shorter body")?)?;
-        assert_eq!(rt; refused(&bytes)?, fault(EventFaultKind::Truncated, at), "{len}");
+        assert_eq!(rt;
+            refused(&bytes)?,
+            fault(EventFaultKind::Truncated, at),
+            "{len}"
+        );
     }
     let second = event(alloc, 31, 0, &[1, 0, 0, 0, 0, 0, 1, 0, 2, 0, 2, 3])?;
     assert_eq!(rt; refused(&second)?, fault(EventFaultKind::Truncated, 31));
@@ -286,7 +296,13 @@ fn rows(rt: HostRuntime) -> Result<(), Fail> {
     };
     let table = items(alloc)?;
     let fault = rows.rows(&table).err().ok_or("rows of another table")?;
-    assert_eq!(rt; fault, EventFault { kind: EventFaultKind::Columns, at: 29 });
+    assert_eq!(rt;
+        fault,
+        EventFault {
+            kind: EventFaultKind::Columns,
+            at: 29
+        }
+    );
     Ok(())
 }
 
@@ -308,7 +324,12 @@ fn followed_tables(rt: HostRuntime) -> Result<(), Fail> {
     assert!(rt; !other.follows(b"other", b"shop"));
     assert!(rt; Follow::all(alloc).follows(b"shop", b"items"));
     let bytes = changed(alloc, 19, &MAP, &[(42, 253)])?;
-    assert!(rt; matches!(read_event_only(&bytes, &other), Ok(Event::OtherMap { id: 1 })));
+    assert!(rt;
+        matches!(
+            read_event_only(&bytes, &other),
+            Ok(Event::OtherMap { id: 1 })
+        )
+    );
     let fault = EventFault {
         kind: EventFaultKind::ColumnType(253),
         at: 42,
@@ -318,10 +339,21 @@ fn followed_tables(rt: HostRuntime) -> Result<(), Fail> {
         assert_eq!(rt; answer.err(), Some(fault));
     }
     let names = event(alloc, 19, 0, MAP.get(..21).ok_or("a shorter body")?)?;
-    assert!(rt; matches!(read_event_only(&names, &other), Ok(Event::OtherMap { id: 1 })));
+    assert!(rt;
+        matches!(
+            read_event_only(&names, &other),
+            Ok(Event::OtherMap { id: 1 })
+        )
+    );
     let cut = event(alloc, 19, 0, MAP.get(..20).ok_or("a shorter body")?)?;
     let fault = read_event_only(&cut, &other).err().ok_or("an event")?;
-    assert_eq!(rt; fault, EventFault { kind: EventFaultKind::Truncated, at: 39 });
+    assert_eq!(rt;
+        fault,
+        EventFault {
+            kind: EventFaultKind::Truncated,
+            at: 39
+        }
+    );
     Ok(())
 }
 
@@ -334,8 +366,16 @@ fn written_events(rt: HostRuntime) -> Result<(), Fail> {
     identifier.extend_from_slice(&SOURCE)?;
     identifier.extend_from_slice(&[1, 0, 0, 0, 0, 0, 0, 0])?;
     let cases = [
-        (Event::Begin, 2, b"\0\0\0\0\0\0\0\0\0\0\0\0\0\0BEGIN".as_slice()),
-        (Event::Commit, 2, b"\0\0\0\0\0\0\0\0\0\0\0\0\0\0COMMIT".as_slice()),
+        (
+            Event::Begin,
+            2,
+            b"\0\0\0\0\0\0\0\0\0\0\0\0\0\0BEGIN".as_slice(),
+        ),
+        (
+            Event::Commit,
+            2,
+            b"\0\0\0\0\0\0\0\0\0\0\0\0\0\0COMMIT".as_slice(),
+        ),
         (Event::Stop, 3, b"".as_slice()),
         (
             Event::Rotate {
@@ -346,7 +386,11 @@ fn written_events(rt: HostRuntime) -> Result<(), Fail> {
             b"\x04\0\0\0\0\0\0\0binlog.000002".as_slice(),
         ),
         (Event::Gtid(gtid), 33, identifier.as_slice()),
-        (Event::Xid { number: 1 }, 16, b"\x01\0\0\0\0\0\0\0".as_slice()),
+        (
+            Event::Xid { number: 1 },
+            16,
+            b"\x01\0\0\0\0\0\0\0".as_slice(),
+        ),
         (Event::Neutral, 28, b"".as_slice()),
     ];
     for (value, code, body) in cases {

@@ -1,4 +1,4 @@
-use Rattle.std.proofs.Common.{◌≡◌, ◌∙◌, sym, ap}
+use Rattle.std.proofs.Common.{◌∙◌, sym, ap}
 use Rattle.binlog.specs.Follow.{follows}
 use Rattle.binlog.specs.EventView.{followed}
 use Rattle.binlog.proofs.Followed.{all_follow}

@@ -1,4 +1,4 @@
-use Rattle.std.proofs.Common.{◌≡◌, ◌<◌, ◌≤◌, length, refl, arith}
+use Rattle.std.proofs.Common.{refl, arith}
 use Rattle.binlog.specs.TableView.{table_value}
 use Rattle.binlog.proofs.MapWritten.{has_map}
 use Rattle.binlog.proofs.map_writing.map_fits.Goals as goal

@@ -1,6 +1,6 @@
-use Rattle.std.proofs.Common.{◌≡◌, ◌≤◌, ◌+◌, length, ap, ◌∙◌, arith}
+use Rattle.std.proofs.Common.{length, ap, ◌∙◌, arith}
 use Rattle.std.specs.Prelude.{flat_map, unwrap_or}
-use Rattle.binlog.specs.Column.{type_code, metadata, metadata_size}
+use Rattle.binlog.specs.Column.{metadata, metadata_size}
 use Rattle.binlog.proofs.ColumnsWritten.{next_sum}
 use Rattle.binlog.proofs.MapWritten.{all_metadata_short}
 use Rattle.binlog.proofs.map_writing.metadata_length.Goals as goal

@@ -1,6 +1,6 @@
-use Rattle.std.proofs.Common.{◌≡◌, ◌++◌, ◌∷◌, [], length, take, map, sym, ap, ◌∙◌}
+use Rattle.std.proofs.Common.{ap, ◌∙◌}
 use Rattle.std.specs.Prelude.{flat_map}
-use Rattle.binlog.specs.Column.{type_code, metadata}
+use Rattle.binlog.specs.Column.{metadata}
 use Rattle.binlog.proofs.Kept.{first_write, next_write, last_write}
 use Rattle.binlog.proofs.map_writing.write_all_metadata.Goals as goal
 

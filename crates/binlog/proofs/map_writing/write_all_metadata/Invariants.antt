@@ -1,6 +1,5 @@
-use Rattle.std.proofs.Common.{map}
 use Rattle.std.specs.Prelude.{flat_map}
-use Rattle.binlog.specs.Column.{type_code, metadata}
+use Rattle.binlog.specs.Column.{metadata}
 use Rattle.binlog.proofs.Kept.{Writes}
 use Rattle.binlog.proofs.map_writing.write_all_metadata.Given as goal
 

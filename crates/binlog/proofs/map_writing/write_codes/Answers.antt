@@ -1,6 +1,5 @@
-use Rattle.std.proofs.Common.{◌≡◌, ◌++◌, ◌∷◌, [], length, take, map, sym, ap, ◌∙◌}
-use Rattle.std.specs.Prelude.{flat_map}
-use Rattle.binlog.specs.Column.{type_code, metadata}
+use Rattle.std.proofs.Common.{◌∷◌, [], map, sym, ap, ◌∙◌}
+use Rattle.binlog.specs.Column.{type_code}
 use Rattle.binlog.proofs.Kept.{first_write, next_write, last_write}
 use Rattle.binlog.proofs.map_writing.write_codes.Goals as goal
 

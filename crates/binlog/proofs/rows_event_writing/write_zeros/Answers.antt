@@ -1,4 +1,4 @@
-use Rattle.std.proofs.Common.{◌≡◌, ℕ, ◌++◌, ◌∷◌, [], ◌+◌, ◌-◌, suc, length, take, replicate, sym, ap, ◌∙◌, append_assoc, arith}
+use Rattle.std.proofs.Common.{◌≡◌, ◌∷◌, [], ◌+◌, ◌-◌, suc, replicate, ap, arith}
 use Rattle.binlog.proofs.Kept.{first_write, next_write, last_write}
 use Rattle.binlog.proofs.rows_event_writing.write_zeros.Goals as goal
 

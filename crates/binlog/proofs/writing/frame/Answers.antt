@@ -1,4 +1,4 @@
-use Rattle.std.proofs.Common.{◌≡◌, ◌∙◌, sym, ap, take, drop, length}
+use Rattle.std.proofs.Common.{◌∙◌, sym, ap, take, drop, length}
 use Rattle.binlog.proofs.Framed.{framed}
 use Rattle.binlog.proofs.writing.frame.Goals as goal
 

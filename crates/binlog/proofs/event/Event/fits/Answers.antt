@@ -23,15 +23,15 @@ returns-in-Stop c = ((λ _. subst (λ e. IsWritable (event_value e)) (sym c.in-S
 
 pub returns-in-Rotate : goal.returns-in-Rotate
 returns-in-Rotate c = (
-      (λ yes. subst (λ e. IsWritable (event_value e)) (sym c.in-Rotate.is) (c.rotate_fits.ensures.0 yes)),
-      (λ w. c.rotate_fits.ensures.1 (subst (λ e. IsWritable (event_value e)) c.in-Rotate.is w)),
-    )
+  (λ yes. subst (λ e. IsWritable (event_value e)) (sym c.in-Rotate.is) (c.rotate_fits.ensures.0 yes)),
+  (λ w. c.rotate_fits.ensures.1 (subst (λ e. IsWritable (event_value e)) c.in-Rotate.is w)),
+)
 
 pub returns-in-Gtid : goal.returns-in-Gtid
 returns-in-Gtid c = (
-      (λ yes. subst (λ e. IsWritable (event_value e)) (sym c.in-Gtid.is) (c.gtid_fits.ensures.0 yes)),
-      (λ w. c.gtid_fits.ensures.1 (subst (λ e. IsWritable (event_value e)) c.in-Gtid.is w)),
-    )
+  (λ yes. subst (λ e. IsWritable (event_value e)) (sym c.in-Gtid.is) (c.gtid_fits.ensures.0 yes)),
+  (λ w. c.gtid_fits.ensures.1 (subst (λ e. IsWritable (event_value e)) c.in-Gtid.is w)),
+)
 
 pub returns-in-TableMap : goal.returns-in-TableMap
 returns-in-TableMap c =
@@ -52,6 +52,6 @@ returns-in-Rows c =
 
 pub returns-in-Xid : goal.returns-in-Xid
 returns-in-Xid c = (
-      (λ yes. subst (λ e. IsWritable (event_value e)) (sym c.in-Xid.is) (c.xid_fits.ensures.0 yes)),
-      (λ w. c.xid_fits.ensures.1 (subst (λ e. IsWritable (event_value e)) c.in-Xid.is w)),
-    )
+  (λ yes. subst (λ e. IsWritable (event_value e)) (sym c.in-Xid.is) (c.xid_fits.ensures.0 yes)),
+  (λ w. c.xid_fits.ensures.1 (subst (λ e. IsWritable (event_value e)) c.in-Xid.is w)),
+)

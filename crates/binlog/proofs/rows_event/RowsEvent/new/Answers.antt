@@ -1,4 +1,4 @@
-use Rattle.std.proofs.Common.{◌≡◌, ◌<◌, ◌≤◌, refl, arith}
+use Rattle.std.proofs.Common.{refl, arith}
 use Rattle.binlog.proofs.PlainRows.{of_ranges}
 use Rattle.binlog.proofs.rows_event.RowsEvent.new.Goals as goal
 
