@@ -76,7 +76,9 @@ fn write_entries<W: Write>(lines: Lines, entries: &[Entry], out: &mut W) -> io::
 /// Writes the line of a payload, and answers whether it is without a fault.
 fn write_entry<W: Write>(lines: Lines, entry: &Entry, out: &mut W) -> io::Result<bool> {
     let Entry {
-        offset, sequence, ..
+        offset,
+        sequence,
+        ..
     } = entry;
     match lines {
         Lines::Packets => {

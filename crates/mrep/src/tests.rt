@@ -91,7 +91,10 @@ fn lists_events(rt: HostRuntime) -> Result<(), Fail> {
     plain.extend_from_slice(&ONE_TRANSACTION[417..])?;
     plain[216] = 4;
     let (status, out) = listed(&rt, "events", &plain)?;
-    assert!(rt; out.as_str().ends_with("213 4 16 27 Xid\nrest 0\n"), "{out}");
+    assert!(rt;
+        out.as_str().ends_with("213 4 16 27 Xid\nrest 0\n"),
+        "{out}"
+    );
     assert_eq!(rt; status, 0);
     let (status, out) = listed(&rt, "events", &ONE_TRANSACTION)?;
     assert_eq!(rt; out.as_str(), "fault Greet.Unexpected at 0\n");
@@ -99,8 +102,11 @@ fn lists_events(rt: HostRuntime) -> Result<(), Fail> {
     let (status, out) = listed(&rt, "events", &[0, 0, 0, 7])?;
     assert_eq!(rt; out.as_str(), "fault Greet.Truncated at 0\n");
     assert_eq!(rt; status, 1);
-    let (status, out) = listed(&rt, "events", &whole[..300])?;
-    assert!(rt; out.as_str().ends_with("TableMap 1 shop.items 2\nrest 35\n"), "{out}");
+    let (status, out) = listed(&rt, "events", &ONE_TRANSACTION[100..400])?;
+    assert!(rt;
+        out.as_str().ends_with("TableMap 1 shop.items 2\nrest 35\n"),
+        "{out}"
+    );
     assert_eq!(rt; status, 1);
     Ok(())
 }
