@@ -27,7 +27,9 @@ impl Found {
             let value = match cell {
                 Cell::Null => 1,
                 Cell::Number { value, .. } => value,
-                Cell::Bytes([first, rest @ ..]) => u64::from(*first).wrapping_add(rest.len() as u64),
+                Cell::Bytes([first, rest @ ..]) => u64::from(*first).wrapping_add(
+                    rest.len() as u64,
+                ),
                 Cell::Bytes(_) => 2,
             };
             self.sum = self.sum.wrapping_add(value);
@@ -35,7 +37,7 @@ impl Found {
     }
 
     /// Takes the rows of an event of the last table.
-    fn rows(&mut self, event: &RowsEvent<'_>) -> Result<(), EventFault> {
+    fn rows(&mut self, event: RowsEvent<'_>) -> Result<(), EventFault> {
         let Some(table) = self.table.take() else {
             return Ok(());
         };
@@ -57,7 +59,7 @@ impl Found {
     fn event(&mut self, alloc: Global, bytes: &[u8]) -> Result<(), EventFault> {
         match read_event(bytes)? {
             Event::TableMap(map) => self.table = Some(map.copy(alloc)?),
-            Event::Rows(event) => self.rows(&event)?,
+            Event::Rows(event) => self.rows(event)?,
             _ => {}
         }
         Ok(())
@@ -72,7 +74,10 @@ fn read(alloc: Global, stream: &[u8]) -> Result<Found, EventFault> {
         sum: 0,
     };
     let mut rest = stream;
-    while let [a, b, c, _, behind @ ..] = rest {
+    for _ in 0..stream.len() {
+        let [a, b, c, _, behind @ ..] = rest else {
+            break;
+        };
         let length = usize::from(*a) + 256 * usize::from(*b) + 65_536 * usize::from(*c);
         let Some((payload, others)) = behind.split_at_checked(length) else {
             break;
