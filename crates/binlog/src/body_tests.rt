@@ -107,6 +107,8 @@ fn queries(rt: HostRuntime) -> Result<(), Fail> {
         (b"BEGIN".as_slice(), "read"),
         (b"COMMIT", "read"),
         (b"begin", "a statement other than BEGIN and COMMIT at 33"),
+        (b"commit", "a statement other than BEGIN and COMMIT at 33"),
+        (b"COMMIT ", "a statement other than BEGIN and COMMIT at 33"),
         (b"", "a statement other than BEGIN and COMMIT at 33"),
         (
             b"CREATE TABLE t (a INT)",

@@ -18,11 +18,14 @@ const ROWS: [u8; 28] = *b"\x01\0\0\0\0\0\x01\0\x02\0\x02\x03\0\x07\0\0\0\x02ab\0
 /// An update of (7, "ab") to (null, "ab").
 const UPDATE: [u8; 25] = *b"\x01\0\0\0\0\0\x01\0\x02\0\x02\x03\x03\0\x07\0\0\0\x02ab\x01\x02ab";
 
+/// A length of one byte.
+fn byte(length: usize) -> Result<u8, Fail> {
+    Ok(u8::try_from(length).map_err(|_| "a longer part")?)
+}
+
 /// An event of this type, flags and body, from server 1.
 fn event(alloc: Global, code: u8, flags: u8, body: &[u8]) -> Result<Vec<u8>, Fail> {
-    let Ok(size) = u8::try_from(19 + body.len()) else {
-        return Err("a longer body")?;
-    };
+    let size = byte(19 + body.len())?;
     let mut event = Vec::from_slice(
         alloc,
         &[
@@ -462,5 +465,65 @@ fn written_rows(rt: HostRuntime) -> Result<(), Fail> {
         after: row(alloc, 1 << 32, b"ab")?,
     }];
     assert!(rt; !rows_fit(RowsKind::Write, &table.types, &long));
+    Ok(())
+}
+
+/// A map of the table s.t with these type bytes and this metadata, between the counts.
+fn map_of(alloc: Global, types: &[u8], metadata: &[u8]) -> Result<Vec<u8>, Fail> {
+    let mut body = Vec::from_slice(alloc, b"\x01\0\0\0\0\0\0\0\x01s\0\x01t\0")?;
+    body.push(byte(types.len())?)?;
+    body.extend_from_slice(types)?;
+    body.push(byte(metadata.len())?)?;
+    body.extend_from_slice(metadata)?;
+    body.extend_from_slice(&[0, 0])?;
+    event(alloc, 19, 0, &body)
+}
+
+/// Types whose metadata is read, and where it is refused.
+#[test]
+fn metadata(rt: HostRuntime) -> Result<(), Fail> {
+    let alloc = rt.alloc();
+    let cases: [(&[u8], &[u8], Option<usize>); 4] = [
+        (&[10, 13, 17, 18, 19], &[0, 3, 6], None),
+        (&[10, 13, 17, 18, 19], &[0, 3, 7], Some(42)),
+        (&[246, 4, 5], &[10, 2, 4, 8], None),
+        (&[246, 4, 5], &[10, 11, 4, 8], Some(38)),
+    ];
+    for (types, metadata, at) in cases {
+        let bytes = map_of(alloc, types, metadata)?;
+        let fault = read_event(&bytes).err();
+        let want = at.map(|at| EventFault {
+            kind: EventFaultKind::Metadata,
+            at,
+        });
+        assert_eq!(rt; fault, want, "{types:?} {metadata:?}");
+    }
+    Ok(())
+}
+
+/// A table of nine columns, and its row.
+#[test]
+fn nine_columns(rt: HostRuntime) -> Result<(), Fail> {
+    let alloc = rt.alloc();
+    let types = [254, 15, 15, 252, 252, 254, 254, 16, 3];
+    let metadata = [0xce, 0xfc, 0xff, 0, 0, 1, 1, 4, 0xf7, 2, 0xf8, 8, 1, 1];
+    let bytes = map_of(alloc, &types, &metadata)?;
+    let Ok(Event::TableMap(map)) = read_event(&bytes) else {
+        return Err("no table map")?;
+    };
+    let table = map.copy(alloc)?;
+    let mut body = Vec::from_slice(alloc, b"\x01\0\0\0\0\0\x01\0\x02\0\x09\xff\x01")?;
+    body.extend_from_slice(
+        b"\0\xff\x01\0a\x01b\x01\0c\x01d\x01\0\0\0e\x02\0\x05\0\0\0\0\0\0\0\x01\x02",
+    )?;
+    let bytes = event(alloc, 30, 0, &body)?;
+    let Ok(Event::Rows(rows)) = read_event(&bytes) else {
+        return Err("no rows event")?;
+    };
+    let Some(Ok(RowPair::Insert { after })) = rows.rows(&table)?.next() else {
+        return Err("no row")?;
+    };
+    let want = "[97] [98] [99] [100] [101] 2/2 5/8 [1, 2] null ";
+    assert_eq!(rt; cells(alloc, &after)?.as_str(), want);
     Ok(())
 }
