@@ -1,0 +1,112 @@
+-- The first event that makes a list of events unlawful, and what is wrong with it.
+use Rattle.std.specs.Prelude.{◌≡◌, ℕ, ◌+◌, ◌<◌, ◌⊎◌, Bool, true, false, not, List, [], ◌∷◌, ◌++◌, length, fold, Option, Some, None, if◌then◌else◌, ◌≢◌}
+use Rattle.std.specs.List.{AllByRecursion, list_any}
+use Rattle.binlog.specs.Follow.{Names}
+use Rattle.binlog.specs.Table.{TableValue}
+use Rattle.binlog.specs.Rows.{RowsValue, PairValue, EndsEarly, rows_code}
+use Rattle.binlog.specs.Event.{EventValue, format, begin, commit, gtid, table_map, other_map, rows, xid, IsEvent}
+use Rattle.binlog.specs.declared.fault.EventFault.{EventFault}
+use Rattle.binlog.specs.declared.fault.EventFaultKind.TheVariants.{Columns, Truncated}
+use Rattle.gather.specs.Transaction.{is_neutral, is_mark, is_end, map_of}
+use Rattle.gather.specs.declared.fault.GatherFault.{GatherFault}
+use Rattle.gather.specs.declared.fault.GatherFault.TheVariants.{NoFormat, Misplaced, UnknownTable, Event}
+
+-- ---- What came before.
+
+abbrev pub is_format : EventValue → Bool
+is_format format = true
+is_format _ = false
+
+abbrev pub is_gtid : EventValue → Bool
+is_gtid (gtid source number) = true
+is_gtid _ = false
+
+-- whether a format description has come
+abbrev pub has_format : List EventValue → Bool
+has_format events = list_any is_format events
+
+-- a block and the next event, which goes on with it or begins another
+abbrev pub add_event : List EventValue → EventValue → List EventValue
+add_event block e = if is_neutral e then block else if is_mark e then e ∷ [] else if is_gtid e then e ∷ [] else block ++ e ∷ []
+
+-- the last block: what came since the last GTID, format description, rotation or stop, neutral events left out
+abbrev pub last_block : List EventValue → List EventValue
+last_block events = fold add_event [] events
+
+-- the block is a GTID
+abbrev pub is_announced : List EventValue → Bool
+is_announced (gtid source number ∷ []) = true
+is_announced _ = false
+
+-- the block has begun and not ended
+abbrev pub is_open : List EventValue → Bool
+is_open (gtid source number ∷ begin ∷ body) = not (list_any is_end body)
+is_open _ = false
+
+-- ---- Places.
+
+-- events of transactions, which stand behind a format description
+abbrev pub is_of_transaction : EventValue → Bool
+is_of_transaction (gtid source number) = true
+is_of_transaction begin = true
+is_of_transaction commit = true
+is_of_transaction (table_map t) = true
+is_of_transaction (other_map id) = true
+is_of_transaction (rows r) = true
+is_of_transaction (xid number) = true
+is_of_transaction _ = false
+
+-- whether an event may stand behind the block: BEGIN behind the GTID, table maps, rows events and the end behind BEGIN
+abbrev pub is_in_place : List EventValue → EventValue → Bool
+is_in_place block begin = is_announced block
+is_in_place block commit = is_open block
+is_in_place block (table_map t) = is_open block
+is_in_place block (other_map id) = is_open block
+is_in_place block (rows r) = is_open block
+is_in_place block (xid number) = is_open block
+is_in_place block _ = true
+
+-- the type of an event that may be misplaced
+abbrev pub type_of : EventValue → ℕ
+type_of begin = 2
+type_of commit = 2
+type_of (xid number) = 16
+type_of (table_map t) = 19
+type_of (other_map id) = 19
+type_of (rows r) = rows_code r.kind
+type_of _ = 0
+
+-- ---- Faults.
+
+-- What is wrong with a rows event, by what is said of its table's number: nothing is said; else it has another number of
+-- columns than the table; else its rows end early. Of a table that is not followed nothing is looked at.
+abbrev pub IsRowsFault : Option (Option TableValue) → RowsValue → GatherFault → Type 0
+IsRowsFault None r fault = fault ≡ UnknownTable r.id
+IsRowsFault (Some None) r fault = ⊥
+IsRowsFault (Some (Some t)) r fault =
+    ((length t.columns ≢ r.columns) × (fault ≡ Event (record { kind = Columns; at = r.columns_at })))
+    ⊎ ((length t.columns ≡ r.columns) × (pairs : List PairValue) × (place : ℕ) × EndsEarly r.kind t.columns pairs r.bytes place
+    × (fault ≡ Event (record { kind = Truncated; at = r.bytes_at + place })))
+
+-- Behind these events the next one has this fault.
+pub data IsFault (events : List EventValue) (e : EventValue) (fault : GatherFault) : Type 0 where
+  -- it is of a transaction, and no format description has come
+  no_format : is_of_transaction e ≡ true → has_format events ≡ false → fault ≡ NoFormat → IsFault events e fault
+  -- else: it is not in its place
+  misplaced : has_format events ≡ true → is_in_place (last_block events) e ≡ false → fault ≡ Misplaced (type_of e) → IsFault events e fault
+  -- else: its rows cannot be read
+  unread : (r : RowsValue) → e ≡ rows r → has_format events ≡ true → is_open (last_block events) ≡ true → IsRowsFault (map_of (last_block events) r.id) r fault → IsFault events e fault
+
+-- some fault
+pub record HasFault (events : List EventValue) (e : EventValue) : Type 0 where
+  pub fault : GatherFault
+  pub is_fault : IsFault events e fault
+
+-- ---- Events that are read.
+
+-- The event is that of some bytes, whichever tables are followed.
+pub record IsRead (e : EventValue) : Type 0 where
+  pub names : Names
+  pub bytes : List ℕ
+  pub fits : AllByRecursion (λ b. b < 256) bytes
+  pub is_event : IsEvent names e bytes

@@ -1,0 +1,40 @@
+-- The cells of a stored image, by its bytes.
+use Rattle.std.specs.Prelude.{ℕ, zero, suc, ◌+◌, ◌-◌, ◌^◌, Bool, ◌&&◌, List, [], ◌∷◌, length, take, drop, map, nat_le, ◌==◌, if◌then◌else◌, Option, Some, None}
+use Rattle.byteorder.specs.Endian.{little_number}
+use Rattle.binlog.specs.Cell.{CellValue, null_cell, number_cell, bytes_cell, cell_value}
+use Rattle.binlog.specs.declared.cell.Cell.{Cell}
+
+abbrev pub cell_values : List Cell → List CellValue
+cell_values cells = map cell_value cells
+
+-- a cell and how many bytes its image takes
+abbrev pub front_value : Cell × ℕ → CellValue × ℕ
+front_value front = (cell_value front.0, front.1)
+
+-- the cell whose image begins the bytes behind their first, which says its kind, and how many bytes the image takes
+abbrev pub number_front : List ℕ → Option (CellValue × ℕ)
+number_front [] = None
+number_front (width ∷ bytes) =
+    if nat_le 1 width && nat_le width 8 && nat_le width (length bytes) then Some (number_cell (little_number width bytes) width, 2 + width) else None
+
+abbrev pub bytes_front : List ℕ → Option (CellValue × ℕ)
+bytes_front bytes =
+    let size = little_number 4 bytes in
+    if nat_le 4 (length bytes) && nat_le size (length bytes - 4) then Some (bytes_cell (take size (drop 4 bytes)), 5 + size) else None
+
+abbrev pub cell_front : List ℕ → Option (CellValue × ℕ)
+cell_front [] = None
+cell_front (kind ∷ bytes) = if kind == 0 then Some (null_cell, 1) else if kind == 1 then number_front bytes else if kind == 2 then bytes_front bytes else None
+
+-- the cells whose images begin the bytes, at most so many
+abbrev pub goes_on : Option (CellValue × ℕ) → (ℕ → List CellValue) → List CellValue
+goes_on None others = []
+goes_on (Some front) others = front.0 ∷ others front.1
+
+abbrev pub cells_of : ℕ → List ℕ → List CellValue
+cells_of zero bytes = []
+cells_of (suc most) bytes = goes_on (cell_front bytes) (λ size. cells_of most (drop size bytes))
+
+-- all of them
+abbrev pub cells_in : List ℕ → List CellValue
+cells_in bytes = cells_of (length bytes) bytes

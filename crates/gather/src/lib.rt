@@ -1,0 +1,24 @@
+//! Whole transactions, gathered from the events of the binary log.
+//!
+//! A [`Gatherer`] takes the events of a source one by one and answers a [`Delivery`] at the event that ends a
+//! transaction: its GTID and its [`Change`]s in order, each with its table and the [`Image`] of its row. A list of
+//! events that is no log ends with a [`GatherFault`].
+//!
+//! The order of events is that of the MySQL Source Documentation, "Binlog Event". `specs/` states over whole lists of
+//! events which are lawful and which transactions they hold, and [`laws`] what follows from that.
+#![tactic(auto)]
+
+mod change;
+mod fault;
+mod gatherer;
+mod image;
+mod image_cells;
+pub mod laws;
+mod begun;
+
+pub use binlog::Follow;
+pub use change::{Change, Delivery};
+pub use fault::GatherFault;
+pub use gatherer::Gatherer;
+pub use image::Image;
+pub use image_cells::ImageCells;
