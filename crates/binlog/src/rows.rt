@@ -54,7 +54,7 @@ impl<'a> RowsEvent<'a> {
     /// the last item: `Truncated` where its bitmap, or the length or the bytes of a value, stands.
     pub fn rows(&self, table: &'a TableDef) -> Result<Rows<'a>, EventFault>
         ensures columns { (result ≡ Err (record { kind = EventFaultKind.Columns; at = self.now.columns_at })) ↔ (length table.now.types.items ≢ self.now.columns) }
-        ensures only { IfErr result (λ fault. fault.kind ≡ EventFaultKind.Columns) }
+        ensures only { IfErr result (λ fault. fault ≡ record { kind = EventFaultKind.Columns; at = self.now.columns_at }) }
         ensures items { IfOk result (AreItems (rows_value self.now) (kinds table.now.types.items)) }
     {
         self.rows_of(&table.types)
@@ -66,7 +66,7 @@ impl<'a> RowsEvent<'a> {
     /// last item: `Truncated` where its bitmap, or the length or the bytes of a value, stands.
     fn rows_of(&self, types: &'a [ColumnType]) -> Result<Rows<'a>, EventFault>
         ensures columns { (result ≡ Err (record { kind = EventFaultKind.Columns; at = self.now.columns_at })) ↔ (length types.now ≢ self.now.columns) }
-        ensures only { IfErr result (λ fault. fault.kind ≡ EventFaultKind.Columns) }
+        ensures only { IfErr result (λ fault. fault ≡ record { kind = EventFaultKind.Columns; at = self.now.columns_at }) }
         ensures items { IfOk result (AreItems (rows_value self.now) (kinds types.now)) }
     {
         if types.len() != self.columns {

@@ -1,1 +1,3 @@
-
+mod Maps
+mod RowItems
+mod RowImages

@@ -3,4 +3,6 @@ pub mod ImageCells
 pub mod Transaction
 pub mod Fault
 pub mod View
+pub mod Begun
+pub mod Place
 pub mod Standing

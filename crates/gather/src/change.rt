@@ -9,9 +9,15 @@ use std::rc::Rc;
 #[derive(Debug, Drop)]
 pub enum Change {
     /// The row is added.
-    Insert { table: Rc<TableDef>, after: Image },
+    Insert {
+        table: Rc<TableDef>,
+        after: Image,
+    },
     /// The row is taken away.
-    Delete { table: Rc<TableDef>, before: Image },
+    Delete {
+        table: Rc<TableDef>,
+        before: Image,
+    },
     /// The row before is taken away and the row after is added.
     Update {
         table: Rc<TableDef>,

@@ -22,7 +22,7 @@ pub enum GatherFault {
     UnknownTable(u64),
     /// The rows of a rows event cannot be read: `Columns` or `Truncated`.
     #[error("{0}")]
-    Event(EventFault),
+    Event(#[from] EventFault),
     /// An allocation was refused.
     #[error("out of memory")]
     Memory,

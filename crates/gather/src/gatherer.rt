@@ -2,21 +2,9 @@
 
 use crate::change::Delivery;
 use crate::fault::GatherFault;
-use crate::begun::Begun;
+use crate::place::{Place, take_begin, take_end, take_map, take_other, take_rows};
 use binlog::Event;
-use gtid::Gtid;
 use std::alloc::Global;
-
-/// Where in a transaction a gatherer is.
-#[derive(Drop)]
-enum Place {
-    /// In none.
-    Between,
-    /// Behind its GTID.
-    Announced(Gtid),
-    /// Behind its BEGIN.
-    Inside(Begun),
-}
 
 /// Gathers events into whole transactions. It keeps no more than the transaction at hand.
 #[derive(Drop)]
@@ -30,13 +18,13 @@ pub struct Gatherer {
 }
 
 impl Gatherer {
-    ghost use Rattle.std.specs.Prelude.{◌≡◌, ◌⊎◌, ◌↔◌, List, [], ◌∷◌, ◌++◌, IfOk, IfErr, OnErr, Err};
+    ghost use Rattle.std.specs.Prelude.{◌≡◌, ◌≢◌, ◌⊎◌, ◌↔◌, List, [], ◌∷◌, ◌++◌, IfOk, IfErr, OnErr, Err};
     ghost use Rattle.binlog.specs.Event.{EventValue};
     ghost use Rattle.binlog.specs.EventView.{event_value};
     ghost use Rattle.gather.specs.Transaction.{DeliveryValue};
     ghost use Rattle.gather.specs.Fault.{IsFault};
     ghost use Rattle.gather.specs.View.{delivered};
-    ghost use Rattle.gather.specs.Standing.{Stands, HasEnded};
+    ghost use Rattle.gather.specs.Standing.{Brings, Stands, HasEnded};
 
     /// A gatherer that was given no event. It takes no memory.
     pub fn new(alloc: Global) -> Gatherer
@@ -62,11 +50,58 @@ impl Gatherer {
         ensures ended { (result ≡ Err GatherFault.Ended) ↔ HasEnded self.old }
         ensures err { OnErr result (HasEnded self.new) }
     {
-        let _ = event;
         if self.ended {
             return Err(GatherFault::Ended);
         }
         self.ended = true;
-        Err(GatherFault::Memory)
+        let delivery = self.take(event)?;
+        self.ended = false;
+        Ok(delivery)
+    }
+
+    /// Takes an event, by where in a transaction it stands.
+    fn take(&mut self, event: &Event<'_>) -> Result<Option<Delivery>, GatherFault>
+        ensures taken { (events : List EventValue) (ds : List DeliveryValue) → Brings events ds self.old.formatted self.old.place →
+            IfOk result (λ delivery. Brings (events ++ event_value event.now ∷ []) (ds ++ delivered delivery) self.new.formatted self.new.place) }
+        ensures fault { (events : List EventValue) (ds : List DeliveryValue) → Brings events ds self.old.formatted self.old.place →
+            IfErr result (λ fault. (fault ≡ GatherFault.Memory) ⊎ IsFault events (event_value event.now) fault) }
+        ensures ended { self.new.ended ≡ self.old.ended }
+        ensures other { IfErr result (λ fault. fault ≢ GatherFault.Ended) }
+    {
+        match event {
+            Event::Neutral => Ok(None),
+            Event::Format => {
+                self.formatted = true;
+                self.place = Place::Between;
+                Ok(None)
+            }
+            Event::Rotate { .. } | Event::Stop => {
+                self.place = Place::Between;
+                Ok(None)
+            }
+            _ if !self.formatted => Err(GatherFault::NoFormat),
+            Event::Gtid(gtid) => {
+                self.place = Place::Announced(*gtid);
+                Ok(None)
+            }
+            Event::Begin => {
+                take_begin(&mut self.place, self.alloc)?;
+                Ok(None)
+            }
+            Event::TableMap(map) => {
+                take_map(&mut self.place, self.alloc, map)?;
+                Ok(None)
+            }
+            Event::OtherMap { id } => {
+                take_other(&mut self.place, *id)?;
+                Ok(None)
+            }
+            Event::Rows(rows) => {
+                take_rows(&mut self.place, self.alloc, rows)?;
+                Ok(None)
+            }
+            Event::Commit => Ok(Some(take_end(&mut self.place, 2)?)),
+            Event::Xid { .. } => Ok(Some(take_end(&mut self.place, 16)?)),
+        }
     }
 }

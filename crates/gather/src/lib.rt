@@ -8,13 +8,15 @@
 //! events which are lawful and which transactions they hold, and [`laws`] what follows from that.
 #![tactic(auto)]
 
+mod begun;
 mod change;
 mod fault;
 mod gatherer;
 mod image;
 mod image_cells;
 pub mod laws;
-mod begun;
+mod place;
+mod row_changes;
 
 pub use binlog::Follow;
 pub use change::{Change, Delivery};

@@ -1,0 +1,100 @@
+//! Where in a transaction a gatherer is.
+
+ghost use Rattle.std.specs.Prelude.{◌≡◌, ◌⊎◌, true, false, List, [], ◌∷◌, ◌++◌, IfOk, IfErr, OnOk};
+ghost use Rattle.binlog.specs.Event.{EventValue, begin, commit, table_map, other_map, rows, xid};
+ghost use Rattle.binlog.specs.RowsView.{rows_value};
+ghost use Rattle.binlog.specs.TableView.{table_value};
+ghost use Rattle.gather.specs.View.{delivery_value};
+ghost use Rattle.gather.specs.Place.{GoesOn, EndsWith, FaultsAt, IsOutside};
+
+use crate::begun::Begun;
+use crate::change::Delivery;
+use crate::fault::GatherFault;
+use binlog::{RowsEvent, RowsKind, TableMap};
+use gtid::Gtid;
+use std::alloc::Global;
+use std::mem;
+
+/// Where in a transaction a gatherer is.
+#[derive(Drop)]
+pub(crate) enum Place {
+    /// In none.
+    Between,
+    /// Behind its GTID.
+    Announced(Gtid),
+    /// Behind its BEGIN.
+    Inside(Begun),
+}
+
+/// BEGIN stands next after the GTID.
+pub(crate) fn take_begin(place: &mut Place, alloc: Global) -> Result<(), GatherFault>
+    ensures taken { OnOk result (GoesOn begin place.old place.new) }
+    ensures fault { IfErr result (FaultsAt begin place.old) }
+{
+    match place {
+        Place::Announced(gtid) => {
+            *place = Place::Inside(Begun::new(alloc, *gtid));
+            Ok(())
+        }
+        _ => Err(GatherFault::Misplaced(2)),
+    }
+}
+
+/// A table map stands behind BEGIN.
+pub(crate) fn take_map(
+    place: &mut Place,
+    alloc: Global,
+    map: &TableMap<'_>,
+) -> Result<(), GatherFault>
+    ensures taken { OnOk result (GoesOn (table_map (table_value map.now)) place.old place.new) }
+    ensures fault { IfErr result (FaultsAt (table_map (table_value map.now)) place.old) }
+{
+    match place {
+        Place::Inside(begun) => begun.take_map(alloc, map),
+        _ => Err(GatherFault::Misplaced(19)),
+    }
+}
+
+/// So does one of a table that is not followed.
+pub(crate) fn take_other(place: &mut Place, id: u64) -> Result<(), GatherFault>
+    ensures taken { OnOk result (GoesOn (other_map id) place.old place.new) }
+    ensures fault { IfErr result (FaultsAt (other_map id) place.old) }
+{
+    match place {
+        Place::Inside(begun) => begun.take_other(id),
+        _ => Err(GatherFault::Misplaced(19)),
+    }
+}
+
+/// A rows event stands behind BEGIN.
+pub(crate) fn take_rows(
+    place: &mut Place,
+    alloc: Global,
+    event: &RowsEvent<'_>,
+) -> Result<(), GatherFault>
+    ensures taken { OnOk result (GoesOn (rows (rows_value event.now)) place.old place.new) }
+    ensures fault { IfErr result (FaultsAt (rows (rows_value event.now)) place.old) }
+{
+    match place {
+        Place::Inside(begun) => begun.take_rows(alloc, event),
+        _ => Err(GatherFault::Misplaced(match event.kind {
+            RowsKind::Write => 30,
+            RowsKind::Update => 31,
+            RowsKind::Delete => 32,
+        })),
+    }
+}
+
+/// An event of this type that ends a transaction stands behind BEGIN.
+pub(crate) fn take_end(place: &mut Place, code: u8) -> Result<Delivery, GatherFault>
+    ensures taken { IfOk result (λ delivery. EndsWith place.old place.new (delivery_value delivery)) }
+    ensures fault { IfErr result (λ fault. IsOutside code place.old fault) }
+{
+    match mem::replace(place, Place::Between) {
+        Place::Inside(begun) => {
+            let Begun { gtid, changes, .. } = begun;
+            Ok(Delivery { gtid, changes })
+        }
+        _ => Err(GatherFault::Misplaced(code)),
+    }
+}
