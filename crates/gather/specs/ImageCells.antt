@@ -1,5 +1,5 @@
 -- The cells of a stored image, by its bytes.
-use Rattle.std.specs.Prelude.{ℕ, zero, suc, ◌+◌, ◌-◌, ◌^◌, Bool, ◌&&◌, List, [], ◌∷◌, length, take, drop, map, nat_le, ◌==◌, if◌then◌else◌, Option, Some, None}
+use Rattle.std.specs.Prelude.{ℕ, zero, suc, ◌+◌, ◌-◌, ◌&&◌, List, [], ◌∷◌, length, take, drop, map, nat_le, ◌==◌, if◌then◌else◌, Option, Some, None}
 use Rattle.byteorder.specs.Endian.{little_number}
 use Rattle.binlog.specs.Cell.{CellValue, null_cell, number_cell, bytes_cell, cell_value}
 use Rattle.binlog.specs.declared.cell.Cell.{Cell}
