@@ -1,2 +1,4 @@
 pub mod RowImages
 pub mod CellImages
+pub mod WholeImages
+pub mod ImageParts

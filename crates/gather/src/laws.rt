@@ -8,7 +8,13 @@ ghost use Rattle.binlog.specs.Cell.{CellValue};
 ghost use Rattle.binlog.specs.Column.{is_lawful};
 ghost use Rattle.binlog.specs.Row.{IsRow};
 ghost use Rattle.binlog.specs.declared.column.ColumnKind.{ColumnKind};
-ghost use Rattle.gather.specs.Image.{HasImage};
+ghost use Rattle.gather.specs.Image.{HasImage, IsImage};
+
+/// Equal cells have equal images, and no others do.
+pub fn one_image()
+    ensures one { (a b : List CellValue) (bytes : List ℕ) → IsImage a bytes → IsImage b bytes → a ≡ b }
+    ensures equal { (a b : List CellValue) (x y : List ℕ) → IsImage a x → IsImage b y → a ≡ b → x ≡ y }
+{}
 
 /// The cells of a row have an image.
 pub fn row_images()
