@@ -1,3 +1,6 @@
-mod Maps
-mod RowItems
-mod RowImages
+pub mod RowImages
+pub mod CellImages
+pub mod WholeImages
+pub mod ImageParts
+pub mod Maps
+pub mod RowItems

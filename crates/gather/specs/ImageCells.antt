@@ -1,5 +1,5 @@
 -- The cells of a stored image, by its bytes.
-use Rattle.std.specs.Prelude.{ℕ, zero, suc, ◌+◌, ◌-◌, ◌^◌, Bool, ◌&&◌, List, [], ◌∷◌, length, take, drop, map, nat_le, ◌==◌, if◌then◌else◌, Option, Some, None}
+use Rattle.std.specs.Prelude.{ℕ, zero, suc, ◌+◌, ◌-◌, Bool, true, false, ◌&&◌, List, [], ◌∷◌, length, take, drop, map, nat_le, ◌==◌, if◌then◌else◌, Option, Some, None}
 use Rattle.byteorder.specs.Endian.{little_number}
 use Rattle.binlog.specs.Cell.{CellValue, null_cell, number_cell, bytes_cell, cell_value}
 use Rattle.binlog.specs.declared.cell.Cell.{Cell}
@@ -38,3 +38,19 @@ cells_of (suc most) bytes = goes_on (cell_front bytes) (λ size. cells_of most (
 -- all of them
 abbrev pub cells_in : List ℕ → List CellValue
 cells_in bytes = cells_of (length bytes) bytes
+
+-- ---- Whether bytes are cells.
+
+abbrev pub holds_behind : Option (CellValue × ℕ) → (ℕ → Bool) → Bool
+holds_behind None others = false
+holds_behind (Some front) others = others front.1
+
+-- whether the bytes are the images of so many cells, and nothing stands behind them
+abbrev pub are_images : ℕ → List ℕ → Bool
+are_images zero [] = true
+are_images zero (_ ∷ _) = false
+are_images (suc count) bytes = holds_behind (cell_front bytes) (λ size. are_images count (drop size bytes))
+
+-- whether the bytes are the image of some cells
+abbrev pub is_image : List ℕ → Bool
+is_image bytes = nat_le 2 (length bytes) && are_images (little_number 2 bytes) (drop 2 bytes)

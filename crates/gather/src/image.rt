@@ -7,6 +7,8 @@ ghost use Rattle.gather.specs.ImageCells.{cell_values};
 
 use crate::fault::GatherFault;
 use crate::image_cells::ImageCells;
+use crate::image_reading::is_image;
+use crate::image_writing::{image_size, row_size, write_cells, write_row};
 use binlog::{Cell, Row};
 use std::alloc::Global;
 use std::marker::Model;
@@ -43,9 +45,12 @@ impl Image {
             (λ made. (made ≡ cell_values cells.now) × HasImage (cell_values cells.now))) }
         ensures err { OnErr result (result ≡ Err GatherFault.Memory) }
     {
-        let _ = alloc;
-        let _ = cells.len();
-        Err(GatherFault::Memory)
+        let Some(size) = image_size(cells) else {
+            return Ok(None);
+        };
+        let mut bytes = Vec::with_capacity(alloc, size)?;
+        write_cells(cells, &mut bytes)?;
+        Ok(Some(Image { bytes }))
     }
 
     /// The image that these bytes are, if they are one. The only refusal is `Memory`.
@@ -55,9 +60,11 @@ impl Image {
             (λ made. IsImage made bytes.now)) }
         ensures err { OnErr result (result ≡ Err GatherFault.Memory) }
     {
-        let _ = alloc;
-        let _ = bytes.len();
-        Err(GatherFault::Memory)
+        if !is_image(bytes) {
+            return Ok(None);
+        }
+        let bytes = Vec::from_slice(alloc, bytes)?;
+        Ok(Some(Image { bytes }))
     }
 
     /// The image of a row, whose cells are gone over twice: once to count its bytes, and once to write them. The only
@@ -67,9 +74,10 @@ impl Image {
         ensures ok { IfOk result (λ made. made ≡ row.now) }
         ensures err { OnErr result (result ≡ Err GatherFault.Memory) }
     {
-        let _ = alloc;
-        let _ = row.cells();
-        Err(GatherFault::Memory)
+        let (count, size) = row_size(row);
+        let mut bytes = Vec::with_capacity(alloc, size)?;
+        write_row(row, count, &mut bytes)?;
+        Ok(Image { bytes })
     }
 
     /// The cells in order. It takes no memory.

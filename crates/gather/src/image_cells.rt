@@ -1,12 +1,13 @@
 //! The cells of a stored image.
 
-ghost use Rattle.std.specs.Prelude.{◌≡◌, ◌≤◌, length, IfSome};
+ghost use Rattle.std.specs.Prelude.{◌≡◌, ◌+◌, ◌≤◌, length, IfSome};
 ghost use Rattle.std.specs.Option.{option_map};
 ghost use Rattle.std.specs.Iterator.{YieldsFirstBy, item_count};
 ghost use Rattle.binlog.specs.Cell.{cell_value};
-ghost use Rattle.gather.specs.ImageCells.{cell_front, front_value};
+ghost use Rattle.gather.specs.ImageCells.{cell_front, number_front, bytes_front, front_value};
 
 use binlog::Cell;
+use byteorder::{ByteOrder, LittleEndian};
 use std::marker::Model;
 
 /// The cells of a stored image, one after another, seen as the list of those that are left. They borrow from its bytes.
@@ -45,6 +46,48 @@ pub(crate) fn cell_front(bytes: &[u8]) -> Option<(Cell<'_>, usize)>
     ensures front { option_map front_value result ≡ cell_front bytes.now }
     ensures within { IfSome result (λ front. (1 ≤ front.1) × (front.1 ≤ length bytes.now)) }
 {
-    let _ = bytes.len();
-    None
+    match bytes {
+        [0, ..] => Some((Cell::Null, 1)),
+        [1, rest @ ..] => number_front(rest),
+        [2, rest @ ..] => bytes_front(rest),
+        _ => None,
+    }
+}
+
+/// The number whose image, behind the byte of its kind, begins the bytes, and how many bytes the image takes.
+fn number_front(bytes: &[u8]) -> Option<(Cell<'_>, usize)>
+    ensures front { option_map front_value result ≡ number_front bytes.now }
+    ensures within { IfSome result (λ front. (1 ≤ front.1) × (front.1 ≤ 1 + length bytes.now)) }
+{
+    let [width, rest @ ..] = bytes else {
+        return None;
+    };
+    let width = *width;
+    let size = width as usize;
+    if size < 1 {
+        return None;
+    }
+    if size > 8 {
+        return None;
+    }
+    if rest.len() < size {
+        return None;
+    }
+    let value = LittleEndian::read_uint(rest, size);
+    Some((Cell::Number { value, width }, 2 + size))
+}
+
+/// The bytes whose image, behind the byte of its kind, begins the bytes, and how many bytes the image takes.
+fn bytes_front(bytes: &[u8]) -> Option<(Cell<'_>, usize)>
+    ensures front { option_map front_value result ≡ bytes_front bytes.now }
+    ensures within { IfSome result (λ front. (1 ≤ front.1) × (front.1 ≤ 1 + length bytes.now)) }
+{
+    if bytes.len() < 4 {
+        return None;
+    }
+    let size = LittleEndian::read_u32(bytes) as usize;
+    if bytes.len() - 4 < size {
+        return None;
+    }
+    Some((Cell::Bytes(&bytes[4..4 + size]), 5 + size))
 }

@@ -14,6 +14,8 @@ mod fault;
 mod gatherer;
 mod image;
 mod image_cells;
+mod image_reading;
+mod image_writing;
 pub mod laws;
 mod place;
 mod row_changes;

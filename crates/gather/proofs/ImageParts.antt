@@ -1,0 +1,85 @@
+-- Images gone over cell by cell.
+use Rattle.std.proofs.Common.{◌≡◌, ℕ, zero, suc, ◌+◌, ◌-◌, ◌*◌, ◌<◌, ◌≤◌, ◌^◌, false, Some, None, List, [], ◌∷◌, ◌++◌, length, get_or, take, drop, map, refl, sym, ap, subst, ◌∙◌, append_assoc, add-one, arith}
+use Rattle.std.specs.Prelude.{flat_map}
+use Rattle.std.specs.List.{AllByRecursion}
+use Rattle.std.proofs.lemmas.List.{length-append, length-map, drop_all}
+use Rattle.byteorder.specs.Endian.{little_bytes}
+use Rattle.byteorder.specs.Numbers.{length-bytes_low_first}
+use Rattle.binlog.specs.Cell.{CellValue, null_cell, number_cell, bytes_cell, cell_value}
+use Rattle.binlog.specs.declared.cell.Cell.{Cell}
+use Rattle.gather.specs.Image.{cell_image, image, HasCellImage, HasImage}
+use Rattle.gather.specs.ImageCells.{cell_values, cell_front, are_images, holds_behind}
+use Rattle.gather.proofs.WholeImages.{image_length}
+
+abbrev pub AllHave : List CellValue → Type 0
+AllHave cells = AllByRecursion HasCellImage cells
+
+-- ---- Sizes.
+
+pub number_size : (n width : ℕ) → 2 + width ≡ length (cell_image (number_cell n width))
+number_size n width = omega (arith, length-bytes_low_first 0 width n)
+
+pub bytes_size : (value : List ℕ) → 5 + length value ≡ length (cell_image (bytes_cell value))
+bytes_size value = omega (arith, length-bytes_low_first 0 4 (length value), length-append (little_bytes 4 (length value)) value)
+
+cell_short : (cell : CellValue) → HasCellImage cell → length (cell_image cell) ≤ 2 ^ 33
+cell_short null_cell has = omega arith
+cell_short (number_cell n width) has = omega (arith, sym (number_size n width), has.1)
+cell_short (bytes_cell value) has = omega (arith, sym (bytes_size value), has)
+
+all_short : (cells : List CellValue) → AllHave cells → length (flat_map cell_image cells) ≤ length cells * 2 ^ 33
+all_short [] has = omega arith
+all_short (cell ∷ cells) has = omega (arith, length-append (cell_image cell) (flat_map cell_image cells), cell_short cell has.0, all_short cells has.1)
+
+-- an image's length is counted without overflow
+pub image_short : (cells : List CellValue) → HasImage cells → length (image cells) ≤ 2 ^ 50
+image_short cells has = let few = has.count in omega (arith, few, all_short cells has.each, image_length cells)
+
+-- ---- Cells of an iterator.
+
+pub first_has : (cells rest : List CellValue) (cell : CellValue) → AllHave cells → cells ≡ cell ∷ rest → HasCellImage cell × AllHave rest
+first_has cells rest cell has is = subst AllHave is has
+
+pub first_size : (cells rest : List CellValue) (cell : CellValue) → cells ≡ cell ∷ rest → length (flat_map cell_image cells) ≡ length (cell_image cell) + length (flat_map cell_image rest)
+first_size cells rest cell is = ap (λ l. length (flat_map cell_image l)) is ∙ length-append (cell_image cell) (flat_map cell_image rest)
+
+-- what is written, and then what is left, is all
+pub first_written : (old now new : List ℕ) (count : ℕ) (cells : List CellValue) → count ≡ length cells → now ≡ old ++ little_bytes 2 count → now ++ flat_map cell_image cells ≡ old ++ image cells
+first_written old now new count cells many is = ap (λ l. l ++ flat_map cell_image cells) is ∙ append_assoc old (little_bytes 2 count) (flat_map cell_image cells) ∙ ap (λ k. old ++ (little_bytes 2 k ++ flat_map cell_image cells)) many
+
+pub next_written : (all now new : List ℕ) (cells rest : List CellValue) (cell : CellValue) → now ++ flat_map cell_image cells ≡ all → cells ≡ cell ∷ rest → new ≡ now ++ cell_image cell → new ++ flat_map cell_image rest ≡ all
+next_written all now new cells rest cell before is written =
+    ap (λ l. l ++ flat_map cell_image rest) written
+    ∙ append_assoc now (cell_image cell) (flat_map cell_image rest)
+    ∙ ap (λ l. now ++ flat_map cell_image l) (sym is)
+    ∙ before
+
+-- ---- Cells of a slice.
+
+pub next_values : (i : ℕ) (cells : List Cell) (cell : Cell) → i < length cells → cell ≡ get_or cells i cell → drop i (cell_values cells) ≡ cell_value cell ∷ drop (i + 1) (cell_values cells)
+next_values i [] cell short is = absurd (omega (arith, short))
+next_values zero (x ∷ cells) cell short is = ap (λ c. cell_value c ∷ cell_values cells) (sym is)
+next_values (suc i) (x ∷ cells) cell short is = next_values i cells cell (omega (arith, short)) is
+
+pub no_values : (i : ℕ) (cells : List Cell) → length cells ≤ i → drop i (cell_values cells) ≡ []
+no_values i cells long = drop_all i (cell_values cells) (omega (arith, long, length-map cells cell_value))
+
+pub all_behind : (i : ℕ) (cells : List CellValue) → AllHave cells → AllHave (drop i cells)
+all_behind zero cells has = has
+all_behind (suc i) [] has = tt
+all_behind (suc i) (cell ∷ cells) has = all_behind i cells has.1
+
+-- ---- Images that are read one after another.
+
+pub none_left : (left : List ℕ) (count counter : ℕ) → counter < count → cell_front left ≡ None → are_images (count - counter) left ≡ false
+none_left left count counter more is =
+    let e : count - counter ≡ suc (count - (counter + 1)) = omega (arith, more) in
+    ap (λ k. are_images k left) e ∙ ap (λ found. holds_behind found (λ size. are_images (count - (counter + 1)) (drop size left))) is
+
+pub one_left : (left : List ℕ) (count counter size : ℕ) (cell : CellValue) → counter < count → cell_front left ≡ Some (cell, size) → are_images (count - counter) left ≡ are_images (count - (counter + 1)) (drop size left)
+one_left left count counter size cell more is =
+    let e : count - counter ≡ suc (count - (counter + 1)) = omega (arith, more) in
+    ap (λ k. are_images k left) e ∙ ap (λ found. holds_behind found (λ n. are_images (count - (counter + 1)) (drop n left))) is
+
+pub all_read : (left : List ℕ) (count counter : ℕ) → count ≤ counter → are_images (count - counter) left ≡ are_images 0 left
+all_read left count counter done = let e : count - counter ≡ 0 = omega (arith, done) in ap (λ k. are_images k left) e

@@ -1,0 +1,133 @@
+//! Images as bytes.
+
+ghost use Rattle.std.specs.Prelude.{◌≡◌, ◌+◌, ◌≤◌, ◌<◌, ◌^◌, ◌++◌, ◌↔◌, length, nat_lt, IsTrue, OnOk, OnErr, Err, MatchOption};
+ghost use Rattle.binlog.specs.Cell.{cell_value};
+ghost use Rattle.gather.specs.Image.{cell_image, image, HasCellImage, HasImage};
+ghost use Rattle.gather.specs.ImageCells.{cell_values};
+ghost use Rattle.gather.specs.declared.fault.GatherFault.TheVariants.{Memory};
+
+use crate::fault::GatherFault;
+use binlog::{Cell, Row};
+
+/// How many bytes the image of the cells takes, if they have one.
+pub(crate) fn image_size(cells: &[Cell<'_>]) -> Option<usize>
+    ensures { MatchOption result
+        (HasImage (cell_values cells.now) → ⊥)
+        (λ size. (size ≡ length (image (cell_values cells.now))) × HasImage (cell_values cells.now)) }
+{
+    if cells.len() > 65_535 {
+        return None;
+    }
+    let mut size = 2;
+    for i in 0..cells.len() {
+        if !has_image(cells[i]) {
+            return None;
+        }
+        size += cell_size(cells[i]);
+    }
+    Some(size)
+}
+
+/// How many cells a row has, and how many bytes their image takes.
+pub(crate) fn row_size(row: &Row<'_>) -> (u16, usize)
+    requires { HasImage row.now }
+    ensures count { result.0 ≡ length row.now }
+    ensures size { result.1 ≡ length (image row.now) }
+{
+    let mut count = 0;
+    let mut size = 2;
+    for cell in row.cells() {
+        count += 1;
+        size += cell_size(cell);
+    }
+    (count, size)
+}
+
+/// Appends the image of the cells, or a part of it.
+pub(crate) fn write_cells(cells: &[Cell<'_>], out: &mut Vec<u8>) -> Result<(), GatherFault>
+    requires { HasImage (cell_values cells.now) }
+    ensures ok { OnOk result (out.new.items ≡ out.old.items ++ image (cell_values cells.now)) }
+    ensures err { OnErr result (result ≡ Err Memory) }
+{
+    out.extend_from_slice(&(cells.len() as u16).to_le_bytes())?;
+    for i in 0..cells.len() {
+        write_cell(cells[i], out)?;
+    }
+    Ok(())
+}
+
+/// Appends the image of a row, which has so many cells, or a part of it.
+pub(crate) fn write_row(row: &Row<'_>, count: u16, out: &mut Vec<u8>) -> Result<(), GatherFault>
+    requires has { HasImage row.now }
+    requires count { count ≡ length row.now }
+    ensures ok { OnOk result (out.new.items ≡ out.old.items ++ image row.now) }
+    ensures err { OnErr result (result ≡ Err Memory) }
+{
+    out.extend_from_slice(&count.to_le_bytes())?;
+    for cell in row.cells() {
+        write_cell(cell, out)?;
+    }
+    Ok(())
+}
+
+/// Whether a cell has an image.
+fn has_image(cell: Cell<'_>) -> bool
+    ensures { IsTrue result ↔ HasCellImage (cell_value cell.entry) }
+{
+    match cell {
+        Cell::Null => true,
+        Cell::Number { value, width } => fits(value, width),
+        Cell::Bytes(bytes) => bytes.len() < 1 << 32,
+    }
+}
+
+/// Whether a number has an image of so many bytes.
+fn fits(value: u64, width: u8) -> bool
+    ensures { IsTrue result ↔ ((1 ≤ width) × (width ≤ 8) × (value < 256 ^ width)) }
+{
+    match width {
+        1 => value < 0x100,
+        2 => value < 0x1_0000,
+        3 => value < 0x100_0000,
+        4 => value < 0x1_0000_0000,
+        5 => value < 0x100_0000_0000,
+        6 => value < 0x1_0000_0000_0000,
+        7 => value < 0x100_0000_0000_0000,
+        8 => true,
+        _ => false,
+    }
+}
+
+/// How many bytes the image of a cell takes.
+fn cell_size(cell: Cell<'_>) -> usize
+    requires { HasCellImage (cell_value cell) }
+    ensures size { result ≡ length (cell_image (cell_value cell.entry)) }
+    ensures bound { result ≤ 2 ^ 33 }
+{
+    match cell {
+        Cell::Null => 1,
+        Cell::Number { width, .. } => 2 + width as usize,
+        Cell::Bytes(bytes) => 5 + bytes.len(),
+    }
+}
+
+/// Appends the image of a cell, or a part of it.
+fn write_cell(cell: Cell<'_>, out: &mut Vec<u8>) -> Result<(), GatherFault>
+    requires { HasCellImage (cell_value cell) }
+    ensures ok { OnOk result (out.new.items ≡ out.old.items ++ cell_image (cell_value cell.entry)) }
+    ensures err { OnErr result (result ≡ Err Memory) }
+{
+    match cell {
+        Cell::Null => out.push(0)?,
+        Cell::Number { value, width } => {
+            out.extend_from_slice(&[1, width])?;
+            out.extend_from_slice(&value.to_le_bytes()[..width as usize])?;
+        }
+        Cell::Bytes(bytes) => {
+            out.push(2)?;
+            out.extend_from_slice(&(bytes.len() as u32).to_le_bytes())?;
+            out.extend_from_slice(bytes)?;
+        }
+    }
+    Ok(())
+}
