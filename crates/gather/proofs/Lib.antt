@@ -4,3 +4,6 @@ pub mod WholeImages
 pub mod ImageParts
 pub mod Maps
 pub mod RowItems
+pub mod Places
+pub mod Growing
+pub mod Stepping

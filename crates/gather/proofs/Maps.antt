@@ -1,5 +1,5 @@
 -- Table maps and changes of a block that grows by one event.
-use Rattle.std.proofs.Common.{◌≡◌, ℕ, Bool, true, false, ◌==◌, List, [], ◌∷◌, ◌++◌, append-nil, append_assoc, Option, Some, None, refl, ap, sym, ◌∙◌, subst, ⊎_elim, inl, inr}
+use Rattle.std.proofs.Common.{◌≡◌, ℕ, Bool, true, false, ◌==◌, List, [], ◌∷◌, ◌++◌, append-nil, append_assoc, map, Option, Some, None, Result, Ok, Err, OnOk, IfErr, refl, ap, sym, ◌∙◌, subst, ⊎_elim, inl, inr}
 use Rattle.std.specs.Option.{option_or, option_map}
 use Rattle.std.specs.Ordering.{nat_cmp, is_eq}
 use Rattle.std.specs.Cmp.{nat_cmp_is}
@@ -11,12 +11,15 @@ use Rattle.std.specs.List.{list_any}
 use Rattle.std.proofs.lemmas.Bool.{cases_eq, cases_order, ne_eqb, eq-eqb}
 use Rattle.binlog.specs.Table.{TableValue}
 use Rattle.binlog.specs.Row.{kinds}
+use Rattle.binlog.specs.Rows.{RowsValue}
 use Rattle.binlog.specs.Event.{EventValue, format, begin, commit, neutral, stop, rotate, gtid, table_map, other_map, rows, xid}
 use Rattle.binlog.specs.declared.table.TableDef.{TableDef}
-use Rattle.gather.specs.Transaction.{ChangeValue, said_of, map_of, is_end, AreChangesOf, AreChanges}
-use Rattle.gather.specs.Begun.{table_of, said}
+use Rattle.gather.specs.Transaction.{ChangeValue, said_of, map_of, change_of, is_end, AreChangesOf, AreChanges}
+use Rattle.gather.specs.View.{change_values}
+use Rattle.gather.specs.Begun.{table_of, said, Adds, Keeps}
+use Rattle.gather.specs.declared.begun.Begun.{Begun}
 
-or_none : (x : Option (Option TableValue)) → option_or x None ≡ x
+pub or_none : (x : Option (Option TableValue)) → option_or x None ≡ x
 or_none None = refl
 or_none (Some y) = refl
 
@@ -52,12 +55,12 @@ pub maps_more : (m n : BTreeMap ℕ (Option (Rc TableDef Global))) (id : ℕ) (k
 maps_more m n id kept e body updates says before q =
     ⊎_elim
     (λ same.
-        let here : get nat_cmp n q ≡ Some kept = subst (λ k. get nat_cmp n k ≡ Some kept) same updates.1 in
-        let told : said_of q e ≡ Some (said q kept) = subst (λ k. said_of k e ≡ Some (said k kept)) same says.here in
-        ap (option_map (said q)) here ∙ sym (map_of_more body e q ∙ ap (λ s. option_or s (map_of body q)) told))
+    let here : get nat_cmp n q ≡ Some kept = subst (λ k. get nat_cmp n k ≡ Some kept) same updates.1 in
+    let told : said_of q e ≡ Some (said q kept) = subst (λ k. said_of k e ≡ Some (said k kept)) same says.here in
+    ap (option_map (said q)) here ∙ sym (map_of_more body e q ∙ ap (λ s. option_or s (map_of body q)) told))
     (λ ne.
-        let there : get nat_cmp n q ≡ get nat_cmp m q = updates.2 q (other_key id q ne) in
-        ap (option_map (said q)) there ∙ before q ∙ sym (map_of_more body e q ∙ ap (λ s. option_or s (map_of body q)) (says.elsewhere q ne)))
+    let there : get nat_cmp n q ≡ get nat_cmp m q = updates.2 q (other_key id q ne) in
+    ap (option_map (said q)) there ∙ before q ∙ sym (map_of_more body e q ∙ ap (λ s. option_or s (map_of body q)) (says.elsewhere q ne)))
     (cases_eq id q)
 
 -- ---- Changes.
@@ -99,3 +102,35 @@ no_end before (x ∷ body) changes (first, others, is, all, rest) =
 
 pub copied : (t : TableValue) (kept : Rc TableDef Global) (d : TableDef) → kept.value ≡ d → (d.schema.items ≡ t.schema) × (d.table.items ≡ t.table) × (kinds d.types.items ≡ t.columns) → t ≡ table_of t.id kept
 copied t kept d is parts = rw (is, parts.0, parts.1, parts.2) refl
+
+-- what is kept of a rows event's number is what the last table map of it says
+pub told : (body : List EventValue) (begun : Begun) (id : ℕ) (kept : Option (Rc TableDef Global)) → Keeps body begun → get nat_cmp begun.maps id ≡ Some kept → map_of body id ≡ Some (said id kept)
+told body begun id kept keeps is = sym (keeps.maps id) ∙ ap (option_map (said id)) is
+
+rows_say_nothing : (maps : BTreeMap ℕ (Option (Rc TableDef Global))) (body : List EventValue) (r : RowsValue) → ((q : ℕ) → option_map (said q) (get nat_cmp maps q) ≡ map_of body q) →
+    (q : ℕ) → option_map (said q) (get nat_cmp maps q) ≡ map_of (body ++ rows r ∷ []) q
+rows_say_nothing maps body r before q = before q ∙ sym (map_of_more body (rows r) q)
+
+pub keeps_other : (body : List EventValue) (begun : Begun) (r : RowsValue) → Keeps body begun → get nat_cmp begun.maps r.id ≡ Some None → Keeps (body ++ rows r ∷ []) begun
+keeps_other body begun r keeps is = record {
+  maps = rows_say_nothing begun.maps body r keeps.maps;
+  changes = no_changes [] body (rows r) (change_values begun.changes.items) keeps.changes (None, told body begun r.id None keeps is, refl);
+}
+
+pub adds_rows : (body : List EventValue) (begun : Begun) (r : RowsValue) (kept : Rc TableDef Global) (new : List ChangeValue) → Keeps body begun → get nat_cmp begun.maps r.id ≡ Some (Some kept) →
+    Adds (table_of r.id kept) r (change_values begun.changes.items) new → AreChanges [] (body ++ rows r ∷ []) new
+adds_rows body begun r kept new keeps is adds =
+    let own = map (change_of (table_of r.id kept)) adds.pairs in
+    let of : AreChangesOf body (rows r) own = (Some (table_of r.id kept), told body begun r.id (Some kept) keeps is, (adds.pairs, adds.read, refl)) in
+    subst (AreChanges [] (body ++ rows r ∷ [])) (sym adds.after_is) (changes_more [] body (rows r) (change_values begun.changes.items) own keeps.changes of)
+
+pub maps_stay : (body : List EventValue) (begun : Begun) (r : RowsValue) → Keeps body begun → (q : ℕ) → option_map (said q) (get nat_cmp begun.maps q) ≡ map_of (body ++ rows r ∷ []) q
+maps_stay body begun r keeps = rows_say_nothing begun.maps body r keeps.maps
+
+pub on_ok : {T E P Q : Type 0} (r : Result T E) → (P → Q) → OnOk r P → OnOk r Q
+on_ok (Ok x) f p = f p
+on_ok (Err e) f p = p
+
+pub on_err : {T E : Type 0} {P Q : E → Type 0} (r : Result T E) → ((e : E) → P e → Q e) → IfErr r P → IfErr r Q
+on_err (Ok x) f p = p
+on_err (Err e) f p = f e p

@@ -4,6 +4,10 @@ use Rattle.std.specs.List.{AllByRecursion}
 use Rattle.std.specs.declared.alloc.Global.{Global}
 use Rattle.std.specs.declared.rc.Rc.{Rc}
 use Rattle.std.proofs.lemmas.Bool.{cases_eq}
+use Rattle.std.proofs.lemmas.Option.{none-some}
+use Rattle.std.proofs.lemmas.List.{length-append}
+use Rattle.gtid.proofs.Read.{length_map}
+use Rattle.std.specs.Option.{unwrap_or}
 use Rattle.binlog.specs.Column.{is_lawful}
 use Rattle.binlog.specs.Row.{kinds, IsRow}
 use Rattle.binlog.specs.Rows.{RowsValue, PairValue, inserted, deleted, updated, IsPair, AreRows, AreItems}
@@ -26,12 +30,12 @@ Item = Result PairValue EventFault
 
 -- ---- The pairs in front of the first fault, and that fault.
 
-oks : List Item → List PairValue
+abbrev oks : List Item → List PairValue
 oks [] = []
 oks (Ok pair ∷ items) = pair ∷ oks items
 oks (Err fault ∷ items) = []
 
-first_fault : List Item → Option EventFault
+abbrev first_fault : List Item → Option EventFault
 first_fault [] = None
 first_fault (Ok pair ∷ items) = first_fault items
 first_fault (Err fault ∷ items) = Some fault
@@ -76,27 +80,28 @@ map_more f (x ∷ pairs) pair = ap (λ l. f x ∷ l) (map_more f pairs pair)
 pub walk_more : (kept : Rc TableDef Global) (r : RowsValue) (pair : PairValue) (left : List Item) (before after : List ChangeValue) (new : ChangeValue) →
     Walked kept r (Ok pair ∷ left) before after → ((id : ℕ) → new ≡ change_of (table_of id kept) pair) → Walked kept r left before (after ++ new ∷ [])
 walk_more kept r pair left before after new w is = record {
-    columns = w.columns;
-    pairs = w.pairs ++ pair ∷ [];
-    items = subst (AreItems r (kinds kept.value.types.items)) (map_ok_more w.pairs pair left) w.items;
-    after_is = λ id.
-        let f = change_of (table_of id kept) in
-        let old : after ++ new ∷ [] ≡ (before ++ map f w.pairs) ++ new ∷ [] = ap (λ x. x ++ new ∷ []) (w.after_is id) in
-        let last : (before ++ map f w.pairs) ++ new ∷ [] ≡ (before ++ map f w.pairs) ++ f pair ∷ [] = ap (λ x. (before ++ map f w.pairs) ++ x ∷ []) (is id) in
-        old ∙ last ∙ append_assoc before (map f w.pairs) (f pair ∷ []) ∙ ap (λ x. before ++ x) (sym (map_more f w.pairs pair)) }
+  columns = w.columns;
+  pairs = w.pairs ++ pair ∷ [];
+  items = subst (AreItems r (kinds kept.value.types.items)) (map_ok_more w.pairs pair left) w.items;
+  after_is = λ id.
+      let f = change_of (table_of id kept) in
+      let old : after ++ new ∷ [] ≡ (before ++ map f w.pairs) ++ new ∷ [] = ap (λ x. x ++ new ∷ []) (w.after_is id) in
+      let last : (before ++ map f w.pairs) ++ new ∷ [] ≡ (before ++ map f w.pairs) ++ f pair ∷ [] = ap (λ x. (before ++ map f w.pairs) ++ x ∷ []) (is id) in
+      old ∙ last ∙ append_assoc before (map f w.pairs) (f pair ∷ []) ∙ ap (λ x. before ++ x) (sym (map_more f w.pairs pair));
+}
 
 kinds_length : (kept : Rc TableDef Global) → length (kinds kept.value.types.items) ≡ length kept.value.types.items
-kinds_length kept = length-map (λ t. t.kind) kept.value.types.items
+kinds_length kept = length_map (λ t. t.kind) kept.value.types.items
 
 pub walk_ends : (kept : Rc TableDef Global) (r : RowsValue) (before after : List ChangeValue) → Walked kept r [] before after → (id : ℕ) → Adds (table_of id kept) r before after
 walk_ends kept r before after w id =
     ⊎_elim
     (λ whole.
-        let same : w.pairs ≡ whole.0 = sym (append-nil w.pairs) ∙ sym (oks_front w.pairs []) ∙ ap oks whole.2 ∙ oks_all whole.0 in
-        record { pairs = whole.0; read = record { columns = kinds_length kept ∙ w.columns; rows_are = whole.1 }; after_is = w.after_is id ∙ ap (λ ps. before ++ map (change_of (table_of id kept)) ps) same })
+    let same : w.pairs ≡ whole.0 = sym (append-nil w.pairs) ∙ sym (oks_front w.pairs []) ∙ ap oks whole.2 ∙ oks_all whole.0 in
+    record { pairs = whole.0; read = record { columns = kinds_length kept ∙ w.columns; rows_are = whole.1 }; after_is = w.after_is id ∙ ap (λ ps. before ++ map (change_of (table_of id kept)) ps) same })
     (λ early.
-        let none : None ≡ first_fault (map Ok early.0 ++ Err (record { kind = Truncated; at = r.bytes_at + early.1 }) ∷ []) = sym (fault_front w.pairs []) ∙ ap first_fault early.3 in
-        absurd (none-some _ (none ∙ fault_front early.0 (Err (record { kind = Truncated; at = r.bytes_at + early.1 }) ∷ []))))
+    let none : None ≡ first_fault (map Ok early.0 ++ Err (record { kind = Truncated; at = r.bytes_at + early.1 }) ∷ []) = sym (fault_front w.pairs []) ∙ ap first_fault early.3 in
+    absurd (none-some _ (none ∙ fault_front early.0 (Err (record { kind = Truncated; at = r.bytes_at + early.1 }) ∷ []))))
     w.items
 
 pub walk_faults : (kept : Rc TableDef Global) (r : RowsValue) (fault : EventFault) (left : List Item) (before after : List ChangeValue) → Walked kept r (Err fault ∷ left) before after →
@@ -104,19 +109,19 @@ pub walk_faults : (kept : Rc TableDef Global) (r : RowsValue) (fault : EventFaul
 walk_faults kept r fault left before after w id =
     ⊎_elim
     (λ whole.
-        let some : Some fault ≡ None = sym (fault_front w.pairs (Err fault ∷ left)) ∙ ap first_fault whole.2 ∙ fault_all whole.0 in
-        absurd (none-some _ (sym some)))
+    let some : Some fault ≡ None = sym (fault_front w.pairs (Err fault ∷ left)) ∙ ap first_fault whole.2 ∙ fault_all whole.0 in
+    absurd (none-some _ (sym some)))
     (λ early.
-        let some : Some fault ≡ Some (record { kind = Truncated; at = r.bytes_at + early.1 }) =
-            sym (fault_front w.pairs (Err fault ∷ left)) ∙ ap first_fault early.3 ∙ fault_front early.0 (Err (record { kind = Truncated; at = r.bytes_at + early.1 }) ∷ []) in
-        inr (kinds_length kept ∙ w.columns, early.0, early.1, early.2, ap Event (some-injective some)))
+    let some : Some fault ≡ Some (record { kind = Truncated; at = r.bytes_at + early.1 }) =
+    sym (fault_front w.pairs (Err fault ∷ left)) ∙ ap first_fault early.3 ∙ fault_front early.0 (Err (record { kind = Truncated; at = r.bytes_at + early.1 }) ∷ []) in
+    inr (kinds_length kept ∙ w.columns, early.0, early.1, early.2, ap (λ o. Event (unwrap_or o fault)) some))
     w.items
 
 -- ---- The rows of pairs have images.
 
 abbrev ItemHasImages : Item → Type 0
 ItemHasImages (Ok pair) = HasImages pair
-ItemHasImages (Err fault) = ⊤
+ItemHasImages (Err fault) = Unit {0}
 
 pair_images : (kind : RowsKind) (types : List ColumnKind) (pair : PairValue) (bytes : List ℕ) → AllByRecursion (λ k. IsTrue (is_lawful k)) types → length types ≤ 4096 → length bytes < 2 ^ 32 →
     IsPair kind types pair bytes → HasImages pair
@@ -151,12 +156,21 @@ walk_images kept r pair left before after w few short =
     let small : length types ≤ 4096 = omega (arith, kinds_length kept, w.columns, few) in
     let items = map Ok w.pairs ++ Ok pair ∷ left in
     let all : AllByRecursion ItemHasImages items =
-        ⊎_elim
-        (λ whole. subst (AllByRecursion ItemHasImages) (append-nil (map Ok whole.0) ∙ sym whole.2) (rows_images r.kind types whole.0 [] r.bytes lawful small short whole.1 tt))
-        (λ early.
-            let rows = early.2 in
-            let sum : length r.bytes ≡ length rows.whole + length rows.rest = ap length rows.bytes_are ∙ length-append rows.whole rows.rest in
-            subst (AllByRecursion ItemHasImages) (sym early.3)
-            (rows_images r.kind types early.0 (Err (record { kind = Truncated; at = r.bytes_at + early.1 }) ∷ []) rows.whole lawful small (omega (arith, sum, short)) rows.pairs_are (tt, tt)))
-        w.items in
+    ⊎_elim
+    (λ whole. subst (AllByRecursion ItemHasImages) (append-nil (map Ok whole.0) ∙ sym whole.2) (rows_images r.kind types whole.0 [] r.bytes lawful small short whole.1 tt))
+    (λ early.
+    let rows = early.2 in
+    let sum : length r.bytes ≡ length rows.whole + length rows.rest = ap length rows.bytes_are ∙ length-append rows.whole rows.rest in
+    subst (AllByRecursion ItemHasImages) (sym early.3)
+    (rows_images r.kind types early.0 (Err (record { kind = Truncated; at = r.bytes_at + early.1 }) ∷ []) rows.whole lawful small (omega (arith, sum, short)) rows.pairs_are (tt, tt)))
+    w.items in
     at_front w.pairs pair left all
+
+-- ---- The number of columns.
+
+pub other_columns : (kept : Rc TableDef Global) (r : RowsValue) (fault : EventFault) → fault ≡ record { kind = Columns; at = r.columns_at } → (length kept.value.types.items ≡ r.columns → ⊥) →
+    (id : ℕ) → IsRowsFault (Some (Some (table_of id kept))) r (Event fault)
+other_columns kept r fault is ne id = inl ((λ same. ne (sym (kinds_length kept) ∙ same)), ap Event is)
+
+pub ok_not_err : {T E : Type 0} (x : T) (y : E) → Ok x ≡ Err y → ⊥
+ok_not_err x y is = cc

@@ -2,7 +2,7 @@
 use Rattle.std.specs.Prelude.{◌≡◌, ◌⊎◌, ℕ, true, false, List, [], ◌∷◌, ◌++◌}
 use Rattle.binlog.specs.Rows.{RowsValue}
 use Rattle.binlog.specs.Event.{EventValue, begin, gtid, rows}
-use Rattle.gather.specs.Transaction.{DeliveryValue, map_of, is_end, IsAnnounced, IsOpen, IsWhole}
+use Rattle.gather.specs.Transaction.{DeliveryValue, map_of, IsAnnounced, IsOpen, IsBlock}
 use Rattle.gather.specs.Fault.{is_announced, is_open, is_in_place, type_of, IsRowsFault}
 use Rattle.gather.specs.Begun.{Keeps}
 use Rattle.gather.specs.declared.fault.GatherFault.{GatherFault}
@@ -16,23 +16,14 @@ IsAt block Between = (is_announced block ≡ false) × (is_open block ≡ false)
 IsAt block (Announced id) = block ≡ gtid id.source id.number ∷ []
 IsAt block (Inside begun) = (body : List EventValue) × (block ≡ gtid begun.gtid.source begun.gtid.number ∷ begin ∷ body) × Keeps body begun
 
--- The event goes on with a block that has begun, and brings the gatherer to a new place.
-pub record Extends (block : List EventValue) (e : EventValue) (after : Place) : Type 0 where
+-- The event goes on with a block that has begun, ends these transactions, one or none, and brings the gatherer to a new place.
+pub record Extends (block : List EventValue) (e : EventValue) (ds : List DeliveryValue) (after : Place) : Type 0 where
   pub begun : IsAnnounced block ⊎ IsOpen block
-  pub open_still : IsOpen (block ++ e ∷ [])
+  pub is_block : IsBlock (block ++ e ∷ []) ds
   pub at : IsAt (block ++ e ∷ []) after
 
-abbrev pub GoesOn : EventValue → Place → Place → Type 0
-GoesOn e before after = (block : List EventValue) → IsAt block before → Extends block e after
-
--- The event ends the transaction.
-pub record Ends (block : List EventValue) (e : EventValue) (d : DeliveryValue) (after : Place) : Type 0 where
-  pub begun : IsOpen block
-  pub whole : IsWhole (block ++ e ∷ []) d
-  pub at : IsAt (block ++ e ∷ []) after
-
-abbrev pub EndsWith : Place → Place → DeliveryValue → Type 0
-EndsWith before after d = (block : List EventValue) (e : EventValue) → IsAt block before → is_end e ≡ true → Ends block e d after
+abbrev pub GoesOn : EventValue → Place → Place → List DeliveryValue → Type 0
+GoesOn e before after ds = (block : List EventValue) → IsAt block before → Extends block e ds after
 
 -- The event is misplaced, or a rows event that cannot be read.
 abbrev pub BreaksOff : List EventValue → EventValue → GatherFault → Type 0
@@ -42,7 +33,3 @@ BreaksOff block e fault =
 
 abbrev pub FaultsAt : EventValue → Place → GatherFault → Type 0
 FaultsAt e before fault = (block : List EventValue) → IsAt block before → (fault ≡ Memory) ⊎ BreaksOff block e fault
-
--- An end of this type is misplaced.
-abbrev pub IsOutside : ℕ → Place → GatherFault → Type 0
-IsOutside code before fault = (block : List EventValue) → IsAt block before → (is_open block ≡ false) × (fault ≡ Misplaced code)

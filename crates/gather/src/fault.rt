@@ -22,13 +22,21 @@ pub enum GatherFault {
     UnknownTable(u64),
     /// The rows of a rows event cannot be read: `Columns` or `Truncated`.
     #[error("{0}")]
-    Event(#[from] EventFault),
+    Event(EventFault),
     /// An allocation was refused.
     #[error("out of memory")]
     Memory,
     /// A fault was answered before.
     #[error("the events have ended with a fault")]
     Ended,
+}
+
+impl From<EventFault> for GatherFault {
+    ghost from_gives = { λ cause fault. fault ≡ Event cause };
+
+    fn from(cause: EventFault) -> GatherFault {
+        GatherFault::Event(cause)
+    }
 }
 
 impl From<AllocError> for GatherFault {

@@ -18,7 +18,7 @@ pub struct Gatherer {
 }
 
 impl Gatherer {
-    ghost use Rattle.std.specs.Prelude.{◌≡◌, ◌≢◌, ◌⊎◌, ◌↔◌, List, [], ◌∷◌, ◌++◌, IfOk, IfErr, OnErr, Err};
+    ghost use Rattle.std.specs.Prelude.{◌≡◌, ◌⊎◌, List, [], ◌∷◌, ◌++◌, IfOk, IfErr, OnErr, Err};
     ghost use Rattle.binlog.specs.Event.{EventValue};
     ghost use Rattle.binlog.specs.EventView.{event_value};
     ghost use Rattle.gather.specs.Transaction.{DeliveryValue};
@@ -47,7 +47,7 @@ impl Gatherer {
             IfOk result (λ delivery. Stands (events ++ event_value event.now ∷ []) (ds ++ delivered delivery) self.new) }
         ensures fault { (events : List EventValue) (ds : List DeliveryValue) → Stands events ds self.old →
             IfErr result (λ fault. (fault ≡ GatherFault.Memory) ⊎ IsFault events (event_value event.now) fault) }
-        ensures ended { (result ≡ Err GatherFault.Ended) ↔ HasEnded self.old }
+        ensures ended { HasEnded self.old → result ≡ Err GatherFault.Ended }
         ensures err { OnErr result (HasEnded self.new) }
     {
         if self.ended {
@@ -66,8 +66,10 @@ impl Gatherer {
         ensures fault { (events : List EventValue) (ds : List DeliveryValue) → Brings events ds self.old.formatted self.old.place →
             IfErr result (λ fault. (fault ≡ GatherFault.Memory) ⊎ IsFault events (event_value event.now) fault) }
         ensures ended { self.new.ended ≡ self.old.ended }
-        ensures other { IfErr result (λ fault. fault ≢ GatherFault.Ended) }
     {
+        if lacks_format(self.formatted, event) {
+            return Err(GatherFault::NoFormat);
+        }
         match event {
             Event::Neutral => Ok(None),
             Event::Format => {
@@ -79,29 +81,30 @@ impl Gatherer {
                 self.place = Place::Between;
                 Ok(None)
             }
-            _ if !self.formatted => Err(GatherFault::NoFormat),
             Event::Gtid(gtid) => {
                 self.place = Place::Announced(*gtid);
                 Ok(None)
             }
-            Event::Begin => {
-                take_begin(&mut self.place, self.alloc)?;
-                Ok(None)
-            }
-            Event::TableMap(map) => {
-                take_map(&mut self.place, self.alloc, map)?;
-                Ok(None)
-            }
-            Event::OtherMap { id } => {
-                take_other(&mut self.place, *id)?;
-                Ok(None)
-            }
-            Event::Rows(rows) => {
-                take_rows(&mut self.place, self.alloc, rows)?;
-                Ok(None)
-            }
-            Event::Commit => Ok(Some(take_end(&mut self.place, 2)?)),
-            Event::Xid { .. } => Ok(Some(take_end(&mut self.place, 16)?)),
+            Event::Begin => take_begin(&mut self.place, self.alloc),
+            Event::TableMap(map) => take_map(&mut self.place, self.alloc, map),
+            Event::OtherMap { id } => take_other(&mut self.place, *id),
+            Event::Rows(rows) => take_rows(&mut self.place, self.alloc, rows),
+            Event::Commit => take_end(&mut self.place, 2),
+            Event::Xid { .. } => take_end(&mut self.place, 16),
         }
+    }
+}
+
+ghost use Rattle.std.specs.Prelude.{◌≡◌, ◌&&◌, not};
+ghost use Rattle.binlog.specs.EventView.{event_value};
+ghost use Rattle.gather.specs.Fault.{is_of_transaction};
+
+/// Whether the event is of a transaction, and no format description has come.
+fn lacks_format(formatted: bool, event: &Event<'_>) -> bool
+    ensures { result ≡ (not formatted && is_of_transaction (event_value event.now)) }
+{
+    match event {
+        Event::Neutral | Event::Format | Event::Rotate { .. } | Event::Stop => false,
+        _ => !formatted,
     }
 }

@@ -1,11 +1,13 @@
 //! Where in a transaction a gatherer is.
 
-ghost use Rattle.std.specs.Prelude.{◌≡◌, ◌⊎◌, true, false, List, [], ◌∷◌, ◌++◌, IfOk, IfErr, OnOk};
-ghost use Rattle.binlog.specs.Event.{EventValue, begin, commit, table_map, other_map, rows, xid};
+ghost use Rattle.std.specs.Prelude.{◌≡◌, true, IfOk, IfErr};
+ghost use Rattle.binlog.specs.Event.{EventValue, begin, table_map, other_map, rows};
 ghost use Rattle.binlog.specs.RowsView.{rows_value};
 ghost use Rattle.binlog.specs.TableView.{table_value};
-ghost use Rattle.gather.specs.View.{delivery_value};
-ghost use Rattle.gather.specs.Place.{GoesOn, EndsWith, FaultsAt, IsOutside};
+ghost use Rattle.gather.specs.Transaction.{is_end};
+ghost use Rattle.gather.specs.Fault.{type_of};
+ghost use Rattle.gather.specs.View.{delivered};
+ghost use Rattle.gather.specs.Place.{GoesOn, FaultsAt};
 
 use crate::begun::Begun;
 use crate::change::Delivery;
@@ -27,14 +29,14 @@ pub(crate) enum Place {
 }
 
 /// BEGIN stands next after the GTID.
-pub(crate) fn take_begin(place: &mut Place, alloc: Global) -> Result<(), GatherFault>
-    ensures taken { OnOk result (GoesOn begin place.old place.new) }
+pub(crate) fn take_begin(place: &mut Place, alloc: Global) -> Result<Option<Delivery>, GatherFault>
+    ensures taken { IfOk result (λ delivery. GoesOn begin place.old place.new (delivered delivery)) }
     ensures fault { IfErr result (FaultsAt begin place.old) }
 {
     match place {
         Place::Announced(gtid) => {
             *place = Place::Inside(Begun::new(alloc, *gtid));
-            Ok(())
+            Ok(None)
         }
         _ => Err(GatherFault::Misplaced(2)),
     }
@@ -45,23 +47,29 @@ pub(crate) fn take_map(
     place: &mut Place,
     alloc: Global,
     map: &TableMap<'_>,
-) -> Result<(), GatherFault>
-    ensures taken { OnOk result (GoesOn (table_map (table_value map.now)) place.old place.new) }
+) -> Result<Option<Delivery>, GatherFault>
+    ensures taken { IfOk result (λ delivery. GoesOn (table_map (table_value map.now)) place.old place.new (delivered delivery)) }
     ensures fault { IfErr result (FaultsAt (table_map (table_value map.now)) place.old) }
 {
     match place {
-        Place::Inside(begun) => begun.take_map(alloc, map),
+        Place::Inside(begun) => {
+            begun.take_map(alloc, map)?;
+            Ok(None)
+        }
         _ => Err(GatherFault::Misplaced(19)),
     }
 }
 
 /// So does one of a table that is not followed.
-pub(crate) fn take_other(place: &mut Place, id: u64) -> Result<(), GatherFault>
-    ensures taken { OnOk result (GoesOn (other_map id) place.old place.new) }
+pub(crate) fn take_other(place: &mut Place, id: u64) -> Result<Option<Delivery>, GatherFault>
+    ensures taken { IfOk result (λ delivery. GoesOn (other_map id) place.old place.new (delivered delivery)) }
     ensures fault { IfErr result (FaultsAt (other_map id) place.old) }
 {
     match place {
-        Place::Inside(begun) => begun.take_other(id),
+        Place::Inside(begun) => {
+            begun.take_other(id)?;
+            Ok(None)
+        }
         _ => Err(GatherFault::Misplaced(19)),
     }
 }
@@ -71,12 +79,15 @@ pub(crate) fn take_rows(
     place: &mut Place,
     alloc: Global,
     event: &RowsEvent<'_>,
-) -> Result<(), GatherFault>
-    ensures taken { OnOk result (GoesOn (rows (rows_value event.now)) place.old place.new) }
+) -> Result<Option<Delivery>, GatherFault>
+    ensures taken { IfOk result (λ delivery. GoesOn (rows (rows_value event.now)) place.old place.new (delivered delivery)) }
     ensures fault { IfErr result (FaultsAt (rows (rows_value event.now)) place.old) }
 {
     match place {
-        Place::Inside(begun) => begun.take_rows(alloc, event),
+        Place::Inside(begun) => {
+            begun.take_rows(alloc, event)?;
+            Ok(None)
+        }
         _ => Err(GatherFault::Misplaced(match event.kind {
             RowsKind::Write => 30,
             RowsKind::Update => 31,
@@ -86,14 +97,14 @@ pub(crate) fn take_rows(
 }
 
 /// An event of this type that ends a transaction stands behind BEGIN.
-pub(crate) fn take_end(place: &mut Place, code: u8) -> Result<Delivery, GatherFault>
-    ensures taken { IfOk result (λ delivery. EndsWith place.old place.new (delivery_value delivery)) }
-    ensures fault { IfErr result (λ fault. IsOutside code place.old fault) }
+pub(crate) fn take_end(place: &mut Place, code: u8) -> Result<Option<Delivery>, GatherFault>
+    ensures taken { (e : EventValue) → is_end e ≡ true → IfOk result (λ delivery. GoesOn e place.old place.new (delivered delivery)) }
+    ensures fault { (e : EventValue) → is_end e ≡ true → type_of e ≡ code → IfErr result (FaultsAt e place.old) }
 {
     match mem::replace(place, Place::Between) {
         Place::Inside(begun) => {
             let Begun { gtid, changes, .. } = begun;
-            Ok(Delivery { gtid, changes })
+            Ok(Some(Delivery { gtid, changes }))
         }
         _ => Err(GatherFault::Misplaced(code)),
     }

@@ -1,31 +1,44 @@
-use Rattle.std.proofs.Common.{rules, ◌≡◌, ℕ, ◌⊎◌, IfOk, IfErr, OnOk, OnErr, Err, Some, ◌+◌, ◌-◌, ◌*◌, ◌<◌, ◌≤◌, length, ◌/◌, ◌%◌, Bool, true, false, nat_eq, nat_lt, List, [], ◌∷◌, ◌++◌, slice_index_or, slice_set, bit_and, bit_or, Fits, w8, w32, w64, Bor, MutBor}
+use Rattle.std.proofs.Common.{◌≡◌, length, subst, sym, ap, Err, ⊎_elim, inl, inr, arith, ◌∙◌, ◌++◌, ◌∷◌, []}
+use Rattle.std.proofs.lemmas.Bool.{cases_eq}
+use Rattle.std.proofs.lemmas.List.{map-append}
+use Rattle.std.proofs.lemmas.Result.{err_from_is_err_and}
 use Rattle.binlog.specs.RowsView.{rows_value, pair_value}
-use Rattle.gather.specs.Transaction.{change_of}
-use Rattle.gather.specs.Fault.{IsRowsFault}
 use Rattle.gather.specs.View.{change_value, change_values}
-use Rattle.gather.specs.Begun.{table_of, HasImages, Adds}
+use Rattle.gather.proofs.RowItems.{Walked, walk_begins, walk_more, walk_ends, walk_faults, walk_images, other_columns, ok_not_err}
 use Rattle.gather.proofs.row_changes.push_changes.Goals as goal
 
--- src/row_changes.rt:29:17
 pub returns-in_err-pair-items-clause-fault : goal.returns-in_err-pair-items-clause-fault
-returns-in_err-pair-items-clause-fault c = ?
+returns-in_err-pair-items-clause-fault c = λ id.
+    let p = err_from_is_err_and c.from_residual.result c.from_residual.ensures.1 in
+    let e = c.in_err-pair-items.ensures in
+    let columns = rw c.deref.ensures at e.columns in
+    rw (p.1, p.2) (inr (other_columns c.args.table.now (rows_value c.args.event.now) c.in_err-pair-items.field-0.0 e.only (columns.0 (ap Err e.only)) id))
 
--- src/row_changes.rt:29:5
 pub loop-pair-init : goal.loop-pair-init
-loop-pair-init c = ?
+loop-pair-init c =
+    let e = c.in_ok-pair-items.ensures in
+    let columns = rw c.deref.ensures at e.columns in
+    let items = rw c.deref.ensures at e.items in
+    let same = ⊎_elim (λ s. s) (λ ne. absurd (ok_not_err _ _ (columns.1 ne))) (cases_eq (length c.args.table.now.value.types.items) c.args.event.now.columns) in
+    rw c.into_iter-pair-iterator.ensures.into_iter_gives (walk_begins c.args.table.now (rows_value c.args.event.now) c.in_ok-pair-items.pair-items (change_values c.args.changes.now.items) same items)
 
--- src/row_changes.rt:30:47
 pub returns-in_err-pair-clause-fault : goal.returns-in_err-pair-clause-fault
-returns-in_err-pair-clause-fault c = ?
+returns-in_err-pair-clause-fault c = λ id.
+    let p = err_from_is_err_and c.from_residual-in_err-pair.result c.from_residual-in_err-pair.ensures.1 in
+    let w = rw (c.in-Some.ensures.steps, c.in_err-pair.was) at c.loop-pair.invariant in
+    rw (p.1, p.2) (inr (walk_faults c.args.table.now (rows_value c.args.event.now) c.in_err-pair.field-0.0 c.next.new.self (change_values c.args.changes.now.items) (change_values c.loop-pair.changes.items) w id))
 
--- src/row_changes.rt:30:22
 pub change_of-requires : goal.change_of-requires
-change_of-requires c = ?
+change_of-requires c =
+    walk_images c.args.table.now (rows_value c.args.event.now) (pair_value c.in_ok-pair.field-0) c.next.new.self (change_values c.args.changes.now.items) (change_values c.loop-pair.changes.items)
+    (rw (c.in-Some.ensures.steps, c.in_ok-pair.was) at c.loop-pair.invariant) c.args.event.now.few_columns (omega (arith, c.args.event.now.in_event))
 
--- src/row_changes.rt:29:5
 pub loop-pair-preserved : goal.loop-pair-preserved
-loop-pair-preserved c = ?
+loop-pair-preserved c =
+    let w : Walked c.args.table.now (rows_value c.args.event.now) c.next.new.self (change_values c.args.changes.now.items) (change_values c.loop-pair.changes.items ++ change_value c.in_ok-change_of.field-0 ∷ []) =
+    walk_more c.args.table.now (rows_value c.args.event.now) (pair_value c.in_ok-pair.field-0) c.next.new.self (change_values c.args.changes.now.items) (change_values c.loop-pair.changes.items) (change_value c.in_ok-change_of.field-0)
+    (rw (c.in-Some.ensures.steps, c.in_ok-pair.was) at c.loop-pair.invariant) c.in_ok-change_of.ensures.ok in
+    rw c.in_ok-push.ensures.items (rw map-append w)
 
--- src/row_changes.rt:19:1
 pub returns-clause-ok : goal.returns-clause-ok
-returns-clause-ok c = ?
+returns-clause-ok c = walk_ends c.args.table.now (rows_value c.args.event.now) (change_values c.args.changes.now.items) (change_values c.loop-pair.changes.items) (rw c.in-None.ensures.steps.0 at c.loop-pair.invariant)

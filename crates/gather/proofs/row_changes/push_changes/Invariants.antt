@@ -1,10 +1,7 @@
-use Rattle.std.proofs.Common.{◌≡◌, ℕ, ◌⊎◌, IfOk, IfErr, OnOk, OnErr, Err, Some, ◌+◌, ◌-◌, ◌*◌, ◌<◌, ◌≤◌, length}
-use Rattle.binlog.specs.RowsView.{rows_value, pair_value}
-use Rattle.gather.specs.Transaction.{change_of}
-use Rattle.gather.specs.Fault.{IsRowsFault}
-use Rattle.gather.specs.View.{change_value, change_values}
-use Rattle.gather.specs.Begun.{table_of, HasImages, Adds}
+use Rattle.binlog.specs.RowsView.{rows_value}
+use Rattle.gather.specs.View.{change_values}
+use Rattle.gather.proofs.RowItems.{Walked}
 use Rattle.gather.proofs.row_changes.push_changes.Given as goal
 
 abbrev pub invariant-loop-pair : goal.invariant-loop-pair
-invariant-loop-pair l = ?
+invariant-loop-pair l = Walked l.table (rows_value l.event) l.pair-iterator (change_values l.fn.changes.items) (change_values l.changes.items)

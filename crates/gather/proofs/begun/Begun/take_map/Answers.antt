@@ -11,5 +11,6 @@ returns-clause-keeps c = λ body keeps.
     let kept = c.in_ok-table-in-Ok.table in
     let says = map_says t kept (copied t kept c.in-Ok.table c.in_ok-table-in-Ok.ensures.ok c.in-Ok.ensures.ok) in
     record {
-        maps = maps_more c.args.self.now.maps c.insert.new.self c.args.map.now.id (Some kept) (table_map t) body c.in_ok-insert.ensures.updates says keeps.maps;
-        changes = no_changes [] body (table_map t) (change_values c.args.self.now.changes.items) keeps.changes refl }
+      maps = maps_more c.args.self.now.maps c.insert.new.self c.args.map.now.id (Some kept) (table_map t) body c.in_ok-insert.ensures.updates says keeps.maps;
+      changes = no_changes [] body (table_map t) (change_values c.args.self.now.changes.items) keeps.changes refl;
+    }

@@ -1,0 +1,207 @@
+-- A lawful list of events that grows by one.
+use Rattle.std.proofs.Common.{◌≡◌, ◌⊎◌, ℕ, Bool, true, false, not, ◌||◌, List, [], ◌∷◌, ◌++◌, append-nil, append_assoc, filter, flat_map, fold, Option, Some, None, refl, ap, sym, ◌∙◌, subst, ⊎_elim, inl, inr}
+use Rattle.std.specs.List.{list_any}
+use Rattle.std.proofs.lemmas.List.Folds.{list_any-append}
+use Rattle.std.proofs.lemmas.List.Elements.{filter-append}
+use Rattle.std.proofs.lemmas.List.Sums.{fold-append}
+use Rattle.std.proofs.lemmas.Bool.{cases_Bool}
+use Rattle.binlog.specs.Rows.{RowsValue}
+use Rattle.binlog.specs.Event.{EventValue, format, begin, commit, neutral, stop, rotate, gtid, table_map, other_map, rows, xid}
+use Rattle.gather.specs.Transaction.{ChangeValue, DeliveryValue, is_neutral, is_mark, is_end, AreChangesOf, AreChanges, IsMark, IsAnnounced, IsOpen, IsWhole, IsBlock, AreBlocks, is_format_first, AreDeliveries}
+use Rattle.gather.specs.Fault.{is_format, is_gtid, has_format, add_event, last_block, is_announced, is_open, is_of_transaction, IsFault, no_format, misplaced, unread}
+use Rattle.gather.specs.Place.{IsAt, Extends, GoesOn, BreaksOff, FaultsAt}
+use Rattle.gather.specs.Standing.{Brings}
+use Rattle.gather.specs.declared.fault.GatherFault.{GatherFault}
+use Rattle.gather.specs.declared.fault.GatherFault.TheVariants.{NoFormat, Memory}
+use Rattle.gather.specs.declared.place.Place.{Place}
+use Rattle.gather.specs.declared.place.Place.TheVariants.{Between, Announced}
+use Rattle.gather.proofs.Maps.{no_end_of, no_end}
+
+abbrev pub counted : List EventValue → List EventValue
+counted events = filter (λ e. not (is_neutral e)) events
+
+abbrev pub joined : List (List EventValue) → List EventValue
+joined blocks = flat_map (λ block. block) blocks
+
+-- ---- One event more.
+
+pub counts_no_more : (events : List EventValue) → counted (events ++ neutral ∷ []) ≡ counted events
+counts_no_more events = filter-append (λ e. not (is_neutral e)) events (neutral ∷ []) ∙ append-nil (counted events)
+
+pub counts_more : (events : List EventValue) (e : EventValue) → is_neutral e ≡ false → counted (events ++ e ∷ []) ≡ counted events ++ e ∷ []
+counts_more events e counts =
+    let one : counted (e ∷ []) ≡ e ∷ [] = rw counts refl in
+    filter-append (λ x. not (is_neutral x)) events (e ∷ []) ∙ ap (λ l. counted events ++ l) one
+
+pub last_more : (events : List EventValue) (e : EventValue) → last_block (events ++ e ∷ []) ≡ add_event (last_block events) e
+last_more events e = fold-append add_event [] events (e ∷ [])
+
+or_false : (b : Bool) → (b || false) ≡ b
+or_false true = refl
+or_false false = refl
+
+or_true : (b : Bool) → (b || true) ≡ true
+or_true true = refl
+or_true false = refl
+
+pub format_more : (events : List EventValue) (e : EventValue) → has_format (events ++ e ∷ []) ≡ (has_format events || is_format e)
+format_more events e = list_any-append is_format events (e ∷ []) ∙ ap (λ b. has_format events || b) (or_false (is_format e))
+
+-- an event that is no GTID keeps format descriptions first
+pub first_more : (events : List EventValue) (e : EventValue) → is_gtid e ≡ false → is_format_first events ≡ true → is_format_first (events ++ e ∷ []) ≡ true
+first_more [] format no first = refl
+first_more [] begin no first = refl
+first_more [] commit no first = refl
+first_more [] neutral no first = refl
+first_more [] stop no first = refl
+first_more [] (rotate position name) no first = refl
+first_more [] (gtid source number) no first = absurd cc
+first_more [] (table_map t) no first = refl
+first_more [] (other_map id) no first = refl
+first_more [] (rows r) no first = refl
+first_more [] (xid number) no first = refl
+first_more (format ∷ events) e no first = refl
+first_more (begin ∷ events) e no first = first_more events e no first
+first_more (commit ∷ events) e no first = first_more events e no first
+first_more (neutral ∷ events) e no first = first_more events e no first
+first_more (stop ∷ events) e no first = first_more events e no first
+first_more ((rotate position name) ∷ events) e no first = first_more events e no first
+first_more ((gtid source number) ∷ events) e no first = first
+first_more ((table_map t) ∷ events) e no first = first_more events e no first
+first_more ((other_map id) ∷ events) e no first = first_more events e no first
+first_more ((rows r) ∷ events) e no first = first_more events e no first
+first_more ((xid number) ∷ events) e no first = first_more events e no first
+
+-- and so does any event behind one
+pub first_behind : (events : List EventValue) (e : EventValue) → has_format events ≡ true → is_format_first events ≡ true → is_format_first (events ++ e ∷ []) ≡ true
+first_behind [] e has first = absurd cc
+first_behind (format ∷ events) e has first = refl
+first_behind (begin ∷ events) e has first = first_behind events e has first
+first_behind (commit ∷ events) e has first = first_behind events e has first
+first_behind (neutral ∷ events) e has first = first_behind events e has first
+first_behind (stop ∷ events) e has first = first_behind events e has first
+first_behind ((rotate position name) ∷ events) e has first = first_behind events e has first
+first_behind ((gtid source number) ∷ events) e has first = first
+first_behind ((table_map t) ∷ events) e has first = first_behind events e has first
+first_behind ((other_map id) ∷ events) e has first = first_behind events e has first
+first_behind ((rows r) ∷ events) e has first = first_behind events e has first
+first_behind ((xid number) ∷ events) e has first = first_behind events e has first
+
+-- ---- Blocks.
+
+pub joined_append : (a b : List (List EventValue)) → joined (a ++ b) ≡ joined a ++ joined b
+joined_append [] b = refl
+joined_append (x ∷ a) b = ap (λ l. x ++ l) (joined_append a b) ∙ sym (append_assoc x (joined a) (joined b))
+
+pub blocks_more : (blocks : List (List EventValue)) (ds : List DeliveryValue) (block : List EventValue) (own : List DeliveryValue) → AreBlocks blocks ds → IsBlock block own → AreBlocks (blocks ++ block ∷ []) (ds ++ own)
+blocks_more [] ds block own none is = (own, [], is, ap (λ d. d ++ own) none ∙ sym (append-nil own), refl)
+blocks_more (x ∷ blocks) ds block own (first, others, of, all, are) is = (first, others ++ own, of, ap (λ d. d ++ own) all ∙ append_assoc first others own, blocks_more blocks others block own are is)
+
+-- all blocks but the last, and the last, with their transactions
+pub record Split (blocks : List (List EventValue)) (ds : List DeliveryValue) : Type 0 where
+  pub front : List (List EventValue)
+  pub block : List EventValue
+  pub before : List DeliveryValue
+  pub own : List DeliveryValue
+  pub blocks_are : blocks ≡ front ++ block ∷ []
+  pub front_are : AreBlocks front before
+  pub is_block : IsBlock block own
+  pub ds_are : ds ≡ before ++ own
+
+pub split : (first : List EventValue) (blocks : List (List EventValue)) (ds : List DeliveryValue) → AreBlocks (first ∷ blocks) ds → Split (first ∷ blocks) ds
+split first [] ds (own, others, is, all, none) =
+    record { front = []; block = first; before = []; own = own; blocks_are = refl; front_are = refl; is_block = is; ds_are = all ∙ ap (λ d. own ++ d) none ∙ append-nil own }
+split first (second ∷ blocks) ds (own, others, is, all, are) =
+    let s = split second blocks others are in
+    record {
+      front = first ∷ s.front;
+      block = s.block;
+      before = own ++ s.before;
+      own = s.own;
+      blocks_are = ap (λ l. first ∷ l) s.blocks_are;
+      front_are = (own, s.before, is, refl, s.front_are);
+      is_block = s.is_block;
+      ds_are = all ∙ ap (λ d. own ++ d) s.ds_are ∙ sym (append_assoc own s.before s.own);
+    }
+
+-- ---- The last block.
+
+-- neutral events leave it as it is
+pub skips : (block events : List EventValue) → fold add_event block events ≡ fold add_event block (counted events)
+skips block [] = refl
+skips block (e ∷ events) =
+    ⊎_elim
+    (λ yes. rw (yes) (skips block events))
+    (λ no. rw (no) (skips (if is_mark e then e ∷ [] else if is_gtid e then e ∷ [] else block ++ e ∷ []) events))
+    (cases_Bool (is_neutral e))
+
+-- table maps and rows events go on with it
+added : (block : List EventValue) (before : List EventValue) (e : EventValue) (own : List ChangeValue) → AreChangesOf before e own → add_event block e ≡ block ++ e ∷ []
+added block before (table_map t) own of = refl
+added block before (other_map id) own of = refl
+added block before (rows r) own of = refl
+added block before format own of = absurd of
+added block before begin own of = absurd of
+added block before commit own of = absurd of
+added block before neutral own of = absurd of
+added block before stop own of = absurd of
+added block before (rotate position name) own of = absurd of
+added block before (gtid source number) own of = absurd of
+added block before (xid number) own of = absurd of
+
+all_added : (block before body : List EventValue) (changes : List ChangeValue) → AreChanges before body changes → fold add_event block body ≡ block ++ body
+all_added block before [] changes are = sym (append-nil block)
+all_added block before (e ∷ body) changes (first, others, of, all, are) =
+    ap (λ b. fold add_event b body) (added block before e first of) ∙ all_added (block ++ e ∷ []) (before ++ e ∷ []) body others are ∙ append_assoc block (e ∷ []) body
+
+end_added : (block : List EventValue) (e : EventValue) → is_end e ≡ true → add_event block e ≡ block ++ e ∷ []
+end_added block commit ends = refl
+end_added block (xid number) ends = refl
+end_added block format ends = absurd cc
+end_added block begin ends = absurd cc
+end_added block neutral ends = absurd cc
+end_added block stop ends = absurd cc
+end_added block (rotate position name) ends = absurd cc
+end_added block (gtid source number) ends = absurd cc
+end_added block (table_map t) ends = absurd cc
+end_added block (other_map id) ends = absurd cc
+end_added block (rows r) ends = absurd cc
+
+pub mark_begins : (block : List EventValue) (e : EventValue) → is_mark e ≡ true → add_event block e ≡ e ∷ []
+mark_begins block format marks = refl
+mark_begins block stop marks = refl
+mark_begins block (rotate position name) marks = refl
+mark_begins block begin marks = absurd cc
+mark_begins block commit marks = absurd cc
+mark_begins block neutral marks = absurd cc
+mark_begins block (gtid source number) marks = absurd cc
+mark_begins block (table_map t) marks = absurd cc
+mark_begins block (other_map id) marks = absurd cc
+mark_begins block (rows r) marks = absurd cc
+mark_begins block (xid number) marks = absurd cc
+
+whole_added : (x block : List EventValue) (d : DeliveryValue) → IsWhole block d → fold add_event x block ≡ block
+whole_added x block d is =
+    let head = gtid d.source d.number ∷ begin ∷ [] in
+    let all : fold add_event head (is.body ++ is.last ∷ []) ≡ head ++ (is.body ++ is.last ∷ []) =
+    fold-append add_event head is.body (is.last ∷ []) ∙ ap (λ b. add_event b is.last) (all_added head [] is.body d.changes is.are_changes) ∙ end_added (head ++ is.body) is.last is.ends ∙ append_assoc head is.body (is.last ∷ []) in
+    rw is.block_is all
+
+-- a block is the last one, whatever came before it
+pub block_last : (x block : List EventValue) (own : List DeliveryValue) → IsBlock block own → fold add_event x block ≡ block
+block_last x block own is =
+    ⊎_elim
+    (λ plain. ⊎_elim
+    (λ mark. rw mark.block_is (mark_begins x mark.event mark.marks))
+    (λ begun. ⊎_elim
+    (λ announced. rw announced.block_is refl)
+    (λ opened. rw opened.block_is (all_added (gtid opened.source opened.number ∷ begin ∷ []) [] opened.body opened.changes opened.are_changes))
+    begun)
+    plain.0)
+    (λ whole. whole_added x block whole.0 whole.1)
+    is
+
+pub last_is : (events : List EventValue) (front : List (List EventValue)) (block : List EventValue) (own : List DeliveryValue) → counted events ≡ joined (front ++ block ∷ []) → IsBlock block own → last_block events ≡ block
+last_is events front block own cut is =
+    let parts : counted events ≡ joined front ++ block = cut ∙ joined_append front (block ∷ []) ∙ ap (λ l. joined front ++ l) (append-nil block) in
+    skips [] events ∙ ap (fold add_event []) parts ∙ fold-append add_event [] (joined front) block ∙ block_last (fold add_event [] (joined front)) block own is

@@ -1,0 +1,206 @@
+-- One more event of a lawful list: what it brings.
+use Rattle.std.proofs.Common.{◌≡◌, ◌⊎◌, ℕ, Bool, true, false, not, ◌&&◌, ◌||◌, List, [], ◌∷◌, ◌++◌, append-nil, append_assoc, fold, Option, Some, None, Result, Ok, Err, IfOk, IfErr, refl, ap, sym, ◌∙◌, subst, ⊎_elim, inl, inr, true≢false}
+use Rattle.std.specs.List.{list_any}
+use Rattle.std.proofs.lemmas.List.Folds.{list_any-append}
+use Rattle.std.proofs.lemmas.Bool.{cases_Bool}
+use Rattle.binlog.specs.Rows.{RowsValue}
+use Rattle.binlog.specs.Event.{EventValue, format, begin, commit, neutral, stop, rotate, gtid, table_map, other_map, rows, xid}
+use Rattle.gtid.specs.declared.identifier.Gtid.{Gtid}
+use Rattle.gather.specs.Transaction.{ChangeValue, DeliveryValue, is_neutral, is_mark, is_end, IsMark, IsAnnounced, IsOpen, IsWhole, IsBlock, AreBlocks, is_format_first, AreDeliveries}
+use Rattle.gather.specs.Fault.{is_format, is_gtid, has_format, add_event, last_block, is_announced, is_open, is_of_transaction, IsFault, no_format, misplaced, unread}
+use Rattle.gather.specs.View.{delivered}
+use Rattle.gather.specs.Place.{IsAt, Extends, GoesOn, BreaksOff, FaultsAt}
+use Rattle.gather.specs.Standing.{Brings}
+use Rattle.gather.specs.declared.change.Delivery.{Delivery}
+use Rattle.gather.specs.declared.fault.GatherFault.{GatherFault}
+use Rattle.gather.specs.declared.fault.GatherFault.TheVariants.{NoFormat, Memory}
+use Rattle.gather.specs.declared.place.Place.{Place}
+use Rattle.gather.specs.declared.place.Place.TheVariants.{Between, Announced}
+use Rattle.gather.proofs.Maps.{no_end}
+use Rattle.gather.proofs.Places.{open_block}
+use Rattle.gather.proofs.Growing.{counted, joined, counts_no_more, counts_more, last_more, format_more, first_more, first_behind, joined_append, blocks_more, Split, split, mark_begins, last_is, skips}
+
+-- ---- A block that is whole has ended.
+
+or_true : (b : Bool) → (b || true) ≡ true
+or_true true = refl
+or_true false = refl
+
+pub whole_closed : (block : List EventValue) (d : DeliveryValue) → IsWhole block d → (is_announced block ≡ false) × (is_open block ≡ false)
+whole_closed block d is =
+    let ended : list_any is_end (is.body ++ is.last ∷ []) ≡ true =
+    list_any-append is_end is.body (is.last ∷ []) ∙ ap (λ b. list_any is_end is.body || (b || false)) is.ends ∙ or_true (list_any is_end is.body) in
+    rw is.block_is (refl, ap not ended)
+
+abbrev pub IsBegun : List EventValue → Type 0
+IsBegun block = IsAnnounced block ⊎ IsOpen block
+
+pub begun_not_whole : (block : List EventValue) (d : DeliveryValue) → IsBegun block → IsWhole block d → ⊥
+begun_not_whole block d begun whole =
+    let closed = whole_closed block d whole in
+    ⊎_elim
+    (λ a. let yes : is_announced block ≡ true = rw a.block_is refl in absurd (true≢false (sym yes ∙ closed.0)))
+    (λ o. let yes : is_open block ≡ true = rw o.block_is (open_block o.source o.number o.body o.changes o.are_changes) in absurd (true≢false (sym yes ∙ closed.1)))
+    begun
+
+begun_not_empty : (block : List EventValue) → IsBegun block → block ≡ [] → ⊥
+begun_not_empty block begun none = ⊎_elim (λ a. let bad = sym a.block_is ∙ none in absurd cc) (λ o. let bad = sym o.block_is ∙ none in absurd cc) begun
+
+begun_gives_none : (block : List EventValue) (own : List DeliveryValue) → IsBegun block → IsBlock block own → own ≡ []
+begun_gives_none block own begun is = ⊎_elim (λ plain. plain.1) (λ whole. absurd (begun_not_whole block whole.0 begun whole.1)) is
+
+-- ---- One block more, and a longer last block.
+
+pub new_block : (events : List EventValue) (ds : List DeliveryValue) (e : EventValue) → AreDeliveries events ds → is_neutral e ≡ false → is_format_first (events ++ e ∷ []) ≡ true → IsBlock (e ∷ []) [] →
+    AreDeliveries (events ++ e ∷ []) (ds ++ [])
+new_block events ds e are counts first is = record {
+  blocks = are.blocks ++ (e ∷ []) ∷ [];
+  cut = counts_more events e counts ∙ ap (λ l. l ++ e ∷ []) are.cut ∙ sym (joined_append are.blocks ((e ∷ []) ∷ []));
+  each = blocks_more are.blocks ds (e ∷ []) [] are.each is;
+  format_first = first;
+}
+
+longer_front : (front : List (List EventValue)) (block : List EventValue) (e : EventValue) → joined (front ++ block ∷ []) ++ e ∷ [] ≡ joined (front ++ (block ++ e ∷ []) ∷ [])
+longer_front front block e =
+    let old : joined (front ++ block ∷ []) ++ e ∷ [] ≡ (joined front ++ block) ++ e ∷ [] = ap (λ l. l ++ e ∷ []) (joined_append front (block ∷ []) ∙ ap (λ l. joined front ++ l) (append-nil block)) in
+    let new : joined (front ++ (block ++ e ∷ []) ∷ []) ≡ joined front ++ (block ++ e ∷ []) = joined_append front ((block ++ e ∷ []) ∷ []) ∙ ap (λ l. joined front ++ l) (append-nil (block ++ e ∷ [])) in
+    old ∙ append_assoc (joined front) block (e ∷ []) ∙ sym new
+
+longer_blocks : (events : List EventValue) (ds : List DeliveryValue) (e : EventValue) (own : List DeliveryValue) (blocks : List (List EventValue)) → counted events ≡ joined blocks → AreBlocks blocks ds →
+    is_neutral e ≡ false → is_format_first (events ++ e ∷ []) ≡ true → IsBegun (last_block events) → IsBlock (last_block events ++ e ∷ []) own → AreDeliveries (events ++ e ∷ []) (ds ++ own)
+longer_blocks events ds e own [] cut are counts first begun is =
+    absurd (begun_not_empty (last_block events) begun (skips [] events ∙ ap (fold add_event []) cut))
+longer_blocks events ds e own (x ∷ blocks) cut are counts first begun is =
+    let s = split x blocks ds are in
+    let last : last_block events ≡ s.block = last_is events s.front s.block s.own (cut ∙ ap joined s.blocks_are) s.is_block in
+    let none : s.own ≡ [] = begun_gives_none s.block s.own (subst IsBegun last begun) s.is_block in
+    let before : ds ≡ s.before = s.ds_are ∙ ap (λ d. s.before ++ d) none ∙ append-nil s.before in
+    let longer : IsBlock (s.block ++ e ∷ []) own = subst (λ b. IsBlock (b ++ e ∷ []) own) last is in
+    record {
+      blocks = s.front ++ (s.block ++ e ∷ []) ∷ [];
+      cut = counts_more events e counts ∙ ap (λ l. l ++ e ∷ []) (cut ∙ ap joined s.blocks_are) ∙ longer_front s.front s.block e;
+      each = subst (λ d. AreBlocks (s.front ++ (s.block ++ e ∷ []) ∷ []) (d ++ own)) (sym before) (blocks_more s.front s.before (s.block ++ e ∷ []) own s.front_are longer);
+      format_first = first;
+    }
+
+pub longer : (events : List EventValue) (ds : List DeliveryValue) (e : EventValue) (own : List DeliveryValue) → AreDeliveries events ds →
+    is_neutral e ≡ false → is_format_first (events ++ e ∷ []) ≡ true → IsBegun (last_block events) → IsBlock (last_block events ++ e ∷ []) own → AreDeliveries (events ++ e ∷ []) (ds ++ own)
+longer events ds e own are counts first begun is = longer_blocks events ds e own are.blocks are.cut are.each counts first begun is
+
+-- ---- Neutral events.
+
+first_neutral : (events : List EventValue) → is_format_first events ≡ true → is_format_first (events ++ neutral ∷ []) ≡ true
+first_neutral events first = first_more events neutral refl first
+
+or_false : (b : Bool) → (b || false) ≡ b
+or_false true = refl
+or_false false = refl
+
+pub step_neutral : (events : List EventValue) (ds : List DeliveryValue) (formatted : Bool) (place : Place) → Brings events ds formatted place → Brings (events ++ neutral ∷ []) (ds ++ []) formatted place
+step_neutral events ds formatted place b = record {
+  deliveries = record {
+    blocks = b.deliveries.blocks;
+    cut = counts_no_more events ∙ b.deliveries.cut;
+    each = subst (AreBlocks b.deliveries.blocks) (sym (append-nil ds)) b.deliveries.each;
+    format_first = first_neutral events b.deliveries.format_first;
+  };
+  has_format = b.has_format ∙ sym (format_more events neutral ∙ or_false (has_format events));
+  at = subst (λ block. IsAt block place) (sym (last_more events neutral)) b.at;
+}
+
+-- ---- Format descriptions, rotations and stops.
+
+pub record Marks (e : EventValue) : Type 0 where
+  pub counts : is_neutral e ≡ false
+  pub no_gtid : is_gtid e ≡ false
+  pub between : (is_announced (e ∷ []) ≡ false) × (is_open (e ∷ []) ≡ false)
+
+marks_are : (e : EventValue) → is_mark e ≡ true → Marks e
+marks_are format marks = record { counts = refl; no_gtid = refl; between = (refl, refl) }
+marks_are stop marks = record { counts = refl; no_gtid = refl; between = (refl, refl) }
+marks_are (rotate position name) marks = record { counts = refl; no_gtid = refl; between = (refl, refl) }
+marks_are begin marks = absurd cc
+marks_are commit marks = absurd cc
+marks_are neutral marks = absurd cc
+marks_are (gtid source number) marks = absurd cc
+marks_are (table_map t) marks = absurd cc
+marks_are (other_map id) marks = absurd cc
+marks_are (rows r) marks = absurd cc
+marks_are (xid number) marks = absurd cc
+
+pub step_mark : (events : List EventValue) (ds : List DeliveryValue) (formatted formatted' : Bool) (place : Place) (e : EventValue) → is_mark e ≡ true → Brings events ds formatted place →
+    formatted' ≡ (has_format events || is_format e) → Brings (events ++ e ∷ []) (ds ++ []) formatted' Between
+step_mark events ds formatted formatted' place e marks b has =
+    let m = marks_are e marks in
+    record {
+      deliveries = new_block events ds e b.deliveries m.counts (first_more events e m.no_gtid b.deliveries.format_first) (inl (inl (record { event = e; marks = marks; block_is = refl }), refl));
+      has_format = has ∙ sym (format_more events e);
+      at = subst (λ block. IsAt block Between) (sym (last_more events e ∙ mark_begins (last_block events) e marks)) m.between;
+    }
+
+-- ---- GTIDs.
+
+pub step_gtid : (events : List EventValue) (ds : List DeliveryValue) (formatted : Bool) (place : Place) (id : Gtid) → formatted ≡ true → Brings events ds formatted place →
+    Brings (events ++ gtid id.source id.number ∷ []) (ds ++ []) formatted (Announced id)
+step_gtid events ds formatted place id is b =
+    let e = gtid id.source id.number in
+    record {
+      deliveries = new_block events ds e b.deliveries refl (first_behind events e (sym b.has_format ∙ is) b.deliveries.format_first) (inl (inr (inl (record { source = id.source; number = id.number; block_is = refl })), refl));
+      has_format = b.has_format ∙ sym (format_more events e ∙ or_false (has_format events));
+      at = last_more events e;
+    }
+
+-- ---- The other events of a transaction.
+
+pub record Continues (e : EventValue) : Type 0 where
+  pub counts : is_neutral e ≡ false
+  pub no_gtid : is_gtid e ≡ false
+  pub no_format : is_format e ≡ false
+  pub of : is_of_transaction e ≡ true
+  pub added : (block : List EventValue) → add_event block e ≡ block ++ e ∷ []
+
+pub continues : (e : EventValue) → is_of_transaction e ≡ true → is_gtid e ≡ false → Continues e
+continues begin of no = record { counts = refl; no_gtid = refl; no_format = refl; of = refl; added = λ b. refl }
+continues commit of no = record { counts = refl; no_gtid = refl; no_format = refl; of = refl; added = λ b. refl }
+continues (table_map t) of no = record { counts = refl; no_gtid = refl; no_format = refl; of = refl; added = λ b. refl }
+continues (other_map id) of no = record { counts = refl; no_gtid = refl; no_format = refl; of = refl; added = λ b. refl }
+continues (rows r) of no = record { counts = refl; no_gtid = refl; no_format = refl; of = refl; added = λ b. refl }
+continues (xid number) of no = record { counts = refl; no_gtid = refl; no_format = refl; of = refl; added = λ b. refl }
+continues (gtid source number) of no = absurd cc
+continues format of no = absurd cc
+continues neutral of no = absurd cc
+continues stop of no = absurd cc
+continues (rotate position name) of no = absurd cc
+
+pub stepped : (events : List EventValue) (ds own : List DeliveryValue) (formatted : Bool) (before after : Place) (e : EventValue) → Continues e → Brings events ds formatted before → GoesOn e before after own →
+    Brings (events ++ e ∷ []) (ds ++ own) formatted after
+stepped events ds own formatted before after e k b goes =
+    let x = goes (last_block events) b.at in
+    record {
+      deliveries = longer events ds e own b.deliveries k.counts (first_more events e k.no_gtid b.deliveries.format_first) x.begun x.is_block;
+      has_format = b.has_format ∙ sym (format_more events e ∙ ap (λ f. has_format events || f) k.no_format ∙ or_false (has_format events));
+      at = subst (λ block. IsAt block after) (sym (last_more events e ∙ k.added (last_block events))) x.at;
+    }
+
+pub fault_from : (events : List EventValue) (ds : List DeliveryValue) (formatted : Bool) (place : Place) (e : EventValue) (fault : GatherFault) → formatted ≡ true → Brings events ds formatted place → FaultsAt e place fault →
+    (fault ≡ Memory) ⊎ IsFault events e fault
+fault_from events ds formatted place e fault is b faults =
+    let has : has_format events ≡ true = sym b.has_format ∙ is in
+    ⊎_elim inl
+    (λ broken. inr (⊎_elim (λ m. misplaced has m.0 m.1) (λ u. unread u.0 u.1 has u.2 u.3) broken))
+    (faults (last_block events) b.at)
+
+pub no_format_yet : (events : List EventValue) (ds : List DeliveryValue) (formatted : Bool) (place : Place) (e : EventValue) → formatted ≡ false → is_of_transaction e ≡ true → Brings events ds formatted place → IsFault events e NoFormat
+no_format_yet events ds formatted place e is of b = no_format of (sym b.has_format ∙ is) refl
+
+-- ---- Answers.
+
+pub takes : (result : Result (Option Delivery) GatherFault) (formatted : Bool) (before after : Place) (e : EventValue) → Continues e → IfOk result (λ delivery. GoesOn e before after (delivered delivery)) →
+    (events : List EventValue) (ds : List DeliveryValue) → Brings events ds formatted before → IfOk result (λ delivery. Brings (events ++ e ∷ []) (ds ++ delivered delivery) formatted after)
+takes (Ok delivery) formatted before after e k goes events ds b = stepped events ds (delivered delivery) formatted before after e k b goes
+takes (Err fault) formatted before after e k goes events ds b = goes
+
+pub refuses : (result : Result (Option Delivery) GatherFault) (formatted : Bool) (before : Place) (e : EventValue) → formatted ≡ true → IfErr result (FaultsAt e before) →
+    (events : List EventValue) (ds : List DeliveryValue) → Brings events ds formatted before → IfErr result (λ fault. (fault ≡ Memory) ⊎ IsFault events e fault)
+refuses (Ok delivery) formatted before e is faults events ds b = faults
+refuses (Err fault) formatted before e is faults events ds b = fault_from events ds formatted before e fault is b faults
