@@ -1,12 +1,13 @@
 -- Images gone over cell by cell.
-use Rattle.std.proofs.Common.{◌≡◌, ℕ, zero, suc, ◌+◌, ◌-◌, ◌*◌, ◌<◌, ◌≤◌, ◌^◌, false, Some, None, List, [], ◌∷◌, ◌++◌, length, get_or, take, drop, map, refl, sym, ap, subst, ◌∙◌, append_assoc, add-one, arith}
-use Rattle.std.specs.Prelude.{flat_map}
+use Rattle.std.proofs.Common.{◌≡◌, ℕ, zero, suc, ◌+◌, ◌-◌, ◌*◌, ◌<◌, ◌≤◌, ◌^◌, false, Some, None, List, [], ◌∷◌, ◌++◌, length, drop, refl, sym, ap, subst, ◌∙◌, append_assoc, arith}
+use Rattle.std.specs.Prelude.{flat_map, slice_index_or}
 use Rattle.std.specs.List.{AllByRecursion}
 use Rattle.std.proofs.lemmas.List.{length-append, length-map, drop_all}
 use Rattle.byteorder.specs.Endian.{little_bytes}
 use Rattle.byteorder.specs.Numbers.{length-bytes_low_first}
 use Rattle.binlog.specs.Cell.{CellValue, null_cell, number_cell, bytes_cell, cell_value}
 use Rattle.binlog.specs.declared.cell.Cell.{Cell}
+use Rattle.binlog.specs.declared.cell.Cell.TheVariants.{Number}
 use Rattle.gather.specs.Image.{cell_image, image, HasCellImage, HasImage}
 use Rattle.gather.specs.ImageCells.{cell_values, cell_front, are_images, holds_behind}
 use Rattle.gather.proofs.WholeImages.{image_length}
@@ -40,6 +41,12 @@ image_short cells has = let few = has.count in omega (arith, few, all_short cell
 pub first_has : (cells rest : List CellValue) (cell : CellValue) → AllHave cells → cells ≡ cell ∷ rest → HasCellImage cell × AllHave rest
 first_has cells rest cell has is = subst AllHave is has
 
+pub first_more : (cells rest : List CellValue) (cell : CellValue) → HasCellImage cell → AllHave rest → cells ≡ cell ∷ rest → AllHave cells
+first_more cells rest cell has others is = subst AllHave {x = cell ∷ rest} (sym {b = cell ∷ rest} is) (has, others)
+
+pub number_has : (cell : Cell) (n width : ℕ) → cell ≡ Number n width → HasCellImage (cell_value cell) → HasCellImage (number_cell n width)
+number_has cell n width is has = subst (λ c. HasCellImage (cell_value c)) is has
+
 pub first_size : (cells rest : List CellValue) (cell : CellValue) → cells ≡ cell ∷ rest → length (flat_map cell_image cells) ≡ length (cell_image cell) + length (flat_map cell_image rest)
 first_size cells rest cell is = ap (λ l. length (flat_map cell_image l)) is ∙ length-append (cell_image cell) (flat_map cell_image rest)
 
@@ -56,10 +63,12 @@ next_written all now new cells rest cell before is written =
 
 -- ---- Cells of a slice.
 
-pub next_values : (i : ℕ) (cells : List Cell) (cell : Cell) → i < length cells → cell ≡ get_or cells i cell → drop i (cell_values cells) ≡ cell_value cell ∷ drop (i + 1) (cell_values cells)
-next_values i [] cell short is = absurd (omega (arith, short))
-next_values zero (x ∷ cells) cell short is = ap (λ c. cell_value c ∷ cell_values cells) (sym is)
-next_values (suc i) (x ∷ cells) cell short is = next_values i cells cell (omega (arith, short)) is
+pub next_values : (i : ℕ) (cells : List Cell) (d : Cell) → i < length cells → drop i (cell_values cells) ≡ cell_value (slice_index_or cells i d) ∷ drop (i + 1) (cell_values cells)
+next_values i [] d short = absurd (omega (arith, short))
+next_values zero (x ∷ cells) d short = refl
+next_values (suc i) (x ∷ cells) d short =
+    let e : suc (i + 1) ≡ suc i + 1 = omega arith in
+    next_values i cells d (omega (arith, short)) ∙ ap (λ k. cell_value (slice_index_or cells i d) ∷ drop k (cell_values (x ∷ cells))) e
 
 pub no_values : (i : ℕ) (cells : List Cell) → length cells ≤ i → drop i (cell_values cells) ≡ []
 no_values i cells long = drop_all i (cell_values cells) (omega (arith, long, length-map cells cell_value))
