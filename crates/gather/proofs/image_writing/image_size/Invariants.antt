@@ -5,8 +5,8 @@ use Rattle.gather.specs.ImageCells.{cell_values}
 use Rattle.gather.proofs.ImageParts.{AllHave}
 use Rattle.gather.proofs.image_writing.image_size.Given as goal
 
-abbrev pub invariant-loop-i : goal.invariant-loop-i
-invariant-loop-i l =
-    (AllHave (drop l.i (cell_values l.cells)) → AllHave (cell_values l.cells))
-    × (l.size + length (flat_map cell_image (drop l.i (cell_values l.cells))) ≡ length (image (cell_values l.cells)))
-    × (l.size ≤ 2 + l.i * 2 ^ 33)
+abbrev pub invariant-loop-cell : goal.invariant-loop-cell
+invariant-loop-cell l =
+    (AllHave (drop l.cell-index (cell_values l.cells)) → AllHave (cell_values l.cells))
+    × (l.size + length (flat_map cell_image (drop l.cell-index (cell_values l.cells))) ≡ length (image (cell_values l.cells)))
+    × (l.size ≤ 2 + l.cell-index * 2 ^ 33)

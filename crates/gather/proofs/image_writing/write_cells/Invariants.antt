@@ -4,5 +4,5 @@ use Rattle.gather.specs.Image.{cell_image, image}
 use Rattle.gather.specs.ImageCells.{cell_values}
 use Rattle.gather.proofs.image_writing.write_cells.Given as goal
 
-abbrev pub invariant-loop-i : goal.invariant-loop-i
-invariant-loop-i l = l.out.items ++ flat_map cell_image (drop l.i (cell_values l.cells)) ≡ l.fn.out.items ++ image (cell_values l.cells)
+abbrev pub invariant-loop-cell : goal.invariant-loop-cell
+invariant-loop-cell l = l.out.items ++ flat_map cell_image (drop l.cell-index (cell_values l.cells)) ≡ l.fn.out.items ++ image (cell_values l.cells)
