@@ -51,9 +51,6 @@ pub first_size : (cells rest : List CellValue) (cell : CellValue) → cells ≡ 
 first_size cells rest cell is = ap (λ l. length (flat_map cell_image l)) is ∙ length-append (cell_image cell) (flat_map cell_image rest)
 
 -- what is written, and then what is left, is all
-pub first_written : (old now new : List ℕ) (count : ℕ) (cells : List CellValue) → count ≡ length cells → now ≡ old ++ little_bytes 2 count → now ++ flat_map cell_image cells ≡ old ++ image cells
-first_written old now new count cells many is = ap (λ l. l ++ flat_map cell_image cells) is ∙ append_assoc old (little_bytes 2 count) (flat_map cell_image cells) ∙ ap (λ k. old ++ (little_bytes 2 k ++ flat_map cell_image cells)) many
-
 pub next_written : (all now new : List ℕ) (cells rest : List CellValue) (cell : CellValue) → now ++ flat_map cell_image cells ≡ all → cells ≡ cell ∷ rest → new ≡ now ++ cell_image cell → new ++ flat_map cell_image rest ≡ all
 next_written all now new cells rest cell before is written =
     ap (λ l. l ++ flat_map cell_image rest) written
@@ -70,9 +67,6 @@ next_values (suc i) (x ∷ cells) d short =
     let e : suc (i + 1) ≡ suc i + 1 = omega arith in
     next_values i cells d (omega (arith, short)) ∙ ap (λ k. cell_value (slice_index_or cells i d) ∷ drop k (cell_values (x ∷ cells))) e
 
-pub no_values : (i : ℕ) (cells : List Cell) → length cells ≤ i → drop i (cell_values cells) ≡ []
-no_values i cells long = drop_all i (cell_values cells) (omega (arith, long, length-map cells cell_value))
-
 pub all_behind : (i : ℕ) (cells : List CellValue) → AllHave cells → AllHave (drop i cells)
 all_behind zero cells has = has
 all_behind (suc i) [] has = tt
@@ -80,15 +74,8 @@ all_behind (suc i) (cell ∷ cells) has = all_behind i cells has.1
 
 -- ---- Images that are read one after another.
 
-pub none_left : (left : List ℕ) (count counter : ℕ) → counter < count → cell_front left ≡ None → are_images (count - counter) left ≡ false
-none_left left count counter more is =
-    let e : count - counter ≡ suc (count - (counter + 1)) = omega (arith, more) in
-    ap (λ k. are_images k left) e ∙ ap (λ found. holds_behind found (λ size. are_images (count - (counter + 1)) (drop size left))) is
-
 pub one_left : (left : List ℕ) (count counter size : ℕ) (cell : CellValue) → counter < count → cell_front left ≡ Some (cell, size) → are_images (count - counter) left ≡ are_images (count - (counter + 1)) (drop size left)
 one_left left count counter size cell more is =
     let e : count - counter ≡ suc (count - (counter + 1)) = omega (arith, more) in
     ap (λ k. are_images k left) e ∙ ap (λ found. holds_behind found (λ n. are_images (count - (counter + 1)) (drop n left))) is
 
-pub all_read : (left : List ℕ) (count counter : ℕ) → count ≤ counter → are_images (count - counter) left ≡ are_images 0 left
-all_read left count counter done = let e : count - counter ≡ 0 = omega (arith, done) in ap (λ k. are_images k left) e
