@@ -9,7 +9,8 @@ use std::test::Fail;
 const PAIR: [u8; 15] = *b"\x02\0\x01\x04\x07\0\0\0\x02\x02\0\0\0ab";
 
 /// Five letters, 2 in two bytes, 5 in eight, two bytes, and null.
-const NINE: [u8; 54] = *b"\x09\0\x02\x01\0\0\0a\x02\x01\0\0\0b\x02\x01\0\0\0c\x02\x01\0\0\0d\x02\x01\0\0\0e\x01\x02\x02\0\x01\x08\x05\0\0\0\0\0\0\0\x02\x02\0\0\0\x01\x02\0";
+const NINE: [u8; 54] =
+    *b"\x09\0\x02\x01\0\0\0a\x02\x01\0\0\0b\x02\x01\0\0\0c\x02\x01\0\0\0d\x02\x01\0\0\0e\x01\x02\x02\0\x01\x08\x05\0\0\0\0\0\0\0\x02\x02\0\0\0\x01\x02\0";
 
 fn image(alloc: Global, cells: &[Cell<'_>]) -> Result<Image, Fail> {
     Ok(Image::new(alloc, cells)?.ok_or("no image")?)
