@@ -132,13 +132,6 @@ pub first_cell : (bytes : List ℕ) (front : CellValue × ℕ) → cell_front by
 first_cell [] front is = absurd cc
 first_cell (kind ∷ bytes) front is = by_length (length bytes) (kind ∷ bytes) front refl is
 
-no_cell_of : (most : ℕ) (bytes : List ℕ) → cell_front bytes ≡ None → cells_of most bytes ≡ []
-no_cell_of zero bytes is = refl
-no_cell_of (suc most) bytes is = rw is refl
-
-pub no_cell : (bytes : List ℕ) → cell_front bytes ≡ None → cells_in bytes ≡ []
-no_cell bytes is = no_cell_of (length bytes) bytes is
-
 -- the images of cells have these cells
 pub images_are_read : (cells : List CellValue) → AllByRecursion HasCellImage cells → cells_in (flat_map cell_image cells) ≡ cells
 images_are_read [] has = refl

@@ -1,12 +1,13 @@
 -- Images gone over cell by cell.
-use Rattle.std.proofs.Common.{◌≡◌, ℕ, zero, suc, ◌+◌, ◌-◌, ◌*◌, ◌<◌, ◌≤◌, ◌^◌, false, Some, None, List, [], ◌∷◌, ◌++◌, length, get_or, take, drop, map, refl, sym, ap, subst, ◌∙◌, append_assoc, add-one, arith}
-use Rattle.std.specs.Prelude.{flat_map}
+use Rattle.std.proofs.Common.{◌≡◌, ℕ, zero, suc, ◌+◌, ◌-◌, ◌*◌, ◌<◌, ◌≤◌, ◌^◌, Some, List, [], ◌∷◌, ◌++◌, length, drop, refl, sym, ap, subst, ◌∙◌, append_assoc, arith}
+use Rattle.std.specs.Prelude.{flat_map, slice_index_or}
 use Rattle.std.specs.List.{AllByRecursion}
-use Rattle.std.proofs.lemmas.List.{length-append, length-map, drop_all}
+use Rattle.std.proofs.lemmas.List.{length-append}
 use Rattle.byteorder.specs.Endian.{little_bytes}
 use Rattle.byteorder.specs.Numbers.{length-bytes_low_first}
 use Rattle.binlog.specs.Cell.{CellValue, null_cell, number_cell, bytes_cell, cell_value}
 use Rattle.binlog.specs.declared.cell.Cell.{Cell}
+use Rattle.binlog.specs.declared.cell.Cell.TheVariants.{Number}
 use Rattle.gather.specs.Image.{cell_image, image, HasCellImage, HasImage}
 use Rattle.gather.specs.ImageCells.{cell_values, cell_front, are_images, holds_behind}
 use Rattle.gather.proofs.WholeImages.{image_length}
@@ -40,13 +41,16 @@ image_short cells has = let few = has.count in omega (arith, few, all_short cell
 pub first_has : (cells rest : List CellValue) (cell : CellValue) → AllHave cells → cells ≡ cell ∷ rest → HasCellImage cell × AllHave rest
 first_has cells rest cell has is = subst AllHave is has
 
+pub first_more : (cells rest : List CellValue) (cell : CellValue) → HasCellImage cell → AllHave rest → cells ≡ cell ∷ rest → AllHave cells
+first_more cells rest cell has others is = subst AllHave {x = cell ∷ rest} (sym {b = cell ∷ rest} is) (has, others)
+
+pub number_has : (cell : Cell) (n width : ℕ) → cell ≡ Number n width → HasCellImage (cell_value cell) → HasCellImage (number_cell n width)
+number_has cell n width is has = subst (λ c. HasCellImage (cell_value c)) is has
+
 pub first_size : (cells rest : List CellValue) (cell : CellValue) → cells ≡ cell ∷ rest → length (flat_map cell_image cells) ≡ length (cell_image cell) + length (flat_map cell_image rest)
 first_size cells rest cell is = ap (λ l. length (flat_map cell_image l)) is ∙ length-append (cell_image cell) (flat_map cell_image rest)
 
 -- what is written, and then what is left, is all
-pub first_written : (old now new : List ℕ) (count : ℕ) (cells : List CellValue) → count ≡ length cells → now ≡ old ++ little_bytes 2 count → now ++ flat_map cell_image cells ≡ old ++ image cells
-first_written old now new count cells many is = ap (λ l. l ++ flat_map cell_image cells) is ∙ append_assoc old (little_bytes 2 count) (flat_map cell_image cells) ∙ ap (λ k. old ++ (little_bytes 2 k ++ flat_map cell_image cells)) many
-
 pub next_written : (all now new : List ℕ) (cells rest : List CellValue) (cell : CellValue) → now ++ flat_map cell_image cells ≡ all → cells ≡ cell ∷ rest → new ≡ now ++ cell_image cell → new ++ flat_map cell_image rest ≡ all
 next_written all now new cells rest cell before is written =
     ap (λ l. l ++ flat_map cell_image rest) written
@@ -56,13 +60,12 @@ next_written all now new cells rest cell before is written =
 
 -- ---- Cells of a slice.
 
-pub next_values : (i : ℕ) (cells : List Cell) (cell : Cell) → i < length cells → cell ≡ get_or cells i cell → drop i (cell_values cells) ≡ cell_value cell ∷ drop (i + 1) (cell_values cells)
-next_values i [] cell short is = absurd (omega (arith, short))
-next_values zero (x ∷ cells) cell short is = ap (λ c. cell_value c ∷ cell_values cells) (sym is)
-next_values (suc i) (x ∷ cells) cell short is = next_values i cells cell (omega (arith, short)) is
-
-pub no_values : (i : ℕ) (cells : List Cell) → length cells ≤ i → drop i (cell_values cells) ≡ []
-no_values i cells long = drop_all i (cell_values cells) (omega (arith, long, length-map cells cell_value))
+pub next_values : (i : ℕ) (cells : List Cell) (d : Cell) → i < length cells → drop i (cell_values cells) ≡ cell_value (slice_index_or cells i d) ∷ drop (i + 1) (cell_values cells)
+next_values i [] d short = absurd (omega (arith, short))
+next_values zero (x ∷ cells) d short = refl
+next_values (suc i) (x ∷ cells) d short =
+    let e : suc (i + 1) ≡ suc i + 1 = omega arith in
+    next_values i cells d (omega (arith, short)) ∙ ap (λ k. cell_value (slice_index_or cells i d) ∷ drop k (cell_values (x ∷ cells))) e
 
 pub all_behind : (i : ℕ) (cells : List CellValue) → AllHave cells → AllHave (drop i cells)
 all_behind zero cells has = has
@@ -71,15 +74,7 @@ all_behind (suc i) (cell ∷ cells) has = all_behind i cells has.1
 
 -- ---- Images that are read one after another.
 
-pub none_left : (left : List ℕ) (count counter : ℕ) → counter < count → cell_front left ≡ None → are_images (count - counter) left ≡ false
-none_left left count counter more is =
-    let e : count - counter ≡ suc (count - (counter + 1)) = omega (arith, more) in
-    ap (λ k. are_images k left) e ∙ ap (λ found. holds_behind found (λ size. are_images (count - (counter + 1)) (drop size left))) is
-
 pub one_left : (left : List ℕ) (count counter size : ℕ) (cell : CellValue) → counter < count → cell_front left ≡ Some (cell, size) → are_images (count - counter) left ≡ are_images (count - (counter + 1)) (drop size left)
 one_left left count counter size cell more is =
     let e : count - counter ≡ suc (count - (counter + 1)) = omega (arith, more) in
     ap (λ k. are_images k left) e ∙ ap (λ found. holds_behind found (λ n. are_images (count - (counter + 1)) (drop n left))) is
-
-pub all_read : (left : List ℕ) (count counter : ℕ) → count ≤ counter → are_images (count - counter) left ≡ are_images 0 left
-all_read left count counter done = let e : count - counter ≡ 0 = omega (arith, done) in ap (λ k. are_images k left) e

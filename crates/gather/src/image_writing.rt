@@ -19,11 +19,11 @@ pub(crate) fn image_size(cells: &[Cell<'_>]) -> Option<usize>
         return None;
     }
     let mut size = 2;
-    for i in 0..cells.len() {
-        if !has_image(cells[i]) {
+    for cell in cells {
+        if !has_image(*cell) {
             return None;
         }
-        size += cell_size(cells[i]);
+        size += cell_size(*cell);
     }
     Some(size)
 }
@@ -50,8 +50,8 @@ pub(crate) fn write_cells(cells: &[Cell<'_>], out: &mut Vec<u8>) -> Result<(), G
     ensures err { OnErr result (result ≡ Err Memory) }
 {
     out.extend_from_slice(&(cells.len() as u16).to_le_bytes())?;
-    for i in 0..cells.len() {
-        write_cell(cells[i], out)?;
+    for cell in cells {
+        write_cell(*cell, out)?;
     }
     Ok(())
 }

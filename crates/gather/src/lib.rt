@@ -26,3 +26,6 @@ pub use fault::GatherFault;
 pub use gatherer::Gatherer;
 pub use image::Image;
 pub use image_cells::ImageCells;
+
+#[cfg(test)]
+mod image_tests;

@@ -3,4 +3,4 @@ use Rattle.gather.specs.ImageCells.{are_images}
 use Rattle.gather.proofs.image_reading.are_images.Given as goal
 
 abbrev pub invariant-loop : goal.invariant-loop
-invariant-loop l = are_images l.count l.bytes.now ≡ are_images (l.count - l.counter) l.left.now
+invariant-loop l = are_images l.count l.bytes ≡ are_images (l.count - l.counter) l.left
