@@ -1,5 +1,5 @@
 -- A lawful list of events that grows by one.
-use Rattle.std.proofs.Common.{◌≡◌, ◌⊎◌, ℕ, Bool, true, false, not, ◌||◌, List, [], ◌∷◌, ◌++◌, append-nil, append_assoc, filter, flat_map, fold, Option, Some, None, refl, ap, sym, ◌∙◌, subst, ⊎_elim, inl, inr}
+use Rattle.std.proofs.Common.{◌≡◌, ◌⊎◌, ℕ, Bool, true, false, not, if◌then◌else◌, ◌||◌, List, [], ◌∷◌, ◌++◌, append-nil, append_assoc, filter, flat_map, fold, Option, Some, None, refl, ap, sym, ◌∙◌, subst, ⊎_elim, inl, inr}
 use Rattle.std.specs.List.{list_any}
 use Rattle.std.proofs.lemmas.List.Folds.{list_any-append}
 use Rattle.std.proofs.lemmas.List.Elements.{filter-append}
@@ -49,28 +49,28 @@ format_more events e = list_any-append is_format events (e ∷ []) ∙ ap (λ b.
 
 -- an event that is no GTID keeps format descriptions first
 pub first_more : (events : List EventValue) (e : EventValue) → is_gtid e ≡ false → is_format_first events ≡ true → is_format_first (events ++ e ∷ []) ≡ true
-first_more [] format no first = refl
-first_more [] begin no first = refl
-first_more [] commit no first = refl
-first_more [] neutral no first = refl
-first_more [] stop no first = refl
-first_more [] (rotate position name) no first = refl
-first_more [] (gtid source number) no first = absurd cc
-first_more [] (table_map t) no first = refl
-first_more [] (other_map id) no first = refl
-first_more [] (rows r) no first = refl
-first_more [] (xid number) no first = refl
-first_more (format ∷ events) e no first = refl
-first_more (begin ∷ events) e no first = first_more events e no first
-first_more (commit ∷ events) e no first = first_more events e no first
-first_more (neutral ∷ events) e no first = first_more events e no first
-first_more (stop ∷ events) e no first = first_more events e no first
-first_more ((rotate position name) ∷ events) e no first = first_more events e no first
-first_more ((gtid source number) ∷ events) e no first = first
-first_more ((table_map t) ∷ events) e no first = first_more events e no first
-first_more ((other_map id) ∷ events) e no first = first_more events e no first
-first_more ((rows r) ∷ events) e no first = first_more events e no first
-first_more ((xid number) ∷ events) e no first = first_more events e no first
+first_more [] format other first = refl
+first_more [] begin other first = refl
+first_more [] commit other first = refl
+first_more [] neutral other first = refl
+first_more [] stop other first = refl
+first_more [] (rotate position name) other first = refl
+first_more [] (gtid source number) other first = absurd cc
+first_more [] (table_map t) other first = refl
+first_more [] (other_map id) other first = refl
+first_more [] (rows r) other first = refl
+first_more [] (xid number) other first = refl
+first_more (format ∷ events) e other first = refl
+first_more (begin ∷ events) e other first = first_more events e other first
+first_more (commit ∷ events) e other first = first_more events e other first
+first_more (neutral ∷ events) e other first = first_more events e other first
+first_more (stop ∷ events) e other first = first_more events e other first
+first_more ((rotate position name) ∷ events) e other first = first_more events e other first
+first_more ((gtid source number) ∷ events) e other first = first
+first_more ((table_map t) ∷ events) e other first = first_more events e other first
+first_more ((other_map id) ∷ events) e other first = first_more events e other first
+first_more ((rows r) ∷ events) e other first = first_more events e other first
+first_more ((xid number) ∷ events) e other first = first_more events e other first
 
 -- and so does any event behind one
 pub first_behind : (events : List EventValue) (e : EventValue) → has_format events ≡ true → is_format_first events ≡ true → is_format_first (events ++ e ∷ []) ≡ true
@@ -131,8 +131,13 @@ pub skips : (block events : List EventValue) → fold add_event block events ≡
 skips block [] = refl
 skips block (e ∷ events) =
     ⊎_elim
-    (λ yes. rw (yes) (skips block events))
-    (λ no. rw (no) (skips (if is_mark e then e ∷ [] else if is_gtid e then e ∷ [] else block ++ e ∷ []) events))
+    (λ yes.
+        let same : add_event block e ≡ block = rw yes refl in
+        let left : counted (e ∷ events) ≡ counted events = rw yes refl in
+        ap (λ b. fold add_event b events) same ∙ skips block events ∙ sym (ap (fold add_event block) left))
+    (λ other.
+        let left : counted (e ∷ events) ≡ e ∷ counted events = rw other refl in
+        skips (add_event block e) events ∙ sym (ap (fold add_event block) left))
     (cases_Bool (is_neutral e))
 
 -- table maps and rows events go on with it

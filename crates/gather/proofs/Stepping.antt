@@ -8,6 +8,10 @@ use Rattle.binlog.specs.Event.{EventValue, format, begin, commit, neutral, stop,
 use Rattle.gtid.specs.declared.identifier.Gtid.{Gtid}
 use Rattle.gather.specs.Transaction.{ChangeValue, DeliveryValue, is_neutral, is_mark, is_end, IsMark, IsAnnounced, IsOpen, IsWhole, IsBlock, AreBlocks, is_format_first, AreDeliveries}
 use Rattle.gather.specs.Fault.{is_format, is_gtid, has_format, add_event, last_block, is_announced, is_open, is_of_transaction, IsFault, no_format, misplaced, unread}
+use Rattle.std.specs.Borrow.{Bor}
+use Rattle.binlog.specs.EventView.{event_value}
+use Rattle.binlog.specs.declared.event.Event.{Event}
+use Rattle.binlog.specs.declared.event.Event.TheVariants.{Rotate, Stop}
 use Rattle.gather.specs.View.{delivered}
 use Rattle.gather.specs.Place.{IsAt, Extends, GoesOn, BreaksOff, FaultsAt}
 use Rattle.gather.specs.Standing.{Brings}
@@ -160,17 +164,17 @@ pub record Continues (e : EventValue) : Type 0 where
   pub added : (block : List EventValue) → add_event block e ≡ block ++ e ∷ []
 
 pub continues : (e : EventValue) → is_of_transaction e ≡ true → is_gtid e ≡ false → Continues e
-continues begin of no = record { counts = refl; no_gtid = refl; no_format = refl; of = refl; added = λ b. refl }
-continues commit of no = record { counts = refl; no_gtid = refl; no_format = refl; of = refl; added = λ b. refl }
-continues (table_map t) of no = record { counts = refl; no_gtid = refl; no_format = refl; of = refl; added = λ b. refl }
-continues (other_map id) of no = record { counts = refl; no_gtid = refl; no_format = refl; of = refl; added = λ b. refl }
-continues (rows r) of no = record { counts = refl; no_gtid = refl; no_format = refl; of = refl; added = λ b. refl }
-continues (xid number) of no = record { counts = refl; no_gtid = refl; no_format = refl; of = refl; added = λ b. refl }
-continues (gtid source number) of no = absurd cc
-continues format of no = absurd cc
-continues neutral of no = absurd cc
-continues stop of no = absurd cc
-continues (rotate position name) of no = absurd cc
+continues begin of other = record { counts = refl; no_gtid = refl; no_format = refl; of = refl; added = λ b. refl }
+continues commit of other = record { counts = refl; no_gtid = refl; no_format = refl; of = refl; added = λ b. refl }
+continues (table_map t) of other = record { counts = refl; no_gtid = refl; no_format = refl; of = refl; added = λ b. refl }
+continues (other_map id) of other = record { counts = refl; no_gtid = refl; no_format = refl; of = refl; added = λ b. refl }
+continues (rows r) of other = record { counts = refl; no_gtid = refl; no_format = refl; of = refl; added = λ b. refl }
+continues (xid number) of other = record { counts = refl; no_gtid = refl; no_format = refl; of = refl; added = λ b. refl }
+continues (gtid source number) of other = absurd cc
+continues format of other = absurd cc
+continues neutral of other = absurd cc
+continues stop of other = absurd cc
+continues (rotate position name) of other = absurd cc
 
 pub stepped : (events : List EventValue) (ds own : List DeliveryValue) (formatted : Bool) (before after : Place) (e : EventValue) → Continues e → Brings events ds formatted before → GoesOn e before after own →
     Brings (events ++ e ∷ []) (ds ++ own) formatted after
@@ -204,3 +208,19 @@ pub refuses : (result : Result (Option Delivery) GatherFault) (formatted : Bool)
     (events : List EventValue) (ds : List DeliveryValue) → Brings events ds formatted before → IfErr result (λ fault. (fault ≡ Memory) ⊎ IsFault events e fault)
 refuses (Ok delivery) formatted before e is faults events ds b = faults
 refuses (Err fault) formatted before e is faults events ds b = fault_from events ds formatted before e fault is b faults
+
+-- ---- Format descriptions.
+
+pub formatted_from : (formatted : Bool) → (not formatted && true) ≡ false → formatted ≡ true
+formatted_from true is = refl
+formatted_from false is = absurd cc
+
+pub true_or : (events : List EventValue) → true ≡ (has_format events || is_format format)
+true_or events = sym (or_true (has_format events))
+
+pub false_or : (formatted : Bool) (events : List EventValue) → formatted ≡ has_format events → formatted ≡ (has_format events || false)
+false_or formatted events is = is ∙ sym (or_false (has_format events))
+
+-- a rotation or a stop is a mark, and no format description
+pub rotates_or_stops : (event : Event) → ((position : ℕ) × (name : Bor (List ℕ)) × (event ≡ Rotate position name)) ⊎ (event ≡ Stop) → (is_mark (event_value event) ≡ true) × (is_format (event_value event) ≡ false)
+rotates_or_stops event is = ⊎_elim (λ r. rw r.2 (refl, refl)) (λ s. rw s (refl, refl)) is

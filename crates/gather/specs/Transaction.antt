@@ -143,3 +143,10 @@ pub record AreDeliveries (events : List EventValue) (ds : List DeliveryValue) : 
 pub record IsLawful (events : List EventValue) : Type 0 where
   pub deliveries : List DeliveryValue
   pub are : AreDeliveries events deliveries
+
+-- The events are lawful, and their transactions are the first of these.
+pub record HasFirst (events : List EventValue) (ds : List DeliveryValue) : Type 0 where
+  pub first : List DeliveryValue
+  pub others : List DeliveryValue
+  pub ds_are : ds ≡ first ++ others
+  pub are : AreDeliveries events first
