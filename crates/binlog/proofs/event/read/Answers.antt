@@ -1,4 +1,4 @@
-use Rattle.std.proofs.Common.{◌≡◌, ◌∙◌, None, Some, sym}
+use Rattle.std.proofs.Common.{◌∙◌, sym}
 use Rattle.std.proofs.lemmas.Option.{none-some}
 use Rattle.binlog.specs.EventView.{event_value, followed}
 use Rattle.binlog.proofs.Events.{answered, if_event, if_err_by, behind_header, header_refused, event_not_refused}
