@@ -57,18 +57,18 @@ fn refused(bytes: &[u8]) -> Result<EventFault, Fail> {
 
 /// The table map that the bytes are.
 fn map_in(bytes: &[u8]) -> Result<TableMap<'_>, Fail> {
-    let Ok(Event::TableMap(map)) = read_event(bytes) else {
-        return Err("no table map")?;
-    };
-    Ok(map)
+    match read_event(bytes)? {
+        Event::TableMap(map) => Ok(map),
+        _ => Err("no table map")?,
+    }
 }
 
 /// The rows event that the bytes are.
 fn rows_in(bytes: &[u8]) -> Result<RowsEvent<'_>, Fail> {
-    let Ok(Event::Rows(rows)) = read_event(bytes) else {
-        return Err("no rows event")?;
-    };
-    Ok(rows)
+    match read_event(bytes)? {
+        Event::Rows(rows) => Ok(rows),
+        _ => Err("no rows event")?,
+    }
 }
 
 /// Whether the bytes are an event that counts for nothing.
@@ -158,34 +158,35 @@ fn copied_maps(rt: HostRuntime) -> Result<(), Fail> {
 }
 
 /// Bytes of a table map changed, and the first refusal.
+const CHANGED_MAPS: [(&[(usize, u8)], EventFaultKind, usize); 14] = [
+    (&[(27, 200)], EventFaultKind::Truncated, 28),
+    (&[(27, 19)], EventFaultKind::Truncated, 47),
+    (&[(33, 200)], EventFaultKind::Truncated, 34),
+    (&[(33, 13)], EventFaultKind::Truncated, 47),
+    (&[(40, 0)], EventFaultKind::Columns, 40),
+    (&[(40, 0xfb)], EventFaultKind::Columns, 40),
+    (&[(40, 0xff)], EventFaultKind::Columns, 40),
+    (
+        &[(40, 0xfc), (41, 1), (42, 16)],
+        EventFaultKind::Columns,
+        40,
+    ),
+    (&[(40, 200)], EventFaultKind::Truncated, 41),
+    (&[(42, 253)], EventFaultKind::ColumnType(253), 42),
+    (
+        &[(41, 0), (42, 253), (43, 9)],
+        EventFaultKind::ColumnType(0),
+        41,
+    ),
+    (&[(43, 3)], EventFaultKind::Metadata, 43),
+    (&[(43, 0xfb)], EventFaultKind::Metadata, 43),
+    (&[(42, 246), (45, 21)], EventFaultKind::Metadata, 44),
+];
+
 #[test]
 fn refused_maps(rt: HostRuntime) -> Result<(), Fail> {
     let alloc = rt.alloc();
-    let maps: [(&[(usize, u8)], EventFaultKind, usize); 14] = [
-        (&[(27, 200)], EventFaultKind::Truncated, 28),
-        (&[(27, 19)], EventFaultKind::Truncated, 47),
-        (&[(33, 200)], EventFaultKind::Truncated, 34),
-        (&[(33, 13)], EventFaultKind::Truncated, 47),
-        (&[(40, 0)], EventFaultKind::Columns, 40),
-        (&[(40, 0xfb)], EventFaultKind::Columns, 40),
-        (&[(40, 0xff)], EventFaultKind::Columns, 40),
-        (
-            &[(40, 0xfc), (41, 1), (42, 16)],
-            EventFaultKind::Columns,
-            40,
-        ),
-        (&[(40, 200)], EventFaultKind::Truncated, 41),
-        (&[(42, 253)], EventFaultKind::ColumnType(253), 42),
-        (
-            &[(41, 0), (42, 253), (43, 9)],
-            EventFaultKind::ColumnType(0),
-            41,
-        ),
-        (&[(43, 3)], EventFaultKind::Metadata, 43),
-        (&[(43, 0xfb)], EventFaultKind::Metadata, 43),
-        (&[(42, 246), (45, 21)], EventFaultKind::Metadata, 44),
-    ];
-    for (changes, kind, at) in maps {
+    for (changes, kind, at) in CHANGED_MAPS {
         let bytes = changed(alloc, 19, &MAP, changes)?;
         assert_eq!(rt; refused(&bytes)?, fault(kind, at), "{changes:?}");
     }
@@ -210,22 +211,23 @@ fn refused_strings(rt: HostRuntime) -> Result<(), Fail> {
     Ok(())
 }
 
-/// Bytes of a rows event changed, and the first refusal.
+/// A type, bytes of a rows event changed, and the first refusal.
+const CHANGED_ROWS: [(u8, &[(usize, u8)], EventFaultKind, usize); 9] = [
+    (30, &[(27, 1)], EventFaultKind::Size, 27),
+    (30, &[(27, 0)], EventFaultKind::Size, 27),
+    (30, &[(27, 200)], EventFaultKind::Truncated, 29),
+    (30, &[(29, 0)], EventFaultKind::Columns, 29),
+    (30, &[(29, 0xff)], EventFaultKind::Columns, 29),
+    (30, &[(29, 200)], EventFaultKind::Truncated, 30),
+    (30, &[(30, 1)], EventFaultKind::Partial, 30),
+    (32, &[(30, 2)], EventFaultKind::Partial, 30),
+    (31, &[(31, 0)], EventFaultKind::Partial, 31),
+];
+
 #[test]
 fn refused_rows(rt: HostRuntime) -> Result<(), Fail> {
     let alloc = rt.alloc();
-    let rows: [(u8, &[(usize, u8)], EventFaultKind, usize); 9] = [
-        (30, &[(27, 1)], EventFaultKind::Size, 27),
-        (30, &[(27, 0)], EventFaultKind::Size, 27),
-        (30, &[(27, 200)], EventFaultKind::Truncated, 29),
-        (30, &[(29, 0)], EventFaultKind::Columns, 29),
-        (30, &[(29, 0xff)], EventFaultKind::Columns, 29),
-        (30, &[(29, 200)], EventFaultKind::Truncated, 30),
-        (30, &[(30, 1)], EventFaultKind::Partial, 30),
-        (32, &[(30, 2)], EventFaultKind::Partial, 30),
-        (31, &[(31, 0)], EventFaultKind::Partial, 31),
-    ];
-    for (code, changes, kind, at) in rows {
+    for (code, changes, kind, at) in CHANGED_ROWS {
         let bytes = changed(alloc, code, &ROWS, changes)?;
         assert_eq!(rt; refused(&bytes)?, fault(kind, at), "{code} {changes:?}");
     }
@@ -372,11 +374,12 @@ fn rows_of_another_table(rt: HostRuntime) -> Result<(), Fail> {
 
 /// A list of one table of the schema shop.
 fn only(alloc: Global, table: &[u8]) -> Result<Follow, Fail> {
-    let name = (
+    let mut names = Vec::new(alloc);
+    names.push((
         Vec::from_slice(alloc, b"shop")?,
         Vec::from_slice(alloc, table)?,
-    );
-    Ok(Follow::new(alloc, &[name])?)
+    ))?;
+    Ok(Follow::new(alloc, &names)?)
 }
 
 /// Whether the bytes are the map 1 of a table that is not followed.
