@@ -3,6 +3,7 @@ use Rattle.std.proofs.Common.{◌≡◌, ℕ, ◌+◌, ◌==◌, ◌&&◌, ◌||
 use Rattle.std.specs.Prelude.{nat_le, not, if◌then◌else◌, Result, Ok, Err, IfOk, IfErr, MatchResult}
 use Rattle.std.specs.Str.{bytes_eq}
 use Rattle.std.proofs.lemmas.Bool.{cases_eq, cases_Bool, ne_eqb, false≢true}
+use Rattle.std.proofs.lemmas.Option.{none-some}
 use Rattle.binlog.specs.Fault.{refuse, first_of, number_at}
 use Rattle.binlog.specs.Header.{IsFramed, HasFrame, header_fault}
 use Rattle.binlog.specs.Body.{IsQuery, statement, text_place}
@@ -339,13 +340,10 @@ pub header_refused : (names : Names) (bytes : List ℕ) (fault : EventFault) →
 unfolding event_fault
 header_refused names bytes fault is = ap (λ line. first_of (line ∷ type_fault (code_of bytes) (may_ignore_of bytes) ∷ body_fault names (code_of bytes) bytes ∷ [])) is
 
-none_some : {X : Type 0} {x : X} → None ≡ Some x → ⊥
-none_some e = cc
-
 pub answered : {X : Type 0} (names : Names) (bytes : List ℕ) (value : X → EventValue) (result : Result X EventFault) → IfOk result (λ x. IsEvent names (value x) bytes) →
     IfErr result (λ fault. event_fault names bytes ≡ Some fault) → (e : EventValue) → IsEvent names e bytes → MatchResult result (λ x. value x ≡ e) (λ _. ⊥)
 answered names bytes value (Ok x) found fault e is = one_event names (value x) e bytes found is
-answered names bytes value (Err f) found fault e is = absurd (none_some (sym (event_not_refused names e bytes is) ∙ fault))
+answered names bytes value (Err f) found fault e is = absurd (none-some _ (sym (event_not_refused names e bytes is) ∙ fault))
 
 -- what is wrong behind a header
 pub if_err_by : {X : Type 0} (result : Result X EventFault) (a b : Option EventFault) → a ≡ b → IfErr result (λ fault. b ≡ Some fault) → IfErr result (λ fault. a ≡ Some fault)

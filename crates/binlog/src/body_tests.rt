@@ -46,146 +46,181 @@ fn told<T: Drop>(alloc: Global, read: Result<T, EventFault>) -> Result<String, F
     })
 }
 
+/// A field that does not fit.
+fn early(at: usize) -> EventFault {
+    EventFault {
+        kind: EventFaultKind::Truncated,
+        at,
+    }
+}
+
+/// What is wrong with bytes that are no format description.
+fn format_fault(event: &[u8]) -> Result<EventFault, Fail> {
+    Ok(read_format(event).err().ok_or("read")?)
+}
+
 #[test]
 fn formats(rt: HostRuntime) -> Result<(), Fail> {
-    let alloc = rt.alloc();
-    let event = format(alloc)?;
+    let event = format(rt.alloc())?;
     assert_eq!(rt; event.len(), 116);
     assert!(rt; read_format(&event).is_ok());
-    for (len, at) in [
-        (20, 19),
-        (21, 21),
-        (70, 21),
-        (71, 71),
-        (75, 75),
-        (76, 76),
-        (77, 77),
-        (80, 77),
-    ] {
-        let fault = read_format(front(&event, len)?).err().ok_or("read")?;
-        assert_eq!(rt;
-            fault,
-            EventFault {
-                kind: EventFaultKind::Truncated,
-                at
-            },
-            "{len}"
-        );
+    let at = 76;
+    let kind = EventFaultKind::HeaderLengths;
+    assert_eq!(rt; format_fault(front(&event, 115)?)?, EventFault { kind, at });
+    Ok(())
+}
+
+/// The length of a format description that is cut short, and the place of what does not fit.
+const CUT_FORMATS: [(usize, usize); 8] = [
+    (20, 19),
+    (21, 21),
+    (70, 21),
+    (71, 71),
+    (75, 75),
+    (76, 76),
+    (77, 77),
+    (80, 77),
+];
+
+#[test]
+fn cut_formats(rt: HostRuntime) -> Result<(), Fail> {
+    let event = format(rt.alloc())?;
+    for (len, at) in CUT_FORMATS {
+        let fault = format_fault(front(&event, len)?)?;
+        assert_eq!(rt; fault, early(at), "{len}");
     }
-    let cases = [
-        (19, 3, EventFaultKind::FormatVersion, 19),
-        (75, 18, EventFaultKind::HeaderLengths, 75),
-        (77, 12, EventFaultKind::HeaderLengths, 77),
-        (79, 9, EventFaultKind::HeaderLengths, 79),
-        (94, 6, EventFaultKind::HeaderLengths, 94),
-        (105, 8, EventFaultKind::HeaderLengths, 105),
-        (106, 8, EventFaultKind::HeaderLengths, 106),
-        (107, 8, EventFaultKind::HeaderLengths, 107),
-        (111, 1, EventFaultKind::Checksum(1), 111),
-    ];
-    for (place, byte, kind, at) in cases {
+    Ok(())
+}
+
+/// A place, the byte that is put there, and what is refused where.
+const CHANGED_FORMATS: [(usize, u8, EventFaultKind, usize); 9] = [
+    (19, 3, EventFaultKind::FormatVersion, 19),
+    (75, 18, EventFaultKind::HeaderLengths, 75),
+    (77, 12, EventFaultKind::HeaderLengths, 77),
+    (79, 9, EventFaultKind::HeaderLengths, 79),
+    (94, 6, EventFaultKind::HeaderLengths, 94),
+    (105, 8, EventFaultKind::HeaderLengths, 105),
+    (106, 8, EventFaultKind::HeaderLengths, 106),
+    (107, 8, EventFaultKind::HeaderLengths, 107),
+    (111, 1, EventFaultKind::Checksum(1), 111),
+];
+
+#[test]
+fn changed_formats(rt: HostRuntime) -> Result<(), Fail> {
+    let alloc = rt.alloc();
+    for (place, byte, kind, at) in CHANGED_FORMATS {
         let mut changed = format(alloc)?;
         *changed.get_mut(place).ok_or("no such place")? = byte;
-        let fault = read_format(&changed).err().ok_or("read")?;
+        let fault = format_fault(&changed)?;
         assert_eq!(rt; fault, EventFault { kind, at }, "{place}");
     }
-    let fault = read_format(front(&event, 115)?).err().ok_or("read")?;
-    assert_eq!(rt;
-        fault,
-        EventFault {
-            kind: EventFaultKind::HeaderLengths,
-            at: 76
-        }
-    );
     Ok(())
+}
+
+/// What is read of a query of this text without a schema.
+fn query(alloc: Global, text: &[u8]) -> Result<String, Fail> {
+    let mut event = header(alloc, 2, 0)?;
+    event.extend_from_slice(&[0; 14])?;
+    event.extend_from_slice(text)?;
+    told(alloc, read_query(&event))
 }
 
 #[test]
 fn queries(rt: HostRuntime) -> Result<(), Fail> {
     let alloc = rt.alloc();
-    for (text, due) in [
-        (b"BEGIN".as_slice(), "read"),
-        (b"COMMIT", "read"),
-        (b"begin", "a statement other than BEGIN and COMMIT at 33"),
-        (b"commit", "a statement other than BEGIN and COMMIT at 33"),
-        (b"COMMIT ", "a statement other than BEGIN and COMMIT at 33"),
-        (b"", "a statement other than BEGIN and COMMIT at 33"),
-        (
-            b"CREATE TABLE t (a INT)",
-            "a statement other than BEGIN and COMMIT at 33",
-        ),
-        (
-            b"SAVEPOINT a",
-            "a statement other than BEGIN and COMMIT at 33",
-        ),
-    ] {
-        let mut event = header(alloc, 2, 0)?;
-        event.extend_from_slice(&[0; 14])?;
-        event.extend_from_slice(text)?;
-        assert_eq!(rt; told(alloc, read_query(&event))?.as_str(), due);
+    for text in [b"BEGIN".as_slice(), b"COMMIT"] {
+        assert_eq!(rt; query(alloc, text)?.as_str(), "read", "{text:?}");
     }
-    // A status of two bytes and a schema of three.
-    let mut event = header(alloc, 2, 0)?;
+    let other = "a statement that is neither BEGIN nor COMMIT at 33";
+    for text in [
+        b"begin".as_slice(),
+        b"commit",
+        b"COMMIT ",
+        b"",
+        b"CREATE TABLE t (a INT)",
+        b"SAVEPOINT a",
+    ] {
+        assert_eq!(rt; query(alloc, text)?.as_str(), other, "{text:?}");
+    }
+    Ok(())
+}
+
+/// What is wrong with bytes that are no query.
+fn query_fault(event: &[u8]) -> Result<EventFault, Fail> {
+    Ok(read_query(event).err().ok_or("read")?)
+}
+
+/// The length of a query that is cut short, and the place of what does not fit.
+const CUT_QUERIES: [(usize, usize); 8] = [
+    (22, 19),
+    (26, 23),
+    (27, 27),
+    (29, 28),
+    (31, 30),
+    (33, 32),
+    (36, 34),
+    (37, 37),
+];
+
+/// A status of two bytes and a schema of three.
+#[test]
+fn queries_with_a_schema(rt: HostRuntime) -> Result<(), Fail> {
+    let mut event = header(rt.alloc(), 2, 0)?;
     event.extend_from_slice(&[1, 2, 3, 4, 5, 6, 7, 8, 3, 0, 0, 2, 0, 9, 9])?;
     event.extend_from_slice(b"abc\0COMMIT")?;
     assert_eq!(rt; read_query(&event)?, Query::Commit);
-    for (len, at) in [
-        (22, 19),
-        (26, 23),
-        (27, 27),
-        (29, 28),
-        (31, 30),
-        (33, 32),
-        (36, 34),
-        (37, 37),
-    ] {
-        let fault = read_query(front(&event, len)?).err().ok_or("read")?;
-        assert_eq!(rt;
-            fault,
-            EventFault {
-                kind: EventFaultKind::Truncated,
-                at
-            },
-            "{len}"
-        );
+    for (len, at) in CUT_QUERIES {
+        let fault = query_fault(front(&event, len)?)?;
+        assert_eq!(rt; fault, early(at), "{len}");
     }
     Ok(())
+}
+
+const SOURCE: [u8; 16] = [
+    0x3e, 0x11, 0xfa, 0x47, 0x71, 0xca, 0x11, 0xe1, 0x9e, 0x33, 0xc8, 0x0a, 0xa9, 0x42, 0x95, 0x62,
+];
+
+/// An identifier of this number.
+fn identifier(alloc: Global, number: u64) -> Result<Vec<u8>, Fail> {
+    let mut event = header(alloc, 33, 44)?;
+    event.push(0)?;
+    event.extend_from_slice(&SOURCE)?;
+    event.extend_from_slice(&number.to_le_bytes())?;
+    Ok(event)
+}
+
+/// What is wrong with bytes that are no identifier.
+fn gtid_fault(event: &[u8]) -> Result<EventFault, Fail> {
+    Ok(read_gtid(event).err().ok_or("read")?)
 }
 
 #[test]
 fn identifiers(rt: HostRuntime) -> Result<(), Fail> {
     let alloc = rt.alloc();
-    let source = [
-        0x3e, 0x11, 0xfa, 0x47, 0x71, 0xca, 0x11, 0xe1, 0x9e, 0x33, 0xc8, 0x0a, 0xa9, 0x42, 0x95,
-        0x62,
-    ];
-    for (number, due) in [
-        (1u64, "read"),
-        (9_223_372_036_854_775_806, "read"),
-        (0, "a number outside its range at 36"),
-        (
-            9_223_372_036_854_775_807,
-            "a number outside its range at 36",
-        ),
+    for number in [1u64, 9_223_372_036_854_775_806] {
+        let gtid = read_gtid(&identifier(alloc, number)?)?;
+        assert_eq!(rt; (gtid.source, gtid.number), (SOURCE, number));
+    }
+    for number in [0, 9_223_372_036_854_775_807] {
+        let text = told(alloc, read_gtid(&identifier(alloc, number)?))?;
+        assert_eq!(rt; text.as_str(), "a number outside its range at 36");
+    }
+    Ok(())
+}
+
+#[test]
+fn cut_identifiers(rt: HostRuntime) -> Result<(), Fail> {
+    let alloc = rt.alloc();
+    for number in [
+        1u64,
+        9_223_372_036_854_775_806,
+        0,
+        9_223_372_036_854_775_807,
     ] {
-        let mut event = header(alloc, 33, 44)?;
-        event.push(0)?;
-        event.extend_from_slice(&source)?;
-        event.extend_from_slice(&number.to_le_bytes())?;
-        assert_eq!(rt; told(alloc, read_gtid(&event))?.as_str(), due);
-        if let Ok(gtid) = read_gtid(&event) {
-            assert_eq!(rt; (gtid.source, gtid.number), (source, number));
-        }
+        let event = identifier(alloc, number)?;
         for (len, at) in [(19, 19), (20, 20), (35, 20), (36, 36), (43, 36)] {
-            let fault = read_gtid(front(&event, len)?).err().ok_or("read")?;
-            assert_eq!(rt;
-                fault,
-                EventFault {
-                    kind: EventFaultKind::Truncated,
-                    at
-                },
-                "{len}"
-            );
+            let fault = gtid_fault(front(&event, len)?)?;
+            assert_eq!(rt; fault, early(at), "{number} {len}");
         }
     }
     Ok(())

@@ -55,116 +55,179 @@ fn refused(bytes: &[u8]) -> Result<EventFault, Fail> {
     Ok(read_event(bytes).err().ok_or("an event")?)
 }
 
+/// The table map that the bytes are.
+fn map_in(bytes: &[u8]) -> Result<TableMap<'_>, Fail> {
+    match read_event(bytes)? {
+        Event::TableMap(map) => Ok(map),
+        _ => Err("no table map")?,
+    }
+}
+
+/// The rows event that the bytes are.
+fn rows_in(bytes: &[u8]) -> Result<RowsEvent<'_>, Fail> {
+    match read_event(bytes)? {
+        Event::Rows(rows) => Ok(rows),
+        _ => Err("no rows event")?,
+    }
+}
+
+/// Whether the bytes are an event that counts for nothing.
+fn is_neutral(bytes: &[u8]) -> bool {
+    matches!(read_event(bytes), Ok(Event::Neutral))
+}
+
+/// The bytes of an event.
+fn written(alloc: Global, value: &Event<'_>) -> Result<Vec<u8>, Fail> {
+    if !value.fits() {
+        return Err("no bytes are the event")?;
+    }
+    let mut out = Vec::new(alloc);
+    value.write(&mut out)?;
+    Ok(out)
+}
+
 #[test]
 fn types(rt: HostRuntime) -> Result<(), Fail> {
     let alloc = rt.alloc();
     for code in [27, 28, 29, 35] {
         let bytes = event(alloc, code, 0, b"any body")?;
-        assert!(rt; matches!(read_event(&bytes), Ok(Event::Neutral)), "{code}");
+        assert!(rt; is_neutral(&bytes), "{code}");
     }
     let marked = event(alloc, 99, 0x80, b"x")?;
-    assert!(rt; matches!(read_event(&marked), Ok(Event::Neutral)));
+    assert!(rt; is_neutral(&marked));
     let stop = event(alloc, 3, 0, b"x")?;
     assert!(rt; matches!(read_event(&stop), Ok(Event::Stop)));
-    let cases = [
-        (99, 0, EventFaultKind::TypeCode(99)),
-        (99, 0x7f, EventFaultKind::TypeCode(99)),
-        (34, 0, EventFaultKind::Anonymous),
-        (34, 0x80, EventFaultKind::Anonymous),
-        (38, 0, EventFaultKind::TypeCode(38)),
-        (39, 0x80, EventFaultKind::TypeCode(39)),
-        (40, 0x80, EventFaultKind::TypeCode(40)),
-    ];
-    for (code, flags, kind) in cases {
+    Ok(())
+}
+
+/// A type, flags, and why the event is refused.
+const TYPES: [(u8, u8, EventFaultKind); 7] = [
+    (99, 0, EventFaultKind::TypeCode(99)),
+    (99, 0x7f, EventFaultKind::TypeCode(99)),
+    (34, 0, EventFaultKind::Anonymous),
+    (34, 0x80, EventFaultKind::Anonymous),
+    (38, 0, EventFaultKind::TypeCode(38)),
+    (39, 0x80, EventFaultKind::TypeCode(39)),
+    (40, 0x80, EventFaultKind::TypeCode(40)),
+];
+
+#[test]
+fn refused_types(rt: HostRuntime) -> Result<(), Fail> {
+    let alloc = rt.alloc();
+    for (code, flags, kind) in TYPES {
         let bytes = event(alloc, code, flags, b"")?;
         assert_eq!(rt; refused(&bytes)?, fault(kind, 4), "{code} {flags}");
     }
     Ok(())
 }
 
+/// The kinds of columns.
+fn kinds(alloc: Global, columns: &ColumnTypes<'_>) -> Result<Vec<ColumnKind>, Fail> {
+    let mut kinds = Vec::new(alloc);
+    for column in columns.iter() {
+        kinds.push(column.kind)?;
+    }
+    Ok(kinds)
+}
+
 #[test]
 fn table_maps(rt: HostRuntime) -> Result<(), Fail> {
     let alloc = rt.alloc();
     let bytes = event(alloc, 19, 0, &MAP)?;
-    let Ok(Event::TableMap(map)) = read_event(&bytes) else {
-        return Err("no table map")?;
-    };
+    let map = map_in(&bytes)?;
     assert_eq!(rt; (map.id, map.columns.len()), (1, 2));
     assert!(rt; !map.columns.is_empty());
     assert_eq!(rt; map.schema, b"shop".as_slice());
     assert_eq!(rt; map.table, b"items".as_slice());
-    let mut kinds = Vec::new(alloc);
-    for column in map.columns.iter() {
-        kinds.push(column.kind)?;
-    }
     let want = [ColumnKind::Long, ColumnKind::Varchar { maximum: 20 }];
-    assert_eq!(rt; kinds.as_slice(), want.as_slice());
-    let table = map.copy(alloc)?;
-    assert_eq!(rt; table.schema.as_slice(), b"shop".as_slice());
-    assert_eq!(rt; table.table.as_slice(), b"items".as_slice());
-    assert_eq!(rt; table.types.len(), 2);
-    let mut again = Vec::new(alloc);
-    let map = Event::TableMap(table.map(1));
-    assert!(rt; map.fits());
-    map.write(&mut again)?;
-    assert_eq!(rt; again.as_slice(), bytes.as_slice());
+    assert_eq!(rt; kinds(alloc, &map.columns)?.as_slice(), want.as_slice());
     Ok(())
 }
 
-/// Bytes of an event changed, and the first refusal.
 #[test]
-fn refusals(rt: HostRuntime) -> Result<(), Fail> {
+fn copied_maps(rt: HostRuntime) -> Result<(), Fail> {
     let alloc = rt.alloc();
-    let maps: [(&[(usize, u8)], EventFaultKind, usize); 14] = [
-        (&[(27, 200)], EventFaultKind::Truncated, 28),
-        (&[(27, 19)], EventFaultKind::Truncated, 47),
-        (&[(33, 200)], EventFaultKind::Truncated, 34),
-        (&[(33, 13)], EventFaultKind::Truncated, 47),
-        (&[(40, 0)], EventFaultKind::Columns, 40),
-        (&[(40, 0xfb)], EventFaultKind::Columns, 40),
-        (&[(40, 0xff)], EventFaultKind::Columns, 40),
-        (
-            &[(40, 0xfc), (41, 1), (42, 16)],
-            EventFaultKind::Columns,
-            40,
-        ),
-        (&[(40, 200)], EventFaultKind::Truncated, 41),
-        (&[(42, 253)], EventFaultKind::ColumnType(253), 42),
-        (
-            &[(41, 0), (42, 253), (43, 9)],
-            EventFaultKind::ColumnType(0),
-            41,
-        ),
-        (&[(43, 3)], EventFaultKind::Metadata, 43),
-        (&[(43, 0xfb)], EventFaultKind::Metadata, 43),
-        (&[(42, 246), (45, 21)], EventFaultKind::Metadata, 44),
-    ];
-    for (changes, kind, at) in maps {
+    let table = items(alloc)?;
+    assert_eq!(rt; table.schema.as_slice(), b"shop".as_slice());
+    assert_eq!(rt; table.table.as_slice(), b"items".as_slice());
+    assert_eq!(rt; table.types.len(), 2);
+    let again = written(alloc, &Event::TableMap(table.map(1)))?;
+    let want = event(alloc, 19, 0, &MAP)?;
+    assert_eq!(rt; again.as_slice(), want.as_slice());
+    Ok(())
+}
+
+/// Bytes of a table map changed, and the first refusal.
+const CHANGED_MAPS: [(&[(usize, u8)], EventFaultKind, usize); 14] = [
+    (&[(27, 200)], EventFaultKind::Truncated, 28),
+    (&[(27, 19)], EventFaultKind::Truncated, 47),
+    (&[(33, 200)], EventFaultKind::Truncated, 34),
+    (&[(33, 13)], EventFaultKind::Truncated, 47),
+    (&[(40, 0)], EventFaultKind::Columns, 40),
+    (&[(40, 0xfb)], EventFaultKind::Columns, 40),
+    (&[(40, 0xff)], EventFaultKind::Columns, 40),
+    (
+        &[(40, 0xfc), (41, 1), (42, 16)],
+        EventFaultKind::Columns,
+        40,
+    ),
+    (&[(40, 200)], EventFaultKind::Truncated, 41),
+    (&[(42, 253)], EventFaultKind::ColumnType(253), 42),
+    (
+        &[(41, 0), (42, 253), (43, 9)],
+        EventFaultKind::ColumnType(0),
+        41,
+    ),
+    (&[(43, 3)], EventFaultKind::Metadata, 43),
+    (&[(43, 0xfb)], EventFaultKind::Metadata, 43),
+    (&[(42, 246), (45, 21)], EventFaultKind::Metadata, 44),
+];
+
+#[test]
+fn refused_maps(rt: HostRuntime) -> Result<(), Fail> {
+    let alloc = rt.alloc();
+    for (changes, kind, at) in CHANGED_MAPS {
         let bytes = changed(alloc, 19, &MAP, changes)?;
         assert_eq!(rt; refused(&bytes)?, fault(kind, at), "{changes:?}");
     }
-    let strings: [(u8, u8, EventFaultKind); 4] = [
-        (253, 5, EventFaultKind::ColumnType(253)),
-        (247, 3, EventFaultKind::Metadata),
-        (248, 9, EventFaultKind::Metadata),
-        (0x8e, 0, EventFaultKind::ColumnType(0xbe)),
-    ];
-    for (first, second, kind) in strings {
+    Ok(())
+}
+
+/// The metadata of a string type, and why it is refused.
+const STRINGS: [(u8, u8, EventFaultKind); 4] = [
+    (253, 5, EventFaultKind::ColumnType(253)),
+    (247, 3, EventFaultKind::Metadata),
+    (248, 9, EventFaultKind::Metadata),
+    (0x8e, 0, EventFaultKind::ColumnType(0xbe)),
+];
+
+#[test]
+fn refused_strings(rt: HostRuntime) -> Result<(), Fail> {
+    let alloc = rt.alloc();
+    for (first, second, kind) in STRINGS {
         let bytes = changed(alloc, 19, &MAP, &[(42, 254), (44, first), (45, second)])?;
         assert_eq!(rt; refused(&bytes)?, fault(kind, 44), "{first} {second}");
     }
-    let rows: [(u8, &[(usize, u8)], EventFaultKind, usize); 9] = [
-        (30, &[(27, 1)], EventFaultKind::Size, 27),
-        (30, &[(27, 0)], EventFaultKind::Size, 27),
-        (30, &[(27, 200)], EventFaultKind::Truncated, 29),
-        (30, &[(29, 0)], EventFaultKind::Columns, 29),
-        (30, &[(29, 0xff)], EventFaultKind::Columns, 29),
-        (30, &[(29, 200)], EventFaultKind::Truncated, 30),
-        (30, &[(30, 1)], EventFaultKind::Partial, 30),
-        (32, &[(30, 2)], EventFaultKind::Partial, 30),
-        (31, &[(31, 0)], EventFaultKind::Partial, 31),
-    ];
-    for (code, changes, kind, at) in rows {
+    Ok(())
+}
+
+/// A type, bytes of a rows event changed, and the first refusal.
+const CHANGED_ROWS: [(u8, &[(usize, u8)], EventFaultKind, usize); 9] = [
+    (30, &[(27, 1)], EventFaultKind::Size, 27),
+    (30, &[(27, 0)], EventFaultKind::Size, 27),
+    (30, &[(27, 200)], EventFaultKind::Truncated, 29),
+    (30, &[(29, 0)], EventFaultKind::Columns, 29),
+    (30, &[(29, 0xff)], EventFaultKind::Columns, 29),
+    (30, &[(29, 200)], EventFaultKind::Truncated, 30),
+    (30, &[(30, 1)], EventFaultKind::Partial, 30),
+    (32, &[(30, 2)], EventFaultKind::Partial, 30),
+    (31, &[(31, 0)], EventFaultKind::Partial, 31),
+];
+
+#[test]
+fn refused_rows(rt: HostRuntime) -> Result<(), Fail> {
+    let alloc = rt.alloc();
+    for (code, changes, kind, at) in CHANGED_ROWS {
         let bytes = changed(alloc, code, &ROWS, changes)?;
         assert_eq!(rt; refused(&bytes)?, fault(kind, at), "{code} {changes:?}");
     }
@@ -219,10 +282,7 @@ fn cut_events(rt: HostRuntime) -> Result<(), Fail> {
 /// The table of `MAP`.
 fn items(alloc: Global) -> Result<TableDef, Fail> {
     let bytes = event(alloc, 19, 0, &MAP)?;
-    let Ok(Event::TableMap(map)) = read_event(&bytes) else {
-        return Err("no table map")?;
-    };
-    Ok(map.copy(alloc)?)
+    Ok(map_in(&bytes)?.copy(alloc)?)
 }
 
 /// A cell as `null`, as its number and width, or as its bytes.
@@ -239,21 +299,27 @@ fn cells(alloc: Global, row: &Row<'_>) -> Result<String, Fail> {
     Ok(text)
 }
 
+/// A pair of rows, each behind its sign.
+fn pair(alloc: Global, pair: &RowPair<'_>) -> Result<String, Fail> {
+    Ok(match pair {
+        RowPair::Insert { after } => format!(in alloc; "+ {}", cells(alloc, after)?)?,
+        RowPair::Delete { before } => format!(in alloc; "- {}", cells(alloc, before)?)?,
+        RowPair::Update { before, after } => {
+            let before = cells(alloc, before)?;
+            let after = cells(alloc, after)?;
+            format!(in alloc; "- {before}+ {after}")?
+        }
+    })
+}
+
 /// The rows of an event, one item after another.
 fn told(alloc: Global, code: u8, body: &[u8], changes: &[(usize, u8)]) -> Result<String, Fail> {
     let table = items(alloc)?;
     let bytes = changed(alloc, code, body, changes)?;
-    let Ok(Event::Rows(rows)) = read_event(&bytes) else {
-        return Err("no rows event")?;
-    };
     let mut text = String::new(alloc);
-    for item in rows.rows(&table)? {
+    for item in rows_in(&bytes)?.rows(&table)? {
         let item = match item {
-            Ok(RowPair::Insert { after }) => format!(in alloc; "+ {}", cells(alloc, &after)?)?,
-            Ok(RowPair::Delete { before }) => format!(in alloc; "- {}", cells(alloc, &before)?)?,
-            Ok(RowPair::Update { before, after }) => {
-                format!(in alloc; "- {}+ {}", cells(alloc, &before)?, cells(alloc, &after)?)?
-            }
+            Ok(rows) => pair(alloc, &rows)?,
             Err(fault) => format!(in alloc; "{fault}")?,
         };
         text.push_str(&item)?;
@@ -293,70 +359,68 @@ fn rows(rt: HostRuntime) -> Result<(), Fail> {
         let text = told(alloc, code, body, changes)?;
         assert_eq!(rt; text.as_str(), want, "{code} {changes:?}");
     }
+    Ok(())
+}
+
+#[test]
+fn rows_of_another_table(rt: HostRuntime) -> Result<(), Fail> {
+    let alloc = rt.alloc();
     let bytes = changed(alloc, 30, &ROWS, &[(29, 1)])?;
-    let Ok(Event::Rows(rows)) = read_event(&bytes) else {
-        return Err("no rows event")?;
-    };
     let table = items(alloc)?;
-    let fault = rows.rows(&table).err().ok_or("rows of another table")?;
-    assert_eq!(rt;
-        fault,
-        EventFault {
-            kind: EventFaultKind::Columns,
-            at: 29
-        }
-    );
+    let answer = rows_in(&bytes)?.rows(&table).err();
+    assert_eq!(rt; answer, Some(fault(EventFaultKind::Columns, 29)));
+    Ok(())
+}
+
+/// A list of one table of the schema shop.
+fn only(alloc: Global, table: &[u8]) -> Result<Follow, Fail> {
+    let mut names = Vec::new(alloc);
+    names.push((
+        Vec::from_slice(alloc, b"shop")?,
+        Vec::from_slice(alloc, table)?,
+    ))?;
+    Ok(Follow::new(alloc, &names)?)
+}
+
+/// Whether the bytes are the map 1 of a table that is not followed.
+fn is_other(bytes: &[u8], follow: &Follow) -> bool {
+    matches!(
+        read_event_only(bytes, follow),
+        Ok(Event::OtherMap { id: 1 })
+    )
+}
+
+/// What is wrong with the bytes, where it is looked for.
+fn refused_only(bytes: &[u8], follow: &Follow) -> Option<EventFault> {
+    read_event_only(bytes, follow).err()
+}
+
+#[test]
+fn follows(rt: HostRuntime) -> Result<(), Fail> {
+    let alloc = rt.alloc();
+    let other = only(alloc, b"other")?;
+    assert!(rt; other.follows(b"shop", b"other"));
+    assert!(rt; !other.follows(b"shop", b"items"));
+    assert!(rt; !other.follows(b"other", b"shop"));
+    assert!(rt; Follow::all(alloc).follows(b"shop", b"items"));
     Ok(())
 }
 
 #[test]
 fn followed_tables(rt: HostRuntime) -> Result<(), Fail> {
     let alloc = rt.alloc();
-    let name = (
-        Vec::from_slice(alloc, b"shop")?,
-        Vec::from_slice(alloc, b"other")?,
-    );
-    let items = (
-        Vec::from_slice(alloc, b"shop")?,
-        Vec::from_slice(alloc, b"items")?,
-    );
-    let other = Follow::new(alloc, &[name])?;
-    let shop = Follow::new(alloc, &[items])?;
-    assert!(rt; other.follows(b"shop", b"other"));
-    assert!(rt; !other.follows(b"shop", b"items"));
-    assert!(rt; !other.follows(b"other", b"shop"));
-    assert!(rt; Follow::all(alloc).follows(b"shop", b"items"));
+    let other = only(alloc, b"other")?;
     let bytes = changed(alloc, 19, &MAP, &[(42, 253)])?;
-    assert!(rt;
-        matches!(
-            read_event_only(&bytes, &other),
-            Ok(Event::OtherMap { id: 1 })
-        )
-    );
-    let fault = EventFault {
-        kind: EventFaultKind::ColumnType(253),
-        at: 42,
-    };
-    for follow in [shop, Follow::all(alloc)] {
-        let answer = read_event_only(&bytes, &follow);
-        assert_eq!(rt; answer.err(), Some(fault));
+    assert!(rt; is_other(&bytes, &other));
+    let of_type = fault(EventFaultKind::ColumnType(253), 42);
+    for follow in [only(alloc, b"items")?, Follow::all(alloc)] {
+        assert_eq!(rt; refused_only(&bytes, &follow), Some(of_type));
     }
     let names = event(alloc, 19, 0, MAP.get(..21).ok_or("a shorter body")?)?;
-    assert!(rt;
-        matches!(
-            read_event_only(&names, &other),
-            Ok(Event::OtherMap { id: 1 })
-        )
-    );
+    assert!(rt; is_other(&names, &other));
     let cut = event(alloc, 19, 0, MAP.get(..20).ok_or("a shorter body")?)?;
-    let fault = read_event_only(&cut, &other).err().ok_or("an event")?;
-    assert_eq!(rt;
-        fault,
-        EventFault {
-            kind: EventFaultKind::Truncated,
-            at: 39
-        }
-    );
+    let early = fault(EventFaultKind::Truncated, 39);
+    assert_eq!(rt; refused_only(&cut, &other), Some(early));
     Ok(())
 }
 
@@ -397,17 +461,23 @@ fn written_events(rt: HostRuntime) -> Result<(), Fail> {
         (Event::Neutral, 28, b"".as_slice()),
     ];
     for (value, code, body) in cases {
-        assert!(rt; value.fits());
-        let mut out = Vec::new(alloc);
-        value.write(&mut out)?;
+        let out = written(alloc, &value)?;
         let want = event(alloc, code, 0, body)?;
         assert_eq!(rt; out.as_slice(), want.as_slice(), "{code}");
-        assert!(rt; read_event(&out).is_ok(), "{code}");
+        assert!(rt; is_read(&out), "{code}");
     }
-    let mut out = Vec::new(alloc);
-    let format = Event::Format;
-    assert!(rt; format.fits());
-    format.write(&mut out)?;
+    Ok(())
+}
+
+/// Whether the bytes are an event.
+fn is_read(bytes: &[u8]) -> bool {
+    read_event(bytes).is_ok()
+}
+
+#[test]
+fn written_formats(rt: HostRuntime) -> Result<(), Fail> {
+    let alloc = rt.alloc();
+    let out = written(alloc, &Event::Format)?;
     assert_eq!(rt; out.len(), 116);
     assert!(rt; matches!(read_event(&out), Ok(Event::Format)));
     assert!(rt; !(Event::OtherMap { id: 1 }).fits());
@@ -425,11 +495,26 @@ fn row(alloc: Global, number: u64, text: &[u8]) -> Result<Vec<OwnedCell>, Fail> 
     Ok(cells)
 }
 
+/// The bytes of rows.
+fn rows_written(
+    alloc: Global,
+    kind: RowsKind,
+    types: &[ColumnType],
+    pairs: &[OwnedPair],
+) -> Result<Vec<u8>, Fail> {
+    if !rows_fit(kind, types, pairs) {
+        return Err("no bytes are the rows")?;
+    }
+    let mut bytes = Vec::new(alloc);
+    write_rows(kind, types, pairs, &mut bytes)?;
+    Ok(bytes)
+}
+
 /// Rows and their event, byte for byte.
 #[test]
 fn written_rows(rt: HostRuntime) -> Result<(), Fail> {
     let alloc = rt.alloc();
-    let table = items(alloc)?;
+    let types = items(alloc)?.types;
     let pairs = [
         OwnedPair::Insert {
             after: row(alloc, 7, b"ab")?,
@@ -438,33 +523,41 @@ fn written_rows(rt: HostRuntime) -> Result<(), Fail> {
             after: row(alloc, 7, b"ab")?,
         },
     ];
-    assert!(rt; rows_fit(RowsKind::Write, &table.types, &pairs));
-    assert!(rt; !rows_fit(RowsKind::Delete, &table.types, &pairs));
-    let mut bytes = Vec::new(alloc);
-    write_rows(RowsKind::Write, &table.types, &pairs, &mut bytes)?;
+    assert!(rt; !rows_fit(RowsKind::Delete, &types, &pairs));
+    let bytes = rows_written(alloc, RowsKind::Write, &types, &pairs)?;
     let event = RowsEvent::new(1, RowsKind::Write, 2, &bytes).ok_or("no rows event")?;
-    let value = Event::Rows(event);
-    assert!(rt; value.fits());
-    let mut out = Vec::new(alloc);
-    value.write(&mut out)?;
+    let out = written(alloc, &Event::Rows(event))?;
     let want = self::event(alloc, 30, 0, &ROWS)?;
     assert_eq!(rt; out.as_slice(), want.as_slice());
+    Ok(())
+}
+
+/// An update to null, byte for byte.
+#[test]
+fn written_updates(rt: HostRuntime) -> Result<(), Fail> {
+    let alloc = rt.alloc();
     let mut after = Vec::new(alloc);
     after.push(OwnedCell::Null)?;
     after.push(OwnedCell::Bytes(Vec::from_slice(alloc, b"ab")?))?;
-    assert_eq!(rt; after[0].as_cell(), Cell::Null);
-    let changed = [OwnedPair::Update {
+    let null = after.first().ok_or("no cell")?;
+    assert_eq!(rt; null.as_cell(), Cell::Null);
+    let pairs = [OwnedPair::Update {
         before: row(alloc, 7, b"ab")?,
         after,
     }];
-    assert!(rt; rows_fit(RowsKind::Update, &table.types, &changed));
-    let mut bytes = Vec::new(alloc);
-    write_rows(RowsKind::Update, &table.types, &changed, &mut bytes)?;
+    let bytes = rows_written(alloc, RowsKind::Update, &items(alloc)?.types, &pairs)?;
     assert_eq!(rt; bytes.as_slice(), &UPDATE[13..]);
-    let long = [OwnedPair::Insert {
+    Ok(())
+}
+
+/// A number that is too large for its column.
+#[test]
+fn long_numbers(rt: HostRuntime) -> Result<(), Fail> {
+    let alloc = rt.alloc();
+    let pairs = [OwnedPair::Insert {
         after: row(alloc, 1 << 32, b"ab")?,
     }];
-    assert!(rt; !rows_fit(RowsKind::Write, &table.types, &long));
+    assert!(rt; !rows_fit(RowsKind::Write, &items(alloc)?.types, &pairs));
     Ok(())
 }
 
@@ -508,22 +601,16 @@ fn nine_columns(rt: HostRuntime) -> Result<(), Fail> {
     let types = [254, 15, 15, 252, 252, 254, 254, 16, 3];
     let metadata = [0xce, 0xfc, 0xff, 0, 0, 1, 1, 4, 0xf7, 2, 0xf8, 8, 1, 1];
     let bytes = map_of(alloc, &types, &metadata)?;
-    let Ok(Event::TableMap(map)) = read_event(&bytes) else {
-        return Err("no table map")?;
-    };
-    let table = map.copy(alloc)?;
+    let table = map_in(&bytes)?.copy(alloc)?;
     let mut body = Vec::from_slice(alloc, b"\x01\0\0\0\0\0\x01\0\x02\0\x09\xff\x01")?;
     body.extend_from_slice(
         b"\0\xff\x01\0a\x01b\x01\0c\x01d\x01\0\0\0e\x02\0\x05\0\0\0\0\0\0\0\x01\x02",
     )?;
     let bytes = event(alloc, 30, 0, &body)?;
-    let Ok(Event::Rows(rows)) = read_event(&bytes) else {
-        return Err("no rows event")?;
-    };
-    let Some(Ok(RowPair::Insert { after })) = rows.rows(&table)?.next() else {
+    let Some(Ok(row)) = rows_in(&bytes)?.rows(&table)?.next() else {
         return Err("no row")?;
     };
-    let want = "[97] [98] [99] [100] [101] 2/2 5/8 [1, 2] null ";
-    assert_eq!(rt; cells(alloc, &after)?.as_str(), want);
+    let want = "+ [97] [98] [99] [100] [101] 2/2 5/8 [1, 2] null ";
+    assert_eq!(rt; pair(alloc, &row)?.as_str(), want);
     Ok(())
 }

@@ -27,8 +27,8 @@ pub enum EventFaultKind {
     /// An event of this type, which is not read.
     #[error("event type {0} is not read")]
     TypeCode(u8),
-    /// A query other than BEGIN and COMMIT.
-    #[error("a statement other than BEGIN and COMMIT")]
+    /// A query that is neither BEGIN nor COMMIT.
+    #[error("a statement that is neither BEGIN nor COMMIT")]
     Statement,
     /// A column of this type, which is not read.
     #[error("column type {0} is not read")]

@@ -63,7 +63,7 @@ pub(crate) fn write_rows_event(rows: &RowsEvent<'_>, out: &mut Vec<u8>) -> Resul
 {
     write_head(rows, out)?;
     let width = rows.bytes_at - rows.columns_at - presents_size(rows.kind, rows.columns);
-    write_count(width, rows.columns, out)?;
+    write_padded_count(width, rows.columns, out)?;
     write_presents(rows.kind, rows.columns, out)?;
     out.extend_from_slice(rows.bytes)?;
     match rows.kind {
@@ -112,7 +112,7 @@ fn write_zeros(n: usize, out: &mut Vec<u8>) -> Result<(), EventFault>
 }
 
 /// Appends a count in so many bytes.
-fn write_count(width: usize, count: usize, out: &mut Vec<u8>) -> Result<(), EventFault>
+fn write_padded_count(width: usize, count: usize, out: &mut Vec<u8>) -> Result<(), EventFault>
     requires small { count ≤ 4096 }
     requires fits { width ≡ 1 → count ≤ 250 }
     ensures ok { OnOk result (out.new.items ≡ out.old.items ++ count_bytes width count) }

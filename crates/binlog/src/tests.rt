@@ -44,8 +44,9 @@ fn headers(rt: HostRuntime) -> Result<(), Fail> {
     Ok(())
 }
 
+/// The size is one byte more than there are.
 #[test]
-fn refused_headers(rt: HostRuntime) -> Result<(), Fail> {
+fn sizes(rt: HostRuntime) -> Result<(), Fail> {
     let mut bytes = event(rt.alloc(), 16, 28, 0)?;
     let _ = bytes.pop();
     let size = EventFault {
@@ -53,25 +54,30 @@ fn refused_headers(rt: HostRuntime) -> Result<(), Fail> {
         at: 9,
     };
     assert_eq!(rt; Header::read(&bytes), Err(size));
-    let places: [(usize, usize); 10] = [
-        (0, 0),
-        (3, 0),
-        (4, 4),
-        (5, 5),
-        (8, 5),
-        (9, 9),
-        (12, 9),
-        (13, 13),
-        (17, 17),
-        (18, 17),
-    ];
-    for (length, at) in places {
-        bytes.truncate(0);
-        for _ in 0..length {
-            bytes.push(0)?;
-        }
+    Ok(())
+}
+
+/// The length of a header that is cut short, and the place of what does not fit.
+const CUT_HEADERS: [(usize, usize); 10] = [
+    (0, 0),
+    (3, 0),
+    (4, 4),
+    (5, 5),
+    (8, 5),
+    (9, 9),
+    (12, 9),
+    (13, 13),
+    (17, 17),
+    (18, 17),
+];
+
+#[test]
+fn cut_headers(rt: HostRuntime) -> Result<(), Fail> {
+    let zeros = [0; 19];
+    for (length, at) in CUT_HEADERS {
+        let bytes = zeros.get(..length).ok_or("a longer header")?;
         assert_eq!(rt;
-            Header::read(&bytes),
+            Header::read(bytes),
             Err(EventFault::truncated(at)),
             "{length}"
         );
@@ -125,22 +131,42 @@ fn nine(alloc: Global) -> Result<Vec<ColumnType>, Fail> {
 }
 
 #[test]
-fn nine_types(rt: HostRuntime) -> Result<(), Fail> {
-    let types = nine(rt.alloc())?;
+fn nine_kinds(rt: HostRuntime) -> Result<(), Fail> {
     let mut kinds = Vec::new(rt.alloc());
-    let mut codes = Vec::new(rt.alloc());
-    let mut metadata = Vec::new(rt.alloc());
-    let mut sizes = Vec::new(rt.alloc());
-    for column in &types {
+    for column in &nine(rt.alloc())? {
         kinds.push(column.kind)?;
-        codes.push(column.code())?;
-        sizes.push(metadata_size(column.code()))?;
-        column.write_metadata(&mut metadata)?;
     }
     assert_eq!(rt; kinds.as_slice(), KINDS.as_slice());
+    Ok(())
+}
+
+#[test]
+fn nine_codes(rt: HostRuntime) -> Result<(), Fail> {
+    let mut codes = Vec::new(rt.alloc());
+    for column in &nine(rt.alloc())? {
+        codes.push(column.code())?;
+    }
     assert_eq!(rt; codes.as_slice(), CODES.as_slice());
-    assert_eq!(rt; metadata.as_slice(), METADATA.as_slice());
+    Ok(())
+}
+
+#[test]
+fn nine_sizes(rt: HostRuntime) -> Result<(), Fail> {
+    let mut sizes = Vec::new(rt.alloc());
+    for column in &nine(rt.alloc())? {
+        sizes.push(metadata_size(column.code()))?;
+    }
     assert_eq!(rt; sizes.as_slice(), SIZES.as_slice());
+    Ok(())
+}
+
+#[test]
+fn nine_metadata(rt: HostRuntime) -> Result<(), Fail> {
+    let mut metadata = Vec::new(rt.alloc());
+    for column in &nine(rt.alloc())? {
+        column.write_metadata(&mut metadata)?;
+    }
+    assert_eq!(rt; metadata.as_slice(), METADATA.as_slice());
     Ok(())
 }
 
@@ -162,18 +188,33 @@ const CELLS: [Cell<'static>; 9] = [
     Cell::Null,
 ];
 
+/// The cells of the row at the front of the bytes; none where there is no row.
+fn cells_of<'a>(
+    alloc: Global,
+    types: &'a [ColumnType],
+    bytes: &'a [u8],
+) -> Result<Vec<Cell<'a>>, Fail> {
+    let mut cells = Vec::new(alloc);
+    if let Ok((row, _)) = Row::read(types, bytes) {
+        for cell in row.cells() {
+            cells.push(cell)?;
+        }
+    }
+    Ok(cells)
+}
+
+/// Where the row at the front of the bytes ends.
+fn end_of(types: &[ColumnType], bytes: &[u8]) -> Option<usize> {
+    Row::read(types, bytes).ok().map(|(_, end)| end)
+}
+
 #[test]
 fn nine_cells(rt: HostRuntime) -> Result<(), Fail> {
     let types = nine(rt.alloc())?;
     let mut bytes = Vec::from_slice(rt.alloc(), &ROW)?;
     bytes.push(0xff)?;
-    let mut cells = Vec::new(rt.alloc());
-    if let Ok((row, end)) = Row::read(&types, &bytes) {
-        assert_eq!(rt; end, 29);
-        for cell in row.cells() {
-            cells.push(cell)?;
-        }
-    }
+    assert_eq!(rt; end_of(&types, &bytes), Some(29));
+    let cells = cells_of(rt.alloc(), &types, &bytes)?;
     assert_eq!(rt; cells.as_slice(), CELLS.as_slice());
     Ok(())
 }
@@ -204,24 +245,24 @@ fn early_ends(rt: HostRuntime) -> Result<(), Fail> {
     Ok(())
 }
 
+/// The types of these kinds.
+fn types_of(alloc: Global, kinds: &[ColumnKind]) -> Result<Vec<ColumnType>, Fail> {
+    let mut types = Vec::new(alloc);
+    for kind in kinds {
+        types.push(ColumnType::new(*kind).ok_or("no such type")?)?;
+    }
+    Ok(types)
+}
+
 /// A row of an INT and a VARCHAR, and the same row with the bits behind its columns set.
 #[test]
 fn bits_behind_the_columns(rt: HostRuntime) -> Result<(), Fail> {
-    let mut types = Vec::new(rt.alloc());
-    for kind in [ColumnKind::Long, ColumnKind::Varchar { maximum: 20 }] {
-        if let Some(column) = ColumnType::new(kind) {
-            types.push(column)?;
-        }
-    }
+    let kinds = [ColumnKind::Long, ColumnKind::Varchar { maximum: 20 }];
+    let types = types_of(rt.alloc(), &kinds)?;
     let want = [Cell::Number { value: 7, width: 4 }, Cell::Bytes(b"ab")];
     for bitmap in [0x00, 0xfc] {
         let bytes = [bitmap, 7, 0, 0, 0, 2, 0x61, 0x62];
-        let mut cells = Vec::new(rt.alloc());
-        if let Ok((row, _)) = Row::read(&types, &bytes) {
-            for cell in row.cells() {
-                cells.push(cell)?;
-            }
-        }
+        let cells = cells_of(rt.alloc(), &types, &bytes)?;
         assert_eq!(rt; cells.as_slice(), want.as_slice(), "{bitmap}");
     }
     Ok(())
@@ -279,12 +320,8 @@ fn sizes_of_values(rt: HostRuntime) -> Result<(), Fail> {
     let mut bytes = vec![in rt.alloc(); 0x11u8; 40]?;
     bytes[0] = 0;
     for (kind, want) in cases {
-        let mut types = Vec::new(rt.alloc());
-        if let Some(column) = ColumnType::new(kind) {
-            types.push(column)?;
-        }
-        let end = Row::read(&types, &bytes).map(|(_, end)| end);
-        assert_eq!(rt; end, Ok(want), "{kind:?}");
+        let types = types_of(rt.alloc(), &[kind])?;
+        assert_eq!(rt; end_of(&types, &bytes), Some(want), "{kind:?}");
     }
     Ok(())
 }

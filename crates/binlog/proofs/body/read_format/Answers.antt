@@ -1,14 +1,12 @@
-use Rattle.std.proofs.Common.{◌≡◌, ◌∙◌, Some, None, sym, ap, refl, arith}
+use Rattle.std.proofs.Common.{◌≡◌, ◌∙◌, sym, ap, refl, arith}
 use Rattle.std.proofs.lemmas.Bool.{ne_eqb}
 use Rattle.std.proofs.lemmas.List.{take_rest}
+use Rattle.std.proofs.lemmas.Option.{none-some}
 use Rattle.byteorder.specs.Endian.{little_number}
 use Rattle.binlog.specs.Fault.{number_at}
 use Rattle.binlog.specs.Body.{length_refusals, read_lengths}
 use Rattle.binlog.proofs.Formats.{first_front, first_behind, format_then, are_lengths, none_wrong, is_format, format_told}
 use Rattle.binlog.proofs.body.read_format.Goals as goal
-
-none_some : {X : Type 0} {x : X} → None ≡ Some x → ⊥
-none_some e = cc
 
 pub returns-then-bytes-ne19-clause-only : goal.returns-then-bytes-ne19-clause-only
 returns-then-bytes-ne19-clause-only c is = absurd (c.if-bytes-ne19.true (format_told c.args.bytes.now is).header)
@@ -17,7 +15,7 @@ pub returns-then-bytes-lt116-clause-only : goal.returns-then-bytes-lt116-clause-
 returns-then-bytes-lt116-clause-only c is = let t = format_told c.args.bytes.now is in absurd (omega (arith, t.long, c.if-bytes-lt116.true))
 
 pub returns-in-Some-clause-only : goal.returns-in-Some-clause-only
-returns-in-Some-clause-only c is = absurd (none_some (sym (none_wrong c.args.bytes.now (format_told c.args.bytes.now is).are) ∙ c.in-Some.ensures.some))
+returns-in-Some-clause-only c is = absurd (none-some _ (sym (none_wrong c.args.bytes.now (format_told c.args.bytes.now is).are) ∙ c.in-Some.ensures.some))
 
 pub returns-in-Some-clause-fault : goal.returns-in-Some-clause-fault
 returns-in-Some-clause-fault c =

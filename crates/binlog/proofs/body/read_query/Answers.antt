@@ -1,16 +1,14 @@
-use Rattle.std.proofs.Common.{◌≡◌, ◌≤◌, ◌-◌, ◌∙◌, arith, Some, None, Ok, take, drop, length, codes, sym, ap, subst}
+use Rattle.std.proofs.Common.{◌≡◌, ◌≤◌, ◌-◌, ◌∙◌, arith, Ok, take, drop, length, codes, sym, ap, subst}
 use Rattle.std.proofs.lemmas.Bool.{false≢true}
 use Rattle.std.proofs.lemmas.List.{take_rest}
+use Rattle.std.proofs.lemmas.Option.{none-some}
 use Rattle.std.proofs.lemmas.Slice.Eq.{bytes_eq-Decides}
 use Rattle.binlog.specs.Body.{IsQuery, statement, text_place}
 use Rattle.binlog.proofs.Bodies.{is_query, query_told, query_not_refused, begin_alone, commit_alone, no_other}
 use Rattle.binlog.proofs.body.read_query.Goals as goal
 
-none_some : {X : Type 0} {x : X} → None ≡ Some x → ⊥
-none_some e = cc
-
 pub returns-in_err-text-clause-only : goal.returns-in_err-text-clause-only
-returns-in_err-text-clause-only c query is = absurd (none_some (sym (query_not_refused query c.args.bytes.now is) ∙ c.in_err-text.ensures.fault))
+returns-in_err-text-clause-only c query is = absurd (none-some _ (sym (query_not_refused query c.args.bytes.now is) ∙ c.in_err-text.ensures.fault))
 
 pub returns-then-eq-clause-found : goal.returns-then-eq-clause-found
 returns-then-eq-clause-found c =

@@ -1,10 +1,8 @@
-use Rattle.std.proofs.Common.{◌≡◌, ◌∙◌, None, Some, sym}
+use Rattle.std.proofs.Common.{◌∙◌, sym}
+use Rattle.std.proofs.lemmas.Option.{none-some}
 use Rattle.binlog.specs.EventView.{event_value, followed}
 use Rattle.binlog.proofs.Events.{answered, if_event, if_err_by, behind_header, header_refused, event_not_refused}
 use Rattle.binlog.proofs.event.read.Goals as goal
-
-none_some : {X : Type 0} {x : X} → None ≡ Some x → ⊥
-none_some e = cc
 
 pub returns-in-Ok-clause-fault : goal.returns-in-Ok-clause-fault
 returns-in-Ok-clause-fault c =
@@ -26,4 +24,4 @@ returns-in-Err-clause-fault c = header_refused (followed c.args.follow) c.args.b
 pub returns-in-Err-clause-only : goal.returns-in-Err-clause-only
 returns-in-Err-clause-only c e is =
     let names = followed c.args.follow in
-    none_some (sym (event_not_refused names e c.args.bytes.now is) ∙ header_refused names c.args.bytes.now c.in-Err.fault c.in-Err.ensures.fault)
+    none-some _ (sym (event_not_refused names e c.args.bytes.now is) ∙ header_refused names c.args.bytes.now c.in-Err.fault c.in-Err.ensures.fault)
