@@ -1,7 +1,7 @@
-//! Times `mrep packets`, `mrep events`, `gtid_bench` and `binlog_bench` against `packets.rs`, `events.rs` and `gtid.rs`,
-//! plain Rust programs that do the same jobs.
+//! Times `mrep packets`, `mrep events`, `gtid_bench`, `binlog_bench` and `gather_bench` against `packets.rs`, `events.rs`
+//! and `gtid.rs`, plain Rust programs that do the same jobs.
 //!
-//!     bench MREP PACKETS GTID_BENCH GTID BINLOG_BENCH EVENTS FOLDER
+//!     bench MREP PACKETS GTID_BENCH GTID BINLOG_BENCH GATHER_BENCH EVENTS FOLDER
 //!
 //! It makes each input of files in the folder. Both programs of a job run in turn, five times each, and
 //! have to print the same; the line has their best times, the ratio of these and the greatest resident size of
@@ -21,7 +21,7 @@ const PACKETS_TIMES: f64 = 1.3;
 /// and at most the largest payload twice and this much more.
 const MORE: usize = 16 * MIB;
 
-/// The goal of events: of their rows to the last cell, and of their list.
+/// The goal of events: of their rows to the last cell, of their list, and of their transactions.
 const EVENTS_TIMES: f64 = 1.5;
 
 /// The goal of each operation on sets.
@@ -29,6 +29,10 @@ const GTID_TIMES: f64 = 1.5;
 
 const OPERATIONS: [&str; 8] =
     ["contains", "ascending", "scattered", "union", "subtract", "print", "parse", "parse_scattered"];
+
+const FORMAT: &[u8] =
+    b"\x04\08.0.36\0\0\0\0\0\0\0\0\0\0\0\0\0\0\0\0\0\0\0\0\0\0\0\0\0\0\0\0\0\0\0\0\0\0\0\0\0\0\0\0\0\0\0\0\0\0\0\0\x13\0\x0d\0\x08\0\0\0\0\0\0\0\0\0\0\0\0\0\0\x08\0\0\0\0\0\0\0\0\0\0\x0a\x0a\x0a\0\0\0\0\0\0\0\0";
+const BEGIN: &[u8] = b"\0\0\0\0\0\0\0\0\0\0\0\0\0\0BEGIN";
 
 struct Input {
     name: &'static str,
@@ -97,10 +101,21 @@ fn event(out: &mut impl Write, sequence: &mut u8, code: u8, body: &[u8]) -> io::
     Ok(())
 }
 
-/// A table of eight columns, and writes of 80 rows of 100 bytes each, of 200 MiB together.
-fn make_rows(path: &Path) -> io::Result<()> {
+/// The event of a transaction's GTID.
+fn gtid(out: &mut impl Write, sequence: &mut u8, number: u64) -> io::Result<()> {
+    let mut gtid = vec![0];
+    gtid.extend_from_slice(b"\x3e\x11\xfaGq\xca\x11\xe1\x9e3\xc8\x0a\xa9B\x95b");
+    gtid.extend_from_slice(&number.to_le_bytes());
+    event(out, sequence, 33, &gtid)
+}
+
+/// A transaction over a table of eight columns, with writes of 80 rows of 100 bytes each.
+fn make_rows(path: &Path, rows: usize) -> io::Result<()> {
     let mut out = BufWriter::new(File::create(path)?);
     let mut sequence = 0;
+    event(&mut out, &mut sequence, 15, FORMAT)?;
+    gtid(&mut out, &mut sequence, 1)?;
+    event(&mut out, &mut sequence, 2, BEGIN)?;
     let mut map = b"\x01\0\0\0\0\0\0\0\x04shop\0\x05items\0\x08".to_vec();
     map.extend_from_slice(&[8, 3, 15, 18, 246, 15, 1, 5, 8, 50, 0, 0, 10, 2, 255, 0, 8, 255]);
     event(&mut out, &mut sequence, 19, &map)?;
@@ -115,9 +130,10 @@ fn make_rows(path: &Path) -> io::Result<()> {
         row[1] = n;
         body.extend_from_slice(&row);
     }
-    for _ in 0..200 * MIB / (80 * row.len()) {
+    for _ in 0..rows / 80 {
         event(&mut out, &mut sequence, 30, &body)?;
     }
+    event(&mut out, &mut sequence, 16, &1u64.to_le_bytes())?;
     out.flush()
 }
 
@@ -125,14 +141,10 @@ fn make_rows(path: &Path) -> io::Result<()> {
 fn make_small(path: &Path) -> io::Result<()> {
     let mut out = BufWriter::new(File::create(path)?);
     let mut sequence = 0;
-    let begin = *b"\0\0\0\0\0\0\0\0\0\0\0\0\0\0BEGIN";
-    for number in 1..=333_333u64 {
-        let mut gtid = vec![0];
-        gtid.extend_from_slice(b"\x3e\x11\xfaGq\xca\x11\xe1\x9e3\xc8\x0a\xa9B\x95b");
-        gtid.extend_from_slice(&number.to_le_bytes());
-        event(&mut out, &mut sequence, 33, &gtid)?;
-        event(&mut out, &mut sequence, 2, &begin)?;
-        event(&mut out, &mut sequence, 16, &number.to_le_bytes())?;
+    for number in 1..=333_333 {
+        gtid(&mut out, &mut sequence, number)?;
+        event(&mut out, &mut sequence, 2, BEGIN)?;
+        event(&mut out, &mut sequence, 16, &u64::to_le_bytes(number))?;
     }
     event(&mut out, &mut sequence, 27, &[])?;
     out.flush()
@@ -211,8 +223,8 @@ fn compare(job: &str, ours: &[&str], theirs: &[&str], folder: &Path, times: f64,
 
 fn main() -> io::Result<ExitCode> {
     let words: Vec<String> = std::env::args().collect();
-    let [_, mrep, packets, gtid_bench, gtid, binlog_bench, events, folder] = words.as_slice() else {
-        eprintln!("usage: bench MREP PACKETS GTID_BENCH GTID BINLOG_BENCH EVENTS FOLDER");
+    let [_, mrep, packets, gtid_bench, gtid, binlog_bench, gather_bench, events, folder] = words.as_slice() else {
+        eprintln!("usage: bench MREP PACKETS GTID_BENCH GTID BINLOG_BENCH GATHER_BENCH EVENTS FOLDER");
         return Ok(ExitCode::from(2));
     };
     let folder = Path::new(folder);
@@ -224,9 +236,14 @@ fn main() -> io::Result<ExitCode> {
         let bound = 2 * input.payload + MORE;
         met &= compare(input.name, &[mrep, "packets", name], &[packets, name], folder, PACKETS_TIMES, bound)?;
     }
-    make_rows(&path)?;
+    make_rows(&path, 200 * MIB / 100)?;
     let rows = "200 MiB of rows to the last cell";
     met &= compare(rows, &[binlog_bench, name], &[events, "sum", name], folder, EVENTS_TIMES, usize::MAX)?;
+    for count in [250_000, 500_000, 1_000_000] {
+        make_rows(&path, count)?;
+        let job = format!("a transaction of {count} rows, gathered");
+        met &= compare(&job, &[gather_bench, name], &[events, "gather", name], folder, EVENTS_TIMES, usize::MAX)?;
+    }
     make_small(&path)?;
     let small = "a list of a million small events";
     met &= compare(small, &[mrep, "events", name], &[events, "list", name], folder, EVENTS_TIMES, MORE)?;

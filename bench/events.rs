@@ -1,6 +1,7 @@
-//! What `binlog_bench` and `mrep events` do, in plain Rust, for `make bench`.
+//! What `binlog_bench`, `gather_bench` and `mrep events` do, in plain Rust, for `make bench`.
 //!
 //!     events sum FILE      the rows of a file of events, and a sum over their cells
+//!     events gather FILE   the changes of its transactions, and the bytes of their images
 //!     events list FILE     a line for each event
 //!
 //! It reads the layouts as they stand and trusts its input: nothing is looked at but what is needed.
@@ -95,6 +96,39 @@ fn rows(shapes: &[Shape], body: &[u8], found: &mut (u64, u64)) {
     }
 }
 
+/// The stored images of the rows of a write, from its body, one behind the other in a list.
+fn images(shapes: &[Shape], body: &[u8], scratch: &mut Vec<u8>, images: &mut Vec<Vec<u8>>) {
+    let bitmap = shapes.len().div_ceil(8);
+    let mut rest = &body[8 + usize::from(body[8]) + 1 + bitmap..];
+    while !rest.is_empty() {
+        let (nulls, mut values) = rest.split_at(bitmap);
+        scratch.clear();
+        scratch.extend_from_slice(&(shapes.len() as u16).to_le_bytes());
+        for (i, shape) in shapes.iter().enumerate() {
+            if nulls[i / 8] >> (i % 8) & 1 == 1 {
+                scratch.push(0);
+                continue;
+            }
+            let (size, length) = match *shape {
+                Shape::Number(size) => {
+                    scratch.extend_from_slice(&[1, size as u8]);
+                    scratch.extend_from_slice(&values[..size]);
+                    values = &values[size..];
+                    continue;
+                }
+                Shape::Fixed(length) => (0, length),
+                Shape::Prefixed(size) => (size, number(&values[..size]) as usize),
+            };
+            scratch.push(2);
+            scratch.extend_from_slice(&(length as u32).to_le_bytes());
+            scratch.extend_from_slice(&values[size..][..length]);
+            values = &values[size + length..];
+        }
+        images.push(scratch.to_vec());
+        rest = values;
+    }
+}
+
 /// The line of an event but for its place.
 fn list(event: &[u8], out: &mut impl Write) -> io::Result<()> {
     let body = &event[19..];
@@ -124,6 +158,7 @@ fn main() -> io::Result<()> {
     let mut out = BufWriter::new(io::stdout());
     let mut table = Vec::new();
     let mut found = (0, 0);
+    let (mut scratch, mut kept) = (Vec::new(), Vec::new());
     let mut place = 0;
     while place < stream.len() {
         let header = &stream[place..place + 4];
@@ -134,6 +169,16 @@ fn main() -> io::Result<()> {
                 write!(out, "{place} {} ", header[3])?;
                 list(event, &mut out)?;
             }
+            "gather" => match event[4] {
+                16 => {
+                    found.0 += kept.len() as u64;
+                    found.1 += kept.iter().map(|image: &Vec<u8>| image.len() as u64).sum::<u64>();
+                    kept.clear();
+                }
+                19 => table = shapes(&event[19..]),
+                30 => images(&table, &event[19..], &mut scratch, &mut kept),
+                _ => {}
+            },
             _ => match event[4] {
                 19 => table = shapes(&event[19..]),
                 30 => rows(&table, &event[19..], &mut found),

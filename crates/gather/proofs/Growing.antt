@@ -132,12 +132,12 @@ skips block [] = refl
 skips block (e ∷ events) =
     ⊎_elim
     (λ yes.
-        let same : add_event block e ≡ block = rw yes refl in
-        let left : counted (e ∷ events) ≡ counted events = rw yes refl in
-        ap (λ b. fold add_event b events) same ∙ skips block events ∙ sym (ap (fold add_event block) left))
+    let same : add_event block e ≡ block = rw yes refl in
+    let left : counted (e ∷ events) ≡ counted events = rw yes refl in
+    ap (λ b. fold add_event b events) same ∙ skips block events ∙ sym (ap (fold add_event block) left))
     (λ other.
-        let left : counted (e ∷ events) ≡ e ∷ counted events = rw other refl in
-        skips (add_event block e) events ∙ sym (ap (fold add_event block) left))
+    let left : counted (e ∷ events) ≡ e ∷ counted events = rw other refl in
+    skips (add_event block e) events ∙ sym (ap (fold add_event block) left))
     (cases_Bool (is_neutral e))
 
 -- table maps and rows events go on with it

@@ -28,4 +28,6 @@ pub use image::Image;
 pub use image_cells::ImageCells;
 
 #[cfg(test)]
+mod gatherer_tests;
+#[cfg(test)]
 mod image_tests;
