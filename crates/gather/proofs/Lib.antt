@@ -7,3 +7,4 @@ pub mod RowItems
 pub mod Places
 pub mod Growing
 pub mod Stepping
+pub mod Shortening

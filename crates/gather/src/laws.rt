@@ -2,12 +2,19 @@
 //!
 //! A law is a function with an empty body: its clauses are proved of the definitions themselves.
 
-ghost use Rattle.std.specs.Prelude.{◌≡◌, ℕ, List};
+ghost use Rattle.std.specs.Prelude.{◌≡◌, ℕ, List, ◌++◌};
 ghost use Rattle.binlog.specs.Cell.{CellValue};
+ghost use Rattle.binlog.specs.Event.{EventValue};
 ghost use Rattle.gather.specs.Image.{IsImage};
+ghost use Rattle.gather.specs.Transaction.{DeliveryValue, AreDeliveries, HasFirst};
 
 /// Equal cells have equal images, and no others do.
 pub fn one_image()
     ensures one { (a b : List CellValue) (bytes : List ℕ) → IsImage a bytes → IsImage b bytes → a ≡ b }
     ensures equal { (a b : List CellValue) (x y : List ℕ) → IsImage a x → IsImage b y → a ≡ b → x ≡ y }
+{}
+
+/// A beginning of a lawful list is lawful, and its transactions are the first of the list's.
+pub fn beginnings()
+    ensures { (first others : List EventValue) (ds : List DeliveryValue) → AreDeliveries (first ++ others) ds → HasFirst first ds }
 {}
