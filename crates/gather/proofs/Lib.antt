@@ -8,3 +8,4 @@ pub mod Places
 pub mod Growing
 pub mod Stepping
 pub mod Shortening
+pub mod OneList

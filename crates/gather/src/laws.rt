@@ -3,10 +3,12 @@
 //! A law is a function with an empty body: its clauses are proved of the definitions themselves.
 
 ghost use Rattle.std.specs.Prelude.{◌≡◌, ℕ, List, ◌++◌};
+ghost use Rattle.std.specs.List.{AllByRecursion};
 ghost use Rattle.binlog.specs.Cell.{CellValue};
 ghost use Rattle.binlog.specs.Event.{EventValue};
 ghost use Rattle.gather.specs.Image.{IsImage};
 ghost use Rattle.gather.specs.Transaction.{DeliveryValue, AreDeliveries, HasFirst};
+ghost use Rattle.gather.specs.Fault.{IsRead};
 
 /// Equal cells have equal images, and no others do.
 pub fn one_image()
@@ -17,4 +19,9 @@ pub fn one_image()
 /// A beginning of a lawful list is lawful, and its transactions are the first of the list's.
 pub fn beginnings()
     ensures { (first others : List EventValue) (ds : List DeliveryValue) → AreDeliveries (first ++ others) ds → HasFirst first ds }
+{}
+
+/// The events of a list that were read have one list of transactions.
+pub fn one_list_of_deliveries()
+    ensures { (events : List EventValue) (x y : List DeliveryValue) → AllByRecursion IsRead events → AreDeliveries events x → AreDeliveries events y → x ≡ y }
 {}
