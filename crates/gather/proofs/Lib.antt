@@ -9,3 +9,4 @@ pub mod Growing
 pub mod Stepping
 pub mod Shortening
 pub mod OneList
+pub mod NextEvents

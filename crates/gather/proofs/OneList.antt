@@ -13,8 +13,12 @@ use Rattle.gather.proofs.Shortening.{ended, Given, stays, gives, given, back}
 -- ---- Events that were read.
 
 -- a rows event has a column
-pub some_columns : (r : RowsValue) → IsRead (rows r) → 1 ≤ r.columns
+some_columns : (r : RowsValue) → IsRead (rows r) → 1 ≤ r.columns
 some_columns r is = is.is_event.has_body.1.columns.0
+
+-- and so has the table that it is read by
+pub many_columns : (t : TableValue) (r : RowsValue) → IsRead (rows r) → length t.columns ≡ r.columns → 1 ≤ length t.columns
+many_columns t r read columns = let some = some_columns r read in omega (arith, some, columns)
 
 all_push : (block : List EventValue) (e : EventValue) → AllByRecursion IsRead block → IsRead e → AllByRecursion IsRead (block ++ e ∷ [])
 all_push [] e all is = (is, tt)
@@ -44,12 +48,10 @@ all_last block (e ∷ events) inside all = all_last (add_event block e) events (
 
 -- ---- One list of changes.
 
-same_rows : (said : Option TableValue) (r : RowsValue) (a b : List ChangeValue) → 1 ≤ r.columns → AreRowChanges said r a → AreRowChanges said r b → a ≡ b
-same_rows None r a b some is_a is_b = is_a ∙ sym is_b
-same_rows (Some t) r a b some is_a is_b =
-    let columns = is_a.1.columns in
-    let many : 1 ≤ length t.columns = omega (arith, some, columns) in
-    is_a.2 ∙ ap (map (change_of t)) (one_list r.kind t.columns is_a.0 is_b.0 r.bytes many is_a.1.rows_are is_b.1.rows_are) ∙ sym is_b.2
+same_rows : (said : Option TableValue) (r : RowsValue) (a b : List ChangeValue) → IsRead (rows r) → AreRowChanges said r a → AreRowChanges said r b → a ≡ b
+same_rows None r a b read is_a is_b = is_a ∙ sym is_b
+same_rows (Some t) r a b read is_a is_b =
+    is_a.2 ∙ ap (map (change_of t)) (one_list r.kind t.columns is_a.0 is_b.0 r.bytes (many_columns t r read is_a.1.columns) is_a.1.rows_are is_b.1.rows_are) ∙ sym is_b.2
 
 same_said : (x y : Option TableValue) (m : Option (Option TableValue)) → m ≡ Some x → m ≡ Some y → x ≡ y
 same_said x y m is_x is_y = cc
@@ -59,7 +61,7 @@ same_own before (table_map t) a b read is_a is_b = is_a ∙ sym is_b
 same_own before (other_map id) a b read is_a is_b = is_a ∙ sym is_b
 same_own before (rows r) a b read is_a is_b =
     let said = same_said is_b.0 is_a.0 _ is_b.1 is_a.1 in
-    same_rows is_a.0 r a b (some_columns r read) is_a.2 (subst (λ s. AreRowChanges s r b) said is_b.2)
+    same_rows is_a.0 r a b read is_a.2 (subst (λ s. AreRowChanges s r b) said is_b.2)
 same_own before format a b read is_a is_b = absurd is_a
 same_own before begin a b read is_a is_b = absurd is_a
 same_own before commit a b read is_a is_b = absurd is_a

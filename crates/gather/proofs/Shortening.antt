@@ -181,42 +181,17 @@ back events e ds are =
 
 no_end_alone : (e : EventValue) → is_neutral e ≡ true → is_end e ≡ false
 no_end_alone neutral is = refl
-no_end_alone format is = absurd cc
-no_end_alone begin is = absurd cc
-no_end_alone commit is = absurd cc
-no_end_alone stop is = absurd cc
-no_end_alone (rotate position name) is = absurd cc
-no_end_alone (gtid source number) is = absurd cc
-no_end_alone (table_map t) is = absurd cc
-no_end_alone (other_map id) is = absurd cc
-no_end_alone (rows r) is = absurd cc
-no_end_alone (xid number) is = absurd cc
+no_end_alone _ is = absurd cc
 
 no_end_mark : (e : EventValue) → is_mark e ≡ true → is_end e ≡ false
-no_end_mark format is = refl
-no_end_mark stop is = refl
-no_end_mark (rotate position name) is = refl
-no_end_mark begin is = refl
-no_end_mark neutral is = refl
 no_end_mark commit is = absurd cc
-no_end_mark (gtid source number) is = refl
-no_end_mark (table_map t) is = refl
-no_end_mark (other_map id) is = refl
-no_end_mark (rows r) is = refl
 no_end_mark (xid number) is = absurd cc
+no_end_mark _ is = refl
 
 no_end_gtid : (e : EventValue) → is_gtid e ≡ true → is_end e ≡ false
-no_end_gtid (gtid source number) is = refl
-no_end_gtid format is = refl
-no_end_gtid begin is = refl
 no_end_gtid commit is = absurd cc
-no_end_gtid neutral is = refl
-no_end_gtid stop is = refl
-no_end_gtid (rotate position name) is = refl
-no_end_gtid (table_map t) is = refl
-no_end_gtid (other_map id) is = refl
-no_end_gtid (rows r) is = refl
 no_end_gtid (xid number) is = absurd cc
+no_end_gtid _ is = refl
 
 -- The last event of a lawful list ends no transaction, or it ends the open one.
 pub data Given (events : List EventValue) (e : EventValue) (ds : List DeliveryValue) : Type 0 where
