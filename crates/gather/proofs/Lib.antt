@@ -7,3 +7,6 @@ pub mod RowItems
 pub mod Places
 pub mod Growing
 pub mod Stepping
+pub mod Shortening
+pub mod OneList
+pub mod NextEvents

@@ -1,0 +1,5 @@
+use Rattle.gather.proofs.Shortening as lemma
+use Rattle.gather.proofs.laws.beginnings.Goals as goal
+
+pub returns : goal.returns
+returns c = lemma.beginning
