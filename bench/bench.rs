@@ -24,8 +24,8 @@ const MORE: usize = 16 * MIB;
 /// The goal of events: of their rows to the last cell, and of their list.
 const EVENTS_TIMES: f64 = 1.5;
 
-/// The goal of gathering: the images are sized before they are written, so each row is read twice.
-const GATHER_TIMES: f64 = 2.0;
+/// The goal of gathering transactions: a row is read twice, so that its image has its final size from the start.
+const GATHER_TIMES: f64 = 2.5;
 
 /// The goal of each operation on sets.
 const GTID_TIMES: f64 = 1.5;

@@ -1,21 +1,12 @@
 -- A lawful list of events that grows by one.
-use Rattle.std.proofs.Common.{◌≡◌, ◌⊎◌, ℕ, Bool, true, false, not, if◌then◌else◌, ◌||◌, List, [], ◌∷◌, ◌++◌, append-nil, append_assoc, filter, flat_map, fold, Option, Some, None, refl, ap, sym, ◌∙◌, subst, ⊎_elim, inl, inr}
-use Rattle.std.specs.List.{list_any}
+use Rattle.std.proofs.Common.{◌≡◌, Bool, true, false, not, ◌||◌, List, [], ◌∷◌, ◌++◌, append-nil, append_assoc, filter, flat_map, fold, refl, ap, sym, ◌∙◌, ⊎_elim}
 use Rattle.std.proofs.lemmas.List.Folds.{list_any-append}
 use Rattle.std.proofs.lemmas.List.Elements.{filter-append}
 use Rattle.std.proofs.lemmas.List.Sums.{fold-append}
 use Rattle.std.proofs.lemmas.Bool.{cases_Bool}
-use Rattle.binlog.specs.Rows.{RowsValue}
 use Rattle.binlog.specs.Event.{EventValue, format, begin, commit, neutral, stop, rotate, gtid, table_map, other_map, rows, xid}
-use Rattle.gather.specs.Transaction.{ChangeValue, DeliveryValue, is_neutral, is_mark, is_end, AreChangesOf, AreChanges, IsMark, IsAnnounced, IsOpen, IsWhole, IsBlock, AreBlocks, is_format_first, AreDeliveries}
-use Rattle.gather.specs.Fault.{is_format, is_gtid, has_format, add_event, last_block, is_announced, is_open, is_of_transaction, IsFault, no_format, misplaced, unread}
-use Rattle.gather.specs.Place.{IsAt, Extends, GoesOn, BreaksOff, FaultsAt}
-use Rattle.gather.specs.Standing.{Brings}
-use Rattle.gather.specs.declared.fault.GatherFault.{GatherFault}
-use Rattle.gather.specs.declared.fault.GatherFault.TheVariants.{NoFormat, Memory}
-use Rattle.gather.specs.declared.place.Place.{Place}
-use Rattle.gather.specs.declared.place.Place.TheVariants.{Between, Announced}
-use Rattle.gather.proofs.Maps.{no_end_of, no_end}
+use Rattle.gather.specs.Transaction.{ChangeValue, DeliveryValue, is_neutral, is_mark, is_end, AreChangesOf, AreChanges, IsWhole, IsBlock, AreBlocks, is_format_first}
+use Rattle.gather.specs.Fault.{is_format, is_gtid, has_format, add_event, last_block}
 
 abbrev pub counted : List EventValue → List EventValue
 counted events = filter (λ e. not (is_neutral e)) events

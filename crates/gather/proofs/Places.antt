@@ -1,9 +1,8 @@
 -- Rows events behind a BEGIN.
-use Rattle.std.proofs.Common.{◌≡◌, ◌⊎◌, ℕ, Bool, true, false, not, List, [], ◌∷◌, ◌++◌, Option, Some, None, Result, Ok, Err, IfErr, refl, ap, sym, ◌∙◌, subst, ⊎_elim, inl, inr}
-use Rattle.std.specs.List.{list_any}
+use Rattle.std.proofs.Common.{◌≡◌, ◌⊎◌, ℕ, true, not, List, [], ◌∷◌, Result, Ok, Err, IfErr, refl, ap, sym, ◌∙◌, subst, ⊎_elim, inl, inr}
 use Rattle.binlog.specs.Rows.{RowsValue}
 use Rattle.binlog.specs.Event.{EventValue, begin, gtid, rows}
-use Rattle.gather.specs.Transaction.{ChangeValue, map_of, is_end, AreChanges}
+use Rattle.gather.specs.Transaction.{ChangeValue, map_of, AreChanges}
 use Rattle.gather.specs.Fault.{is_open, IsRowsFault}
 use Rattle.gather.specs.View.{change_values}
 use Rattle.gather.specs.Begun.{Keeps}

@@ -3,13 +3,12 @@ use Rattle.std.proofs.Common.{◌≡◌, ℕ, ◌+◌, ◌<◌, ◌≤◌, ◌^�
 use Rattle.std.specs.List.{AllByRecursion}
 use Rattle.std.specs.declared.alloc.Global.{Global}
 use Rattle.std.specs.declared.rc.Rc.{Rc}
-use Rattle.std.proofs.lemmas.Bool.{cases_eq}
 use Rattle.std.proofs.lemmas.Option.{none-some}
 use Rattle.std.proofs.lemmas.List.{length-append}
 use Rattle.gtid.proofs.Read.{length_map}
 use Rattle.std.specs.Option.{unwrap_or}
 use Rattle.binlog.specs.Column.{is_lawful}
-use Rattle.binlog.specs.Row.{kinds, IsRow}
+use Rattle.binlog.specs.Row.{kinds}
 use Rattle.binlog.specs.Rows.{RowsValue, PairValue, inserted, deleted, updated, IsPair, AreRows, AreItems}
 use Rattle.binlog.specs.declared.column.ColumnKind.{ColumnKind}
 use Rattle.binlog.specs.declared.fault.EventFault.{EventFault}
@@ -18,11 +17,10 @@ use Rattle.binlog.specs.declared.rows_event.RowsKind.{RowsKind}
 use Rattle.binlog.specs.declared.rows_event.RowsKind.TheVariants.{Write, Update, Delete}
 use Rattle.binlog.specs.declared.table.TableDef.{TableDef}
 use Rattle.binlog.proofs.LawfulColumns.{lawful_kinds}
-use Rattle.gather.specs.Transaction.{ChangeValue, change_of, IsReadBy}
+use Rattle.gather.specs.Transaction.{ChangeValue, change_of}
 use Rattle.gather.specs.Fault.{IsRowsFault}
 use Rattle.gather.specs.Begun.{table_of, HasImages, Adds}
-use Rattle.gather.specs.declared.fault.GatherFault.{GatherFault}
-use Rattle.gather.specs.declared.fault.GatherFault.TheVariants.{Event, Memory}
+use Rattle.gather.specs.declared.fault.GatherFault.TheVariants.{Event}
 use Rattle.gather.proofs.RowImages.{row_has_image}
 
 abbrev pub Item : Type 0

@@ -1,28 +1,25 @@
 -- One more event of a lawful list: what it brings.
-use Rattle.std.proofs.Common.{◌≡◌, ◌⊎◌, ℕ, Bool, true, false, not, ◌&&◌, ◌||◌, List, [], ◌∷◌, ◌++◌, append-nil, append_assoc, fold, Option, Some, None, Result, Ok, Err, IfOk, IfErr, refl, ap, sym, ◌∙◌, subst, ⊎_elim, inl, inr, true≢false}
+use Rattle.std.proofs.Common.{◌≡◌, ◌⊎◌, ℕ, Bool, true, false, not, ◌&&◌, ◌||◌, List, [], ◌∷◌, ◌++◌, append-nil, append_assoc, fold, Option, Result, Ok, Err, IfOk, IfErr, refl, ap, sym, ◌∙◌, subst, ⊎_elim, inl, inr, true≢false}
 use Rattle.std.specs.List.{list_any}
 use Rattle.std.proofs.lemmas.List.Folds.{list_any-append}
-use Rattle.std.proofs.lemmas.Bool.{cases_Bool}
-use Rattle.binlog.specs.Rows.{RowsValue}
 use Rattle.binlog.specs.Event.{EventValue, format, begin, commit, neutral, stop, rotate, gtid, table_map, other_map, rows, xid}
 use Rattle.gtid.specs.declared.identifier.Gtid.{Gtid}
-use Rattle.gather.specs.Transaction.{ChangeValue, DeliveryValue, is_neutral, is_mark, is_end, IsMark, IsAnnounced, IsOpen, IsWhole, IsBlock, AreBlocks, is_format_first, AreDeliveries}
+use Rattle.gather.specs.Transaction.{DeliveryValue, is_neutral, is_mark, is_end, IsAnnounced, IsOpen, IsWhole, IsBlock, AreBlocks, is_format_first, AreDeliveries}
 use Rattle.gather.specs.Fault.{is_format, is_gtid, has_format, add_event, last_block, is_announced, is_open, is_of_transaction, IsFault, no_format, misplaced, unread}
 use Rattle.std.specs.Borrow.{Bor}
 use Rattle.binlog.specs.EventView.{event_value}
 use Rattle.binlog.specs.declared.event.Event.{Event}
 use Rattle.binlog.specs.declared.event.Event.TheVariants.{Rotate, Stop}
 use Rattle.gather.specs.View.{delivered}
-use Rattle.gather.specs.Place.{IsAt, Extends, GoesOn, BreaksOff, FaultsAt}
+use Rattle.gather.specs.Place.{IsAt, GoesOn, FaultsAt}
 use Rattle.gather.specs.Standing.{Brings}
 use Rattle.gather.specs.declared.change.Delivery.{Delivery}
 use Rattle.gather.specs.declared.fault.GatherFault.{GatherFault}
 use Rattle.gather.specs.declared.fault.GatherFault.TheVariants.{NoFormat, Memory}
 use Rattle.gather.specs.declared.place.Place.{Place}
 use Rattle.gather.specs.declared.place.Place.TheVariants.{Between, Announced}
-use Rattle.gather.proofs.Maps.{no_end}
 use Rattle.gather.proofs.Places.{open_block}
-use Rattle.gather.proofs.Growing.{counted, joined, counts_no_more, counts_more, last_more, format_more, first_more, first_behind, joined_append, blocks_more, Split, split, mark_begins, last_is, skips}
+use Rattle.gather.proofs.Growing.{counted, joined, counts_no_more, counts_more, last_more, format_more, first_more, first_behind, joined_append, blocks_more, split, mark_begins, last_is, skips}
 
 -- ---- A block that is whole has ended.
 

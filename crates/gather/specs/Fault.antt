@@ -5,7 +5,6 @@ use Rattle.binlog.specs.Follow.{Names}
 use Rattle.binlog.specs.Table.{TableValue}
 use Rattle.binlog.specs.Rows.{RowsValue, PairValue, EndsEarly, rows_code}
 use Rattle.binlog.specs.Event.{EventValue, format, begin, commit, gtid, table_map, other_map, rows, xid, IsEvent}
-use Rattle.binlog.specs.declared.fault.EventFault.{EventFault}
 use Rattle.binlog.specs.declared.fault.EventFaultKind.TheVariants.{Columns, Truncated}
 use Rattle.gather.specs.Transaction.{is_neutral, is_mark, is_end, map_of}
 use Rattle.gather.specs.declared.fault.GatherFault.{GatherFault}

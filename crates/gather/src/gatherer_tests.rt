@@ -209,7 +209,10 @@ const FAULTS: [(&[u8], &str); 27] = [
     (b"f1bxb", "1:;an event of type 2 out of place;"),
     (b"f1bw", "no table map has the number 1;"),
     (b"f1bIo", "no table map has the number 2;"),
-    (b"f1bIwx2bw", "1: + 5 7/4 [97, 98] + 5 7/4 [97, 98];no table map has the number 1;"),
+    (
+        b"f1bIwx2bw",
+        "1: + 5 7/4 [97, 98] + 5 7/4 [97, 98];no table map has the number 1;",
+    ),
     (b"f1bNw", "wrong number of columns at 29;"),
     (b"f1bINw", "wrong number of columns at 29;"),
     (b"f1bIe", "the event ends early at 45;"),

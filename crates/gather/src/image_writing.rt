@@ -124,8 +124,8 @@ fn write_cell(cell: Cell<'_>, out: &mut Vec<u8>) -> Result<(), GatherFault>
             out.extend_from_slice(&value.to_le_bytes()[..width as usize])?;
         }
         Cell::Bytes(bytes) => {
-            out.push(2)?;
-            out.extend_from_slice(&(bytes.len() as u32).to_le_bytes())?;
+            let [a, b, c, d] = (bytes.len() as u32).to_le_bytes();
+            out.extend_from_slice(&[2, a, b, c, d])?;
             out.extend_from_slice(bytes)?;
         }
     }

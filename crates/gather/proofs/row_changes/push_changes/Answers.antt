@@ -1,4 +1,4 @@
-use Rattle.std.proofs.Common.{◌≡◌, length, subst, sym, ap, Err, ⊎_elim, inl, inr, arith, ◌∙◌, ◌++◌, ◌∷◌, []}
+use Rattle.std.proofs.Common.{length, ap, Err, ⊎_elim, inr, arith, ◌++◌, ◌∷◌, []}
 use Rattle.std.proofs.lemmas.Bool.{cases_eq}
 use Rattle.std.proofs.lemmas.List.{map-append}
 use Rattle.std.proofs.lemmas.Result.{err_from_is_err_and}

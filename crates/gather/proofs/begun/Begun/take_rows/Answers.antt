@@ -1,6 +1,5 @@
-use Rattle.std.proofs.Common.{◌≡◌, Some, ap, sym, ◌∙◌}
+use Rattle.std.proofs.Common.{Some, ap, sym, ◌∙◌}
 use Rattle.binlog.specs.RowsView.{rows_value}
-use Rattle.gather.specs.Begun.{table_of}
 use Rattle.gather.proofs.Maps.{told, keeps_other, adds_rows, maps_stay, on_ok}
 use Rattle.gather.proofs.begun.Begun.take_rows.Goals as goal
 

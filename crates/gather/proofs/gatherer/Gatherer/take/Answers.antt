@@ -1,7 +1,7 @@
-use Rattle.std.proofs.Common.{◌≡◌, ◌++◌, ◌∷◌, [], ap, sym, ◌∙◌, refl, ◌||◌}
+use Rattle.std.proofs.Common.{ap, sym, ◌∙◌, refl, ◌||◌}
 use Rattle.binlog.specs.RowsView.{rows_value}
 use Rattle.binlog.specs.TableView.{table_value}
-use Rattle.binlog.specs.Event.{EventValue, format, begin, commit, neutral, stop, rotate, gtid, table_map, other_map, rows, xid}
+use Rattle.binlog.specs.Event.{format, begin, commit, table_map, other_map, rows, xid}
 use Rattle.binlog.specs.EventView.{event_value}
 use Rattle.gather.specs.Fault.{has_format}
 use Rattle.gather.proofs.Stepping.{step_neutral, step_mark, step_gtid, continues, takes, refuses, formatted_from, false_or, true_or, rotates_or_stops}
