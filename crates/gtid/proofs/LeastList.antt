@@ -49,7 +49,7 @@ pub under_first : (s t : List ℕ) (intervals : List Interval) (rest : List Span
 under_first s t [] rest less some = absurd (some refl)
 under_first s t (i ∷ intervals) rest less some = less
 
-under_groups : (s : List ℕ) (groups : List Group) → IsBelow s (sources groups) → IsUnder s (spans_of groups)
+pub under_groups : (s : List ℕ) (groups : List Group) → IsBelow s (sources groups) → IsUnder s (spans_of groups)
 under_groups s [] below = tt
 under_groups s (g ∷ groups) below = under_first s g.source g.intervals.items (spans_of groups) below.0 g.some
 
@@ -63,7 +63,7 @@ both : (a x y : Bool) → ((a && x) || (a && y)) ≡ (a && (x || y))
 both true x y = refl
 both false x y = refl
 
-in_group : (q : Id) (s : List ℕ) (intervals : List Interval) → list_any (is_in q) (map (span s) intervals) ≡ (bytes_eq q.0 s && has intervals q.1)
+pub in_group : (q : Id) (s : List ℕ) (intervals : List Interval) → list_any (is_in q) (map (span s) intervals) ≡ (bytes_eq q.0 s && has intervals q.1)
 in_group q s [] = sym (and_right (bytes_eq q.0 s) false refl)
 in_group q s (i ∷ intervals) = ap (λ b. is_in q (span s i) || b) (in_group q s intervals) ∙ both (bytes_eq q.0 s) (is_within q.1 i) (has intervals q.1)
 

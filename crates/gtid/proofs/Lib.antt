@@ -29,3 +29,5 @@ pub mod OneFault
 pub mod SomeReading
 pub mod SomeDecoding
 pub mod Gathered
+pub mod Touching
+pub mod Around

@@ -78,7 +78,7 @@ ends_ascend intervals least j k d le h = elim (eq-or-lt_of_le le) [
 ]
 
 -- the intervals, split at one of them
-split_at : (intervals : List Interval) (at : ℕ) (x : Interval) → at < length intervals → x ≡ get_or intervals at x → intervals ≡ take at intervals ++ x ∷ drop (suc at) intervals
+pub split_at : (intervals : List Interval) (at : ℕ) (x : Interval) → at < length intervals → x ≡ get_or intervals at x → intervals ≡ take at intervals ++ x ∷ drop (suc at) intervals
 split_at intervals at x within is = sym (take-append-drop at intervals) ∙ ap (λ rest. take at intervals ++ rest) (drop-cons intervals at x within ∙ ap (λ y. y ∷ drop (suc at) intervals) (sym is))
 
 has-append : (xs ys : List Interval) (n : ℕ) → has (xs ++ ys) n ≡ (has xs n || has ys n)
@@ -160,7 +160,7 @@ behind_gap end gap [] (suc at) le least later = absurd (omega arith)
 behind_gap end gap (i ∷ intervals) zero le (a, some, small, least) later = (later i (omega arith), some, small, least)
 behind_gap end gap (i ∷ intervals) (suc at) le (a, some, small, least) later = behind_gap i.hi gap intervals at (omega arith) least (λ d h. later d (omega arith))
 
-weaker : (intervals : List Interval) (at n : ℕ) → AllWithin (λ i. i.hi < n) intervals 0 at → AllWithin (λ i. i.hi ≤ n) intervals 0 at
+pub weaker : (intervals : List Interval) (at n : ℕ) → AllWithin (λ i. i.hi < n) intervals 0 at → AllWithin (λ i. i.hi ≤ n) intervals 0 at
 weaker intervals at n front k d low high = let f = front k d low high in omega arith
 
 pub added_alone : (intervals new : List Interval) (at number : ℕ) → AreLeast 0 intervals → at ≤ length intervals → 1 ≤ number → number ≤ 2 ^ 63 - 2 → AllWithin (λ i. i.hi < number) intervals 0 at →
@@ -215,12 +215,12 @@ added_behind intervals at number x least within high is touch gap =
     (none (is_above number x (omega arith)) (below_least x.hi rest number now.3 (omega (arith, now))))
     (λ n. ap (λ b. b || has rest n) (one_behind n number x touch (omega (arith, now))) ∙ or-assoc (nat_eq n number) (is_within n x) (has rest n))
 
-set_remove : (intervals : List Interval) (at : ℕ) (v : Interval) → suc at < length intervals → set (remove intervals (suc at)) at v ≡ take at intervals ++ v ∷ drop (suc (suc at)) intervals
+pub set_remove : (intervals : List Interval) (at : ℕ) (v : Interval) → suc at < length intervals → set (remove intervals (suc at)) at v ≡ take at intervals ++ v ∷ drop (suc (suc at)) intervals
 set_remove [] at v h = absurd (omega arith)
 set_remove (i ∷ intervals) zero v h = refl
 set_remove (i ∷ intervals) (suc at) v h = ap (λ l. i ∷ l) (set_remove intervals at v (omega arith))
 
-between-by : (intervals : List Interval) (at number : ℕ) (x y : Interval) → AreLeast 0 intervals → suc at < length intervals → x ≡ get_or intervals at x → y ≡ get_or intervals (suc at) y →
+pub between-by : (intervals : List Interval) (at number : ℕ) (x y : Interval) → AreLeast 0 intervals → suc at < length intervals → x ≡ get_or intervals at x → y ≡ get_or intervals (suc at) y →
     x.hi ≡ number → y.lo ≡ number + 1 → Added number intervals (set (remove intervals (suc at)) at (record { lo = x.lo; hi = y.hi }))
 between-by intervals at number x y least within is next touch touch_next =
     let rest = drop (suc (suc at)) intervals in

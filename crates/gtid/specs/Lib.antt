@@ -5,6 +5,7 @@ pub mod Merged
 pub mod Group
 pub mod Span
 pub mod Spans
+pub mod Beside
 pub mod Encoding
 pub mod Decoding
 pub mod Blocks

@@ -5,6 +5,7 @@ ghost use Rattle.gtid.specs.Identifier.{Id, id, is_one};
 ghost use Rattle.gtid.specs.Interval.{has, AreLeast};
 ghost use Rattle.gtid.specs.Combination.{keeps};
 ghost use Rattle.gtid.specs.Group.{Ascend, sources, is_listed, IsNext, IsNoHigher, Splits, AreBelow, IsAt, IsGap};
+ghost use Rattle.gtid.specs.Beside.{Among};
 
 use crate::combination::{Combination, combine};
 use crate::fault::GtidFault;
@@ -66,6 +67,7 @@ pub(crate) fn intervals_of<'a>(groups: &'a [Group], source: &[u8; 16]) -> &'a [I
     requires { Ascend (sources groups.now) }
     ensures least { AreLeast 0 result.now }
     ensures listed { (n : ℕ) → has result.now n ≡ is_listed (source.now, n) groups.now }
+    ensures among { Among source.now result.now groups.now }
 {
     match find(groups, source) {
         Ok(at) => &groups[at].intervals,

@@ -1,8 +1,9 @@
 //! The numbers of one source, as intervals.
 
-ghost use Rattle.std.specs.Prelude.{◌≡◌, ℕ, ◌≤◌, ◌<◌, ◌-◌, ◌^◌, ◌||◌, ◌↔◌, true, false, not, nat_eq, length, slice_index_or, vec_len, IsTrue, IfOk, OnOk, OnErr, Ok, Err};
+ghost use Rattle.std.specs.Prelude.{◌≡◌, ◌≢◌, ℕ, ◌≤◌, ◌<◌, ◌-◌, ◌^◌, ◌||◌, ◌↔◌, true, false, not, nat_eq, length, slice_index_or, vec_len, None, IsTrue, IfSome, IfNone, IfOk, OnOk, OnErr, Ok, Err};
 ghost use Rattle.std.specs.List.{AllWithin};
 ghost use Rattle.gtid.specs.Interval.{has, is_within, AreLeast, Reaches};
+ghost use Rattle.gtid.specs.Beside.{Touches};
 ghost use Rattle.gtid.specs.declared.interval.Interval.{Interval};
 
 use crate::fault::GtidFault;
@@ -51,6 +52,41 @@ fn lies_in(interval: Interval, of: &[Interval]) -> bool
         Some(other) => other.lo <= interval.lo,
         None => false,
     }
+}
+
+/// The intervals that a number touches which is in none: the one that ends at it, and the one that begins behind it.
+/// For a number that is in one there are none.
+pub(crate) fn beside(intervals: &[Interval], number: u64) -> (Option<Interval>, Option<Interval>)
+    requires least { AreLeast 0 intervals.now }
+    requires number { (1 ≤ number) × (number ≤ 2 ^ 63 - 2) }
+    ensures touches { has intervals.now number ≡ false → Touches number result.0 result.1 intervals.now }
+    ensures there { has intervals.now number ≡ true → (result.0 ≡ None) × (result.1 ≡ None) }
+{
+    let at = intervals.partition_point(|interval| interval.hi < number);
+    let Some(first) = intervals.get(at).copied() else {
+        return (None, None);
+    };
+    if first.hi == number {
+        return (Some(first), begins_at(intervals, at + 1, number + 1));
+    }
+    if first.lo == number + 1 {
+        return (None, Some(first));
+    }
+    (None, None)
+}
+
+/// The interval at a place, where it begins at the number.
+fn begins_at(intervals: &[Interval], at: usize, number: u64) -> Option<Interval>
+    ensures some { IfSome result (λ i. (at < length intervals.now) × (i.lo ≡ number) × ((d : Interval) → i ≡ slice_index_or intervals.now at d)) }
+    ensures none { IfNone result ((d : Interval) → at < length intervals.now → (slice_index_or intervals.now at d).lo ≢ number) }
+{
+    let Some(first) = intervals.get(at).copied() else {
+        return None;
+    };
+    if first.lo != number {
+        return None;
+    }
+    Some(first)
 }
 
 /// Adds a number, and says whether it is new. The only refusal is `Memory`, where it is.

@@ -6,6 +6,7 @@
 //! The terms are those of the MySQL Reference Manual, "GTID Format and Storage".
 #![tactic(auto)]
 
+mod beside;
 mod combination;
 mod decoding;
 mod encoding;
@@ -23,6 +24,7 @@ mod span;
 mod spans;
 mod text;
 
+pub use beside::Beside;
 pub use fault::GtidFault;
 pub use identifier::Gtid;
 pub use set::GtidSet;

@@ -1,12 +1,15 @@
 //! Sets of identifiers.
 
-ghost use Rattle.std.specs.Prelude.{◌≡◌, ℕ, ◌≤◌, ◌⊎◌, true, false, not, length, take, string_bytes, MatchResult, IfOk, OnOk, IfErr, OnErr, Ok, Err};
+ghost use Rattle.std.specs.Prelude.{◌≡◌, ℕ, ◌≤◌, ◌⊎◌, true, false, not, length, take, string_bytes, MatchResult, IfOk, OnOk, IfErr, OnErr, Ok, Err, List, None};
 ghost use Rattle.std.specs.FinSet as set;
 ghost use Rattle.gtid.specs.Identifier.{Ids, id};
 ghost use Rattle.gtid.specs.Span.{IsLeastList};
+ghost use Rattle.gtid.specs.Beside.{Joins};
+ghost use Rattle.gtid.specs.declared.span.Span.{Span};
 ghost use Rattle.gtid.specs.Encoding.{IsEncoding, IsDecodeFault, AppendsEncoding};
 ghost use Rattle.gtid.specs.Text.{IsRead, IsParseFault, AppendsText};
 
+use crate::beside::Beside;
 use crate::combination::Combination;
 use crate::decoding::read_groups;
 use crate::encoding::write_groups;
@@ -114,6 +117,17 @@ impl GtidSet {
         ensures { IsLeastList result self.now }
     {
         Spans::new(&self.groups)
+    }
+
+    /// The spans that a number touches which is not in the set: the one that ends at it, and the one that begins
+    /// behind it. Adding the number joins them. For a number that is in the set there are none. It takes no memory.
+    pub fn beside(&self, gtid: Gtid) -> Beside
+        ensures joins { set.contains self.now (id gtid) ≡ false → (spans : List Span) → IsLeastList spans self.now → Joins self.now (id gtid) result spans }
+        ensures there { set.contains self.now (id gtid) ≡ true → (result.below ≡ None) × (result.above ≡ None) }
+    {
+        let intervals = intervals_of(&self.groups, &gtid.source);
+        let (below, above) = interval::beside(intervals, gtid.number);
+        Beside::of(gtid.source, below, above)
     }
 
     /// Appends the set as the data of COM_BINLOG_DUMP_GTID: the number of sources, and for each its 16 bytes, the

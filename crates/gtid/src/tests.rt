@@ -111,6 +111,51 @@ fn members(rt: HostRuntime) -> Result<(), Fail> {
     Ok(())
 }
 
+/// A span of the source.
+fn some_span(source: [u8; 16], interval: Option<(u64, u64)>) -> Option<Span> {
+    let (lo, hi) = interval?;
+    Some(Span { source, lo, hi })
+}
+
+/// The spans beside a number, and the span that it makes with them.
+#[test]
+fn touched(rt: HostRuntime) -> Result<(), Fail> {
+    let some = set(&rt, &[1, 2, 3, 5, 9])?;
+    for (source, number, below, above, joined) in [
+        (A, 4, Some((1, 4)), Some((5, 6)), (1, 6)),
+        (A, 6, Some((5, 6)), None, (5, 7)),
+        (A, 7, None, None, (7, 8)),
+        (A, 8, None, Some((9, 10)), (8, 10)),
+        (A, 10, Some((9, 10)), None, (9, 11)),
+        (A, 12, None, None, (12, 13)),
+        (B, 4, None, None, (4, 5)),
+        (
+            A,
+            Gtid::GREATEST,
+            None,
+            None,
+            (9_223_372_036_854_775_806, 9_223_372_036_854_775_807),
+        ),
+    ] {
+        let gtid = gtid(source, number)?;
+        let beside = some.beside(gtid);
+        assert_eq!(rt; beside.below, some_span(source, below), "{number}");
+        assert_eq!(rt; beside.above, some_span(source, above), "{number}");
+        assert_eq!(rt;
+            Some(beside.joined(gtid)),
+            some_span(source, Some(joined)),
+            "{number}"
+        );
+    }
+    let none = Beside {
+        below: None,
+        above: None,
+    };
+    assert_eq!(rt; some.beside(gtid(A, 2)?), none);
+    assert_eq!(rt; GtidSet::new(rt.alloc()).beside(gtid(A, 4)?), none);
+    Ok(())
+}
+
 /// Union, difference and copies leave the sets that they read as they are.
 #[test]
 fn operations(rt: HostRuntime) -> Result<(), Fail> {
