@@ -26,3 +26,4 @@ pub mod MapWritten
 pub mod RowsEventWritten
 pub mod Written
 pub mod PlainRows
+pub mod NamesOnce

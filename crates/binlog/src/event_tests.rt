@@ -406,6 +406,44 @@ fn follows(rt: HostRuntime) -> Result<(), Fail> {
     Ok(())
 }
 
+/// Names are kept once, by the bytes of the schema and then of the table.
+#[test]
+fn names_once(rt: HostRuntime) -> Result<(), Fail> {
+    let alloc = rt.alloc();
+    let mut given = Vec::new(alloc);
+    for (schema, table) in [
+        (b"b".as_slice(), b"x".as_slice()),
+        (b"a", b"y"),
+        (b"b", b"x"),
+        (b"ab", b"c"),
+        (b"a", b"bc"),
+        (b"b", b""),
+        (b"a", b"y"),
+    ] {
+        given.push((
+            Vec::from_slice(alloc, schema)?,
+            Vec::from_slice(alloc, table)?,
+        ))?;
+    }
+    let follow = Follow::new(alloc, &given)?;
+    let want = [
+        (b"a".as_slice(), b"bc".as_slice()),
+        (b"a", b"y"),
+        (b"ab", b"c"),
+        (b"b", b""),
+        (b"b", b"x"),
+    ];
+    assert_eq!(rt; follow.names().len(), want.len());
+    for (name, (schema, table)) in follow.names().iter().zip(want) {
+        assert_eq!(rt; name.0.as_slice(), schema);
+        assert_eq!(rt; name.1.as_slice(), table);
+        assert!(rt; follow.follows(schema, table));
+    }
+    assert!(rt; !follow.follows(b"ab", b"y"));
+    assert!(rt; Follow::all(alloc).names().is_empty());
+    Ok(())
+}
+
 #[test]
 fn followed_tables(rt: HostRuntime) -> Result<(), Fail> {
     let alloc = rt.alloc();

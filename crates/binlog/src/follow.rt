@@ -3,7 +3,8 @@
 ghost use Rattle.std.specs.Prelude.{◌≡◌, ◌&&◌, IfOk, IfErr};
 ghost use Rattle.std.specs.Str.{bytes_eq};
 ghost use Rattle.std.specs.FinSet as set;
-ghost use Rattle.binlog.specs.Follow.{follows, is_listed};
+ghost use Rattle.std.specs.List.Sorted.{IsStrictlySortedBy};
+ghost use Rattle.binlog.specs.Follow.{name_cmp, follows, is_listed};
 ghost use Rattle.binlog.specs.FollowView.{names_of};
 ghost use Rattle.binlog.specs.declared.fault.EventFaultKind.TheVariants.{Memory};
 
@@ -12,6 +13,8 @@ use std::alloc::Global;
 use std::marker::Model;
 
 /// The tables whose changes are taken, by schema and name: those of a list, and where that is empty, all.
+///
+/// It keeps each name once, in the order of the schema's bytes and then of the table's.
 #[derive(Debug, Drop)]
 pub struct Follow {
     names: Vec<(Vec<u8>, Vec<u8>)>,
@@ -28,6 +31,11 @@ impl Model for Follow {
     ghost use Rattle.binlog.specs.FollowView.{names_of};
 
     ghost view = { λ f. set.from_list (names_of f.names.items) };
+
+    ghost use Rattle.std.specs.List.Sorted.{IsStrictlySortedBy};
+    ghost use Rattle.binlog.specs.Follow.{name_cmp};
+
+    ghost invariant = { λ f. IsStrictlySortedBy name_cmp (names_of f.names.items) };
 }
 
 impl Follow {
@@ -46,12 +54,19 @@ impl Follow {
         ensures ok { IfOk result (λ follow. follow ≡ set.from_list (names_of names.now)) }
         ensures err { IfErr result (λ fault. fault ≡ record { kind = Memory; at = 0 }) }
     {
-        let mut followed = Vec::new(alloc);
-        followed.try_reserve(names.len())?;
-        for name in names {
-            followed.push(copy(name)?)?;
-        }
-        Ok(Follow { names: followed })
+        let mut names = copy_all(alloc, names)?;
+        names.sort_unstable();
+        names.dedup();
+        Ok(Follow { names })
+    }
+
+    /// The names, each once and in ascending order by the bytes of the schema and then of the table. With all tables
+    /// there are none.
+    pub fn names(&self) -> &[(Vec<u8>, Vec<u8>)]
+        ensures ascend { IsStrictlySortedBy name_cmp (names_of result.now) }
+        ensures set { set.from_list (names_of result.now) ≡ self.now }
+    {
+        &self.names
     }
 
     /// Whether the changes of a table are taken. It takes no memory.
@@ -61,6 +76,22 @@ impl Follow {
         let names = self.names.as_slice();
         names.is_empty() || is_listed(names, schema, table)
     }
+}
+
+/// A copy of the names. The only refusal is `Memory`.
+fn copy_all(
+    alloc: Global,
+    names: &[(Vec<u8>, Vec<u8>)],
+) -> Result<Vec<(Vec<u8>, Vec<u8>)>, EventFault>
+    ensures ok { IfOk result (λ copied. names_of copied.items ≡ names_of names.now) }
+    ensures err { IfErr result (λ fault. fault ≡ record { kind = Memory; at = 0 }) }
+{
+    let mut copied = Vec::new(alloc);
+    copied.try_reserve(names.len())?;
+    for name in names {
+        copied.push(copy(name)?)?;
+    }
+    Ok(copied)
 }
 
 /// A copy of a name. The only refusal is `Memory`.
