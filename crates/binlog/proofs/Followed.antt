@@ -26,10 +26,10 @@ name_cmp-same a b e =
     let both = then_equal (slice_cmp nat_cmp a.0 b.0) (slice_cmp nat_cmp a.1 b.1) e in
     λ i. (set.slice_cmp-IsAntisymmetric set.nat_cmp-IsAntisymmetric a.0 b.0 both.0 i, set.slice_cmp-IsAntisymmetric set.nat_cmp-IsAntisymmetric a.1 b.1 both.1 i)
 
-both_true : (a b : Bool) → a ≡ true → b ≡ true → (a && b) ≡ true
+pub both_true : (a b : Bool) → a ≡ true → b ≡ true → (a && b) ≡ true
 both_true a b is also = (λ i. is i && b) ∙ also
 
-itself : (xs : List ℕ) → bytes_eq xs xs ≡ true
+pub itself : (xs : List ℕ) → bytes_eq xs xs ≡ true
 itself xs = (bytes_eq-Decides xs xs).1 refl
 
 agree : (a b : Bool) → (a ≡ true → b ≡ true) → (b ≡ true → a ≡ true) → a ≡ b
@@ -50,7 +50,7 @@ tied a b =
 pub listed : (names : List Name) (name : Name) → set.contains (set.from_list {R = name_cmp} names) name ≡ is_listed name names
 listed names name = set.contains-from_list name_cmp_total names name ∙ (λ i. list_any (λ n. tied name n i) names)
 
-none_of : (x : Bool) → (x ≡ true → ⊥) → x ≡ false
+pub none_of : (x : Bool) → (x ≡ true → ⊥) → x ≡ false
 none_of true not = absurd (not refl)
 none_of false not = refl
 

@@ -27,3 +27,4 @@ pub mod RowsEventWritten
 pub mod Written
 pub mod PlainRows
 pub mod NamesOnce
+pub mod NamesFound

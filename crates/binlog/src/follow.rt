@@ -10,6 +10,7 @@ ghost use Rattle.binlog.specs.declared.fault.EventFaultKind.TheVariants.{Memory}
 
 use crate::fault::EventFault;
 use std::alloc::Global;
+use std::cmp::Ordering;
 use std::marker::Model;
 
 /// The tables whose changes are taken, by schema and name: those of a list, and where that is empty, all.
@@ -103,21 +104,22 @@ fn copy(name: &(Vec<u8>, Vec<u8>)) -> Result<(Vec<u8>, Vec<u8>), EventFault>
     Ok((name.0.clone()?, name.1.clone()?))
 }
 
-/// Whether a table is one of the list's.
+/// Whether a table is one of the list's. It is found by halving.
 fn is_listed(names: &[(Vec<u8>, Vec<u8>)], schema: &[u8], table: &[u8]) -> bool
+    requires { IsStrictlySortedBy name_cmp (names_of names.now) }
     ensures { result ≡ is_listed (schema.now, table.now) (names_of names.now) }
 {
-    for name in names {
-        if is_one(name, schema, table) {
-            return true;
-        }
-    }
-    false
+    names
+        .binary_search_by(|name| compare(name, schema, table))
+        .is_ok()
 }
 
-/// Whether a name is this table's.
-fn is_one(name: &(Vec<u8>, Vec<u8>), schema: &[u8], table: &[u8]) -> bool
-    ensures { result ≡ (bytes_eq name.now.0.items schema.now && bytes_eq name.now.1.items table.now) }
+/// How a name compares with this table's.
+fn compare(name: &(Vec<u8>, Vec<u8>), schema: &[u8], table: &[u8]) -> Ordering
+    ensures { result ≡ name_cmp (name.now.0.items, name.now.1.items) (schema.now, table.now) }
 {
-    name.0.as_slice() == schema && name.1.as_slice() == table
+    match name.0.as_slice().cmp(schema) {
+        Ordering::Equal => name.1.as_slice().cmp(table),
+        unlike => unlike,
+    }
 }
