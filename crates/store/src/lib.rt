@@ -1,0 +1,5 @@
+//! The rows of a replica and its executed transactions, in a SQL database.
+#![tactic(auto)]
+
+mod change;
+mod rows;
