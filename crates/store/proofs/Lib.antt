@@ -5,4 +5,5 @@ pub mod RowLemmas
 pub mod Statements
 pub mod Effects
 pub mod Done
+pub mod SpanEffects
 pub mod Keeps

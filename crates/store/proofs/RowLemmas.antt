@@ -1,5 +1,5 @@
 -- What an edit of a table does to the counts.
-use Rattle.std.proofs.Common.{◌≡◌, inl, inr, ℕ, ◌+◌, ◌-◌, ℤ, pos, List, [], ◌∷◌, filter, Bool, true, false, cond, refl, sym, ap, ◌∙◌, arith}
+use Rattle.std.proofs.Common.{◌≡◌, inl, inr, ℕ, ◌+◌, ◌-◌, ℤ, pos, List, [], ◌∷◌, filter, Bool, true, false, cond, refl, sym, ap, ◌∙◌, arith, not}
 use Rattle.std.proofs.lemmas.Bool.{and_parts, or_parts, cases_Bool, false_from_ne_true}
 use Rattle.std.proofs.lemmas.Slice.Eq.{bytes_eq-Decides}
 use Rattle.std.proofs.lemmas.Cmp.{tied_back}
@@ -12,6 +12,8 @@ use Rattle.sqlite_value.specs.declared.value.Value.TheVariants.{Null, Int, Real,
 use Rattle.sqlite_value.specs.Order.{Row, column, value_cmp}
 use Rattle.sqlite_value.proofs.OrderLemmas.{value_cmp_total}
 use Rattle.sqlite_trees.proofs.TreeLemmas.{all-put_row}
+use Rattle.std.specs.List.Sorted.{IsPermutation}
+use Rattle.std.proofs.lemmas.List.Sorted.{IsPermutation-refl, IsPermutation-trans, IsPermutation-insert, IsPermutation-cons}
 use Rattle.sqlite_trees.specs.Tree.{rowid, put_row, without_rowid, has_rowid}
 use Rattle.sqlite_trees.specs.View.{is_int}
 use Rattle.sqlite_rules.specs.Lists.{Has}
@@ -119,6 +121,44 @@ distinct_put new (r ∷ rows) free up =
 
 pub rowids_put : (new : Row) (rows : List Row) → is_int (rowid new) ≡ true → is_taken rows new ≡ false → HasRowids rows → HasRowids (put_row new rows)
 rowids_put new rows keyed free h = record { apart = distinct_put new rows free h.apart; keyed = all-put_row _ new rows keyed h.keyed }
+
+-- ---- what is left without the one row that passes a test
+
+none_pass : (p : Row → Bool) (rows : List Row) → filter p rows ≡ [] → filter (λ x. not (p x)) rows ≡ rows
+none_pass p [] none = refl
+none_pass p (x ∷ rows) none = elim (cases_Bool (p x)) [
+  | inl at ↦ absurd (let some = rw at at none in cc)
+  | inr apart ↦ rw (apart, none_pass p rows (rw apart at none))
+]
+
+pub left_is : (p : Row → Bool) (id : ℤ) (r : Row) (rows : List Row) → IsDistinct alike rows → filter p rows ≡ r ∷ [] → has_rowid id r ≡ true
+    → without_rowid id rows ≡ filter (λ x. not (p x)) rows
+unfolding IsDistinct
+left_is p id r [] up found is = absurd (cc)
+left_is p id r (x ∷ rows) up found is = elim (cases_Bool (p x)) [
+  | inl at ↦ (
+      let one : x ∷ filter p rows ≡ r ∷ [] = rw at at found in
+      let same : x ≡ r = cc in
+      let none : filter p rows ≡ [] = cc in
+      rw (at, same, is, none_left id rows (all_apart id r rows is (rw same at up.0)), none_pass p rows none) refl)
+  | inr apart ↦ (
+      let one : filter p rows ≡ r ∷ [] = rw apart at found in
+      let has : Has rows r = (has_filtered p rows r (rw one (inl refl))).0 in
+      let off : has_rowid id x ≡ false = apart_from id r x is (turned x r (all_has (λ y. alike x y ≡ false) rows r up.0 has)) in
+      rw (apart, off, left_is p id r rows up.1 one is) refl)
+]
+
+-- a row that is put in stands somewhere among the others
+pub put_among : (new : Row) (rows : List Row) → is_taken rows new ≡ false → IsPermutation (new ∷ rows) (put_row new rows)
+put_among new [] free = IsPermutation-refl (new ∷ [])
+put_among new (r ∷ rows) free =
+    let parts = or_parts _ _ free in go (value_cmp (rowid r) (rowid new)) parts.0 (put_among new rows parts.1)
+  where
+    go : (o : Ordering) → is_eq o ≡ false → IsPermutation (new ∷ rows) (put_row new rows)
+        → IsPermutation (new ∷ r ∷ rows) (match_ordering o (r ∷ put_row new rows) (new ∷ rows) (new ∷ r ∷ rows))
+    go Less apart more = IsPermutation-trans (new ∷ r ∷ rows) (r ∷ new ∷ rows) (r ∷ put_row new rows) (IsPermutation-insert (r ∷ rows) 1 new) (IsPermutation-cons r (new ∷ rows) (put_row new rows) more)
+    go Equal apart more = absurd (cc)
+    go Greater apart more = IsPermutation-refl (new ∷ r ∷ rows)
 
 -- ---- the three edits of held
 

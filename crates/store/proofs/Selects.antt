@@ -1,5 +1,5 @@
 -- What a query by key shows.
-use Rattle.std.proofs.Common.{◌≡◌, ℕ, List, [], ◌∷◌, ◌++◌, map, filter, Bool, true, false, cond, ◌&&◌, Some, refl, sym, ap, subst, ◌∙◌, flat_map}
+use Rattle.std.proofs.Common.{◌≡◌, ℕ, List, [], ◌∷◌, ◌++◌, map, filter, Bool, true, false, cond, ◌&&◌, Some, refl, sym, ap, subst, ◌∙◌, flat_map, ℤ, pos}
 use Rattle.std.specs.List.Sorted.{IsPermutation}
 use Rattle.std.specs.List.{list_all}
 use Rattle.std.proofs.lemmas.List.Sorted.{IsPermutation-map}
@@ -12,13 +12,14 @@ use Rattle.sqlite_value.specs.Order.{Row, column, value_cmp}
 use Rattle.sqlite_value.proofs.OrderLemmas.{value_cmp-Blob, value_cmp-apart}
 use Rattle.sqlite_sql.specs.declared.ops.BinaryOp.TheVariants.{Compare}
 use Rattle.sqlite_sql.specs.declared.ops.CompareOp.TheVariants.{Eq}
-use Rattle.sqlite_sql.specs.Ops.{binary, is_true, from_truth}
+use Rattle.sqlite_sql.specs.Ops.{binary, is_true, from_truth, unary}
 use Rattle.sqlite_sql.specs.Term.{Term, eval_all, holds}
 use Rattle.sqlite_sql.specs.Query.{IsAnswerAs, output, Output}
 use Rattle.sqlite_trees.specs.Tree.{Trees}
 use Rattle.sqlite_sql.specs.Program.{overlay}
-use Rattle.store.specs.Layout.{Origin, made, migrated, held_tree, spans_tree, among, has_key}
-use Rattle.store.specs.Rows.{Key, is_blob, is_at}
+use Rattle.store.specs.Layout.{Origin, made, migrated, held_tree, spans_tree, among, has_key, has_start}
+use Rattle.sqlite_sql.specs.declared.ops.UnaryOp.TheVariants.{ToNumeric}
+use Rattle.store.specs.Rows.{Key, is_blob, is_at, begins_at, shown_span}
 
 shown_bool : (b : Bool) → is_true (from_truth (Some b)) ≡ b
 shown_bool true = refl
@@ -33,6 +34,15 @@ equals_blob (Real x) b = shown_bool (is_eq (value_cmp (Real x) (Blob b))) ∙ ap
 equals_blob (Text t) b = shown_bool (is_eq (value_cmp (Text t) (Blob b))) ∙ ap is_eq (value_cmp-apart (Text t) (Blob b) (λ e. cc))
 equals_blob (Blob x) b = shown_bool (is_eq (value_cmp (Blob x) (Blob b))) ∙ ap is_eq (value_cmp-Blob x b) ∙ is_eq-slice_cmp x b
 
+-- and one with an integer is that of values
+equals_int : (v : Value) (n : ℤ) → is_true (binary (Compare Eq Binary) v (Int n)) ≡ is_eq (value_cmp v (Int n))
+unfolding binary
+equals_int Null n = sym (ap is_eq (value_cmp-apart Null (Int n) (λ e. cc)))
+equals_int (Int m) n = shown_bool (is_eq (value_cmp (Int m) (Int n)))
+equals_int (Real x) n = shown_bool (is_eq (value_cmp (Real x) (Int n)))
+equals_int (Text t) n = shown_bool (is_eq (value_cmp (Text t) (Int n)))
+equals_int (Blob x) n = shown_bool (is_eq (value_cmp (Blob x) (Int n)))
+
 -- the parameters of a statement by key
 abbrev pub key_params : Key → Row → Row
 key_params key more = Blob key.schema ∷ Blob key.table ∷ Blob key.image ∷ more
@@ -45,6 +55,15 @@ pub key_holds : (key : Key) (more row : Row) → list_all (holds (key_params key
 key_holds key more row =
     rw (equals_blob (column row 1) key.schema, equals_blob (column row 2) key.table, equals_blob (column row 3) key.image)
     (ap (λ b. is_blob key.schema (column row 1) && (is_blob key.table (column row 2) && b)) (and_true (is_blob key.image (column row 3))))
+
+numeric_int : (n : ℤ) → unary ToNumeric (Int n) ≡ Int n
+unfolding unary
+numeric_int n = refl
+
+pub start_holds : (source : List ℕ) (n : ℕ) (row : Row) → list_all (holds ((Blob source ∷ Int (pos n) ∷ []) ∷ row ∷ [])) has_start ≡ begins_at source n (shown_span row)
+start_holds source n row =
+    rw (numeric_int (pos n), equals_blob (column row 1) source, equals_int (column row 2) (pos n))
+    (ap (λ b. is_blob source (column row 1) && b) (and_true (is_eq (value_cmp (column row 2) (Int (pos n))))))
 
 one_more : (params r : Row) (b : Bool) (rows : List Row) → cond b ((params ∷ r ∷ []) ∷ []) [] ++ map (λ r. params ∷ r ∷ []) rows ≡ map (λ r. params ∷ r ∷ []) (cond b (r ∷ rows) rows)
 one_more params r true rows = refl

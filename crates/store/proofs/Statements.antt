@@ -1,4 +1,4 @@
--- What each statement on one row of held does, where it succeeds.
+-- What each statement on one row does, where it succeeds.
 use Rattle.std.proofs.Common.{◌≡◌, ◌⊎◌, inl, inr, ℕ, ℤ, pos, List, [], ◌∷◌, map, filter, Bool, true, false, cond, None, Ok, Err, Result, IfOk, OnOk, refl, sym, ap, subst, ◌∙◌}
 use Rattle.std.specs.List.{AllByRecursion}
 use Rattle.std.specs.List.Sorted.{IsPermutation}
@@ -27,10 +27,10 @@ use Rattle.sqlite.specs.Does.{Tally, Does}
 use Rattle.sqlite.specs.Listing.{understood}
 use Rattle.sqlite.specs.State.{State, mode_of, Executes, Shown, IsUnchanged, Shows}
 use Rattle.sqlite.proofs.Callers.{statement_of, runs_as, reads_as, one_step, IsPlain}
-use Rattle.store.specs.Layout.{Origin, layout, IsApart, held_at, held_tree, read_text, insert_text, update_text, delete_text, has_key, read_query, delete_query, update_query, insert_terms}
-use Rattle.store.specs.Rows.{Key, is_at}
-use Rattle.store.proofs.Texts.{read_is, read_plain, insert_is, insert_plain, update_is, update_plain, delete_is, delete_plain}
-use Rattle.store.proofs.Selects.{key_params, key_holds, answers, held_read}
+use Rattle.store.specs.Layout.{Origin, layout, IsApart, held_at, held_tree, read_text, insert_text, update_text, delete_text, has_key, read_query, delete_query, update_query, insert_terms, spans_at, spans_tree, add_span_text, drop_span_text, has_start, add_span_terms, drop_span_query}
+use Rattle.store.specs.Rows.{Key, is_at, begins_at, shown_span}
+use Rattle.store.proofs.Texts.{read_is, read_plain, insert_is, insert_plain, update_is, update_plain, delete_is, delete_plain, add_span_is, add_span_plain, drop_span_is, drop_span_plain}
+use Rattle.store.proofs.Selects.{key_params, key_holds, start_holds, answers, held_read, spans_read}
 use Rattle.store.proofs.Works.{no_works}
 
 -- a part that gave a value did not stop on the way
@@ -110,6 +110,54 @@ module _ (o : Origin) (others : List Table) (indexes : List Index) (views : List
           schema_is = ap (λ (d : Database). d.schema) now;
           shown = w.shown;
         }
+
+    pub adds_span : (source : List ℕ) (lo hi : ℤ) (count : ℕ) → Executes add_span_text (Blob source ∷ Int lo ∷ Int hi ∷ []) old new (Ok count)
+        → Applied (layout o others indexes views) old new (edit_of old.now.trees (spans_at o) [] Chosen 0 ((Null ∷ Blob source ∷ Int lo ∷ Int hi ∷ []) ∷ []))
+    adds_span source lo hi count h =
+        let params = Blob source ∷ Int lo ∷ Int hi ∷ [] in
+        let db = old.now.trees in
+        let command = Insert 2 (Values add_span_terms 4) in
+        let w = runs_as add_span_text params old new (layout o others indexes views) has command (add_span_is o others indexes views) (add_span_plain o others indexes views) count h in
+        let text = statement_of add_span_text (understood (layout o others indexes views) add_span_text) in
+        let done = went (subst (λ s. Does old.step_limit (mode_of old) params (record old.now { schema = s }) text None command (Ok (w.tally, new.now))) has w.changed) in
+        let now = ap (λ (p : Tally × Database). p.1) (same_value (went (went done.2).2).2) in
+        let given = went done.1 in
+        let written = went (went given.2).2 in
+        let counted = went written.2 in
+        let trees : done.0.trees ≡ written.0 = ap (λ (it : Written). it.trees) (same_value counted.2) ∙ same_value counted.1 in
+        let edit = edit_of db (spans_at o) [] Chosen 0 given.0 in
+        let step = one_step (layout o others indexes views) _ db written.0 edit (no_works o others indexes views (spans_tree o) [] edit.news (inl refl)) written.1 in
+        let sourced = subst (λ l. Applies (layout o others indexes views) Enforced db (edit_of db (spans_at o) [] Chosen 0 l) written.0) given.1.1 step in
+        record {
+          step = subst (Applies (layout o others indexes views) Enforced db (edit_of db (spans_at o) [] Chosen 0 ((Null ∷ Blob source ∷ Int lo ∷ Int hi ∷ []) ∷ []))) (sym (ap (λ (d : Database). d.trees) now ∙ trees)) sourced;
+          schema_is = ap (λ (d : Database). d.schema) now;
+          shown = w.shown;
+        }
+
+    pub drops_span : AllByRecursion (IsApart (layout o others indexes views) (spans_tree o)) others → (source : List ℕ) (lo : ℕ) (count : ℕ) → Executes drop_span_text (Blob source ∷ Int (pos lo) ∷ []) old new (Ok count)
+        → (rows : List Row) × IsPermutation (map (λ r. column r 0 ∷ []) (filter (λ r. begins_at source lo (shown_span r)) (old.now.trees (spans_tree o)))) rows
+        × Applied (layout o others indexes views) old new (edit_of old.now.trees (spans_at o) (ids_of rows) Given 0 [])
+    drops_span free source lo count h =
+        let params = Blob source ∷ Int (pos lo) ∷ [] in
+        let db = old.now.trees in
+        let command = Delete 2 (record { lets = []; body = drop_span_query (spans_tree o) }) in
+        let w = runs_as drop_span_text params old new (layout o others indexes views) has command (drop_span_is o others indexes views) (drop_span_plain o others indexes views) count h in
+        let text = statement_of drop_span_text (understood (layout o others indexes views) drop_span_text) in
+        let done = went (subst (λ s. Does old.step_limit (mode_of old) params (record old.now { schema = s }) text None command (Ok (w.tally, new.now))) has w.changed) in
+        let now = ap (λ (p : Tally × Database). p.1) (same_value (went (went done.2).2).2) in
+        let queried = went done.1 in
+        let written = went queried.2 in
+        let trees : done.0.trees ≡ written.0 = ap (λ (it : Written). it.trees) (same_value written.2) in
+        let edit = edit_of db (spans_at o) (ids_of queried.0) Given 0 [] in
+        let step = one_step (layout o others indexes views) _ db written.0 edit (no_works o others indexes views (spans_tree o) (taken_by db edit) edit.news (inr free)) written.1 in (
+          queried.0,
+          answers has_start params (λ r. begins_at source lo (shown_span r)) (start_holds source lo) (spans_tree o) (col 1 0 ∷ []) (overlay db []) Null queried.0 (db (spans_tree o)) (spans_read o db) (queried.1.answer Null),
+          record {
+            step = subst (Applies (layout o others indexes views) Enforced db edit) (sym (ap (λ (d : Database). d.trees) now ∙ trees)) step;
+            schema_is = ap (λ (d : Database). d.schema) now;
+            shown = w.shown;
+          },
+        )
 
     module _ (free : AllByRecursion (IsApart (layout o others indexes views) (held_tree o)) others) where
       pub deletes : (key : Key) (count : ℕ) → Executes delete_text (key_params key []) old new (Ok count)

@@ -1,5 +1,5 @@
 -- What the rows of the tables stand for.
-use Rattle.std.specs.Prelude.{◌≡◌, ◌≤◌, ℕ, ◌+◌, ◌-◌, ℤ, pos, negsuc, ◌==◌, Bool, false, IsTrue, ◌&&◌, if◌then◌else◌, List, [], ◌∷◌, map, filter, bytes_eq, codes, Option, None, Some, IsPermutation}
+use Rattle.std.specs.Prelude.{◌≡◌, ◌≤◌, ℕ, ◌+◌, ◌-◌, ℤ, pos, Bool, false, IsTrue, ◌&&◌, if◌then◌else◌, List, [], ◌∷◌, map, filter, bytes_eq, codes, Option, None, Some, IsPermutation}
 use Rattle.std.specs.Ordering.{is_eq}
 use Rattle.std.specs.List.{AllByRecursion, IsDistinct}
 use Rattle.std.specs.FinSet as set
@@ -147,20 +147,9 @@ stored_span s = Blob s.source ∷ Int (pos s.lo) ∷ Int (pos s.hi) ∷ []
 abbrev pub shown_spans : List Row → List Row
 shown_spans rows = map shown_span rows
 
-abbrev pub is_natural : ℕ → ℤ → Bool
-is_natural n (pos m) = m == n
-is_natural n (negsuc m) = false
-
-abbrev pub is_number : ℕ → Value → Bool
-is_number n Null = false
-is_number n (Int m) = is_natural n m
-is_number n (Real x) = false
-is_number n (Text t) = false
-is_number n (Blob b) = false
-
 -- whether what is stored of a span begins there
 abbrev pub begins_at : List ℕ → ℕ → Row → Bool
-begins_at source lo shown = is_blob source (column shown 0) && is_number lo (column shown 1)
+begins_at source lo shown = is_blob source (column shown 0) && is_eq (value_cmp (column shown 1) (Int (pos lo)))
 
 -- In some order the rows are the least intervals of the set, which has identifiers of transactions alone.
 pub record AreSpans (rows : List Row) (ids : Ids) : Type 0 where
