@@ -6,4 +6,5 @@ pub mod Statements
 pub mod Effects
 pub mod Done
 pub mod SpanEffects
+pub mod Made
 pub mod Keeps
