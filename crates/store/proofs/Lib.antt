@@ -7,4 +7,6 @@ pub mod Effects
 pub mod Done
 pub mod SpanEffects
 pub mod Made
+pub mod Bags
+pub mod Loop
 pub mod Keeps

@@ -12,6 +12,7 @@ use sqlite::types::ValueRef;
 use sqlite::{Alter, Error, Row, Transaction};
 
 /// What a row of `held` is found by: the names of schema and table, and the stored image.
+#[derive(Clone, Copy)]
 pub(crate) struct RowKey<'a> {
     pub(crate) schema: &'a [u8],
     pub(crate) table: &'a [u8],
