@@ -9,4 +9,6 @@ pub mod SpanEffects
 pub mod Made
 pub mod Bags
 pub mod Loop
+pub mod SpanLists
+pub mod SpanRecord
 pub mod Keeps

@@ -56,7 +56,7 @@ none_left : (id : ℤ) (rows : List Row) → AllByRecursion (λ r. has_rowid id 
 none_left id [] apart = refl
 none_left id (r ∷ rows) apart = rw (apart.0, none_left id rows apart.1)
 
-equal_is : (o : Ordering) → is_eq o ≡ true → o ≡ Equal
+pub equal_is : (o : Ordering) → is_eq o ≡ true → o ≡ Equal
 equal_is Less h = absurd (cc)
 equal_is Equal h = refl
 equal_is Greater h = absurd (cc)

@@ -1,5 +1,5 @@
 -- What a query by key shows.
-use Rattle.std.proofs.Common.{◌≡◌, ℕ, List, [], ◌∷◌, ◌++◌, map, filter, Bool, true, false, cond, ◌&&◌, Some, refl, sym, ap, subst, ◌∙◌, flat_map, ℤ, pos}
+use Rattle.std.proofs.Common.{◌≡◌, ℕ, List, [], ◌∷◌, ◌++◌, map, filter, Bool, true, false, cond, ◌&&◌, Some, refl, sym, ap, subst, ◌∙◌, flat_map, ℤ}
 use Rattle.std.specs.List.Sorted.{IsPermutation}
 use Rattle.std.specs.List.{list_all}
 use Rattle.std.proofs.lemmas.List.Sorted.{IsPermutation-map}
@@ -60,10 +60,10 @@ numeric_int : (n : ℤ) → unary ToNumeric (Int n) ≡ Int n
 unfolding unary
 numeric_int n = refl
 
-pub start_holds : (source : List ℕ) (n : ℕ) (row : Row) → list_all (holds ((Blob source ∷ Int (pos n) ∷ []) ∷ row ∷ [])) has_start ≡ begins_at source n (shown_span row)
+pub start_holds : (source : List ℕ) (n : ℤ) (row : Row) → list_all (holds ((Blob source ∷ Int n ∷ []) ∷ row ∷ [])) has_start ≡ begins_at source n (shown_span row)
 start_holds source n row =
-    rw (numeric_int (pos n), equals_blob (column row 1) source, equals_int (column row 2) (pos n))
-    (ap (λ b. is_blob source (column row 1) && b) (and_true (is_eq (value_cmp (column row 2) (Int (pos n))))))
+    rw (numeric_int n, equals_blob (column row 1) source, equals_int (column row 2) n)
+    (ap (λ b. is_blob source (column row 1) && b) (and_true (is_eq (value_cmp (column row 2) (Int n)))))
 
 one_more : (params r : Row) (b : Bool) (rows : List Row) → cond b ((params ∷ r ∷ []) ∷ []) [] ++ map (λ r. params ∷ r ∷ []) rows ≡ map (λ r. params ∷ r ∷ []) (cond b (r ∷ rows) rows)
 one_more params r true rows = refl

@@ -1,5 +1,5 @@
 -- What each call on one row of spans does, where it succeeds.
-use Rattle.std.proofs.Common.{◌≡◌, inl, ℕ, ℤ, pos, List, [], ◌∷◌, map, filter, not, Bool, true, false, cond, Ok, Err, Result, OnOk, refl, sym, ap, subst, ◌∙◌}
+use Rattle.std.proofs.Common.{◌≡◌, inl, ℕ, ℤ, List, [], ◌∷◌, map, filter, not, Bool, true, false, cond, Ok, Err, Result, OnOk, refl, sym, ap, subst, ◌∙◌}
 use Rattle.std.specs.List.{AllByRecursion}
 use Rattle.std.specs.List.Sorted.{IsPermutation}
 use Rattle.std.proofs.lemmas.List.Sorted.{IsPermutation-map}
@@ -47,7 +47,7 @@ one_mapped f [] y h = absurd (cc)
 one_mapped f (x ∷ []) y h = (x, refl)
 one_mapped f (x ∷ z ∷ rows) y h = absurd (cc)
 
-module _ (source : List ℕ) (lo : ℕ) (rows : List Row) (span : Row) (others : List Row) (h : Begins source lo (shown_spans rows) span others) where
+module _ (source : List ℕ) (lo : ℤ) (rows : List Row) (span : Row) (others : List Row) (h : Begins source lo (shown_spans rows) span others) where
   -- one row begins there
   one_begins : (r : Row) × (filter (λ r. begins_at source lo (shown_span r)) rows ≡ r ∷ [])
   one_begins =
@@ -63,6 +63,10 @@ module _ (source : List ℕ) (lo : ℕ) (rows : List Row) (span : Row) (others :
       let left : filter q (span ∷ others) ≡ others = rw (h.begins, all_pass p others h.apart) refl in
       let same : IsPermutation others (filter q (shown_spans rows)) = subst (λ l. IsPermutation l (filter q (shown_spans rows))) left (IsPermutation-filter q (span ∷ others) (shown_spans rows) h.all) in
       subst (IsPermutation others) (sym (filter_map_is shown_span q rows)) same
+
+rowids_without_all : (ids : List ℤ) (rows : List Row) → HasRowids rows → HasRowids (without_all rows ids)
+rowids_without_all [] rows h = h
+rowids_without_all (id ∷ ids) rows h = rowids_without_all ids (without_rowid id rows) (rowids_without id rows h)
 
 module _ (old new : State) (was : IsWorking old) where
   abbrev l : IsLaidOut old.now.schema
@@ -126,7 +130,7 @@ module _ (old new : State) (was : IsWorking old) where
             (subst (λ l. IsPermutation ((Blob source ∷ Int lo ∷ Int hi ∷ []) ∷ shown_spans rows) (shown_spans l)) (sym (rows_new _ h ∙ is)) among);
       }
 
-  moves_dropped : (source : List ℕ) (lo : ℕ) (span : Row) (others answer : List Row) → Begins source lo (shown_spans (span_rows old.now)) span others
+  moves_dropped : (source : List ℕ) (lo : ℤ) (span : Row) (others answer : List Row) → Begins source lo (shown_spans (span_rows old.now)) span others
       → IsPermutation (map (λ r. column r 0 ∷ []) (filter (λ r. begins_at source lo (shown_span r)) rows)) answer
       → Applied schema old new (edit_of old.now.trees (spans_at o) (ids_of answer) Given 0 []) → Moves old new others
   moves_dropped source lo span others answer begins same h =
@@ -152,10 +156,19 @@ module _ (old new : State) (was : IsWorking old) where
   done_add source lo hi (Ok n) h = moves_added source lo hi (adds_span l.origin l.others l.indexes l.views old new l.is source lo hi n h.0)
   done_add source lo hi (Err e) h = tt
 
-  pub done_drop : (source : List ℕ) (lo : ℕ) (at : ℤ) (span : Row) (others : List Row) (r : Result ℕ Error) → at ≡ pos lo → Begins source lo (shown_spans (span_rows old.now)) span others
-      → ExecutesInside 0 drop_span_text (Blob source ∷ Int at ∷ []) old new r → OnOk r (Moves old new others)
-  done_drop source lo at span others (Ok n) is begins h =
-      let free : AllByRecursion (IsApart (layout l.origin l.others l.indexes l.views) (spans_tree l.origin)) l.others = subst (λ s. AllByRecursion (IsApart s (spans_tree l.origin)) l.others) l.is l.spans_free in
-      let it = drops_span l.origin l.others l.indexes l.views old new l.is free source lo n (subst (λ z. ExecutesInside 0 drop_span_text (Blob source ∷ Int z ∷ []) old new (Ok n)) is h).0 in
+  free : AllByRecursion (IsApart (layout l.origin l.others l.indexes l.views) (spans_tree l.origin)) l.others
+  free = subst (λ s. AllByRecursion (IsApart s (spans_tree l.origin)) l.others) l.is l.spans_free
+
+  pub done_drop : (source : List ℕ) (lo : ℤ) (span : Row) (others : List Row) (r : Result ℕ Error) → Begins source lo (shown_spans (span_rows old.now)) span others
+      → ExecutesInside 0 drop_span_text (Blob source ∷ Int lo ∷ []) old new r → OnOk r (Moves old new others)
+  done_drop source lo span others (Ok n) begins h =
+      let it = drops_span l.origin l.others l.indexes l.views old new l.is free source lo n h.0 in
       moves_dropped source lo span others it.0 begins it.1 it.2
-  done_drop source lo at span others (Err e) is begins h = tt
+  done_drop source lo span others (Err e) begins h = tt
+
+  -- whichever rows there were
+  pub drop_goes : (source : List ℕ) (lo : ℤ) (r : Result ℕ Error) → ExecutesInside 0 drop_span_text (Blob source ∷ Int lo ∷ []) old new r → OnOk r (GoesOn old new)
+  drop_goes source lo (Ok n) h =
+      let it = drops_span l.origin l.others l.indexes l.views old new l.is free source lo n h.0 in
+      goes_on _ it.2 refl (rw it.2.step.rows (rowids_without_all (ids_of it.0) rows shaped_old))
+  drop_goes source lo (Err e) h = tt

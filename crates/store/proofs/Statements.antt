@@ -134,11 +134,11 @@ module _ (o : Origin) (others : List Table) (indexes : List Index) (views : List
           shown = w.shown;
         }
 
-    pub drops_span : AllByRecursion (IsApart (layout o others indexes views) (spans_tree o)) others → (source : List ℕ) (lo : ℕ) (count : ℕ) → Executes drop_span_text (Blob source ∷ Int (pos lo) ∷ []) old new (Ok count)
+    pub drops_span : AllByRecursion (IsApart (layout o others indexes views) (spans_tree o)) others → (source : List ℕ) (lo : ℤ) (count : ℕ) → Executes drop_span_text (Blob source ∷ Int lo ∷ []) old new (Ok count)
         → (rows : List Row) × IsPermutation (map (λ r. column r 0 ∷ []) (filter (λ r. begins_at source lo (shown_span r)) (old.now.trees (spans_tree o)))) rows
         × Applied (layout o others indexes views) old new (edit_of old.now.trees (spans_at o) (ids_of rows) Given 0 [])
     drops_span free source lo count h =
-        let params = Blob source ∷ Int (pos lo) ∷ [] in
+        let params = Blob source ∷ Int lo ∷ [] in
         let db = old.now.trees in
         let command = Delete 2 (record { lets = []; body = drop_span_query (spans_tree o) }) in
         let w = runs_as drop_span_text params old new (layout o others indexes views) has command (drop_span_is o others indexes views) (drop_span_plain o others indexes views) count h in

@@ -1,7 +1,10 @@
 -- What a call inside a transaction of the database does.
-use Rattle.std.specs.Prelude.{◌≡◌, nat_lt, ℕ, true, false, IsTrue, if◌then◌else◌, List, ◌∷◌, Option, Some, None, Result, Ok, Err, IsPermutation}
+use Rattle.std.specs.Prelude.{◌≡◌, nat_lt, ℕ, true, false, IsTrue, if◌then◌else◌, List, ◌∷◌, Option, Some, None, Result, Ok, Err, IsPermutation, ◌≢◌, ◌+◌, ℤ, Bool, map}
 use Rattle.std.specs.List.{AllByRecursion}
 use Rattle.sqlite_value.specs.Order.{Row}
+use Rattle.sqlite_rules.specs.Lists.{Has}
+use Rattle.gtid.specs.Identifier.{Ids}
+use Rattle.gtid.specs.declared.span.Span.{Span}
 use Rattle.sqlite.specs.State.{State}
 use Rattle.binlog.specs.Follow.{Names}
 use Rattle.gather.specs.Transaction.{ChangeValue}
@@ -9,7 +12,7 @@ use Rattle.store.specs.declared.change.Refusal.{Refusal}
 use Rattle.store.specs.declared.change.Refusal.TheVariants.{NoSuchRow, CountFull}
 use Rattle.store.specs.Layout.{IsLaidOut}
 use Rattle.store.specs.Take.{most, IsMade, IsRefused, IsDone, AreDone, is_followed, IsRefusedAt}
-use Rattle.store.specs.Rows.{meta_rows, held_rows, span_rows, follow_rows, HasRowids, IsHeldRow, Key, Counts, count, with_one, without_one, bag_of, shown_spans, begins_at}
+use Rattle.store.specs.Rows.{meta_rows, held_rows, span_rows, follow_rows, HasRowids, IsHeldRow, Key, Counts, count, with_one, without_one, bag_of, shown_spans, begins_at, span, stored_span, AreLeast}
 
 -- The connection is in a transaction on a database of the layout.
 pub record IsWorking (s : State) : Type 0 where
@@ -41,10 +44,39 @@ pub record Moves (old new : State) (after : List Row) : Type 0 where
   pub stored : IsPermutation after (shown_spans (span_rows new.now))
 
 -- Of what is stored of spans one begins there, and these are the others.
-pub record Begins (source : List ℕ) (lo : ℕ) (rows : List Row) (span : Row) (others : List Row) : Type 0 where
+pub record Begins (source : List ℕ) (lo : ℤ) (rows : List Row) (span : Row) (others : List Row) : Type 0 where
   pub begins : begins_at source lo span ≡ true
   pub apart : AllByRecursion (λ r. begins_at source lo r ≡ false) others
   pub all : IsPermutation (span ∷ others) rows
+
+-- The same where there is one, and else all are left.
+abbrev pub Leaves : List ℕ → ℤ → Bool → List Row → List Row → Type 0
+Leaves source lo true rows rest = (span : Row) × Begins source lo rows span rest
+Leaves source lo false rows rest = IsPermutation rest rows
+
+-- ---- Recording a transaction.
+
+-- Where the span begins that ends before the number, if there is one.
+abbrev pub EndsBefore : List ℕ → ℕ → List Span → Option ℕ → Type 0
+EndsBefore source n spans None = AllByRecursion (λ t. source ≡ t.source → t.hi ≢ n) spans
+EndsBefore source n spans (Some lo) = Has spans (span source lo n)
+
+-- Where the span ends that begins behind the number, if there is one.
+abbrev pub BeginsBehind : List ℕ → ℕ → List Span → Option ℕ → Type 0
+BeginsBehind source n spans None = AllByRecursion (λ t. source ≡ t.source → t.lo ≢ n + 1) spans
+BeginsBehind source n spans (Some hi) = Has spans (span source (n + 1) hi)
+
+-- The rows of spans are these, the least intervals of the set.
+pub record Shows (rows : List Row) (spans : List Span) (ids : Ids) : Type 0 where
+  pub least : AreLeast spans ids
+  pub rows_are : IsPermutation (map stored_span spans) (shown_spans rows)
+
+-- Only the spans have changed, and they are the least intervals of this set.
+pub record Records (old new : State) (ids : Ids) : Type 0 where
+  pub on : GoesOn old new
+  pub held : held_rows new.now ≡ held_rows old.now
+  pub spans : List Span
+  pub shows : Shows (span_rows new.now) spans ids
 
 -- ---- Counts.
 

@@ -1,5 +1,5 @@
 -- What the rows of the tables stand for.
-use Rattle.std.specs.Prelude.{◌≡◌, ◌≤◌, ℕ, ◌+◌, ◌-◌, ℤ, pos, Bool, false, IsTrue, ◌&&◌, if◌then◌else◌, List, [], ◌∷◌, map, filter, bytes_eq, codes, Option, None, Some, IsPermutation}
+use Rattle.std.specs.Prelude.{◌≡◌, ◌≤◌, ℕ, ◌+◌, ◌-◌, ℤ, pos, Bool, false, IsTrue, ◌&&◌, ◌<◌, nat_le, if◌then◌else◌, List, [], ◌∷◌, map, filter, bytes_eq, codes, Option, None, Some, IsPermutation}
 use Rattle.std.specs.Ordering.{is_eq}
 use Rattle.std.specs.List.{AllByRecursion, IsDistinct}
 use Rattle.std.specs.FinSet as set
@@ -10,7 +10,7 @@ use Rattle.sqlite_trees.specs.Tree.{rowid}
 use Rattle.sqlite_trees.specs.View.{is_int}
 use Rattle.sqlite.specs.Effect.{Database}
 use Rattle.gtid.specs.Identifier.{Ids, AreGtids}
-use Rattle.gtid.specs.Span.{IsLeastList}
+use Rattle.gtid.specs.Span.{Covers}
 use Rattle.gtid.specs.declared.span.Span.{Span}
 use Rattle.binlog.specs.Cell.{CellValue}
 use Rattle.binlog.specs.Follow.{Name, Names}
@@ -148,13 +148,26 @@ abbrev pub shown_spans : List Row → List Row
 shown_spans rows = map shown_span rows
 
 -- whether what is stored of a span begins there
-abbrev pub begins_at : List ℕ → ℕ → Row → Bool
-begins_at source lo shown = is_blob source (column shown 0) && is_eq (value_cmp (column shown 1) (Int (pos lo)))
+abbrev pub begins_at : List ℕ → ℤ → Row → Bool
+begins_at source lo shown = is_blob source (column shown 0) && is_eq (value_cmp (column shown 1) (Int lo))
 
--- In some order the rows are the least intervals of the set, which has identifiers of transactions alone.
+abbrev pub span : List ℕ → ℕ → ℕ → Span
+span source lo hi = record { source = source; lo = lo; hi = hi }
+
+-- whether two spans of one source overlap or touch
+abbrev pub touches : Span → Span → Bool
+touches a b = bytes_eq a.source b.source && (nat_le a.lo b.hi && nat_le b.lo a.hi)
+
+-- These are the least intervals of the set, in any order: none is empty, no two overlap or touch, and they cover the set.
+pub record AreLeast (spans : List Span) (ids : Ids) : Type 0 where
+  pub some : AllByRecursion (λ s. s.lo < s.hi) spans
+  pub apart : IsDistinct touches spans
+  pub covers : Covers spans ids
+
+-- The rows are the least intervals of the set, which has identifiers of transactions alone.
 pub record AreSpans (rows : List Row) (ids : Ids) : Type 0 where
   pub spans : List Span
-  pub least : IsLeastList spans ids
+  pub least : AreLeast spans ids
   pub lawful : AreGtids ids
   pub rows_are : IsPermutation (map stored_span spans) (shown_spans rows)
 
