@@ -11,4 +11,5 @@ pub mod Bags
 pub mod Loop
 pub mod SpanLists
 pub mod SpanRecord
+pub mod Filled
 pub mod Keeps

@@ -1,5 +1,5 @@
 -- The spans beside a number and the number become one span.
-use Rattle.std.proofs.Common.{◌≡◌, ◌≢◌, inl, inr, ℕ, ◌+◌, ◌<◌, ◌≤◌, pos, List, [], ◌∷◌, map, Bool, true, false, Some, None, Option, Ok, Err, Result, OnOk, sym, ap, ◌∙◌, arith}
+use Rattle.std.proofs.Common.{get_or, suc, ◌≡◌, ◌≢◌, inl, inr, ℕ, ◌+◌, ◌<◌, ◌≤◌, pos, List, [], ◌∷◌, map, Bool, true, false, Some, None, Option, Ok, Err, Result, OnOk, sym, ap, ◌∙◌, arith}
 use Rattle.std.specs.Option.{unwrap_or, is_some}
 use Rattle.std.specs.List.{AllByRecursion, IsDistinct}
 use Rattle.std.specs.List.Sorted.{IsPermutation}
@@ -24,6 +24,10 @@ use Rattle.store.proofs.Effects.{own_bytes, own_id}
 use Rattle.store.proofs.Made.{goes_then}
 use Rattle.store.proofs.RowLemmas.{equal_is}
 use Rattle.store.proofs.SpanLists.{IsSome, IsClear, Split, removed, untouched, clear_before, clear_behind, each_out, joined, nowhere}
+
+pub all_bytes : (bytes : List ℕ) → ((i : ℕ) → get_or bytes i 0 < 256) → AllByRecursion (λ b. b < 256) bytes
+all_bytes [] h = tt
+all_bytes (b ∷ bytes) h = (h 0, all_bytes bytes (λ i. h (suc i)))
 
 same_int : (a b : ℕ) → is_eq (value_cmp (Int (pos a)) (Int (pos b))) ≡ true → a ≡ b
 same_int a b h =

@@ -3,3 +3,4 @@ pub mod Take
 pub mod Layout
 pub mod Rows
 pub mod Inside
+pub mod Apply

@@ -8,7 +8,8 @@ ghost use Rattle.sqlite_value.specs.declared.value.Value.TheVariants.{Int, Blob}
 ghost use Rattle.store.specs.Rows.{span_rows, shown_spans};
 ghost use Rattle.store.specs.Inside.{IsWorking, GoesOn, Moves, Begins, Leaves, EndsBefore, BeginsBehind, Shows, Records};
 ghost use Rattle.std.specs.FinSet as set;
-ghost use Rattle.gtid.specs.Identifier.{Ids, id};
+ghost use Rattle.std.specs.List.{AllByRecursion};
+ghost use Rattle.gtid.specs.Identifier.{Ids, id, IsSource, IsGtid};
 ghost use Rattle.gtid.specs.declared.span.Span.{Span};
 
 use gtid::Gtid;
@@ -103,6 +104,20 @@ pub(crate) struct Beside {
 
 const END: u64 = 9_223_372_036_854_775_808;
 
+/// What the type of a source says.
+fn is_source(source: [u8; 16])
+    ensures { IsSource source }
+{
+    are_bytes(&source);
+}
+
+/// What the type of bytes says.
+fn are_bytes(bytes: &[u8])
+    ensures { AllByRecursion (λ b. b < 256) bytes.now }
+{
+    let _len = bytes.len();
+}
+
 /// Records a transaction: the spans beside it and its number become one span.
 pub(crate) fn record<S: Alter>(
     tx: &mut Transaction<'_, S>,
@@ -110,11 +125,13 @@ pub(crate) fn record<S: Alter>(
     beside: &Beside,
 ) -> Result<usize, Error>
     ensures same_reference { tx.new.conn.ghost_name ≡ tx.old.conn.ghost_name }
+    ensures lawful { IsGtid (id gtid) }
     ensures records { HasCleanDisk (state S.Store tx.new.conn.now) → IsWorking (state S.Store tx.old.conn.now) → (ids : Ids) → (spans : List Span) → Shows (span_rows (state S.Store tx.old.conn.now).now) spans ids → set.contains ids (id gtid) ≡ false
         → EndsBefore gtid.source gtid.number spans beside.now.before → BeginsBehind gtid.source gtid.number spans beside.now.after → OnOk result (Records (state S.Store tx.old.conn.now) (state S.Store tx.new.conn.now) (set.insert ids (id gtid))) }
     ensures kept { HasCleanDisk (state S.Store tx.new.conn.now) → IsWorking (state S.Store tx.old.conn.now) → KeepsCommit (state S.Store tx.old.conn.now) (state S.Store tx.new.conn.now) }
     ensures survives { Survives (state S.Store tx.old.conn.now) (state S.Store tx.new.conn.now) (λ _. ⊥) }
 {
+    is_source(gtid.source);
     let next = gtid.number + 1;
     let lo = beside.before.unwrap_or(gtid.number);
     let hi = beside.after.unwrap_or(next);
