@@ -12,4 +12,5 @@ pub mod Loop
 pub mod SpanLists
 pub mod SpanRecord
 pub mod Filled
+pub mod Ran
 pub mod Keeps
