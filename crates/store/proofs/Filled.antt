@@ -1,0 +1,64 @@
+-- The changes and then the record of a transaction.
+use Rattle.std.proofs.Common.{inl, inr, ◌≡◌, ℕ, true, false, ◌&&◌, ◌||◌, nat_eq, bytes_eq, Some, None, refl, sym, ap, subst, subst₂, ◌∙◌}
+use Rattle.std.specs.FinSet as set
+use Rattle.std.proofs.lemmas.Bool.{cases_Bool, and_parts, eqb-true}
+use Rattle.std.proofs.lemmas.Slice.Eq.{bytes_eq-Decides}
+use Rattle.sqlite.specs.State.{State}
+use Rattle.gtid.specs.Identifier.{Id, Ids, IsGtid, AreGtids}
+use Rattle.gtid.proofs.Sets.{id_cmp_total, tied}
+use Rattle.binlog.specs.Follow.{Names}
+use Rattle.gather.specs.Transaction.{DeliveryValue}
+use Rattle.store.specs.declared.change.Refusal.{Refusal}
+use Rattle.store.specs.State.{Content}
+use Rattle.store.specs.Take.{is_executed, AreDone, IsRefusedAt}
+use Rattle.store.specs.Rows.{StandsFor, SaysLayout, AreNames, bag_of, count, held_rows, span_rows}
+use Rattle.store.specs.Inside.{GoesOn, Goes, DoesAll, Shows, Records}
+use Rattle.store.specs.Apply.{Fills}
+use Rattle.store.proofs.Made.{goes_then}
+
+-- one identifier more of a transaction
+gtids_more : (ids : Ids) (x : Id) → AreGtids ids → IsGtid x → AreGtids (set.insert ids x)
+gtids_more ids x all is q has =
+    let either : ((bytes_eq q.0 x.0 && nat_eq q.1 x.1) || set.contains ids q) ≡ true = ap (λ b. b || set.contains ids q) (sym (tied q x)) ∙ sym (set.contains-insert id_cmp_total ids x q) ∙ has in
+    elim (cases_Bool (bytes_eq q.0 x.0 && nat_eq q.1 x.1)) [
+      | inl same ↦ (
+          let p = and_parts _ _ same in
+          let source : x.0 ≡ q.0 = sym ((bytes_eq-Decides q.0 x.0).0 p.0) in
+          let number : x.1 ≡ q.1 = sym (eqb-true q.1 x.1 p.1) in
+          subst₂ (λ s n. IsGtid (s, n)) source number is)
+      | inr other ↦ all q (rw other at either)
+    ]
+
+module _ (old mid new : State) (names : Names) (d : DeliveryValue) (content : Content) (stands : StandsFor old.now names content) (out : is_executed content d ≡ false) where
+  pub shows_mid : Goes old mid → Shows (span_rows mid.now) stands.executed.spans content.executed
+  shows_mid goes = subst (λ rows. Shows rows stands.executed.spans content.executed) (sym goes.spans) (record { least = stands.executed.least; rows_are = stands.executed.rows_are })
+
+  pub filled : IsGtid (d.source, d.number) → DoesAll names d.changes old mid None → Records mid new (set.insert content.executed (d.source, d.number)) → Fills names content d old new None
+  filled is does done =
+      let on : GoesOn old new = goes_then old mid new does.0.on done.on in (
+        on,
+        record {
+          after = record { executed = set.insert content.executed (d.source, d.number); rows = bag_of (count (held_rows new.now)) };
+          takes = (
+            out,
+            subst₂ (AreDone names d.changes) (sym stands.rows) (ap (λ rows. bag_of (count rows)) (sym done.held)) does.1,
+            refl,
+          );
+          stands = record {
+            laid_out = on.working.laid_out;
+            meta = subst SaysLayout (sym on.meta) stands.meta;
+            follow = subst (λ rows. AreNames rows names) (sym on.follow) stands.follow;
+            held = on.working.lawful;
+            executed = record {
+              spans = done.spans;
+              least = done.shows.least;
+              lawful = gtids_more content.executed (d.source, d.number) stands.executed.lawful is;
+              rows_are = done.shows.rows_are;
+            };
+            rows = refl;
+          };
+        },
+      )
+
+  pub unfilled : (why : ℕ × Refusal) → DoesAll names d.changes old mid (Some why) → Fills names content d old mid (Some why)
+  unfilled why does = (out, subst (λ bag. IsRefusedAt names d.changes bag why.0 why.1) (sym stands.rows) does)

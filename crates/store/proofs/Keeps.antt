@@ -1,0 +1,67 @@
+-- What a call inside a transaction keeps.
+use Rattle.std.proofs.Common.{◌⊎◌, inl, inr, ℕ, List, Ok, Err, Result, Some, None, false, IfErr, OnOk, ◌∙◌}
+use Rattle.sqlite_value.specs.Order.{Row}
+use Rattle.sqlite_resolve.specs.declared.compiled.Compiled.{Compiled}
+use Rattle.sqlite.specs.declared.error.Error.{Error}
+use Rattle.sqlite.specs.State.{State, Survives, KeepsCommit, IsUnchanged, IsRolledBack, IsNotRun, FailsToQuery, FailsToShow, IsTooLate, ExecutesInside, ExecutesIn, CommitsShowing}
+use Rattle.sqlite.specs.Listing.{understood}
+use Rattle.sqlite.proofs.Callers.{IsPlain, never_commits}
+use Rattle.sqlite.proofs.StateLemmas.{survives_then}
+
+pub kept_unchanged : (old new : State) → IsUnchanged old new → KeepsCommit old new
+kept_unchanged old new h = record { was_open = λ _. h.0.was_open; committed = λ _. h.0.committed_is }
+
+pub kept_rolled : (old new : State) → IsRolledBack old new → KeepsCommit old new
+kept_rolled old new h = record { was_open = h.was_open; committed = λ is_open. (h.undone is_open).1 }
+
+kept_showing : (old new : State) (sql : List ℕ) (c : Compiled) (params : Row) (e : Error) (r : _) → FailsToShow old new sql c params e r → KeepsCommit old new
+kept_showing old new sql c params e None h = kept_unchanged old new h.3
+kept_showing old new sql c params e (Some what) (inl h) = kept_unchanged old new h.1
+kept_showing old new sql c params e (Some what) (inr h) = kept_rolled old new h.3
+
+kept_not_run : (old new : State) (sql : List ℕ) (params : Row) (e : Error) → IsNotRun old new sql params e → KeepsCommit old new
+unfolding IsNotRun
+kept_not_run old new sql params e (inl h) = kept_unchanged old new h.1
+kept_not_run old new sql params e (inr h) = kept_rolled old new h.3
+
+pub kept_failed : (sql : List ℕ) (params : Row) (old new : State) (e : Error) → FailsToQuery sql params old new e ⊎ IsTooLate sql params old new e → KeepsCommit old new
+unfolding FailsToQuery
+kept_failed sql params old new e (inl (inl h)) = kept_not_run old new sql params e h
+kept_failed sql params old new e (inl (inr h)) = kept_showing old new sql h.0 _ e h.0.returning h.2
+kept_failed sql params old new e (inr h) = kept_unchanged old new h.5
+
+pub kept_shown : {X : Type 0} (sql : List ℕ) (params : Row) (old new : State) (r : Result X Error) → OnOk r (IsUnchanged old new)
+    → IfErr r (λ e. FailsToQuery sql params old new e ⊎ IsTooLate sql params old new e) → KeepsCommit old new
+kept_shown sql params old new (Ok x) same failed = kept_unchanged old new same
+kept_shown sql params old new (Err e) same failed = kept_failed sql params old new e failed
+
+pub kept_executed : (held : ℕ) (sql : List ℕ) (params : Row) (old new : State) (r : Result ℕ Error) → ExecutesInside held sql params old new r → KeepsCommit old new
+kept_executed held sql params old new (Ok count) h = record { was_open = λ _. h.1.was_open; committed = λ _. h.1.committed_is }
+kept_executed held sql params old new (Err e) (inl h) = elim h.1 [ inl same ↦ kept_unchanged old new same | inr undone ↦ kept_rolled old new undone ]
+kept_executed held sql params old new (Err e) (inr h) = kept_unchanged old new h.2
+
+-- a call that succeeded inside ran its text
+pub ran : (held : ℕ) (sql : List ℕ) (params : Row) (old new : State) (count : ℕ) → ExecutesInside held sql params old new (Ok count) → ExecutesIn false sql params old new (Ok count)
+ran held sql params old new count h = h.0
+
+-- ---- one call after another
+pub kept_then : (a b c : State) → KeepsCommit a b → KeepsCommit b c → KeepsCommit a c
+kept_then a b c one two = record { was_open = λ is_open. one.was_open (two.was_open is_open); committed = λ is_open. two.committed is_open ∙ one.committed (two.was_open is_open) }
+
+pub inside_then : (a b c : State) → Survives a b (λ _. ⊥) → Survives b c (λ _. ⊥) → Survives a c (λ _. ⊥)
+inside_then a b c one two = survives_then a b c (λ _. ⊥) (λ _. ⊥) (λ _. ⊥) (λ _ db none. none) (λ _ db none. none) one two
+
+-- ---- a query outside a transaction
+pub kept_query : {X : Type 0} (sql : List ℕ) (params : Row) (old new : State) (r : Result X Error) → OnOk r (IsUnchanged old new) → IfErr r (FailsToQuery sql params old new) → KeepsCommit old new
+kept_query sql params old new (Ok x) same failed = kept_unchanged old new same
+kept_query sql params old new (Err e) same failed = kept_failed sql params old new e (inl failed)
+
+pub query_survives : (sql : List ℕ) (params : Row) (old new : State) → IsPlain (understood old.now.schema sql) → Survives old new (CommitsShowing sql params old) → Survives old new (λ _. ⊥)
+query_survives sql params old new plain s = record {
+  clean = s.clean;
+  shield = s.shield;
+  counts = s.counts;
+  limit = s.limit;
+  closes = s.closes;
+  crash = λ clean db left. elim (s.crash clean db left) [ inl was ↦ inl was | inr made ↦ absurd (never_commits sql params old db plain made) ];
+}

@@ -1,0 +1,16 @@
+pub mod Texts
+pub mod Selects
+pub mod Works
+pub mod RowLemmas
+pub mod Statements
+pub mod Effects
+pub mod Done
+pub mod SpanEffects
+pub mod Made
+pub mod Bags
+pub mod Loop
+pub mod SpanLists
+pub mod SpanRecord
+pub mod Filled
+pub mod Ran
+pub mod Keeps

@@ -1,0 +1,61 @@
+-- The loop over the changes.
+use Rattle.std.proofs.Common.{◌≡◌, ◌+◌, ◌<◌, ◌≤◌, ℕ, List, [], ◌∷◌, ◌++◌, take, get_or, length, slice_get, Some, None, refl, sym, ap, subst, ◌∙◌, add-one}
+use Rattle.std.proofs.Math.Seq.{take-suc}
+use Rattle.std.proofs.Math.ListN.{get_or-map}
+use Rattle.std.proofs.lemmas.List.{length-map, take_all}
+use Rattle.std.proofs.lemmas.Option.{slice_get-get_or}
+use Rattle.sqlite.specs.State.{State}
+use Rattle.binlog.specs.Follow.{Names}
+use Rattle.gather.specs.Transaction.{ChangeValue}
+use Rattle.gather.specs.View.{change_value, change_values}
+use Rattle.gather.specs.declared.change.Change.{Change}
+use Rattle.store.specs.declared.change.Refusal.{Refusal}
+use Rattle.store.specs.State.{Bag}
+use Rattle.store.specs.Take.{IsDone, AreDone}
+use Rattle.store.specs.Rows.{bag_of, count, held_rows}
+use Rattle.store.specs.Inside.{IsWorking, Goes, Does, DoesAll}
+use Rattle.store.proofs.Bags.{goes_after}
+
+done_last : (names : Names) (changes : List ChangeValue) (change : ChangeValue) (old mid new : Bag) → AreDone names changes old mid → IsDone names change mid new → AreDone names (changes ++ change ∷ []) old new
+done_last names [] change old mid new all last = (new, subst (λ b. IsDone names change b new) all last, refl)
+done_last names (c ∷ changes) change old mid new all last = (all.0, all.1, done_last names changes change all.0 mid new all.2 last)
+
+module _ (changes : List Change) (at : ℕ) (change : Change) (low : at < length changes) (is : change ≡ get_or changes at change) where
+  value_is : change_value change ≡ get_or (change_values changes) at (change_value change)
+  value_is = ap change_value is ∙ sym (get_or-map change_value changes at change)
+
+  within : at < length (change_values changes)
+  within = rw (length-map changes change_value) low
+
+  one_more : take (at + 1) (change_values changes) ≡ take at (change_values changes) ++ change_value change ∷ []
+  one_more = rw add-one (take-suc (change_values changes) at (change_value change) within ∙ ap (λ v. take at (change_values changes) ++ v ∷ []) (sym value_is))
+
+  there : slice_get (change_values changes) at ≡ Some (change_value change)
+  there = slice_get-get_or (change_values changes) at (change_value change) within ∙ ap Some (sym value_is)
+
+  module _ (names : Names) (old mid new : State) (way : DoesAll names (take at (change_values changes)) old mid None) where
+    pub goes_under_way : Does names (change_value change) mid new None → DoesAll names (take (at + 1) (change_values changes)) old new None
+    goes_under_way one = (
+      goes_after old mid new way.0 one.0,
+      subst (λ cs. AreDone names cs (bag_of (count (held_rows old.now))) (bag_of (count (held_rows new.now)))) (sym one_more)
+          (done_last names (take at (change_values changes)) (change_value change) (bag_of (count (held_rows old.now))) (bag_of (count (held_rows mid.now))) (bag_of (count (held_rows new.now))) way.1 one.1),
+    )
+
+    pub stops : (why : Refusal) → Does names (change_value change) mid new (Some why) → DoesAll names (change_values changes) old new (Some (at, why))
+    stops why one = record {
+      change = change_value change;
+      mid = bag_of (count (held_rows mid.now));
+      there = there;
+      before = way.1;
+      followed = one.0;
+      refused = one.1;
+    }
+
+pub goes_nowhere : (s : State) → IsWorking s → Goes s s
+goes_nowhere s was = record { on = record { working = was; schema = refl; committed = refl; meta = refl; follow = refl }; spans = refl }
+
+pub begins_way : (names : Names) (changes : List ChangeValue) (s : State) → IsWorking s → DoesAll names (take 0 changes) s s None
+begins_way names changes s was = (goes_nowhere s was, refl)
+
+pub ends_way : (names : Names) (changes : List Change) (at : ℕ) (old new : State) → length changes ≤ at → DoesAll names (take at (change_values changes)) old new None → DoesAll names (change_values changes) old new None
+ends_way names changes at old new high way = subst (λ cs. DoesAll names cs old new None) (take_all at (change_values changes) (rw (length-map changes change_value) high)) way

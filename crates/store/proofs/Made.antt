@@ -1,0 +1,81 @@
+-- From one call to the next.
+use Rattle.std.proofs.Common.{◌≡◌, ◌<◌, ◌≤◌, nat_lt, ℕ, List, true, false, Some, None, Option, refl, sym, ap, subst, ◌∙◌, arith}
+use Rattle.std.specs.List.{AllByRecursion}
+use Rattle.std.proofs.lemmas.Bool.{lt-ltb}
+use Rattle.std.proofs.lemmas.Bool.Decides.{nat_tests}
+use Rattle.sqlite_value.specs.Order.{Row}
+use Rattle.sqlite.specs.Effect.{Database}
+use Rattle.sqlite.specs.State.{State, IsUnchanged}
+use Rattle.store.specs.declared.change.Refusal.TheVariants.{NoSuchRow, CountFull}
+use Rattle.store.specs.Layout.{IsLaidOut}
+use Rattle.store.specs.Take.{most}
+use Rattle.store.specs.Rows.{Key, IsHeldRow, HasRowids, Finds, meta_rows, held_rows, span_rows, follow_rows, count, Counts, with_one, without_one}
+use Rattle.store.specs.Inside.{IsWorking, GoesOn, Holds, added, taken, Counted}
+use Rattle.store.proofs.RowLemmas.{count_found, count_none}
+
+pub working_same : (old mid : State) → IsUnchanged old mid → IsWorking old → IsWorking mid
+working_same old mid h was = record {
+  is_open = h.0.is_open;
+  inside = h.0.mode ∙ was.inside;
+  laid_out = subst (λ (d : Database). IsLaidOut d.schema) (sym h.0.now_is) was.laid_out;
+  held_apart = subst (λ (d : Database). HasRowids (held_rows d)) (sym h.0.now_is) was.held_apart;
+  spans_apart = subst (λ (d : Database). HasRowids (span_rows d)) (sym h.0.now_is) was.spans_apart;
+  lawful = subst (λ (d : Database). AllByRecursion IsHeldRow (held_rows d)) (sym h.0.now_is) was.lawful;
+}
+
+pub goes_since : (old mid new : State) → IsUnchanged old mid → GoesOn mid new → GoesOn old new
+goes_since old mid new h next = record {
+  working = next.working;
+  schema = next.schema ∙ ap (λ (d : Database). d.schema) h.0.now_is;
+  committed = next.committed ∙ h.0.committed_is;
+  meta = next.meta ∙ ap meta_rows h.0.now_is;
+  follow = next.follow ∙ ap follow_rows h.0.now_is;
+}
+
+pub holds_since : (old mid new : State) (counts : Counts) → IsUnchanged old mid → Holds mid new counts → Holds old new counts
+holds_since old mid new counts h next = record {
+  on = goes_since old mid new h next.on;
+  spans = next.spans ∙ ap span_rows h.0.now_is;
+  counts_are = next.counts_are;
+}
+
+-- the count under a key that was looked up
+pub counted_none : (key : Key) (rows : List Row) → Finds key rows None → count rows key ≡ 0
+counted_none key rows none = count_none key rows none
+
+pub counted_some : (key : Key) (rows : List Row) (n : ℕ) → Finds key rows (Some n) → count rows key ≡ n
+counted_some key rows n one = count_found key rows one.0 n one.1 one.2
+
+module _ (old mid new : State) (key : Key) (same : IsUnchanged old mid) where
+  counts_same : count (held_rows mid.now) ≡ count (held_rows old.now)
+  counts_same = ap (λ (d : Database). count (held_rows d)) same.0.now_is
+
+  pub found_mid : (found : Option ℕ) → Finds key (held_rows old.now) found → Finds key (held_rows mid.now) found
+  found_mid found h = subst (λ (d : Database). Finds key (held_rows d) found) (sym same.0.now_is) h
+
+  pub counted_added : (n : ℕ) → count (held_rows old.now) key ≡ n → n < most → Holds mid new (with_one key (count (held_rows mid.now))) → Counted old new (added key (count (held_rows old.now))) None
+  counted_added n is low h =
+      let test : nat_lt (count (held_rows old.now) key) most ≡ true = rw is (lt-ltb n most low) in
+      rw test (holds_since old mid new _ same (subst (λ b. Holds mid new (with_one key b)) counts_same h))
+
+  pub counted_taken : (n : ℕ) → count (held_rows old.now) key ≡ n → 0 < n → Holds mid new (without_one key (count (held_rows mid.now))) → Counted old new (taken key (count (held_rows old.now))) None
+  counted_taken n is low h =
+      let test : nat_lt 0 (count (held_rows old.now) key) ≡ true = rw is (lt-ltb 0 n low) in
+      rw test (holds_since old mid new _ same (subst (λ b. Holds mid new (without_one key b)) counts_same h))
+
+pub counted_full : (old new : State) (key : Key) (n : ℕ) → count (held_rows old.now) key ≡ n → most ≤ n → Counted old new (added key (count (held_rows old.now))) (Some CountFull)
+counted_full old new key n is high =
+    let test : nat_lt (count (held_rows old.now) key) most ≡ false = rw is (grind (arith, nat_tests)) in rw test refl
+
+pub counted_missing : (old new : State) (key : Key) → count (held_rows old.now) key ≡ 0 → Counted old new (taken key (count (held_rows old.now))) (Some NoSuchRow)
+counted_missing old new key is = let test : nat_lt 0 (count (held_rows old.now) key) ≡ false = rw is refl in rw test refl
+
+-- ---- one call after another
+pub goes_then : (old mid new : State) → GoesOn old mid → GoesOn mid new → GoesOn old new
+goes_then old mid new one two = record {
+  working = two.working;
+  schema = two.schema ∙ one.schema;
+  committed = two.committed ∙ one.committed;
+  meta = two.meta ∙ one.meta;
+  follow = two.follow ∙ one.follow;
+}

@@ -1,0 +1,68 @@
+-- A transaction from its begin to its end.
+use Rattle.std.proofs.Common.{◌≡◌, inl, inr, ℕ, true, false, Option, Ok, Err, Result, refl, sym, subst, subst₂, ◌∙◌}
+use Rattle.std.specs.Result.{IsErr}
+use Rattle.sqlite_trees.specs.declared.store.Store as store
+use Rattle.sqlite_trees.specs.Tree.{Trees}
+use Rattle.sqlite.specs.declared.error.Error.{Error}
+use Rattle.sqlite.specs.Effect.{Database}
+use Rattle.sqlite.specs.State.{State, KeepsCommit, IsRolledBack, Shows}
+use Rattle.sqlite.specs.Steps.{FailsToCommit}
+use Rattle.sqlite.specs.Held.{Held, state}
+use Rattle.binlog.specs.Follow.{Names}
+use Rattle.gather.specs.Transaction.{DeliveryValue}
+use Rattle.store.specs.declared.change.Refusal.{Refusal}
+use Rattle.store.specs.State.{Content}
+use Rattle.store.specs.Rows.{StandsFor, HasRowids, held_rows, span_rows}
+use Rattle.store.specs.Inside.{IsWorking, GoesOn}
+use Rattle.store.specs.Apply.{IsTaken, IsAtRest, Rests, HasTaken, Runs, MayCommit}
+
+pub begun_working : {S : Type 0} (g : store.Ghosts S) (h : Held S) (names : Names) (content : Content) → IsAtRest (state g h) names content → IsWorking (state g (record h { in_transaction = true }))
+begun_working g h names content rest = record {
+  is_open = rest.is_open;
+  inside = refl;
+  laid_out = rest.stands.laid_out;
+  held_apart = rest.held_apart;
+  spans_apart = rest.spans_apart;
+  lawful = rest.stands.held;
+}
+
+-- ---- given up
+
+pub rests_rolled : (t m n : State) → t.now ≡ t.committed → KeepsCommit t m → IsRolledBack m n → Rests t n
+rests_rolled t m n settled kept rolled is_open =
+    let u = rolled.undone is_open in
+    let k = kept.committed (rolled.was_open is_open) in
+    (u.0 ∙ k ∙ sym settled, u.1 ∙ k)
+
+pub rests_failed : (t m n : State) (e : Error) → t.now ≡ t.committed → KeepsCommit t m → m.in_transaction ≡ true → FailsToCommit m n e → Rests t n
+rests_failed t m n e settled kept inside (inl fails) = rests_rolled t m n settled kept fails.3
+rests_failed t m n e settled kept inside (inr late) = absurd (let no = late.1 in cc)
+
+module _ (names : Names) (content : Content) (d : DeliveryValue) where
+  pub runs_err : {E : Type 0} (a n : State) (r : Result (Option (ℕ × Refusal)) E) → IsErr r → Rests a n → Runs names content d a n r
+  runs_err a n (Ok o) is rests = absurd (cc)
+  runs_err a n (Err e) is rests = rests
+
+  -- ---- taken
+
+  pub has_taken : (t m n : State) → GoesOn t m × IsTaken names content d m.now.schema m.now.trees → Shows m n m.now m.now false → HasTaken names content d n
+  has_taken t m n it h = record {
+    after = it.1.after;
+    takes = it.1.takes;
+    rest = record {
+      is_open = h.is_open;
+      settled = h.now_is ∙ sym h.committed_is;
+      held_apart = subst (λ (db : Database). HasRowids (held_rows db)) (sym h.now_is) it.0.working.held_apart;
+      spans_apart = subst (λ (db : Database). HasRowids (span_rows db)) (sym h.now_is) it.0.working.spans_apart;
+      stands = subst (λ (db : Database). StandsFor db names it.1.after) (sym h.now_is) it.1.stands;
+    };
+  }
+
+  -- ---- what a crash leaves
+
+  pub leaves : (t m : State) → GoesOn t m × IsTaken names content d m.now.schema m.now.trees → (db : Trees) → db ≡ m.now.trees → IsTaken names content d t.now.schema db
+  leaves t m it db is = subst₂ (λ s trees. IsTaken names content d s trees) it.0.schema (sym is) it.1
+
+  pub may_commit_err : {E : Type 0} (a : State) (r : Result (Option (ℕ × Refusal)) E) (db : Trees) → IsErr r → IsTaken names content d a.now.schema db → MayCommit names content d a r db
+  may_commit_err a (Ok o) db is taken = absurd (cc)
+  may_commit_err a (Err e) db is taken = taken

@@ -1,0 +1,102 @@
+-- What a query by key shows.
+use Rattle.std.proofs.Common.{◌≡◌, ℕ, List, [], ◌∷◌, ◌++◌, map, filter, Bool, true, false, cond, ◌&&◌, Some, refl, sym, ap, subst, ◌∙◌, flat_map, ℤ}
+use Rattle.std.specs.List.Sorted.{IsPermutation}
+use Rattle.std.specs.List.{list_all}
+use Rattle.std.proofs.lemmas.List.Sorted.{IsPermutation-map}
+use Rattle.std.proofs.lemmas.Map.Text.{is_eq-slice_cmp}
+use Rattle.std.specs.Ordering.{is_eq}
+use Rattle.sqlite_value.specs.declared.value.Value.{Value}
+use Rattle.sqlite_value.specs.declared.value.Value.TheVariants.{Null, Int, Real, Text, Blob}
+use Rattle.sqlite_value.specs.declared.keys.Collation.TheVariants.{Binary}
+use Rattle.sqlite_value.specs.Order.{Row, column, value_cmp}
+use Rattle.sqlite_value.proofs.OrderLemmas.{value_cmp-Blob, value_cmp-apart}
+use Rattle.sqlite_sql.specs.declared.ops.BinaryOp.TheVariants.{Compare}
+use Rattle.sqlite_sql.specs.declared.ops.CompareOp.TheVariants.{Eq}
+use Rattle.sqlite_sql.specs.Ops.{binary, is_true, from_truth, unary}
+use Rattle.sqlite_sql.specs.Term.{Term, eval_all, holds}
+use Rattle.sqlite_sql.specs.Query.{IsAnswerAs, output, Output}
+use Rattle.sqlite_trees.specs.Tree.{Trees}
+use Rattle.sqlite_sql.specs.Program.{overlay}
+use Rattle.store.specs.Layout.{Origin, made, migrated, held_tree, spans_tree, among, has_key, has_start}
+use Rattle.sqlite_sql.specs.declared.ops.UnaryOp.TheVariants.{ToNumeric}
+use Rattle.store.specs.Rows.{Key, is_blob, is_at, begins_at, shown_span}
+
+shown_bool : (b : Bool) → is_true (from_truth (Some b)) ≡ b
+shown_bool true = refl
+shown_bool false = refl
+
+-- a comparison with a blob is one of the bytes
+pub equals_blob : (v : Value) (b : List ℕ) → is_true (binary (Compare Eq Binary) v (Blob b)) ≡ is_blob b v
+unfolding binary
+equals_blob Null b = refl
+equals_blob (Int n) b = shown_bool (is_eq (value_cmp (Int n) (Blob b))) ∙ ap is_eq (value_cmp-apart (Int n) (Blob b) (λ e. cc))
+equals_blob (Real x) b = shown_bool (is_eq (value_cmp (Real x) (Blob b))) ∙ ap is_eq (value_cmp-apart (Real x) (Blob b) (λ e. cc))
+equals_blob (Text t) b = shown_bool (is_eq (value_cmp (Text t) (Blob b))) ∙ ap is_eq (value_cmp-apart (Text t) (Blob b) (λ e. cc))
+equals_blob (Blob x) b = shown_bool (is_eq (value_cmp (Blob x) (Blob b))) ∙ ap is_eq (value_cmp-Blob x b) ∙ is_eq-slice_cmp x b
+
+-- and one with an integer is that of values
+equals_int : (v : Value) (n : ℤ) → is_true (binary (Compare Eq Binary) v (Int n)) ≡ is_eq (value_cmp v (Int n))
+unfolding binary
+equals_int Null n = sym (ap is_eq (value_cmp-apart Null (Int n) (λ e. cc)))
+equals_int (Int m) n = shown_bool (is_eq (value_cmp (Int m) (Int n)))
+equals_int (Real x) n = shown_bool (is_eq (value_cmp (Real x) (Int n)))
+equals_int (Text t) n = shown_bool (is_eq (value_cmp (Text t) (Int n)))
+equals_int (Blob x) n = shown_bool (is_eq (value_cmp (Blob x) (Int n)))
+
+-- the parameters of a statement by key
+abbrev pub key_params : Key → Row → Row
+key_params key more = Blob key.schema ∷ Blob key.table ∷ Blob key.image ∷ more
+
+and_true : (a : Bool) → (a && true) ≡ a
+and_true true = refl
+and_true false = refl
+
+pub key_holds : (key : Key) (more row : Row) → list_all (holds (key_params key more ∷ row ∷ [])) has_key ≡ is_at key row
+key_holds key more row =
+    rw (equals_blob (column row 1) key.schema, equals_blob (column row 2) key.table, equals_blob (column row 3) key.image)
+    (ap (λ b. is_blob key.schema (column row 1) && (is_blob key.table (column row 2) && b)) (and_true (is_blob key.image (column row 3))))
+
+numeric_int : (n : ℤ) → unary ToNumeric (Int n) ≡ Int n
+unfolding unary
+numeric_int n = refl
+
+pub start_holds : (source : List ℕ) (n : ℤ) (row : Row) → list_all (holds ((Blob source ∷ Int n ∷ []) ∷ row ∷ [])) has_start ≡ begins_at source n (shown_span row)
+start_holds source n row =
+    rw (numeric_int n, equals_blob (column row 1) source, equals_int (column row 2) n)
+    (ap (λ b. is_blob source (column row 1) && b) (and_true (is_eq (value_cmp (column row 2) (Int n)))))
+
+one_more : (params r : Row) (b : Bool) (rows : List Row) → cond b ((params ∷ r ∷ []) ∷ []) [] ++ map (λ r. params ∷ r ∷ []) rows ≡ map (λ r. params ∷ r ∷ []) (cond b (r ∷ rows) rows)
+one_more params r true rows = refl
+one_more params r false rows = refl
+
+map_twice : {A B C : Type 0} (f : A → B) (g : B → C) (xs : List A) → map g (map f xs) ≡ map (λ x. g (f x)) xs
+map_twice f g [] = refl
+map_twice f g (x ∷ xs) = ap (λ l. g (f x) ∷ l) (map_twice f g xs)
+
+-- the tests of a query say this of a row
+module _ (tests : List Term) (params : Row) (p : Row → Bool) (says : (row : Row) → list_all (holds (params ∷ row ∷ [])) tests ≡ p row) where
+  matched : (rows : List Row) → flat_map (λ r. cond (list_all (holds (params ∷ r ∷ [])) tests) ((params ∷ r ∷ []) ∷ []) []) rows ≡ map (λ r. params ∷ r ∷ []) (filter p rows)
+  matched [] = refl
+  matched (r ∷ rows) = rw (says, matched rows) (one_more params r (p r) (filter p rows))
+
+  -- an answer is what each row that passes shows, in some order
+  pub answers : (tree : ℕ) (shown : List Term) (db : Trees) (lost : Value) (rows source : List Row) → db tree ≡ source → IsAnswerAs lost (among tree tests shown) db params rows
+      → IsPermutation (map (λ r. eval_all shown (params ∷ r ∷ [])) (filter p source)) rows
+  answers tree shown db lost rows source is a =
+      let q = among tree tests shown in
+      let found = filter p source in
+      let staged : a.staged ≡ map (λ r. params ∷ r ∷ []) found = a.grouped ∙ matched (db tree) ∙ ap (λ l. map (λ r. params ∷ r ∷ []) (filter p l)) is in
+      let kept : a.kept ≡ map (output q) (map (λ r. params ∷ r ∷ []) found) = a.distinct ∙ ap (map (output q)) staged in
+      let same : IsPermutation (map (λ (o : Output). o.1) a.kept) (map (λ (o : Output). o.1) a.ordered) = IsPermutation-map (λ (o : Output). o.1) a.kept a.ordered a.same in
+      let first : map (λ (o : Output). o.1) a.kept ≡ map (λ r. eval_all shown (params ∷ r ∷ [])) found =
+      ap (map (λ (o : Output). o.1)) kept ∙ map_twice (output q) (λ (o : Output). o.1) _ ∙ map_twice _ _ found in
+      subst (IsPermutation (map (λ r. eval_all shown (params ∷ r ∷ [])) found)) (sym a.shown) (subst (λ l. IsPermutation l (map (λ (o : Output). o.1) a.ordered)) first same)
+
+-- The trees of the store are not those of lists that a query makes.
+pub held_read : (o : Origin) (db : Trees) → overlay db [] (held_tree o) ≡ db (held_tree o)
+held_read made db = refl
+held_read migrated db = refl
+
+pub spans_read : (o : Origin) (db : Trees) → overlay db [] (spans_tree o) ≡ db (spans_tree o)
+spans_read made db = refl
+spans_read migrated db = refl

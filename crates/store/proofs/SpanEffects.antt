@@ -1,0 +1,174 @@
+-- What each call on one row of spans does, where it succeeds.
+use Rattle.std.proofs.Common.{◌≡◌, inl, ℕ, ℤ, List, [], ◌∷◌, map, filter, not, Bool, true, false, cond, Ok, Err, Result, OnOk, refl, sym, ap, subst, ◌∙◌}
+use Rattle.std.specs.List.{AllByRecursion}
+use Rattle.std.specs.List.Sorted.{IsPermutation}
+use Rattle.std.proofs.lemmas.List.Sorted.{IsPermutation-map}
+use Rattle.std.specs.Ordering.{is_eq}
+use Rattle.sqlite_trees.proofs.ListLemmas.{IsPermutation-filter}
+use Rattle.sqlite_value.specs.declared.value.Value.TheVariants.{Null, Int, Blob}
+use Rattle.sqlite_value.specs.Order.{Row, column, value_cmp}
+use Rattle.sqlite_trees.specs.Tree.{rowid, put_row, without_rowid, has_rowid}
+use Rattle.sqlite_rules.specs.Lists.{Has}
+use Rattle.sqlite_rules.specs.Edit.{Edit, edit_of, next_rowid, are_fresh, is_taken, id_in, put_all, without_all}
+use Rattle.sqlite_rules.specs.Calls.{ids_of}
+use Rattle.sqlite_rules.specs.declared.error.Rowids.TheVariants.{Chosen, Given}
+use Rattle.sqlite_rules.proofs.ListLemmas.{has_filtered}
+use Rattle.sqlite_schema.specs.declared.schema.Schema.{Schema}
+use Rattle.sqlite.specs.declared.error.Error.{Error}
+use Rattle.sqlite.specs.State.{State, ExecutesInside}
+use Rattle.sqlite.proofs.Callers.{one_permutation}
+use Rattle.store.specs.Layout.{Origin, IsLaidOut, IsApart, layout, spans_tree, spans_at, tree_at, add_span_text, drop_span_text}
+use Rattle.store.specs.Rows.{IsHeldRow, HasRowids, held_rows, span_rows, shown_span, shown_spans, begins_at}
+use Rattle.store.specs.Inside.{IsWorking, GoesOn, Moves, Begins}
+use Rattle.store.proofs.Statements.{Applied, cast_null, cast_int, adds_span, drops_span}
+use Rattle.store.proofs.RowLemmas.{rowids_put, rowids_without, left_is, put_among}
+use Rattle.store.proofs.Effects.{fresh_alone, keyed_row, own_id, same_rows, meta_spans, held_spans, follow_spans}
+
+-- ---- what is stored of spans, and what passes a test
+
+cases_map : (f : Row → Row) (x : Row) (b : Bool) (rows : List Row) → map f (cond b (x ∷ rows) rows) ≡ cond b (f x ∷ map f rows) (map f rows)
+cases_map f x true rows = refl
+cases_map f x false rows = refl
+
+filter_map_is : (f : Row → Row) (p : Row → Bool) (rows : List Row) → map f (filter (λ r. p (f r)) rows) ≡ filter p (map f rows)
+filter_map_is f p [] = refl
+filter_map_is f p (x ∷ rows) = cases_map f x (p (f x)) (filter (λ r. p (f r)) rows) ∙ ap (λ l. cond (p (f x)) (f x ∷ l) l) (filter_map_is f p rows)
+
+none_pass : (p : Row → Bool) (rows : List Row) → AllByRecursion (λ r. p r ≡ false) rows → filter p rows ≡ []
+none_pass p [] all = refl
+none_pass p (x ∷ rows) all = rw all.0 (none_pass p rows all.1)
+
+all_pass : (p : Row → Bool) (rows : List Row) → AllByRecursion (λ r. p r ≡ false) rows → filter (λ r. not (p r)) rows ≡ rows
+all_pass p [] all = refl
+all_pass p (x ∷ rows) all = rw (all.0, all_pass p rows all.1)
+
+one_mapped : (f : Row → Row) (rows : List Row) (y : Row) → map f rows ≡ y ∷ [] → (r : Row) × (rows ≡ r ∷ [])
+one_mapped f [] y h = absurd (cc)
+one_mapped f (x ∷ []) y h = (x, refl)
+one_mapped f (x ∷ z ∷ rows) y h = absurd (cc)
+
+module _ (source : List ℕ) (lo : ℤ) (rows : List Row) (span : Row) (others : List Row) (h : Begins source lo (shown_spans rows) span others) where
+  -- one row begins there
+  one_begins : (r : Row) × (filter (λ r. begins_at source lo (shown_span r)) rows ≡ r ∷ [])
+  one_begins =
+      let p = begins_at source lo in
+      let alone : filter p (span ∷ others) ≡ span ∷ [] = rw (h.begins, none_pass p others h.apart) refl in
+      let same : IsPermutation (span ∷ []) (filter p (shown_spans rows)) = subst (λ l. IsPermutation l (filter p (shown_spans rows))) alone (IsPermutation-filter p (span ∷ others) (shown_spans rows) h.all) in
+      one_mapped shown_span (filter (λ r. p (shown_span r)) rows) span (filter_map_is shown_span p rows ∙ one_permutation span _ same)
+
+  others_left : IsPermutation others (shown_spans (filter (λ r. not (begins_at source lo (shown_span r))) rows))
+  others_left =
+      let p = begins_at source lo in
+      let q : Row → Bool = λ r. not (begins_at source lo r) in
+      let left : filter q (span ∷ others) ≡ others = rw (h.begins, all_pass p others h.apart) refl in
+      let same : IsPermutation others (filter q (shown_spans rows)) = subst (λ l. IsPermutation l (filter q (shown_spans rows))) left (IsPermutation-filter q (span ∷ others) (shown_spans rows) h.all) in
+      subst (IsPermutation others) (sym (filter_map_is shown_span q rows)) same
+
+rowids_without_all : (ids : List ℤ) (rows : List Row) → HasRowids rows → HasRowids (without_all rows ids)
+rowids_without_all [] rows h = h
+rowids_without_all (id ∷ ids) rows h = rowids_without_all ids (without_rowid id rows) (rowids_without id rows h)
+
+module _ (old new : State) (was : IsWorking old) where
+  abbrev l : IsLaidOut old.now.schema
+  l = was.laid_out
+
+  abbrev o : Origin
+  o = was.laid_out.origin
+
+  abbrev schema : Schema
+  schema = layout was.laid_out.origin was.laid_out.others was.laid_out.indexes was.laid_out.views
+
+  abbrev rows : List Row
+  rows = old.now.trees (spans_tree was.laid_out.origin)
+
+  rows_old : span_rows old.now ≡ rows
+  rows_old = ap (λ s. old.now.trees (tree_at s 2)) was.laid_out.is
+
+  shaped_old : HasRowids rows
+  shaped_old = subst HasRowids rows_old was.spans_apart
+
+  rows_new : (edit : Edit) → Applied schema old new edit → span_rows new.now ≡ new.now.trees (spans_tree o)
+  rows_new edit h = ap (λ s. new.now.trees (tree_at s 2)) h.schema_is
+
+  held_stays : (edit : Edit) → Applied schema old new edit → edit.table ≡ spans_at o → held_rows new.now ≡ held_rows old.now
+  held_stays edit h at = same_rows old new schema 1 was.laid_out.is h.schema_is (h.step.tables.1.0 (rw at (held_spans o)))
+
+  goes_on : (edit : Edit) → Applied schema old new edit → edit.table ≡ spans_at o → HasRowids (new.now.trees (spans_tree o)) → GoesOn old new
+  goes_on edit h at shaped = record {
+    working = record {
+      is_open = h.shown.is_open;
+      inside = h.shown.mode ∙ was.inside;
+      laid_out = subst IsLaidOut (was.laid_out.is ∙ sym h.schema_is) was.laid_out;
+      held_apart = subst HasRowids (sym (held_stays edit h at)) was.held_apart;
+      spans_apart = subst HasRowids (sym (rows_new edit h)) shaped;
+      lawful = subst (AllByRecursion IsHeldRow) (sym (held_stays edit h at)) was.lawful;
+    };
+    schema = h.schema_is ∙ sym was.laid_out.is;
+    committed = h.shown.committed_is ∙ ap (λ b. cond b old.committed new.now) was.inside;
+    meta = same_rows old new schema 0 was.laid_out.is h.schema_is (h.step.tables.0 (rw at (meta_spans o)));
+    follow = same_rows old new schema 3 was.laid_out.is h.schema_is (h.step.tables.1.1.1.0 (rw at (follow_spans o)));
+  }
+
+  abbrev new_span : List ℕ → ℤ → ℤ → Row
+  new_span source lo hi = Int (next_rowid rows) ∷ Blob source ∷ Int lo ∷ Int hi ∷ []
+
+  news_added : (source : List ℕ) (lo hi : ℤ) → (edit_of old.now.trees (spans_at o) [] Chosen 0 ((Null ∷ Blob source ∷ Int lo ∷ Int hi ∷ []) ∷ [])).news ≡ new_span source lo hi ∷ []
+  news_added source lo hi = rw (cast_null, cast_int lo, cast_int hi) refl
+
+  moves_added : (source : List ℕ) (lo hi : ℤ) → Applied schema old new (edit_of old.now.trees (spans_at o) [] Chosen 0 ((Null ∷ Blob source ∷ Int lo ∷ Int hi ∷ []) ∷ []))
+      → Moves old new ((Blob source ∷ Int lo ∷ Int hi ∷ []) ∷ shown_spans (span_rows old.now))
+  moves_added source lo hi h =
+      let row = new_span source lo hi in
+      let news = news_added source lo hi in
+      let is : new.now.trees (spans_tree o) ≡ put_row row rows = h.step.rows ∙ ap (put_all rows) news in
+      let free : is_taken rows row ≡ false = fresh_alone rows row (ap (are_fresh rows) (sym news) ∙ h.step.fresh) in
+      let among : IsPermutation (shown_spans (row ∷ rows)) (shown_spans (put_row row rows)) = IsPermutation-map shown_span (row ∷ rows) (put_row row rows) (put_among row rows free) in
+      record {
+        on = goes_on _ h refl (rw is (rowids_put row rows refl free shaped_old));
+        held = held_stays _ h refl;
+        stored = subst (λ l. IsPermutation ((Blob source ∷ Int lo ∷ Int hi ∷ []) ∷ shown_spans l) (shown_spans (span_rows new.now))) (sym rows_old)
+            (subst (λ l. IsPermutation ((Blob source ∷ Int lo ∷ Int hi ∷ []) ∷ shown_spans rows) (shown_spans l)) (sym (rows_new _ h ∙ is)) among);
+      }
+
+  moves_dropped : (source : List ℕ) (lo : ℤ) (span : Row) (others answer : List Row) → Begins source lo (shown_spans (span_rows old.now)) span others
+      → IsPermutation (map (λ r. column r 0 ∷ []) (filter (λ r. begins_at source lo (shown_span r)) rows)) answer
+      → Applied schema old new (edit_of old.now.trees (spans_at o) (ids_of answer) Given 0 []) → Moves old new others
+  moves_dropped source lo span others answer begins same h =
+      let begun : Begins source lo (shown_spans rows) span others = subst (λ l. Begins source lo (shown_spans l) span others) rows_old begins in
+      let one = one_begins source lo rows span others begun in
+      let p : Row → Bool = λ r. begins_at source lo (shown_span r) in
+      let r = one.0 in
+      let id = id_in (rowid r) in
+      let has : Has rows r = (has_filtered p rows r (rw one.1 (inl refl))).0 in
+      let keyed = keyed_row rows r shaped_old has in
+      let at_id : has_rowid id r ≡ true = ap (λ v. is_eq (value_cmp v (Int id))) keyed ∙ own_id id in
+      let one_row : answer ≡ (column r 0 ∷ []) ∷ [] = one_permutation _ answer (subst (λ l. IsPermutation (map (λ r. column r 0 ∷ []) l) answer) one.1 same) in
+      let is : new.now.trees (spans_tree o) ≡ without_rowid id rows = h.step.rows ∙ ap (λ l. without_all rows (ids_of l)) one_row in
+      let left : new.now.trees (spans_tree o) ≡ filter (λ r. not (begins_at source lo (shown_span r))) rows = is ∙ left_is p id r rows shaped_old.apart one.1 at_id in
+      record {
+        on = goes_on _ h refl (rw is (rowids_without id rows shaped_old));
+        held = held_stays _ h refl;
+        stored = subst (λ l. IsPermutation others (shown_spans l)) (sym (rows_new _ h ∙ left)) (others_left source lo rows span others begun);
+      }
+
+  pub done_add : (source : List ℕ) (lo hi : ℤ) (r : Result ℕ Error) → ExecutesInside 0 add_span_text (Blob source ∷ Int lo ∷ Int hi ∷ []) old new r
+      → OnOk r (Moves old new ((Blob source ∷ Int lo ∷ Int hi ∷ []) ∷ shown_spans (span_rows old.now)))
+  done_add source lo hi (Ok n) h = moves_added source lo hi (adds_span l.origin l.others l.indexes l.views old new l.is source lo hi n h.0)
+  done_add source lo hi (Err e) h = tt
+
+  free : AllByRecursion (IsApart (layout l.origin l.others l.indexes l.views) (spans_tree l.origin)) l.others
+  free = subst (λ s. AllByRecursion (IsApart s (spans_tree l.origin)) l.others) l.is l.spans_free
+
+  pub done_drop : (source : List ℕ) (lo : ℤ) (span : Row) (others : List Row) (r : Result ℕ Error) → Begins source lo (shown_spans (span_rows old.now)) span others
+      → ExecutesInside 0 drop_span_text (Blob source ∷ Int lo ∷ []) old new r → OnOk r (Moves old new others)
+  done_drop source lo span others (Ok n) begins h =
+      let it = drops_span l.origin l.others l.indexes l.views old new l.is free source lo n h.0 in
+      moves_dropped source lo span others it.0 begins it.1 it.2
+  done_drop source lo span others (Err e) begins h = tt
+
+  -- whichever rows there were
+  pub drop_goes : (source : List ℕ) (lo : ℤ) (r : Result ℕ Error) → ExecutesInside 0 drop_span_text (Blob source ∷ Int lo ∷ []) old new r → OnOk r (GoesOn old new)
+  drop_goes source lo (Ok n) h =
+      let it = drops_span l.origin l.others l.indexes l.views old new l.is free source lo n h.0 in
+      goes_on _ it.2 refl (rw it.2.step.rows (rowids_without_all (ids_of it.0) rows shaped_old))
+  drop_goes source lo (Err e) h = tt

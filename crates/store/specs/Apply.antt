@@ -1,0 +1,60 @@
+-- A transaction of the source in one transaction of the database.
+use Rattle.std.specs.Prelude.{◌≡◌, ℕ, IsTrue, List, Option, Some, None, Result, Ok, Err}
+use Rattle.sqlite_schema.specs.declared.schema.Schema.{Schema}
+use Rattle.sqlite_trees.specs.Tree.{Trees}
+use Rattle.sqlite.specs.State.{State}
+use Rattle.gtid.specs.declared.identifier.Gtid.{Gtid}
+use Rattle.gtid.specs.declared.span.Span.{Span}
+use Rattle.binlog.specs.Follow.{Names}
+use Rattle.gather.specs.Transaction.{DeliveryValue}
+use Rattle.store.specs.declared.change.Refusal.{Refusal}
+use Rattle.store.specs.declared.spans.Beside.{Beside}
+use Rattle.store.specs.State.{Content}
+use Rattle.store.specs.Take.{Takes, done, refused}
+use Rattle.store.specs.Rows.{StandsFor, HasRowids, held_rows, span_rows}
+use Rattle.store.specs.Inside.{GoesOn, EndsBefore, BeginsBehind}
+
+-- These are the ends of the spans that touch the transaction's number.
+pub record LiesBeside (spans : List Span) (gtid : Gtid) (beside : Beside) : Type 0 where
+  pub before : EndsBefore gtid.source gtid.number spans beside.before
+  pub behind : BeginsBehind gtid.source gtid.number spans beside.after
+
+-- The database stands for what the transaction makes of the content.
+pub record IsTaken (names : Names) (content : Content) (d : DeliveryValue) (schema : Schema) (trees : Trees) : Type 0 where
+  pub after : Content
+  pub takes : Takes names content d (done after)
+  pub stands : StandsFor (record { schema = schema; trees = trees }) names after
+
+-- Inside the transaction of the database.
+abbrev pub Fills : Names → Content → DeliveryValue → State → State → Option (ℕ × Refusal) → Type 0
+Fills names content d old new None = GoesOn old new × IsTaken names content d new.now.schema new.now.trees
+Fills names content d old new (Some why) = Takes names content d (refused why.0 why.1)
+
+-- The connection is open, in no transaction that has changed anything, and this is what its database stands for.
+pub record IsAtRest (s : State) (names : Names) (content : Content) : Type 0 where
+  pub is_open : IsTrue s.is_open
+  pub settled : s.now ≡ s.committed
+  pub held_apart : HasRowids (held_rows s.now)
+  pub spans_apart : HasRowids (span_rows s.now)
+  pub stands : StandsFor s.now names content
+
+-- Nothing has changed, where the connection is still open.
+abbrev pub Rests : State → State → Type 0
+Rests old new = IsTrue new.is_open → (new.now ≡ old.now) × (new.committed ≡ old.committed)
+
+-- The connection is at rest with what the transaction makes of the content.
+pub record HasTaken (names : Names) (content : Content) (d : DeliveryValue) (new : State) : Type 0 where
+  pub after : Content
+  pub takes : Takes names content d (done after)
+  pub rest : IsAtRest new names after
+
+abbrev pub Runs : {E : Type 0} → Names → Content → DeliveryValue → State → State → Result (Option (ℕ × Refusal)) E → Type 0
+Runs names content d old new (Ok None) = HasTaken names content d new
+Runs names content d old new (Ok (Some why)) = Takes names content d (refused why.0 why.1) × Rests old new
+Runs names content d old new (Err e) = Rests old new
+
+-- What may be committed: what the transaction makes of the content, and nothing where it is refused.
+abbrev pub MayCommit : {E : Type 0} → Names → Content → DeliveryValue → State → Result (Option (ℕ × Refusal)) E → Trees → Type 0
+MayCommit names content d old (Ok None) trees = IsTaken names content d old.now.schema trees
+MayCommit names content d old (Ok (Some why)) trees = ⊥
+MayCommit names content d old (Err e) trees = IsTaken names content d old.now.schema trees

@@ -1,0 +1,117 @@
+-- What a call inside a transaction of the database does.
+use Rattle.std.specs.Prelude.{◌≡◌, nat_lt, ℕ, true, false, IsTrue, if◌then◌else◌, List, ◌∷◌, Option, Some, None, Result, Ok, Err, IsPermutation, ◌≢◌, ◌+◌, ℤ, Bool, map}
+use Rattle.std.specs.List.{AllByRecursion}
+use Rattle.sqlite_value.specs.Order.{Row}
+use Rattle.sqlite_rules.specs.Lists.{Has}
+use Rattle.gtid.specs.Identifier.{Ids}
+use Rattle.gtid.specs.declared.span.Span.{Span}
+use Rattle.sqlite.specs.State.{State}
+use Rattle.binlog.specs.Follow.{Names}
+use Rattle.gather.specs.Transaction.{ChangeValue}
+use Rattle.store.specs.declared.change.Refusal.{Refusal}
+use Rattle.store.specs.declared.change.Refusal.TheVariants.{NoSuchRow, CountFull}
+use Rattle.store.specs.Layout.{IsLaidOut}
+use Rattle.store.specs.Take.{most, IsMade, IsRefused, IsDone, AreDone, is_followed, IsRefusedAt}
+use Rattle.store.specs.Rows.{meta_rows, held_rows, span_rows, follow_rows, HasRowids, IsHeldRow, Key, Counts, count, with_one, without_one, bag_of, shown_spans, begins_at, span, stored_span, AreLeast}
+
+-- The connection is in a transaction on a database of the layout.
+pub record IsWorking (s : State) : Type 0 where
+  pub is_open : IsTrue s.is_open
+  pub inside : s.in_transaction ≡ true
+  pub laid_out : IsLaidOut s.now.schema
+  pub held_apart : HasRowids (held_rows s.now)
+  pub spans_apart : HasRowids (span_rows s.now)
+  pub lawful : AllByRecursion IsHeldRow (held_rows s.now)
+
+-- The transaction goes on, and nothing is committed.
+pub record GoesOn (old new : State) : Type 0 where
+  pub working : IsWorking new
+  pub schema : new.now.schema ≡ old.now.schema
+  pub committed : new.committed ≡ old.committed
+  pub meta : meta_rows new.now ≡ meta_rows old.now
+  pub follow : follow_rows new.now ≡ follow_rows old.now
+
+-- Only the counts of held have changed, to these.
+pub record Holds (old new : State) (counts : Counts) : Type 0 where
+  pub on : GoesOn old new
+  pub spans : span_rows new.now ≡ span_rows old.now
+  pub counts_are : count (held_rows new.now) ≡ counts
+
+-- Only the spans have changed: this is what is stored of them now, in some order.
+pub record Moves (old new : State) (after : List Row) : Type 0 where
+  pub on : GoesOn old new
+  pub held : held_rows new.now ≡ held_rows old.now
+  pub stored : IsPermutation after (shown_spans (span_rows new.now))
+
+-- Of what is stored of spans one begins there, and these are the others.
+pub record Begins (source : List ℕ) (lo : ℤ) (rows : List Row) (span : Row) (others : List Row) : Type 0 where
+  pub begins : begins_at source lo span ≡ true
+  pub apart : AllByRecursion (λ r. begins_at source lo r ≡ false) others
+  pub all : IsPermutation (span ∷ others) rows
+
+-- The same where there is one, and else all are left.
+abbrev pub Leaves : List ℕ → ℤ → Bool → List Row → List Row → Type 0
+Leaves source lo true rows rest = (span : Row) × Begins source lo rows span rest
+Leaves source lo false rows rest = IsPermutation rest rows
+
+-- ---- Recording a transaction.
+
+-- Where the span begins that ends before the number, if there is one.
+abbrev pub EndsBefore : List ℕ → ℕ → List Span → Option ℕ → Type 0
+EndsBefore source n spans None = AllByRecursion (λ t. source ≡ t.source → t.hi ≢ n) spans
+EndsBefore source n spans (Some lo) = Has spans (span source lo n)
+
+-- Where the span ends that begins behind the number, if there is one.
+abbrev pub BeginsBehind : List ℕ → ℕ → List Span → Option ℕ → Type 0
+BeginsBehind source n spans None = AllByRecursion (λ t. source ≡ t.source → t.lo ≢ n + 1) spans
+BeginsBehind source n spans (Some hi) = Has spans (span source (n + 1) hi)
+
+-- The rows of spans are these, the least intervals of the set.
+pub record Shows (rows : List Row) (spans : List Span) (ids : Ids) : Type 0 where
+  pub least : AreLeast spans ids
+  pub rows_are : IsPermutation (map stored_span spans) (shown_spans rows)
+
+-- Only the spans have changed, and they are the least intervals of this set.
+pub record Records (old new : State) (ids : Ids) : Type 0 where
+  pub on : GoesOn old new
+  pub held : held_rows new.now ≡ held_rows old.now
+  pub spans : List Span
+  pub shows : Shows (span_rows new.now) spans ids
+
+-- ---- Counts.
+
+-- one more of a row, or one less
+abbrev pub added : Key → Counts → Result Counts Refusal
+added key counts = if nat_lt (counts key) most then Ok (with_one key counts) else Err CountFull
+
+abbrev pub taken : Key → Counts → Result Counts Refusal
+taken key counts = if nat_lt 0 (counts key) then Ok (without_one key counts) else Err NoSuchRow
+
+-- The transaction has these counts, or the change is refused for this reason.
+abbrev pub Counted : State → State → Result Counts Refusal → Option Refusal → Type 0
+Counted old new (Ok counts) None = Holds old new counts
+Counted old new (Ok counts) (Some why) = ⊥
+Counted old new (Err e) None = ⊥
+Counted old new (Err e) (Some why) = why ≡ e
+
+-- ---- Rows.
+
+-- Only rows of held have changed.
+pub record Goes (old new : State) : Type 0 where
+  pub on : GoesOn old new
+  pub spans : span_rows new.now ≡ span_rows old.now
+
+-- The change is made, or refused for this reason.
+abbrev pub Makes : ChangeValue → State → State → Option Refusal → Type 0
+Makes change old new None = Goes old new × IsMade change (bag_of (count (held_rows old.now))) (bag_of (count (held_rows new.now)))
+Makes change old new (Some why) = IsRefused change (bag_of (count (held_rows old.now))) why
+
+-- The same, and a change of a table that is not followed is passed over.
+abbrev pub Does : Names → ChangeValue → State → State → Option Refusal → Type 0
+Does names change old new None = Goes old new × IsDone names change (bag_of (count (held_rows old.now))) (bag_of (count (held_rows new.now)))
+Does names change old new (Some why) = (is_followed names change ≡ true) × IsRefused change (bag_of (count (held_rows old.now))) why
+
+-- The changes are done, or the one at this place is refused.
+abbrev pub DoesAll : Names → List ChangeValue → State → State → Option (ℕ × Refusal) → Type 0
+DoesAll names changes old new None = Goes old new × AreDone names changes (bag_of (count (held_rows old.now))) (bag_of (count (held_rows new.now)))
+DoesAll names changes old new (Some refused) = IsRefusedAt names changes (bag_of (count (held_rows old.now))) refused.0 refused.1

@@ -1,0 +1,6 @@
+pub mod State
+pub mod Take
+pub mod Layout
+pub mod Rows
+pub mod Inside
+pub mod Apply

@@ -1,0 +1,203 @@
+-- What the rows of the tables stand for.
+use Rattle.std.specs.Prelude.{◌≡◌, ◌≤◌, ℕ, ◌+◌, ◌-◌, ℤ, pos, Bool, false, IsTrue, ◌&&◌, ◌<◌, nat_le, if◌then◌else◌, List, [], ◌∷◌, map, filter, bytes_eq, codes, Option, None, Some, IsPermutation}
+use Rattle.std.specs.Ordering.{is_eq}
+use Rattle.std.specs.List.{AllByRecursion, IsDistinct}
+use Rattle.std.specs.FinSet as set
+use Rattle.sqlite_value.specs.declared.value.Value.{Value}
+use Rattle.sqlite_value.specs.declared.value.Value.TheVariants.{Null, Int, Real, Text, Blob}
+use Rattle.sqlite_value.specs.Order.{Row, column, value_cmp}
+use Rattle.sqlite_trees.specs.Tree.{rowid}
+use Rattle.sqlite_trees.specs.View.{is_int}
+use Rattle.sqlite.specs.Effect.{Database}
+use Rattle.gtid.specs.Identifier.{Ids, AreGtids}
+use Rattle.gtid.specs.Span.{Covers}
+use Rattle.gtid.specs.declared.span.Span.{Span}
+use Rattle.binlog.specs.Cell.{CellValue}
+use Rattle.binlog.specs.Follow.{Name, Names}
+use Rattle.gather.specs.Image.{IsImage, image}
+use Rattle.store.specs.declared.rows.RowKey.{RowKey}
+use Rattle.store.specs.State.{TableRow, Bag, Content, has_image}
+use Rattle.store.specs.Take.{most}
+use Rattle.store.specs.Layout.{IsLaidOut, tree_at}
+
+-- ---- The tables.
+
+abbrev pub meta_rows : Database → List Row
+meta_rows db = db.trees (tree_at db.schema 0)
+
+abbrev pub held_rows : Database → List Row
+held_rows db = db.trees (tree_at db.schema 1)
+
+abbrev pub span_rows : Database → List Row
+span_rows db = db.trees (tree_at db.schema 2)
+
+abbrev pub follow_rows : Database → List Row
+follow_rows db = db.trees (tree_at db.schema 3)
+
+-- whether two rows have the same rowid
+abbrev pub alike : Row → Row → Bool
+alike a b = is_eq (value_cmp (rowid a) (rowid b))
+
+-- The rowids are integers, and no two are the same.
+pub record HasRowids (rows : List Row) : Type 0 where
+  pub apart : IsDistinct alike rows
+  pub keyed : AllByRecursion (λ r. IsTrue (is_int (rowid r))) rows
+
+abbrev pub is_blob : List ℕ → Value → Bool
+is_blob b Null = false
+is_blob b (Int n) = false
+is_blob b (Real x) = false
+is_blob b (Text t) = false
+is_blob b (Blob x) = bytes_eq x b
+
+abbrev pub natural : ℤ → ℕ
+natural (pos n) = n
+natural _ = 0
+
+abbrev pub number_in : Value → ℕ
+number_in Null = 0
+number_in (Int n) = natural n
+number_in (Real x) = 0
+number_in (Text t) = 0
+number_in (Blob b) = 0
+
+abbrev pub blob_in : Value → List ℕ
+blob_in Null = []
+blob_in (Int n) = []
+blob_in (Real x) = []
+blob_in (Text t) = []
+blob_in (Blob b) = b
+
+-- ---- held
+
+-- what a row of held is found by: the names of schema and table, and the stored image
+pub record Key : Type 0 where
+  pub schema : List ℕ
+  pub table : List ℕ
+  pub image : List ℕ
+
+abbrev pub key_of : List ℕ → List ℕ → List ℕ → Key
+key_of schema table image = record { schema = schema; table = table; image = image }
+
+abbrev pub key_in : RowKey → Key
+key_in row = key_of row.schema.now row.table.now row.image.now
+
+abbrev pub same_key : Key → Key → Bool
+same_key a b = bytes_eq a.schema b.schema && (bytes_eq a.table b.table && bytes_eq a.image b.image)
+
+-- a count for each key
+abbrev pub Counts : Type 0
+Counts = Key → ℕ
+
+abbrev pub with_one : Key → Counts → Counts
+with_one key counts = λ k. if same_key key k then counts k + 1 else counts k
+
+abbrev pub without_one : Key → Counts → Counts
+without_one key counts = λ k. if same_key key k then counts k - 1 else counts k
+
+abbrev pub is_at : Key → Row → Bool
+is_at key row = is_blob key.schema (column row 1) && (is_blob key.table (column row 2) && is_blob key.image (column row 3))
+
+-- what one row adds to a count
+abbrev pub share : Key → Row → ℕ
+share key row = if is_at key row then number_in (column row 4) else 0
+
+-- the sum of n over the rows with the key
+abbrev pub count : List Row → Counts
+count [] key = 0
+count (row ∷ rows) key = share key row + count rows key
+
+-- The bytes are the image of some cells.
+pub record IsStored (bytes : List ℕ) : Type 0 where
+  pub cells : List CellValue
+  pub is_image : IsImage cells bytes
+
+-- a row of held: a rowid, a key with a stored image, and a count from 1 on
+abbrev pub IsHeldRow : Row → Type 0
+IsHeldRow row = (id : ℤ) × (key : Key) × (n : ℕ) × (row ≡ Int id ∷ Blob key.schema ∷ Blob key.table ∷ Blob key.image ∷ Int (pos n) ∷ []) × (1 ≤ n) × (n ≤ most) × IsStored key.image
+
+-- the key of a row's cells
+abbrev pub key_for : TableRow → Key
+key_for r = key_of r.schema r.table (image r.cells)
+
+-- the rows that the counts stand for: of cells that have an image, as many as its count
+abbrev pub bag_of : Counts → Bag
+bag_of counts r = if has_image r.cells then counts (key_for r) else 0
+
+-- What a look-up by key found: no row, or the one row and its count.
+abbrev pub Finds : Key → List Row → Option ℕ → Type 0
+Finds key rows None = filter (is_at key) rows ≡ []
+Finds key rows (Some n) = (row : Row) × (filter (is_at key) rows ≡ row ∷ []) × (column row 4 ≡ Int (pos n))
+
+-- the one column of at most one row
+abbrev pub IsCount : List Row → Option ℕ → Type 0
+IsCount rows None = rows ≡ []
+IsCount rows (Some n) = (row : Row) × (rows ≡ row ∷ []) × (column row 0 ≡ Int (pos n))
+
+-- ---- spans
+
+-- a row without its rowid
+abbrev pub shown_span : Row → Row
+shown_span row = column row 1 ∷ column row 2 ∷ column row 3 ∷ []
+
+-- what is stored of a span
+abbrev pub stored_span : Span → Row
+stored_span s = Blob s.source ∷ Int (pos s.lo) ∷ Int (pos s.hi) ∷ []
+
+abbrev pub shown_spans : List Row → List Row
+shown_spans rows = map shown_span rows
+
+-- whether what is stored of a span begins there
+abbrev pub begins_at : List ℕ → ℤ → Row → Bool
+begins_at source lo shown = is_blob source (column shown 0) && is_eq (value_cmp (column shown 1) (Int lo))
+
+abbrev pub span : List ℕ → ℕ → ℕ → Span
+span source lo hi = record { source = source; lo = lo; hi = hi }
+
+-- whether two spans of one source overlap or touch
+abbrev pub touches : Span → Span → Bool
+touches a b = bytes_eq a.source b.source && (nat_le a.lo b.hi && nat_le b.lo a.hi)
+
+-- These are the least intervals of the set, in any order: none is empty, no two overlap or touch, and they cover the set.
+pub record AreLeast (spans : List Span) (ids : Ids) : Type 0 where
+  pub some : AllByRecursion (λ s. s.lo < s.hi) spans
+  pub apart : IsDistinct touches spans
+  pub covers : Covers spans ids
+
+-- The rows are the least intervals of the set, which has identifiers of transactions alone.
+pub record AreSpans (rows : List Row) (ids : Ids) : Type 0 where
+  pub spans : List Span
+  pub least : AreLeast spans ids
+  pub lawful : AreGtids ids
+  pub rows_are : IsPermutation (map stored_span spans) (shown_spans rows)
+
+-- ---- follow
+
+abbrev pub IsFollowRow : Row → Type 0
+IsFollowRow row = (id : ℤ) × (name : Name) × (row ≡ Int id ∷ Blob name.0 ∷ Blob name.1 ∷ [])
+
+abbrev pub name_in : Row → Name
+name_in row = (blob_in (column row 1), blob_in (column row 2))
+
+-- The rows are the names of the set.
+pub record AreNames (rows : List Row) (names : Names) : Type 0 where
+  pub lawful : AllByRecursion IsFollowRow rows
+  pub names_are : names ≡ set.from_list (map name_in rows)
+
+-- ---- meta
+
+-- The one row says layout 2.
+pub record SaysLayout (rows : List Row) : Type 0 where
+  pub id : ℤ
+  pub is : rows ≡ (Int id ∷ Text (codes "layout") ∷ Int (pos 2) ∷ []) ∷ []
+
+-- ---- A database.
+
+-- The database is of layout 2, its rows keep its rules, and this is what they stand for.
+pub record StandsFor (db : Database) (names : Names) (content : Content) : Type 0 where
+  pub laid_out : IsLaidOut db.schema
+  pub meta : SaysLayout (meta_rows db)
+  pub follow : AreNames (follow_rows db) names
+  pub held : AllByRecursion IsHeldRow (held_rows db)
+  pub executed : AreSpans (span_rows db) content.executed
+  pub rows : content.rows ≡ bag_of (count (held_rows db))

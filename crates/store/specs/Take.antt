@@ -1,0 +1,89 @@
+-- What a change and a transaction make of what a replica holds.
+use Rattle.std.specs.Prelude.{◌≡◌, ◌≢◌, ◌⊎◌, ◌<◌, ◌≤◌, ◌+◌, ℕ, Bool, true, false, List, [], ◌∷◌, take, slice_get, Some, MatchBool}
+use Rattle.std.specs.FinSet as set
+use Rattle.binlog.specs.Follow.{Names, follows}
+use Rattle.gather.specs.Transaction.{ChangeValue, insert, delete, update, DeliveryValue}
+use Rattle.store.specs.declared.change.Refusal.{Refusal}
+use Rattle.store.specs.declared.change.Refusal.TheVariants.{NoSuchRow, CountFull}
+use Rattle.store.specs.State.{TableRow, row_of, Bag, Content}
+
+-- the most that a count can be: 2 ^ 63 - 1
+abbrev pub most : ℕ
+most = 9223372036854775807
+
+-- ---- Changes.
+
+-- There is one more of the row, and as many of each other row as before.
+pub record IsAdded (row : TableRow) (old new : Bag) : Type 0 where
+  pub room : old row < most
+  pub one_more : new row ≡ old row + 1
+  pub others : (r : TableRow) → r ≢ row → new r ≡ old r
+
+-- There is one less of the row, and as many of each other row as before.
+pub record IsTaken (row : TableRow) (old new : Bag) : Type 0 where
+  pub one_less : old row ≡ new row + 1
+  pub others : (r : TableRow) → r ≢ row → new r ≡ old r
+
+-- The change is made. An update takes the row before and then adds the row after.
+abbrev pub IsMade : ChangeValue → Bag → Bag → Type 0
+IsMade (insert schema table after) old new = IsAdded (row_of schema table after) old new
+IsMade (delete schema table before) old new = IsTaken (row_of schema table before) old new
+IsMade (update schema table before after) old new = (mid : Bag) × IsTaken (row_of schema table before) old mid × IsAdded (row_of schema table after) mid new
+
+abbrev pub IsFull : TableRow → Bag → Refusal → Type 0
+IsFull row bag why = (most ≤ bag row) × (why ≡ CountFull)
+
+abbrev pub IsMissing : TableRow → Bag → Refusal → Type 0
+IsMissing row bag why = (bag row ≡ 0) × (why ≡ NoSuchRow)
+
+-- The change cannot be made, for this reason.
+abbrev pub IsRefused : ChangeValue → Bag → Refusal → Type 0
+IsRefused (insert schema table after) bag why = IsFull (row_of schema table after) bag why
+IsRefused (delete schema table before) bag why = IsMissing (row_of schema table before) bag why
+IsRefused (update schema table before after) bag why =
+    IsMissing (row_of schema table before) bag why
+    ⊎ ((mid : Bag) × IsTaken (row_of schema table before) bag mid × IsFull (row_of schema table after) mid why)
+
+-- ---- Changes in order.
+
+-- whether the table of the change is followed
+abbrev pub is_followed : Names → ChangeValue → Bool
+is_followed names (insert schema table after) = follows names schema table
+is_followed names (delete schema table before) = follows names schema table
+is_followed names (update schema table before after) = follows names schema table
+
+-- A change of a table that is not followed is passed over.
+abbrev pub IsDone : Names → ChangeValue → Bag → Bag → Type 0
+IsDone names change old new = MatchBool (is_followed names change) (IsMade change old new) (new ≡ old)
+
+abbrev pub AreDone : Names → List ChangeValue → Bag → Bag → Type 0
+AreDone names [] old new = new ≡ old
+AreDone names (change ∷ changes) old new = (mid : Bag) × IsDone names change old mid × AreDone names changes mid new
+
+-- The changes before this place are done, and the one there cannot be made. Places count all changes, from 0.
+pub record IsRefusedAt (names : Names) (changes : List ChangeValue) (old : Bag) (at : ℕ) (why : Refusal) : Type 0 where
+  pub change : ChangeValue
+  pub mid : Bag
+  pub there : slice_get changes at ≡ Some change
+  pub before : AreDone names (take at changes) old mid
+  pub followed : is_followed names change ≡ true
+  pub refused : IsRefused change mid why
+
+-- ---- Transactions.
+
+pub data Outcome : Type 0 where
+  done : Content → Outcome
+  repeat : Outcome
+  refused : ℕ → Refusal → Outcome
+
+-- the transaction is in the set
+abbrev pub is_executed : Content → DeliveryValue → Bool
+is_executed content d = set.contains content.executed (d.source, d.number)
+
+-- A transaction of the set changes nothing. Of another one the changes are done in order and it enters the set, or one
+-- of them, at this place, is refused.
+abbrev pub Takes : Names → Content → DeliveryValue → Outcome → Type 0
+Takes names old d (done new) =
+    (is_executed old d ≡ false) × AreDone names d.changes old.rows new.rows × (new.executed ≡ set.insert old.executed (d.source, d.number))
+Takes names old d repeat = is_executed old d ≡ true
+Takes names old d (refused at why) = (is_executed old d ≡ false) × IsRefusedAt names d.changes old.rows at why

@@ -1,0 +1,7 @@
+//! The rows of a replica and its executed transactions, in a SQL database.
+#![tactic(auto)]
+
+mod apply;
+mod change;
+mod rows;
+mod spans;

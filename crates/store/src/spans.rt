@@ -1,0 +1,153 @@
+//! One row of `spans` at a time, inside a transaction.
+
+ghost use Rattle.std.specs.Prelude.{◌≡◌, ◌<◌, ◌^◌, false, pos, List, OnOk, IsPermutation, [], ◌∷◌};
+ghost use Rattle.sqlite.specs.State.{HasCleanDisk, Survives, KeepsCommit};
+ghost use Rattle.sqlite.specs.Held.{state};
+ghost use Rattle.sqlite_value.specs.Order.{Row as Stored};
+ghost use Rattle.sqlite_value.specs.declared.value.Value.TheVariants.{Int, Blob};
+ghost use Rattle.store.specs.Rows.{span_rows, shown_spans};
+ghost use Rattle.store.specs.Inside.{IsWorking, GoesOn, Moves, Begins, Leaves, EndsBefore, BeginsBehind, Shows, Records};
+ghost use Rattle.std.specs.FinSet as set;
+ghost use Rattle.std.specs.List.{AllByRecursion};
+ghost use Rattle.gtid.specs.Identifier.{Ids, id, IsSource, IsGtid};
+ghost use Rattle.gtid.specs.declared.span.Span.{Span};
+
+use gtid::Gtid;
+use sqlite::types::ValueRef;
+use sqlite::{Alter, Error, Transaction};
+
+/// Puts in a span that ends before `hi`.
+pub(crate) fn add_span<S: Alter>(
+    tx: &mut Transaction<'_, S>,
+    source: &[u8],
+    lo: i64,
+    hi: i64,
+) -> Result<usize, Error>
+    ensures same_reference { tx.new.conn.ghost_name ≡ tx.old.conn.ghost_name }
+    ensures moves { HasCleanDisk (state S.Store tx.new.conn.now) → IsWorking (state S.Store tx.old.conn.now) → OnOk result (Moves (state S.Store tx.old.conn.now) (state S.Store tx.new.conn.now) ((Blob source.now ∷ Int lo ∷ Int hi ∷ []) ∷ shown_spans (span_rows (state S.Store tx.old.conn.now).now))) }
+    ensures kept { HasCleanDisk (state S.Store tx.new.conn.now) → IsWorking (state S.Store tx.old.conn.now) → KeepsCommit (state S.Store tx.old.conn.now) (state S.Store tx.new.conn.now) }
+    ensures survives { Survives (state S.Store tx.old.conn.now) (state S.Store tx.new.conn.now) (λ _. ⊥) }
+{
+    tx.execute(
+        "INSERT INTO spans VALUES (?1, ?2, ?3)",
+        &[ValueRef::Blob(source), ValueRef::Int(lo), ValueRef::Int(hi)],
+    )
+}
+
+/// Takes out the span that begins with `lo`.
+pub(crate) fn drop_span<S: Alter>(
+    tx: &mut Transaction<'_, S>,
+    source: &[u8],
+    lo: i64,
+) -> Result<usize, Error>
+    ensures same_reference { tx.new.conn.ghost_name ≡ tx.old.conn.ghost_name }
+    ensures moves { HasCleanDisk (state S.Store tx.new.conn.now) → IsWorking (state S.Store tx.old.conn.now) → (span : Stored) → (others : List Stored) → Begins source.now lo (shown_spans (span_rows (state S.Store tx.old.conn.now).now)) span others → OnOk result (Moves (state S.Store tx.old.conn.now) (state S.Store tx.new.conn.now) others) }
+    ensures goes { HasCleanDisk (state S.Store tx.new.conn.now) → IsWorking (state S.Store tx.old.conn.now) → OnOk result (GoesOn (state S.Store tx.old.conn.now) (state S.Store tx.new.conn.now)) }
+    ensures kept { HasCleanDisk (state S.Store tx.new.conn.now) → IsWorking (state S.Store tx.old.conn.now) → KeepsCommit (state S.Store tx.old.conn.now) (state S.Store tx.new.conn.now) }
+    ensures survives { Survives (state S.Store tx.old.conn.now) (state S.Store tx.new.conn.now) (λ _. ⊥) }
+{
+    tx.execute(
+        "DELETE FROM spans WHERE source = ?1 AND lo = ?2",
+        &[ValueRef::Blob(source), ValueRef::Int(lo)],
+    )
+}
+
+/// Takes out the span that begins with `lo`, where there is one.
+fn drop_if<S: Alter>(
+    tx: &mut Transaction<'_, S>,
+    source: &[u8],
+    lo: i64,
+    there: bool,
+) -> Result<(), Error>
+    ensures same_reference { tx.new.conn.ghost_name ≡ tx.old.conn.ghost_name }
+    ensures moves { HasCleanDisk (state S.Store tx.new.conn.now) → IsWorking (state S.Store tx.old.conn.now) → (rest : List Stored) → Leaves source.now lo there (shown_spans (span_rows (state S.Store tx.old.conn.now).now)) rest → OnOk result (Moves (state S.Store tx.old.conn.now) (state S.Store tx.new.conn.now) rest) }
+    ensures goes { HasCleanDisk (state S.Store tx.new.conn.now) → IsWorking (state S.Store tx.old.conn.now) → OnOk result (GoesOn (state S.Store tx.old.conn.now) (state S.Store tx.new.conn.now)) }
+    ensures kept { HasCleanDisk (state S.Store tx.new.conn.now) → IsWorking (state S.Store tx.old.conn.now) → KeepsCommit (state S.Store tx.old.conn.now) (state S.Store tx.new.conn.now) }
+    ensures survives { Survives (state S.Store tx.old.conn.now) (state S.Store tx.new.conn.now) (λ _. ⊥) }
+{
+    if !there {
+        return Ok(());
+    }
+    drop_span(tx, source, lo)?;
+    Ok(())
+}
+
+/// Puts in a span, in place of the one that begins with it and the one that begins at `next`, where they are there.
+fn put_span<S: Alter>(
+    tx: &mut Transaction<'_, S>,
+    source: &[u8],
+    lo: u64,
+    before: bool,
+    next: u64,
+    after: bool,
+    hi: u64,
+) -> Result<usize, Error>
+    requires lo { lo < 2 ^ 63 }
+    requires next { next < 2 ^ 63 }
+    requires hi { hi < 2 ^ 63 }
+    ensures same_reference { tx.new.conn.ghost_name ≡ tx.old.conn.ghost_name }
+    ensures moves { HasCleanDisk (state S.Store tx.new.conn.now) → IsWorking (state S.Store tx.old.conn.now) → (middle : List Stored) → (rest : List Stored) → Leaves source.now (pos lo) before (shown_spans (span_rows (state S.Store tx.old.conn.now).now)) middle
+        → ((rows : List Stored) → IsPermutation middle rows → Leaves source.now (pos next) after rows rest) → OnOk result (Moves (state S.Store tx.old.conn.now) (state S.Store tx.new.conn.now) ((Blob source.now ∷ Int (pos lo) ∷ Int (pos hi) ∷ []) ∷ rest)) }
+    ensures kept { HasCleanDisk (state S.Store tx.new.conn.now) → IsWorking (state S.Store tx.old.conn.now) → KeepsCommit (state S.Store tx.old.conn.now) (state S.Store tx.new.conn.now) }
+    ensures survives { Survives (state S.Store tx.old.conn.now) (state S.Store tx.new.conn.now) (λ _. ⊥) }
+{
+    drop_if(tx, source, lo as i64, before)?;
+    drop_if(tx, source, next as i64, after)?;
+    add_span(tx, source, lo as i64, hi as i64)
+}
+
+/// The spans of a source that touch a number: where the one before it begins, and where the one behind it ends.
+pub(crate) struct Beside {
+    pub(crate) before: Option<u64>,
+    pub(crate) after: Option<u64>,
+}
+
+const END: u64 = 9_223_372_036_854_775_808;
+
+/// What the type of a source says.
+fn is_source(source: [u8; 16])
+    ensures { IsSource source }
+{
+    are_bytes(&source);
+}
+
+/// What the type of bytes says.
+fn are_bytes(bytes: &[u8])
+    ensures { AllByRecursion (λ b. b < 256) bytes.now }
+{
+    let _len = bytes.len();
+}
+
+/// Records a transaction: the spans beside it and its number become one span.
+pub(crate) fn record<S: Alter>(
+    tx: &mut Transaction<'_, S>,
+    gtid: Gtid,
+    beside: &Beside,
+) -> Result<usize, Error>
+    ensures same_reference { tx.new.conn.ghost_name ≡ tx.old.conn.ghost_name }
+    ensures lawful { IsGtid (id gtid) }
+    ensures records { HasCleanDisk (state S.Store tx.new.conn.now) → IsWorking (state S.Store tx.old.conn.now) → (ids : Ids) → (spans : List Span) → Shows (span_rows (state S.Store tx.old.conn.now).now) spans ids → set.contains ids (id gtid) ≡ false
+        → EndsBefore gtid.source gtid.number spans beside.now.before → BeginsBehind gtid.source gtid.number spans beside.now.after → OnOk result (Records (state S.Store tx.old.conn.now) (state S.Store tx.new.conn.now) (set.insert ids (id gtid))) }
+    ensures kept { HasCleanDisk (state S.Store tx.new.conn.now) → IsWorking (state S.Store tx.old.conn.now) → KeepsCommit (state S.Store tx.old.conn.now) (state S.Store tx.new.conn.now) }
+    ensures survives { Survives (state S.Store tx.old.conn.now) (state S.Store tx.new.conn.now) (λ _. ⊥) }
+{
+    is_source(gtid.source);
+    let next = gtid.number + 1;
+    let lo = beside.before.unwrap_or(gtid.number);
+    let hi = beside.after.unwrap_or(next);
+    if lo >= END {
+        return Err(Error::IntegralValueOutOfRange(0));
+    }
+    if hi >= END {
+        return Err(Error::IntegralValueOutOfRange(0));
+    }
+    put_span(
+        tx,
+        &gtid.source,
+        lo,
+        beside.before.is_some(),
+        next,
+        beside.after.is_some(),
+        hi,
+    )
+}
