@@ -100,6 +100,7 @@ fronted (x ∷ spans) b (inr has) =
 
 pub record Removed (spans : List Span) (b : Span) : Type 1 where
   pub rest : List Span
+  pub others : (x : Span) → Has spans x → (x ≡ b) ⊎ Has rest x
   pub same : IsPermutation spans (b ∷ rest)
   pub split : Split b.source b.lo b.hi spans rest
 
@@ -110,6 +111,7 @@ removed spans b has some apart =
     let distinct : IsDistinct touches (b ∷ f.rest) = IsDistinct-IsPermutation touches touches_flip spans (b ∷ f.rest) f.same apart in
     record {
       rest = f.rest;
+      others = f.still;
       same = f.same;
       split = record {
         some = (f.kept IsSome some).1;
