@@ -12,6 +12,7 @@ pub mod Bags
 pub mod Loop
 pub mod SpanLists
 pub mod SameSpans
+pub mod SortedSpans
 pub mod SpanRecord
 pub mod Filled
 pub mod Ran
