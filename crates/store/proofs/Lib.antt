@@ -13,6 +13,7 @@ pub mod Loop
 pub mod SpanLists
 pub mod SameSpans
 pub mod SortedSpans
+pub mod Over
 pub mod SpanRecord
 pub mod Filled
 pub mod Ran

@@ -1,0 +1,8 @@
+use Rattle.std.proofs.Common.{◌+◌, sym, subst}
+use Rattle.store.proofs.Over.{GoesOver, BeginsElse, over_all}
+use Rattle.store.proofs.beside.end_behind.Goals as goal
+
+pub loop-span-init : goal.loop-span-init
+loop-span-init c =
+    let P = BeginsElse c.args.gtid.source (c.args.gtid.number + 1) in
+    (tt, tt, subst (GoesOver P c.args.set.now) (sym c.into_iter-span-iterator.ensures.into_iter_gives) (over_all P c.args.set.now c.spans-span-items.result c.spans-span-items.ensures))
