@@ -1,4 +1,5 @@
 pub mod Texts
+pub mod Origins
 pub mod Selects
 pub mod Works
 pub mod RowLemmas
@@ -10,6 +11,10 @@ pub mod Made
 pub mod Bags
 pub mod Loop
 pub mod SpanLists
+pub mod SameSpans
+pub mod SortedSpans
+pub mod Over
+pub mod Touched
 pub mod SpanRecord
 pub mod Filled
 pub mod Ran
