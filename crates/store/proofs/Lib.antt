@@ -1,5 +1,4 @@
 pub mod Texts
-pub mod Origins
 pub mod Selects
 pub mod Works
 pub mod RowLemmas
