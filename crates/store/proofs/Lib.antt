@@ -10,6 +10,10 @@ pub mod Made
 pub mod Bags
 pub mod Loop
 pub mod SpanLists
+pub mod SameSpans
+pub mod SortedSpans
+pub mod Over
+pub mod Touched
 pub mod SpanRecord
 pub mod Filled
 pub mod Ran

@@ -37,10 +37,10 @@ and_flip true false = refl
 and_flip false true = refl
 and_flip false false = refl
 
-touches_flip : (a b : Span) → touches a b ≡ touches b a
+pub touches_flip : (a b : Span) → touches a b ≡ touches b a
 touches_flip a b = ap₂ (λ x y. x && y) (bytes_flip a.source b.source) (and_flip (nat_le a.lo b.hi) (nat_le b.lo a.hi))
 
-clear_of : (b t : Span) → touches b t ≡ false → IsClear b.source b.lo b.hi t
+pub clear_of : (b t : Span) → touches b t ≡ false → IsClear b.source b.lo b.hi t
 clear_of b t apart same =
     let inner : (nat_le b.lo t.hi && nat_le t.lo b.hi) ≡ false = rw ((bytes_eq-Decides b.source t.source).1 same) at apart in
     elim (cases_Bool (nat_le b.lo t.hi)) [
@@ -100,6 +100,7 @@ fronted (x ∷ spans) b (inr has) =
 
 pub record Removed (spans : List Span) (b : Span) : Type 1 where
   pub rest : List Span
+  pub others : (x : Span) → Has spans x → (x ≡ b) ⊎ Has rest x
   pub same : IsPermutation spans (b ∷ rest)
   pub split : Split b.source b.lo b.hi spans rest
 
@@ -110,6 +111,7 @@ removed spans b has some apart =
     let distinct : IsDistinct touches (b ∷ f.rest) = IsDistinct-IsPermutation touches touches_flip spans (b ∷ f.rest) f.same apart in
     record {
       rest = f.rest;
+      others = f.still;
       same = f.same;
       split = record {
         some = (f.kept IsSome some).1;

@@ -2,6 +2,7 @@
 #![tactic(auto)]
 
 mod apply;
+mod beside;
 mod change;
 mod rows;
 mod spans;
