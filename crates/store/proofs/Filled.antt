@@ -1,5 +1,6 @@
 -- The changes and then the record of a transaction.
-use Rattle.std.proofs.Common.{inl, inr, ◌≡◌, ℕ, true, false, ◌&&◌, ◌||◌, nat_eq, bytes_eq, Some, None, refl, sym, ap, subst, subst₂, ◌∙◌}
+use Rattle.std.specs.List.{AllByRecursion}
+use Rattle.std.proofs.Common.{inl, inr, pos, ◌≡◌, ℕ, true, false, ◌&&◌, ◌||◌, nat_eq, bytes_eq, Some, None, refl, sym, ap, subst, subst₂, ◌∙◌}
 use Rattle.std.specs.FinSet as set
 use Rattle.std.proofs.lemmas.Bool.{cases_Bool, and_parts, eqb-true}
 use Rattle.std.proofs.lemmas.Slice.Eq.{bytes_eq-Decides}
@@ -11,7 +12,7 @@ use Rattle.gather.specs.Transaction.{DeliveryValue}
 use Rattle.store.specs.declared.change.Refusal.{Refusal}
 use Rattle.store.specs.State.{Content}
 use Rattle.store.specs.Take.{is_executed, AreDone, IsRefusedAt}
-use Rattle.store.specs.Rows.{StandsFor, SaysLayout, AreNames, bag_of, count, held_rows, span_rows}
+use Rattle.store.specs.Rows.{StandsFor, SaysLayout, IsMetaRow, AreNames, bag_of, count, held_rows, span_rows}
 use Rattle.store.specs.Inside.{GoesOn, Goes, DoesAll, Shows, Records}
 use Rattle.store.specs.Apply.{Fills}
 use Rattle.store.proofs.Made.{goes_then}
@@ -46,7 +47,8 @@ module _ (old mid new : State) (names : Names) (d : DeliveryValue) (content : Co
           );
           stands = record {
             laid_out = on.working.laid_out;
-            meta = subst SaysLayout (sym on.meta) stands.meta;
+            says = subst (SaysLayout (pos 2)) (sym on.meta) stands.says;
+            meta = subst (AllByRecursion IsMetaRow) (sym on.meta) stands.meta;
             follow = subst (λ rows. AreNames rows names) (sym on.follow) stands.follow;
             held = on.working.lawful;
             executed = record {

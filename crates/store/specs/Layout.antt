@@ -33,6 +33,10 @@ spans_text = codes "CREATE TABLE spans (source BLOB NOT NULL, lo INTEGER NOT NUL
 abbrev pub follow_text : List ℕ
 follow_text = codes "CREATE TABLE follow (schema_name BLOB NOT NULL, table_name BLOB NOT NULL, PRIMARY KEY (schema_name, table_name))"
 
+-- of layout 1
+abbrev pub executed_text : List ℕ
+executed_text = codes "CREATE TABLE executed (source BLOB NOT NULL, number INTEGER NOT NULL, PRIMARY KEY (source, number))"
+
 -- ---- the tables
 
 abbrev pub required : List ℕ → Kind → Column
@@ -67,6 +71,10 @@ spans = keyed (codes "spans") (required (codes "source") Any ∷ required (codes
 
 abbrev pub follow : Table
 follow = keyed (codes "follow") (required (codes "schema_name") Any ∷ required (codes "table_name") Any ∷ []) (1 ∷ 2 ∷ []) []
+
+-- of layout 1
+abbrev pub executed : Table
+executed = keyed (codes "executed") (required (codes "source") Any ∷ required (codes "number") Integer ∷ []) (1 ∷ 2 ∷ []) []
 
 -- How the tables came about: they were made as they are, or those of layout 1 were migrated, which has its own trees.
 pub data Origin : Type 0 where
@@ -123,6 +131,23 @@ pub record IsLaidOut (schema : Schema) : Type 0 where
   pub is : schema ≡ layout origin others indexes views
   pub held_free : AllByRecursion (IsApart schema (held_tree origin)) others
   pub spans_free : AllByRecursion (IsApart schema (spans_tree origin)) others
+
+abbrev pub no_schema : Schema
+no_schema = record { tables = []; indexes = []; views = [] }
+
+-- the tables of layout 1
+abbrev pub first_layout : List Index → List View → Schema
+first_layout indexes views = record {
+  tables = record meta { tree = 0 } ∷ record executed { tree = 2 } ∷ record held { tree = 4 } ∷ [];
+  indexes = indexes;
+  views = views;
+}
+
+-- The schema has the tables of layout 1, and no others.
+pub record IsFirst (schema : Schema) : Type 0 where
+  pub indexes : List Index
+  pub views : List View
+  pub is : schema ≡ first_layout indexes views
 
 -- the tree of the table at a place in the list
 abbrev pub tree_at : Schema → ℕ → ℕ

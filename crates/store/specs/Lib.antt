@@ -4,3 +4,4 @@ pub mod Layout
 pub mod Rows
 pub mod Inside
 pub mod Apply
+pub mod Open

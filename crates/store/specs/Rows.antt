@@ -1,5 +1,5 @@
 -- What the rows of the tables stand for.
-use Rattle.std.specs.Prelude.{◌≡◌, ◌≤◌, ℕ, ◌+◌, ◌-◌, ℤ, pos, Bool, false, IsTrue, ◌&&◌, ◌<◌, nat_le, if◌then◌else◌, List, [], ◌∷◌, map, filter, bytes_eq, codes, Option, None, Some, IsPermutation}
+use Rattle.std.specs.Prelude.{◌≡◌, ◌≤◌, ℕ, ◌+◌, ◌-◌, ℤ, pos, Bool, false, IsTrue, ◌&&◌, ◌<◌, ◌^◌, nat_le, if◌then◌else◌, List, [], ◌∷◌, map, filter, bytes_eq, codes, Option, None, Some, IsPermutation}
 use Rattle.std.specs.Ordering.{is_eq}
 use Rattle.std.specs.List.{AllByRecursion, IsDistinct}
 use Rattle.std.specs.FinSet as set
@@ -9,7 +9,7 @@ use Rattle.sqlite_value.specs.Order.{Row, column, value_cmp}
 use Rattle.sqlite_trees.specs.Tree.{rowid}
 use Rattle.sqlite_trees.specs.View.{is_int}
 use Rattle.sqlite.specs.Effect.{Database}
-use Rattle.gtid.specs.Identifier.{Ids, AreGtids}
+use Rattle.gtid.specs.Identifier.{Id, Ids, IsSource, IsGtid, AreGtids}
 use Rattle.gtid.specs.Span.{Covers}
 use Rattle.gtid.specs.declared.span.Span.{Span}
 use Rattle.binlog.specs.Cell.{CellValue}
@@ -18,7 +18,7 @@ use Rattle.gather.specs.Image.{IsImage, image}
 use Rattle.store.specs.declared.rows.RowKey.{RowKey}
 use Rattle.store.specs.State.{TableRow, Bag, Content, has_image}
 use Rattle.store.specs.Take.{most}
-use Rattle.store.specs.Layout.{IsLaidOut, tree_at}
+use Rattle.store.specs.Layout.{IsLaidOut, IsFirst, tree_at}
 
 -- ---- The tables.
 
@@ -186,18 +186,78 @@ pub record AreNames (rows : List Row) (names : Names) : Type 0 where
 
 -- ---- meta
 
--- The one row says layout 2.
-pub record SaysLayout (rows : List Row) : Type 0 where
-  pub id : ℤ
-  pub is : rows ≡ (Int id ∷ Text (codes "layout") ∷ Int (pos 2) ∷ []) ∷ []
+abbrev pub is_text : List ℕ → Value → Bool
+is_text t Null = false
+is_text t (Int n) = false
+is_text t (Real x) = false
+is_text t (Text x) = bytes_eq x t
+is_text t (Blob b) = false
+
+-- a row of meta: a rowid, a text and an integer
+abbrev pub IsMetaRow : Row → Type 0
+IsMetaRow row = (id : ℤ) × (key : List ℕ) × (n : ℤ) × (row ≡ Int id ∷ Text key ∷ Int n ∷ [])
+
+-- The one row of the key `layout` has this number.
+abbrev pub SaysLayout : ℤ → List Row → Type 0
+SaysLayout n rows = map (λ row. column row 2) (filter (λ row. is_text (codes "layout") (column row 1)) rows) ≡ Int n ∷ []
+
+-- ---- The rules of layout 2.
+
+-- a row of spans: a rowid, a source, and an interval of numbers that is not empty
+abbrev pub IsSpanRow : Row → Type 0
+IsSpanRow row = (id : ℤ) × (s : Span) × (row ≡ Int id ∷ stored_span s) × IsSource s.source × (1 ≤ s.lo) × (s.lo < s.hi) × (s.hi ≤ 2 ^ 63 - 1)
+
+abbrev pub span_in : Row → Span
+span_in row = span (blob_in (column row 1)) (number_in (column row 2)) (number_in (column row 3))
+
+-- Each value is of its column's type and in its range, and no two spans of a source overlap or touch.
+pub record KeepsRules (db : Database) : Type 0 where
+  pub meta : AllByRecursion IsMetaRow (meta_rows db)
+  pub follow : AllByRecursion IsFollowRow (follow_rows db)
+  pub spans : AllByRecursion IsSpanRow (span_rows db)
+  pub apart : IsDistinct touches (map span_in (span_rows db))
+  pub held : AllByRecursion IsHeldRow (held_rows db)
 
 -- ---- A database.
 
 -- The database is of layout 2, its rows keep its rules, and this is what they stand for.
 pub record StandsFor (db : Database) (names : Names) (content : Content) : Type 0 where
   pub laid_out : IsLaidOut db.schema
-  pub meta : SaysLayout (meta_rows db)
+  pub says : SaysLayout (pos 2) (meta_rows db)
+  pub meta : AllByRecursion IsMetaRow (meta_rows db)
   pub follow : AreNames (follow_rows db) names
   pub held : AllByRecursion IsHeldRow (held_rows db)
   pub executed : AreSpans (span_rows db) content.executed
   pub rows : content.rows ≡ bag_of (count (held_rows db))
+
+-- ---- Layout 1.
+
+abbrev pub first_meta_rows : Database → List Row
+first_meta_rows db = db.trees 0
+
+abbrev pub executed_rows : Database → List Row
+executed_rows db = db.trees 2
+
+abbrev pub first_held_rows : Database → List Row
+first_held_rows db = db.trees 4
+
+-- a row of executed: a rowid, and the source and the number of a transaction
+abbrev pub IsExecutedRow : Row → Type 0
+IsExecutedRow row = (id : ℤ) × (q : Id) × (row ≡ Int id ∷ Blob q.0 ∷ Int (pos q.1) ∷ []) × IsGtid q
+
+abbrev pub id_in : Row → Id
+id_in row = (blob_in (column row 1), number_in (column row 2))
+
+-- Each value is of its column's type and in its range.
+pub record KeepsFirstRules (db : Database) : Type 0 where
+  pub meta : AllByRecursion IsMetaRow (first_meta_rows db)
+  pub executed : AllByRecursion IsExecutedRow (executed_rows db)
+  pub held : AllByRecursion IsHeldRow (first_held_rows db)
+
+-- The database is of layout 1, its rows keep its rules, and this is what they stand for.
+pub record StandsForFirst (db : Database) (content : Content) : Type 0 where
+  pub laid_out : IsFirst db.schema
+  pub says : SaysLayout (pos 1) (first_meta_rows db)
+  pub rules : KeepsFirstRules db
+  pub executed : content.executed ≡ set.from_list (map id_in (executed_rows db))
+  pub rows : content.rows ≡ bag_of (count (first_held_rows db))

@@ -4,5 +4,8 @@
 mod apply;
 mod beside;
 mod change;
+mod fault;
 mod rows;
 mod spans;
+
+pub use fault::{Applied, StoreFault};

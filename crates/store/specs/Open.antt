@@ -1,0 +1,38 @@
+-- What opening a database finds and makes.
+use Rattle.std.specs.Prelude.{◌≡◌, ◌⊎◌, IsTrue, List, [], ◌∷◌, pos}
+use Rattle.std.specs.FinSet as set
+use Rattle.sqlite_trees.specs.Tree.{Trees}
+use Rattle.sqlite.specs.Effect.{Database}
+use Rattle.sqlite.specs.State.{State}
+use Rattle.binlog.specs.Follow.{Names}
+use Rattle.store.specs.State.{Content}
+use Rattle.store.specs.Layout.{no_schema}
+use Rattle.store.specs.Rows.{StandsFor, StandsForFirst, HasRowids, first_meta_rows, first_held_rows}
+
+-- nothing is executed, and there is no row
+abbrev pub nothing : Content
+nothing = record { executed = set.empty; rows = λ _. 0 }
+
+-- the empty list of names, which means all tables
+abbrev pub all : Names
+all = set.empty
+
+-- The connection is open and in no transaction that has changed anything, and its database has no table.
+pub record IsBlank (s : State) : Type 0 where
+  pub is_open : IsTrue s.is_open
+  pub settled : s.now ≡ s.committed
+  pub schema : s.now.schema ≡ no_schema
+
+-- The same, and its database is of layout 1 and stands for this content.
+pub record IsFirstAtRest (s : State) (content : Content) : Type 0 where
+  pub is_open : IsTrue s.is_open
+  pub settled : s.now ≡ s.committed
+  pub meta_apart : HasRowids (first_meta_rows s.now)
+  pub held_apart : HasRowids (first_held_rows s.now)
+  pub stands : StandsForFirst s.now content
+
+-- Under some schema the trees stand for this content.
+pub record MayStandFor (names : Names) (content : Content) (trees : Trees) : Type 0 where
+  pub db : Database
+  pub trees_are : trees ≡ db.trees
+  pub stands : StandsFor db names content
