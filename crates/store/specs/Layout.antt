@@ -18,6 +18,7 @@ use Rattle.sqlite_schema.specs.declared.schema.Schema.{Schema}
 use Rattle.sqlite_schema.specs.declared.schema.Kind.{Kind}
 use Rattle.sqlite_schema.specs.declared.schema.Kind.TheVariants.{Integer, Text, Any}
 use Rattle.sqlite_schema.specs.Rules.{parent_key}
+use Rattle.sqlite_catalog.specs.Change.{created}
 
 -- ---- the texts that make the tables
 
@@ -135,19 +136,9 @@ pub record IsLaidOut (schema : Schema) : Type 0 where
 abbrev pub no_schema : Schema
 no_schema = record { tables = []; indexes = []; views = [] }
 
--- the tables of layout 1
-abbrev pub first_layout : List Index → List View → Schema
-first_layout indexes views = record {
-  tables = record meta { tree = 0 } ∷ record executed { tree = 2 } ∷ record held { tree = 4 } ∷ [];
-  indexes = indexes;
-  views = views;
-}
-
--- The schema has the tables of layout 1, and no others.
-pub record IsFirst (schema : Schema) : Type 0 where
-  pub indexes : List Index
-  pub views : List View
-  pub is : schema ≡ first_layout indexes views
+-- the tables of layout 1, as they were made
+abbrev pub first_layout : Schema
+first_layout = created (created (created no_schema meta) executed) held
 
 -- the tree of the table at a place in the list
 abbrev pub tree_at : Schema → ℕ → ℕ

@@ -18,7 +18,7 @@ use Rattle.gather.specs.Image.{IsImage, image}
 use Rattle.store.specs.declared.rows.RowKey.{RowKey}
 use Rattle.store.specs.State.{TableRow, Bag, Content, has_image}
 use Rattle.store.specs.Take.{most}
-use Rattle.store.specs.Layout.{IsLaidOut, IsFirst, tree_at}
+use Rattle.store.specs.Layout.{IsLaidOut, first_layout, tree_at}
 
 -- ---- The tables.
 
@@ -256,7 +256,7 @@ pub record KeepsFirstRules (db : Database) : Type 0 where
 
 -- The database is of layout 1, its rows keep its rules, and this is what they stand for.
 pub record StandsForFirst (db : Database) (content : Content) : Type 0 where
-  pub laid_out : IsFirst db.schema
+  pub laid_out : db.schema ≡ first_layout
   pub says : SaysLayout (pos 1) (first_meta_rows db)
   pub rules : KeepsFirstRules db
   pub executed : content.executed ≡ set.from_list (map id_in (executed_rows db))
