@@ -31,3 +31,4 @@ pub mod SomeDecoding
 pub mod Gathered
 pub mod Touching
 pub mod Around
+pub mod Roomy

@@ -3,6 +3,7 @@ pub mod Interval
 pub mod Combination
 pub mod Merged
 pub mod Group
+pub mod Reserved
 pub mod Span
 pub mod Spans
 pub mod Beside

@@ -1,6 +1,6 @@
 //! The identifiers of one source.
 
-ghost use Rattle.std.specs.Prelude.{◌≡◌, ◌≢◌, ℕ, length, ◌≤◌, ◌-◌, ◌^◌, ◌||◌, true, false, not, nat_eq, [], IfOk, IfErr, OnOk, OnErr, Ok, Err};
+ghost use Rattle.std.specs.Prelude.{◌≡◌, ◌≢◌, ℕ, length, ◌≤◌, ◌<◌, ◌-◌, ◌^◌, ◌||◌, true, false, not, nat_eq, [], vec_len, vec_capacity, IsOk, IfOk, IfErr, OnOk, OnErr, Ok, Err};
 ghost use Rattle.gtid.specs.Interval.{has, AreLeast, AreLeast-prop};
 
 use crate::fault::GtidFault;
@@ -40,7 +40,19 @@ impl Group {
         ensures ok { OnOk result ((n : ℕ) → has self.new.intervals.items n ≡ (nat_eq n number || has self.old.intervals.items n)) }
         ensures there { has self.old.intervals.items number ≡ true → result ≡ Ok false }
         ensures err { OnErr result ((result ≡ Err GtidFault.Memory) × (self.new.intervals.items ≡ self.old.intervals.items)) }
+        ensures room { vec_len self.old.intervals < vec_capacity self.old.intervals → IsOk result }
     {
         interval::insert(&mut self.intervals, number)
+    }
+
+    /// Takes the room that one more interval wants. The only refusal is `Memory`.
+    pub(crate) fn reserve(&mut self) -> Result<(), GtidFault>
+        ensures source { self.new.source ≡ self.old.source }
+        ensures same { self.new.intervals.items ≡ self.old.intervals.items }
+        ensures ok { OnOk result (vec_len self.new.intervals < vec_capacity self.new.intervals) }
+        ensures err { IfErr result (λ fault. fault ≡ GtidFault.Memory) }
+    {
+        self.intervals.reserve(1)?;
+        Ok(())
     }
 }

@@ -1,11 +1,12 @@
 //! The groups of a set, in the order of their sources' bytes.
 
-ghost use Rattle.std.specs.Prelude.{◌≡◌, ℕ, ◌≤◌, ◌⊎◌, ◌↔◌, ◌||◌, [], ◌∷◌, true, false, not, length, take, drop, IsTrue, OnOk, OnErr, Ok, Err, IfOk, IfErr, IfSome, IfNone};
+ghost use Rattle.std.specs.Prelude.{◌≡◌, ℕ, ◌≤◌, ◌⊎◌, ◌↔◌, ◌||◌, [], ◌∷◌, true, false, not, length, take, drop, IsTrue, OnOk, OnErr, Ok, Err, IfOk, IfErr, IfSome, IfNone, vec_capacity};
 ghost use Rattle.gtid.specs.Identifier.{Id, id, is_one};
 ghost use Rattle.gtid.specs.Interval.{has, AreLeast};
 ghost use Rattle.gtid.specs.Combination.{keeps};
 ghost use Rattle.gtid.specs.Group.{Ascend, sources, is_listed, IsNext, IsNoHigher, Splits, AreBelow, IsAt, IsGap};
 ghost use Rattle.gtid.specs.Beside.{Among};
+ghost use Rattle.gtid.specs.Reserved.{HasRoom};
 
 use crate::combination::{Combination, combine};
 use crate::fault::GtidFault;
@@ -104,6 +105,51 @@ pub(crate) fn insert(groups: &mut Vec<Group>, gtid: Gtid) -> Result<bool, GtidFa
             let group = Group::of(*groups.allocator(), gtid)?;
             groups.insert(at, group)?;
             Ok(true)
+        }
+    }
+}
+
+/// Where an identifier goes: into a group, or as a group of its own before the one at a place.
+#[derive(Debug, Drop)]
+pub(crate) enum Place {
+    Within(usize),
+    Before(usize, Group),
+}
+
+/// Takes the room that an identifier wants. The only refusal is `Memory`.
+pub(crate) fn reserve(groups: &mut Vec<Group>, gtid: Gtid) -> Result<Place, GtidFault>
+    requires ascend { Ascend (sources groups.old.items) }
+    ensures ascend { Ascend (sources groups.new.items) }
+    ensures same { (q : Id) → is_listed q groups.new.items ≡ is_listed q groups.old.items }
+    ensures room { IfOk result (HasRoom gtid groups.new.items (vec_capacity groups.new)) }
+    ensures err { IfErr result (λ fault. fault ≡ GtidFault.Memory) }
+{
+    match find(groups, &gtid.source) {
+        Ok(at) => {
+            groups[at].reserve()?;
+            Ok(Place::Within(at))
+        }
+        Err(at) => {
+            let group = Group::of(*groups.allocator(), gtid)?;
+            groups.reserve(1)?;
+            Ok(Place::Before(at, group))
+        }
+    }
+}
+
+/// Adds an identifier that has room.
+pub(crate) fn insert_reserved(groups: &mut Vec<Group>, gtid: Gtid, place: Place)
+    requires ascend { Ascend (sources groups.old.items) }
+    requires room { HasRoom gtid groups.old.items (vec_capacity groups.old) place }
+    ensures ascend { Ascend (sources groups.new.items) }
+    ensures adds { (q : Id) → is_listed q groups.new.items ≡ (is_one q (id gtid) || is_listed q groups.old.items) }
+{
+    match place {
+        Place::Within(at) => {
+            let _new = groups[at].insert(gtid.number);
+        }
+        Place::Before(at, group) => {
+            let _inserted = groups.insert(at, group);
         }
     }
 }

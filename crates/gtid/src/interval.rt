@@ -1,6 +1,6 @@
 //! The numbers of one source, as intervals.
 
-ghost use Rattle.std.specs.Prelude.{◌≡◌, ◌≢◌, ℕ, ◌≤◌, ◌<◌, ◌-◌, ◌^◌, ◌||◌, ◌↔◌, true, false, not, nat_eq, length, slice_index_or, vec_len, None, IsTrue, IfSome, IfNone, IfOk, OnOk, OnErr, Ok, Err};
+ghost use Rattle.std.specs.Prelude.{◌≡◌, ◌≢◌, ℕ, ◌≤◌, ◌<◌, ◌-◌, ◌^◌, ◌||◌, ◌↔◌, true, false, not, nat_eq, length, slice_index_or, vec_len, vec_capacity, None, IsTrue, IsOk, IfSome, IfNone, IfOk, OnOk, OnErr, Ok, Err};
 ghost use Rattle.std.specs.List.{AllWithin};
 ghost use Rattle.gtid.specs.Interval.{has, is_within, AreLeast, Reaches};
 ghost use Rattle.gtid.specs.Beside.{Touches};
@@ -100,6 +100,7 @@ pub(crate) fn insert(intervals: &mut Vec<Interval>, number: u64) -> Result<bool,
     ensures ok { OnOk result ((n : ℕ) → has intervals.new.items n ≡ (nat_eq n number || has intervals.old.items n)) }
     ensures there { has intervals.old.items number ≡ true → result ≡ Ok false }
     ensures err { OnErr result ((result ≡ Err GtidFault.Memory) × (intervals.new.items ≡ intervals.old.items)) }
+    ensures room { vec_len intervals.old < vec_capacity intervals.old → IsOk result }
 {
     if reaches(intervals, number) {
         return insert_within(intervals, number);
@@ -136,6 +137,7 @@ fn insert_within(intervals: &mut Vec<Interval>, number: u64) -> Result<bool, Gti
     ensures ok { OnOk result ((n : ℕ) → has intervals.new.items n ≡ (nat_eq n number || has intervals.old.items n)) }
     ensures there { has intervals.old.items number ≡ true → result ≡ Ok false }
     ensures err { OnErr result ((result ≡ Err GtidFault.Memory) × (intervals.new.items ≡ intervals.old.items)) }
+    ensures room { vec_len intervals.old < vec_capacity intervals.old → IsOk result }
 {
     let at = place(intervals, number);
     let next = intervals[at];

@@ -17,10 +17,11 @@ use crate::fault::GtidFault;
 use crate::gathering::gather;
 use crate::grammar::scan;
 use crate::group::Group;
-use crate::groups::{are_subset, combine_groups, insert, intervals_of};
+use crate::groups::{are_subset, combine_groups, insert, intervals_of, reserve};
 use crate::identifier::Gtid;
 use crate::interval;
 use crate::reading::read_spans;
+use crate::reserved::Reserved;
 use crate::spans::Spans;
 use crate::text::print_groups;
 use std::alloc::Global;
@@ -31,7 +32,7 @@ use std::marker::Model;
 /// It keeps the least intervals of each source, the sources in the order of their bytes.
 #[derive(Debug, Drop)]
 pub struct GtidSet {
-    groups: Vec<Group>,
+    pub(crate) groups: Vec<Group>,
 }
 
 impl Model for GtidSet {
@@ -80,6 +81,23 @@ impl GtidSet {
         ensures err { OnErr result ((result ≡ Err GtidFault.Memory) × (self.new ≡ self.old)) }
     {
         insert(&mut self.groups, gtid)
+    }
+
+    /// Takes the room that one more identifier wants, so that adding it cannot fail. Where an allocation is refused it
+    /// hands back the set as it was.
+    pub fn reserve(self, gtid: Gtid) -> Result<Reserved, GtidSet>
+        ensures ok { IfOk result (λ reserved. reserved ≡ (self, id gtid)) }
+        ensures err { IfErr result (λ kept. kept ≡ self) }
+    {
+        let GtidSet { mut groups } = self;
+        match reserve(&mut groups, gtid) {
+            Ok(place) => Ok(Reserved {
+                groups,
+                gtid,
+                place,
+            }),
+            Err(_) => Err(GtidSet { groups }),
+        }
     }
 
     /// Adds what is in the other set. The only refusal is `Memory`, which leaves the set as it was.

@@ -378,3 +378,31 @@ fn long_numbers(rt: HostRuntime) -> Result<(), Fail> {
     assert_eq!(rt; text(&rt, &set)?, of_a(&rt, ":17")?);
     Ok(())
 }
+
+/// What has room is added without a refusal, and what is given up leaves the set as it was.
+#[test]
+fn reserved(rt: HostRuntime) -> Result<(), Fail> {
+    let a = [7; 16];
+    let b = [9; 16];
+    let mut set = GtidSet::new(rt.alloc());
+    for (source, number) in [(b, 2), (b, 4), (b, 3), (a, 1), (b, 9), (b, 2)] {
+        let gtid = Gtid::new(source, number).unwrap();
+        let known = set.contains(gtid);
+        let Ok(given_up) = set.reserve(gtid) else {
+            return Err(Fail::from(GtidFault::Memory));
+        };
+        let before = given_up.release();
+        assert_eq!(rt; before.contains(gtid), known);
+        let Ok(reserved) = before.reserve(gtid) else {
+            return Err(Fail::from(GtidFault::Memory));
+        };
+        set = reserved.insert();
+        assert!(rt; set.contains(gtid));
+    }
+    let printed = text(&rt, &set)?;
+    assert_eq!(rt;
+        printed.as_str(),
+        "07070707-0707-0707-0707-070707070707:1,09090909-0909-0909-0909-090909090909:2-4:9"
+    );
+    Ok(())
+}

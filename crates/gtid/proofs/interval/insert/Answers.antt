@@ -6,7 +6,7 @@ pub returns : goal.returns
 returns c =
     let before = rw c.deref.ensures.value at (c.reaches.ensures.before c.if-reaches.false) in
     let added = added_last c.args.intervals.now.items c.push.new.self.items c.args.number c.requires.least c.requires.number.0 c.requires.number.1 before c.in_ok-push.ensures.items in
-    record { least = added.least; answer = sym (ap not added.fresh); ok = added.adds; there = λ t. cc added.fresh; err = tt }
+    record { least = added.least; answer = sym (ap not added.fresh); ok = added.adds; there = λ t. cc added.fresh; err = tt; room = λ _. refl }
 
 pub returns-in_err-push-clause-there : goal.returns-in_err-push-clause-there
 returns-in_err-push-clause-there c there =
