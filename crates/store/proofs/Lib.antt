@@ -18,3 +18,4 @@ pub mod SpanRecord
 pub mod Filled
 pub mod Ran
 pub mod Keeps
+pub mod Taken

@@ -1,5 +1,5 @@
 -- A transaction from its begin to its end.
-use Rattle.std.proofs.Common.{◌≡◌, inl, inr, ℕ, true, false, Option, Ok, Err, Result, refl, sym, subst, subst₂, ◌∙◌}
+use Rattle.std.proofs.Common.{◌≡◌, inl, inr, ℕ, true, false, Option, Ok, Err, Result, refl, sym, ap, subst, subst₂, ◌∙◌}
 use Rattle.std.specs.Result.{IsErr}
 use Rattle.sqlite_trees.specs.declared.store.Store as store
 use Rattle.sqlite_trees.specs.Tree.{Trees}
@@ -45,8 +45,8 @@ module _ (names : Names) (content : Content) (d : DeliveryValue) where
 
   -- ---- taken
 
-  pub has_taken : (t m n : State) → GoesOn t m × IsTaken names content d m.now.schema m.now.trees → Shows m n m.now m.now false → HasTaken names content d n
-  has_taken t m n it h = record {
+  pub has_taken : (t m n : State) → GoesOn t m × IsTaken names content d m.now.schema m.now.trees → Shows m n m.now m.now false → HasTaken names content d n × (n.now.schema ≡ t.now.schema)
+  has_taken t m n it h = (record {
     after = it.1.after;
     takes = it.1.takes;
     rest = record {
@@ -56,7 +56,7 @@ module _ (names : Names) (content : Content) (d : DeliveryValue) where
       spans_apart = subst (λ (db : Database). HasRowids (span_rows db)) (sym h.now_is) it.0.working.spans_apart;
       stands = subst (λ (db : Database). StandsFor db names it.1.after) (sym h.now_is) it.1.stands;
     };
-  }
+  }, ap (λ (db : Database). db.schema) h.now_is ∙ it.0.schema)
 
   -- ---- what a crash leaves
 

@@ -2,12 +2,18 @@
 use Rattle.std.specs.Prelude.{◌≡◌, ℕ, IsTrue, List, Option, Some, None, Result, Ok, Err}
 use Rattle.sqlite_schema.specs.declared.schema.Schema.{Schema}
 use Rattle.sqlite_trees.specs.Tree.{Trees}
-use Rattle.sqlite.specs.State.{State}
+use Rattle.sqlite.specs.State.{State, IsUnchanged}
 use Rattle.gtid.specs.declared.identifier.Gtid.{Gtid}
 use Rattle.gtid.specs.declared.span.Span.{Span}
+use Rattle.gtid.specs.Identifier.{Ids}
 use Rattle.binlog.specs.Follow.{Names}
 use Rattle.gather.specs.Transaction.{DeliveryValue}
 use Rattle.store.specs.declared.change.Refusal.{Refusal}
+use Rattle.store.specs.declared.change.Refusal.TheVariants as why
+use Rattle.store.specs.declared.fault.Applied.{Applied}
+use Rattle.store.specs.declared.fault.Applied.TheVariants.{Done, Repeat}
+use Rattle.store.specs.declared.fault.StoreFault.{StoreFault}
+use Rattle.store.specs.declared.fault.StoreFault.TheVariants.{NoSuchRow, CountFull, Database, Memory, Damaged, Layout, Broken, Follows}
 use Rattle.store.specs.declared.spans.Beside.{Beside}
 use Rattle.store.specs.State.{Content}
 use Rattle.store.specs.Take.{Takes, done, refused}
@@ -49,7 +55,7 @@ pub record HasTaken (names : Names) (content : Content) (d : DeliveryValue) (new
   pub rest : IsAtRest new names after
 
 abbrev pub Runs : {E : Type 0} → Names → Content → DeliveryValue → State → State → Result (Option (ℕ × Refusal)) E → Type 0
-Runs names content d old new (Ok None) = HasTaken names content d new
+Runs names content d old new (Ok None) = HasTaken names content d new × (new.now.schema ≡ old.now.schema)
 Runs names content d old new (Ok (Some why)) = Takes names content d (refused why.0 why.1) × Rests old new
 Runs names content d old new (Err e) = Rests old new
 
@@ -58,3 +64,38 @@ abbrev pub MayCommit : {E : Type 0} → Names → Content → DeliveryValue → 
 MayCommit names content d old (Ok None) trees = IsTaken names content d old.now.schema trees
 MayCommit names content d old (Ok (Some why)) trees = ⊥
 MayCommit names content d old (Err e) trees = IsTaken names content d old.now.schema trees
+
+-- ---- The set in memory beside the connection.
+
+-- The connection is at rest with what the transaction makes of the content, and the set is its.
+pub record HasMoved (names : Names) (content : Content) (d : DeliveryValue) (old new : State) (executed : Ids) : Type 0 where
+  pub taken : HasTaken names content d new
+  pub schema : new.now.schema ≡ old.now.schema
+  pub set : executed ≡ taken.after.executed
+
+-- Nothing has changed, and the change at this place is refused.
+abbrev pub IsGivenUp : Names → Content → DeliveryValue → State → Ids → ℕ → Refusal → Type 0
+IsGivenUp names content d new executed at reason = Takes names content d (refused at reason) × IsAtRest new names content × (executed ≡ content.executed)
+
+-- What a transaction that is not executed comes to.
+abbrev pub Comes : Names → Content → DeliveryValue → State → State → Ids → Result Applied StoreFault → Type 0
+Comes names content d old new executed (Ok Done) = HasMoved names content d old new executed
+Comes names content d old new executed (Ok Repeat) = ⊥
+Comes names content d old new executed (Err (NoSuchRow at)) = IsGivenUp names content d new executed at why.NoSuchRow
+Comes names content d old new executed (Err (CountFull at)) = IsGivenUp names content d new executed at why.CountFull
+Comes names content d old new executed (Err (Database e)) = Rests old new × (executed ≡ content.executed)
+Comes names content d old new executed (Err Memory) = Rests old new × (executed ≡ content.executed)
+Comes names content d old new executed (Err _) = ⊥
+
+-- What it may commit.
+abbrev pub MayMove : Names → Content → DeliveryValue → State → Result Applied StoreFault → Trees → Type 0
+MayMove names content d old (Ok Done) trees = IsTaken names content d old.now.schema trees
+MayMove names content d old (Err (Database e)) trees = IsTaken names content d old.now.schema trees
+MayMove names content d old _ trees = ⊥
+
+-- A refusal is told, of a connection that is as it was, or else a failure of the database.
+abbrev pub IsTold : ℕ → Refusal → State → State → StoreFault → Type 0
+IsTold at reason old new (NoSuchRow n) = (n ≡ at) × (reason ≡ why.NoSuchRow) × IsUnchanged old new
+IsTold at reason old new (CountFull n) = (n ≡ at) × (reason ≡ why.CountFull) × IsUnchanged old new
+IsTold at reason old new (Database e) = IsTrue new.is_open → IsTrue old.is_open × (old.now ≡ old.committed → (new.now ≡ old.now) × (new.committed ≡ old.committed))
+IsTold at reason old new _ = ⊥

@@ -7,5 +7,8 @@ mod change;
 mod fault;
 mod rows;
 mod spans;
+mod store;
+mod taking;
 
 pub use fault::{Applied, StoreFault};
+pub use store::Store;

@@ -97,6 +97,7 @@ fn put_span<S: Alter>(
 }
 
 /// The spans of a source that touch a number: where the one before it begins, and where the one behind it ends.
+#[derive(Clone, Copy, Debug)]
 pub(crate) struct Beside {
     pub(crate) before: Option<u64>,
     pub(crate) after: Option<u64>,

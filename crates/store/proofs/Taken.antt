@@ -1,0 +1,152 @@
+-- The set in memory beside a transaction.
+use Rattle.std.proofs.Common.{◌≡◌, ◌⊎◌, inl, inr, ℕ, List, Bool, true, false, IsTrue, Option, Some, None, Ok, Err, Result, refl, sym, ap, subst, subst₂, ◌∙◌}
+use Rattle.std.specs.FinSet as set
+use Rattle.sqlite_value.specs.Order.{Row}
+use Rattle.sqlite_trees.specs.Tree.{Trees}
+use Rattle.sqlite.specs.declared.error.Error.{Error}
+use Rattle.sqlite.specs.Effect.{Database as Stored}
+use Rattle.sqlite_trees.specs.declared.store.Store.{Ghosts}
+use Rattle.sqlite.specs.Held.{Held, state}
+use Rattle.sqlite.specs.State.{State, IsUnchanged, IsNotRun, Survives, HasCleanDisk}
+use Rattle.sqlite.proofs.StateLemmas.{survives_then}
+use Rattle.gtid.specs.Identifier.{Ids}
+use Rattle.gtid.specs.declared.identifier.Gtid.{Gtid}
+use Rattle.gtid.specs.declared.span.Span.{Span}
+use Rattle.binlog.specs.Follow.{Names}
+use Rattle.gather.specs.Transaction.{DeliveryValue}
+use Rattle.store.specs.declared.change.Refusal.{Refusal}
+use Rattle.store.specs.declared.change.Refusal.TheVariants as why
+use Rattle.store.specs.declared.fault.Applied.{Applied}
+use Rattle.store.specs.declared.fault.Applied.TheVariants.{Done, Repeat}
+use Rattle.store.specs.declared.fault.StoreFault.{StoreFault}
+use Rattle.store.specs.declared.fault.StoreFault.TheVariants.{NoSuchRow, CountFull, Database, Memory, Damaged, Layout, Broken, Follows}
+use Rattle.store.specs.declared.spans.Beside.{Beside}
+use Rattle.store.specs.declared.store.Store.{Store}
+use Rattle.store.specs.Store.{Holds, Applies, AreOf, Leaves, breaks}
+use Rattle.store.specs.State.{Content}
+use Rattle.store.specs.Take.{Takes, is_executed, done, refused}
+use Rattle.store.specs.Rows.{StandsFor, HasRowids, held_rows, span_rows, AreLeast}
+use Rattle.store.specs.Apply.{LiesBeside, IsTaken, IsAtRest, Rests, HasTaken, Runs, MayCommit, HasMoved, Comes, MayMove, IsTold}
+
+-- ---- the connection as it was
+pub rest_same : (a b : State) (names : Names) (content : Content) → IsTrue b.is_open → b.now ≡ a.now → b.committed ≡ a.committed → IsAtRest a names content → IsAtRest b names content
+rest_same a b names content is_open now committed rest = record {
+  is_open = is_open;
+  settled = now ∙ rest.settled ∙ sym committed;
+  held_apart = subst (λ (db : Stored). HasRowids (held_rows db)) (sym now) rest.held_apart;
+  spans_apart = subst (λ (db : Stored). HasRowids (span_rows db)) (sym now) rest.spans_apart;
+  stands = subst (λ (db : Stored). StandsFor db names content) (sym now) rest.stands;
+}
+
+pub told_failed : (sql : List ℕ) (params : Row) (at : ℕ) (reason : Refusal) (old new : State) (e : Error) → IsNotRun old new sql params e → IsTold at reason old new (Database e)
+unfolding IsNotRun
+told_failed sql params at reason old new e (inl h) is_open = (h.1.0.was_open, λ settled. (h.1.0.now_is, h.1.0.committed_is))
+told_failed sql params at reason old new e (inr h) is_open = (h.3.was_open is_open, λ settled. let u = h.3.undone is_open in (u.0 ∙ sym settled, u.1))
+
+-- ---- the spans beside the number
+pub beside_known : (spans : List Span) (executed ids : Ids) (gtid : Gtid) (beside : Beside) → executed ≡ ids → AreLeast spans ids
+    → (AreLeast spans executed → LiesBeside spans gtid beside) → LiesBeside spans gtid beside
+beside_known spans executed ids gtid beside same least lies = lies (subst (AreLeast spans) (sym same) least)
+
+-- ---- what it comes to
+module _ (names : Names) (content : Content) (d : DeliveryValue) where
+  pub moved : (old new : State) (executed now : Ids) → executed ≡ content.executed → now ≡ set.insert executed (d.source, d.number) → HasTaken names content d new × (new.now.schema ≡ old.now.schema) → HasMoved names content d old new now
+  moved old new executed now same is taken = record {
+    taken = taken.0;
+    schema = taken.1;
+    set = is ∙ ap (λ ids. set.insert ids (d.source, d.number)) same ∙ sym taken.0.takes.2;
+  }
+
+  pub came : (old mid new : State) (executed : Ids) (at : ℕ) (reason : Refusal) (fault : StoreFault) → executed ≡ content.executed → IsAtRest old names content
+      → Takes names content d (refused at reason) × Rests old mid → IsTold at reason mid new fault → Comes names content d old new executed (Err fault)
+  came old mid new executed at reason (NoSuchRow n) same rest h told =
+      let at_rest : IsAtRest new names content = let r = h.1 told.2.0.was_open in rest_same old new names content told.2.0.is_open (told.2.0.now_is ∙ r.0) (told.2.0.committed_is ∙ r.1) rest in
+      (subst (λ p. Takes names content d (refused p why.NoSuchRow)) (sym told.0) (subst (λ w. Takes names content d (refused at w)) told.1 h.0), at_rest, same)
+  came old mid new executed at reason (CountFull n) same rest h told =
+      let at_rest : IsAtRest new names content = let r = h.1 told.2.0.was_open in rest_same old new names content told.2.0.is_open (told.2.0.now_is ∙ r.0) (told.2.0.committed_is ∙ r.1) rest in
+      (subst (λ p. Takes names content d (refused p why.CountFull)) (sym told.0) (subst (λ w. Takes names content d (refused at w)) told.1 h.0), at_rest, same)
+  came old mid new executed at reason (Database e) same rest h told = (
+    (λ is_open.
+    let t = told is_open in
+    let r = h.1 t.0 in
+    let s = t.1 (r.0 ∙ rest.settled ∙ sym r.1) in
+    (s.0 ∙ r.0, s.1 ∙ r.1)),
+    same,
+  )
+  came old mid new executed at reason Memory same rest h told = absurd told
+  came old mid new executed at reason Damaged same rest h told = absurd told
+  came old mid new executed at reason (Layout n) same rest h told = absurd told
+  came old mid new executed at reason Broken same rest h told = absurd told
+  came old mid new executed at reason Follows same rest h told = absurd told
+
+  pub given_up : (old mid new : State) (r : Result Applied StoreFault) → Survives old mid (λ _. ⊥) → Survives mid new (λ _. ⊥) → Survives old new (MayMove names content d old r)
+  given_up old mid new r one two = survives_then old mid new (λ _. ⊥) (λ _. ⊥) (MayMove names content d old r) (λ _ db none. absurd none) (λ _ db none. absurd none) one two
+
+-- the fault of an answer
+abbrev pub fault_in : Result Applied StoreFault → StoreFault
+fault_in (Ok a) = Broken
+fault_in (Err fault) = fault
+
+-- ---- the store
+module _ {S : Type 0} (g : Ghosts S) (content : Content) (d : DeliveryValue) (old new : Store S g) where
+  pub applied : (r : Result Applied StoreFault) → Holds g old content → is_executed content d ≡ false → new.following ≡ old.following → new.broken ≡ breaks r → (r ≡ Err Memory → new.conn ≡ old.conn)
+      → Comes old.following content d (state g old.conn) (state g new.conn) new.executed r → Applies g content d old new r
+  applied (Ok Done) was out names broken memory it = record {
+    after = it.taken.after;
+    takes = it.taken.takes;
+    holds = record {
+      whole = broken;
+      executed = it.set;
+      rest = subst (λ n. IsAtRest (state g new.conn) n it.taken.after) (sym names) it.taken.rest;
+    };
+  }
+  applied (Ok Repeat) was out names broken memory it = absurd it
+  applied (Err (NoSuchRow at)) was out names broken memory it = (it.0, record { whole = broken; executed = it.2; rest = subst (λ n. IsAtRest (state g new.conn) n content) (sym names) it.1 })
+  applied (Err (CountFull at)) was out names broken memory it = (it.0, record { whole = broken; executed = it.2; rest = subst (λ n. IsAtRest (state g new.conn) n content) (sym names) it.1 })
+  applied (Err (Database e)) was out names broken memory it = (out, record {
+    broken = broken;
+    executed = it.1;
+    rest = λ is_open. let r = it.0 is_open in subst (λ n. IsAtRest (state g new.conn) n content) (sym names) (rest_same (state g old.conn) (state g new.conn) old.following content is_open r.0 r.1 was.rest);
+  })
+  applied (Err Memory) was out names broken memory it = (out, record {
+    broken = broken;
+    executed = it.1;
+    rest = λ is_open. let r = it.0 is_open in subst (λ n. IsAtRest (state g new.conn) n content) (sym names) (rest_same (state g old.conn) (state g new.conn) old.following content is_open r.0 r.1 was.rest);
+  }, memory refl)
+  applied (Err Damaged) was out names broken memory it = absurd it
+  applied (Err (Layout n)) was out names broken memory it = absurd it
+  applied (Err Broken) was out names broken memory it = absurd it
+  applied (Err Follows) was out names broken memory it = absurd it
+
+-- ---- what a crash leaves
+module _ {S : Type 0} (g : Ghosts S) (names : Names) (content : Content) (d : DeliveryValue) (old new : Held S)
+    (settled : (h : Held S) (db : Trees) → IsTrue (state g h).is_open → (state g h).may_leave db → db ≡ (state g h).committed.trees) where
+  stays : (h : Held S) (db : Trees) → (r : IsAtRest (state g h) names content) → (state g h).may_leave db → AreOf h.schema names content db
+  stays h db r left =
+      let trees : db ≡ (state g h).now.trees = settled h db r.is_open left ∙ sym (ap (λ (b : Stored). b.trees) r.settled) in
+      subst (λ t. AreOf h.schema names content t) (sym trees) r.stands
+
+  pub left_whole : (r : Result Applied StoreFault) (executed : Ids) (trees : Trees) → IsAtRest (state g old) names content → Comes names content d (state g old) (state g new) executed r
+      → (state g old).may_leave trees ⊎ MayMove names content d (state g old) r trees → (state g new).may_leave trees → Leaves old.schema names content d r trees
+  left_whole (Ok Done) executed trees rest it (inl was) left =
+      let rest_new = it.taken.rest in
+      let trees_are : trees ≡ (state g new).now.trees = settled new trees rest_new.is_open left ∙ sym (ap (λ (b : Stored). b.trees) rest_new.settled) in
+      record {
+        after = it.taken.after;
+        takes = it.taken.takes;
+        stands = subst₂ (λ s t. StandsFor (record { schema = s; trees = t }) names it.taken.after) it.schema (sym trees_are) rest_new.stands;
+      }
+  left_whole (Ok Done) executed trees rest it (inr may) left = may
+  left_whole (Ok Repeat) executed trees rest it was left = absurd it
+  left_whole (Err (NoSuchRow at)) executed trees rest it (inl was) left = stays old trees rest was
+  left_whole (Err (NoSuchRow at)) executed trees rest it (inr may) left = absurd may
+  left_whole (Err (CountFull at)) executed trees rest it (inl was) left = stays old trees rest was
+  left_whole (Err (CountFull at)) executed trees rest it (inr may) left = absurd may
+  left_whole (Err (Database e)) executed trees rest it (inl was) left = inl (stays old trees rest was)
+  left_whole (Err (Database e)) executed trees rest it (inr may) left = inr may
+  left_whole (Err Memory) executed trees rest it (inl was) left = stays old trees rest was
+  left_whole (Err Memory) executed trees rest it (inr may) left = absurd may
+  left_whole (Err Damaged) executed trees rest it was left = absurd it
+  left_whole (Err (Layout n)) executed trees rest it was left = absurd it
+  left_whole (Err Broken) executed trees rest it was left = absurd it
+  left_whole (Err Follows) executed trees rest it was left = absurd it

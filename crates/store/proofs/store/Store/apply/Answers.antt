@@ -1,0 +1,23 @@
+use Rattle.std.proofs.Common.{◌≡◌, false, refl, sym, subst, ◌∙◌}
+use Rattle.std.specs.FinSet as set
+use Rattle.sqlite.specs.Held.{state}
+use Rattle.gtid.specs.Identifier.{id}
+use Rattle.gather.specs.View.{delivery_value}
+use Rattle.store.specs.Take.{is_executed}
+use Rattle.store.proofs.Taken.{applied, left_whole}
+use Rattle.store.proofs.store.Store.apply.Goals as goal
+
+pub returns-clause-applies : goal.returns-clause-applies
+returns-clause-applies g c clean content was =
+    let d = delivery_value c.args.delivery.now in
+    let out : is_executed content d ≡ false = subst (λ ids. set.contains ids (id c.args.delivery.now.gtid) ≡ false) was.executed (sym c.contains.ensures ∙ c.if-contains.false) in
+    let same = c.replace-executed.ensures.value ∙ was.executed in
+    applied g.S.Store content d c.args.self.now (record c.args.self.now { conn = c.take-executed.new.conn; executed = c.take-executed.result.0; broken = c.breaks-self.result; autocommit = c.self-1.given.0 }) c.take-executed.result.1 was out refl c.breaks-self.ensures
+    c.take-executed.ensures.memory (c.take-executed.ensures.comes clean content was.rest same)
+
+pub returns-clause-crash : goal.returns-clause-crash
+returns-clause-crash g c clean content was trees left =
+    let d = delivery_value c.args.delivery.now in
+    let same = c.replace-executed.ensures.value ∙ was.executed in
+    left_whole g.S.Store c.args.self.now.following content d c.args.self.now.conn c.take-executed.new.conn (λ h db is_open may. g.met.S.Store.settled h.store db is_open may) c.take-executed.result.1 c.take-executed.result.0 trees was.rest
+    (c.take-executed.ensures.comes clean content was.rest same) ((c.take-executed.ensures.crash content was.rest same).crash clean trees left) left

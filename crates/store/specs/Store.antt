@@ -1,0 +1,66 @@
+-- What a store holds, and what taking a transaction makes of it.
+use Rattle.std.specs.Prelude.{◌≡◌, ◌⊎◌, Bool, true, false, IsTrue, Result, Ok, Err}
+use Rattle.sqlite_trees.specs.declared.store.Store.{Ghosts}
+use Rattle.sqlite_trees.specs.Tree.{Trees}
+use Rattle.sqlite_schema.specs.declared.schema.Schema.{Schema}
+use Rattle.sqlite.specs.State.{State}
+use Rattle.sqlite.specs.Held.{Held, state}
+use Rattle.binlog.specs.Follow.{Names}
+use Rattle.gtid.specs.Identifier.{Ids}
+use Rattle.gather.specs.Transaction.{DeliveryValue}
+use Rattle.store.specs.declared.change.Refusal.TheVariants as why
+use Rattle.store.specs.declared.fault.Applied.{Applied}
+use Rattle.store.specs.declared.fault.Applied.TheVariants.{Done, Repeat}
+use Rattle.store.specs.declared.fault.StoreFault.{StoreFault}
+use Rattle.store.specs.declared.fault.StoreFault.TheVariants.{NoSuchRow, CountFull, Database, Memory, Damaged, Layout, Broken, Follows}
+use Rattle.store.specs.declared.store.Store.{Store}
+use Rattle.store.specs.State.{Content}
+use Rattle.store.specs.Take.{Takes, is_executed, done, repeat, refused}
+use Rattle.store.specs.Rows.{StandsFor}
+use Rattle.store.specs.Apply.{IsAtRest, IsTaken}
+
+module _ {S : Type 0} (g : Ghosts S) where
+  -- The store is whole: its tables, its connection and its set in memory stand for this content.
+  pub record Holds (store : Store S g) (content : Content) : Type 0 where
+    pub whole : store.broken ≡ false
+    pub executed : store.executed ≡ content.executed
+    pub rest : IsAtRest (state g store.conn) store.following content
+
+  -- A failure has broken the store: its set in memory stands for this content, and so do its tables where the connection
+  -- is still open.
+  pub record HasFailed (store : Store S g) (content : Content) : Type 0 where
+    pub broken : store.broken ≡ true
+    pub executed : store.executed ≡ content.executed
+    pub rest : IsTrue (state g store.conn).is_open → IsAtRest (state g store.conn) store.following content
+
+  -- The store holds what the transaction makes of the content.
+  pub record HoldsTaken (names : Names) (content : Content) (d : DeliveryValue) (new : Store S g) : Type 0 where
+    pub after : Content
+    pub takes : Takes names content d (done after)
+    pub holds : Holds new after
+
+  -- What a transaction comes to, taken by a store that holds this content.
+  abbrev pub Applies : Content → DeliveryValue → Store S g → Store S g → Result Applied StoreFault → Type 0
+  Applies content d old new (Ok Done) = HoldsTaken old.following content d new
+  Applies content d old new (Ok Repeat) = Takes old.following content d repeat × (new ≡ old)
+  Applies content d old new (Err (NoSuchRow at)) = Takes old.following content d (refused at why.NoSuchRow) × Holds new content
+  Applies content d old new (Err (CountFull at)) = Takes old.following content d (refused at why.CountFull) × Holds new content
+  Applies content d old new (Err (Database e)) = (is_executed content d ≡ false) × HasFailed new content
+  Applies content d old new (Err Memory) = (is_executed content d ≡ false) × HasFailed new content × (new.conn ≡ old.conn)
+  Applies content d old new (Err _) = ⊥
+
+-- Under this schema the trees stand for the content.
+abbrev pub AreOf : Schema → Names → Content → Trees → Type 0
+AreOf schema names content trees = StandsFor (record { schema = schema; trees = trees }) names content
+
+-- What a crash leaves of a transaction that a whole store has taken.
+abbrev pub Leaves : Schema → Names → Content → DeliveryValue → Result Applied StoreFault → Trees → Type 0
+Leaves schema names content d (Ok Done) trees = IsTaken names content d schema trees
+Leaves schema names content d (Err (Database e)) trees = AreOf schema names content trees ⊎ IsTaken names content d schema trees
+Leaves schema names content d _ trees = AreOf schema names content trees
+
+-- whether the database has to be opened again after this answer
+abbrev pub breaks : Result Applied StoreFault → Bool
+breaks (Err (Database e)) = true
+breaks (Err Memory) = true
+breaks _ = false

@@ -1,0 +1,111 @@
+//! A transaction of the source taken by the store.
+
+ghost use Rattle.std.specs.Prelude.{◌≡◌, ◌≢◌, true, false, Err, IsTrue};
+ghost use Rattle.std.specs.FinSet as set;
+ghost use Rattle.sqlite.specs.State.{HasCleanDisk, Survives};
+ghost use Rattle.sqlite.specs.Held.{state};
+ghost use Rattle.gtid.specs.Identifier.{id};
+ghost use Rattle.gather.specs.View.{delivery_value};
+ghost use Rattle.store.specs.State.{Content};
+ghost use Rattle.store.specs.Take.{is_executed};
+ghost use Rattle.store.specs.Apply.{IsAtRest, Comes, MayMove, IsTold};
+ghost use Rattle.store.specs.Store.{Holds, Applies, Leaves, breaks};
+ghost use Rattle.store.specs.declared.fault.StoreFault.TheVariants.{Broken, Memory};
+
+use crate::apply::run;
+use crate::beside::around;
+use crate::change::Refusal;
+use crate::fault::{Applied, StoreFault};
+use crate::store::Store;
+use binlog::Follow;
+use gather::Delivery;
+use gtid::GtidSet;
+use sqlite::{Alter, Connection};
+use std::mem;
+
+/// Tells a refusal, unless giving the transaction up has shut the connection.
+fn refuse<S: Alter>(conn: &mut Connection<S>, at: usize, why: Refusal) -> StoreFault
+    requires { conn.old.in_transaction ≡ false }
+    ensures autocommit { conn.new.in_transaction ≡ false }
+    ensures told { HasCleanDisk (state S.Store conn.new) → IsTold at why (state S.Store conn.old) (state S.Store conn.new) result }
+    ensures survives { Survives (state S.Store conn.old) (state S.Store conn.new) (λ _. ⊥) }
+    ensures other { result ≢ Memory }
+{
+    if let Err(error) = conn.prepare("SELECT n FROM held") {
+        return StoreFault::Database(error);
+    }
+    match why {
+        Refusal::NoSuchRow => StoreFault::NoSuchRow(at),
+        Refusal::CountFull => StoreFault::CountFull(at),
+    }
+}
+
+/// Takes a transaction that is not executed, and answers the set of those that are.
+fn take<S: Alter>(
+    conn: &mut Connection<S>,
+    follow: &Follow,
+    executed: GtidSet,
+    delivery: &Delivery,
+) -> (GtidSet, Result<Applied, StoreFault>)
+    requires autocommit { conn.old.in_transaction ≡ false }
+    requires new { set.contains executed (id delivery.now.gtid) ≡ false }
+    ensures autocommit { conn.new.in_transaction ≡ false }
+    ensures comes { HasCleanDisk (state S.Store conn.new) → (content : Content) → IsAtRest (state S.Store conn.old) follow.now content → executed ≡ content.executed → Comes follow.now content (delivery_value delivery.now) (state S.Store conn.old) (state S.Store conn.new) result.0 result.1 }
+    ensures crash { (content : Content) → IsAtRest (state S.Store conn.old) follow.now content → executed ≡ content.executed → Survives (state S.Store conn.old) (state S.Store conn.new) (MayMove follow.now content (delivery_value delivery.now) (state S.Store conn.old) result.1) }
+    ensures memory { result.1 ≡ Err Memory → conn.new ≡ conn.old }
+{
+    let beside = around(&executed, delivery.gtid);
+    let reserved = match executed.reserve(delivery.gtid) {
+        Ok(reserved) => reserved,
+        Err(executed) => return (executed, Err(StoreFault::Memory)),
+    };
+    match run(conn, follow, delivery, &beside) {
+        Ok(None) => (reserved.insert(), Ok(Applied::Done)),
+        Ok(Some((at, why))) => (reserved.release(), Err(refuse(conn, at, why))),
+        Err(error) => (reserved.release(), Err(StoreFault::Database(error))),
+    }
+}
+
+/// Whether the database has to be opened again after this answer.
+fn breaks(answer: &Result<Applied, StoreFault>) -> bool
+    ensures { result ≡ breaks answer.now }
+{
+    matches!(
+        answer,
+        Err(StoreFault::Database(_)) | Err(StoreFault::Memory)
+    )
+}
+
+impl<S: Alter> Store<S> {
+    /// Takes a transaction of the source: its changes in order and its GTID, all of it or nothing. Changes of tables
+    /// that are not followed are passed over.
+    ///
+    /// - `Done`: the changes are made and the transaction is executed.
+    /// - `Repeat`: it was executed before. No statement was run, and no memory was taken.
+    ///
+    /// The faults:
+    /// - `NoSuchRow` and `CountFull` name the first change that cannot be made. Nothing has changed, and the store can be
+    ///   used further.
+    /// - `Database` where the database failed, and `Memory` where an allocation was refused. The database is as before,
+    ///   and this call, `count` and `list` answer `Broken` from now on.
+    /// - `Broken` after one of these two.
+    pub fn apply(&mut self, delivery: &Delivery) -> Result<Applied, StoreFault>
+        ensures applies { HasCleanDisk (state S.Store self.new.conn) → (content : Content) → Holds S.Store self.old content → Applies S.Store content (delivery_value delivery.now) self.old self.new result }
+        ensures broken { self.old.broken ≡ true → (result ≡ Err Broken) × (self.new ≡ self.old) }
+        ensures following { self.new.following ≡ self.old.following }
+        ensures crash { HasCleanDisk (state S.Store self.new.conn) → (content : Content) → Holds S.Store self.old content → (trees : _) → (state S.Store self.new.conn).may_leave trees
+            → Leaves (state S.Store self.old.conn).now.schema self.old.following content (delivery_value delivery.now) result trees }
+    {
+        if self.broken {
+            return Err(StoreFault::Broken);
+        }
+        if self.executed.contains(delivery.gtid) {
+            return Ok(Applied::Repeat);
+        }
+        let executed = mem::replace(&mut self.executed, GtidSet::new(self.alloc));
+        let (executed, answer) = take(&mut self.conn, &self.following, executed, delivery);
+        self.executed = executed;
+        self.broken = breaks(&answer);
+        answer
+    }
+}
