@@ -55,7 +55,7 @@ module _ (schema table : List ℕ) (cells : List CellValue) (bytes : List ℕ) (
   key_is : key_of schema table bytes ≡ key_for (row_of schema table cells)
   key_is = ap (key_of schema table) is.bytes_are
 
-  at_row : (counts : Counts) → bag_of counts (row_of schema table cells) ≡ counts (key_of schema table bytes)
+  pub at_row : (counts : Counts) → bag_of counts (row_of schema table cells) ≡ counts (key_of schema table bytes)
   at_row counts = rw (image_has cells is.has_image) (ap counts (sym key_is))
 
   apart : (r : TableRow) → has_image r.cells ≡ true → r ≢ row_of schema table cells → same_key (key_of schema table bytes) (key_for r) ≡ false

@@ -19,3 +19,4 @@ pub mod Filled
 pub mod Ran
 pub mod Keeps
 pub mod Taken
+pub mod Counted

@@ -1,5 +1,5 @@
 -- What a store holds, and what taking a transaction makes of it.
-use Rattle.std.specs.Prelude.{◌≡◌, ◌⊎◌, Bool, true, false, IsTrue, Result, Ok, Err}
+use Rattle.std.specs.Prelude.{◌≡◌, ◌⊎◌, ℕ, Bool, true, false, IsTrue, Result, Ok, Err}
 use Rattle.sqlite_trees.specs.declared.store.Store.{Ghosts}
 use Rattle.sqlite_trees.specs.Tree.{Trees}
 use Rattle.sqlite_schema.specs.declared.schema.Schema.{Schema}
@@ -14,7 +14,7 @@ use Rattle.store.specs.declared.fault.Applied.TheVariants.{Done, Repeat}
 use Rattle.store.specs.declared.fault.StoreFault.{StoreFault}
 use Rattle.store.specs.declared.fault.StoreFault.TheVariants.{NoSuchRow, CountFull, Database, Memory, Damaged, Layout, Broken, Follows}
 use Rattle.store.specs.declared.store.Store.{Store}
-use Rattle.store.specs.State.{Content}
+use Rattle.store.specs.State.{Content, TableRow}
 use Rattle.store.specs.Take.{Takes, is_executed, done, repeat, refused}
 use Rattle.store.specs.Rows.{StandsFor}
 use Rattle.store.specs.Apply.{IsAtRest, IsTaken}
@@ -48,6 +48,13 @@ module _ {S : Type 0} (g : Ghosts S) where
   Applies content d old new (Err (Database e)) = (is_executed content d ≡ false) × HasFailed new content
   Applies content d old new (Err Memory) = (is_executed content d ≡ false) × HasFailed new content × (new.conn ≡ old.conn)
   Applies content d old new (Err _) = ⊥
+
+  -- The number of copies of a row is answered, and the store holds the same. So it does after a failure, where the
+  -- connection is still open.
+  abbrev pub Counts : Content → TableRow → Store S g → Result ℕ StoreFault → Type 0
+  Counts content row new (Ok n) = (n ≡ content.rows row) × Holds new content
+  Counts content row new (Err (Database e)) = IsTrue (state g new.conn).is_open → Holds new content
+  Counts content row new (Err _) = ⊥
 
 -- Under this schema the trees stand for the content.
 abbrev pub AreOf : Schema → Names → Content → Trees → Type 0

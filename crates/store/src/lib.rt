@@ -4,6 +4,7 @@
 mod apply;
 mod beside;
 mod change;
+mod counting;
 mod fault;
 mod rows;
 mod spans;

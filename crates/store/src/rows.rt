@@ -38,7 +38,7 @@ fn look_up<S: Alter>(tx: &mut Transaction<'_, S>, row: &RowKey<'_>) -> Result<Ve
 }
 
 /// The one count among the rows of an answer.
-fn one_count(rows: &[Row]) -> Result<Option<u64>, Error>
+pub(crate) fn one_count(rows: &[Row]) -> Result<Option<u64>, Error>
     ensures is { IfOk result (IsCount rows.now) }
     ensures fits { IfOk result (λ found. IfSome found (λ n. n < 2 ^ 63)) }
 {

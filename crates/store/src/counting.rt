@@ -1,0 +1,79 @@
+//! How often a row is there.
+
+ghost use Rattle.std.specs.Prelude.{◌≡◌, true, false, Err, IfOk, OnOk, IsPermutation, map, filter, [], ◌∷◌};
+ghost use Rattle.sqlite.specs.State.{HasCleanDisk, Survives, IsUnchanged};
+ghost use Rattle.sqlite.specs.Held.{state};
+ghost use Rattle.sqlite_value.specs.Order.{column};
+ghost use Rattle.store.specs.State.{Content, row_of};
+ghost use Rattle.store.specs.Layout.{IsLaidOut};
+ghost use Rattle.store.specs.Rows.{key_in, is_at, held_rows, count};
+ghost use Rattle.store.specs.Apply.{Rests};
+ghost use Rattle.store.specs.Store.{Holds, Counts, AreOf};
+ghost use Rattle.store.specs.declared.fault.StoreFault.TheVariants.{Broken};
+
+use crate::fault::StoreFault;
+use crate::rows::{RowKey, one_count};
+use crate::store::Store;
+use gather::Image;
+use sqlite::types::ValueRef;
+use sqlite::{Alter, Connection, Error, Row};
+
+/// The counts that are stored for a row.
+fn find<S: Alter>(conn: &mut Connection<S>, row: &RowKey<'_>) -> Result<Vec<Row>, Error>
+    requires { conn.old.in_transaction ≡ false }
+    ensures autocommit { conn.new.in_transaction ≡ false }
+    ensures shown { HasCleanDisk (state S.Store conn.new) → IsLaidOut (state S.Store conn.old).now.schema → IfOk result (λ rows. IsPermutation (map (λ r. column r 4 ∷ []) (filter (is_at (key_in row.now)) (held_rows (state S.Store conn.old).now))) rows.items) }
+    ensures same { HasCleanDisk (state S.Store conn.new) → IsLaidOut (state S.Store conn.old).now.schema → OnOk result (IsUnchanged (state S.Store conn.old) (state S.Store conn.new)) }
+    ensures rests { HasCleanDisk (state S.Store conn.new) → IsLaidOut (state S.Store conn.old).now.schema → (state S.Store conn.old).now ≡ (state S.Store conn.old).committed → Rests (state S.Store conn.old) (state S.Store conn.new) }
+    ensures survives { IsLaidOut (state S.Store conn.old).now.schema → Survives (state S.Store conn.old) (state S.Store conn.new) (λ _. ⊥) }
+{
+    conn.query_all(
+        "SELECT n FROM held WHERE schema_name = ?1 AND table_name = ?2 AND image = ?3",
+        &[
+            ValueRef::Blob(row.schema),
+            ValueRef::Blob(row.table),
+            ValueRef::Blob(row.image),
+        ],
+    )
+}
+
+/// How often a row is stored.
+fn count<S: Alter>(conn: &mut Connection<S>, row: &RowKey<'_>) -> Result<u64, Error>
+    requires { conn.old.in_transaction ≡ false }
+    ensures autocommit { conn.new.in_transaction ≡ false }
+    ensures counts { HasCleanDisk (state S.Store conn.new) → IsLaidOut (state S.Store conn.old).now.schema → IfOk result (λ n. n ≡ count (held_rows (state S.Store conn.old).now) (key_in row.now)) }
+    ensures same { HasCleanDisk (state S.Store conn.new) → IsLaidOut (state S.Store conn.old).now.schema → OnOk result (IsUnchanged (state S.Store conn.old) (state S.Store conn.new)) }
+    ensures rests { HasCleanDisk (state S.Store conn.new) → IsLaidOut (state S.Store conn.old).now.schema → (state S.Store conn.old).now ≡ (state S.Store conn.old).committed → Rests (state S.Store conn.old) (state S.Store conn.new) }
+    ensures survives { IsLaidOut (state S.Store conn.old).now.schema → Survives (state S.Store conn.old) (state S.Store conn.new) (λ _. ⊥) }
+{
+    let rows = find(conn, row)?;
+    let found = one_count(rows.as_slice())?;
+    Ok(found.unwrap_or(0))
+}
+
+impl<S: Alter> Store<S> {
+    /// How often a row of a schema's table is there. Nothing changes, and the store can be used further after each fault
+    /// but `Broken`.
+    ///
+    /// The faults: `Database` where the database failed, `Broken` after an earlier failure of `apply`.
+    pub fn count(&mut self, schema: &[u8], table: &[u8], image: &Image) -> Result<u64, StoreFault>
+        ensures counts { HasCleanDisk (state S.Store self.new.conn) → (content : Content) → Holds S.Store self.old content → Counts S.Store content (row_of schema.now table.now image.now) self.new result }
+        ensures broken { self.old.broken ≡ true → (result ≡ Err Broken) × (self.new ≡ self.old) }
+        ensures following { self.new.following ≡ self.old.following }
+        ensures crash { HasCleanDisk (state S.Store self.new.conn) → (content : Content) → Holds S.Store self.old content → (trees : _) → (state S.Store self.new.conn).may_leave trees
+            → AreOf (state S.Store self.old.conn).now.schema self.old.following content trees }
+    {
+        if self.broken {
+            return Err(StoreFault::Broken);
+        }
+        let row = RowKey {
+            schema,
+            table,
+            image: image.bytes(),
+        };
+        match count(&mut self.conn, &row) {
+            Ok(n) => Ok(n),
+            Err(error) => Err(StoreFault::Database(error)),
+        }
+    }
+}
