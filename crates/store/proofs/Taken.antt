@@ -119,16 +119,16 @@ module _ {S : Type 0} (g : Ghosts S) (content : Content) (d : DeliveryValue) (ol
   applied (Err Follows) was out names broken memory it = absurd it
 
 -- ---- what a crash leaves
-module _ {S : Type 0} (g : Ghosts S) (names : Names) (content : Content) (d : DeliveryValue) (old new : Held S)
+module _ {S : Type 0} (g : Ghosts S) (names : Names) (content : Content)
     (settled : (h : Held S) (db : Trees) → IsTrue (state g h).is_open → (state g h).may_leave db → db ≡ (state g h).committed.trees) where
-  stays : (h : Held S) (db : Trees) → (r : IsAtRest (state g h) names content) → (state g h).may_leave db → AreOf h.schema names content db
+  pub stays : (h : Held S) (db : Trees) → (r : IsAtRest (state g h) names content) → (state g h).may_leave db → AreOf h.schema names content db
   stays h db r left =
       let trees : db ≡ (state g h).now.trees = settled h db r.is_open left ∙ sym (ap (λ (b : Stored). b.trees) r.settled) in
       subst (λ t. AreOf h.schema names content t) (sym trees) r.stands
 
-  pub left_whole : (r : Result Applied StoreFault) (executed : Ids) (trees : Trees) → IsAtRest (state g old) names content → Comes names content d (state g old) (state g new) executed r
+  pub left_whole : (d : DeliveryValue) (old new : Held S) (r : Result Applied StoreFault) (executed : Ids) (trees : Trees) → IsAtRest (state g old) names content → Comes names content d (state g old) (state g new) executed r
       → (state g old).may_leave trees ⊎ MayMove names content d (state g old) r trees → (state g new).may_leave trees → Leaves old.schema names content d r trees
-  left_whole (Ok Done) executed trees rest it (inl was) left =
+  left_whole d old new (Ok Done) executed trees rest it (inl was) left =
       let rest_new = it.taken.rest in
       let trees_are : trees ≡ (state g new).now.trees = settled new trees rest_new.is_open left ∙ sym (ap (λ (b : Stored). b.trees) rest_new.settled) in
       record {
@@ -136,17 +136,17 @@ module _ {S : Type 0} (g : Ghosts S) (names : Names) (content : Content) (d : De
         takes = it.taken.takes;
         stands = subst₂ (λ s t. StandsFor (record { schema = s; trees = t }) names it.taken.after) it.schema (sym trees_are) rest_new.stands;
       }
-  left_whole (Ok Done) executed trees rest it (inr may) left = may
-  left_whole (Ok Repeat) executed trees rest it was left = absurd it
-  left_whole (Err (NoSuchRow at)) executed trees rest it (inl was) left = stays old trees rest was
-  left_whole (Err (NoSuchRow at)) executed trees rest it (inr may) left = absurd may
-  left_whole (Err (CountFull at)) executed trees rest it (inl was) left = stays old trees rest was
-  left_whole (Err (CountFull at)) executed trees rest it (inr may) left = absurd may
-  left_whole (Err (Database e)) executed trees rest it (inl was) left = inl (stays old trees rest was)
-  left_whole (Err (Database e)) executed trees rest it (inr may) left = inr may
-  left_whole (Err Memory) executed trees rest it (inl was) left = stays old trees rest was
-  left_whole (Err Memory) executed trees rest it (inr may) left = absurd may
-  left_whole (Err Damaged) executed trees rest it was left = absurd it
-  left_whole (Err (Layout n)) executed trees rest it was left = absurd it
-  left_whole (Err Broken) executed trees rest it was left = absurd it
-  left_whole (Err Follows) executed trees rest it was left = absurd it
+  left_whole d old new (Ok Done) executed trees rest it (inr may) left = may
+  left_whole d old new (Ok Repeat) executed trees rest it was left = absurd it
+  left_whole d old new (Err (NoSuchRow at)) executed trees rest it (inl was) left = stays old trees rest was
+  left_whole d old new (Err (NoSuchRow at)) executed trees rest it (inr may) left = absurd may
+  left_whole d old new (Err (CountFull at)) executed trees rest it (inl was) left = stays old trees rest was
+  left_whole d old new (Err (CountFull at)) executed trees rest it (inr may) left = absurd may
+  left_whole d old new (Err (Database e)) executed trees rest it (inl was) left = inl (stays old trees rest was)
+  left_whole d old new (Err (Database e)) executed trees rest it (inr may) left = inr may
+  left_whole d old new (Err Memory) executed trees rest it (inl was) left = stays old trees rest was
+  left_whole d old new (Err Memory) executed trees rest it (inr may) left = absurd may
+  left_whole d old new (Err Damaged) executed trees rest it was left = absurd it
+  left_whole d old new (Err (Layout n)) executed trees rest it was left = absurd it
+  left_whole d old new (Err Broken) executed trees rest it was left = absurd it
+  left_whole d old new (Err Follows) executed trees rest it was left = absurd it

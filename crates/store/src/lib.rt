@@ -6,6 +6,7 @@ mod beside;
 mod change;
 mod counting;
 mod fault;
+pub mod laws;
 mod rows;
 mod spans;
 mod store;

@@ -19,5 +19,5 @@ pub returns-clause-crash : goal.returns-clause-crash
 returns-clause-crash g c clean content was trees left =
     let d = delivery_value c.args.delivery.now in
     let same = c.replace-executed.ensures.value ∙ was.executed in
-    left_whole g.S.Store c.args.self.now.following content d c.args.self.now.conn c.take-executed.new.conn (λ h db is_open may. g.met.S.Store.settled h.store db is_open may) c.take-executed.result.1 c.take-executed.result.0 trees was.rest
+    left_whole g.S.Store c.args.self.now.following content (λ h db is_open may. g.met.S.Store.settled h.store db is_open may) d c.args.self.now.conn c.take-executed.new.conn c.take-executed.result.1 c.take-executed.result.0 trees was.rest
     (c.take-executed.ensures.comes clean content was.rest same) ((c.take-executed.ensures.crash content was.rest same).crash clean trees left) left

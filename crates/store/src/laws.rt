@@ -1,0 +1,22 @@
+//! What callers rely on, as laws about the definitions.
+//!
+//! A law is a function with an empty body: its clauses are proved of the definitions themselves.
+
+ghost use Rattle.std.specs.Prelude.{◌≡◌};
+ghost use Rattle.sqlite.specs.Held.{state};
+ghost use Rattle.store.specs.State.{Content};
+ghost use Rattle.store.specs.Store.{Holds, AreOf};
+
+use crate::store::Store;
+use sqlite::Alter;
+
+/// A store holds one content.
+pub fn one_content<S: Alter>(_store: &Store<S>)
+    ensures { (a : Content) → (b : Content) → Holds S.Store _store.now a → Holds S.Store _store.now b → a ≡ b }
+{}
+
+/// A crash leaves what a whole store holds, and nothing else.
+pub fn left_over_a_crash<S: Alter>(_store: &Store<S>)
+    ensures { (content : Content) → Holds S.Store _store.now content → (trees : _) → (state S.Store _store.now.conn).may_leave trees
+        → AreOf (state S.Store _store.now.conn).now.schema _store.now.following content trees }
+{}
