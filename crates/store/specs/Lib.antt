@@ -5,3 +5,4 @@ pub mod Rows
 pub mod Inside
 pub mod Apply
 pub mod Open
+pub mod Making
