@@ -21,3 +21,7 @@ pub mod Keeps
 pub mod MakingTexts
 pub mod Making
 pub mod Filling
+pub mod MigratingTexts
+pub mod Migrating
+pub mod Migrated
+pub mod Committed

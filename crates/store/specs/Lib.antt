@@ -6,3 +6,4 @@ pub mod Inside
 pub mod Apply
 pub mod Open
 pub mod Making
+pub mod Migrating

@@ -6,6 +6,7 @@ mod beside;
 mod change;
 mod fault;
 mod make;
+mod migrate;
 mod rows;
 mod spans;
 
