@@ -11,3 +11,6 @@ mod rows;
 mod spans;
 
 pub use fault::{Applied, StoreFault};
+
+#[cfg(test)]
+mod tests;
