@@ -20,3 +20,10 @@ pub mod Ran
 pub mod Keeps
 pub mod Taken
 pub mod Counted
+pub mod MakingTexts
+pub mod Making
+pub mod Filling
+pub mod MigratingTexts
+pub mod Migrating
+pub mod Migrated
+pub mod Committed

@@ -7,6 +7,8 @@ mod change;
 mod counting;
 mod fault;
 pub mod laws;
+mod make;
+mod migrate;
 mod rows;
 mod spans;
 mod store;
@@ -14,3 +16,6 @@ mod taking;
 
 pub use fault::{Applied, StoreFault};
 pub use store::Store;
+
+#[cfg(test)]
+mod tests;

@@ -1,0 +1,106 @@
+-- From the tables of a new database to what it stands for.
+use Rattle.std.proofs.Common.{◌≡◌, ◌+◌, ◌<◌, ℕ, Bool, true, false, cond, Vec, List, [], ◌∷◌, ◌++◌, take, get_or, length, codes, pos, Ok, Err, Result, OnOk, refl, sym, ap, subst, ◌∙◌, add-one}
+use Rattle.std.proofs.Math.Seq.{take-suc}
+use Rattle.std.proofs.Math.ListN.{get_or-map}
+use Rattle.std.proofs.lemmas.List.{length-map}
+use Rattle.std.specs.List.{IsDistinct}
+use Rattle.std.specs.FinSet as set
+use Rattle.std.proofs.lemmas.List.Sorted.{IsPermutation-refl}
+use Rattle.sqlite.specs.State.{State}
+use Rattle.gtid.specs.Identifier.{id_cmp}
+use Rattle.binlog.specs.Follow.{Name, Names, name_cmp}
+use Rattle.binlog.specs.FollowView.{names_of}
+use Rattle.binlog.proofs.Followed.{name_cmp_total, name_cmp-same}
+use Rattle.store.specs.Layout.{IsLaidOut, made, tree_at}
+use Rattle.store.specs.Rows.{AreSpans, AreLeast, HasRowids, bag_of, count, meta_rows, held_rows, span_rows}
+use Rattle.store.specs.State.{has_image}
+use Rattle.store.specs.Open.{nothing}
+use Rattle.store.specs.Making.{IsNaming, HasMade, new_layout, layout_row}
+use Rattle.store.proofs.RowLemmas.{same_function}
+
+-- ---- the names so far
+
+abbrev name_of : {A : Type 0} → Vec ℕ A × Vec ℕ A → Name
+name_of p = (p.0.items, p.1.items)
+
+module _ {A : Type 0} (names : List (Vec ℕ A × Vec ℕ A)) (at : ℕ) (name : Vec ℕ A × Vec ℕ A) (low : at < length names) (is : name ≡ get_or names at name) where
+  value_is : name_of name ≡ get_or (names_of names) at (name_of name)
+  value_is = ap name_of is ∙ sym (get_or-map name_of names at name)
+
+  within : at < length (names_of names)
+  within = rw (length-map names name_of) low
+
+  one_more : take (at + 1) (names_of names) ≡ take at (names_of names) ++ name_of name ∷ []
+  one_more = rw add-one (take-suc (names_of names) at (name_of name) within ∙ ap (λ v. take at (names_of names) ++ v ∷ []) (sym value_is))
+
+  pub one_name : set.from_list {R = name_cmp} (take (at + 1) (names_of names)) ≡ set.insert (set.from_list (take at (names_of names))) (name_of name)
+  one_name = ap (λ l. set.from_list {R = name_cmp} l) one_more ∙ set.from_list_push name_cmp_total name_cmp-same (take at (names_of names)) (name_of name)
+
+-- ---- a database with no rows
+
+pub no_rows : nothing.rows ≡ bag_of (count [])
+no_rows = same_function nothing.rows (bag_of (count [])) (λ r. go (has_image r.cells))
+  where
+    go : (b : Bool) → ◌≡◌ {A = ℕ} 0 (cond b 0 0)
+    go true = refl
+    go false = refl
+
+none_least : AreLeast [] set.empty
+unfolding IsDistinct
+none_least = record { some = tt; apart = tt; covers = λ q. set.contains-empty id_cmp q }
+
+pub no_spans : AreSpans [] set.empty
+no_spans = record {
+  spans = [];
+  least = none_least;
+  lawful = λ q there. absurd (let out = set.contains-empty id_cmp q in cc);
+  rows_are = IsPermutation-refl [];
+}
+
+pub no_rowids : HasRowids []
+unfolding IsDistinct
+no_rowids = record { apart = tt; keyed = tt }
+
+laid_out : IsLaidOut new_layout
+laid_out = record { origin = made; others = []; indexes = new_layout.indexes; views = []; is = refl; held_free = tt; spans_free = tt }
+
+module _ (s : State) (names : Names) (was : IsNaming names s) where
+  rows_at : (at : ℕ) → s.now.trees (tree_at s.now.schema at) ≡ s.now.trees (tree_at new_layout at)
+  rows_at at = ap (λ k. s.now.trees (tree_at k at)) was.schema_is
+
+  meta_is : meta_rows s.now ≡ layout_row ∷ []
+  meta_is = rows_at 0 ∙ was.meta
+
+  held_is : held_rows s.now ≡ []
+  held_is = rows_at 1 ∙ was.held
+
+  spans_is : span_rows s.now ≡ []
+  spans_is = rows_at 2 ∙ was.spans
+
+  new_laid_out : IsLaidOut s.now.schema
+  new_laid_out = subst IsLaidOut (sym was.schema_is) laid_out
+
+  pub has_made : HasMade s names nothing
+  has_made = record {
+    working = record {
+      is_open = was.is_open;
+      inside = was.inside;
+      laid_out = new_laid_out;
+      held_apart = rw held_is no_rowids;
+      spans_apart = rw spans_is no_rowids;
+      lawful = rw held_is tt;
+    };
+    stands = record {
+      laid_out = new_laid_out;
+      says = rw meta_is refl;
+      meta = rw meta_is ((pos 1, codes "layout", pos 2, refl), tt);
+      follow = rw (rows_at 3) was.follow;
+      held = rw held_is tt;
+      executed = rw spans_is no_spans;
+      rows = rw held_is no_rows;
+    };
+  }
+
+pub made_of : {E : Type 0} (s : State) (a b : Names) (r : Result (Unit {0}) E) → a ≡ b → OnOk r (IsNaming a s) → OnOk r (HasMade s b nothing)
+made_of s a b (Ok u) same was = has_made s b (subst (λ n. IsNaming n s) same was)
+made_of s a b (Err e) same was = tt

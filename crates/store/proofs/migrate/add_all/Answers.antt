@@ -1,0 +1,26 @@
+use Rattle.std.proofs.Common.{subst, rules, arith}
+use Rattle.sqlite.specs.State.{HasCleanDisk}
+use Rattle.sqlite.specs.Held.{state}
+use Rattle.store.specs.Migrating.{HasLeft}
+use Rattle.store.proofs.Keeps.{kept_then, inside_then}
+use Rattle.store.proofs.Migrated.{left_less}
+use Rattle.store.proofs.migrate.add_all.Goals as goal
+
+pub loop-span-preserved : goal.loop-span-preserved
+loop-span-preserved g c = record {
+  same_reference = search rules;
+  under_way = λ clean was.
+      let old = state g.S.Store c.args.tx.now.conn.now in
+      let mid = state g.S.Store c.loop-span.tx.conn.now in
+      let new = state g.S.Store c.add.new.tx.conn.now in
+      let early : HasCleanDisk mid = omega (arith, c.add.ensures.survives.clean) in
+      let way = c.loop-span.invariant.under_way early was in
+      left_less old mid new c.args.spans c.next.new.self c.in-Some.span (subst (HasLeft old mid c.args.spans) c.in-Some.ensures.steps way)
+      (c.in_ok-add.ensures.moves clean way.on.working);
+  kept = λ clean was.
+      let mid = state g.S.Store c.loop-span.tx.conn.now in
+      let early : HasCleanDisk mid = omega (arith, c.add.ensures.survives.clean) in
+      let way = c.loop-span.invariant.under_way early was in
+      kept_then (state g.S.Store c.args.tx.now.conn.now) mid (state g.S.Store c.add.new.tx.conn.now) (c.loop-span.invariant.kept early was) (c.in_ok-add.ensures.kept clean way.on.working);
+  survives = inside_then (state g.S.Store c.args.tx.now.conn.now) (state g.S.Store c.loop-span.tx.conn.now) (state g.S.Store c.add.new.tx.conn.now) c.loop-span.invariant.survives c.add.ensures.survives;
+}

@@ -1,0 +1,53 @@
+use Rattle.std.proofs.Common.{◌≡◌, true, OnErr, rules, arith}
+use Rattle.sqlite.specs.State.{HasCleanDisk, KeepsCommit, Survives}
+use Rattle.sqlite.specs.Held.{state}
+use Rattle.sqlite.proofs.Callers.{survives_begin}
+use Rattle.sqlite.proofs.StateLemmas.{survives_then}
+use Rattle.store.specs.Inside.{IsWorking}
+use Rattle.store.specs.Apply.{Rests}
+use Rattle.store.specs.Open.{all, MayStandFor}
+use Rattle.store.specs.Making.{HasMade}
+use Rattle.store.proofs.Ran.{rests_rolled}
+use Rattle.store.proofs.Committed.{first_inside, rests_unless, may_stand}
+use Rattle.store.proofs.migrate.migrate.Goals as goal
+
+pub returns-in_err-convert-clause-refused : goal.returns-in_err-convert-clause-refused
+returns-in_err-convert-clause-refused g c clean content rest =
+    let h = c.args.conn.now in
+    let t = state g.S.Store (record h { in_transaction = true }) in
+    let m = state g.S.Store c.convert.new.tx.conn.now in
+    let n = state g.S.Store c.drop-tx.new.self.0 in
+    let begun = first_inside g.S.Store h content rest in
+    let late : HasCleanDisk n = search (rules, clean) in
+    let early : HasCleanDisk m = omega (arith, c.drop-tx.ensures.survives.clean, late) in
+    let kept : KeepsCommit t m = (rw c.transaction-tx.ensures.begun at c.in_err-convert.ensures.kept) early content begun in
+    let rests : Rests (state g.S.Store h) n = rests_rolled t m n rest.settled kept (c.drop-tx.ensures.undone late) in
+    search (rules, rests)
+
+pub returns-clause-refused : goal.returns-clause-refused
+returns-clause-refused g c clean content rest =
+    let h = c.args.conn.now in
+    let t = state g.S.Store (record h { in_transaction = true }) in
+    let m = state g.S.Store c.convert.new.tx.conn.now in
+    let n = state g.S.Store c.commit.new.self.0 in
+    let begun = first_inside g.S.Store h content rest in
+    let late : HasCleanDisk n = search (rules, clean) in
+    let early : HasCleanDisk m = omega (arith, c.commit.ensures.survives.clean, late) in
+    let kept : KeepsCommit t m = (rw c.transaction-tx.ensures.begun at c.in_ok-convert.ensures.kept) early content begun in
+    let working : IsWorking m = (rw c.transaction-tx.ensures.begun at c.in_ok-convert.ensures.working) early content begun in
+    let refused : OnErr c.commit.result (Rests (state g.S.Store h) n) = rests_unless t m n c.commit.result rest.settled kept working.inside (c.commit.ensures.err late) in
+    search (rules, refused)
+
+pub returns-clause-crash : goal.returns-clause-crash
+returns-clause-crash g c content rest is =
+    let h = c.args.conn.now in
+    let t = state g.S.Store (record h { in_transaction = true }) in
+    let m = state g.S.Store c.convert.new.tx.conn.now in
+    let n = state g.S.Store c.commit.new.self.0 in
+    let begun = first_inside g.S.Store h content rest in
+    let made : HasCleanDisk m → HasMade m all content = λ early. (rw c.transaction-tx.ensures.begun at c.in_ok-convert.ensures.made) early content begun is in
+    let survives : Survives (state g.S.Store h) n (MayStandFor all content) =
+    survives_begin g.S.Store h n (MayStandFor all content) (survives_then t m n (λ _. ⊥) (λ db. db ≡ m.now.trees) (MayStandFor all content) (λ _ db none. absurd none)
+    (λ clean db is. may_stand all content m db (made (omega (arith, c.commit.ensures.survives.clean, clean))) is)
+    (rw c.transaction-tx.ensures.begun at c.in_ok-convert.ensures.survives) c.commit.ensures.survives) in
+    search (rules, survives)

@@ -1,0 +1,130 @@
+//! From layout 1 to layout 2.
+
+ghost use Rattle.std.specs.Prelude.{◌≡◌, false, pos, [], ◌∷◌, OnOk, OnErr};
+ghost use Rattle.sqlite.specs.State.{HasCleanDisk, Survives, KeepsCommit};
+ghost use Rattle.sqlite.specs.Held.{state};
+ghost use Rattle.store.specs.State.{Content};
+ghost use Rattle.store.specs.Layout.{first_layout};
+ghost use Rattle.store.specs.Rows.{stored_span, span_rows, shown_spans};
+ghost use Rattle.store.specs.Inside.{IsWorking, Moves};
+ghost use Rattle.store.specs.Apply.{IsAtRest, Rests};
+ghost use Rattle.store.specs.Open.{all, IsFirstAtRest, MayStandFor};
+ghost use Rattle.store.specs.Making.{HasMade};
+ghost use Rattle.store.specs.Migrating.{without_executed, migrated_spans, migrated_layout, IsFirstInside, IsMigrating, HasLeft};
+
+use crate::spans::add_span;
+use gtid::{GtidSet, Span, Spans};
+use sqlite::{Alter, Connection, Error, Transaction};
+
+fn drop_executed<S: Alter>(tx: &mut Transaction<'_, S>) -> Result<usize, Error>
+    ensures same_reference { tx.new.conn.ghost_name ≡ tx.old.conn.ghost_name }
+    ensures migrated { HasCleanDisk (state S.Store tx.new.conn.now) → (content : Content) → IsMigrating first_layout (pos 1) [] content (state S.Store tx.old.conn.now) → OnOk result (IsMigrating without_executed (pos 1) [] content (state S.Store tx.new.conn.now)) }
+    ensures kept { HasCleanDisk (state S.Store tx.new.conn.now) → (content : Content) → IsMigrating first_layout (pos 1) [] content (state S.Store tx.old.conn.now) → KeepsCommit (state S.Store tx.old.conn.now) (state S.Store tx.new.conn.now) }
+    ensures survives { Survives (state S.Store tx.old.conn.now) (state S.Store tx.new.conn.now) (λ _. ⊥) }
+{
+    tx.execute("DROP TABLE executed", &[])
+}
+
+fn make_spans<S: Alter>(tx: &mut Transaction<'_, S>) -> Result<usize, Error>
+    ensures same_reference { tx.new.conn.ghost_name ≡ tx.old.conn.ghost_name }
+    ensures migrated { HasCleanDisk (state S.Store tx.new.conn.now) → (content : Content) → IsMigrating without_executed (pos 1) [] content (state S.Store tx.old.conn.now) → OnOk result (IsMigrating migrated_spans (pos 1) (6 ∷ []) content (state S.Store tx.new.conn.now)) }
+    ensures kept { HasCleanDisk (state S.Store tx.new.conn.now) → (content : Content) → IsMigrating without_executed (pos 1) [] content (state S.Store tx.old.conn.now) → KeepsCommit (state S.Store tx.old.conn.now) (state S.Store tx.new.conn.now) }
+    ensures survives { Survives (state S.Store tx.old.conn.now) (state S.Store tx.new.conn.now) (λ _. ⊥) }
+{
+    tx.execute(
+        "CREATE TABLE spans (source BLOB NOT NULL, lo INTEGER NOT NULL, hi INTEGER NOT NULL, PRIMARY KEY (source, lo))",
+        &[],
+    )
+}
+
+fn make_follow<S: Alter>(tx: &mut Transaction<'_, S>) -> Result<usize, Error>
+    ensures same_reference { tx.new.conn.ghost_name ≡ tx.old.conn.ghost_name }
+    ensures migrated { HasCleanDisk (state S.Store tx.new.conn.now) → (content : Content) → IsMigrating migrated_spans (pos 1) (6 ∷ []) content (state S.Store tx.old.conn.now) → OnOk result (IsMigrating migrated_layout (pos 1) (6 ∷ 8 ∷ []) content (state S.Store tx.new.conn.now)) }
+    ensures kept { HasCleanDisk (state S.Store tx.new.conn.now) → (content : Content) → IsMigrating migrated_spans (pos 1) (6 ∷ []) content (state S.Store tx.old.conn.now) → KeepsCommit (state S.Store tx.old.conn.now) (state S.Store tx.new.conn.now) }
+    ensures survives { Survives (state S.Store tx.old.conn.now) (state S.Store tx.new.conn.now) (λ _. ⊥) }
+{
+    tx.execute(
+        "CREATE TABLE follow (schema_name BLOB NOT NULL, table_name BLOB NOT NULL, PRIMARY KEY (schema_name, table_name))",
+        &[],
+    )
+}
+
+/// Says that the tables are of layout 2. Other rows of `meta` stay.
+fn raise_layout<S: Alter>(tx: &mut Transaction<'_, S>) -> Result<usize, Error>
+    ensures same_reference { tx.new.conn.ghost_name ≡ tx.old.conn.ghost_name }
+    ensures migrated { HasCleanDisk (state S.Store tx.new.conn.now) → (content : Content) → IsMigrating migrated_layout (pos 1) (6 ∷ 8 ∷ []) content (state S.Store tx.old.conn.now) → OnOk result (IsMigrating migrated_layout (pos 2) (6 ∷ 8 ∷ []) content (state S.Store tx.new.conn.now)) }
+    ensures kept { HasCleanDisk (state S.Store tx.new.conn.now) → (content : Content) → IsMigrating migrated_layout (pos 1) (6 ∷ 8 ∷ []) content (state S.Store tx.old.conn.now) → KeepsCommit (state S.Store tx.old.conn.now) (state S.Store tx.new.conn.now) }
+    ensures survives { Survives (state S.Store tx.old.conn.now) (state S.Store tx.new.conn.now) (λ _. ⊥) }
+{
+    tx.execute("UPDATE meta SET v = 2 WHERE k = 'layout'", &[])
+}
+
+/// Makes the tables those of layout 2, with no spans yet.
+fn change_tables<S: Alter>(tx: &mut Transaction<'_, S>) -> Result<(), Error>
+    ensures same_reference { tx.new.conn.ghost_name ≡ tx.old.conn.ghost_name }
+    ensures migrated { HasCleanDisk (state S.Store tx.new.conn.now) → (content : Content) → IsMigrating first_layout (pos 1) [] content (state S.Store tx.old.conn.now) → OnOk result (IsMigrating migrated_layout (pos 2) (6 ∷ 8 ∷ []) content (state S.Store tx.new.conn.now)) }
+    ensures kept { HasCleanDisk (state S.Store tx.new.conn.now) → (content : Content) → IsMigrating first_layout (pos 1) [] content (state S.Store tx.old.conn.now) → KeepsCommit (state S.Store tx.old.conn.now) (state S.Store tx.new.conn.now) }
+    ensures survives { Survives (state S.Store tx.old.conn.now) (state S.Store tx.new.conn.now) (λ _. ⊥) }
+{
+    drop_executed(tx)?;
+    make_spans(tx)?;
+    make_follow(tx)?;
+    raise_layout(tx)?;
+    Ok(())
+}
+
+const END: u64 = 9_223_372_036_854_775_808;
+
+/// Puts in a span. One that the column cannot hold is refused.
+fn add<S: Alter>(tx: &mut Transaction<'_, S>, span: Span) -> Result<usize, Error>
+    ensures same_reference { tx.new.conn.ghost_name ≡ tx.old.conn.ghost_name }
+    ensures moves { HasCleanDisk (state S.Store tx.new.conn.now) → IsWorking (state S.Store tx.old.conn.now) → OnOk result (Moves (state S.Store tx.old.conn.now) (state S.Store tx.new.conn.now) (stored_span span ∷ shown_spans (span_rows (state S.Store tx.old.conn.now).now))) }
+    ensures kept { HasCleanDisk (state S.Store tx.new.conn.now) → IsWorking (state S.Store tx.old.conn.now) → KeepsCommit (state S.Store tx.old.conn.now) (state S.Store tx.new.conn.now) }
+    ensures survives { Survives (state S.Store tx.old.conn.now) (state S.Store tx.new.conn.now) (λ _. ⊥) }
+{
+    if span.lo >= END {
+        return Err(Error::IntegralValueOutOfRange(0));
+    }
+    if span.hi >= END {
+        return Err(Error::IntegralValueOutOfRange(0));
+    }
+    add_span(tx, &span.source, span.lo as i64, span.hi as i64)
+}
+
+/// Puts in the spans.
+fn add_all<S: Alter>(tx: &mut Transaction<'_, S>, spans: Spans<'_>) -> Result<(), Error>
+    ensures same_reference { tx.new.conn.ghost_name ≡ tx.old.conn.ghost_name }
+    ensures moves { HasCleanDisk (state S.Store tx.new.conn.now) → IsWorking (state S.Store tx.old.conn.now) → OnOk result (HasLeft (state S.Store tx.old.conn.now) (state S.Store tx.new.conn.now) spans.entry []) }
+    ensures kept { HasCleanDisk (state S.Store tx.new.conn.now) → IsWorking (state S.Store tx.old.conn.now) → KeepsCommit (state S.Store tx.old.conn.now) (state S.Store tx.new.conn.now) }
+    ensures survives { Survives (state S.Store tx.old.conn.now) (state S.Store tx.new.conn.now) (λ _. ⊥) }
+{
+    for span in spans {
+        add(tx, span)?;
+    }
+    Ok(())
+}
+
+/// Makes the tables those of layout 2, with the spans of the set.
+fn convert<S: Alter>(tx: &mut Transaction<'_, S>, executed: &GtidSet) -> Result<(), Error>
+    ensures same_reference { tx.new.conn.ghost_name ≡ tx.old.conn.ghost_name }
+    ensures made { HasCleanDisk (state S.Store tx.new.conn.now) → (content : Content) → IsFirstInside content (state S.Store tx.old.conn.now) → executed.now ≡ content.executed → OnOk result (HasMade (state S.Store tx.new.conn.now) all content) }
+    ensures working { HasCleanDisk (state S.Store tx.new.conn.now) → (content : Content) → IsFirstInside content (state S.Store tx.old.conn.now) → OnOk result (IsWorking (state S.Store tx.new.conn.now)) }
+    ensures kept { HasCleanDisk (state S.Store tx.new.conn.now) → (content : Content) → IsFirstInside content (state S.Store tx.old.conn.now) → KeepsCommit (state S.Store tx.old.conn.now) (state S.Store tx.new.conn.now) }
+    ensures survives { Survives (state S.Store tx.old.conn.now) (state S.Store tx.new.conn.now) (λ _. ⊥) }
+{
+    change_tables(tx)?;
+    add_all(tx, executed.spans())
+}
+
+/// Makes a database of layout 1, whose executed transactions are the set, one of layout 2, or leaves it as it is.
+pub(crate) fn migrate<S: Alter>(conn: &mut Connection<S>, executed: &GtidSet) -> Result<(), Error>
+    requires { conn.old.in_transaction ≡ false }
+    ensures autocommit { conn.new.in_transaction ≡ false }
+    ensures migrated { HasCleanDisk (state S.Store conn.new) → (content : Content) → IsFirstAtRest (state S.Store conn.old) content → executed.now ≡ content.executed → OnOk result (IsAtRest (state S.Store conn.new) all content) }
+    ensures refused { HasCleanDisk (state S.Store conn.new) → (content : Content) → IsFirstAtRest (state S.Store conn.old) content → OnErr result (Rests (state S.Store conn.old) (state S.Store conn.new)) }
+    ensures crash { (content : Content) → IsFirstAtRest (state S.Store conn.old) content → executed.now ≡ content.executed → Survives (state S.Store conn.old) (state S.Store conn.new) (MayStandFor all content) }
+{
+    let mut tx = conn.transaction();
+    convert(&mut tx, executed)?;
+    tx.commit()
+}
