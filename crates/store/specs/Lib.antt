@@ -5,9 +5,6 @@ pub mod Rows
 pub mod Inside
 pub mod Apply
 pub mod Open
-<<<<<<< HEAD
 pub mod Store
-=======
 pub mod Making
 pub mod Migrating
->>>>>>> 9cd11594035366460931850efa3385bfe2fcf562
