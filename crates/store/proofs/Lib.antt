@@ -18,3 +18,6 @@ pub mod SpanRecord
 pub mod Filled
 pub mod Ran
 pub mod Keeps
+pub mod Wholes
+pub mod Readings
+pub mod Judging

@@ -5,3 +5,5 @@ pub mod Rows
 pub mod Inside
 pub mod Apply
 pub mod Open
+pub mod Load
+pub mod Judge

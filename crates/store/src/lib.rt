@@ -5,6 +5,7 @@ mod apply;
 mod beside;
 mod change;
 mod fault;
+mod judge;
 mod rows;
 mod spans;
 
