@@ -1,7 +1,8 @@
 //! Whether rows keep the rules of their tables, and what they say.
 
-ghost use Rattle.std.specs.Prelude.{◌≡◌, true, map, IfOk, IfErr, MatchBool, MatchOption};
+ghost use Rattle.std.specs.Prelude.{◌≡◌, true, map, ◌<◌, ◌≤◌, ◌^◌, pos, ℕ, IfOk, OnOk, IfErr, IfSome, IfNone, MatchBool, MatchOption};
 ghost use Rattle.std.specs.List.{AllByRecursion};
+ghost use Rattle.store.specs.Take.{most};
 ghost use Rattle.gtid.specs.declared.span.Span.{Span};
 ghost use Rattle.store.specs.Rows.{IsMetaRow, IsFollowRow, IsSpanRow, IsHeldRow, IsExecutedRow, IsStored, HasRowids, span_in, id_in, name_in, is_text};
 ghost use Rattle.std.specs.Prelude.{codes, ℤ};
@@ -52,6 +53,28 @@ pub(crate) fn are_meta(rows: &[Row]) -> Result<bool, Error>
 
 // ---- held
 
+const MOST: u64 = 9_223_372_036_854_775_807;
+
+/// The number in a column, where it is one from 1 to 2^63 - 1.
+fn number_at(row: &Row, at: usize) -> Result<Option<u64>, Error>
+    ensures { IfOk result (λ o. MatchOption o ((k : ℕ) → column row.now at ≡ Int (pos k) → 1 ≤ k → k ≤ most → ⊥) (λ k. (column row.now at ≡ Int (pos k)) × (1 ≤ k) × (k ≤ most))) }
+{
+    let number: u64 = match row.get(at) {
+        Ok(number) => number,
+        Err(Error::SqliteFailure(ErrorCode::OutOfMemory)) => {
+            return Err(Error::SqliteFailure(ErrorCode::OutOfMemory));
+        }
+        Err(_) => return Ok(None),
+    };
+    if number == 0 {
+        return Ok(None);
+    }
+    if number > MOST {
+        return Ok(None);
+    }
+    Ok(Some(number))
+}
+
 /// Whether a row is one of `held`.
 fn is_held(alloc: Global, row: &Row) -> Result<bool, StoreFault>
     ensures judged { IfOk result (λ b. MatchBool b (IsHeldRow row.now) (¬ IsHeldRow row.now)) }
@@ -72,12 +95,9 @@ fn is_held(alloc: Global, row: &Row) -> Result<bool, StoreFault>
     let ValueRef::Blob(image) = row.get_ref(3)? else {
         return Ok(false);
     };
-    let ValueRef::Int(n) = row.get_ref(4)? else {
+    let Some(_) = number_at(row, 4)? else {
         return Ok(false);
     };
-    if n < 1 {
-        return Ok(false);
-    }
     is_image(alloc, image)
 }
 
@@ -194,22 +214,18 @@ fn span_of(row: &Row) -> Result<Option<Span>, Error>
     let ValueRef::Blob(source) = row.get_ref(1)? else {
         return Ok(None);
     };
-    let ValueRef::Int(lo) = row.get_ref(2)? else {
+    let Some(lo) = number_at(row, 2)? else {
         return Ok(None);
     };
-    let ValueRef::Int(hi) = row.get_ref(3)? else {
+    let Some(hi) = number_at(row, 3)? else {
         return Ok(None);
     };
-    if lo < 1 {
-        return Ok(None);
-    }
     if hi <= lo {
         return Ok(None);
     }
     let Ok(source) = <[u8; 16]>::try_from(source) else {
         return Ok(None);
     };
-    let (lo, hi) = (lo as u64, hi as u64);
     Ok(Some(Span { source, lo, hi }))
 }
 
@@ -230,8 +246,6 @@ pub(crate) fn spans_of(alloc: Global, rows: &[Row]) -> Result<Option<Vec<Span>>,
 
 // ---- executed
 
-const MOST: i64 = 9_223_372_036_854_775_807;
-
 /// The span of a row's one identifier, where it is one of `executed`.
 fn id_of(row: &Row) -> Result<Option<Span>, Error>
     ensures { IfOk result (λ o. MatchOption o (¬ IsExecutedRow row.now) (λ s. IsExecutedRow row.now × (s ≡ span_of_id (id_in row.now)))) }
@@ -245,19 +259,15 @@ fn id_of(row: &Row) -> Result<Option<Span>, Error>
     let ValueRef::Blob(source) = row.get_ref(1)? else {
         return Ok(None);
     };
-    let ValueRef::Int(number) = row.get_ref(2)? else {
+    let Some(lo) = number_at(row, 2)? else {
         return Ok(None);
     };
-    if number < 1 {
-        return Ok(None);
-    }
-    if number >= MOST {
+    if lo >= MOST {
         return Ok(None);
     }
     let Ok(source) = <[u8; 16]>::try_from(source) else {
         return Ok(None);
     };
-    let lo = number as u64;
     Ok(Some(Span {
         source,
         lo,

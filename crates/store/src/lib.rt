@@ -6,6 +6,7 @@ mod beside;
 mod change;
 mod fault;
 mod judge;
+mod load;
 mod rows;
 mod spans;
 
