@@ -21,3 +21,4 @@ pub mod Keeps
 pub mod Wholes
 pub mod Readings
 pub mod Judging
+pub mod Laid

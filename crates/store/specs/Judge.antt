@@ -1,5 +1,5 @@
 -- What is told of rows one after the other.
-use Rattle.std.specs.Prelude.{◌≡◌, ◌+◌, ◌<ℤ◌, ℕ, ℤ, pos, negsuc, List, [], ◌∷◌, map, filter, codes, Option, None, Some}
+use Rattle.std.specs.Prelude.{◌≡◌, ◌+◌, ◌<ℤ◌, ℕ, Bool, true, false, not, ◌&&◌, ℤ, pos, negsuc, List, [], ◌∷◌, map, filter, codes, Option, None, Some}
 use Rattle.sqlite_value.specs.declared.value.Value.{Value}
 use Rattle.sqlite_value.specs.declared.value.Value.TheVariants.{Int}
 use Rattle.sqlite_value.specs.Order.{Row, column}
@@ -8,7 +8,7 @@ use Rattle.gtid.specs.Identifier.{Id}
 use Rattle.gtid.specs.declared.span.Span.{Span}
 use Rattle.store.specs.declared.fault.StoreFault.{StoreFault}
 use Rattle.store.specs.declared.fault.StoreFault.TheVariants.{Database, Memory}
-use Rattle.store.specs.Rows.{span, is_text}
+use Rattle.store.specs.Rows.{span, is_text, touches}
 
 -- the span of one identifier
 abbrev pub span_of_id : Id → Span
@@ -43,3 +43,13 @@ IsOnly values (Some n) = values ≡ Int n ∷ []
 abbrev pub found_values : Option ℤ → List Value
 found_values None = []
 found_values (Some n) = Int n ∷ []
+
+-- whether the span touches or overlaps the last one, where there is one
+abbrev pub touches_last : Option Span → Span → Bool
+touches_last None s = false
+touches_last (Some last) s = touches last s
+
+-- whether no two neighbours touch or overlap
+abbrev pub apart_from : Option Span → List Span → Bool
+apart_from last [] = true
+apart_from last (s ∷ spans) = not (touches_last last s) && apart_from (Some s) spans

@@ -3,6 +3,7 @@
 ghost use Rattle.std.specs.Prelude.{◌≡◌, true, map, ◌<◌, ◌≤◌, ◌^◌, pos, ℕ, IfOk, OnOk, IfErr, IfSome, IfNone, MatchBool, MatchOption};
 ghost use Rattle.std.specs.List.{AllByRecursion};
 ghost use Rattle.store.specs.Take.{most};
+ghost use Rattle.gtid.specs.Identifier.{IsSource};
 ghost use Rattle.gtid.specs.declared.span.Span.{Span};
 ghost use Rattle.store.specs.Rows.{IsMetaRow, IsFollowRow, IsSpanRow, IsHeldRow, IsExecutedRow, IsStored, HasRowids, span_in, id_in, name_in, is_text};
 ghost use Rattle.std.specs.Prelude.{codes, ℤ};
@@ -12,6 +13,7 @@ ghost use Rattle.binlog.specs.FollowView.{names_of};
 ghost use Rattle.store.specs.Judge.{span_of_id, IsBehind, IsCause, IsOnly, layouts};
 
 use crate::fault::StoreFault;
+use crate::spans::is_source;
 use gather::Image;
 use gtid::Span;
 use sqlite::types::ValueRef;
@@ -201,6 +203,18 @@ pub(crate) fn layout_in(rows: &[Row]) -> Result<Option<i64>, Error>
 
 // ---- spans
 
+/// The source that the bytes are, where they are sixteen.
+fn source_of(bytes: &[u8]) -> Option<[u8; 16]>
+    ensures some { IfSome result (λ source. (source ≡ bytes.now) × IsSource bytes.now) }
+    ensures none { IfNone result (¬ IsSource bytes.now) }
+{
+    let Ok(source) = <[u8; 16]>::try_from(bytes) else {
+        return None;
+    };
+    is_source(source);
+    Some(source)
+}
+
 /// The span of a row, where it is one of `spans`.
 fn span_of(row: &Row) -> Result<Option<Span>, Error>
     ensures { IfOk result (λ o. MatchOption o (¬ IsSpanRow row.now) (λ s. IsSpanRow row.now × (s ≡ span_in row.now))) }
@@ -223,7 +237,7 @@ fn span_of(row: &Row) -> Result<Option<Span>, Error>
     if hi <= lo {
         return Ok(None);
     }
-    let Ok(source) = <[u8; 16]>::try_from(source) else {
+    let Some(source) = source_of(source) else {
         return Ok(None);
     };
     Ok(Some(Span { source, lo, hi }))
@@ -265,7 +279,7 @@ fn id_of(row: &Row) -> Result<Option<Span>, Error>
     if lo >= MOST {
         return Ok(None);
     }
-    let Ok(source) = <[u8; 16]>::try_from(source) else {
+    let Some(source) = source_of(source) else {
         return Ok(None);
     };
     Ok(Some(Span {

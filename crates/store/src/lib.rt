@@ -9,5 +9,6 @@ mod judge;
 mod load;
 mod rows;
 mod spans;
+mod tables;
 
 pub use fault::{Applied, StoreFault};
