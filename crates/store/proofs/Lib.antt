@@ -22,3 +22,4 @@ pub mod Wholes
 pub mod Readings
 pub mod Judging
 pub mod Laid
+pub mod SpanRows

@@ -1,10 +1,10 @@
 //! What the store answers.
 
-use sqlite::Error;
-use std::alloc::{AllocError, AllocFailed};
-
 ghost use Rattle.std.specs.Prelude.{◌≡◌};
 ghost use Rattle.store.specs.declared.fault.StoreFault.TheVariants.{Memory, Database};
+
+use sqlite::Error;
+use std::alloc::{AllocError, AllocFailed};
 
 /// What became of a transaction that was not refused.
 #[derive(Clone, Copy, Debug, PartialEq, Eq)]
