@@ -23,3 +23,5 @@ pub mod Readings
 pub mod Judging
 pub mod Laid
 pub mod SpanRows
+pub mod Loading
+pub mod Steps

@@ -26,7 +26,7 @@ use Rattle.sqlite.specs.Effect.{Database, IsDatabase}
 use Rattle.sqlite.specs.Listing.{understood}
 use Rattle.sqlite.specs.State.{State, IsLive, Shown, IsUnchanged, KeepsCommit, IsRolledBack, IsNotRun, FailsToQuery, FailsToShow, Survives, CommitsShowing}
 use Rattle.sqlite.specs.Given.{IsPlain}
-use Rattle.sqlite.proofs.Callers.{reads_as}
+use Rattle.sqlite.proofs.Callers.{reads_as, never_commits}
 use Rattle.store.specs.Load.{AsksAll, IsFilled, columns_from, whole, Rested}
 use Rattle.store.specs.Apply.{Rests}
 use Rattle.store.proofs.Statements.{unchanged}
@@ -159,5 +159,13 @@ module _ (sql : List ℕ) (tree : ℕ) (old new : State) (asks : AsksAll old.now
       go (Ok x) same failed settled = rests_unchanged same
       go (Err e) same failed settled = rests_failed e failed settled
 
-  pub all_survives : Survives old new (CommitsShowing sql [] old) → Survives old new (λ _. ⊥)
-  all_survives s = query_survives sql [] old new asks.plain s
+-- a text that asks for a table commits nothing
+pub all_survives : (sql : List ℕ) (old new : State) → Survives old new (CommitsShowing sql [] old) → Survives old new (λ _. (tree : ℕ) → ¬ AsksAll old.now.schema sql tree)
+all_survives sql old new s = record {
+  clean = s.clean;
+  shield = s.shield;
+  counts = s.counts;
+  limit = s.limit;
+  closes = s.closes;
+  crash = λ clean db left. elim (s.crash clean db left) [ inl was ↦ inl was | inr made ↦ inr (λ tree asks. never_commits sql [] old db asks.plain made) ];
+}

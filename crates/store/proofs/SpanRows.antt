@@ -91,7 +91,7 @@ and_flip true false = refl
 and_flip false true = refl
 and_flip false false = refl
 
-flips : (a b : Span) → touches a b ≡ touches b a
+pub flips : (a b : Span) → touches a b ≡ touches b a
 flips a b = rw (bytes_flip a.source b.source, and_flip (nat_le a.lo b.hi) (nat_le b.lo a.hi)) refl
 
 module _ (spans sorted : List Span) (same : IsPermutation spans sorted) (rise : Rise sorted) (lawful : AllByRecursion IsLawfulSpan sorted) where

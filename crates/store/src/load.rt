@@ -30,7 +30,7 @@ fn read_all<S: Alter>(conn: &mut Connection<S>, sql: &str) -> Result<Vec<Row>, E
     ensures rows { HasCleanDisk (state S.Store conn.new) → (tree : ℕ) → AsksAll (state S.Store conn.old).now.schema sql.now tree → IfOk result (λ rows. IsPermutation ((state S.Store conn.old).now.trees tree) rows.items) }
     ensures same { HasCleanDisk (state S.Store conn.new) → (tree : ℕ) → AsksAll (state S.Store conn.old).now.schema sql.now tree → OnOk result (IsUnchanged (state S.Store conn.old) (state S.Store conn.new)) }
     ensures rested { HasCleanDisk (state S.Store conn.new) → (tree : ℕ) → AsksAll (state S.Store conn.old).now.schema sql.now tree → Rested (state S.Store conn.old) (state S.Store conn.new) }
-    ensures crash { (tree : ℕ) → AsksAll (state S.Store conn.old).now.schema sql.now tree → Survives (state S.Store conn.old) (state S.Store conn.new) (λ _. ⊥) }
+    ensures crash { Survives (state S.Store conn.old) (state S.Store conn.new) (λ _. (tree : ℕ) → ¬ AsksAll (state S.Store conn.old).now.schema sql.now tree) }
 {
     conn.schema();
     conn.query_all(sql, &[])
@@ -57,7 +57,7 @@ fn load_meta<S: Alter>(conn: &mut Connection<S>) -> Result<(), StoreFault>
     ensures judged { HasCleanDisk (state S.Store conn.new) → (tree : ℕ) → AsksAll (state S.Store conn.old).now.schema all_meta_text tree → Judges result (λ _. AllByRecursion IsMetaRow ((state S.Store conn.old).now.trees tree) × HasRowids ((state S.Store conn.old).now.trees tree)) (AllByRecursion IsMetaRow ((state S.Store conn.old).now.trees tree)) }
     ensures same { HasCleanDisk (state S.Store conn.new) → (tree : ℕ) → AsksAll (state S.Store conn.old).now.schema all_meta_text tree → OnSeen result (IsUnchanged (state S.Store conn.old) (state S.Store conn.new)) }
     ensures rested { HasCleanDisk (state S.Store conn.new) → (tree : ℕ) → AsksAll (state S.Store conn.old).now.schema all_meta_text tree → Rested (state S.Store conn.old) (state S.Store conn.new) }
-    ensures crash { (tree : ℕ) → AsksAll (state S.Store conn.old).now.schema all_meta_text tree → Survives (state S.Store conn.old) (state S.Store conn.new) (λ _. ⊥) }
+    ensures crash { Survives (state S.Store conn.old) (state S.Store conn.new) (λ _. (tree : ℕ) → ¬ AsksAll (state S.Store conn.old).now.schema all_meta_text tree) }
     ensures fault { IfErr result IsLoadFault }
 {
     let rows = read_all(conn, "SELECT rowid, k, v FROM meta ORDER BY rowid")?;
@@ -71,7 +71,7 @@ fn load_held<S: Alter>(alloc: Global, conn: &mut Connection<S>) -> Result<(), St
     ensures judged { HasCleanDisk (state S.Store conn.new) → (tree : ℕ) → AsksAll (state S.Store conn.old).now.schema all_held_text tree → Judges result (λ _. AllByRecursion IsHeldRow ((state S.Store conn.old).now.trees tree) × HasRowids ((state S.Store conn.old).now.trees tree)) (AllByRecursion IsHeldRow ((state S.Store conn.old).now.trees tree)) }
     ensures same { HasCleanDisk (state S.Store conn.new) → (tree : ℕ) → AsksAll (state S.Store conn.old).now.schema all_held_text tree → OnSeen result (IsUnchanged (state S.Store conn.old) (state S.Store conn.new)) }
     ensures rested { HasCleanDisk (state S.Store conn.new) → (tree : ℕ) → AsksAll (state S.Store conn.old).now.schema all_held_text tree → Rested (state S.Store conn.old) (state S.Store conn.new) }
-    ensures crash { (tree : ℕ) → AsksAll (state S.Store conn.old).now.schema all_held_text tree → Survives (state S.Store conn.old) (state S.Store conn.new) (λ _. ⊥) }
+    ensures crash { Survives (state S.Store conn.old) (state S.Store conn.new) (λ _. (tree : ℕ) → ¬ AsksAll (state S.Store conn.old).now.schema all_held_text tree) }
     ensures fault { IfErr result IsLoadFault }
 {
     let rows = read_all(
@@ -88,7 +88,7 @@ fn load_follow<S: Alter>(alloc: Global, conn: &mut Connection<S>) -> Result<Foll
     ensures judged { HasCleanDisk (state S.Store conn.new) → (tree : ℕ) → AsksAll (state S.Store conn.old).now.schema all_follow_text tree → Judges result (AreNames ((state S.Store conn.old).now.trees tree)) (AllByRecursion IsFollowRow ((state S.Store conn.old).now.trees tree)) }
     ensures same { HasCleanDisk (state S.Store conn.new) → (tree : ℕ) → AsksAll (state S.Store conn.old).now.schema all_follow_text tree → OnSeen result (IsUnchanged (state S.Store conn.old) (state S.Store conn.new)) }
     ensures rested { HasCleanDisk (state S.Store conn.new) → (tree : ℕ) → AsksAll (state S.Store conn.old).now.schema all_follow_text tree → Rested (state S.Store conn.old) (state S.Store conn.new) }
-    ensures crash { (tree : ℕ) → AsksAll (state S.Store conn.old).now.schema all_follow_text tree → Survives (state S.Store conn.old) (state S.Store conn.new) (λ _. ⊥) }
+    ensures crash { Survives (state S.Store conn.old) (state S.Store conn.new) (λ _. (tree : ℕ) → ¬ AsksAll (state S.Store conn.old).now.schema all_follow_text tree) }
     ensures fault { IfErr result IsLoadFault }
 {
     let rows = read_all(
@@ -105,7 +105,7 @@ fn load_spans<S: Alter>(alloc: Global, conn: &mut Connection<S>) -> Result<GtidS
     ensures judged { HasCleanDisk (state S.Store conn.new) → (tree : ℕ) → AsksAll (state S.Store conn.old).now.schema all_spans_text tree → Judges result (λ ids. AreSpans ((state S.Store conn.old).now.trees tree) ids × HasRowids ((state S.Store conn.old).now.trees tree)) (AllByRecursion IsSpanRow ((state S.Store conn.old).now.trees tree) × IsDistinct touches (map span_in ((state S.Store conn.old).now.trees tree))) }
     ensures same { HasCleanDisk (state S.Store conn.new) → (tree : ℕ) → AsksAll (state S.Store conn.old).now.schema all_spans_text tree → OnSeen result (IsUnchanged (state S.Store conn.old) (state S.Store conn.new)) }
     ensures rested { HasCleanDisk (state S.Store conn.new) → (tree : ℕ) → AsksAll (state S.Store conn.old).now.schema all_spans_text tree → Rested (state S.Store conn.old) (state S.Store conn.new) }
-    ensures crash { (tree : ℕ) → AsksAll (state S.Store conn.old).now.schema all_spans_text tree → Survives (state S.Store conn.old) (state S.Store conn.new) (λ _. ⊥) }
+    ensures crash { Survives (state S.Store conn.old) (state S.Store conn.new) (λ _. (tree : ℕ) → ¬ AsksAll (state S.Store conn.old).now.schema all_spans_text tree) }
     ensures fault { IfErr result IsLoadFault }
 {
     let rows = read_all(
@@ -122,7 +122,7 @@ fn load_executed<S: Alter>(alloc: Global, conn: &mut Connection<S>) -> Result<Gt
     ensures judged { HasCleanDisk (state S.Store conn.new) → (tree : ℕ) → AsksAll (state S.Store conn.old).now.schema all_executed_text tree → Judges result (λ ids. AllByRecursion IsExecutedRow ((state S.Store conn.old).now.trees tree) × (ids ≡ set.from_list (map id_in ((state S.Store conn.old).now.trees tree)))) (AllByRecursion IsExecutedRow ((state S.Store conn.old).now.trees tree)) }
     ensures same { HasCleanDisk (state S.Store conn.new) → (tree : ℕ) → AsksAll (state S.Store conn.old).now.schema all_executed_text tree → OnSeen result (IsUnchanged (state S.Store conn.old) (state S.Store conn.new)) }
     ensures rested { HasCleanDisk (state S.Store conn.new) → (tree : ℕ) → AsksAll (state S.Store conn.old).now.schema all_executed_text tree → Rested (state S.Store conn.old) (state S.Store conn.new) }
-    ensures crash { (tree : ℕ) → AsksAll (state S.Store conn.old).now.schema all_executed_text tree → Survives (state S.Store conn.old) (state S.Store conn.new) (λ _. ⊥) }
+    ensures crash { Survives (state S.Store conn.old) (state S.Store conn.new) (λ _. (tree : ℕ) → ¬ AsksAll (state S.Store conn.old).now.schema all_executed_text tree) }
     ensures fault { IfErr result IsLoadFault }
 {
     let rows = read_all(

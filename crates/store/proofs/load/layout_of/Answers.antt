@@ -1,5 +1,7 @@
 use Rattle.sqlite.specs.Held.{state}
 use Rattle.store.proofs.Wholes.{meta_first_asks}
+use Rattle.store.specs.Load.{all_meta_text}
+use Rattle.store.proofs.Steps.{first_step}
 use Rattle.store.proofs.Laid.{says_table, on_any}
 use Rattle.store.proofs.load.layout_of.Goals as goal
 
@@ -7,7 +9,7 @@ pub returns-in_err-rows-clause-rested : goal.returns-in_err-rows-clause-rested
 returns-in_err-rows-clause-rested g c clean first = c.read_all.ensures.rested clean 0 (meta_first_asks _ first)
 
 pub returns-in_err-rows-clause-crash : goal.returns-in_err-rows-clause-crash
-returns-in_err-rows-clause-crash g c first = c.read_all.ensures.crash 0 (meta_first_asks _ first)
+returns-in_err-rows-clause-crash g c first = first_step (state g.S.Store c.args.conn.now) (state g.S.Store c.read_all.new.conn) all_meta_text 0 (meta_first_asks _ first) c.read_all.ensures.crash
 
 pub returns-clause-says : goal.returns-clause-says
 returns-clause-says g c clean first =
@@ -20,4 +22,4 @@ pub returns-clause-rested : goal.returns-clause-rested
 returns-clause-rested g c clean first = c.read_all.ensures.rested clean 0 (meta_first_asks _ first)
 
 pub returns-clause-crash : goal.returns-clause-crash
-returns-clause-crash g c first = c.read_all.ensures.crash 0 (meta_first_asks _ first)
+returns-clause-crash g c first = first_step (state g.S.Store c.args.conn.now) (state g.S.Store c.read_all.new.conn) all_meta_text 0 (meta_first_asks _ first) c.read_all.ensures.crash

@@ -15,5 +15,5 @@ returns-clause-rested g c clean tree asks =
     all_rests c.args.sql.now tree (state g.S.Store c.args.conn.now) (state g.S.Store c.query_all.new.self) asks c.query_all.result (returns-clause-same g c clean tree asks) (c.query_all.ensures.err clean)
 
 pub returns-clause-crash : goal.returns-clause-crash
-returns-clause-crash g c tree asks =
-    all_survives c.args.sql.now tree (state g.S.Store c.args.conn.now) (state g.S.Store c.query_all.new.self) asks c.query_all.ensures.survives
+returns-clause-crash g c =
+    all_survives c.args.sql.now (state g.S.Store c.args.conn.now) (state g.S.Store c.query_all.new.self) c.query_all.ensures.survives
