@@ -1,9 +1,8 @@
 -- What the judges of rows tell.
-use Rattle.std.proofs.Common.{◌≡◌, ◌⊎◌, ◌<◌, ◌+◌, ◌^◌, pos, subst₂, Result, Ok, Err, IfOk, MatchBool, inl, inr, IsTrue, ◌<ℤ◌, ◌≤◌, ℕ, ℤ, suc, zero, Bool, true, false, List, [], ◌∷◌, ◌++◌, drop, length, Option, None, Some, refl, sym, ap, subst, ◌∙◌, arith}
+use Rattle.std.proofs.Common.{◌≡◌, ◌⊎◌, ◌<◌, ◌+◌, pos, Result, Ok, Err, IfOk, MatchBool, inl, inr, IsTrue, ◌<ℤ◌, ◌≤◌, ℕ, ℤ, suc, zero, Bool, true, false, List, [], ◌∷◌, drop, length, Option, Some, refl, sym, ap, subst, ◌∙◌, arith}
 use Rattle.std.specs.List.{AllByRecursion, IsDistinct}
-use Rattle.std.specs.Ordering.{is_eq, int_cmp}
-use Rattle.std.specs.Cmp.{int_ranks, int_cmp_is}
-use Rattle.std.specs.declared.cmp.Ordering.{Ordering}
+use Rattle.std.specs.Ordering.{is_eq}
+use Rattle.std.specs.Cmp.{int_cmp_is}
 use Rattle.std.specs.declared.cmp.Ordering.TheVariants.{Less}
 use Rattle.std.specs.Cmp.{int_chain}
 use Rattle.sqlite_value.specs.declared.value.Value.{Value}
@@ -16,7 +15,7 @@ use Rattle.gtid.specs.Identifier.{IsSource}
 use Rattle.gtid.specs.declared.span.Span.{Span}
 use Rattle.store.specs.Rows.{alike, HasRowids, IsFollowRow, IsExecutedRow, IsSpanRow, IsHeldRow, IsStored, name_in, id_in, span_in, span, key_of}
 use Rattle.store.specs.Take.{most}
-use Rattle.store.specs.Judge.{Rise, IsBehind, span_of_id}
+use Rattle.store.specs.Judge.{Rise, span_of_id}
 
 pub rise_end : (last : Option ℤ) (rows : List Row) (n : ℕ) → length rows ≤ n → Rise last (drop n rows)
 rise_end last [] zero long = tt

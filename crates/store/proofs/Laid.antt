@@ -1,9 +1,8 @@
 -- The layout that the rows of meta say.
-use Rattle.std.proofs.Common.{◌≡◌, ℤ, List, [], ◌∷◌, codes, Option, None, Some, Ok, Err, Result, IfOk, OnOk, MatchOption, sym, subst, ◌∙◌}
+use Rattle.std.proofs.Common.{ℤ, List, codes, Option, None, Some, Ok, Err, Result, IfOk, OnOk, MatchOption, subst}
 use Rattle.std.specs.List.Sorted.{IsPermutation}
 use Rattle.std.proofs.lemmas.List.Sorted.{IsPermutation-map, IsPermutation-sym}
 use Rattle.sqlite_trees.proofs.ListLemmas.{IsPermutation-filter}
-use Rattle.sqlite_value.specs.declared.value.Value.{Value}
 use Rattle.sqlite_value.specs.declared.value.Value.TheVariants.{Int}
 use Rattle.sqlite_value.specs.Order.{Row, column}
 use Rattle.sqlite.proofs.Callers.{one_permutation}

@@ -1,5 +1,5 @@
 -- From the answer of a query for a whole table to the table.
-use Rattle.std.proofs.Common.{◌≡◌, List, [], ◌∷◌, map, Ok, Err, Result, refl, sym, ap, ◌∙◌}
+use Rattle.std.proofs.Common.{◌≡◌, List, map, Ok, Err, Result, refl, sym, ap, ◌∙◌}
 use Rattle.std.specs.List.{AllByRecursion, IsDistinct}
 use Rattle.std.specs.Ordering.{is_eq, ordering_reverse, eq_by_cmp}
 use Rattle.std.specs.Cmp.{IsTotalOrder}
@@ -13,9 +13,9 @@ use Rattle.sqlite_trees.proofs.ListLemmas.{all-permutation}
 use Rattle.sqlite_trees.specs.Tree.{rowid}
 use Rattle.sqlite_value.specs.Order.{Row, value_cmp}
 use Rattle.sqlite_value.proofs.OrderLemmas.{value_cmp_total}
-use Rattle.gtid.specs.Identifier.{Ids, id_cmp}
+use Rattle.gtid.specs.Identifier.{Ids}
 use Rattle.gtid.proofs.Sets.{id_cmp_total, id_cmp-same}
-use Rattle.binlog.specs.Follow.{Names, name_cmp}
+use Rattle.binlog.specs.Follow.{Names}
 use Rattle.binlog.proofs.Followed.{name_cmp_total, name_cmp-same}
 use Rattle.store.specs.declared.fault.StoreFault.{StoreFault}
 use Rattle.store.specs.declared.fault.StoreFault.TheVariants.{NoSuchRow, CountFull, Database, Memory, Damaged, Layout, Broken, Follows}

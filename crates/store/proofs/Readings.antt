@@ -1,5 +1,5 @@
 -- What a query for a whole table answers.
-use Rattle.std.proofs.Common.{◌≡◌, ◌<◌, ◌≤◌, ◌+◌, ◌⊎◌, inl, inr, ℕ, suc, zero, List, [], ◌∷◌, ◌++◌, map, flat_map, length, drop, Bool, true, false, not, ◌&&◌, ◌||◌, cond, IsTrue, None, Some, Option, Ok, Err, Result, IfOk, OnOk, IfErr, refl, sym, ap, subst, subst₂, ◌∙◌, arith}
+use Rattle.std.proofs.Common.{◌≡◌, ◌<◌, ◌≤◌, ◌+◌, inl, inr, ℕ, suc, zero, List, [], ◌∷◌, map, flat_map, length, drop, Bool, true, false, not, ◌&&◌, ◌||◌, cond, None, Ok, Err, Result, IfOk, OnOk, IfErr, refl, sym, ap, subst, ◌∙◌, arith}
 use Rattle.std.specs.List.{AllByRecursion}
 use Rattle.std.specs.Prelude.{unwrap_or}
 use Rattle.std.specs.List.Sorted.{IsPermutation}
@@ -11,26 +11,22 @@ use Rattle.sqlite_value.specs.Order.{Row, column}
 use Rattle.sqlite_sql.specs.Term.{Term, eval_all}
 use Rattle.sqlite_sql.specs.Query.{IsAnswerAs, output, Output}
 use Rattle.sqlite_sql.specs.Program.{overlay}
-use Rattle.sqlite_schema.specs.declared.schema.Schema.{Schema}
-use Rattle.sqlite_schema.specs.declared.schema.Table.{Table}
 use Rattle.sqlite_schema.specs.declared.schema.Column.{Column}
 use Rattle.sqlite_schema.specs.declared.schema.Constraint.TheVariants.{Datatype, NotNull}
 use Rattle.sqlite_schema.specs.declared.command.Command.TheVariants.{Select}
 use Rattle.sqlite_schema.specs.Rules.{are_typed, are_present}
 use Rattle.sqlite_sql.specs.Ops.{is_null}
-use Rattle.sqlite_rules.specs.Lists.{Has}
 use Rattle.sqlite_rules.proofs.ListLemmas.{all_has}
 use Rattle.sqlite_trees.specs.Tree.{Trees}
 use Rattle.sqlite.specs.declared.error.Error.{Error}
-use Rattle.sqlite.specs.Effect.{Database, IsDatabase}
-use Rattle.sqlite.specs.Listing.{understood}
-use Rattle.sqlite.specs.State.{State, IsLive, Shown, IsUnchanged, KeepsCommit, IsRolledBack, IsNotRun, FailsToQuery, FailsToShow, Survives, CommitsShowing}
+use Rattle.sqlite.specs.Effect.{IsDatabase}
+use Rattle.sqlite.specs.State.{State, IsLive, Shown, IsUnchanged, IsRolledBack, IsNotRun, FailsToQuery, Survives, CommitsShowing}
 use Rattle.sqlite.specs.Given.{IsPlain}
 use Rattle.sqlite.proofs.Callers.{reads_as, never_commits}
 use Rattle.store.specs.Load.{AsksAll, IsFilled, columns_from, whole, Rested}
 use Rattle.store.specs.Apply.{Rests}
 use Rattle.store.proofs.Statements.{unchanged}
-use Rattle.store.proofs.Keeps.{kept_query, query_survives}
+use Rattle.store.proofs.Keeps.{kept_query}
 
 -- ---- How long rows are.
 

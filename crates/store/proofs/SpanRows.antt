@@ -1,17 +1,17 @@
 -- The sets that rows of spans and of executed are.
-use Rattle.std.proofs.Common.{◌≡◌, ◌<◌, ◌≤◌, ◌+◌, ◌-◌, ◌^◌, ◌⊎◌, inl, inr, ℕ, ℤ, pos, Bool, true, false, not, ◌&&◌, ◌||◌, nat_le, nat_lt, nat_eq, bytes_eq, List, [], ◌∷◌, map, Option, None, Some, Ok, Err, Result, IfOk, IfErr, OnOk, refl, sym, ap, subst, ◌∙◌, arith}
+use Rattle.std.proofs.Common.{◌≡◌, ◌<◌, ◌≤◌, ◌+◌, ◌-◌, ◌^◌, ◌⊎◌, inl, inr, ℕ, Bool, true, false, not, ◌&&◌, nat_le, nat_lt, nat_eq, bytes_eq, List, [], ◌∷◌, map, None, Some, Ok, Err, Result, IfOk, IfErr, OnOk, refl, sym, ap, subst, ◌∙◌, arith}
 use Rattle.std.specs.List.{AllByRecursion, IsDistinct, list_any}
 use Rattle.std.specs.List.Sorted.{IsPermutation}
 use Rattle.std.specs.FinSet as set
 use Rattle.std.specs.Ordering.{eq_by_cmp}
-use Rattle.std.proofs.lemmas.Bool.{and_parts, or_parts, cases_Bool, false_from_ne_true, leb-true}
+use Rattle.std.proofs.lemmas.Bool.{and_parts, cases_Bool, false_from_ne_true, leb-true}
 use Rattle.std.proofs.lemmas.Bool.Decides.{nat_tests}
 use Rattle.std.proofs.lemmas.Grind.{common_steps}
 use Rattle.std.proofs.lemmas.List.Sorted.{IsPermutation-refl, IsPermutation-sym, list_any-IsPermutation}
 use Rattle.std.proofs.lemmas.Map.Keys.{IsDistinct-IsPermutation}
 use Rattle.std.proofs.lemmas.Slice.Eq.{bytes_eq-Decides}
-use Rattle.sqlite_value.specs.Order.{Row, column}
-use Rattle.gtid.specs.Identifier.{Id, Ids, IsSource, IsGtid, AreGtids, id_cmp}
+use Rattle.sqlite_value.specs.Order.{Row}
+use Rattle.gtid.specs.Identifier.{Id, Ids, IsSource, IsGtid, id_cmp}
 use Rattle.gtid.specs.Span.{is_in, Covers, IsBefore, IsLeast}
 use Rattle.gtid.specs.Reading.{IsLawfulSpan}
 use Rattle.gtid.specs.Gathering.{Rise, Follows}
@@ -19,11 +19,10 @@ use Rattle.gtid.specs.declared.span.Span.{Span}
 use Rattle.gtid.proofs.Sets.{id_cmp_total, id_cmp-same, tied}
 use Rattle.store.specs.declared.fault.StoreFault.{StoreFault}
 use Rattle.store.specs.declared.fault.StoreFault.TheVariants.{NoSuchRow, CountFull, Database, Memory, Damaged, Layout, Broken, Follows as OtherTables}
-use Rattle.store.specs.Rows.{IsSpanRow, IsExecutedRow, HasRowids, AreLeast, AreSpans, touches, stored_span, shown_span, shown_spans, span_in, id_in}
-use Rattle.store.specs.Judge.{span_of_id, touches_last, apart_from}
+use Rattle.store.specs.Rows.{IsSpanRow, IsExecutedRow, HasRowids, AreSpans, touches, stored_span, shown_span, shown_spans, span_in, id_in}
+use Rattle.store.specs.Judge.{span_of_id, apart_from}
 use Rattle.store.specs.Load.{Judges}
 use Rattle.store.proofs.SortedSpans.{all_distinct}
-use Rattle.store.proofs.SpanLists.{IsSome}
 
 -- ---- Spans in order, of which no neighbours touch.
 

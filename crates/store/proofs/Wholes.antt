@@ -1,7 +1,7 @@
 -- What the texts mean that ask for whole tables.
-use Rattle.std.proofs.Common.{◌≡◌, ℕ, List, codes, Ok, None, inl, inr, refl, false, [], ◌∷◌, sym, ap, ◌∙◌, subst}
+use Rattle.std.proofs.Common.{◌≡◌, List, codes, inl, inr, refl, [], ◌∷◌, sym, ap, ◌∙◌, subst}
 use Rattle.sqlite_value.specs.declared.keys.Collation.TheVariants.{Binary}
-use Rattle.sqlite_value.specs.Keys.{plain, ascending}
+use Rattle.sqlite_value.specs.Keys.{ascending}
 use Rattle.sqlite_sql.specs.Term.{col}
 use Rattle.sqlite_tied.specs.Compute.{everything}
 use Rattle.sqlite_schema.specs.declared.schema.Table.{Table}
@@ -169,3 +169,12 @@ module _ (schema : Schema) (l : IsLaidOut schema) where
 
   pub follow_asks : AsksAll schema all_follow_text (tree_at schema 3)
   follow_asks = subst (λ s. AsksAll s all_follow_text (tree_at s 3)) (sym l.is) (follow_laid l.origin l.others l.indexes l.views)
+
+  pub laid_meta_asks : AsksAll schema all_meta_text (tree_at schema 0)
+  laid_meta_asks = subst (AsksAll schema all_meta_text) (sym meta_place) (meta_first_asks schema (laid_meta_first schema l))
+
+pub first_executed : (schema : Schema) → schema ≡ first_layout → AsksAll schema all_executed_text 2
+first_executed schema is = subst (λ s. AsksAll s all_executed_text 2) (sym is) executed_asks
+
+pub first_held : (schema : Schema) → schema ≡ first_layout → AsksAll schema all_held_text 4
+first_held schema is = subst (λ s. AsksAll s all_held_text 4) (sym is) first_held_asks

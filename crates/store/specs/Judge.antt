@@ -1,5 +1,5 @@
 -- What is told of rows one after the other.
-use Rattle.std.specs.Prelude.{◌≡◌, ◌+◌, ◌<ℤ◌, ℕ, Bool, true, false, not, ◌&&◌, ℤ, pos, negsuc, List, [], ◌∷◌, map, filter, codes, Option, None, Some}
+use Rattle.std.specs.Prelude.{◌≡◌, ◌+◌, ◌<ℤ◌, Bool, true, false, not, ◌&&◌, ℤ, List, [], ◌∷◌, map, filter, codes, Option, None, Some}
 use Rattle.sqlite_value.specs.declared.value.Value.{Value}
 use Rattle.sqlite_value.specs.declared.value.Value.TheVariants.{Int}
 use Rattle.sqlite_value.specs.Order.{Row, column}

@@ -1,12 +1,9 @@
 -- Reading whole tables when a database is opened, and what the rows stand for.
 use Rattle.std.specs.Prelude.{◌≡◌, ℕ, suc, zero, pos, negsuc, true, false, List, [], ◌∷◌, codes, length, None, Result, Ok, Err}
-use Rattle.std.specs.List.{AllByRecursion, IsDistinct}
 use Rattle.sqlite_value.specs.declared.value.Value.TheVariants.{Int}
 use Rattle.sqlite_value.specs.declared.keys.Key.{Key}
-use Rattle.sqlite_value.specs.Order.{Row, column}
 use Rattle.sqlite_sql.specs.Term.{Term, lit, col}
 use Rattle.sqlite_sql.specs.Query.{Query, inner, end}
-use Rattle.sqlite_sql.specs.Program.{overlay}
 use Rattle.sqlite_schema.specs.declared.schema.Schema.{Schema}
 use Rattle.sqlite_schema.specs.declared.schema.Table.{Table}
 use Rattle.sqlite_schema.specs.declared.schema.Index.{Index}
@@ -14,8 +11,7 @@ use Rattle.sqlite_schema.specs.declared.schema.View.{View}
 use Rattle.sqlite_schema.specs.declared.schema.Column.{Column}
 use Rattle.sqlite_schema.specs.declared.command.Command.TheVariants.{Select}
 use Rattle.sqlite_rules.specs.Lists.{Has}
-use Rattle.sqlite_trees.specs.Tree.{Trees, rowid}
-use Rattle.sqlite.specs.State.{State, KeepsCommit, IsUnchanged}
+use Rattle.sqlite.specs.State.{State, KeepsCommit}
 use Rattle.sqlite.specs.Listing.{understood, reads_listing}
 use Rattle.sqlite.specs.Given.{IsPlain}
 use Rattle.sqlite.proofs.Callers.{command_of}
@@ -95,17 +91,20 @@ pub record IsMetaFirst (schema : Schema) : Type 0 where
 
 -- ---- A call that reads.
 
+-- This holds where the fault is that the rows are damaged.
+abbrev pub OnDamaged : StoreFault → Type 0 → Type 0
+OnDamaged Damaged P = P
+OnDamaged _ P = Unit {0}
+
 -- This holds where the call answers, or finds the rows damaged.
 abbrev pub OnSeen : {X : Type 0} → Result X StoreFault → Type 0 → Type 0
 OnSeen (Ok x) P = P
-OnSeen (Err Damaged) P = P
-OnSeen (Err _) P = Unit {0}
+OnSeen (Err fault) P = OnDamaged fault P
 
--- The answer is lawful, or the rows break the rules.
+-- The answer is lawful. Where it is that the rows are damaged, they break the rules.
 abbrev pub Judges : {X : Type 0} → Result X StoreFault → (X → Type 0) → Type 0 → Type 0
 Judges (Ok x) Lawful rules = Lawful x
-Judges (Err Damaged) Lawful rules = ¬ rules
-Judges (Err _) Lawful rules = Unit {0}
+Judges (Err fault) Lawful rules = OnDamaged fault (¬ rules)
 
 -- a statement failed, an allocation was refused, or the rows break the rules
 abbrev pub IsLoadFault : StoreFault → Type 0
