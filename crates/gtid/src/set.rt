@@ -3,7 +3,9 @@
 ghost use Rattle.std.specs.Prelude.{◌≡◌, ℕ, ◌≤◌, ◌⊎◌, true, false, not, length, take, string_bytes, MatchResult, IfOk, OnOk, IfErr, OnErr, Ok, Err, List, None};
 ghost use Rattle.std.specs.FinSet as set;
 ghost use Rattle.gtid.specs.Identifier.{Ids, id};
-ghost use Rattle.gtid.specs.Span.{IsLeastList};
+ghost use Rattle.std.specs.List.{AllByRecursion};
+ghost use Rattle.gtid.specs.Span.{Covers, IsLeastList};
+ghost use Rattle.gtid.specs.Reading.{IsLawfulSpan};
 ghost use Rattle.gtid.specs.Beside.{Joins};
 ghost use Rattle.gtid.specs.declared.span.Span.{Span};
 ghost use Rattle.gtid.specs.Encoding.{IsEncoding, IsDecodeFault, AppendsEncoding};
@@ -22,6 +24,7 @@ use crate::identifier::Gtid;
 use crate::interval;
 use crate::reading::read_spans;
 use crate::reserved::Reserved;
+use crate::span::Span;
 use crate::spans::Spans;
 use crate::text::print_groups;
 use std::alloc::Global;
@@ -205,6 +208,17 @@ impl GtidSet {
         let spans = read_spans(alloc, bytes)?;
         let groups = gather(alloc, spans)?;
         Ok(GtidSet { groups })
+    }
+
+    /// The set of what is in some span. The spans may come in any order, overlap and touch; those that ascend take
+    /// linear time. The only refusal is `Memory`.
+    pub fn of_spans(alloc: Global, spans: Vec<Span>) -> Result<GtidSet, GtidFault>
+        requires { AllByRecursion IsLawfulSpan spans.items }
+        ensures ok { IfOk result (Covers spans.items) }
+        ensures err { IfErr result (λ fault. fault ≡ GtidFault.Memory) }
+    {
+        let merged = gather(alloc, spans)?;
+        Ok(GtidSet { groups: merged })
     }
 
     /// Appends the text of the set: sources in lower case, ascending by their bytes, each with its least intervals, a

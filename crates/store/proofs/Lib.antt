@@ -27,3 +27,10 @@ pub mod MigratingTexts
 pub mod Migrating
 pub mod Migrated
 pub mod Committed
+pub mod Wholes
+pub mod Readings
+pub mod Judging
+pub mod Laid
+pub mod SpanRows
+pub mod Loading
+pub mod Steps

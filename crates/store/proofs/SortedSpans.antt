@@ -53,7 +53,7 @@ all_some : (spans : List Span) → IsLeast spans → AllByRecursion IsSome spans
 all_some [] h = tt
 all_some (a ∷ spans) h = (first_some a spans h, all_some spans (rest_least a spans h))
 
-all_distinct : (spans : List Span) → IsLeast spans → IsDistinct touches spans
+pub all_distinct : (spans : List Span) → IsLeast spans → IsDistinct touches spans
 unfolding IsDistinct
 all_distinct [] h = tt
 all_distinct (a ∷ spans) h = (all_apart a spans (all_before a spans h), all_distinct spans (rest_least a spans h))

@@ -8,3 +8,5 @@ pub mod Open
 pub mod Store
 pub mod Making
 pub mod Migrating
+pub mod Load
+pub mod Judge

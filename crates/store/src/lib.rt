@@ -13,6 +13,11 @@ mod rows;
 mod spans;
 mod store;
 mod taking;
+mod judge;
+mod load;
+mod rows;
+mod spans;
+mod tables;
 
 pub use fault::{Applied, StoreFault};
 pub use store::Store;

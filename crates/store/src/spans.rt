@@ -106,7 +106,7 @@ pub(crate) struct Beside {
 const END: u64 = 9_223_372_036_854_775_808;
 
 /// What the type of a source says.
-fn is_source(source: [u8; 16])
+pub(crate) fn is_source(source: [u8; 16])
     ensures { IsSource source }
 {
     are_bytes(&source);

@@ -1,0 +1,101 @@
+-- From the answer of a query for a whole table to the table.
+use Rattle.std.proofs.Common.{◌≡◌, List, map, Ok, Err, Result, refl, sym, ap, ◌∙◌}
+use Rattle.std.specs.List.{AllByRecursion, IsDistinct}
+use Rattle.std.specs.Ordering.{is_eq, ordering_reverse, eq_by_cmp}
+use Rattle.std.specs.Cmp.{IsTotalOrder}
+use Rattle.std.specs.declared.cmp.Ordering.{Ordering}
+use Rattle.std.specs.declared.cmp.Ordering.TheVariants.{Less, Equal, Greater}
+use Rattle.std.specs.List.Sorted.{IsPermutation}
+use Rattle.std.specs.FinSet as set
+use Rattle.std.proofs.lemmas.List.Sorted.{IsPermutation-sym, IsPermutation-trans, IsPermutation-map, list_any-IsPermutation}
+use Rattle.std.proofs.lemmas.Map.Keys.{IsDistinct-IsPermutation}
+use Rattle.sqlite_trees.proofs.ListLemmas.{all-permutation}
+use Rattle.sqlite_trees.specs.Tree.{rowid}
+use Rattle.sqlite_value.specs.Order.{Row, value_cmp}
+use Rattle.sqlite_value.proofs.OrderLemmas.{value_cmp_total}
+use Rattle.gtid.specs.Identifier.{Ids}
+use Rattle.gtid.proofs.Sets.{id_cmp_total, id_cmp-same}
+use Rattle.binlog.specs.Follow.{Names}
+use Rattle.binlog.proofs.Followed.{name_cmp_total, name_cmp-same}
+use Rattle.store.specs.declared.fault.StoreFault.{StoreFault}
+use Rattle.store.specs.declared.fault.StoreFault.TheVariants.{NoSuchRow, CountFull, Database, Memory, Damaged, Layout, Broken, Follows}
+use Rattle.store.specs.Rows.{alike, HasRowids, IsMetaRow, IsHeldRow, IsFollowRow, IsSpanRow, IsExecutedRow, AreNames, AreSpans, touches, shown_span, span_in, id_in, name_in}
+use Rattle.store.specs.Load.{Judges, OnSeen}
+use Rattle.store.proofs.SpanRows.{flips}
+
+pub on_seen : {X P : Type 0} (r : Result X StoreFault) → P → OnSeen r P
+on_seen (Ok x) p = p
+on_seen (Err (NoSuchRow at)) p = tt
+on_seen (Err (CountFull at)) p = tt
+on_seen (Err (Database e)) p = tt
+on_seen (Err Memory) p = tt
+on_seen (Err Damaged) p = p
+on_seen (Err (Layout n)) p = tt
+on_seen (Err Broken) p = tt
+on_seen (Err Follows) p = tt
+
+pub judged_by : {X : Type 0} {Good Other : X → Type 0} {rules others : Type 0} (r : Result X StoreFault) → ((x : X) → Good x → Other x) → (others → rules) → Judges r Good rules → Judges r Other others
+judged_by (Ok x) good back h = good x h
+judged_by (Err (NoSuchRow at)) good back h = tt
+judged_by (Err (CountFull at)) good back h = tt
+judged_by (Err (Database e)) good back h = tt
+judged_by (Err Memory) good back h = tt
+judged_by (Err Damaged) good back h = λ o. h (back o)
+judged_by (Err (Layout n)) good back h = tt
+judged_by (Err Broken) good back h = tt
+judged_by (Err Follows) good back h = tt
+
+either_way : (o : Ordering) → is_eq (ordering_reverse o) ≡ is_eq o
+either_way Less = refl
+either_way Equal = refl
+either_way Greater = refl
+
+turns : (a b : Row) → alike a b ≡ alike b a
+turns a b = ap is_eq (value_cmp_total.antisymm (rowid a) (rowid b)) ∙ either_way (value_cmp (rowid b) (rowid a))
+
+same_list : {K : Type 0} {R : K → K → Ordering} (o : IsTotalOrder R) → set.IsAntisymmetric R → (xs ys : List K) → IsPermutation xs ys → ◌≡◌ {A = set.FinSet R} (set.from_list xs) (set.from_list ys)
+same_list {R = R} o one xs ys same = set.same_set o one (set.from_list xs) (set.from_list ys) (λ q.
+    set.contains-from_list o xs q ∙ list_any-IsPermutation (eq_by_cmp R q) xs ys same ∙ sym (set.contains-from_list o ys q))
+
+module _ (rows answer : List Row) (same : IsPermutation rows answer) where
+  back : IsPermutation answer rows
+  back = IsPermutation-sym _ _ same
+
+  apart : HasRowids answer → HasRowids rows
+  apart h = record { apart = IsDistinct-IsPermutation alike turns answer rows back h.apart; keyed = all-permutation _ answer rows back h.keyed }
+
+  pub meta_table : {X : Type 0} (r : Result X StoreFault) → Judges r (λ _. AllByRecursion IsMetaRow answer × HasRowids answer) (AllByRecursion IsMetaRow answer) → Judges r (λ _. AllByRecursion IsMetaRow rows × HasRowids rows) (AllByRecursion IsMetaRow rows)
+  meta_table r h = judged_by r (λ x it. (all-permutation IsMetaRow answer rows back it.0, apart it.1)) (all-permutation IsMetaRow rows answer same) h
+
+  pub held_table : {X : Type 0} (r : Result X StoreFault) → Judges r (λ _. AllByRecursion IsHeldRow answer × HasRowids answer) (AllByRecursion IsHeldRow answer) → Judges r (λ _. AllByRecursion IsHeldRow rows × HasRowids rows) (AllByRecursion IsHeldRow rows)
+  held_table r h = judged_by r (λ x it. (all-permutation IsHeldRow answer rows back it.0, apart it.1)) (all-permutation IsHeldRow rows answer same) h
+
+  names_back : (names : Names) → AreNames answer names → AreNames rows names
+  names_back names h = record {
+    lawful = all-permutation IsFollowRow answer rows back h.lawful;
+    names_are = h.names_are ∙ same_list name_cmp_total name_cmp-same (map name_in answer) (map name_in rows) (IsPermutation-map name_in answer rows back);
+  }
+
+  pub follow_table : (r : Result Names StoreFault) → Judges r (AreNames answer) (AllByRecursion IsFollowRow answer) → Judges r (AreNames rows) (AllByRecursion IsFollowRow rows)
+  follow_table r h = judged_by r names_back (all-permutation IsFollowRow rows answer same) h
+
+  spans_back : (ids : Ids) → AreSpans answer ids × HasRowids answer → AreSpans rows ids × HasRowids rows
+  spans_back ids h = (
+    record {
+      spans = h.0.spans;
+      least = h.0.least;
+      lawful = h.0.lawful;
+      rows_are = IsPermutation-trans _ _ _ h.0.rows_are (IsPermutation-map shown_span answer rows back);
+    },
+    apart h.1,
+  )
+
+  pub spans_table : (r : Result Ids StoreFault) → Judges r (λ ids. AreSpans answer ids × HasRowids answer) (AllByRecursion IsSpanRow answer × IsDistinct touches (map span_in answer))
+      → Judges r (λ ids. AreSpans rows ids × HasRowids rows) (AllByRecursion IsSpanRow rows × IsDistinct touches (map span_in rows))
+  spans_table r h = judged_by r spans_back (λ it. (all-permutation IsSpanRow rows answer same it.0, IsDistinct-IsPermutation touches flips (map span_in rows) (map span_in answer) (IsPermutation-map span_in rows answer same) it.1)) h
+
+  pub executed_table : (r : Result Ids StoreFault) → Judges r (λ ids. AllByRecursion IsExecutedRow answer × (ids ≡ set.from_list (map id_in answer))) (AllByRecursion IsExecutedRow answer)
+      → Judges r (λ ids. AllByRecursion IsExecutedRow rows × (ids ≡ set.from_list (map id_in rows))) (AllByRecursion IsExecutedRow rows)
+  executed_table r h = judged_by r
+      (λ ids it. (all-permutation IsExecutedRow answer rows back it.0, it.1 ∙ same_list id_cmp_total id_cmp-same (map id_in answer) (map id_in rows) (IsPermutation-map id_in answer rows back)))
+      (all-permutation IsExecutedRow rows answer same) h

@@ -1,0 +1,167 @@
+-- What a query for a whole table answers.
+use Rattle.std.proofs.Common.{◌≡◌, ◌<◌, ◌≤◌, ◌+◌, inl, inr, ℕ, suc, zero, List, [], ◌∷◌, map, flat_map, length, drop, Bool, true, false, not, ◌&&◌, ◌||◌, cond, None, Ok, Err, Result, IfOk, OnOk, IfErr, refl, sym, ap, subst, ◌∙◌, arith}
+use Rattle.std.specs.List.{AllByRecursion}
+use Rattle.std.specs.Prelude.{unwrap_or}
+use Rattle.std.specs.List.Sorted.{IsPermutation}
+use Rattle.std.proofs.lemmas.List.Sorted.{IsPermutation-map}
+use Rattle.sqlite_value.specs.declared.value.Value.{Value}
+use Rattle.sqlite_value.specs.declared.value.Value.TheVariants.{Null}
+use Rattle.sqlite_value.specs.declared.keys.Key.{Key}
+use Rattle.sqlite_value.specs.Order.{Row, column}
+use Rattle.sqlite_sql.specs.Term.{Term, eval_all}
+use Rattle.sqlite_sql.specs.Query.{IsAnswerAs, output, Output}
+use Rattle.sqlite_sql.specs.Program.{overlay}
+use Rattle.sqlite_schema.specs.declared.schema.Column.{Column}
+use Rattle.sqlite_schema.specs.declared.schema.Constraint.TheVariants.{Datatype, NotNull}
+use Rattle.sqlite_schema.specs.declared.command.Command.TheVariants.{Select}
+use Rattle.sqlite_schema.specs.Rules.{are_typed, are_present}
+use Rattle.sqlite_sql.specs.Ops.{is_null}
+use Rattle.sqlite_rules.proofs.ListLemmas.{all_has}
+use Rattle.sqlite_trees.specs.Tree.{Trees}
+use Rattle.sqlite.specs.declared.error.Error.{Error}
+use Rattle.sqlite.specs.Effect.{IsDatabase}
+use Rattle.sqlite.specs.State.{State, IsLive, Shown, IsUnchanged, IsRolledBack, IsNotRun, FailsToQuery, Survives, CommitsShowing}
+use Rattle.sqlite.specs.Given.{IsPlain}
+use Rattle.sqlite.proofs.Callers.{reads_as, never_commits}
+use Rattle.store.specs.Load.{AsksAll, IsFilled, columns_from, whole, Rested}
+use Rattle.store.specs.Apply.{Rests}
+use Rattle.store.proofs.Statements.{unchanged}
+use Rattle.store.proofs.Keeps.{kept_query}
+
+-- ---- How long rows are.
+
+and_left : (a b : Bool) → (a && b) ≡ true → a ≡ true
+and_left true b h = refl
+and_left false b h = h
+
+and_right : (a b : Bool) → (a && b) ≡ true → b ≡ true
+and_right true b h = h
+and_right false b h = absurd (cc)
+
+-- a row has no more values than columns
+no_longer : (at : ℕ) (cs : List Column) (vs : Row) → are_typed None at cs vs ≡ true → length vs ≤ length cs
+no_longer at [] [] h = omega arith
+no_longer at [] (v ∷ vs) h = absurd (cc)
+no_longer at (c ∷ cs) [] h = omega arith
+no_longer at (c ∷ cs) (v ∷ vs) h = let more = no_longer (at + 1) cs vs (and_right _ _ h) in omega arith
+
+-- and none fewer, where the last column is never NULL
+not_past : (row : Row) (at : ℕ) → not (is_null (column row at)) ≡ true → at < length row
+not_past [] at h = absurd (cc)
+not_past (v ∷ row) zero h = omega arith
+not_past (v ∷ row) (suc at) h = let more = not_past row at h in omega arith
+
+no_shorter : (at : ℕ) (cs : List Column) (row : Row) → IsFilled cs → are_present None at cs row ≡ true → at + length cs < length row
+no_shorter at [] row filled h = absurd filled
+no_shorter at (c ∷ []) row filled h = let there = not_past row (at + 1) (subst (λ b. (not b || not (is_null (column row (at + 1)))) ≡ true) filled (and_left _ _ h)) in omega arith
+no_shorter at (c ∷ d ∷ cs) row filled h = let more = no_shorter (at + 1) (d ∷ cs) row filled (and_right _ _ h) in omega arith
+
+behind : (row : Row) (n : ℕ) → n < length row → length (drop 1 row) ≤ n → length row ≡ n + 1
+behind [] n long short = absurd (omega arith)
+behind (v ∷ row) n long short = omega arith
+
+-- ---- What is shown of a row.
+
+shifted : (params : Row) (v : Value) (row : Row) (at n : ℕ) → eval_all (columns_from (suc at) n) (params ∷ (v ∷ row) ∷ []) ≡ eval_all (columns_from at n) (params ∷ row ∷ [])
+shifted params v row at zero = refl
+shifted params v row at (suc n) = ap (λ l. column row at ∷ l) (shifted params v row (suc at) n)
+
+shown_whole : (params row : Row) → eval_all (columns_from 0 (length row)) (params ∷ row ∷ []) ≡ row
+shown_whole params [] = refl
+shown_whole params (v ∷ row) = ap (λ l. v ∷ l) (shifted params v row 0 (length row) ∙ shown_whole params row)
+
+all_shown : (params : Row) (n : ℕ) (rows : List Row) → AllByRecursion (λ row. length row ≡ n) rows → map (λ row. eval_all (columns_from 0 n) (params ∷ row ∷ [])) rows ≡ rows
+all_shown params n [] all = refl
+all_shown params n (row ∷ rows) all = rw (all_shown params n rows all.1) (ap (λ r. r ∷ rows) (ap (λ k. eval_all (columns_from 0 k) (params ∷ row ∷ [])) (sym all.0) ∙ shown_whole params row))
+
+-- ---- What a query answers.
+
+map_twice : {A B C : Type 0} (f : A → B) (g : B → C) (xs : List A) → map g (map f xs) ≡ map (λ x. g (f x)) xs
+map_twice f g [] = refl
+map_twice f g (x ∷ xs) = ap (λ l. g (f x) ∷ l) (map_twice f g xs)
+
+each_matched : (params : Row) (rows : List Row) → flat_map (λ r. (params ∷ r ∷ []) ∷ []) rows ≡ map (λ r. params ∷ r ∷ []) rows
+each_matched params [] = refl
+each_matched params (r ∷ rows) = ap (λ l. (params ∷ r ∷ []) ∷ l) (each_matched params rows)
+
+whole_answers : (tree width : ℕ) (order : List (Term × Key)) (db : Trees) (lost : Value) (params : Row) (rows : List Row) → IsAnswerAs lost (whole tree width order) db params rows
+    → IsPermutation (map (λ r. eval_all (columns_from 0 width) (params ∷ r ∷ [])) (db tree)) rows
+whole_answers tree width order db lost params rows a =
+    let q = whole tree width order in
+    let staged : a.staged ≡ map (λ r. params ∷ r ∷ []) (db tree) = a.grouped ∙ each_matched params (db tree) in
+    let kept : a.kept ≡ map (output q) (map (λ r. params ∷ r ∷ []) (db tree)) = a.distinct ∙ ap (map (output q)) staged in
+    let same : IsPermutation (map (λ (o : Output). o.1) a.kept) (map (λ (o : Output). o.1) a.ordered) = IsPermutation-map (λ (o : Output). o.1) a.kept a.ordered a.same in
+    let first : map (λ (o : Output). o.1) a.kept ≡ map (λ r. eval_all (columns_from 0 width) (params ∷ r ∷ [])) (db tree) =
+    ap (map (λ (o : Output). o.1)) kept ∙ map_twice (output q) (λ (o : Output). o.1) _ ∙ map_twice _ _ (db tree) in
+    subst (IsPermutation (map (λ r. eval_all (columns_from 0 width) (params ∷ r ∷ [])) (db tree))) (sym a.shown) (subst (λ l. IsPermutation l (map (λ (o : Output). o.1) a.ordered)) first same)
+
+nothing_given : (b : Bool) (x : List Row) → unwrap_or (cond b None None) x ≡ x
+nothing_given true x = refl
+nothing_given false x = refl
+
+module _ (sql : List ℕ) (tree : ℕ) (old new : State) (asks : AsksAll old.now.schema sql tree) where
+  -- the rows of the table are as long as its columns say
+  lengths : IsDatabase old.now → AllByRecursion (λ row. length row ≡ suc (length asks.table.columns)) (old.now.trees asks.table.tree)
+  lengths sound = go (old.now.trees asks.table.tree)
+      (all_has _ old.now.schema.tables asks.table (sound.obeys.rules Datatype) asks.there) (all_has _ old.now.schema.tables asks.table (sound.obeys.rules NotNull) asks.there)
+    where
+      go : (rows : List Row) → AllByRecursion (λ row. Rattle.sqlite_schema.specs.Rules.passes Datatype old.now.schema old.now.trees asks.table row ≡ true) rows
+          → AllByRecursion (λ row. Rattle.sqlite_schema.specs.Rules.passes NotNull old.now.schema old.now.trees asks.table row ≡ true) rows → AllByRecursion (λ row. length row ≡ suc (length asks.table.columns)) rows
+      go [] typed present = tt
+      go (row ∷ rows) typed present =
+          let low = no_shorter 0 asks.table.columns row asks.filled (subst (λ k. are_present k 0 asks.table.columns row ≡ true) asks.rowid_apart present.0) in
+          let high = no_longer 0 asks.table.columns (drop 1 row) (subst (λ k. are_typed k 0 asks.table.columns (drop 1 row) ≡ true) asks.rowid_apart (and_left _ _ typed.0)) in
+          (behind row (length asks.table.columns) (omega (arith, low)) high ∙ (omega arith), go rows typed.1 present.1)
+
+  no_tables : (t : ℕ) → overlay old.now.trees [] t ≡ old.now.trees t
+  no_tables t = nothing_given _ (old.now.trees t)
+
+  pub all_rows : {X : Type 0} (items : X → List Row) (r : Result X Error) → IsLive old → OnOk r (IsUnchanged old new) → IfOk r (λ x. Shown sql [] old new (items x)) → IfOk r (λ x. IsPermutation (old.now.trees tree) (items x))
+  all_rows items (Ok x) live same shown =
+      let width = suc (length asks.table.columns) in
+      let sound = (live same.0.was_open).0 in
+      let got = reads_as sql [] old new old.now.schema refl (Select _ _) asks.is asks.plain asks.elsewhere (items x) shown in
+      let answered = whole_answers tree width asks.order (overlay old.now.trees []) Null [] (items x) (got.answer Null) in
+      subst (λ l. IsPermutation l (items x)) (ap (map (λ (r : Row). eval_all (columns_from 0 width) ([] ∷ r ∷ []))) (no_tables tree) ∙ all_shown [] width (old.now.trees tree) (subst (λ t. AllByRecursion (λ (row : Row). length row ≡ width) (old.now.trees t)) asks.tree_is (lengths sound))) answered
+  all_rows items (Err e) live same shown = shown
+
+  pub all_same : {X : Type 0} (items : X → List Row) (r : Result X Error) → IfOk r (λ x. Shown sql [] old new (items x)) → OnOk r (IsUnchanged old new)
+  all_same items (Ok x) shown = unchanged sql [] old new (items x) old.now.schema refl asks.plain shown
+  all_same items (Err e) shown = tt
+
+  rests_unchanged : IsUnchanged old new → Rests old new
+  rests_unchanged same is_open = (same.0.now_is, same.0.committed_is)
+
+  rests_rolled : IsRolledBack old new → old.now ≡ old.committed → Rests old new
+  rests_rolled undone settled is_open = let u = undone.undone is_open in (u.0 ∙ sym settled, u.1)
+
+  rests_not_run : (e : Error) → IsNotRun old new sql [] e → old.now ≡ old.committed → Rests old new
+  unfolding IsNotRun
+  rests_not_run e (inl h) settled = rests_unchanged h.1
+  rests_not_run e (inr h) settled = rests_rolled h.3 settled
+
+  rests_failed : (e : Error) → FailsToQuery sql [] old new e → old.now ≡ old.committed → Rests old new
+  unfolding FailsToQuery
+  rests_failed e (inl h) settled = rests_not_run e h settled
+  rests_failed e (inr h) settled =
+      let known = sym h.1.is in
+      let bare = subst IsPlain (sym known) asks.plain in
+      rests_unchanged (rw bare.0 at h.2).3
+
+  pub all_rests : {X : Type 0} (r : Result X Error) → OnOk r (IsUnchanged old new) → IfErr r (FailsToQuery sql [] old new) → Rested old new
+  all_rests r same failed = record { commit = kept_query sql [] old new r same failed; rests = go r same failed }
+    where
+      go : {X : Type 0} (r : Result X Error) → OnOk r (IsUnchanged old new) → IfErr r (FailsToQuery sql [] old new) → old.now ≡ old.committed → Rests old new
+      go (Ok x) same failed settled = rests_unchanged same
+      go (Err e) same failed settled = rests_failed e failed settled
+
+-- a text that asks for a table commits nothing
+pub all_survives : (sql : List ℕ) (old new : State) → Survives old new (CommitsShowing sql [] old) → Survives old new (λ _. (tree : ℕ) → ¬ AsksAll old.now.schema sql tree)
+all_survives sql old new s = record {
+  clean = s.clean;
+  shield = s.shield;
+  counts = s.counts;
+  limit = s.limit;
+  closes = s.closes;
+  crash = λ clean db left. elim (s.crash clean db left) [ inl was ↦ inl was | inr made ↦ inr (λ tree asks. never_commits sql [] old db asks.plain made) ];
+}

@@ -1,0 +1,198 @@
+-- The sets that rows of spans and of executed are.
+use Rattle.std.proofs.Common.{◌≡◌, ◌<◌, ◌≤◌, ◌+◌, ◌-◌, ◌^◌, ◌⊎◌, inl, inr, ℕ, Bool, true, false, not, ◌&&◌, nat_le, nat_lt, nat_eq, bytes_eq, List, [], ◌∷◌, map, None, Some, Ok, Err, Result, IfOk, IfErr, OnOk, refl, sym, ap, subst, ◌∙◌, arith}
+use Rattle.std.specs.List.{AllByRecursion, IsDistinct, list_any}
+use Rattle.std.specs.List.Sorted.{IsPermutation}
+use Rattle.std.specs.FinSet as set
+use Rattle.std.specs.Ordering.{eq_by_cmp}
+use Rattle.std.proofs.lemmas.Bool.{and_parts, cases_Bool, false_from_ne_true, leb-true}
+use Rattle.std.proofs.lemmas.Bool.Decides.{nat_tests}
+use Rattle.std.proofs.lemmas.Grind.{common_steps}
+use Rattle.std.proofs.lemmas.List.Sorted.{IsPermutation-refl, IsPermutation-sym, list_any-IsPermutation}
+use Rattle.std.proofs.lemmas.Map.Keys.{IsDistinct-IsPermutation}
+use Rattle.std.proofs.lemmas.Slice.Eq.{bytes_eq-Decides}
+use Rattle.sqlite_value.specs.Order.{Row}
+use Rattle.gtid.specs.Identifier.{Id, Ids, IsSource, IsGtid, id_cmp}
+use Rattle.gtid.specs.Span.{is_in, Covers, IsBefore, IsLeast}
+use Rattle.gtid.specs.Reading.{IsLawfulSpan}
+use Rattle.gtid.specs.Gathering.{Rise, Follows}
+use Rattle.gtid.specs.declared.span.Span.{Span}
+use Rattle.gtid.proofs.Sets.{id_cmp_total, id_cmp-same, tied}
+use Rattle.store.specs.declared.fault.StoreFault.{StoreFault}
+use Rattle.store.specs.declared.fault.StoreFault.TheVariants.{NoSuchRow, CountFull, Database, Memory, Damaged, Layout, Broken, Follows as OtherTables}
+use Rattle.store.specs.Rows.{IsSpanRow, IsExecutedRow, HasRowids, AreSpans, touches, stored_span, shown_span, shown_spans, span_in, id_in}
+use Rattle.store.specs.Judge.{span_of_id, apart_from}
+use Rattle.store.specs.Load.{Judges}
+use Rattle.store.proofs.SortedSpans.{all_distinct}
+
+-- ---- Spans in order, of which no neighbours touch.
+
+and_false : (b c : Bool) → b ≡ true → (b && c) ≡ false → c ≡ false
+and_false true c is h = h
+and_false false c is h = absurd (cc)
+
+not_false : (b : Bool) → not b ≡ true → b ≡ false
+not_false true h = absurd (cc)
+not_false false h = refl
+
+le_true : (a b : ℕ) → a ≤ b → nat_le a b ≡ true
+le_true a b h = grind (arith, common_steps, nat_tests)
+
+le_false : (a b : ℕ) → nat_le a b ≡ false → b < a
+le_false a b h = grind (arith, common_steps, nat_tests)
+
+before_from : (a b : Span) → b.lo < b.hi → Follows a.source a.lo b → touches a b ≡ false → IsBefore a b
+before_from a b some (inl less) off = inl less
+before_from a b some (inr at) off =
+    let one = (bytes_eq-Decides a.source b.source).1 (sym at.0) in
+    let low = le_true a.lo b.hi (omega (arith, at.1, some)) in
+    inr (sym at.0, le_false b.lo a.hi (and_false (nat_le a.lo b.hi) (nat_le b.lo a.hi) low (and_false (bytes_eq a.source b.source) _ one off)))
+
+least_from : (a : Span) (spans : List Span) → AllByRecursion IsLawfulSpan (a ∷ spans) → Rise (a ∷ spans) → apart_from (Some a) spans ≡ true → IsLeast (a ∷ spans)
+least_from a [] lawful rise off = lawful.0.1
+least_from a (b ∷ spans) lawful rise off =
+    let parts = and_parts (not (touches a b)) (apart_from (Some b) spans) off in
+    (lawful.0.1, before_from a b lawful.1.0.1 rise.0.0 (not_false (touches a b) parts.0), least_from b spans lawful.1 rise.1 parts.1)
+
+apart_distinct : (spans : List Span) → AllByRecursion IsLawfulSpan spans → Rise spans → apart_from None spans ≡ true → IsDistinct touches spans
+unfolding IsDistinct
+apart_distinct [] lawful rise off = tt
+apart_distinct (a ∷ spans) lawful rise off = all_distinct (a ∷ spans) (least_from a spans lawful rise off)
+
+and_split : (b c : Bool) → (b && c) ≡ false → (b ≡ false) ⊎ (c ≡ false)
+and_split true c h = inr h
+and_split false c h = inl refl
+
+not_true : (b : Bool) → not b ≡ false → b ≡ true
+not_true true h = refl
+not_true false h = absurd (cc)
+
+touching : (a : Span) (spans : List Span) → apart_from (Some a) spans ≡ false → IsDistinct touches (a ∷ spans) → ⊥
+unfolding IsDistinct
+touching a [] h up = absurd (cc)
+touching a (b ∷ spans) h up = elim (and_split (not (touches a b)) (apart_from (Some b) spans) h) [
+  | inl here ↦ (let one = not_true (touches a b) here in let off = up.0.0 in cc)
+  | inr there ↦ touching b spans there up.1
+]
+
+not_apart : (spans : List Span) → apart_from None spans ≡ false → IsDistinct touches spans → ⊥
+not_apart [] h up = absurd (cc)
+not_apart (a ∷ spans) h up = touching a spans h up
+
+bytes_flip : (a b : List ℕ) → bytes_eq a b ≡ bytes_eq b a
+bytes_flip a b = elim (cases_Bool (bytes_eq a b)) [
+  | inl one ↦ one ∙ sym ((bytes_eq-Decides b a).1 (sym ((bytes_eq-Decides a b).0 one)))
+  | inr off ↦ off ∙ sym (false_from_ne_true _ (λ back. let one = (bytes_eq-Decides a b).1 (sym ((bytes_eq-Decides b a).0 back)) in cc))
+]
+
+and_flip : (b c : Bool) → (b && c) ≡ (c && b)
+and_flip true true = refl
+and_flip true false = refl
+and_flip false true = refl
+and_flip false false = refl
+
+pub flips : (a b : Span) → touches a b ≡ touches b a
+flips a b = rw (bytes_flip a.source b.source, and_flip (nat_le a.lo b.hi) (nat_le b.lo a.hi)) refl
+
+module _ (spans sorted : List Span) (same : IsPermutation spans sorted) (rise : Rise sorted) (lawful : AllByRecursion IsLawfulSpan sorted) where
+  pub set_damaged : apart_from None sorted ≡ false → IsDistinct touches spans → ⊥
+  set_damaged off up = not_apart sorted off (IsDistinct-IsPermutation touches flips spans sorted same up)
+
+  pub set_apart : apart_from None sorted ≡ true → IsDistinct touches spans
+  set_apart off = IsDistinct-IsPermutation touches flips sorted spans (IsPermutation-sym _ _ same) (apart_distinct sorted lawful rise off)
+
+pub set_covers : (spans sorted : List Span) (rules : Type 0) (r : Result Ids StoreFault) → IsPermutation spans sorted → IfOk r (Covers sorted) → IfErr r (λ fault. fault ≡ Memory) → Judges r (Covers spans) rules
+set_covers spans sorted rules (Ok ids) same ok err = λ q. ok q ∙ sym (list_any-IsPermutation (is_in q) spans sorted same)
+set_covers spans sorted rules (Err e) same ok err = subst (λ f. Judges {X = Ids} (Err f) (Covers spans) rules) (sym err) tt
+
+-- ---- Rows of spans.
+
+lawful_rows : (rows : List Row) → AllByRecursion IsSpanRow rows → AllByRecursion IsLawfulSpan (map span_in rows)
+lawful_rows [] all = tt
+lawful_rows (row ∷ rows) all =
+    let it = all.0 in
+    let is : span_in row ≡ it.1 = ap span_in it.2 in
+    (subst IsLawfulSpan (sym is) (it.4, it.5, omega (arith, it.6)), lawful_rows rows all.1)
+
+pub lawful_spans : (rows : List Row) (spans : List Span) → AllByRecursion IsSpanRow rows → spans ≡ map span_in rows → AllByRecursion IsLawfulSpan spans
+lawful_spans rows spans all is = subst (AllByRecursion IsLawfulSpan) (sym is) (lawful_rows rows all)
+
+some_spans : (spans : List Span) → AllByRecursion IsLawfulSpan spans → AllByRecursion (λ s. s.lo < s.hi) spans
+some_spans [] all = tt
+some_spans (s ∷ spans) all = (all.0.1, some_spans spans all.1)
+
+shown_rows : (rows : List Row) → AllByRecursion IsSpanRow rows → map stored_span (map span_in rows) ≡ shown_spans rows
+shown_rows [] all = refl
+shown_rows (row ∷ rows) all =
+    let it = all.0 in
+    rw (shown_rows rows all.1) (ap (λ (r : Row). stored_span (span_in r) ∷ shown_spans rows) it.2 ∙ ap (λ (r : Row). shown_span r ∷ shown_spans rows) (sym it.2))
+
+in_span : (q : Id) (s : Span) → IsSource s.source → 1 ≤ s.lo → s.hi ≤ 2 ^ 63 - 1 → is_in q s ≡ true → IsGtid q
+in_span q s source low high h =
+    let p = and_parts (bytes_eq q.0 s.source) (nat_le s.lo q.1 && nat_lt q.1 s.hi) h in
+    let n = and_parts (nat_le s.lo q.1) (nat_lt q.1 s.hi) p.1 in
+    let from = leb-true s.lo q.1 n.0 in
+    let to = lt_from q.1 s.hi n.1 in
+    (subst IsSource (sym ((bytes_eq-Decides q.0 s.source).0 p.0)) source, omega (arith, low, from), omega (arith, high, to))
+  where
+    lt_from : (a b : ℕ) → nat_lt a b ≡ true → a < b
+    lt_from a b h = grind (arith, common_steps, nat_tests)
+
+are_gtids : (rows : List Row) → AllByRecursion IsSpanRow rows → (q : Id) → list_any (is_in q) (map span_in rows) ≡ true → IsGtid q
+are_gtids [] all q h = absurd (cc)
+are_gtids (row ∷ rows) all q h =
+    let it = all.0 in
+    elim (cases_Bool (is_in q (span_in row))) [
+      | inl here ↦ in_span q it.1 it.3 it.4 it.6 (subst (λ s. is_in q s ≡ true) (ap span_in it.2) here)
+      | inr off ↦ are_gtids rows all.1 q (rw off at h)
+    ]
+
+pub spans_judged : (rows : List Row) (spans : List Span) (r : Result Ids StoreFault) → AllByRecursion IsSpanRow rows → HasRowids rows → spans ≡ map span_in rows → OnOk r (IsDistinct touches spans)
+    → Judges r (Covers spans) (IsDistinct touches spans) → Judges r (λ ids. AreSpans rows ids × HasRowids rows) (AllByRecursion IsSpanRow rows × IsDistinct touches (map span_in rows))
+spans_judged rows spans (Ok ids) all rowids is up covers =
+    let c : Covers (map span_in rows) ids = subst (λ l. Covers l ids) is covers in (
+      record {
+        spans = map span_in rows;
+        least = record { some = some_spans _ (lawful_rows rows all); apart = subst (IsDistinct touches) is up; covers = c };
+        lawful = λ q there. are_gtids rows all q (sym (c q) ∙ there);
+        rows_are = subst (λ l. IsPermutation l (shown_spans rows)) (sym (shown_rows rows all)) (IsPermutation-refl (shown_spans rows));
+      },
+      rowids,
+    )
+spans_judged rows spans (Err Damaged) all rowids is up off = λ rules. off (subst (IsDistinct touches) (sym is) rules.1)
+spans_judged rows spans (Err Memory) all rowids is up h = tt
+spans_judged rows spans (Err (Database e)) all rowids is up h = tt
+spans_judged rows spans (Err (NoSuchRow at)) all rowids is up h = tt
+spans_judged rows spans (Err (CountFull at)) all rowids is up h = tt
+spans_judged rows spans (Err (Layout n)) all rowids is up h = tt
+spans_judged rows spans (Err Broken) all rowids is up h = tt
+spans_judged rows spans (Err OtherTables) all rowids is up h = tt
+
+-- ---- Rows of executed.
+
+pub lawful_ids : (rows : List Row) (spans : List Span) → AllByRecursion IsExecutedRow rows → spans ≡ map (λ r. span_of_id (id_in r)) rows → AllByRecursion IsLawfulSpan spans
+lawful_ids rows spans all is = subst (AllByRecursion IsLawfulSpan) (sym is) (go rows all)
+  where
+    go : (rows : List Row) → AllByRecursion IsExecutedRow rows → AllByRecursion IsLawfulSpan (map (λ r. span_of_id (id_in r)) rows)
+    go [] all = tt
+    go (row ∷ rows) all =
+        let it = all.0 in
+        let is : span_of_id (id_in row) ≡ span_of_id it.1 = ap (λ r. span_of_id (id_in r)) it.2 in
+        (subst IsLawfulSpan (sym is) (it.3.1, omega arith, omega (arith, it.3.2)), go rows all.1)
+
+one_number : (n m : ℕ) → (nat_le m n && nat_lt n (m + 1)) ≡ nat_eq n m
+one_number n m = grind (arith, common_steps, nat_tests)
+
+listed_ids : (q : Id) (rows : List Row) → list_any (is_in q) (map (λ r. span_of_id (id_in r)) rows) ≡ list_any (eq_by_cmp id_cmp q) (map id_in rows)
+listed_ids q [] = refl
+listed_ids q (row ∷ rows) = rw (listed_ids q rows, tied q (id_in row), one_number q.1 (id_in row).1) refl
+
+pub ids_judged : (rows : List Row) (spans : List Span) (r : Result Ids StoreFault) → AllByRecursion IsExecutedRow rows → spans ≡ map (λ r. span_of_id (id_in r)) rows → IfOk r (Covers spans) → IfErr r (λ fault. fault ≡ Memory)
+    → Judges r (λ ids. AllByRecursion IsExecutedRow rows × (ids ≡ set.from_list (map id_in rows))) (AllByRecursion IsExecutedRow rows)
+ids_judged rows spans (Ok ids) all is ok err =
+    let c : Covers (map (λ r. span_of_id (id_in r)) rows) ids = subst (λ l. Covers l ids) is ok in
+    (all, set.same_set id_cmp_total id_cmp-same ids (set.from_list (map id_in rows)) (λ q. c q ∙ listed_ids q rows ∙ sym (set.contains-from_list id_cmp_total (map id_in rows) q)))
+ids_judged rows spans (Err e) all is ok err = subst (λ f. Judges {X = Ids} (Err f) (λ ids. AllByRecursion IsExecutedRow rows × (ids ≡ set.from_list (map id_in rows))) (AllByRecursion IsExecutedRow rows)) (sym err) tt
+
+pub on_ok : {X E P : Type 0} (r : Result X E) → P → OnOk r P
+on_ok (Ok x) p = p
+on_ok (Err e) p = tt

@@ -1,0 +1,123 @@
+-- Tables that are read one after the other.
+use Rattle.std.proofs.Common.{◌≡◌, inl, inr, List, ℕ, refl, sym, subst, ◌∙◌, arith}
+use Rattle.std.proofs.Common.{pos, map}
+use Rattle.std.specs.List.{AllByRecursion}
+use Rattle.std.specs.FinSet as set
+use Rattle.sqlite.specs.Effect.{Database as Db}
+use Rattle.sqlite_trees.specs.Tree.{Trees}
+use Rattle.sqlite.specs.State.{State, HasCleanDisk, IsUnchanged, Survives}
+use Rattle.sqlite.proofs.StateLemmas.{survives_then}
+use Rattle.store.specs.declared.fault.StoreFault.{StoreFault}
+use Rattle.gtid.specs.Identifier.{Ids}
+use Rattle.binlog.specs.Follow.{Names}
+use Rattle.store.specs.declared.fault.StoreFault.TheVariants.{NoSuchRow, CountFull, Database, Memory, Damaged, Layout, Broken, Follows}
+use Rattle.store.specs.State.{Content}
+use Rattle.store.specs.Layout.{IsLaidOut, first_layout}
+use Rattle.store.specs.Rows.{SaysLayout, meta_rows, held_rows, span_rows, follow_rows, first_meta_rows, executed_rows, first_held_rows, IsMetaRow, IsHeldRow, IsExecutedRow, HasRowids, AreNames, AreSpans, StandsFor, StandsForFirst, id_in, bag_of, count}
+use Rattle.store.specs.Load.{AsksAll, Rested, OnDamaged, IsLoaded, IsFirstLoaded}
+use Rattle.store.proofs.Keeps.{kept_unchanged, kept_then}
+
+pub rested_unchanged : (a b : State) → IsUnchanged a b → Rested a b
+rested_unchanged a b same = record { commit = kept_unchanged a b same; rests = λ settled is_open. (same.0.now_is, same.0.committed_is) }
+
+pub rested_after : (a b c : State) → IsUnchanged a b → Rested b c → Rested a c
+rested_after a b c same rested = record {
+  commit = kept_then a b c (kept_unchanged a b same) rested.commit;
+  rests = λ settled is_open.
+      let r = rested.rests (same.0.now_is ∙ settled ∙ sym same.0.committed_is) is_open in
+      (r.0 ∙ same.0.now_is, r.1 ∙ same.0.committed_is);
+}
+
+-- the tables are where they were
+pub still_asks : (a b : State) (text : List ℕ) (tree : ℕ) → IsUnchanged a b → AsksAll a.now.schema text tree → AsksAll b.now.schema text tree
+still_asks a b text tree same asks = subst (λ (db : Db). AsksAll db.schema text tree) (sym same.0.now_is) asks
+
+pub first_step : (a b : State) (text : List ℕ) (tree : ℕ) → AsksAll a.now.schema text tree → Survives a b (λ _. (tree : ℕ) → ¬ AsksAll a.now.schema text tree) → Survives a b (λ _. ⊥)
+first_step a b text tree asks s = record {
+  clean = s.clean;
+  shield = s.shield;
+  counts = s.counts;
+  limit = s.limit;
+  closes = s.closes;
+  crash = λ clean db left. elim (s.crash clean db left) [ inl was ↦ inl was | inr made ↦ absurd (made tree asks) ];
+}
+
+pub clean_before : (b c : State) (P : Trees → Type 0) → Survives b c P → HasCleanDisk c → HasCleanDisk b
+clean_before b c P s clean = omega (arith, s.clean, clean)
+
+pub next_step : (a b c : State) (text : List ℕ) (tree : ℕ) → AsksAll a.now.schema text tree → (HasCleanDisk b → IsUnchanged a b) → Survives a b (λ _. ⊥) → Survives b c (λ _. (tree : ℕ) → ¬ AsksAll b.now.schema text tree) → Survives a c (λ _. ⊥)
+next_step a b c text tree asks same one two =
+    let both = survives_then a b c (λ _. ⊥) (λ _. (tree : ℕ) → ¬ AsksAll b.now.schema text tree) (λ _. (tree : ℕ) → ¬ AsksAll b.now.schema text tree) (λ _ db none. absurd none) (λ _ db made. made) one two in
+    record {
+      clean = both.clean;
+      shield = both.shield;
+      counts = both.counts;
+      limit = both.limit;
+      closes = both.closes;
+      crash = λ clean db left. elim (both.crash clean db left) [ inl was ↦ inl was | inr made ↦ absurd (made tree (still_asks a b text tree (same (clean_before b c _ two clean)) asks)) ];
+    }
+
+-- ---- A fault is handed on.
+
+pub seen_by : {P Q : Type 0} (f : StoreFault) → (P → Q) → OnDamaged f P → OnDamaged f Q
+seen_by (NoSuchRow at) h p = tt
+seen_by (CountFull at) h p = tt
+seen_by (Database e) h p = tt
+seen_by Memory h p = tt
+seen_by Damaged h p = h p
+seen_by (Layout n) h p = tt
+seen_by Broken h p = tt
+seen_by Follows h p = tt
+
+pub fault_by : {rules others : Type 0} (f : StoreFault) → (others → rules) → OnDamaged f (¬ rules) → OnDamaged f (¬ others)
+fault_by f back h = seen_by f (λ off o. off (back o)) h
+
+-- ---- What was loaded.
+
+pub first_loaded : (s t : State) (ids : Ids) → s.now.schema ≡ first_layout → s.now ≡ s.committed → SaysLayout (pos 1) (first_meta_rows s.now) → IsUnchanged s t
+    → AllByRecursion IsMetaRow (first_meta_rows s.now) × HasRowids (first_meta_rows s.now) → AllByRecursion IsExecutedRow (executed_rows s.now) × (ids ≡ set.from_list (map id_in (executed_rows s.now)))
+    → AllByRecursion IsHeldRow (first_held_rows s.now) × HasRowids (first_held_rows s.now) → IsFirstLoaded t ids
+first_loaded s t ids made settled says same meta executed held =
+    let content : Content = record { executed = ids; rows = bag_of (count (first_held_rows s.now)) } in
+    record {
+      content = content;
+      executed_is = refl;
+      rest = record {
+        is_open = same.0.is_open;
+        settled = same.0.now_is ∙ settled ∙ sym same.0.committed_is;
+        meta_apart = subst (λ (db : Db). HasRowids (first_meta_rows db)) (sym same.0.now_is) meta.1;
+        held_apart = subst (λ (db : Db). HasRowids (first_held_rows db)) (sym same.0.now_is) held.1;
+        stands = subst (λ (db : Db). StandsForFirst db content) (sym same.0.now_is) (record {
+          laid_out = made;
+          says = says;
+          rules = record { meta = meta.0; executed = executed.0; held = held.0 };
+          executed = executed.1;
+          rows = refl;
+        });
+      };
+    }
+
+pub loaded : (s t : State) (ids : Ids) (names : Names) → IsLaidOut s.now.schema → s.now ≡ s.committed → SaysLayout (pos 2) (meta_rows s.now) → IsUnchanged s t
+    → AllByRecursion IsMetaRow (meta_rows s.now) × HasRowids (meta_rows s.now) → AreNames (follow_rows s.now) names → AreSpans (span_rows s.now) ids × HasRowids (span_rows s.now)
+    → AllByRecursion IsHeldRow (held_rows s.now) × HasRowids (held_rows s.now) → IsLoaded t ids names
+loaded s t ids names laid settled says same meta follow spans held =
+    let content : Content = record { executed = ids; rows = bag_of (count (held_rows s.now)) } in
+    record {
+      content = content;
+      executed_is = refl;
+      rest = record {
+        is_open = same.0.is_open;
+        settled = same.0.now_is ∙ settled ∙ sym same.0.committed_is;
+        held_apart = subst (λ (db : Db). HasRowids (held_rows db)) (sym same.0.now_is) held.1;
+        spans_apart = subst (λ (db : Db). HasRowids (span_rows db)) (sym same.0.now_is) spans.1;
+        stands = subst (λ (db : Db). StandsFor db names content) (sym same.0.now_is) (record {
+          laid_out = laid;
+          says = says;
+          meta = meta.0;
+          follow = follow;
+          held = held.0;
+          executed = spans.0;
+          rows = refl;
+        });
+      };
+    }

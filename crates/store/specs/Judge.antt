@@ -1,0 +1,55 @@
+-- What is told of rows one after the other.
+use Rattle.std.specs.Prelude.{◌≡◌, ◌+◌, ◌<ℤ◌, Bool, true, false, not, ◌&&◌, ℤ, List, [], ◌∷◌, map, filter, codes, Option, None, Some}
+use Rattle.sqlite_value.specs.declared.value.Value.{Value}
+use Rattle.sqlite_value.specs.declared.value.Value.TheVariants.{Int}
+use Rattle.sqlite_value.specs.Order.{Row, column}
+use Rattle.sqlite_trees.specs.Tree.{rowid}
+use Rattle.gtid.specs.Identifier.{Id}
+use Rattle.gtid.specs.declared.span.Span.{Span}
+use Rattle.store.specs.declared.fault.StoreFault.{StoreFault}
+use Rattle.store.specs.declared.fault.StoreFault.TheVariants.{Database, Memory}
+use Rattle.store.specs.Rows.{span, is_text, touches}
+
+-- the span of one identifier
+abbrev pub span_of_id : Id → Span
+span_of_id q = span q.0 q.1 (q.1 + 1)
+
+-- The rowid is above the last one, where there is one.
+abbrev pub IsBehind : Option ℤ → ℤ → Type 0
+IsBehind None id = Unit {0}
+IsBehind (Some last) id = last <ℤ id
+
+-- the rowids are integers and ascend
+abbrev pub Rise : Option ℤ → List Row → Type 0
+Rise last [] = Unit {0}
+Rise last (row ∷ rows) = (id : ℤ) × (rowid row ≡ Int id) × IsBehind last id × Rise (Some id) rows
+
+-- a statement failed, or an allocation was refused
+abbrev pub IsCause : StoreFault → Type 0
+IsCause (Database e) = Unit {0}
+IsCause Memory = Unit {0}
+IsCause _ = ⊥
+
+-- the numbers of the key `layout`
+abbrev pub layouts : List Row → List Value
+layouts rows = map (λ row. column row 2) (filter (λ row. is_text (codes "layout") (column row 1)) rows)
+
+-- the one value is this number, or there is no such
+abbrev pub IsOnly : List Value → Option ℤ → Type 0
+IsOnly values None = (n : ℤ) → ¬ (values ≡ Int n ∷ [])
+IsOnly values (Some n) = values ≡ Int n ∷ []
+
+-- what was found so far
+abbrev pub found_values : Option ℤ → List Value
+found_values None = []
+found_values (Some n) = Int n ∷ []
+
+-- whether the span touches or overlaps the last one, where there is one
+abbrev pub touches_last : Option Span → Span → Bool
+touches_last None s = false
+touches_last (Some last) s = touches last s
+
+-- whether no two neighbours touch or overlap
+abbrev pub apart_from : Option Span → List Span → Bool
+apart_from last [] = true
+apart_from last (s ∷ spans) = not (touches_last last s) && apart_from (Some s) spans

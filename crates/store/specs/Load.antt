@@ -1,0 +1,133 @@
+-- Reading whole tables when a database is opened, and what the rows stand for.
+use Rattle.std.specs.Prelude.{◌≡◌, ℕ, suc, zero, pos, negsuc, true, false, List, [], ◌∷◌, codes, length, None, Result, Ok, Err}
+use Rattle.sqlite_value.specs.declared.value.Value.TheVariants.{Int}
+use Rattle.sqlite_value.specs.declared.keys.Key.{Key}
+use Rattle.sqlite_sql.specs.Term.{Term, lit, col}
+use Rattle.sqlite_sql.specs.Query.{Query, inner, end}
+use Rattle.sqlite_schema.specs.declared.schema.Schema.{Schema}
+use Rattle.sqlite_schema.specs.declared.schema.Table.{Table}
+use Rattle.sqlite_schema.specs.declared.schema.Index.{Index}
+use Rattle.sqlite_schema.specs.declared.schema.View.{View}
+use Rattle.sqlite_schema.specs.declared.schema.Column.{Column}
+use Rattle.sqlite_schema.specs.declared.command.Command.TheVariants.{Select}
+use Rattle.sqlite_rules.specs.Lists.{Has}
+use Rattle.sqlite.specs.State.{State, KeepsCommit}
+use Rattle.sqlite.specs.Listing.{understood, reads_listing}
+use Rattle.sqlite.specs.Given.{IsPlain}
+use Rattle.sqlite.proofs.Callers.{command_of}
+use Rattle.gtid.specs.Identifier.{Ids}
+use Rattle.binlog.specs.Follow.{Names}
+use Rattle.store.specs.declared.fault.StoreFault.{StoreFault}
+use Rattle.store.specs.declared.fault.StoreFault.TheVariants.{Database, Memory, Damaged}
+use Rattle.store.specs.State.{Content}
+use Rattle.store.specs.Layout.{meta_at, made}
+use Rattle.store.specs.Apply.{IsAtRest, Rests}
+use Rattle.store.specs.Open.{IsFirstAtRest}
+
+-- ---- The texts.
+
+abbrev pub all_meta_text : List ℕ
+all_meta_text = codes "SELECT rowid, k, v FROM meta ORDER BY rowid"
+
+abbrev pub all_held_text : List ℕ
+all_held_text = codes "SELECT rowid, schema_name, table_name, image, n FROM held ORDER BY rowid"
+
+abbrev pub all_spans_text : List ℕ
+all_spans_text = codes "SELECT rowid, source, lo, hi FROM spans ORDER BY rowid"
+
+abbrev pub all_follow_text : List ℕ
+all_follow_text = codes "SELECT rowid, schema_name, table_name FROM follow ORDER BY rowid"
+
+-- of layout 1
+abbrev pub all_executed_text : List ℕ
+all_executed_text = codes "SELECT rowid, source, number FROM executed ORDER BY rowid"
+
+-- ---- What they mean.
+
+-- the first columns of a row, from this one on
+abbrev pub columns_from : ℕ → ℕ → List Term
+columns_from at zero = []
+columns_from at (suc n) = col 1 at ∷ columns_from (suc at) n
+
+-- so many columns of all rows of a tree
+abbrev pub whole : ℕ → ℕ → List (Term × Key) → Query
+whole tree width order = record {
+  from = inner tree end;
+  filter = [];
+  group = None;
+  project = columns_from 0 width;
+  distinct = false;
+  collations = [];
+  order = order;
+  limit = lit (Int (negsuc 0));
+  offset = lit (Int (pos 0));
+}
+
+-- The last column of the table is never NULL.
+abbrev pub IsFilled : List Column → Type 0
+IsFilled [] = ⊥
+IsFilled (c ∷ []) = c.not_null ≡ true
+IsFilled (c ∷ d ∷ cs) = IsFilled (d ∷ cs)
+
+-- The text asks for the rows of this tree, which is that of a table, with all their columns.
+pub record AsksAll (schema : Schema) (text : List ℕ) (tree : ℕ) : Type 0 where
+  pub table : Table
+  pub there : Has schema.tables table
+  pub tree_is : table.tree ≡ tree
+  pub rowid_apart : table.key ≡ None
+  pub filled : IsFilled table.columns
+  pub order : List (Term × Key)
+  pub names : List (List ℕ)
+  pub is : command_of (understood schema text) ≡ Select (record { lets = []; body = whole tree (suc (length table.columns)) order }) names
+  pub plain : IsPlain (understood schema text)
+  pub elsewhere : reads_listing schema text ≡ false
+
+-- The table `meta` is first, whatever tables follow.
+pub record IsMetaFirst (schema : Schema) : Type 0 where
+  pub others : List Table
+  pub indexes : List Index
+  pub views : List View
+  pub is : schema ≡ record { tables = meta_at made ∷ others; indexes = indexes; views = views }
+
+-- ---- A call that reads.
+
+-- This holds where the fault is that the rows are damaged.
+abbrev pub OnDamaged : StoreFault → Type 0 → Type 0
+OnDamaged Damaged P = P
+OnDamaged _ P = Unit {0}
+
+-- This holds where the call answers, or finds the rows damaged.
+abbrev pub OnSeen : {X : Type 0} → Result X StoreFault → Type 0 → Type 0
+OnSeen (Ok x) P = P
+OnSeen (Err fault) P = OnDamaged fault P
+
+-- The answer is lawful. Where it is that the rows are damaged, they break the rules.
+abbrev pub Judges : {X : Type 0} → Result X StoreFault → (X → Type 0) → Type 0 → Type 0
+Judges (Ok x) Lawful rules = Lawful x
+Judges (Err fault) Lawful rules = OnDamaged fault (¬ rules)
+
+-- a statement failed, an allocation was refused, or the rows break the rules
+abbrev pub IsLoadFault : StoreFault → Type 0
+IsLoadFault (Database e) = Unit {0}
+IsLoadFault Memory = Unit {0}
+IsLoadFault Damaged = Unit {0}
+IsLoadFault _ = ⊥
+
+-- Nothing is committed, and where nothing was to be, nothing has changed where the connection is still open.
+pub record Rested (old new : State) : Type 0 where
+  pub commit : KeepsCommit old new
+  pub rests : old.now ≡ old.committed → Rests old new
+
+-- ---- What the rows stand for.
+
+-- The connection is at rest with a content of these executed transactions.
+pub record IsLoaded (s : State) (executed : Ids) (names : Names) : Type 0 where
+  pub content : Content
+  pub rest : IsAtRest s names content
+  pub executed_is : executed ≡ content.executed
+
+-- The same of layout 1.
+pub record IsFirstLoaded (s : State) (executed : Ids) : Type 0 where
+  pub content : Content
+  pub rest : IsFirstAtRest s content
+  pub executed_is : executed ≡ content.executed

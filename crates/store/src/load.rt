@@ -1,0 +1,173 @@
+//! Reading the tables when a database is opened.
+
+ghost use Rattle.std.specs.Prelude.{◌≡◌, ℕ, ℤ, false, pos, map, IfOk, IfErr, OnOk, MatchOption, IsPermutation};
+ghost use Rattle.std.specs.List.{AllByRecursion, IsDistinct};
+ghost use Rattle.std.specs.FinSet as set;
+ghost use Rattle.sqlite.specs.State.{HasCleanDisk, IsUnchanged, Survives};
+ghost use Rattle.sqlite.specs.Held.{state};
+ghost use Rattle.store.specs.Layout.{IsLaidOut, first_layout};
+ghost use Rattle.store.specs.Rows.{SaysLayout, meta_rows, first_meta_rows, HasRowids, IsMetaRow, IsHeldRow, IsFollowRow, IsSpanRow, IsExecutedRow, AreNames, AreSpans, KeepsRules, KeepsFirstRules, touches, span_in, id_in};
+ghost use Rattle.store.specs.Load.{AsksAll, IsMetaFirst, Rested, OnSeen, Judges, IsLoadFault, all_meta_text, all_held_text, all_spans_text, all_follow_text, all_executed_text, IsLoaded, IsFirstLoaded};
+
+use crate::fault::StoreFault;
+use crate::judge::layout_in;
+use crate::tables::{executed_from, follow_from, judge_held, judge_meta, spans_from};
+use binlog::Follow;
+use gtid::GtidSet;
+use sqlite::{Alter, Connection, Error, Row};
+use std::alloc::Global;
+
+/// What the rows of a database of layout 2 stand for, in memory.
+pub(crate) struct Loaded {
+    pub(crate) executed: GtidSet,
+    pub(crate) following: Follow,
+}
+
+/// All rows of a table, by a text that asks for them.
+fn read_all<S: Alter>(conn: &mut Connection<S>, sql: &str) -> Result<Vec<Row>, Error>
+    requires { conn.old.in_transaction ≡ false }
+    ensures autocommit { conn.new.in_transaction ≡ false }
+    ensures rows { HasCleanDisk (state S.Store conn.new) → (tree : ℕ) → AsksAll (state S.Store conn.old).now.schema sql.now tree → IfOk result (λ rows. IsPermutation ((state S.Store conn.old).now.trees tree) rows.items) }
+    ensures same { HasCleanDisk (state S.Store conn.new) → (tree : ℕ) → AsksAll (state S.Store conn.old).now.schema sql.now tree → OnOk result (IsUnchanged (state S.Store conn.old) (state S.Store conn.new)) }
+    ensures rested { HasCleanDisk (state S.Store conn.new) → (tree : ℕ) → AsksAll (state S.Store conn.old).now.schema sql.now tree → Rested (state S.Store conn.old) (state S.Store conn.new) }
+    ensures crash { Survives (state S.Store conn.old) (state S.Store conn.new) (λ _. (tree : ℕ) → ¬ AsksAll (state S.Store conn.old).now.schema sql.now tree) }
+{
+    conn.schema();
+    conn.query_all(sql, &[])
+}
+
+/// The layout that `meta` says. None where it has not exactly one row of the key `layout`, or another value there
+/// than a whole number.
+pub(crate) fn layout_of<S: Alter>(conn: &mut Connection<S>) -> Result<Option<i64>, Error>
+    requires { conn.old.in_transaction ≡ false }
+    ensures autocommit { conn.new.in_transaction ≡ false }
+    ensures says { HasCleanDisk (state S.Store conn.new) → IsMetaFirst (state S.Store conn.old).now.schema → IfOk result (λ said. MatchOption said ((n : ℤ) → ¬ SaysLayout n (first_meta_rows (state S.Store conn.old).now)) (λ n. SaysLayout n (first_meta_rows (state S.Store conn.old).now))) }
+    ensures same { HasCleanDisk (state S.Store conn.new) → IsMetaFirst (state S.Store conn.old).now.schema → OnOk result (IsUnchanged (state S.Store conn.old) (state S.Store conn.new)) }
+    ensures rested { HasCleanDisk (state S.Store conn.new) → IsMetaFirst (state S.Store conn.old).now.schema → Rested (state S.Store conn.old) (state S.Store conn.new) }
+    ensures crash { IsMetaFirst (state S.Store conn.old).now.schema → Survives (state S.Store conn.old) (state S.Store conn.new) (λ _. ⊥) }
+{
+    let rows = read_all(conn, "SELECT rowid, k, v FROM meta ORDER BY rowid")?;
+    layout_in(&rows)
+}
+
+/// Judges the rows of `meta`.
+fn load_meta<S: Alter>(conn: &mut Connection<S>) -> Result<(), StoreFault>
+    requires { conn.old.in_transaction ≡ false }
+    ensures autocommit { conn.new.in_transaction ≡ false }
+    ensures judged { HasCleanDisk (state S.Store conn.new) → (tree : ℕ) → AsksAll (state S.Store conn.old).now.schema all_meta_text tree → Judges result (λ _. AllByRecursion IsMetaRow ((state S.Store conn.old).now.trees tree) × HasRowids ((state S.Store conn.old).now.trees tree)) (AllByRecursion IsMetaRow ((state S.Store conn.old).now.trees tree)) }
+    ensures same { HasCleanDisk (state S.Store conn.new) → (tree : ℕ) → AsksAll (state S.Store conn.old).now.schema all_meta_text tree → OnSeen result (IsUnchanged (state S.Store conn.old) (state S.Store conn.new)) }
+    ensures rested { HasCleanDisk (state S.Store conn.new) → (tree : ℕ) → AsksAll (state S.Store conn.old).now.schema all_meta_text tree → Rested (state S.Store conn.old) (state S.Store conn.new) }
+    ensures crash { Survives (state S.Store conn.old) (state S.Store conn.new) (λ _. (tree : ℕ) → ¬ AsksAll (state S.Store conn.old).now.schema all_meta_text tree) }
+    ensures fault { IfErr result IsLoadFault }
+{
+    let rows = read_all(conn, "SELECT rowid, k, v FROM meta ORDER BY rowid")?;
+    judge_meta(&rows)
+}
+
+/// Judges the rows of `held`.
+fn load_held<S: Alter>(alloc: Global, conn: &mut Connection<S>) -> Result<(), StoreFault>
+    requires { conn.old.in_transaction ≡ false }
+    ensures autocommit { conn.new.in_transaction ≡ false }
+    ensures judged { HasCleanDisk (state S.Store conn.new) → (tree : ℕ) → AsksAll (state S.Store conn.old).now.schema all_held_text tree → Judges result (λ _. AllByRecursion IsHeldRow ((state S.Store conn.old).now.trees tree) × HasRowids ((state S.Store conn.old).now.trees tree)) (AllByRecursion IsHeldRow ((state S.Store conn.old).now.trees tree)) }
+    ensures same { HasCleanDisk (state S.Store conn.new) → (tree : ℕ) → AsksAll (state S.Store conn.old).now.schema all_held_text tree → OnSeen result (IsUnchanged (state S.Store conn.old) (state S.Store conn.new)) }
+    ensures rested { HasCleanDisk (state S.Store conn.new) → (tree : ℕ) → AsksAll (state S.Store conn.old).now.schema all_held_text tree → Rested (state S.Store conn.old) (state S.Store conn.new) }
+    ensures crash { Survives (state S.Store conn.old) (state S.Store conn.new) (λ _. (tree : ℕ) → ¬ AsksAll (state S.Store conn.old).now.schema all_held_text tree) }
+    ensures fault { IfErr result IsLoadFault }
+{
+    let rows = read_all(
+        conn,
+        "SELECT rowid, schema_name, table_name, image, n FROM held ORDER BY rowid",
+    )?;
+    judge_held(alloc, &rows)
+}
+
+/// The names in `follow`.
+fn load_follow<S: Alter>(alloc: Global, conn: &mut Connection<S>) -> Result<Follow, StoreFault>
+    requires { conn.old.in_transaction ≡ false }
+    ensures autocommit { conn.new.in_transaction ≡ false }
+    ensures judged { HasCleanDisk (state S.Store conn.new) → (tree : ℕ) → AsksAll (state S.Store conn.old).now.schema all_follow_text tree → Judges result (AreNames ((state S.Store conn.old).now.trees tree)) (AllByRecursion IsFollowRow ((state S.Store conn.old).now.trees tree)) }
+    ensures same { HasCleanDisk (state S.Store conn.new) → (tree : ℕ) → AsksAll (state S.Store conn.old).now.schema all_follow_text tree → OnSeen result (IsUnchanged (state S.Store conn.old) (state S.Store conn.new)) }
+    ensures rested { HasCleanDisk (state S.Store conn.new) → (tree : ℕ) → AsksAll (state S.Store conn.old).now.schema all_follow_text tree → Rested (state S.Store conn.old) (state S.Store conn.new) }
+    ensures crash { Survives (state S.Store conn.old) (state S.Store conn.new) (λ _. (tree : ℕ) → ¬ AsksAll (state S.Store conn.old).now.schema all_follow_text tree) }
+    ensures fault { IfErr result IsLoadFault }
+{
+    let rows = read_all(
+        conn,
+        "SELECT rowid, schema_name, table_name FROM follow ORDER BY rowid",
+    )?;
+    follow_from(alloc, &rows)
+}
+
+/// The set in `spans`.
+fn load_spans<S: Alter>(alloc: Global, conn: &mut Connection<S>) -> Result<GtidSet, StoreFault>
+    requires { conn.old.in_transaction ≡ false }
+    ensures autocommit { conn.new.in_transaction ≡ false }
+    ensures judged { HasCleanDisk (state S.Store conn.new) → (tree : ℕ) → AsksAll (state S.Store conn.old).now.schema all_spans_text tree → Judges result (λ ids. AreSpans ((state S.Store conn.old).now.trees tree) ids × HasRowids ((state S.Store conn.old).now.trees tree)) (AllByRecursion IsSpanRow ((state S.Store conn.old).now.trees tree) × IsDistinct touches (map span_in ((state S.Store conn.old).now.trees tree))) }
+    ensures same { HasCleanDisk (state S.Store conn.new) → (tree : ℕ) → AsksAll (state S.Store conn.old).now.schema all_spans_text tree → OnSeen result (IsUnchanged (state S.Store conn.old) (state S.Store conn.new)) }
+    ensures rested { HasCleanDisk (state S.Store conn.new) → (tree : ℕ) → AsksAll (state S.Store conn.old).now.schema all_spans_text tree → Rested (state S.Store conn.old) (state S.Store conn.new) }
+    ensures crash { Survives (state S.Store conn.old) (state S.Store conn.new) (λ _. (tree : ℕ) → ¬ AsksAll (state S.Store conn.old).now.schema all_spans_text tree) }
+    ensures fault { IfErr result IsLoadFault }
+{
+    let rows = read_all(
+        conn,
+        "SELECT rowid, source, lo, hi FROM spans ORDER BY rowid",
+    )?;
+    spans_from(alloc, &rows)
+}
+
+/// The set in `executed`.
+fn load_executed<S: Alter>(alloc: Global, conn: &mut Connection<S>) -> Result<GtidSet, StoreFault>
+    requires { conn.old.in_transaction ≡ false }
+    ensures autocommit { conn.new.in_transaction ≡ false }
+    ensures judged { HasCleanDisk (state S.Store conn.new) → (tree : ℕ) → AsksAll (state S.Store conn.old).now.schema all_executed_text tree → Judges result (λ ids. AllByRecursion IsExecutedRow ((state S.Store conn.old).now.trees tree) × (ids ≡ set.from_list (map id_in ((state S.Store conn.old).now.trees tree)))) (AllByRecursion IsExecutedRow ((state S.Store conn.old).now.trees tree)) }
+    ensures same { HasCleanDisk (state S.Store conn.new) → (tree : ℕ) → AsksAll (state S.Store conn.old).now.schema all_executed_text tree → OnSeen result (IsUnchanged (state S.Store conn.old) (state S.Store conn.new)) }
+    ensures rested { HasCleanDisk (state S.Store conn.new) → (tree : ℕ) → AsksAll (state S.Store conn.old).now.schema all_executed_text tree → Rested (state S.Store conn.old) (state S.Store conn.new) }
+    ensures crash { Survives (state S.Store conn.old) (state S.Store conn.new) (λ _. (tree : ℕ) → ¬ AsksAll (state S.Store conn.old).now.schema all_executed_text tree) }
+    ensures fault { IfErr result IsLoadFault }
+{
+    let rows = read_all(
+        conn,
+        "SELECT rowid, source, number FROM executed ORDER BY rowid",
+    )?;
+    executed_from(alloc, &rows)
+}
+
+/// What the rows of a database of layout 2 stand for. `Damaged` says that they break its rules; the other refusals are
+/// `Database` and `Memory`.
+pub(crate) fn load<S: Alter>(alloc: Global, conn: &mut Connection<S>) -> Result<Loaded, StoreFault>
+    requires { conn.old.in_transaction ≡ false }
+    ensures autocommit { conn.new.in_transaction ≡ false }
+    ensures loads { HasCleanDisk (state S.Store conn.new) → IsLaidOut (state S.Store conn.old).now.schema → (state S.Store conn.old).now ≡ (state S.Store conn.old).committed → SaysLayout (pos 2) (meta_rows (state S.Store conn.old).now) → Judges result (λ l. IsLoaded (state S.Store conn.new) l.executed l.following) (KeepsRules (state S.Store conn.old).now) }
+    ensures same { HasCleanDisk (state S.Store conn.new) → IsLaidOut (state S.Store conn.old).now.schema → OnSeen result (IsUnchanged (state S.Store conn.old) (state S.Store conn.new)) }
+    ensures rested { HasCleanDisk (state S.Store conn.new) → IsLaidOut (state S.Store conn.old).now.schema → Rested (state S.Store conn.old) (state S.Store conn.new) }
+    ensures crash { IsLaidOut (state S.Store conn.old).now.schema → Survives (state S.Store conn.old) (state S.Store conn.new) (λ _. ⊥) }
+    ensures fault { IfErr result IsLoadFault }
+{
+    load_meta(conn)?;
+    let following = load_follow(alloc, conn)?;
+    let executed = load_spans(alloc, conn)?;
+    load_held(alloc, conn)?;
+    Ok(Loaded {
+        executed,
+        following,
+    })
+}
+
+/// The same of layout 1, whose executed transactions it answers.
+pub(crate) fn load_first<S: Alter>(
+    alloc: Global,
+    conn: &mut Connection<S>,
+) -> Result<GtidSet, StoreFault>
+    requires { conn.old.in_transaction ≡ false }
+    ensures autocommit { conn.new.in_transaction ≡ false }
+    ensures loads { HasCleanDisk (state S.Store conn.new) → (state S.Store conn.old).now.schema ≡ first_layout → (state S.Store conn.old).now ≡ (state S.Store conn.old).committed → SaysLayout (pos 1) (first_meta_rows (state S.Store conn.old).now) → Judges result (IsFirstLoaded (state S.Store conn.new)) (KeepsFirstRules (state S.Store conn.old).now) }
+    ensures same { HasCleanDisk (state S.Store conn.new) → (state S.Store conn.old).now.schema ≡ first_layout → OnSeen result (IsUnchanged (state S.Store conn.old) (state S.Store conn.new)) }
+    ensures rested { HasCleanDisk (state S.Store conn.new) → (state S.Store conn.old).now.schema ≡ first_layout → Rested (state S.Store conn.old) (state S.Store conn.new) }
+    ensures crash { (state S.Store conn.old).now.schema ≡ first_layout → Survives (state S.Store conn.old) (state S.Store conn.new) (λ _. ⊥) }
+    ensures fault { IfErr result IsLoadFault }
+{
+    load_meta(conn)?;
+    let executed = load_executed(alloc, conn)?;
+    load_held(alloc, conn)?;
+    Ok(executed)
+}
