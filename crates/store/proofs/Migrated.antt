@@ -2,7 +2,7 @@
 use Rattle.std.proofs.Common.{◌≡◌, ℕ, List, [], ◌∷◌, ◌++◌, map, pos, Bool, true, false, ◌⊎◌, ◌||◌, inl, inr, Ok, Err, Result, OnOk, append-nil, refl, sym, ap, subst, ◌∙◌}
 use Rattle.std.specs.List.{AllByRecursion}
 use Rattle.std.specs.List.Sorted.{IsPermutation}
-use Rattle.std.proofs.lemmas.List.Sorted.{IsPermutation-refl, IsPermutation-trans, IsPermutation-cons, IsPermutation-append_comm, IsPermutation-append_left}
+use Rattle.std.proofs.lemmas.List.Sorted.{IsPermutation-trans, IsPermutation-cons, IsPermutation-append_comm, IsPermutation-append_left}
 use Rattle.std.specs.FinSet as set
 use Rattle.sqlite_value.specs.Order.{Row}
 use Rattle.sqlite.specs.State.{State}
@@ -13,7 +13,7 @@ use Rattle.gtid.proofs.Sets.{id_cmp_total, id_cmp-same}
 use Rattle.store.specs.State.{Content}
 use Rattle.store.specs.Rows.{IsExecutedRow, id_in, span_rows, follow_rows, bag_of, count, shown_spans, stored_span}
 use Rattle.store.specs.Layout.{IsLaidOut, migrated, tree_at, first_layout}
-use Rattle.store.specs.Inside.{IsWorking, GoesOn, Moves}
+use Rattle.store.specs.Inside.{IsWorking, Moves}
 use Rattle.store.specs.Open.{all}
 use Rattle.store.specs.Making.{HasMade}
 use Rattle.store.specs.Migrating.{migrated_layout, IsFirstInside, IsMigrating, HasLeft}
@@ -23,12 +23,6 @@ use Rattle.store.proofs.SortedSpans.{sorted_are}
 use Rattle.store.proofs.Filling.{no_rowids}
 
 -- ---- the spans, one after another
-
-pub goes_nowhere : (s : State) → IsWorking s → GoesOn s s
-goes_nowhere s was = record { working = was; schema = refl; committed = refl; meta = refl; follow = refl }
-
-pub left_all : (s : State) (spans : List Span) → IsWorking s → HasLeft s s spans spans
-left_all s spans was = record { on = goes_nowhere s was; held = refl; stored = IsPermutation-refl (shown_spans (span_rows s.now) ++ map stored_span spans) }
 
 one_less : (a b c spans : List Row) (x : Row) → IsPermutation a (b ++ x ∷ spans) → IsPermutation (x ∷ b) c → IsPermutation a (c ++ spans)
 one_less a b c spans x so_far moved =
