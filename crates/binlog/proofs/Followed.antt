@@ -32,7 +32,7 @@ both_true a b is also = (λ i. is i && b) ∙ also
 pub itself : (xs : List ℕ) → bytes_eq xs xs ≡ true
 itself xs = (bytes_eq-Decides xs xs).1 refl
 
-agree : (a b : Bool) → (a ≡ true → b ≡ true) → (b ≡ true → a ≡ true) → a ≡ b
+pub agree : (a b : Bool) → (a ≡ true → b ≡ true) → (b ≡ true → a ≡ true) → a ≡ b
 agree true true f g = refl
 agree true false f g = sym (f refl)
 agree false true f g = g refl

@@ -28,3 +28,4 @@ pub mod Written
 pub mod PlainRows
 pub mod NamesOnce
 pub mod NamesFound
+pub mod SameNames

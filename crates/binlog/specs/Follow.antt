@@ -1,6 +1,6 @@
 -- The tables whose changes are taken: a plain set of names, of which the empty one means all.
-use Rattle.std.specs.Prelude.{ℕ, Bool, ◌||◌, ◌&&◌, List}
-use Rattle.std.specs.List.{list_any}
+use Rattle.std.specs.Prelude.{◌≡◌, ℕ, Bool, true, ◌||◌, ◌&&◌, List}
+use Rattle.std.specs.List.{list_any, AllByRecursion}
 use Rattle.std.specs.Str.{bytes_eq}
 use Rattle.std.specs.Ordering.{nat_cmp, ordering_then}
 use Rattle.std.specs.declared.cmp.Ordering.{Ordering}
@@ -26,6 +26,10 @@ names_code = set.code (coded× (coded_list coded_ℕ) (coded_list coded_ℕ))
 -- whether a name is one of the list's
 abbrev pub is_listed : Name → List Name → Bool
 is_listed name names = list_any (λ n. bytes_eq n.0 name.0 && bytes_eq n.1 name.1) names
+
+-- Each of the names is one of the list's.
+abbrev pub AreAmong : List Name → List Name → Type 0
+AreAmong names of = AllByRecursion (λ n. is_listed n of ≡ true) names
 
 -- whether the changes of a table are taken
 abbrev pub follows : Names → List ℕ → List ℕ → Bool

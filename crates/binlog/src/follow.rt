@@ -1,9 +1,9 @@
 //! The tables whose changes are taken.
 
-ghost use Rattle.std.specs.Prelude.{◌≡◌, IfOk, IfErr};
+ghost use Rattle.std.specs.Prelude.{◌≡◌, ◌↔◌, false, IsTrue, IfOk, IfErr};
 ghost use Rattle.std.specs.FinSet as set;
 ghost use Rattle.std.specs.List.Sorted.{IsStrictlySortedBy};
-ghost use Rattle.binlog.specs.Follow.{name_cmp, follows, is_listed};
+ghost use Rattle.binlog.specs.Follow.{name_cmp, follows, is_listed, AreAmong};
 ghost use Rattle.binlog.specs.FollowView.{names_of};
 ghost use Rattle.binlog.specs.declared.fault.EventFaultKind.TheVariants.{Memory};
 
@@ -69,6 +69,16 @@ impl Follow {
         &self.names
     }
 
+    /// Whether two lists have the same names. It takes no memory.
+    pub fn is_same(&self, other: &Follow) -> bool
+        ensures { IsTrue result ↔ self.now ≡ other.now }
+    {
+        if !are_among(&self.names, &other.names) {
+            return false;
+        }
+        are_among(&other.names, &self.names)
+    }
+
     /// Whether the changes of a table are taken. It takes no memory.
     pub fn follows(&self, schema: &[u8], table: &[u8]) -> bool
         ensures { result ≡ follows self.now schema.now table.now }
@@ -101,6 +111,20 @@ fn copy(name: &(Vec<u8>, Vec<u8>)) -> Result<(Vec<u8>, Vec<u8>), EventFault>
     ensures err { IfErr result (λ fault. fault ≡ record { kind = Memory; at = 0 }) }
 {
     Ok((name.0.clone()?, name.1.clone()?))
+}
+
+/// Whether each of the names is one of the list's.
+fn are_among(names: &[(Vec<u8>, Vec<u8>)], of: &[(Vec<u8>, Vec<u8>)]) -> bool
+    requires { IsStrictlySortedBy name_cmp (names_of of.now) }
+    ensures all { IsTrue result → AreAmong (names_of names.now) (names_of of.now) }
+    ensures some { result ≡ false → ¬ AreAmong (names_of names.now) (names_of of.now) }
+{
+    for name in names {
+        if !is_listed(of, &name.0, &name.1) {
+            return false;
+        }
+    }
+    true
 }
 
 /// Whether a table is one of the list's. It is found by halving.

@@ -1,30 +1,22 @@
 //! Opening a database.
 
-ghost use Rattle.std.specs.Prelude.{◌≡◌, false, IfOk, IfErr};
-ghost use Rattle.std.specs.FinSet as set;
+ghost use Rattle.std.specs.Prelude.{◌≡◌, ◌↔◌, false, true, pos, IfOk, IfErr, IsTrue};
 ghost use Rattle.sqlite.specs.State.{HasCleanDisk, Survives};
 ghost use Rattle.sqlite.specs.Held.{state};
+ghost use Rattle.store.specs.Layout.{no_schema, first_layout, IsLaidOut};
+ghost use Rattle.store.specs.Rows.{SaysLayout, first_meta_rows};
+ghost use Rattle.store.specs.Open.{IsBlank, IsReady, IsKnown, IsEntered, IsTurned, MayEnter, IsWanted, tables_of, has_any, has_first, has_second, nothing};
 
 use crate::fault::StoreFault;
+use crate::layout::Tables;
 use crate::load::{Loaded, layout_of, load, load_first};
 use crate::make::make;
 use crate::migrate::migrate;
-use crate::store::Store;
 use binlog::Follow;
 use gtid::GtidSet;
 use sqlite::{Alter, Connection};
 use sqlite_schema::schema::Schema;
 use std::alloc::Global;
-
-/// Which tables of the two layouts a database has.
-#[derive(Clone, Copy)]
-struct Tables {
-    meta: bool,
-    executed: bool,
-    held: bool,
-    spans: bool,
-    follow: bool,
-}
 
 /// Looks which tables are there.
 fn tables_of(schema: &Schema) -> Tables
@@ -39,24 +31,31 @@ fn tables_of(schema: &Schema) -> Tables
     }
 }
 
-/// Whether none of them is there.
-fn are_none(tables: Tables) -> bool
-    ensures { result ≡ are_none tables }
+/// A copy of a list of names.
+fn copy(alloc: Global, follow: &Follow) -> Result<Follow, StoreFault>
+    ensures ok { IfOk result (λ copied. copied ≡ follow.now) }
+    ensures err { IfErr result (λ fault. fault ≡ Memory) }
 {
-    !tables.meta && !tables.executed && !tables.held && !tables.spans && !tables.follow
+    match Follow::new(alloc, follow.names()) {
+        Ok(copied) => Ok(copied),
+        Err(_) => Err(StoreFault::Memory),
+    }
 }
 
 /// Makes the tables of a new database.
 fn enter_new<S: Alter>(
     alloc: Global,
     conn: &mut Connection<S>,
-    only: Option<&Follow>,
+    any: bool,
+    only: &Follow,
 ) -> Result<Loaded, StoreFault>
+    requires { conn.old.in_transaction ≡ false }
+    ensures autocommit { conn.new.in_transaction ≡ false }
+    ensures entered { HasCleanDisk (state S.Store conn.new) → IsReady (state S.Store conn.old) → (state S.Store conn.old).now.schema ≡ no_schema → IfOk result (λ l. IsEntered any only.now (state S.Store conn.old) (state S.Store conn.new) l.executed l.following) }
+    ensures turned { HasCleanDisk (state S.Store conn.new) → IsReady (state S.Store conn.old) → (state S.Store conn.old).now.schema ≡ no_schema → IfErr result (IsTurned any only.now (state S.Store conn.old) (state S.Store conn.new)) }
+    ensures crash { IsReady (state S.Store conn.old) → (state S.Store conn.old).now.schema ≡ no_schema → Survives (state S.Store conn.old) (state S.Store conn.new) (MayEnter only.now (state S.Store conn.old)) }
 {
-    let following = match only {
-        Some(only) => copy(alloc, only)?,
-        None => Follow::all(alloc),
-    };
+    let following = copy(alloc, only)?;
     make(conn, &following)?;
     Ok(Loaded {
         executed: GtidSet::new(alloc),
@@ -68,12 +67,18 @@ fn enter_new<S: Alter>(
 fn enter_first<S: Alter>(
     alloc: Global,
     conn: &mut Connection<S>,
-    only: Option<&Follow>,
+    any: bool,
+    only: &Follow,
 ) -> Result<Loaded, StoreFault>
+    requires { conn.old.in_transaction ≡ false }
+    ensures autocommit { conn.new.in_transaction ≡ false }
+    ensures entered { HasCleanDisk (state S.Store conn.new) → IsReady (state S.Store conn.old) → (state S.Store conn.old).now.schema ≡ first_layout → SaysLayout (pos 1) (first_meta_rows (state S.Store conn.old).now) → IfOk result (λ l. IsEntered any only.now (state S.Store conn.old) (state S.Store conn.new) l.executed l.following) }
+    ensures turned { HasCleanDisk (state S.Store conn.new) → IsReady (state S.Store conn.old) → (state S.Store conn.old).now.schema ≡ first_layout → SaysLayout (pos 1) (first_meta_rows (state S.Store conn.old).now) → IfErr result (IsTurned any only.now (state S.Store conn.old) (state S.Store conn.new)) }
+    ensures crash { IsReady (state S.Store conn.old) → (state S.Store conn.old).now.schema ≡ first_layout → SaysLayout (pos 1) (first_meta_rows (state S.Store conn.old).now) → Survives (state S.Store conn.old) (state S.Store conn.new) (MayEnter only.now (state S.Store conn.old)) }
 {
     let executed = load_first(alloc, conn)?;
     let following = Follow::all(alloc);
-    if differs(&following, only) {
+    if !any && !following.is_same(only) {
         return Err(StoreFault::Follows);
     }
     migrate(conn, &executed)?;
@@ -87,11 +92,17 @@ fn enter_first<S: Alter>(
 fn enter_second<S: Alter>(
     alloc: Global,
     conn: &mut Connection<S>,
-    only: Option<&Follow>,
+    any: bool,
+    only: &Follow,
 ) -> Result<Loaded, StoreFault>
+    requires { conn.old.in_transaction ≡ false }
+    ensures autocommit { conn.new.in_transaction ≡ false }
+    ensures entered { HasCleanDisk (state S.Store conn.new) → IsReady (state S.Store conn.old) → IsLaidOut (state S.Store conn.old).now.schema → SaysLayout (pos 2) (first_meta_rows (state S.Store conn.old).now) → IfOk result (λ l. IsEntered any only.now (state S.Store conn.old) (state S.Store conn.new) l.executed l.following) }
+    ensures turned { HasCleanDisk (state S.Store conn.new) → IsReady (state S.Store conn.old) → IsLaidOut (state S.Store conn.old).now.schema → SaysLayout (pos 2) (first_meta_rows (state S.Store conn.old).now) → IfErr result (IsTurned any only.now (state S.Store conn.old) (state S.Store conn.new)) }
+    ensures crash { IsLaidOut (state S.Store conn.old).now.schema → Survives (state S.Store conn.old) (state S.Store conn.new) (λ _. ⊥) }
 {
     let loaded = load(alloc, conn)?;
-    if differs(&loaded.following, only) {
+    if !any && !loaded.following.is_same(only) {
         return Err(StoreFault::Follows);
     }
     Ok(loaded)
@@ -102,21 +113,27 @@ fn enter_old<S: Alter>(
     alloc: Global,
     conn: &mut Connection<S>,
     tables: Tables,
-    only: Option<&Follow>,
+    any: bool,
+    only: &Follow,
 ) -> Result<Loaded, StoreFault>
+    requires { conn.old.in_transaction ≡ false }
+    ensures autocommit { conn.new.in_transaction ≡ false }
+    ensures entered { HasCleanDisk (state S.Store conn.new) → IsReady (state S.Store conn.old) → tables ≡ tables_of (state S.Store conn.old).now.schema → has_any tables ≡ true → tables.meta ≡ true → IfOk result (λ l. IsEntered any only.now (state S.Store conn.old) (state S.Store conn.new) l.executed l.following) }
+    ensures turned { HasCleanDisk (state S.Store conn.new) → IsReady (state S.Store conn.old) → tables ≡ tables_of (state S.Store conn.old).now.schema → tables.meta ≡ true → IfErr result (IsTurned any only.now (state S.Store conn.old) (state S.Store conn.new)) }
+    ensures crash { IsReady (state S.Store conn.old) → tables ≡ tables_of (state S.Store conn.old).now.schema → tables.meta ≡ true → Survives (state S.Store conn.old) (state S.Store conn.new) (MayEnter only.now (state S.Store conn.old)) }
 {
     match layout_of(conn)? {
         Some(1) => {
             if !(tables.executed && tables.held) {
                 return Err(StoreFault::Damaged);
             }
-            enter_first(alloc, conn, only)
+            enter_first(alloc, conn, any, only)
         }
         Some(2) => {
-            if !(tables.held && tables.spans && tables.follow) {
+            if !(tables.held && (tables.spans && tables.follow)) {
                 return Err(StoreFault::Damaged);
             }
-            enter_second(alloc, conn, only)
+            enter_second(alloc, conn, any, only)
         }
         Some(n) => Err(StoreFault::Layout(n)),
         None => Err(StoreFault::Damaged),
