@@ -10,3 +10,4 @@ pub mod Making
 pub mod Migrating
 pub mod Load
 pub mod Judge
+pub mod Entering

@@ -6,16 +6,8 @@ use Rattle.sqlite.specs.Effect.{Database}
 use Rattle.sqlite.specs.State.{State}
 use Rattle.binlog.specs.Follow.{Names}
 use Rattle.store.specs.State.{Content}
-use Rattle.store.specs.Layout.{no_schema, first_layout, IsLaidOut}
-use Rattle.store.specs.Load.{IsMetaFirst}
-use Rattle.store.specs.Apply.{IsAtRest, Rests}
-use Rattle.store.specs.declared.fault.StoreFault.{StoreFault}
-use Rattle.store.specs.declared.fault.StoreFault.TheVariants.{Database as Db, Memory, Damaged, Layout, Follows}
-use Rattle.store.specs.declared.layout.Tables.{Tables}
-use Rattle.gtid.specs.Identifier.{Ids}
-use Rattle.sqlite_schema.specs.declared.schema.Schema.{Schema}
-use Rattle.sqlite_schema.specs.Names.{table_named}
-use Rattle.store.specs.Rows.{StandsFor, StandsForFirst, SaysLayout, KeepsRules, KeepsFirstRules, HasRowids, first_meta_rows, first_held_rows}
+use Rattle.store.specs.Layout.{no_schema}
+use Rattle.store.specs.Rows.{StandsFor, StandsForFirst, HasRowids, first_meta_rows, first_held_rows}
 
 -- nothing is executed, and there is no row
 abbrev pub nothing : Content
@@ -44,94 +36,3 @@ pub record MayStandFor (names : Names) (content : Content) (trees : Trees) : Typ
   pub db : Database
   pub trees_are : trees ≡ db.trees
   pub stands : StandsFor db names content
-
--- ---- Which tables are there.
-
-abbrev pub has_table : Schema → List ℕ → Bool
-has_table schema name = is_some (table_named schema name)
-
-abbrev pub tables_of : Schema → Tables
-tables_of schema = record {
-  meta = has_table schema (codes "meta");
-  executed = has_table schema (codes "executed");
-  held = has_table schema (codes "held");
-  spans = has_table schema (codes "spans");
-  follow = has_table schema (codes "follow");
-}
-
--- all tables of layout 1, or of layout 2, beside meta
-abbrev pub has_first : Tables → Bool
-has_first t = t.executed && t.held
-
-abbrev pub has_second : Tables → Bool
-has_second t = t.held && (t.spans && t.follow)
-
-abbrev pub has_any : Tables → Bool
-has_any t = t.meta || (t.executed || (t.held || (t.spans || t.follow)))
-
--- The tables are those of a layout as they were made, or not all are there.
-pub data IsKnown (schema : Schema) : Type 0 where
-  blank : schema ≡ no_schema → IsKnown schema
-  first : schema ≡ first_layout → IsKnown schema
-  second : IsLaidOut schema → (tables_of schema).executed ≡ false → IsKnown schema
-  lacking : IsMetaFirst schema → has_first (tables_of schema) ≡ false → has_second (tables_of schema) ≡ false → IsKnown schema
-
--- The connection is open and in no transaction that has changed anything, and its tables are known.
-pub record IsReady (s : State) : Type 0 where
-  pub is_open : IsTrue s.is_open
-  pub settled : s.now ≡ s.committed
-  pub known : IsKnown s.now.schema
-
--- ---- What a database stands for.
-
-abbrev pub IsStored : Names → Database → Content → Type 0
-IsStored names db content = StandsFor db names content ⊎ ((names ≡ all) × StandsForFirst db content)
-
--- a database with none of the tables stands for nothing, and its list of names is still to come
-abbrev pub IsOf : Names → Database → Content → Type 0
-IsOf names db content = ((db.schema ≡ no_schema) × (content ≡ nothing)) ⊎ IsStored names db content
-
--- ---- Why a database is refused.
-
-pub data IsDamaged (db : Database) : Type 0 where
-  no_meta : (tables_of db.schema).meta ≡ false → has_any (tables_of db.schema) ≡ true → IsDamaged db
-  no_layout : ((n : ℤ) → ¬ SaysLayout n (first_meta_rows db)) → IsDamaged db
-  lacks_first : SaysLayout (pos 1) (first_meta_rows db) → has_first (tables_of db.schema) ≡ false → IsDamaged db
-  lacks_second : SaysLayout (pos 2) (first_meta_rows db) → has_second (tables_of db.schema) ≡ false → IsDamaged db
-  breaks_first : SaysLayout (pos 1) (first_meta_rows db) → ¬ KeepsFirstRules db → IsDamaged db
-  breaks_second : SaysLayout (pos 2) (first_meta_rows db) → ¬ KeepsRules db → IsDamaged db
-
--- Any names will do, or these alone.
-abbrev pub IsWanted : Bool → Names → Names → Type 0
-IsWanted any only names = any ≡ false → names ≡ only
-
--- The database is of another layout, damaged, or made for other names. For a failure and for want of memory there is no
--- cause in the database.
-abbrev pub IsWhy : Bool → Names → Database → StoreFault → Type 0
-IsWhy any only db Damaged = IsDamaged db
-IsWhy any only db (Layout n) = SaysLayout n (first_meta_rows db) × (n ≢ pos 1) × (n ≢ pos 2)
-IsWhy any only db Follows = (any ≡ false) × (names : Names) × (content : Content) × IsStored names db content × (names ≢ only)
-IsWhy any only db (Db e) = Unit {0}
-IsWhy any only db Memory = Unit {0}
-IsWhy any only db _ = ⊥
-
--- ---- What opening comes to.
-
--- The connection is at rest with what its database stood for, and the set in memory is its.
-pub record IsEntered (any : Bool) (only : Names) (old new : State) (executed : Ids) (names : Names) : Type 0 where
-  pub content : Content
-  pub of : IsOf names old.now content
-  pub rest : IsAtRest new names content
-  pub executed_is : executed ≡ content.executed
-  pub wanted : IsWanted any only names
-
--- It is refused with its reason, and nothing has changed.
-abbrev pub IsTurned : Bool → Names → State → State → StoreFault → Type 0
-IsTurned any only old new fault = IsWhy any only old.now fault × Rests old new
-
--- What may be committed stands for what the database stood for.
-pub record MayEnter (only : Names) (old : State) (trees : Trees) : Type 0 where
-  pub names : Names
-  pub content : Content
-  pub of : (((old.now.schema ≡ no_schema) × (content ≡ nothing)) × (names ≡ only)) ⊎ IsStored names old.now content
-  pub may : MayStandFor names content trees

@@ -122,6 +122,7 @@ pub(crate) fn migrate<S: Alter>(conn: &mut Connection<S>, executed: &GtidSet) ->
     ensures autocommit { conn.new.in_transaction ≡ false }
     ensures migrated { HasCleanDisk (state S.Store conn.new) → (content : Content) → IsFirstAtRest (state S.Store conn.old) content → executed.now ≡ content.executed → OnOk result (IsAtRest (state S.Store conn.new) all content) }
     ensures refused { HasCleanDisk (state S.Store conn.new) → (content : Content) → IsFirstAtRest (state S.Store conn.old) content → OnErr result (Rests (state S.Store conn.old) (state S.Store conn.new)) }
+    ensures clean { HasCleanDisk (state S.Store conn.new) → HasCleanDisk (state S.Store conn.old) }
     ensures crash { (content : Content) → IsFirstAtRest (state S.Store conn.old) content → executed.now ≡ content.executed → Survives (state S.Store conn.old) (state S.Store conn.new) (MayStandFor all content) }
 {
     let mut tx = conn.transaction();

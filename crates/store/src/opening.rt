@@ -1,11 +1,12 @@
 //! Opening a database.
 
-ghost use Rattle.std.specs.Prelude.{◌≡◌, ◌↔◌, false, true, pos, IfOk, IfErr, IsTrue};
+ghost use Rattle.std.specs.Prelude.{◌≡◌, ◌≢◌, false, true, pos, IfOk, IfErr, IsTrue};
 ghost use Rattle.sqlite.specs.State.{HasCleanDisk, Survives};
 ghost use Rattle.sqlite.specs.Held.{state};
+ghost use Rattle.store.specs.declared.fault.StoreFault.TheVariants.{Memory};
 ghost use Rattle.store.specs.Layout.{no_schema, first_layout, IsLaidOut};
 ghost use Rattle.store.specs.Rows.{SaysLayout, first_meta_rows};
-ghost use Rattle.store.specs.Open.{IsBlank, IsReady, IsKnown, IsEntered, IsTurned, MayEnter, IsWanted, tables_of, has_any, has_first, has_second, nothing};
+ghost use Rattle.store.specs.Entering.{IsReady, IsEntered, IsTurned, IsWanted, MayEnter, tables_of, has_any};
 
 use crate::fault::StoreFault;
 use crate::layout::Tables;
@@ -42,6 +43,17 @@ fn copy(alloc: Global, follow: &Follow) -> Result<Follow, StoreFault>
     }
 }
 
+/// Whether these names are not those that are asked for.
+fn differs(following: &Follow, any: bool, only: &Follow) -> bool
+    ensures other { IsTrue result → (any ≡ false) × (following.now ≢ only.now) }
+    ensures wanted { result ≡ false → IsWanted any only.now following.now }
+{
+    if any {
+        return false;
+    }
+    !following.is_same(only)
+}
+
 /// Makes the tables of a new database.
 fn enter_new<S: Alter>(
     alloc: Global,
@@ -74,11 +86,12 @@ fn enter_first<S: Alter>(
     ensures autocommit { conn.new.in_transaction ≡ false }
     ensures entered { HasCleanDisk (state S.Store conn.new) → IsReady (state S.Store conn.old) → (state S.Store conn.old).now.schema ≡ first_layout → SaysLayout (pos 1) (first_meta_rows (state S.Store conn.old).now) → IfOk result (λ l. IsEntered any only.now (state S.Store conn.old) (state S.Store conn.new) l.executed l.following) }
     ensures turned { HasCleanDisk (state S.Store conn.new) → IsReady (state S.Store conn.old) → (state S.Store conn.old).now.schema ≡ first_layout → SaysLayout (pos 1) (first_meta_rows (state S.Store conn.old).now) → IfErr result (IsTurned any only.now (state S.Store conn.old) (state S.Store conn.new)) }
+    ensures clean { HasCleanDisk (state S.Store conn.new) → HasCleanDisk (state S.Store conn.old) }
     ensures crash { IsReady (state S.Store conn.old) → (state S.Store conn.old).now.schema ≡ first_layout → SaysLayout (pos 1) (first_meta_rows (state S.Store conn.old).now) → Survives (state S.Store conn.old) (state S.Store conn.new) (MayEnter only.now (state S.Store conn.old)) }
 {
     let executed = load_first(alloc, conn)?;
     let following = Follow::all(alloc);
-    if !any && !following.is_same(only) {
+    if differs(&following, any, only) {
         return Err(StoreFault::Follows);
     }
     migrate(conn, &executed)?;
@@ -99,10 +112,11 @@ fn enter_second<S: Alter>(
     ensures autocommit { conn.new.in_transaction ≡ false }
     ensures entered { HasCleanDisk (state S.Store conn.new) → IsReady (state S.Store conn.old) → IsLaidOut (state S.Store conn.old).now.schema → SaysLayout (pos 2) (first_meta_rows (state S.Store conn.old).now) → IfOk result (λ l. IsEntered any only.now (state S.Store conn.old) (state S.Store conn.new) l.executed l.following) }
     ensures turned { HasCleanDisk (state S.Store conn.new) → IsReady (state S.Store conn.old) → IsLaidOut (state S.Store conn.old).now.schema → SaysLayout (pos 2) (first_meta_rows (state S.Store conn.old).now) → IfErr result (IsTurned any only.now (state S.Store conn.old) (state S.Store conn.new)) }
+    ensures clean { HasCleanDisk (state S.Store conn.new) → HasCleanDisk (state S.Store conn.old) }
     ensures crash { IsLaidOut (state S.Store conn.old).now.schema → Survives (state S.Store conn.old) (state S.Store conn.new) (λ _. ⊥) }
 {
     let loaded = load(alloc, conn)?;
-    if !any && !loaded.following.is_same(only) {
+    if differs(&loaded.following, any, only) {
         return Err(StoreFault::Follows);
     }
     Ok(loaded)
@@ -120,6 +134,7 @@ fn enter_old<S: Alter>(
     ensures autocommit { conn.new.in_transaction ≡ false }
     ensures entered { HasCleanDisk (state S.Store conn.new) → IsReady (state S.Store conn.old) → tables ≡ tables_of (state S.Store conn.old).now.schema → has_any tables ≡ true → tables.meta ≡ true → IfOk result (λ l. IsEntered any only.now (state S.Store conn.old) (state S.Store conn.new) l.executed l.following) }
     ensures turned { HasCleanDisk (state S.Store conn.new) → IsReady (state S.Store conn.old) → tables ≡ tables_of (state S.Store conn.old).now.schema → tables.meta ≡ true → IfErr result (IsTurned any only.now (state S.Store conn.old) (state S.Store conn.new)) }
+    ensures clean { HasCleanDisk (state S.Store conn.new) → HasCleanDisk (state S.Store conn.old) }
     ensures crash { IsReady (state S.Store conn.old) → tables ≡ tables_of (state S.Store conn.old).now.schema → tables.meta ≡ true → Survives (state S.Store conn.old) (state S.Store conn.new) (MayEnter only.now (state S.Store conn.old)) }
 {
     match layout_of(conn)? {
