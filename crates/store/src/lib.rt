@@ -10,5 +10,7 @@ mod load;
 mod rows;
 mod spans;
 mod tables;
+#[cfg(test)]
+mod tests;
 
 pub use fault::{Applied, StoreFault};

@@ -18,6 +18,7 @@ use sqlite::{Alter, Connection, Error, Row};
 use std::alloc::Global;
 
 /// What the rows of a database of layout 2 stand for, in memory.
+#[derive(Debug, Drop)]
 pub(crate) struct Loaded {
     pub(crate) executed: GtidSet,
     pub(crate) following: Follow,
