@@ -91,6 +91,45 @@ fn least_intervals(rt: HostRuntime) -> Result<(), Fail> {
     Ok(())
 }
 
+/// The set of spans that come in any order, overlap and touch.
+#[test]
+fn sets_of_spans(rt: HostRuntime) -> Result<(), Fail> {
+    let spans = Vec::from_slice(
+        rt.alloc(),
+        &[
+            Span {
+                source: A,
+                lo: 7,
+                hi: 9,
+            },
+            Span {
+                source: B,
+                lo: 2,
+                hi: 3,
+            },
+            Span {
+                source: A,
+                lo: 1,
+                hi: 4,
+            },
+            Span {
+                source: A,
+                lo: 4,
+                hi: 5,
+            },
+            Span {
+                source: A,
+                lo: 8,
+                hi: 12,
+            },
+        ],
+    )?;
+    let set = GtidSet::of_spans(rt.alloc(), spans)?;
+    let printed = format!(in rt.alloc(); "{B_TEXT}:2,{A_TEXT}:1-4:7-11")?;
+    assert_eq!(rt; text(&rt, &set)?.as_str(), printed.as_str());
+    Ok(())
+}
+
 /// Whether a number is new, and which are there.
 #[test]
 fn members(rt: HostRuntime) -> Result<(), Fail> {
