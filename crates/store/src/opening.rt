@@ -1,9 +1,9 @@
 //! Opening a database.
 
-ghost use Rattle.std.specs.Prelude.{◌≡◌, ◌≢◌, false, true, pos, IfOk, IfErr, IsTrue};
+ghost use Rattle.std.specs.Prelude.{◌≡◌, ◌≢◌, false, true, pos, Err, IfOk, IfErr, IsTrue};
 ghost use Rattle.sqlite.specs.State.{HasCleanDisk, Survives};
 ghost use Rattle.sqlite.specs.Held.{state};
-ghost use Rattle.store.specs.declared.fault.StoreFault.TheVariants.{Memory};
+ghost use Rattle.store.specs.declared.fault.StoreFault.TheVariants.{Memory, Damaged};
 ghost use Rattle.store.specs.Layout.{no_schema, first_layout, IsLaidOut};
 ghost use Rattle.store.specs.Rows.{SaysLayout, first_meta_rows};
 ghost use Rattle.store.specs.Entering.{IsReady, IsEntered, IsTurned, IsWanted, MayEnter, tables_of, has_any};
@@ -13,6 +13,7 @@ use crate::layout::Tables;
 use crate::load::{Loaded, layout_of, load, load_first};
 use crate::make::make;
 use crate::migrate::migrate;
+use crate::store::Store;
 use binlog::Follow;
 use gtid::GtidSet;
 use sqlite::{Alter, Connection};
@@ -152,5 +153,92 @@ fn enter_old<S: Alter>(
         }
         Some(n) => Err(StoreFault::Layout(n)),
         None => Err(StoreFault::Damaged),
+    }
+}
+
+/// Opens a database, and answers what its rows stand for.
+fn enter<S: Alter>(
+    alloc: Global,
+    conn: &mut Connection<S>,
+    any: bool,
+    only: &Follow,
+) -> Result<Loaded, StoreFault>
+    requires { conn.old.in_transaction ≡ false }
+    ensures autocommit { conn.new.in_transaction ≡ false }
+    ensures entered { HasCleanDisk (state S.Store conn.new) → IsReady (state S.Store conn.old) → IfOk result (λ l. IsEntered any only.now (state S.Store conn.old) (state S.Store conn.new) l.executed l.following) }
+    ensures turned { HasCleanDisk (state S.Store conn.new) → IsReady (state S.Store conn.old) → IfErr result (IsTurned any only.now (state S.Store conn.old) (state S.Store conn.new)) }
+    ensures headless { (tables_of (state S.Store conn.old).now.schema).meta ≡ false → has_any (tables_of (state S.Store conn.old).now.schema) ≡ true → (result ≡ Err Damaged) × (conn.new ≡ conn.old) }
+    ensures crash { IsReady (state S.Store conn.old) → Survives (state S.Store conn.old) (state S.Store conn.new) (MayEnter only.now (state S.Store conn.old)) }
+{
+    let tables = tables_of(conn.schema());
+    if !has_any(tables) {
+        return enter_new(alloc, conn, any, only);
+    }
+    if !tables.meta {
+        return Err(StoreFault::Damaged);
+    }
+    enter_old(alloc, conn, tables, any, only)
+}
+
+/// Whether any of the tables is there.
+fn has_any(tables: Tables) -> bool
+    ensures { result ≡ has_any tables }
+{
+    tables.meta || (tables.executed || (tables.held || (tables.spans || tables.follow)))
+}
+
+/// The same, with a store that owns the connection.
+fn begin<S: Alter>(
+    alloc: Global,
+    mut conn: Connection<S>,
+    any: bool,
+    only: &Follow,
+) -> Result<Store<S>, (StoreFault, Connection<S>)>
+    requires { conn.in_transaction ≡ false }
+{
+    match enter(alloc, &mut conn, any, only) {
+        Ok(loaded) => {
+            let Loaded {
+                executed,
+                following,
+            } = loaded;
+            Ok(Store {
+                conn,
+                executed,
+                following,
+                broken: false,
+                alloc,
+            })
+        }
+        Err(fault) => Err((fault, conn)),
+    }
+}
+
+impl<S: Alter> Store<S> {
+    /// Opens a database, with the list of tables that it was made for. A new database, which has none of the tables, gets
+    /// them in one transaction, and is made for all tables. One of layout 1 is migrated in one transaction.
+    ///
+    /// The faults, which hand the connection back and change nothing:
+    /// - `Damaged` where a table is missing, or the rows break the rules of their layout.
+    /// - `Layout` where the tables are of another layout than 1 and 2.
+    /// - `Database` where the database failed, and `Memory` where an allocation was refused.
+    ///
+    /// The connection is in no transaction: `is_autocommit` tells.
+    pub fn open(alloc: Global, conn: Connection<S>) -> Result<Store<S>, (StoreFault, Connection<S>)>
+        requires { conn.in_transaction ≡ false }
+    {
+        begin(alloc, conn, true, &Follow::all(alloc))
+    }
+
+    /// The same for a list of tables. A new database is made for these. Another one has to be made for the same list,
+    /// where layout 1 counts as all tables; else the fault is `Follows`, which is told behind `Damaged` and `Layout`.
+    pub fn open_only(
+        alloc: Global,
+        conn: Connection<S>,
+        follow: &Follow,
+    ) -> Result<Store<S>, (StoreFault, Connection<S>)>
+        requires { conn.in_transaction ≡ false }
+    {
+        begin(alloc, conn, false, follow)
     }
 }
