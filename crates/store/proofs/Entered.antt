@@ -1,15 +1,20 @@
 -- What opening a database comes to.
-use Rattle.std.proofs.Common.{◌≡◌, ◌⊎◌, inl, inr, ℕ, ℤ, pos, Bool, true, false, ◌&&◌, IsTrue, refl, sym, ap, subst, ◌∙◌}
+use Rattle.std.proofs.Common.{◌≡◌, ◌≢◌, inl, inr, Bool, true, false, arith, refl, sym, ap, subst, ◌∙◌}
 use Rattle.sqlite_trees.specs.Tree.{Trees}
-use Rattle.sqlite.specs.State.{State, Survives, IsUnchanged}
+use Rattle.sqlite.specs.Effect.{Database as Stored}
+use Rattle.sqlite.specs.State.{State, Survives, IsUnchanged, HasCleanDisk}
+use Rattle.sqlite.proofs.StateLemmas.{survives_then}
 use Rattle.gtid.specs.Identifier.{Ids}
 use Rattle.binlog.specs.Follow.{Names}
 use Rattle.store.specs.State.{Content}
-use Rattle.store.specs.Layout.{no_schema, first_layout, IsLaidOut}
-use Rattle.store.specs.Rows.{SaysLayout, KeepsRules, first_meta_rows}
+use Rattle.store.specs.declared.fault.StoreFault.TheVariants.{Follows}
+use Rattle.store.specs.Layout.{no_schema}
+use Rattle.store.specs.Rows.{StandsFor, StandsForFirst}
+use Rattle.store.specs.Load.{IsLoaded, IsFirstLoaded}
 use Rattle.store.specs.Apply.{IsAtRest, Rests}
-use Rattle.store.specs.Open.{nothing, all, IsBlank, MayStandFor}
-use Rattle.store.specs.Entering.{IsReady, IsEntered, IsWanted, MayEnter}
+use Rattle.store.specs.Open.{nothing, all, IsBlank, MayStandFor, MayMigrate}
+use Rattle.store.specs.Entering.{IsReady, IsEntered, IsTurned, IsWanted, MayEnter}
+use Rattle.store.proofs.Counted.{rests_unchanged}
 
 pub weaken : (a b : State) (P Q : Trees → Type 0) → ((db : Trees) → P db → Q db) → Survives a b P → Survives a b Q
 weaken a b P Q f s = record {
@@ -27,7 +32,7 @@ blank s ready none = record { is_open = ready.is_open; settled = ready.settled; 
 pub entered_new : (any : Bool) (only following : Names) (executed : Ids) (old new : State) → old.now.schema ≡ no_schema → following ≡ only → executed ≡ nothing.executed → IsAtRest new following nothing → IsEntered any only old new executed following
 entered_new any only following executed old new none same empty rest = record {
   content = nothing;
-  of = inl (none, refl);
+  of = inl ((none, refl), same);
   rest = rest;
   executed_is = empty;
   wanted = λ _. same;
@@ -35,3 +40,49 @@ entered_new any only following executed old new none same empty rest = record {
 
 pub may_new : (only following : Names) (old new : State) → old.now.schema ≡ no_schema → following ≡ only → Survives old new (MayStandFor following nothing) → Survives old new (MayEnter only old)
 may_new only following old new none same s = weaken old new (MayStandFor following nothing) (MayEnter only old) (λ db may. record { names = following; content = nothing; of = inl ((none, refl), same); may = may }) s
+
+pub rests_after : (old mid new : State) → IsUnchanged old mid → Rests mid new → Rests old new
+rests_after old mid new same rests is_open = let r = rests is_open in (r.0 ∙ same.0.now_is, r.1 ∙ same.0.committed_is)
+
+-- ---- layout 1
+module _ (any : Bool) (only following : Names) (executed : Ids) (old mid new : State) where
+  stood_first : IsUnchanged old mid → (l : IsFirstLoaded mid executed) → StandsForFirst old.now l.content
+  stood_first same l = subst (λ (db : Stored). StandsForFirst db l.content) same.0.now_is l.rest.stands
+
+  pub entered_first : IsUnchanged old mid → (l : IsFirstLoaded mid executed) → following ≡ all → IsWanted any only following → IsAtRest new all l.content → IsEntered any only old new executed following
+  entered_first same l is wanted rest = record {
+    content = l.content;
+    of = inr (inr (is, stood_first same l));
+    rest = subst (λ n. IsAtRest new n l.content) (sym is) rest;
+    executed_is = l.executed_is;
+    wanted = wanted;
+  }
+
+  pub other_first : IsUnchanged old mid → IsFirstLoaded mid executed → following ≡ all → (any ≡ false) × (following ≢ only) → IsTurned any only old mid Follows
+  other_first same l is other = ((other.0, following, l.content, inr (is, stood_first same l), other.1), rests_unchanged old mid same)
+
+  pub may_first : Survives old mid (λ _. ⊥) → Survives mid new (MayMigrate mid executed) → (HasCleanDisk mid → IsUnchanged old mid) → (HasCleanDisk mid → IsFirstLoaded mid executed) → Survives old new (MayEnter only old)
+  may_first one two same loaded =
+      survives_then old mid new (λ _. ⊥) (MayMigrate mid executed) (MayEnter only old) (λ _ db none. absurd none)
+      (λ clean db may.
+      let early : HasCleanDisk mid = omega (arith, two.clean, clean) in
+      let l = loaded early in
+      record { names = all; content = l.content; of = inr (inr (refl, stood_first (same early) l)); may = may l.content l.rest l.executed_is })
+      one two
+
+-- ---- layout 2
+module _ (any : Bool) (only following : Names) (executed : Ids) (old new : State) where
+  stood : IsUnchanged old new → (l : IsLoaded new executed following) → StandsFor old.now following l.content
+  stood same l = subst (λ (db : Stored). StandsFor db following l.content) same.0.now_is l.rest.stands
+
+  pub entered_second : IsUnchanged old new → IsLoaded new executed following → IsWanted any only following → IsEntered any only old new executed following
+  entered_second same l wanted = record {
+    content = l.content;
+    of = inr (inl (stood same l));
+    rest = l.rest;
+    executed_is = l.executed_is;
+    wanted = wanted;
+  }
+
+  pub other_second : IsUnchanged old new → IsLoaded new executed following → (any ≡ false) × (following ≢ only) → IsTurned any only old new Follows
+  other_second same l other = ((other.0, following, l.content, inl (stood same l), other.1), rests_unchanged old new same)

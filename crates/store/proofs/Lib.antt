@@ -35,3 +35,5 @@ pub mod SpanRows
 pub mod Loading
 pub mod Steps
 pub mod Entered
+pub mod Lives
+pub mod Known

@@ -59,9 +59,9 @@ pub record IsReady (s : State) : Type 0 where
 abbrev pub IsStored : Names → Database → Content → Type 0
 IsStored names db content = StandsFor db names content ⊎ ((names ≡ all) × StandsForFirst db content)
 
--- a database with none of the tables stands for nothing, and its list of names is still to come
-abbrev pub IsOf : Names → Database → Content → Type 0
-IsOf names db content = ((db.schema ≡ no_schema) × (content ≡ nothing)) ⊎ IsStored names db content
+-- A database with none of the tables stands for nothing, and is made for these names.
+abbrev pub IsOf : Names → Names → Database → Content → Type 0
+IsOf only names db content = (((db.schema ≡ no_schema) × (content ≡ nothing)) × (names ≡ only)) ⊎ IsStored names db content
 
 -- ---- Why a database is refused.
 
@@ -92,7 +92,7 @@ IsWhy any only db _ = ⊥
 -- The connection is at rest with what its database stood for, and the set in memory is its.
 pub record IsEntered (any : Bool) (only : Names) (old new : State) (executed : Ids) (names : Names) : Type 0 where
   pub content : Content
-  pub of : IsOf names old.now content
+  pub of : IsOf only names old.now content
   pub rest : IsAtRest new names content
   pub executed_is : executed ≡ content.executed
   pub wanted : IsWanted any only names
@@ -105,5 +105,5 @@ IsTurned any only old new fault = IsWhy any only old.now fault × Rests old new
 pub record MayEnter (only : Names) (old : State) (trees : Trees) : Type 0 where
   pub names : Names
   pub content : Content
-  pub of : (((old.now.schema ≡ no_schema) × (content ≡ nothing)) × (names ≡ only)) ⊎ IsStored names old.now content
+  pub of : IsOf only names old.now content
   pub may : MayStandFor names content trees

@@ -4,6 +4,7 @@ use Rattle.std.specs.FinSet as set
 use Rattle.sqlite_trees.specs.Tree.{Trees}
 use Rattle.sqlite.specs.Effect.{Database}
 use Rattle.sqlite.specs.State.{State}
+use Rattle.gtid.specs.Identifier.{Ids}
 use Rattle.binlog.specs.Follow.{Names}
 use Rattle.store.specs.State.{Content}
 use Rattle.store.specs.Layout.{no_schema}
@@ -36,3 +37,7 @@ pub record MayStandFor (names : Names) (content : Content) (trees : Trees) : Typ
   pub db : Database
   pub trees_are : trees ≡ db.trees
   pub stands : StandsFor db names content
+
+-- Where they were of layout 1 and at rest, and this was their executed set, the trees stand for the same content.
+abbrev pub MayMigrate : State → Ids → Trees → Type 0
+MayMigrate old executed trees = (content : Content) → IsFirstAtRest old content → executed ≡ content.executed → MayStandFor all content trees

@@ -18,6 +18,7 @@ use Rattle.store.specs.State.{Content, TableRow}
 use Rattle.store.specs.Take.{Takes, is_executed, done, repeat, refused}
 use Rattle.store.specs.Rows.{StandsFor}
 use Rattle.store.specs.Apply.{IsAtRest, IsTaken}
+use Rattle.store.specs.Entering.{IsOf, IsWanted}
 
 module _ {S : Type 0} (g : Ghosts S) where
   -- The store is whole: its tables, its connection and its set in memory stand for this content.
@@ -55,6 +56,13 @@ module _ {S : Type 0} (g : Ghosts S) where
   Counts content row new (Ok n) = (n ≡ content.rows row) × Holds new content
   Counts content row new (Err (Database e)) = IsTrue (state g new.conn).is_open → Holds new content
   Counts content row new (Err _) = ⊥
+
+  -- The store holds what the database stood for.
+  pub record Opens (any : Bool) (only : Names) (old : State) (store : Store S g) : Type 0 where
+    pub content : Content
+    pub of : IsOf only store.following old.now content
+    pub wanted : IsWanted any only store.following
+    pub holds : Holds store content
 
 -- Under this schema the trees stand for the content.
 abbrev pub AreOf : Schema → Names → Content → Trees → Type 0

@@ -8,7 +8,7 @@ ghost use Rattle.store.specs.Layout.{first_layout};
 ghost use Rattle.store.specs.Rows.{stored_span, span_rows, shown_spans};
 ghost use Rattle.store.specs.Inside.{IsWorking, Moves};
 ghost use Rattle.store.specs.Apply.{IsAtRest, Rests};
-ghost use Rattle.store.specs.Open.{all, IsFirstAtRest, MayStandFor};
+ghost use Rattle.store.specs.Open.{all, IsFirstAtRest, MayMigrate};
 ghost use Rattle.store.specs.Making.{HasMade};
 ghost use Rattle.store.specs.Migrating.{without_executed, migrated_spans, migrated_layout, IsFirstInside, IsMigrating, HasLeft};
 
@@ -122,8 +122,7 @@ pub(crate) fn migrate<S: Alter>(conn: &mut Connection<S>, executed: &GtidSet) ->
     ensures autocommit { conn.new.in_transaction ≡ false }
     ensures migrated { HasCleanDisk (state S.Store conn.new) → (content : Content) → IsFirstAtRest (state S.Store conn.old) content → executed.now ≡ content.executed → OnOk result (IsAtRest (state S.Store conn.new) all content) }
     ensures refused { HasCleanDisk (state S.Store conn.new) → (content : Content) → IsFirstAtRest (state S.Store conn.old) content → OnErr result (Rests (state S.Store conn.old) (state S.Store conn.new)) }
-    ensures clean { HasCleanDisk (state S.Store conn.new) → HasCleanDisk (state S.Store conn.old) }
-    ensures crash { (content : Content) → IsFirstAtRest (state S.Store conn.old) content → executed.now ≡ content.executed → Survives (state S.Store conn.old) (state S.Store conn.new) (MayStandFor all content) }
+    ensures crash { Survives (state S.Store conn.old) (state S.Store conn.new) (MayMigrate (state S.Store conn.old) executed.now) }
 {
     let mut tx = conn.transaction();
     convert(&mut tx, executed)?;

@@ -6,7 +6,9 @@ ghost use Rattle.sqlite.specs.Held.{state};
 ghost use Rattle.store.specs.declared.fault.StoreFault.TheVariants.{Memory, Damaged};
 ghost use Rattle.store.specs.Layout.{no_schema, first_layout, IsLaidOut};
 ghost use Rattle.store.specs.Rows.{SaysLayout, first_meta_rows};
-ghost use Rattle.store.specs.Entering.{IsReady, IsEntered, IsTurned, IsWanted, MayEnter, tables_of, has_any};
+ghost use Rattle.store.specs.Open.{all};
+ghost use Rattle.store.specs.Store.{Opens};
+ghost use Rattle.store.specs.Entering.{IsReady, IsEntered, IsTurned, IsWanted, MayEnter, tables_of, has_any, has_first, has_second};
 
 use crate::fault::StoreFault;
 use crate::layout::Tables;
@@ -87,7 +89,7 @@ fn enter_first<S: Alter>(
     ensures autocommit { conn.new.in_transaction ≡ false }
     ensures entered { HasCleanDisk (state S.Store conn.new) → IsReady (state S.Store conn.old) → (state S.Store conn.old).now.schema ≡ first_layout → SaysLayout (pos 1) (first_meta_rows (state S.Store conn.old).now) → IfOk result (λ l. IsEntered any only.now (state S.Store conn.old) (state S.Store conn.new) l.executed l.following) }
     ensures turned { HasCleanDisk (state S.Store conn.new) → IsReady (state S.Store conn.old) → (state S.Store conn.old).now.schema ≡ first_layout → SaysLayout (pos 1) (first_meta_rows (state S.Store conn.old).now) → IfErr result (IsTurned any only.now (state S.Store conn.old) (state S.Store conn.new)) }
-    ensures clean { HasCleanDisk (state S.Store conn.new) → HasCleanDisk (state S.Store conn.old) }
+    ensures lives { Survives (state S.Store conn.old) (state S.Store conn.new) (λ _. Unit {0}) }
     ensures crash { IsReady (state S.Store conn.old) → (state S.Store conn.old).now.schema ≡ first_layout → SaysLayout (pos 1) (first_meta_rows (state S.Store conn.old).now) → Survives (state S.Store conn.old) (state S.Store conn.new) (MayEnter only.now (state S.Store conn.old)) }
 {
     let executed = load_first(alloc, conn)?;
@@ -95,11 +97,13 @@ fn enter_first<S: Alter>(
     if differs(&following, any, only) {
         return Err(StoreFault::Follows);
     }
-    migrate(conn, &executed)?;
-    Ok(Loaded {
-        executed,
-        following,
-    })
+    match migrate(conn, &executed) {
+        Ok(()) => Ok(Loaded {
+            executed,
+            following,
+        }),
+        Err(error) => Err(StoreFault::Database(error)),
+    }
 }
 
 /// Reads a database of layout 2.
@@ -113,7 +117,7 @@ fn enter_second<S: Alter>(
     ensures autocommit { conn.new.in_transaction ≡ false }
     ensures entered { HasCleanDisk (state S.Store conn.new) → IsReady (state S.Store conn.old) → IsLaidOut (state S.Store conn.old).now.schema → SaysLayout (pos 2) (first_meta_rows (state S.Store conn.old).now) → IfOk result (λ l. IsEntered any only.now (state S.Store conn.old) (state S.Store conn.new) l.executed l.following) }
     ensures turned { HasCleanDisk (state S.Store conn.new) → IsReady (state S.Store conn.old) → IsLaidOut (state S.Store conn.old).now.schema → SaysLayout (pos 2) (first_meta_rows (state S.Store conn.old).now) → IfErr result (IsTurned any only.now (state S.Store conn.old) (state S.Store conn.new)) }
-    ensures clean { HasCleanDisk (state S.Store conn.new) → HasCleanDisk (state S.Store conn.old) }
+    ensures lives { Survives (state S.Store conn.old) (state S.Store conn.new) (λ _. Unit {0}) }
     ensures crash { IsLaidOut (state S.Store conn.old).now.schema → Survives (state S.Store conn.old) (state S.Store conn.new) (λ _. ⊥) }
 {
     let loaded = load(alloc, conn)?;
@@ -121,6 +125,20 @@ fn enter_second<S: Alter>(
         return Err(StoreFault::Follows);
     }
     Ok(loaded)
+}
+
+/// Whether all of layout 1 are there, beside `meta`.
+fn has_first(tables: Tables) -> bool
+    ensures { result ≡ has_first tables }
+{
+    tables.executed && tables.held
+}
+
+/// Whether all of layout 2 are there, beside `meta`.
+fn has_second(tables: Tables) -> bool
+    ensures { result ≡ has_second tables }
+{
+    tables.held && (tables.spans && tables.follow)
 }
 
 /// Reads a database that has the table `meta`.
@@ -133,20 +151,19 @@ fn enter_old<S: Alter>(
 ) -> Result<Loaded, StoreFault>
     requires { conn.old.in_transaction ≡ false }
     ensures autocommit { conn.new.in_transaction ≡ false }
-    ensures entered { HasCleanDisk (state S.Store conn.new) → IsReady (state S.Store conn.old) → tables ≡ tables_of (state S.Store conn.old).now.schema → has_any tables ≡ true → tables.meta ≡ true → IfOk result (λ l. IsEntered any only.now (state S.Store conn.old) (state S.Store conn.new) l.executed l.following) }
+    ensures entered { HasCleanDisk (state S.Store conn.new) → IsReady (state S.Store conn.old) → tables ≡ tables_of (state S.Store conn.old).now.schema → tables.meta ≡ true → IfOk result (λ l. IsEntered any only.now (state S.Store conn.old) (state S.Store conn.new) l.executed l.following) }
     ensures turned { HasCleanDisk (state S.Store conn.new) → IsReady (state S.Store conn.old) → tables ≡ tables_of (state S.Store conn.old).now.schema → tables.meta ≡ true → IfErr result (IsTurned any only.now (state S.Store conn.old) (state S.Store conn.new)) }
-    ensures clean { HasCleanDisk (state S.Store conn.new) → HasCleanDisk (state S.Store conn.old) }
     ensures crash { IsReady (state S.Store conn.old) → tables ≡ tables_of (state S.Store conn.old).now.schema → tables.meta ≡ true → Survives (state S.Store conn.old) (state S.Store conn.new) (MayEnter only.now (state S.Store conn.old)) }
 {
     match layout_of(conn)? {
         Some(1) => {
-            if !(tables.executed && tables.held) {
+            if !has_first(tables) {
                 return Err(StoreFault::Damaged);
             }
             enter_first(alloc, conn, any, only)
         }
         Some(2) => {
-            if !(tables.held && (tables.spans && tables.follow)) {
+            if !has_second(tables) {
                 return Err(StoreFault::Damaged);
             }
             enter_second(alloc, conn, any, only)
@@ -195,6 +212,12 @@ fn begin<S: Alter>(
     only: &Follow,
 ) -> Result<Store<S>, (StoreFault, Connection<S>)>
     requires { conn.in_transaction ≡ false }
+    ensures opens { IfOk result (λ store. HasCleanDisk (state S.Store store.conn) → IsReady (state S.Store conn) → Opens S.Store any only.now (state S.Store conn) store) }
+    ensures turned { IfErr result (λ e. HasCleanDisk (state S.Store e.1) → IsReady (state S.Store conn) → IsTurned any only.now (state S.Store conn) (state S.Store e.1) e.0) }
+    ensures headless { (tables_of (state S.Store conn).now.schema).meta ≡ false → has_any (tables_of (state S.Store conn).now.schema) ≡ true → result ≡ Err (Damaged, conn) }
+    ensures autocommit { IfErr result (λ e. e.1.in_transaction ≡ false) }
+    ensures crash { IfOk result (λ store. IsReady (state S.Store conn) → Survives (state S.Store conn) (state S.Store store.conn) (MayEnter only.now (state S.Store conn))) }
+    ensures left { IfErr result (λ e. IsReady (state S.Store conn) → Survives (state S.Store conn) (state S.Store e.1) (MayEnter only.now (state S.Store conn))) }
 {
     match enter(alloc, &mut conn, any, only) {
         Ok(loaded) => {
@@ -226,6 +249,12 @@ impl<S: Alter> Store<S> {
     /// The connection is in no transaction: `is_autocommit` tells.
     pub fn open(alloc: Global, conn: Connection<S>) -> Result<Store<S>, (StoreFault, Connection<S>)>
         requires { conn.in_transaction ≡ false }
+        ensures opens { IfOk result (λ store. HasCleanDisk (state S.Store store.conn) → IsReady (state S.Store conn) → Opens S.Store true all (state S.Store conn) store) }
+        ensures turned { IfErr result (λ e. HasCleanDisk (state S.Store e.1) → IsReady (state S.Store conn) → IsTurned true all (state S.Store conn) (state S.Store e.1) e.0) }
+        ensures headless { (tables_of (state S.Store conn).now.schema).meta ≡ false → has_any (tables_of (state S.Store conn).now.schema) ≡ true → result ≡ Err (Damaged, conn) }
+        ensures autocommit { IfErr result (λ e. e.1.in_transaction ≡ false) }
+        ensures crash { IfOk result (λ store. IsReady (state S.Store conn) → Survives (state S.Store conn) (state S.Store store.conn) (MayEnter all (state S.Store conn))) }
+        ensures left { IfErr result (λ e. IsReady (state S.Store conn) → Survives (state S.Store conn) (state S.Store e.1) (MayEnter all (state S.Store conn))) }
     {
         begin(alloc, conn, true, &Follow::all(alloc))
     }
@@ -238,6 +267,12 @@ impl<S: Alter> Store<S> {
         follow: &Follow,
     ) -> Result<Store<S>, (StoreFault, Connection<S>)>
         requires { conn.in_transaction ≡ false }
+        ensures opens { IfOk result (λ store. HasCleanDisk (state S.Store store.conn) → IsReady (state S.Store conn) → Opens S.Store false follow.now (state S.Store conn) store) }
+        ensures turned { IfErr result (λ e. HasCleanDisk (state S.Store e.1) → IsReady (state S.Store conn) → IsTurned false follow.now (state S.Store conn) (state S.Store e.1) e.0) }
+        ensures headless { (tables_of (state S.Store conn).now.schema).meta ≡ false → has_any (tables_of (state S.Store conn).now.schema) ≡ true → result ≡ Err (Damaged, conn) }
+        ensures autocommit { IfErr result (λ e. e.1.in_transaction ≡ false) }
+        ensures crash { IfOk result (λ store. IsReady (state S.Store conn) → Survives (state S.Store conn) (state S.Store store.conn) (MayEnter follow.now (state S.Store conn))) }
+        ensures left { IfErr result (λ e. IsReady (state S.Store conn) → Survives (state S.Store conn) (state S.Store e.1) (MayEnter follow.now (state S.Store conn))) }
     {
         begin(alloc, conn, false, follow)
     }

@@ -8,6 +8,7 @@ use Rattle.store.specs.Layout.{tree_at}
 use Rattle.store.specs.Rows.{IsFollowRow, IsSpanRow, IsHeldRow, AreNames, AreSpans, HasRowids, touches, span_in}
 use Rattle.store.specs.Load.{all_meta_text, all_held_text, all_spans_text, all_follow_text}
 use Rattle.store.proofs.Steps.{rested_after, rested_unchanged, still_asks, first_step, next_step, clean_before, seen_by, fault_by, loaded}
+use Rattle.store.proofs.Lives.{over_any, any_then}
 use Rattle.store.proofs.Wholes.{laid_meta_asks, follow_asks, spans_asks, held_asks}
 use Rattle.store.proofs.load.load.Goals as goal
 
@@ -159,3 +160,23 @@ returns-clause-rested g c clean laid =
 pub returns-clause-crash : goal.returns-clause-crash
 returns-clause-crash g c laid =
     next_step (state g.S.Store c.args.conn.now) (state g.S.Store c.load_spans.new.conn) (state g.S.Store c.load_held.new.conn) all_held_text (tree_at (state g.S.Store c.args.conn.now).now.schema 1) (held_asks _ laid) (λ clean. let clean2 = clean_before (state g.S.Store c.load_follow.new.conn) (state g.S.Store c.load_spans.new.conn) _ c.load_spans.ensures.crash clean in let clean1 = clean_before (state g.S.Store c.load_meta.new.conn) (state g.S.Store c.load_follow.new.conn) _ c.load_follow.ensures.crash clean2 in let same1 = c.in_ok-load_meta.ensures.same clean1 (tree_at (state g.S.Store c.args.conn.now).now.schema 0) (laid_meta_asks _ laid) in let same2 = unchanged_then (state g.S.Store c.args.conn.now) (state g.S.Store c.load_meta.new.conn) (state g.S.Store c.load_follow.new.conn) same1 (c.in_ok-following.ensures.same clean2 (tree_at (state g.S.Store c.args.conn.now).now.schema 3) (still_asks (state g.S.Store c.args.conn.now) (state g.S.Store c.load_meta.new.conn) all_follow_text (tree_at (state g.S.Store c.args.conn.now).now.schema 3) same1 (follow_asks _ laid))) in let same3 = unchanged_then (state g.S.Store c.args.conn.now) (state g.S.Store c.load_follow.new.conn) (state g.S.Store c.load_spans.new.conn) same2 (c.in_ok-executed.ensures.same clean (tree_at (state g.S.Store c.args.conn.now).now.schema 2) (still_asks (state g.S.Store c.args.conn.now) (state g.S.Store c.load_follow.new.conn) all_spans_text (tree_at (state g.S.Store c.args.conn.now).now.schema 2) same2 (spans_asks _ laid))) in same3) (next_step (state g.S.Store c.args.conn.now) (state g.S.Store c.load_follow.new.conn) (state g.S.Store c.load_spans.new.conn) all_spans_text (tree_at (state g.S.Store c.args.conn.now).now.schema 2) (spans_asks _ laid) (λ clean. let clean1 = clean_before (state g.S.Store c.load_meta.new.conn) (state g.S.Store c.load_follow.new.conn) _ c.load_follow.ensures.crash clean in let same1 = c.in_ok-load_meta.ensures.same clean1 (tree_at (state g.S.Store c.args.conn.now).now.schema 0) (laid_meta_asks _ laid) in let same2 = unchanged_then (state g.S.Store c.args.conn.now) (state g.S.Store c.load_meta.new.conn) (state g.S.Store c.load_follow.new.conn) same1 (c.in_ok-following.ensures.same clean (tree_at (state g.S.Store c.args.conn.now).now.schema 3) (still_asks (state g.S.Store c.args.conn.now) (state g.S.Store c.load_meta.new.conn) all_follow_text (tree_at (state g.S.Store c.args.conn.now).now.schema 3) same1 (follow_asks _ laid))) in same2) (next_step (state g.S.Store c.args.conn.now) (state g.S.Store c.load_meta.new.conn) (state g.S.Store c.load_follow.new.conn) all_follow_text (tree_at (state g.S.Store c.args.conn.now).now.schema 3) (follow_asks _ laid) (λ clean. let same1 = c.in_ok-load_meta.ensures.same clean (tree_at (state g.S.Store c.args.conn.now).now.schema 0) (laid_meta_asks _ laid) in same1) (first_step (state g.S.Store c.args.conn.now) (state g.S.Store c.load_meta.new.conn) all_meta_text (tree_at (state g.S.Store c.args.conn.now).now.schema 0) (laid_meta_asks _ laid) c.load_meta.ensures.crash) c.load_follow.ensures.crash) c.load_spans.ensures.crash) c.load_held.ensures.crash
+
+pub returns-in_err-load_meta-clause-lives : goal.returns-in_err-load_meta-clause-lives
+returns-in_err-load_meta-clause-lives g c =
+    over_any (state g.S.Store c.args.conn.now) (state g.S.Store c.load_meta.new.conn) _ c.load_meta.ensures.crash
+
+pub returns-in_err-following-clause-lives : goal.returns-in_err-following-clause-lives
+returns-in_err-following-clause-lives g c =
+    any_then (state g.S.Store c.args.conn.now) (state g.S.Store c.load_meta.new.conn) (state g.S.Store c.load_follow.new.conn) _ (over_any (state g.S.Store c.args.conn.now) (state g.S.Store c.load_meta.new.conn) _ c.load_meta.ensures.crash) c.load_follow.ensures.crash
+
+pub returns-in_err-executed-clause-lives : goal.returns-in_err-executed-clause-lives
+returns-in_err-executed-clause-lives g c =
+    any_then (state g.S.Store c.args.conn.now) (state g.S.Store c.load_follow.new.conn) (state g.S.Store c.load_spans.new.conn) _ (any_then (state g.S.Store c.args.conn.now) (state g.S.Store c.load_meta.new.conn) (state g.S.Store c.load_follow.new.conn) _ (over_any (state g.S.Store c.args.conn.now) (state g.S.Store c.load_meta.new.conn) _ c.load_meta.ensures.crash) c.load_follow.ensures.crash) c.load_spans.ensures.crash
+
+pub returns-in_err-load_held-clause-lives : goal.returns-in_err-load_held-clause-lives
+returns-in_err-load_held-clause-lives g c =
+    any_then (state g.S.Store c.args.conn.now) (state g.S.Store c.load_spans.new.conn) (state g.S.Store c.load_held.new.conn) _ (any_then (state g.S.Store c.args.conn.now) (state g.S.Store c.load_follow.new.conn) (state g.S.Store c.load_spans.new.conn) _ (any_then (state g.S.Store c.args.conn.now) (state g.S.Store c.load_meta.new.conn) (state g.S.Store c.load_follow.new.conn) _ (over_any (state g.S.Store c.args.conn.now) (state g.S.Store c.load_meta.new.conn) _ c.load_meta.ensures.crash) c.load_follow.ensures.crash) c.load_spans.ensures.crash) c.load_held.ensures.crash
+
+pub returns-clause-lives : goal.returns-clause-lives
+returns-clause-lives g c =
+    any_then (state g.S.Store c.args.conn.now) (state g.S.Store c.load_spans.new.conn) (state g.S.Store c.load_held.new.conn) _ (any_then (state g.S.Store c.args.conn.now) (state g.S.Store c.load_follow.new.conn) (state g.S.Store c.load_spans.new.conn) _ (any_then (state g.S.Store c.args.conn.now) (state g.S.Store c.load_meta.new.conn) (state g.S.Store c.load_follow.new.conn) _ (over_any (state g.S.Store c.args.conn.now) (state g.S.Store c.load_meta.new.conn) _ c.load_meta.ensures.crash) c.load_follow.ensures.crash) c.load_spans.ensures.crash) c.load_held.ensures.crash

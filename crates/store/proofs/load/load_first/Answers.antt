@@ -8,6 +8,7 @@ use Rattle.sqlite.proofs.Callers.{unchanged_then}
 use Rattle.store.specs.Rows.{IsHeldRow, IsExecutedRow, HasRowids, id_in}
 use Rattle.store.specs.Load.{all_meta_text, all_held_text, all_executed_text}
 use Rattle.store.proofs.Steps.{rested_after, rested_unchanged, still_asks, first_step, next_step, clean_before, seen_by, fault_by, first_loaded}
+use Rattle.store.proofs.Lives.{over_any, any_then}
 use Rattle.store.proofs.Wholes.{meta_first_asks, first_meta_first, first_executed, first_held}
 use Rattle.store.proofs.load.load_first.Goals as goal
 
@@ -116,3 +117,19 @@ returns-clause-rested g c clean made =
 pub returns-clause-crash : goal.returns-clause-crash
 returns-clause-crash g c made =
     next_step (state g.S.Store c.args.conn.now) (state g.S.Store c.load_executed.new.conn) (state g.S.Store c.load_held.new.conn) all_held_text 4 (first_held _ made) (λ clean. let clean1 = clean_before (state g.S.Store c.load_meta.new.conn) (state g.S.Store c.load_executed.new.conn) _ c.load_executed.ensures.crash clean in let same1 = c.in_ok-load_meta.ensures.same clean1 0 (meta_first_asks _ (first_meta_first _ made)) in let same2 = unchanged_then (state g.S.Store c.args.conn.now) (state g.S.Store c.load_meta.new.conn) (state g.S.Store c.load_executed.new.conn) same1 (c.in_ok-executed.ensures.same clean 2 (still_asks (state g.S.Store c.args.conn.now) (state g.S.Store c.load_meta.new.conn) all_executed_text 2 same1 (first_executed _ made))) in same2) (next_step (state g.S.Store c.args.conn.now) (state g.S.Store c.load_meta.new.conn) (state g.S.Store c.load_executed.new.conn) all_executed_text 2 (first_executed _ made) (λ clean. let same1 = c.in_ok-load_meta.ensures.same clean 0 (meta_first_asks _ (first_meta_first _ made)) in same1) (first_step (state g.S.Store c.args.conn.now) (state g.S.Store c.load_meta.new.conn) all_meta_text 0 (meta_first_asks _ (first_meta_first _ made)) c.load_meta.ensures.crash) c.load_executed.ensures.crash) c.load_held.ensures.crash
+
+pub returns-in_err-load_meta-clause-lives : goal.returns-in_err-load_meta-clause-lives
+returns-in_err-load_meta-clause-lives g c =
+    over_any (state g.S.Store c.args.conn.now) (state g.S.Store c.load_meta.new.conn) _ c.load_meta.ensures.crash
+
+pub returns-in_err-executed-clause-lives : goal.returns-in_err-executed-clause-lives
+returns-in_err-executed-clause-lives g c =
+    any_then (state g.S.Store c.args.conn.now) (state g.S.Store c.load_meta.new.conn) (state g.S.Store c.load_executed.new.conn) _ (over_any (state g.S.Store c.args.conn.now) (state g.S.Store c.load_meta.new.conn) _ c.load_meta.ensures.crash) c.load_executed.ensures.crash
+
+pub returns-in_err-load_held-clause-lives : goal.returns-in_err-load_held-clause-lives
+returns-in_err-load_held-clause-lives g c =
+    any_then (state g.S.Store c.args.conn.now) (state g.S.Store c.load_executed.new.conn) (state g.S.Store c.load_held.new.conn) _ (any_then (state g.S.Store c.args.conn.now) (state g.S.Store c.load_meta.new.conn) (state g.S.Store c.load_executed.new.conn) _ (over_any (state g.S.Store c.args.conn.now) (state g.S.Store c.load_meta.new.conn) _ c.load_meta.ensures.crash) c.load_executed.ensures.crash) c.load_held.ensures.crash
+
+pub returns-clause-lives : goal.returns-clause-lives
+returns-clause-lives g c =
+    any_then (state g.S.Store c.args.conn.now) (state g.S.Store c.load_executed.new.conn) (state g.S.Store c.load_held.new.conn) _ (any_then (state g.S.Store c.args.conn.now) (state g.S.Store c.load_meta.new.conn) (state g.S.Store c.load_executed.new.conn) _ (over_any (state g.S.Store c.args.conn.now) (state g.S.Store c.load_meta.new.conn) _ c.load_meta.ensures.crash) c.load_executed.ensures.crash) c.load_held.ensures.crash

@@ -5,7 +5,9 @@ use Rattle.sqlite.proofs.Callers.{survives_begin}
 use Rattle.sqlite.proofs.StateLemmas.{survives_then}
 use Rattle.store.specs.Inside.{IsWorking}
 use Rattle.store.specs.Apply.{Rests}
-use Rattle.store.specs.Open.{all, MayStandFor}
+use Rattle.sqlite_trees.specs.Tree.{Trees}
+use Rattle.store.specs.State.{Content}
+use Rattle.store.specs.Open.{all, IsFirstAtRest, MayMigrate}
 use Rattle.store.specs.Making.{HasMade}
 use Rattle.store.proofs.Ran.{rests_rolled}
 use Rattle.store.proofs.Committed.{first_inside, rests_unless, may_stand}
@@ -39,15 +41,16 @@ returns-clause-refused g c clean content rest =
     search (rules, refused)
 
 pub returns-clause-crash : goal.returns-clause-crash
-returns-clause-crash g c content rest is =
+returns-clause-crash g c =
     let h = c.args.conn.now in
     let t = state g.S.Store (record h { in_transaction = true }) in
     let m = state g.S.Store c.convert.new.tx.conn.now in
     let n = state g.S.Store c.commit.new.self.0 in
-    let begun = first_inside g.S.Store h content rest in
-    let made : HasCleanDisk m → HasMade m all content = λ early. (rw c.transaction-tx.ensures.begun at c.in_ok-convert.ensures.made) early content begun is in
-    let survives : Survives (state g.S.Store h) n (MayStandFor all content) =
-    survives_begin g.S.Store h n (MayStandFor all content) (survives_then t m n (λ _. ⊥) (λ db. db ≡ m.now.trees) (MayStandFor all content) (λ _ db none. absurd none)
-    (λ clean db is. may_stand all content m db (made (omega (arith, c.commit.ensures.survives.clean, clean))) is)
+    let may : Trees → Type 0 = MayMigrate (state g.S.Store h) c.args.executed.now in
+    let made : HasCleanDisk m → (content : Content) → IsFirstAtRest (state g.S.Store h) content → c.args.executed.now ≡ content.executed → HasMade m all content =
+    λ early content rest is. (rw c.transaction-tx.ensures.begun at c.in_ok-convert.ensures.made) early content (first_inside g.S.Store h content rest) is in
+    let survives : Survives (state g.S.Store h) n may =
+    survives_begin g.S.Store h n may (survives_then t m n (λ _. ⊥) (λ db. db ≡ m.now.trees) may (λ _ db none. absurd none)
+    (λ clean db is content rest same. may_stand all content m db (made (omega (arith, c.commit.ensures.survives.clean, clean)) content rest same) is)
     (rw c.transaction-tx.ensures.begun at c.in_ok-convert.ensures.survives) c.commit.ensures.survives) in
     search (rules, survives)

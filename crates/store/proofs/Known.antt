@@ -1,0 +1,126 @@
+-- Which tables a known schema has, and one reading after another.
+use Rattle.std.proofs.Common.{◌≡◌, inl, inr, ℤ, Bool, true, false, ◌&&◌, ◌||◌, Result, Ok, Err, IfOk, IfErr, arith, refl, sym, ap, subst, ◌∙◌}
+use Rattle.std.proofs.lemmas.Bool.{false≢true, true≢false, and_parts}
+use Rattle.sqlite_trees.specs.Tree.{Trees}
+use Rattle.sqlite_schema.specs.declared.schema.Schema.{Schema}
+use Rattle.sqlite_schema.specs.Names.{same_name}
+use Rattle.sqlite.specs.Effect.{Database as Stored}
+use Rattle.sqlite.specs.State.{State, Survives, IsUnchanged, HasCleanDisk}
+use Rattle.sqlite.proofs.StateLemmas.{survives_then}
+use Rattle.gtid.specs.Identifier.{Ids}
+use Rattle.binlog.specs.Follow.{Names}
+use Rattle.store.specs.declared.fault.StoreFault.{StoreFault}
+use Rattle.store.specs.declared.layout.Tables.{Tables}
+use Rattle.store.specs.Layout.{no_schema, first_layout, IsLaidOut}
+use Rattle.store.specs.Rows.{SaysLayout, first_meta_rows}
+use Rattle.store.specs.Load.{IsMetaFirst}
+use Rattle.store.specs.Entering.{IsReady, IsKnown, blank, first, second, lacking, IsOf, IsStored, IsWhy, IsEntered, IsTurned, MayEnter, tables_of, has_any, has_first, has_second}
+use Rattle.store.proofs.Wholes.{laid_meta_first, first_meta_first}
+use Rattle.store.proofs.Lives.{narrowed}
+use Rattle.store.proofs.Entered.{rests_after}
+
+-- ---- known schemas
+
+
+none_meta : (tables_of no_schema).meta ≡ false
+none_meta = refl
+
+none_first : has_first (tables_of no_schema) ≡ false
+none_first = refl
+
+none_second : has_second (tables_of no_schema) ≡ false
+none_second = refl
+
+first_second : has_second (tables_of first_layout) ≡ false
+unfolding same_name
+first_second = refl
+
+pub meta_first : (schema : Schema) → IsKnown schema → (tables_of schema).meta ≡ true → IsMetaFirst schema
+meta_first schema (blank is) there = absurd (false≢true (sym none_meta ∙ ap (λ s. (tables_of s).meta) (sym is) ∙ there))
+meta_first schema (first is) there = first_meta_first schema is
+meta_first schema (second laid none) there = laid_meta_first schema laid
+meta_first schema (lacking meta one two) there = meta
+
+pub known_first : (schema : Schema) → IsKnown schema → has_first (tables_of schema) ≡ true → schema ≡ first_layout
+known_first schema (blank is) there = absurd (false≢true (sym none_first ∙ ap (λ s. has_first (tables_of s)) (sym is) ∙ there))
+known_first schema (first is) there = is
+known_first schema (second laid none) there = absurd (false≢true (sym none ∙ (and_parts _ _ there).0))
+known_first schema (lacking meta one two) there = absurd (false≢true (sym one ∙ there))
+
+pub known_second : (schema : Schema) → IsKnown schema → has_second (tables_of schema) ≡ true → IsLaidOut schema
+known_second schema (blank is) there = absurd (false≢true (sym none_second ∙ ap (λ s. has_second (tables_of s)) (sym is) ∙ there))
+known_second schema (first is) there = absurd (false≢true (sym first_second ∙ ap (λ s. has_second (tables_of s)) (sym is) ∙ there))
+known_second schema (second laid none) there = laid
+known_second schema (lacking meta one two) there = absurd (false≢true (sym two ∙ there))
+
+-- ---- one reading after another
+pub ready_after : (old mid : State) → IsUnchanged old mid → IsReady old → IsReady mid
+ready_after old mid same ready = record {
+  is_open = same.0.is_open;
+  settled = same.0.now_is ∙ ready.settled ∙ sym same.0.committed_is;
+  known = subst (λ (db : Stored). IsKnown db.schema) (sym same.0.now_is) ready.known;
+}
+
+module _ (any : Bool) (only : Names) (old mid new : State) (same : IsUnchanged old mid) where
+  pub entered_after : (executed : Ids) (names : Names) → IsEntered any only mid new executed names → IsEntered any only old new executed names
+  entered_after executed names e = record {
+    content = e.content;
+    of = subst (λ (db : Stored). IsOf only names db e.content) same.0.now_is e.of;
+    rest = e.rest;
+    executed_is = e.executed_is;
+    wanted = e.wanted;
+  }
+
+  pub turned_after : (fault : StoreFault) → IsTurned any only mid new fault → IsTurned any only old new fault
+  turned_after fault t = (subst (λ (db : Stored). IsWhy any only db fault) same.0.now_is t.0, rests_after old mid new same t.1)
+
+pub may_after : (only : Names) (old mid : State) (db : Trees) → IsUnchanged old mid → MayEnter only mid db → MayEnter only old db
+may_after only old mid db same m = record {
+  names = m.names;
+  content = m.content;
+  of = subst (λ (d : Stored). IsOf only m.names d m.content) same.0.now_is m.of;
+  may = m.may;
+}
+
+pub may_then : (only : Names) (old mid new : State) → Survives old mid (λ _. ⊥) → Survives mid new (λ _. Unit {0}) → (HasCleanDisk mid → IsUnchanged old mid) → (HasCleanDisk mid → Survives mid new (MayEnter only mid)) → Survives old new (MayEnter only old)
+may_then only old mid new one lives same may =
+    let two : Survives mid new (MayEnter only mid) = narrowed mid new (MayEnter only mid) (λ _. Unit {0}) lives (λ clean. may (omega (arith, lives.clean, clean))) in
+    survives_then old mid new (λ _. ⊥) (MayEnter only mid) (MayEnter only old) (λ _ db none. absurd none) (λ clean db m. may_after only old mid db (same (omega (arith, lives.clean, clean))) m) one two
+
+pub none_then : (only : Names) (old mid new : State) → Survives old mid (λ _. ⊥) → Survives mid new (λ _. Unit {0}) → (HasCleanDisk mid → Survives mid new (λ _. ⊥)) → Survives old new (MayEnter only old)
+none_then only old mid new one lives may =
+    let two : Survives mid new (λ _. ⊥) = narrowed mid new (λ _. ⊥) (λ _. Unit {0}) lives (λ clean. may (omega (arith, lives.clean, clean))) in
+    survives_then old mid new (λ _. ⊥) (λ _. ⊥) (MayEnter only old) (λ _ db none. absurd none) (λ _ db none. absurd none) one two
+
+pub ok_weaker : {T E : Type 0} {P Q : T → Type 0} (r : Result T E) → ((x : T) → P x → Q x) → IfOk r P → IfOk r Q
+ok_weaker (Ok x) f h = f x h
+ok_weaker (Err e) f h = h
+
+pub err_weaker : {T E : Type 0} {P Q : E → Type 0} (r : Result T E) → ((e : E) → P e → Q e) → IfErr r P → IfErr r Q
+err_weaker (Ok x) f h = h
+err_weaker (Err e) f h = f e h
+
+pub laid_after_first : (old mid : State) → IsUnchanged old mid → old.now.schema ≡ first_layout → mid.now.schema ≡ first_layout
+laid_after_first old mid same is = ap (λ (db : Stored). db.schema) same.0.now_is ∙ is
+
+pub laid_after_second : (old mid : State) → IsUnchanged old mid → IsLaidOut old.now.schema → IsLaidOut mid.now.schema
+laid_after_second old mid same laid = subst (λ (db : Stored). IsLaidOut db.schema) (sym same.0.now_is) laid
+
+pub says_after : (n : ℤ) (old mid : State) → IsUnchanged old mid → SaysLayout n (first_meta_rows old.now) → SaysLayout n (first_meta_rows mid.now)
+says_after n old mid same says = subst (λ (db : Stored). SaysLayout n (first_meta_rows db)) (sym same.0.now_is) says
+
+meta_there : (schema : Schema) → IsMetaFirst schema → (tables_of schema).meta ≡ true
+unfolding same_name
+meta_there schema m = ap (λ s. (tables_of s).meta) m.is
+
+any_there : (t : Tables) → t.meta ≡ true → has_any t ≡ true
+any_there t is = ap (λ b. b || (t.executed || (t.held || (t.spans || t.follow)))) is
+
+no_meta_first : (schema : Schema) → has_any (tables_of schema) ≡ false → IsMetaFirst schema → ⊥
+no_meta_first schema none m = true≢false (sym (any_there (tables_of schema) (meta_there schema m)) ∙ none)
+
+pub known_none : (schema : Schema) → IsKnown schema → has_any (tables_of schema) ≡ false → schema ≡ no_schema
+known_none schema (blank is) none = is
+known_none schema (first is) none = absurd (no_meta_first schema none (first_meta_first schema is))
+known_none schema (second laid other) none = absurd (no_meta_first schema none (laid_meta_first schema laid))
+known_none schema (lacking meta one two) none = absurd (no_meta_first schema none meta)
