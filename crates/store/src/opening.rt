@@ -205,7 +205,7 @@ fn has_any(tables: Tables) -> bool
 }
 
 /// The same, with a store that owns the connection.
-fn begin<S: Alter>(
+fn open_with<S: Alter>(
     alloc: Global,
     mut conn: Connection<S>,
     any: bool,
@@ -256,7 +256,8 @@ impl<S: Alter> Store<S> {
         ensures crash { IfOk result (λ store. IsReady (state S.Store conn) → Survives (state S.Store conn) (state S.Store store.conn) (MayEnter all (state S.Store conn))) }
         ensures left { IfErr result (λ e. IsReady (state S.Store conn) → Survives (state S.Store conn) (state S.Store e.1) (MayEnter all (state S.Store conn))) }
     {
-        begin(alloc, conn, true, &Follow::all(alloc))
+        let only = Follow::all(alloc);
+        open_with(alloc, conn, true, &only)
     }
 
     /// The same for a list of tables. A new database is made for these. Another one has to be made for the same list,
@@ -274,6 +275,6 @@ impl<S: Alter> Store<S> {
         ensures crash { IfOk result (λ store. IsReady (state S.Store conn) → Survives (state S.Store conn) (state S.Store store.conn) (MayEnter follow.now (state S.Store conn))) }
         ensures left { IfErr result (λ e. IsReady (state S.Store conn) → Survives (state S.Store conn) (state S.Store e.1) (MayEnter follow.now (state S.Store conn))) }
     {
-        begin(alloc, conn, false, follow)
+        open_with(alloc, conn, false, follow)
     }
 }
