@@ -34,3 +34,4 @@ pub mod Laid
 pub mod SpanRows
 pub mod Loading
 pub mod Steps
+pub mod Listings

@@ -6,20 +6,20 @@ mod beside;
 mod change;
 mod counting;
 mod fault;
+mod judge;
 pub mod laws;
+mod listing;
+mod load;
 mod make;
 mod migrate;
 mod rows;
 mod spans;
 mod store;
-mod taking;
-mod judge;
-mod load;
-mod rows;
-mod spans;
 mod tables;
+mod taking;
 
 pub use fault::{Applied, StoreFault};
+pub use listing::{List, Listed};
 pub use store::Store;
 
 #[cfg(test)]
