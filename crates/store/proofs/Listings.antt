@@ -1,11 +1,12 @@
 -- The rows of held in order, and what is handed out of them.
-use Rattle.std.proofs.Common.{◌≡◌, ◌⊎◌, inl, inr, ℕ, ◌+◌, ◌<◌, ◌≤◌, pos, true, false, List, [], ◌∷◌, ◌++◌, map, drop, length, get_or, codes, Option, Some, None, Err, unwrap_or, refl, sym, ap, subst, ◌∙◌, arith}
+use Rattle.std.proofs.Common.{◌≡◌, ◌⊎◌, inl, inr, ℕ, suc, ◌+◌, ◌<◌, ◌≤◌, pos, true, false, List, [], ◌∷◌, ◌++◌, map, drop, length, get_or, codes, Option, Some, None, Err, refl, sym, ap, subst, ◌∙◌, arith}
 use Rattle.std.specs.List.{AllByRecursion, sum_by}
 use Rattle.std.specs.List.Sorted.{IsPermutation, IsStrictlySortedBy}
 use Rattle.std.specs.Cmp.{IsTotalOrder, on_total}
 use Rattle.std.specs.declared.cmp.Ordering.TheVariants.{Less, Equal}
 use Rattle.std.proofs.lemmas.Bool.{cases_Bool, and_parts, and_from, false_from_ne_true}
 use Rattle.std.proofs.lemmas.Cmp.{then_total, nat_list_cmp_total, tied_itself}
+use Rattle.std.proofs.Math.Seq.{drop-cons}
 use Rattle.std.proofs.lemmas.List.{at_drop_all, at_drop_more}
 use Rattle.std.proofs.lemmas.List.Sorted.{sum_by-IsPermutation}
 use Rattle.std.proofs.lemmas.List.Sums.{sum_by-cons}
@@ -33,7 +34,7 @@ use Rattle.store.specs.declared.listing.List.{List as Listing}
 use Rattle.store.specs.State.{TableRow, row_of, Bag, has_image}
 use Rattle.store.specs.Layout.{Origin, made, migrated, layout, held_at, held_tree, IsLaidOut, tree_at}
 use Rattle.store.specs.Load.{AsksAll}
-use Rattle.store.specs.Rows.{Key, key_for, IsHeldRow, is_at, share, count, bag_of, blob_in}
+use Rattle.store.specs.Rows.{Key, key_for, IsHeldRow, is_at, share, count, bag_of, blob_in, number_in}
 use Rattle.store.specs.Listing.{Entry, key_cmp, row_cmp, entry_rows, AreRows, shown_entry, without_rowids, IsToCome, Gives, Hands, listed_text, HasKey, KeysRise}
 use Rattle.store.proofs.Bags.{image_has, has_its_image}
 use Rattle.store.proofs.Steps.{first_step}
@@ -92,7 +93,7 @@ one_key row a b one other =
 pub none_shown : (row : Row) (e : Entry) → ((key : Key) → ¬ HasKey key row) → shown_entry e ≡ drop 1 row → ⊥
 none_shown row e none same = none (key_for e.0) (shown_has row e same).0
 
-pub given_entry : (row : Row) (e : Entry) (key : Key) (n : ℕ) (cells : List CellValue) (a b : List ℕ) → HasKey key row → ((m : ℕ) → column row 4 ≡ Int (pos m) → Some n ≡ Some m) → IsImage cells key.image → a ≡ key.schema → b ≡ key.table
+pub given_entry : (row : Row) (e : Entry) (key : Key) (n : ℕ) (cells : List CellValue) (a b : List ℕ) → HasKey key row → column row 4 ≡ Int (pos n) → IsImage cells key.image → a ≡ key.schema → b ≡ key.table
     → shown_entry e ≡ drop 1 row → HasImage e.0.cells → (row_of a b cells, n) ≡ e
 given_entry row e key n cells a b has counts is a_is b_is same lawful =
     let s = shown_has row e same in
@@ -100,8 +101,15 @@ given_entry row e key n cells a b has counts is a_is b_is same lawful =
     let a_e : a ≡ e.0.schema = a_is ∙ ap (λ (x : Key). x.schema) k in
     let b_e : b ≡ e.0.table = b_is ∙ ap (λ (x : Key). x.table) k in
     let c_e : cells ≡ e.0.cells = one_list cells e.0.cells key.image is (record { has_image = lawful; bytes_are = ap (λ (x : Key). x.image) k }) in
-    let n_e : n ≡ e.1 = ap (λ (o : Option ℕ). unwrap_or o n) (counts e.1 s.1) in
+    let n_e : n ≡ e.1 = ap number_in (sym counts ∙ s.1) in
     λ i. (record { schema = a_e i; table = b_e i; cells = c_e i }, n_e i)
+
+-- ---- A row that has no key.
+
+pub no_key_at : (last : Option Key) (rows : List Row) (i : ℕ) (row : Row) → i < length rows → row ≡ get_or rows i row → ((key : Key) → ¬ HasKey key row) → ¬ KeysRise last (drop i rows)
+no_key_at last rows i row less is none rise =
+    let here : KeysRise last (row ∷ drop (suc i) rows) = subst (λ r. KeysRise last (r ∷ drop (suc i) rows)) (sym is) (subst (KeysRise last) (drop-cons rows i row less) rise) in
+    none here.0 here.1
 
 -- ---- The next entry.
 

@@ -1,6 +1,6 @@
 //! The rows that a store holds, in order.
 
-ghost use Rattle.std.specs.Prelude.{◌≡◌, ℕ, pos, true, false, Some, None, Err, IfOk, OnOk, MatchOption, IsPermutation, drop, List as Sequence};
+ghost use Rattle.std.specs.Prelude.{◌≡◌, ℕ, pos, true, false, None, Err, IfOk, OnOk, MatchBool, MatchOption, IsPermutation, drop, List as Sequence};
 ghost use Rattle.sqlite.specs.State.{HasCleanDisk, Survives, IsUnchanged};
 ghost use Rattle.sqlite.specs.Held.{state};
 ghost use Rattle.gather.specs.Image.{HasImage};
@@ -77,7 +77,7 @@ fn compare(a: &RowKey<'_>, b: &RowKey<'_>) -> Ordering
 
 /// Whether a key is above the last one, where there is one.
 fn is_above(last: &Option<RowKey<'_>>, key: &RowKey<'_>) -> bool
-    ensures { result ≡ true → IsAbove (key_found last.now) (key_in key.now) }
+    ensures { MatchBool result (IsAbove (key_found last.now) (key_in key.now)) (¬ IsAbove (key_found last.now) (key_in key.now)) }
 {
     match last {
         Some(last) => compare(last, key).is_lt(),
@@ -87,7 +87,7 @@ fn is_above(last: &Option<RowKey<'_>>, key: &RowKey<'_>) -> bool
 
 /// Whether the keys ascend.
 fn ascend(rows: &[Row]) -> bool
-    ensures { result ≡ true → KeysRise None rows.now }
+    ensures { MatchBool result (KeysRise None rows.now) (¬ KeysRise None rows.now) }
 {
     let mut last = None;
     for row in rows {
@@ -125,7 +125,7 @@ fn rows_in_order<S: Alter>(conn: &mut Connection<S>) -> Result<Vec<Row>, Error>
 
 /// The number of copies in a row of `held`.
 fn count_at(row: &Row) -> Option<u64>
-    ensures { (n : ℕ) → column row.now 4 ≡ Int (pos n) → result ≡ Some n }
+    ensures { MatchOption result ((n : ℕ) → column row.now 4 ≡ Int (pos n) → ⊥) (λ n. column row.now 4 ≡ Int (pos n)) }
 {
     let Ok(ValueRef::Int(n)) = row.get_ref(4) else {
         return None;
