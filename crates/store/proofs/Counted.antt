@@ -1,27 +1,19 @@
 -- Queries outside a transaction.
-use Rattle.std.proofs.Common.{◌≡◌, inl, inr, ℕ, List, [], ◌∷◌, map, filter, Bool, true, false, IsTrue, Option, Some, None, Ok, Err, Result, unwrap_or, IfOk, IfErr, OnOk, refl, sym, ap, subst, ◌∙◌}
+use Rattle.std.proofs.Common.{◌≡◌, inl, inr, ℕ, List, [], ◌∷◌, map, filter, Option, Some, None, Ok, Err, Result, unwrap_or, IfOk, IfErr, OnOk, sym, ap, subst, ◌∙◌}
 use Rattle.std.specs.List.Sorted.{IsPermutation}
 use Rattle.sqlite_value.specs.Order.{Row, column}
 use Rattle.sqlite_resolve.specs.declared.compiled.Compiled.{Compiled}
-use Rattle.sqlite_trees.specs.Tree.{Trees}
-use Rattle.sqlite_trees.specs.declared.store.Store.{Ghosts}
 use Rattle.sqlite.specs.declared.error.Error.{Error}
-use Rattle.sqlite.specs.Effect.{Database as Stored}
-use Rattle.sqlite.specs.Held.{Held, state}
 use Rattle.sqlite.specs.Listing.{understood}
 use Rattle.sqlite.specs.State.{State, Survives, IsUnchanged, IsRolledBack, IsNotRun, FailsToQuery, FailsToShow, Shown, CommitsShowing}
 use Rattle.sqlite.proofs.Callers.{IsPlain}
 use Rattle.binlog.specs.Cell.{CellValue}
 use Rattle.binlog.specs.Follow.{Names}
 use Rattle.gather.specs.Image.{IsImage}
-use Rattle.store.specs.declared.fault.StoreFault.{StoreFault}
-use Rattle.store.specs.declared.fault.StoreFault.TheVariants.{Database}
-use Rattle.store.specs.declared.store.Store.{Store}
 use Rattle.store.specs.State.{Content, row_of}
 use Rattle.store.specs.Layout.{IsLaidOut, tree_at, held_tree, read_text}
-use Rattle.store.specs.Rows.{Key, key_of, Finds, is_at, held_rows, count, bag_of}
+use Rattle.store.specs.Rows.{Key, key_of, Finds, is_at, held_rows, count}
 use Rattle.store.specs.Apply.{IsAtRest, Rests}
-use Rattle.store.specs.Store.{Holds, Counts, AreOf}
 use Rattle.store.proofs.Texts.{read_plain}
 use Rattle.store.proofs.Selects.{key_params}
 use Rattle.store.proofs.Statements.{shown_reads, shown_same}

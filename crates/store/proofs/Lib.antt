@@ -37,3 +37,4 @@ pub mod Steps
 pub mod Entered
 pub mod Lives
 pub mod Known
+pub mod Listings

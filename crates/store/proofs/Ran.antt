@@ -46,17 +46,20 @@ module _ (names : Names) (content : Content) (d : DeliveryValue) where
   -- ---- taken
 
   pub has_taken : (t m n : State) → GoesOn t m × IsTaken names content d m.now.schema m.now.trees → Shows m n m.now m.now false → HasTaken names content d n × (n.now.schema ≡ t.now.schema)
-  has_taken t m n it h = (record {
-    after = it.1.after;
-    takes = it.1.takes;
-    rest = record {
-      is_open = h.is_open;
-      settled = h.now_is ∙ sym h.committed_is;
-      held_apart = subst (λ (db : Database). HasRowids (held_rows db)) (sym h.now_is) it.0.working.held_apart;
-      spans_apart = subst (λ (db : Database). HasRowids (span_rows db)) (sym h.now_is) it.0.working.spans_apart;
-      stands = subst (λ (db : Database). StandsFor db names it.1.after) (sym h.now_is) it.1.stands;
-    };
-  }, ap (λ (db : Database). db.schema) h.now_is ∙ it.0.schema)
+  has_taken t m n it h = (
+    record {
+      after = it.1.after;
+      takes = it.1.takes;
+      rest = record {
+        is_open = h.is_open;
+        settled = h.now_is ∙ sym h.committed_is;
+        held_apart = subst (λ (db : Database). HasRowids (held_rows db)) (sym h.now_is) it.0.working.held_apart;
+        spans_apart = subst (λ (db : Database). HasRowids (span_rows db)) (sym h.now_is) it.0.working.spans_apart;
+        stands = subst (λ (db : Database). StandsFor db names it.1.after) (sym h.now_is) it.1.stands;
+      };
+    },
+    ap (λ (db : Database). db.schema) h.now_is ∙ it.0.schema,
+  )
 
   -- ---- what a crash leaves
 

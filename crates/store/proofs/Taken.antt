@@ -1,5 +1,5 @@
 -- The set in memory beside a transaction.
-use Rattle.std.proofs.Common.{◌≡◌, ◌⊎◌, inl, inr, ℕ, List, Bool, true, false, IsTrue, Option, Some, None, Ok, Err, Result, refl, sym, ap, subst, subst₂, ◌∙◌}
+use Rattle.std.proofs.Common.{◌≡◌, ◌⊎◌, inl, inr, ℕ, List, false, IsTrue, Ok, Err, Result, refl, sym, ap, subst, subst₂, ◌∙◌}
 use Rattle.std.specs.FinSet as set
 use Rattle.sqlite_value.specs.Order.{Row}
 use Rattle.sqlite_trees.specs.Tree.{Trees}
@@ -7,7 +7,7 @@ use Rattle.sqlite.specs.declared.error.Error.{Error}
 use Rattle.sqlite.specs.Effect.{Database as Stored}
 use Rattle.sqlite_trees.specs.declared.store.Store.{Ghosts}
 use Rattle.sqlite.specs.Held.{Held, state}
-use Rattle.sqlite.specs.State.{State, IsUnchanged, IsNotRun, Survives, HasCleanDisk}
+use Rattle.sqlite.specs.State.{State, IsNotRun, Survives}
 use Rattle.sqlite.proofs.StateLemmas.{survives_then}
 use Rattle.gtid.specs.Identifier.{Ids}
 use Rattle.gtid.specs.declared.identifier.Gtid.{Gtid}
@@ -24,9 +24,9 @@ use Rattle.store.specs.declared.spans.Beside.{Beside}
 use Rattle.store.specs.declared.store.Store.{Store}
 use Rattle.store.specs.Store.{Holds, Applies, AreOf, Leaves, breaks}
 use Rattle.store.specs.State.{Content}
-use Rattle.store.specs.Take.{Takes, is_executed, done, refused}
+use Rattle.store.specs.Take.{Takes, is_executed, refused}
 use Rattle.store.specs.Rows.{StandsFor, HasRowids, held_rows, span_rows, AreLeast}
-use Rattle.store.specs.Apply.{LiesBeside, IsTaken, IsAtRest, Rests, HasTaken, Runs, MayCommit, HasMoved, Comes, MayMove, IsTold}
+use Rattle.store.specs.Apply.{LiesBeside, IsAtRest, Rests, HasTaken, HasMoved, Comes, MayMove, IsTold}
 
 -- ---- the connection as it was
 pub rest_same : (a b : State) (names : Names) (content : Content) → IsTrue b.is_open → b.now ≡ a.now → b.committed ≡ a.committed → IsAtRest a names content → IsAtRest b names content
@@ -67,10 +67,10 @@ module _ (names : Names) (content : Content) (d : DeliveryValue) where
       (subst (λ p. Takes names content d (refused p why.CountFull)) (sym told.0) (subst (λ w. Takes names content d (refused at w)) told.1 h.0), at_rest, same)
   came old mid new executed at reason (Database e) same rest h told = (
     (λ is_open.
-    let t = told is_open in
-    let r = h.1 t.0 in
-    let s = t.1 (r.0 ∙ rest.settled ∙ sym r.1) in
-    (s.0 ∙ r.0, s.1 ∙ r.1)),
+        let t = told is_open in
+        let r = h.1 t.0 in
+        let s = t.1 (r.0 ∙ rest.settled ∙ sym r.1) in
+        (s.0 ∙ r.0, s.1 ∙ r.1)),
     same,
   )
   came old mid new executed at reason Memory same rest h told = absurd told
@@ -103,16 +103,23 @@ module _ {S : Type 0} (g : Ghosts S) (content : Content) (d : DeliveryValue) (ol
   applied (Ok Repeat) was out names broken memory it = absurd it
   applied (Err (NoSuchRow at)) was out names broken memory it = (it.0, record { whole = broken; executed = it.2; rest = subst (λ n. IsAtRest (state g new.conn) n content) (sym names) it.1 })
   applied (Err (CountFull at)) was out names broken memory it = (it.0, record { whole = broken; executed = it.2; rest = subst (λ n. IsAtRest (state g new.conn) n content) (sym names) it.1 })
-  applied (Err (Database e)) was out names broken memory it = (out, record {
-    broken = broken;
-    executed = it.1;
-    rest = λ is_open. let r = it.0 is_open in subst (λ n. IsAtRest (state g new.conn) n content) (sym names) (rest_same (state g old.conn) (state g new.conn) old.following content is_open r.0 r.1 was.rest);
-  })
-  applied (Err Memory) was out names broken memory it = (out, record {
-    broken = broken;
-    executed = it.1;
-    rest = λ is_open. let r = it.0 is_open in subst (λ n. IsAtRest (state g new.conn) n content) (sym names) (rest_same (state g old.conn) (state g new.conn) old.following content is_open r.0 r.1 was.rest);
-  }, memory refl)
+  applied (Err (Database e)) was out names broken memory it = (
+    out,
+    record {
+      broken = broken;
+      executed = it.1;
+      rest = λ is_open. let r = it.0 is_open in subst (λ n. IsAtRest (state g new.conn) n content) (sym names) (rest_same (state g old.conn) (state g new.conn) old.following content is_open r.0 r.1 was.rest);
+    },
+  )
+  applied (Err Memory) was out names broken memory it = (
+    out,
+    record {
+      broken = broken;
+      executed = it.1;
+      rest = λ is_open. let r = it.0 is_open in subst (λ n. IsAtRest (state g new.conn) n content) (sym names) (rest_same (state g old.conn) (state g new.conn) old.following content is_open r.0 r.1 was.rest);
+    },
+    memory refl,
+  )
   applied (Err Damaged) was out names broken memory it = absurd it
   applied (Err (Layout n)) was out names broken memory it = absurd it
   applied (Err Broken) was out names broken memory it = absurd it

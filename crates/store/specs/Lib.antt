@@ -6,6 +6,7 @@ pub mod Inside
 pub mod Apply
 pub mod Open
 pub mod Store
+pub mod Listing
 pub mod Making
 pub mod Migrating
 pub mod Load

@@ -7,8 +7,9 @@ mod change;
 mod counting;
 mod fault;
 mod judge;
-mod layout;
 pub mod laws;
+mod layout;
+mod listing;
 mod load;
 mod make;
 mod migrate;
@@ -20,6 +21,7 @@ mod tables;
 mod taking;
 
 pub use fault::{Applied, StoreFault};
+pub use listing::{List, Listed};
 pub use store::Store;
 
 #[cfg(test)]

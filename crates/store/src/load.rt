@@ -25,7 +25,7 @@ pub(crate) struct Loaded {
 }
 
 /// All rows of a table, by a text that asks for them.
-fn read_all<S: Alter>(conn: &mut Connection<S>, sql: &str) -> Result<Vec<Row>, Error>
+pub(crate) fn read_all<S: Alter>(conn: &mut Connection<S>, sql: &str) -> Result<Vec<Row>, Error>
     requires { conn.old.in_transaction ≡ false }
     ensures autocommit { conn.new.in_transaction ≡ false }
     ensures rows { HasCleanDisk (state S.Store conn.new) → (tree : ℕ) → AsksAll (state S.Store conn.old).now.schema sql.now tree → IfOk result (λ rows. IsPermutation ((state S.Store conn.old).now.trees tree) rows.items) }

@@ -1,4 +1,4 @@
-use Rattle.std.proofs.Common.{List, []}
+use Rattle.std.proofs.Common.{[]}
 use Rattle.sqlite.specs.Held.{state}
 use Rattle.store.proofs.Taken.{told_failed}
 use Rattle.store.proofs.taking.refuse.Goals as goal

@@ -1,12 +1,11 @@
-use Rattle.std.proofs.Common.{◌≡◌, false, Err, sym, ap, subst, ◌∙◌, arith}
+use Rattle.std.proofs.Common.{◌≡◌, false, Err, ap, subst, ◌∙◌, arith}
 use Rattle.std.specs.FinSet as set
 use Rattle.sqlite.specs.State.{HasCleanDisk}
 use Rattle.sqlite.specs.Held.{state}
 use Rattle.gtid.specs.Identifier.{id}
 use Rattle.gather.specs.View.{delivery_value}
-use Rattle.store.specs.State.{Content}
 use Rattle.store.specs.Take.{is_executed}
-use Rattle.store.specs.Apply.{IsAtRest, LiesBeside, Runs, MayMove}
+use Rattle.store.specs.Apply.{LiesBeside}
 use Rattle.store.proofs.Taken.{beside_known, moved, came, given_up, fault_in}
 use Rattle.store.proofs.taking.take.Goals as goal
 

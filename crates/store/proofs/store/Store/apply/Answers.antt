@@ -1,6 +1,5 @@
 use Rattle.std.proofs.Common.{◌≡◌, false, refl, sym, subst, ◌∙◌}
 use Rattle.std.specs.FinSet as set
-use Rattle.sqlite.specs.Held.{state}
 use Rattle.gtid.specs.Identifier.{id}
 use Rattle.gather.specs.View.{delivery_value}
 use Rattle.store.specs.Take.{is_executed}

@@ -1,0 +1,209 @@
+//! The rows that a store holds, in order.
+
+ghost use Rattle.std.specs.Prelude.{◌≡◌, ℕ, pos, true, false, None, Err, IfOk, OnOk, MatchBool, MatchOption, IsPermutation, drop, List as Sequence};
+ghost use Rattle.sqlite.specs.State.{HasCleanDisk, Survives, IsUnchanged};
+ghost use Rattle.sqlite.specs.Held.{state};
+ghost use Rattle.gather.specs.Image.{HasImage};
+ghost use Rattle.sqlite_value.specs.Order.{column};
+ghost use Rattle.sqlite_value.specs.declared.value.Value.TheVariants.{Int};
+ghost use Rattle.store.specs.State.{Content};
+ghost use Rattle.store.specs.Layout.{IsLaidOut};
+ghost use Rattle.store.specs.Rows.{Key, key_in, held_rows};
+ghost use Rattle.store.specs.Apply.{Rests};
+ghost use Rattle.store.specs.Store.{Holds, AreOf};
+ghost use Rattle.store.specs.Listing.{Entry, shown_entry, key_cmp, HasKey, IsAbove, KeysRise, key_found, IsToCome, Gives, Hands, Lists};
+ghost use Rattle.store.specs.declared.fault.StoreFault.TheVariants.{Broken};
+
+use crate::fault::StoreFault;
+use crate::load::read_all;
+use crate::rows::RowKey;
+use crate::store::Store;
+use gather::Image;
+use sqlite::types::ValueRef;
+use sqlite::{Alter, Connection, Error, ErrorCode, Row};
+use std::alloc::Global;
+use std::cmp::Ordering;
+
+/// A row that a store holds, and how often.
+#[derive(Debug, Drop)]
+pub struct Listed {
+    pub schema: Vec<u8>,
+    pub table: Vec<u8>,
+    pub image: Image,
+    /// From 1 to 2^63 - 1.
+    pub count: u64,
+}
+
+/// The rows that a store holds, each once, in ascending order of the bytes of schema, table and image.
+#[derive(Debug, Drop)]
+pub struct List {
+    pub(crate) rows: Vec<Row>,
+    pub(crate) at: usize,
+    pub(crate) alloc: Global,
+}
+
+/// What a row of `held` is found by.
+fn key_at(row: &Row) -> Option<RowKey<'_>>
+    ensures { MatchOption result ((key : Key) → ¬ HasKey key row.now) (λ key. HasKey (key_in key) row.now) }
+{
+    let Ok(ValueRef::Blob(schema)) = row.get_ref(1) else {
+        return None;
+    };
+    let Ok(ValueRef::Blob(table)) = row.get_ref(2) else {
+        return None;
+    };
+    let Ok(ValueRef::Blob(image)) = row.get_ref(3) else {
+        return None;
+    };
+    Some(RowKey {
+        schema,
+        table,
+        image,
+    })
+}
+
+/// How two keys compare.
+fn compare(a: &RowKey<'_>, b: &RowKey<'_>) -> Ordering
+    ensures { result ≡ key_cmp (key_in a.now) (key_in b.now) }
+{
+    match a.schema.cmp(b.schema) {
+        Ordering::Equal => match a.table.cmp(b.table) {
+            Ordering::Equal => a.image.cmp(b.image),
+            unlike => unlike,
+        },
+        unlike => unlike,
+    }
+}
+
+/// Whether a key is above the last one, where there is one.
+fn is_above(last: &Option<RowKey<'_>>, key: &RowKey<'_>) -> bool
+    ensures { MatchBool result (IsAbove (key_found last.now) (key_in key.now)) (¬ IsAbove (key_found last.now) (key_in key.now)) }
+{
+    match last {
+        Some(last) => compare(last, key).is_lt(),
+        None => true,
+    }
+}
+
+/// Whether the keys ascend.
+fn ascend(rows: &[Row]) -> bool
+    ensures { MatchBool result (KeysRise None rows.now) (¬ KeysRise None rows.now) }
+{
+    let mut last = None;
+    for row in rows {
+        let Some(key) = key_at(row) else {
+            return false;
+        };
+        if !is_above(&last, &key) {
+            return false;
+        }
+        last = Some(key);
+    }
+    true
+}
+
+/// The rows of `held` in the order of their keys. No file that the crate opens has them in another.
+fn rows_in_order<S: Alter>(conn: &mut Connection<S>) -> Result<Vec<Row>, Error>
+    requires { conn.old.in_transaction ≡ false }
+    ensures autocommit { conn.new.in_transaction ≡ false }
+    ensures rows { HasCleanDisk (state S.Store conn.new) → IsLaidOut (state S.Store conn.old).now.schema → IfOk result (λ rows. IsPermutation (held_rows (state S.Store conn.old).now) rows.items) }
+    ensures rise { IfOk result (λ rows. KeysRise None rows.items) }
+    ensures same { HasCleanDisk (state S.Store conn.new) → IsLaidOut (state S.Store conn.old).now.schema → OnOk result (IsUnchanged (state S.Store conn.old) (state S.Store conn.new)) }
+    ensures rests { HasCleanDisk (state S.Store conn.new) → IsLaidOut (state S.Store conn.old).now.schema → (state S.Store conn.old).now ≡ (state S.Store conn.old).committed → Rests (state S.Store conn.old) (state S.Store conn.new) }
+    ensures survives { IsLaidOut (state S.Store conn.old).now.schema → Survives (state S.Store conn.old) (state S.Store conn.new) (λ _. ⊥) }
+{
+    let rows = read_all(
+        conn,
+        "SELECT rowid, schema_name, table_name, image, n FROM held ORDER BY schema_name, table_name, image",
+    )?;
+    if ascend(&rows) {
+        Ok(rows)
+    } else {
+        Err(Error::SqliteFailure(ErrorCode::DatabaseCorrupt))
+    }
+}
+
+/// The number of copies in a row of `held`.
+fn count_at(row: &Row) -> Option<u64>
+    ensures { MatchOption result ((n : ℕ) → column row.now 4 ≡ Int (pos n) → ⊥) (λ n. column row.now 4 ≡ Int (pos n)) }
+{
+    let Ok(ValueRef::Int(n)) = row.get_ref(4) else {
+        return None;
+    };
+    match u64::try_from(n) {
+        Ok(n) => Some(n),
+        Err(_) => None,
+    }
+}
+
+/// What a row of `held` says. The only refusal of such a row is `Memory`.
+fn listed_in(alloc: Global, row: &Row) -> Result<Listed, StoreFault>
+    ensures { (entry : Entry) → shown_entry entry ≡ drop 1 row.now → HasImage entry.0.cells → Gives entry result }
+{
+    let Some(key) = key_at(row) else {
+        return Err(StoreFault::Damaged);
+    };
+    let Some(count) = count_at(row) else {
+        return Err(StoreFault::Damaged);
+    };
+    let Ok(found) = Image::read(alloc, key.image) else {
+        return Err(StoreFault::Memory);
+    };
+    let Some(image) = found else {
+        return Err(StoreFault::Damaged);
+    };
+    Ok(Listed {
+        schema: Vec::from_slice(alloc, key.schema)?,
+        table: Vec::from_slice(alloc, key.table)?,
+        image,
+        count,
+    })
+}
+
+impl List {
+    /// The next row, or none behind the last. The only fault is `Memory`, which ends the list.
+    pub fn next(&mut self) -> Result<Option<Listed>, StoreFault>
+        ensures { (entries : Sequence Entry) → IsToCome self.old entries → Hands entries self.new result }
+    {
+        let Some(row) = self.rows.get(self.at) else {
+            return Ok(None);
+        };
+        match listed_in(self.alloc, row) {
+            Ok(listed) => {
+                self.at += 1;
+                Ok(Some(listed))
+            }
+            Err(fault) => {
+                self.at = self.rows.len();
+                Err(fault)
+            }
+        }
+    }
+}
+
+impl<S: Alter> Store<S> {
+    /// The rows, each once with the number of its copies, in ascending order of the bytes of schema, table and image.
+    /// Nothing changes, and the store can be used further after each fault but `Broken`.
+    ///
+    /// The faults: `Database` where the database failed, `Broken` after an earlier failure of `apply`. The list holds
+    /// the table's rows in memory.
+    pub fn list(&mut self) -> Result<List, StoreFault>
+        ensures lists { HasCleanDisk (state S.Store self.new.conn) → (content : Content) → Holds S.Store self.old content → Lists S.Store content self.new result }
+        ensures broken { self.old.broken ≡ true → (result ≡ Err Broken) × (self.new ≡ self.old) }
+        ensures following { self.new.following ≡ self.old.following }
+        ensures crash { HasCleanDisk (state S.Store self.new.conn) → (content : Content) → Holds S.Store self.old content → (trees : _) → (state S.Store self.new.conn).may_leave trees
+            → AreOf (state S.Store self.old.conn).now.schema self.old.following content trees }
+    {
+        if self.broken {
+            return Err(StoreFault::Broken);
+        }
+        match rows_in_order(&mut self.conn) {
+            Ok(rows) => Ok(List {
+                rows,
+                at: 0,
+                alloc: self.alloc,
+            }),
+            Err(error) => Err(StoreFault::Database(error)),
+        }
+    }
+}
