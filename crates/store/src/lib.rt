@@ -7,8 +7,8 @@ mod change;
 mod counting;
 mod fault;
 mod judge;
-mod layout;
 pub mod laws;
+mod layout;
 mod load;
 mod make;
 mod migrate;
@@ -22,5 +22,11 @@ mod taking;
 pub use fault::{Applied, StoreFault};
 pub use store::Store;
 
+#[cfg(test)]
+mod delivery_tests;
+#[cfg(test)]
+mod fixtures;
+#[cfg(test)]
+mod opening_tests;
 #[cfg(test)]
 mod tests;
