@@ -29,4 +29,6 @@ mod fixtures;
 #[cfg(test)]
 mod opening_tests;
 #[cfg(test)]
+mod stop_tests;
+#[cfg(test)]
 mod tests;
