@@ -25,4 +25,12 @@ pub use listing::{List, Listed};
 pub use store::Store;
 
 #[cfg(test)]
-mod tests;
+mod delivery_tests;
+#[cfg(test)]
+mod fixtures;
+#[cfg(test)]
+mod list_tests;
+#[cfg(test)]
+mod opening_tests;
+#[cfg(test)]
+mod stop_tests;
