@@ -21,7 +21,6 @@ use Rattle.store.proofs.Entered.{rests_after}
 
 -- ---- known schemas
 
-
 none_meta : (tables_of no_schema).meta ≡ false
 none_meta = refl
 
