@@ -1,6 +1,6 @@
 # make        prove and build mrep, put it at bin/mrep, and run it on a sample
-# make test   the whole gate: a program that must not compile, every proof from nothing, the wrong bodies, the tests and
-#             the program
+# make test   the whole gate: a program that must not compile, a file read by sqlite3, every proof from nothing, the
+#             wrong bodies, the tests and the program
 # make bench  time mrep and the sets against plain Rust programs that do the same jobs (needs rustc)
 
 .PHONY: all build test bench
@@ -15,6 +15,7 @@ build:
 
 test:
 	tests/borrows/run
+	tests/sqlite3/run
 	rt ci
 
 bench: build
