@@ -112,7 +112,11 @@ pub(crate) fn executed<S: Alter>(alloc: Global, store: &Store<S>) -> Result<Stri
 }
 
 /// How often a row of the schema `shop` is there.
-fn count_of<S: Alter>(store: &mut Store<S>, letter: u8, image: &Image) -> Result<u64, StoreFault> {
+pub(crate) fn count_of<S: Alter>(
+    store: &mut Store<S>,
+    letter: u8,
+    image: &Image,
+) -> Result<u64, StoreFault> {
     store.count(b"shop", name(letter), image)
 }
 

@@ -324,6 +324,7 @@ fn follow_is_judged(rt: HostRuntime) -> Result<(), Fail> {
             "CREATE TABLE other (a); INSERT INTO other VALUES ('x')",
             None,
         ),
+        ("CREATE TABLE executed (a)", None),
     ] {
         open_second(&rt, rt.alloc(), sql, want)?;
     }

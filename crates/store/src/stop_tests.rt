@@ -1,7 +1,7 @@
 //! Stops: each call of a disk in turn is the first that fails, then the disks crash and are opened again.
 
-use crate::fixtures::{attempt, batch, counts, dump, executed, open, take};
-use crate::{Applied, Store};
+use crate::fixtures::{attempt, batch, count_of, counts, dump, executed, item, open, take};
+use crate::{Applied, Store, StoreFault};
 use sqlite::{Connection, FileStore, Files, Options};
 use sqlite_disk::{Crash, Disk, Fuse, Memory};
 use std::alloc::Global;
@@ -100,10 +100,29 @@ fn only(job: Job) -> Option<&'static str> {
     }
 }
 
+/// Whether a store takes nothing more, and still tells what was executed.
+fn is_broken(alloc: Global, store: &mut Store<FileStore<Fused>>) -> Result<bool, Fail> {
+    let again = take(alloc, store, 1, "")?;
+    let held = count_of(store, b'i', &item(alloc, 7, b"ab")?);
+    let set = executed(alloc, store)?;
+    Ok(again == Err(StoreFault::Broken) && held == Err(StoreFault::Broken) && set.as_str() == "2")
+}
+
+/// Gives the transaction to a store. A failure leaves it broken.
+fn give(alloc: Global, store: &mut Store<FileStore<Fused>>) -> Result<bool, Fail> {
+    if take(alloc, store, 1, "p-=")? == Ok(Applied::Done) {
+        return Ok(true);
+    }
+    if !is_broken(alloc, store)? {
+        return Err("a store that goes on after a failure".into());
+    }
+    Ok(false)
+}
+
 /// Does what is left of the job on an open store, and tells whether it was done.
 fn finish(alloc: Global, job: Job, store: &mut Store<FileStore<Fused>>) -> Result<bool, Fail> {
     match job {
-        Job::Take => Ok(take(alloc, store, 1, "p-=")? == Ok(Applied::Done)),
+        Job::Take => give(alloc, store),
         Job::Make | Job::Migrate => Ok(true),
     }
 }
