@@ -20,8 +20,8 @@ second false b h = h
 found : (names of : List Name) → AreAmong names of → (q : Name) → is_listed q names ≡ true → is_listed q of ≡ true
 found [] of all q h = absurd (false≢true h)
 found (n ∷ names) of all q h = elim (either _ (is_listed q names) h) [
-  inl this ↦ let parts = and_parts _ _ this in
-  let same : n ≡ q = λ i. ((bytes_eq-Decides n.0 q.0).0 parts.0 i, (bytes_eq-Decides n.1 q.1).0 parts.1 i) in subst (λ x. is_listed x of ≡ true) same all.0
+  | inl this ↦ let parts = and_parts _ _ this in
+      let same : n ≡ q = λ i. ((bytes_eq-Decides n.0 q.0).0 parts.0 i, (bytes_eq-Decides n.1 q.1).0 parts.1 i) in subst (λ x. is_listed x of ≡ true) same all.0
   | inr more ↦ found names of all.1 q more
 ]
 

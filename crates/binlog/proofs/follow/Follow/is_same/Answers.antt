@@ -26,7 +26,7 @@ returns c =
     let d4 : c.deref-4.result.now ≡ a = c.deref-4.ensures.value ∙ sym c.deref.ensures.value in (
       (λ good. sym left ∙ one_set (names_of a) (names_of b) there (subst₂ (λ x y. AreAmong (names_of x) (names_of y)) d3 d4 (c.are_among-2.ensures.all good)) ∙ right),
       (λ same. elim (cases_Bool c.are_among-2.result) [
-        inl good ↦ subst IsTrue (sym good) refl
+        | inl good ↦ subst IsTrue (sym good) refl
         | inr bad ↦ absurd (c.are_among-2.ensures.some bad (subst₂ (λ x y. AreAmong (names_of x) (names_of y)) (sym d3) (sym d4) (of_one_set (names_of b) (names_of a) (right ∙ sym same ∙ sym left))))
       ]),
     )
