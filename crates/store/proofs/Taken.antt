@@ -1,5 +1,5 @@
 -- The set in memory beside a transaction.
-use Rattle.std.proofs.Common.{◌≡◌, ◌⊎◌, inl, inr, ℕ, List, false, IsTrue, Ok, Err, Result, refl, sym, ap, subst, subst₂, ◌∙◌}
+use Rattle.std.proofs.Common.{◌≡◌, ◌⊎◌, inl, inr, ℕ, List, true, false, IsTrue, Ok, Err, Result, refl, sym, ap, subst, subst₂, ◌∙◌}
 use Rattle.std.specs.FinSet as set
 use Rattle.sqlite_value.specs.Order.{Row}
 use Rattle.sqlite_trees.specs.Tree.{Trees}
@@ -61,10 +61,10 @@ module _ (names : Names) (content : Content) (d : DeliveryValue) where
       → Takes names content d (refused at reason) × Rests old mid → IsTold at reason mid new fault → Comes names content d old new executed (Err fault)
   came old mid new executed at reason (NoSuchRow n) same rest h told =
       let at_rest : IsAtRest new names content = let r = h.1 told.2.0.was_open in rest_same old new names content told.2.0.is_open (told.2.0.now_is ∙ r.0) (told.2.0.committed_is ∙ r.1) rest in
-      (subst (λ p. Takes names content d (refused p why.NoSuchRow)) (sym told.0) (subst (λ w. Takes names content d (refused at w)) told.1 h.0), at_rest, same)
+      (subst (λ p. Takes names content d (refused p why.NoSuchRow)) (sym told.0) (subst (λ w. Takes names content d (refused at w)) told.1 h.0), at_rest, same, ap (λ (db : Stored). db.schema) (told.2.0.now_is ∙ (h.1 told.2.0.was_open).0))
   came old mid new executed at reason (CountFull n) same rest h told =
       let at_rest : IsAtRest new names content = let r = h.1 told.2.0.was_open in rest_same old new names content told.2.0.is_open (told.2.0.now_is ∙ r.0) (told.2.0.committed_is ∙ r.1) rest in
-      (subst (λ p. Takes names content d (refused p why.CountFull)) (sym told.0) (subst (λ w. Takes names content d (refused at w)) told.1 h.0), at_rest, same)
+      (subst (λ p. Takes names content d (refused p why.CountFull)) (sym told.0) (subst (λ w. Takes names content d (refused at w)) told.1 h.0), at_rest, same, ap (λ (db : Stored). db.schema) (told.2.0.now_is ∙ (h.1 told.2.0.was_open).0))
   came old mid new executed at reason (Database e) same rest h told = (
     (λ is_open.
         let t = told is_open in
@@ -86,6 +86,9 @@ module _ (names : Names) (content : Content) (d : DeliveryValue) where
 abbrev pub fault_in : Result Applied StoreFault → StoreFault
 fault_in (Ok a) = Broken
 fault_in (Err fault) = fault
+
+broke : true ≡ false → ⊥
+broke e = cc
 
 -- ---- the store
 module _ {S : Type 0} (g : Ghosts S) (content : Content) (d : DeliveryValue) (old new : Store S g) where
@@ -124,6 +127,20 @@ module _ {S : Type 0} (g : Ghosts S) (content : Content) (d : DeliveryValue) (ol
   applied (Err (Layout n)) was out names broken memory it = absurd it
   applied (Err Broken) was out names broken memory it = absurd it
   applied (Err Follows) was out names broken memory it = absurd it
+
+  -- the schema stays
+  pub same_schema : (r : Result Applied StoreFault) → new.broken ≡ false → new.broken ≡ breaks r → Comes old.following content d (state g old.conn) (state g new.conn) new.executed r
+      → (state g new.conn).now.schema ≡ (state g old.conn).now.schema
+  same_schema (Ok Done) whole broken it = it.schema
+  same_schema (Ok Repeat) whole broken it = absurd it
+  same_schema (Err (NoSuchRow at)) whole broken it = it.3
+  same_schema (Err (CountFull at)) whole broken it = it.3
+  same_schema (Err (Database e)) whole broken it = absurd (broke (sym broken ∙ whole))
+  same_schema (Err Memory) whole broken it = absurd (broke (sym broken ∙ whole))
+  same_schema (Err Damaged) whole broken it = absurd it
+  same_schema (Err (Layout n)) whole broken it = absurd it
+  same_schema (Err Broken) whole broken it = absurd it
+  same_schema (Err Follows) whole broken it = absurd it
 
 -- ---- what a crash leaves
 module _ {S : Type 0} (g : Ghosts S) (names : Names) (content : Content)

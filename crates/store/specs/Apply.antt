@@ -74,15 +74,16 @@ pub record HasMoved (names : Names) (content : Content) (d : DeliveryValue) (old
   pub set : executed ≡ taken.after.executed
 
 -- Nothing has changed, and the change at this place is refused.
-abbrev pub IsGivenUp : Names → Content → DeliveryValue → State → Ids → ℕ → Refusal → Type 0
-IsGivenUp names content d new executed at reason = Takes names content d (refused at reason) × IsAtRest new names content × (executed ≡ content.executed)
+abbrev pub IsGivenUp : Names → Content → DeliveryValue → State → State → Ids → ℕ → Refusal → Type 0
+IsGivenUp names content d old new executed at reason =
+    Takes names content d (refused at reason) × IsAtRest new names content × (executed ≡ content.executed) × (new.now.schema ≡ old.now.schema)
 
 -- What a transaction that is not executed comes to.
 abbrev pub Comes : Names → Content → DeliveryValue → State → State → Ids → Result Applied StoreFault → Type 0
 Comes names content d old new executed (Ok Done) = HasMoved names content d old new executed
 Comes names content d old new executed (Ok Repeat) = ⊥
-Comes names content d old new executed (Err (NoSuchRow at)) = IsGivenUp names content d new executed at why.NoSuchRow
-Comes names content d old new executed (Err (CountFull at)) = IsGivenUp names content d new executed at why.CountFull
+Comes names content d old new executed (Err (NoSuchRow at)) = IsGivenUp names content d old new executed at why.NoSuchRow
+Comes names content d old new executed (Err (CountFull at)) = IsGivenUp names content d old new executed at why.CountFull
 Comes names content d old new executed (Err (Database e)) = Rests old new × (executed ≡ content.executed)
 Comes names content d old new executed (Err Memory) = Rests old new × (executed ≡ content.executed)
 Comes names content d old new executed (Err _) = ⊥

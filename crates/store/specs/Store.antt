@@ -1,5 +1,5 @@
 -- What a store holds, and what taking a transaction makes of it.
-use Rattle.std.specs.Prelude.{◌≡◌, ◌⊎◌, ℕ, Bool, true, false, IsTrue, Result, Ok, Err}
+use Rattle.std.specs.Prelude.{◌≡◌, ◌⊎◌, ℕ, Bool, true, false, IsTrue, MatchBool, Result, Ok, Err}
 use Rattle.sqlite_trees.specs.declared.store.Store.{Ghosts}
 use Rattle.sqlite_trees.specs.Tree.{Trees}
 use Rattle.sqlite_schema.specs.declared.schema.Schema.{Schema}
@@ -32,6 +32,10 @@ module _ {S : Type 0} (g : Ghosts S) where
     pub broken : store.broken ≡ true
     pub executed : store.executed ≡ content.executed
     pub rest : IsTrue (state g store.conn).is_open → IsAtRest (state g store.conn) store.following content
+
+  -- The store holds this content, and a failure has broken it or not.
+  abbrev pub HoldsAs : Bool → Content → Store S g → Type 0
+  HoldsAs broken content store = MatchBool broken (HasFailed store content) (Holds store content)
 
   -- The store holds what the transaction makes of the content.
   pub record HoldsTaken (names : Names) (content : Content) (d : DeliveryValue) (new : Store S g) : Type 0 where

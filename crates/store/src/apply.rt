@@ -47,6 +47,7 @@ pub(crate) fn run<S: Alter>(
     ensures autocommit { conn.new.in_transaction ≡ false }
     ensures runs { HasCleanDisk (state S.Store conn.new) → (content : Content) → (rest : IsAtRest (state S.Store conn.old) follow.now content) → is_executed content (delivery_value delivery.now) ≡ false
         → LiesBeside rest.stands.executed.spans delivery.now.gtid beside.now → Runs follow.now content (delivery_value delivery.now) (state S.Store conn.old) (state S.Store conn.new) result }
+    ensures lives { Survives (state S.Store conn.old) (state S.Store conn.new) (λ _. Unit {0}) }
     ensures crash { (content : Content) → (rest : IsAtRest (state S.Store conn.old) follow.now content) → is_executed content (delivery_value delivery.now) ≡ false
         → LiesBeside rest.stands.executed.spans delivery.now.gtid beside.now → Survives (state S.Store conn.old) (state S.Store conn.new) (MayCommit follow.now content (delivery_value delivery.now) (state S.Store conn.old) result) }
 {

@@ -6,6 +6,7 @@ mod beside;
 mod change;
 mod counting;
 mod fault;
+mod holding;
 mod judge;
 pub mod laws;
 mod layout;

@@ -52,6 +52,7 @@ fn take<S: Alter>(
     ensures autocommit { conn.new.in_transaction ≡ false }
     ensures comes { HasCleanDisk (state S.Store conn.new) → (content : Content) → IsAtRest (state S.Store conn.old) follow.now content → executed ≡ content.executed → Comes follow.now content (delivery_value delivery.now) (state S.Store conn.old) (state S.Store conn.new) result.0 result.1 }
     ensures crash { (content : Content) → IsAtRest (state S.Store conn.old) follow.now content → executed ≡ content.executed → Survives (state S.Store conn.old) (state S.Store conn.new) (MayMove follow.now content (delivery_value delivery.now) (state S.Store conn.old) result.1) }
+    ensures lives { Survives (state S.Store conn.old) (state S.Store conn.new) (λ _. Unit {0}) }
     ensures memory { result.1 ≡ Err Memory → conn.new ≡ conn.old }
 {
     let beside = around(&executed, delivery.gtid);
@@ -93,6 +94,8 @@ impl<S: Alter> Store<S> {
         ensures applies { HasCleanDisk (state S.Store self.new.conn) → (content : Content) → Holds S.Store self.old content → Applies S.Store content (delivery_value delivery.now) self.old self.new result }
         ensures broken { self.old.broken ≡ true → (result ≡ Err Broken) × (self.new ≡ self.old) }
         ensures following { self.new.following ≡ self.old.following }
+        ensures schema { HasCleanDisk (state S.Store self.new.conn) → (content : Content) → Holds S.Store self.old content → self.new.broken ≡ false → (state S.Store self.new.conn).now.schema ≡ (state S.Store self.old.conn).now.schema }
+        ensures clean { HasCleanDisk (state S.Store self.new.conn) → HasCleanDisk (state S.Store self.old.conn) }
         ensures crash { HasCleanDisk (state S.Store self.new.conn) → (content : Content) → Holds S.Store self.old content → (trees : _) → (state S.Store self.new.conn).may_leave trees
             → Leaves (state S.Store self.old.conn).now.schema self.old.following content (delivery_value delivery.now) result trees }
     {

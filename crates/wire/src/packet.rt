@@ -1,6 +1,6 @@
 //! Payloads as packets.
 
-ghost use Rattle.std.specs.Prelude.{◌≡◌, ◌+◌, ◌*◌, ◌/◌, ◌≤◌, ◌<◌, ◌++◌, ◌⊎◌, ◌↔◌, length, IfOk, IfErr, OnErr, vec_len, vec_capacity};
+ghost use Rattle.std.specs.Prelude.{◌≡◌, ◌+◌, ◌*◌, ◌/◌, ◌^◌, ◌≤◌, ◌<◌, ◌++◌, ◌⊎◌, ◌↔◌, length, IfOk, IfErr, OnErr, vec_len, vec_capacity};
 ghost use Rattle.wire.specs.Packet as spec;
 ghost use Rattle.wire.specs.Packet.{packet, AppendsPacking};
 
@@ -16,10 +16,10 @@ pub(crate) const FULL_CHUNK: usize = 16_777_215;
 /// The length of a packet's header: three bytes of length and the sequence id.
 pub(crate) const HEADER: usize = 4;
 
-/// How long the packets of a payload of this length are.
+/// How many bytes the packets of a payload of this length have: four more for each packet.
 #[tactic(auto, unfolding(crate::specs::Packet::full_chunk))]
-fn packing_length(payload: usize) -> usize
-    requires { payload ≤ LARGEST_PAYLOAD }
+pub fn packing_length(payload: usize) -> usize
+    requires { payload < 2 ^ 63 }
     ensures { result ≡ spec.packing_length payload }
 {
     payload + HEADER * (payload / FULL_CHUNK + 1)

@@ -3,7 +3,7 @@ use Rattle.std.specs.FinSet as set
 use Rattle.gtid.specs.Identifier.{id}
 use Rattle.gather.specs.View.{delivery_value}
 use Rattle.store.specs.Take.{is_executed}
-use Rattle.store.proofs.Taken.{applied, left_whole}
+use Rattle.store.proofs.Taken.{applied, left_whole, same_schema}
 use Rattle.store.proofs.store.Store.apply.Goals as goal
 
 pub returns-clause-applies : goal.returns-clause-applies
@@ -20,3 +20,9 @@ returns-clause-crash g c clean content was trees left =
     let same = c.replace-executed.ensures.value ∙ was.executed in
     left_whole g.S.Store c.args.self.now.following content (λ h db is_open may. g.met.S.Store.settled h.store db is_open may) d c.args.self.now.conn c.take-executed.new.conn c.take-executed.result.1 c.take-executed.result.0 trees was.rest
     (c.take-executed.ensures.comes clean content was.rest same) ((c.take-executed.ensures.crash content was.rest same).crash clean trees left) left
+
+pub returns-clause-schema : goal.returns-clause-schema
+returns-clause-schema g c clean content was whole =
+    let same = c.replace-executed.ensures.value ∙ was.executed in
+    same_schema g.S.Store content (delivery_value c.args.delivery.now) c.args.self.now (record c.args.self.now { conn = c.take-executed.new.conn; executed = c.take-executed.result.0; broken = c.breaks-self.result; autocommit = c.self-1.given.0 }) c.take-executed.result.1 whole c.breaks-self.ensures
+    (c.take-executed.ensures.comes clean content was.rest same)

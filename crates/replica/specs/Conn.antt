@@ -1,0 +1,142 @@
+-- What a connection does to what a replica holds, and how it ends; what a list of connections does.
+use Rattle.std.specs.Prelude.{◌≡◌, ◌≢◌, ℕ, ◌+◌, ◌^◌, ◌<◌, ◌≤◌, ◌⊎◌, Bool, true, false, List, [], ◌∷◌, ◌++◌, length}
+use Rattle.wire.specs.declared.fault.WireFault.TheVariants as wire
+use Rattle.greet.specs.Message.{IsOkPacket}
+use Rattle.gtid.specs.Identifier.{Ids}
+use Rattle.gtid.specs.Encoding.{IsEncoding}
+use Rattle.binlog.specs.Follow.{Names}
+use Rattle.binlog.specs.Event.{EventValue}
+use Rattle.gather.specs.Transaction.{DeliveryValue, AreDeliveries}
+use Rattle.store.specs.State.{Content}
+use Rattle.store.specs.Take.{Takes, done, repeat, refused, is_executed}
+use Rattle.store.specs.declared.change.Refusal.TheVariants as why
+use Rattle.replica.specs.declared.end.Refusal.{Refusal}
+use Rattle.replica.specs.declared.end.Refusal.TheVariants.{NoSuchRow, CountFull}
+use Rattle.replica.specs.declared.end.Reason.{Reason}
+use Rattle.replica.specs.declared.end.Reason.TheVariants.{EndOfInput, SourceEof, SourceError, Wire, Greet, Event, Gather, Refused, Database, Memory, ReadFailed, WriteFailed}
+use Rattle.replica.specs.declared.end.Ended.{Ended}
+use Rattle.replica.specs.Stream.{Payload, Due, QueryReply, IsInDump, Carries, Reading, due_behind}
+use Rattle.replica.specs.End.{StopsAt, EndsLog, StopsFor}
+
+-- ---- Transactions in order.
+
+-- Taking the transactions in order refuses none, leads from old to new, and makes so many of them new.
+abbrev pub TakesAll : Names → Content → List DeliveryValue → ℕ → Content → Type 0
+TakesAll names old [] applied new = (applied ≡ 0) × (new ≡ old)
+TakesAll names old (d ∷ ds) applied new =
+    ((mid : Content) × (more : ℕ) × Takes names old d (done mid) × (applied ≡ more + 1) × TakesAll names mid ds more new)
+    ⊎ (Takes names old d repeat × TakesAll names old ds applied new)
+
+-- The transaction is refused so.
+abbrev pub IsRefusedBy : Names → Content → DeliveryValue → Refusal → Type 0
+IsRefusedBy names content d (NoSuchRow at) = Takes names content d (refused at why.NoSuchRow)
+IsRefusedBy names content d (CountFull at) = Takes names content d (refused at why.CountFull)
+
+-- ---- The dump command.
+
+-- The dump command for this set has more bytes than a payload may have: 23 and those of the set.
+pub record IsDumpTooLong (executed : Ids) : Type 0 where
+  pub set : List ℕ
+  pub encodes : IsEncoding executed set
+  pub long : 1073741824 < 23 + length set
+
+-- Where the dump has been asked for, the command was short enough.
+abbrev pub CouldAsk : Due → Ids → Type 0
+CouldAsk due executed = IsInDump due → IsDumpTooLong executed → ⊥
+
+-- The transactions that were taken, where this is due behind them.
+pub record Took (names : Names) (old : Content) (ds : List DeliveryValue) (due : Due) (applied : ℕ) (new : Content) : Type 0 where
+  pub takes : TakesAll names old ds applied new
+  pub asked : CouldAsk due old.executed
+
+-- ---- A connection.
+
+module _ (limit : ℕ) (names : Names) (due : Due) (es : List EventValue) (ds : List DeliveryValue) (taken id : ℕ) (rest : List ℕ) where
+  -- The next payload carries an event that ends the transaction.
+  pub record NextEnds (d : DeliveryValue) : Type 0 where
+    pub payload : Payload
+    pub stops : StopsAt limit names due es taken id rest payload
+    pub in_dump : IsInDump due
+    pub event : EventValue
+    pub carries : Carries names payload event
+    pub delivers : AreDeliveries (es ++ event ∷ []) (ds ++ d ∷ [])
+
+  -- The next payload is the reply to the query.
+  pub record NextAnswers : Type 0 where
+    pub payload : Payload
+    pub stops : StopsAt limit names due es taken id rest payload
+    pub due_is : due ≡ QueryReply
+    pub is_ok : IsOkPacket payload
+
+  -- The next payload ends a transaction that is refused.
+  pub record IsRefusedNext (new : Content) (refusal : Refusal) : Type 0 where
+    pub delivery : DeliveryValue
+    pub ends : NextEnds delivery
+    pub refused : IsRefusedBy names new delivery refusal
+
+  -- The next payload ends a transaction that is not executed, or the store was broken before.
+  pub record IsDueNext (was_broken : Bool) (new : Content) : Type 0 where
+    pub delivery : DeliveryValue
+    pub ends : NextEnds delivery
+    pub due_is : (is_executed new delivery ≡ false) ⊎ (was_broken ≡ true)
+
+  -- Why a connection ends at this place, over a store that a failure had broken before or not.
+  abbrev pub Why : Bool → Content → Content → ℕ → Reason → Type 0
+  Why was old new at EndOfInput = StopsFor limit names due es taken id rest at EndOfInput
+  Why was old new at SourceEof = StopsFor limit names due es taken id rest at SourceEof
+  Why was old new at (SourceError code state message) = StopsFor limit names due es taken id rest at (SourceError code state message)
+  -- or the dump command would be too long
+  Why was old new at (Wire fault) =
+      StopsFor limit names due es taken id rest at (Wire fault) ⊎ ((fault ≡ wire.TooLarge) × (at ≡ taken) × NextAnswers × IsDumpTooLong old.executed)
+  Why was old new at (Greet fault) = StopsFor limit names due es taken id rest at (Greet fault)
+  Why was old new at (Event fault) = StopsFor limit names due es taken id rest at (Event fault)
+  Why was old new at (Gather fault) = StopsFor limit names due es taken id rest at (Gather fault)
+  Why was old new at (Refused refusal) = (at ≡ taken) × IsRefusedNext new refusal
+  Why was old new at (Database cause) = (at ≡ taken) × IsDueNext was new
+  Why was old new at Memory = at ≡ taken
+  Why was old new at ReadFailed = at ≡ taken
+  -- what is owed may be sent behind the end of the log
+  Why was old new at WriteFailed = (at ≡ taken) ⊎ EndsLog limit names due es taken id rest at
+
+-- A connection of the bytes, over a store that a failure had broken before or not, leads from old to new and ends so: a
+-- beginning of its bytes is a conversation, whose transactions are taken in order and none refused.
+pub record Conn (limit : ℕ) (names : Names) (was_broken : Bool) (old : Content) (b : List ℕ) (new : Content) (end : Ended) : Type 0 where
+  pub reading : Reading limit names b
+  pub took : Took names old reading.deliveries (due_behind reading.payloads) end.applied new
+  pub why : Why limit names (due_behind reading.payloads) reading.events reading.deliveries (length reading.front) reading.id reading.rest was_broken old new end.at end.reason
+
+-- Taking the first so many transactions of the bytes refuses none, and leads from old to new.
+pub record Begun (limit : ℕ) (names : Names) (old : Content) (b : List ℕ) (count applied : ℕ) (new : Content) : Type 0 where
+  pub reading : Reading limit names b
+  pub counted : length reading.deliveries ≡ count
+  pub took : Took names old reading.deliveries (due_behind reading.payloads) applied new
+
+-- Whether a failure has broken the store behind a connection with this end: one of the database has, want of memory may,
+-- and no other end does.
+abbrev pub BreaksStore : Reason → Bool → Bool → Type 0
+BreaksStore (Database cause) was is = is ≡ true
+BreaksStore Memory was is = was ≡ true → is ≡ true
+BreaksStore _ was is = is ≡ was
+
+-- The connections in order, each from what the one before left.
+abbrev pub History : ℕ → Names → Bool → Content → List (List ℕ) → Bool → Content → List Ended → Type 0
+History limit names was old [] is new [] = (is ≡ was) × (new ≡ old)
+History limit names was old (b ∷ bs) is new (end ∷ ends) =
+    (mid : Content) × (between : Bool) × Conn limit names was old b mid end × BreaksStore end.reason was between × History limit names between mid bs is new ends
+History limit names was old [] is new (end ∷ ends) = ⊥
+History limit names was old (b ∷ bs) is new [] = ⊥
+
+-- The bytes of the connection end it, and neither a refused transaction nor a failure.
+abbrev pub IsOfBytes : Reason → Type 0
+IsOfBytes (Refused refusal) = ⊥
+IsOfBytes (Database cause) = ⊥
+IsOfBytes Memory = ⊥
+IsOfBytes ReadFailed = ⊥
+IsOfBytes WriteFailed = ⊥
+IsOfBytes _ = Unit {0}
+
+-- No read and no write of a stream has failed.
+abbrev pub IsNoStreamFailure : Reason → Type 0
+IsNoStreamFailure ReadFailed = ⊥
+IsNoStreamFailure WriteFailed = ⊥
+IsNoStreamFailure _ = Unit {0}

@@ -1,0 +1,46 @@
+-- What a crash may leave of connections.
+use Rattle.std.specs.Prelude.{◌≡◌, ℕ, ◌⊎◌, Bool, false, List, [], ◌∷◌, ◌++◌, length}
+use Rattle.binlog.specs.Follow.{Names}
+use Rattle.gather.specs.Transaction.{DeliveryValue}
+use Rattle.store.specs.State.{Content}
+use Rattle.store.specs.Take.{Takes, done}
+use Rattle.store.specs.declared.fault.StoreFault.{StoreFault}
+use Rattle.replica.specs.declared.end.Reason.TheVariants.{Database}
+use Rattle.replica.specs.declared.end.Ended.{Ended}
+use Rattle.replica.specs.Stream.{Reading, due_behind}
+use Rattle.replica.specs.Conn.{Took, NextEnds, Conn, History}
+
+-- The database failed in the transaction that the next payload ends, and what is left has this one more.
+pub record IsOneMore (limit : ℕ) (names : Names) (old : Content) (b : List ℕ) (new : Content) (end : Ended) (left : Content) : Type 0 where
+  pub cause : StoreFault
+  pub failed : end.reason ≡ Database cause
+  pub reading : Reading limit names b
+  pub at_is : end.at ≡ length reading.front
+  pub took : Took names old reading.deliveries (due_behind reading.payloads) end.applied new
+  pub next : DeliveryValue
+  pub ends : NextEnds limit names (due_behind reading.payloads) reading.events reading.deliveries (length reading.front) reading.id reading.rest next
+  pub takes : Takes names new next (done left)
+
+-- What a crash leaves of a connection: the transactions that were taken, or one more where the database failed.
+abbrev pub IsLeft : ℕ → Names → Content → List ℕ → Content → Ended → Content → Type 0
+IsLeft limit names old b new end left = (left ≡ new) ⊎ IsOneMore limit names old b new end left
+
+-- The same of a list of connections: the one more is of the first connection in which the database failed.
+pub record IsOneMoreIn (limit : ℕ) (names : Names) (was : Bool) (old : Content) (bs : List (List ℕ)) (ends : List Ended) (left : Content) : Type 0 where
+  pub before : List (List ℕ)
+  pub b : List ℕ
+  pub after : List (List ℕ)
+  pub ends_before : List Ended
+  pub end : Ended
+  pub ends_after : List Ended
+  pub mid : Content
+  pub new : Content
+  pub connections : bs ≡ before ++ b ∷ after
+  pub ends_are : ends ≡ ends_before ++ end ∷ ends_after
+  -- no failure has broken the store before
+  pub history : History limit names was old before false mid ends_before
+  pub conn : Conn limit names false mid b new end
+  pub more : IsOneMore limit names mid b new end left
+
+abbrev pub IsLeftOfAll : ℕ → Names → Bool → Content → List (List ℕ) → Content → List Ended → Content → Type 0
+IsLeftOfAll limit names was old bs new ends left = (left ≡ new) ⊎ IsOneMoreIn limit names was old bs ends left

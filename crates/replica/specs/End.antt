@@ -1,0 +1,92 @@
+-- Where the reading of a connection stops, and why.
+use Rattle.std.specs.Prelude.{◌≡◌, ℕ, ◌+◌, ◌^◌, ◌<◌, ◌≤◌, ◌⊎◌, List, [], ◌∷◌, ◌++◌, length, Some}
+use Rattle.wire.specs.Payload.{IsWholePayload, IsUnfinished, IsOutOfSequence, IsTooLarge}
+use Rattle.wire.specs.declared.fault.WireFault.{WireFault}
+use Rattle.wire.specs.declared.fault.WireFault.TheVariants as wire
+use Rattle.greet.specs.Message.{IsEofPacket}
+use Rattle.greet.specs.Refusal.{server_error}
+use Rattle.greet.specs.View.{Refuses}
+use Rattle.binlog.specs.Follow.{Names}
+use Rattle.binlog.specs.Event.{EventValue, event_fault}
+use Rattle.gather.specs.Fault.{IsFault}
+use Rattle.replica.specs.declared.end.Reason.{Reason}
+use Rattle.replica.specs.declared.end.Reason.TheVariants.{EndOfInput, SourceEof, SourceError, Wire, Greet, Event, Gather, Refused, Database, Memory, ReadFailed, WriteFailed}
+use Rattle.replica.specs.Stream.{Payload, Due, IsInDump, Carries, Reading, due_behind}
+use Rattle.replica.specs.Message.{refusal_of, IsNoEvent, IsOfMessage}
+
+-- The bytes begin with the packing of a payload within the limit, from this sequence id.
+pub record HasNext (limit id : ℕ) (rest : List ℕ) (p : Payload) : Type 0 where
+  pub packing : List ℕ
+  pub more : List ℕ
+  pub behind : ℕ
+  pub whole : IsWholePayload id limit packing p behind
+  pub bytes : rest ≡ packing ++ more
+
+-- What a payload in the place of the message that is due ends the connection with. These are faults of its bytes, or of
+-- its event behind those before.
+abbrev pub Denies : Names → Due → List EventValue → Payload → Reason → Type 0
+Denies names due es p (SourceError code state message) = IsNoEvent due p × (refusal_of due p ≡ Some (server_error code state message.items))
+Denies names due es p (Greet fault) = IsNoEvent due p × IsOfMessage fault × Refuses (refusal_of due p) fault
+Denies names due es p (Event fault) = IsInDump due × (body : List ℕ) × (p ≡ 0x00 ∷ body) × (event_fault names body ≡ Some fault)
+Denies names due es p (Gather fault) = IsInDump due × (e : EventValue) × Carries names p e × IsFault es e fault
+Denies names due es p _ = ⊥
+
+-- what a wrong header of a packet is told as
+abbrev pub IsWrong : ℕ → ℕ → List ℕ → WireFault → Type 0
+IsWrong id limit rest (wire.Sequence want got) = IsOutOfSequence id limit rest want got
+IsWrong id limit rest wire.TooLarge = IsTooLarge id limit rest
+IsWrong id limit rest wire.Memory = ⊥
+IsWrong id limit rest wire.Ended = ⊥
+
+-- Behind so many bytes of a conversation, where this message is due and its packing has this id, stands the rest of the
+-- connection's bytes.
+module _ (limit : ℕ) (names : Names) (due : Due) (es : List EventValue) (taken id : ℕ) (rest : List ℕ) where
+  -- The next payload is whole, and ends within 2 ^ 64 - 1 bytes.
+  pub record StopsAt (p : Payload) : Type 0 where
+    pub next : HasNext limit id rest p
+    pub within : taken + length next.packing < 2 ^ 64
+
+  -- The next payload is whole, and ends past them.
+  pub record PassesEnd : Type 0 where
+    pub payload : Payload
+    pub next : HasNext limit id rest payload
+    pub beyond : 2 ^ 64 ≤ taken + length next.packing
+
+  -- The next payload is an end of the log, and its packing is taken.
+  pub record EndsLog (at : ℕ) : Type 0 where
+    pub payload : Payload
+    pub stops : StopsAt payload
+    pub in_dump : IsInDump due
+    pub is_eof : IsEofPacket payload
+    pub at_is : at ≡ taken + length stops.next.packing
+
+  -- The next payload is not the message due.
+  pub record EndsWith (reason : Reason) : Type 0 where
+    pub payload : Payload
+    pub stops : StopsAt payload
+    pub denied : Denies names due es payload reason
+
+  -- The reading stops at this place, for this reason: no payload is whole; the log ends; a payload is not the message
+  -- due; a header is wrong. The other reasons are not those of bytes.
+  abbrev pub StopsFor : ℕ → Reason → Type 0
+  StopsFor at EndOfInput = (at ≡ taken) × IsUnfinished id limit rest
+  StopsFor at SourceEof = EndsLog at
+  StopsFor at (SourceError code state message) = (at ≡ taken) × EndsWith (SourceError code state message)
+  StopsFor at (Wire fault) = (at ≡ taken) × (IsWrong id limit rest fault ⊎ ((fault ≡ wire.TooLarge) × PassesEnd))
+  StopsFor at (Greet fault) = (at ≡ taken) × EndsWith (Greet fault)
+  StopsFor at (Event fault) = (at ≡ taken) × EndsWith (Event fault)
+  StopsFor at (Gather fault) = (at ≡ taken) × EndsWith (Gather fault)
+  StopsFor at (Refused refusal) = ⊥
+  StopsFor at (Database cause) = ⊥
+  StopsFor at Memory = ⊥
+  StopsFor at ReadFailed = ⊥
+  StopsFor at WriteFailed = ⊥
+
+-- the reading of these bytes stops at this place, for this reason
+abbrev pub Stops : (limit : ℕ) (names : Names) (b : List ℕ) → Reading limit names b → ℕ → Reason → Type 0
+Stops limit names b r at reason = StopsFor limit names (due_behind r.payloads) r.events (length r.front) r.id r.rest at reason
+
+-- The end of a connection by its bytes.
+pub record End (limit : ℕ) (names : Names) (b : List ℕ) (reason : Reason) (at : ℕ) : Type 0 where
+  pub reading : Reading limit names b
+  pub stops : Stops limit names b reading at reason

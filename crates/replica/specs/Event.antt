@@ -1,0 +1,59 @@
+-- What a store makes of a payload of the dump.
+use Rattle.std.specs.Prelude.{◌≡◌, ◌⊎◌, ℕ, Bool, true, false, if◌then◌else◌, List, [], ◌∷◌, ◌++◌, Result, Ok, Err}
+use Rattle.sqlite_trees.specs.declared.store.Store.{Ghosts}
+use Rattle.sqlite_trees.specs.Tree.{Trees}
+use Rattle.sqlite.specs.Held.{state}
+use Rattle.binlog.specs.Event.{EventValue}
+use Rattle.gather.specs.Transaction.{DeliveryValue, AreDeliveries}
+use Rattle.gather.specs.declared.gatherer.Gatherer.{Gatherer}
+use Rattle.store.specs.State.{Content}
+use Rattle.store.specs.Take.{Takes, done, is_executed}
+use Rattle.store.specs.declared.store.Store.{Store}
+use Rattle.store.specs.Store.{HoldsAs, AreOf}
+use Rattle.replica.specs.declared.end.Reason.{Reason}
+use Rattle.replica.specs.declared.end.Reason.TheVariants.{EndOfInput, SourceEof, SourceError, Wire, Greet, Event, Gather, Refused, Database, Memory, ReadFailed, WriteFailed}
+use Rattle.replica.specs.Stream.{Payload, Carries}
+use Rattle.replica.specs.Conn.{TakesAll, IsRefusedBy, BreaksStore}
+use Rattle.replica.specs.Turn.{GathersMore, EndsDump}
+
+module _ {S : Type 0} (g : Ghosts S) (is : Bool) (now : Content) (es : List EventValue) (ds : List DeliveryValue) (p : Payload) (old new : Store S g) where
+  -- The event is gathered, and its transactions, one or none, are taken.
+  pub record GoesFurther (gatherer : Gatherer) (applied : Bool) : Type 0 where
+    pub more : List DeliveryValue
+    pub gathered : GathersMore old.following es ds p more gatherer
+    pub after : Content
+    pub takes : TakesAll old.following now more (if applied then 1 else 0) after
+    pub holds : HoldsAs g is after new
+    pub schema : is ≡ false → (state g new.conn).now.schema ≡ (state g old.conn).now.schema
+    pub kept : is ≡ true → after ≡ now
+
+  -- The event ends this transaction.
+  pub record EndsOne (d : DeliveryValue) : Type 0 where
+    pub event : EventValue
+    pub carries : Carries old.following p event
+    pub delivers : AreDeliveries (es ++ event ∷ []) (ds ++ d ∷ [])
+
+  -- The store is as it was, but that a failure may have broken it.
+  pub record Rests (broken : Bool) : Type 0 where
+    pub holds : HoldsAs g broken now new
+    pub schema : broken ≡ false → (state g new.conn).now.schema ≡ (state g old.conn).now.schema
+
+  -- The database failed in the transaction: a crash leaves what was held, or what the transaction makes of it.
+  pub record Fails (d : DeliveryValue) : Type 0 where
+    pub rests : Rests true
+    pub due_is : (is_executed now d ≡ false) ⊎ (is ≡ true)
+    pub leaves : is ≡ false → (trees : Trees) → (state g new.conn).may_leave trees
+        → (left : Content) × AreOf (state g old.conn).now.schema old.following left trees × ((left ≡ now) ⊎ Takes old.following now d (done left))
+
+  -- The connection ends: by the payload or for want of memory, by a transaction that is refused, or by a failure of the
+  -- database.
+  abbrev pub EndsSo : Reason → Type 0
+  EndsSo (Refused refusal) = (d : DeliveryValue) × EndsOne d × IsRefusedBy old.following now d refusal × Rests is
+  EndsSo (Database cause) = (d : DeliveryValue) × EndsOne d × Fails d
+  EndsSo Memory = (broken : Bool) × (is ≡ true → broken ≡ true) × Rests broken
+      × (is ≡ false → (trees : Trees) → (state g new.conn).may_leave trees → AreOf (state g old.conn).now.schema old.following now trees)
+  EndsSo reason = EndsDump old.following es p reason × Rests is
+
+  abbrev pub TakesEvent : Gatherer → Result Bool Reason → Type 0
+  TakesEvent gatherer (Ok applied) = GoesFurther gatherer applied
+  TakesEvent gatherer (Err reason) = EndsSo reason

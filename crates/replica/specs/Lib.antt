@@ -1,0 +1,12 @@
+pub mod Settings
+pub mod Stream
+pub mod Message
+pub mod End
+pub mod Conn
+pub mod Sent
+pub mod Turn
+pub mod Event
+pub mod Standing
+pub mod Crash
+pub mod Over
+pub mod Pieces

@@ -1,0 +1,31 @@
+-- Payloads that are not the message due.
+use Rattle.std.specs.Prelude.{◌≡◌, ℕ, ◌==◌, Bool, true, false, List, [], ◌∷◌, Option, Some, if◌then◌else◌, Vec}
+use Rattle.greet.specs.Refusal.{Refusal, server_error, truncated, greeting_refusal, reply_refusal, ok_refusal, eof_refusal}
+use Rattle.greet.specs.View.{Refuses}
+use Rattle.greet.specs.declared.fault.GreetFault.{GreetFault}
+use Rattle.greet.specs.declared.fault.GreetFault.TheVariants as greet
+use Rattle.replica.specs.Stream.{Payload, Due, Hello, Reply, SecondReply, QueryReply, InDump}
+
+-- what is wrong with a payload in the place of this message; in the dump, with one that carries no event
+abbrev pub refusal_of : Due → Payload → Option Refusal
+refusal_of Hello p = greeting_refusal p
+refusal_of Reply p = reply_refusal p
+refusal_of SecondReply p = ok_refusal p
+refusal_of QueryReply p = ok_refusal p
+refusal_of InDump p = eof_refusal p
+
+-- whether the payload begins as one that carries an event
+abbrev pub begins_event : Payload → Bool
+begins_event [] = false
+begins_event (byte ∷ bytes) = byte == 0x00
+
+-- in the dump: the payload carries no event
+abbrev pub IsNoEvent : Due → Payload → Type 0
+IsNoEvent InDump p = begins_event p ≡ false
+IsNoEvent _ p = Unit {0}
+
+-- The fault is one of the payload's bytes, and not an error that the source sends or want of memory.
+abbrev pub IsOfMessage : GreetFault → Type 0
+IsOfMessage (greet.ServerError code state message) = ⊥
+IsOfMessage greet.Memory = ⊥
+IsOfMessage _ = Unit {0}

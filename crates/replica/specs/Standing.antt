@@ -1,0 +1,95 @@
+-- A session in the midst of a connection.
+use Rattle.std.specs.Prelude.{◌≡◌, ◌≢◌, ℕ, ◌+◌, ◌-◌, ◌^◌, Bool, false, List, [], ◌++◌, length, Option, Some, None, MatchOption, unwrap_or, take}
+use Rattle.wire.specs.Payload.{ReaderState, IsUnfinished, IsWholePayload}
+use Rattle.binlog.specs.Follow.{Names}
+use Rattle.gather.specs.Standing.{Stands as Gathers}
+use Rattle.gather.specs.declared.gatherer.Gatherer.{Gatherer}
+use Rattle.store.specs.State.{Content}
+use Rattle.replica.specs.declared.end.Reason.TheVariants.{EndOfInput}
+use Rattle.replica.specs.declared.end.Ended.{Ended}
+use Rattle.replica.specs.declared.phase.Phase.{Phase}
+use Rattle.replica.specs.declared.phase.Phase.TheVariants as phase
+use Rattle.replica.specs.declared.session.Session.{Session}
+use Rattle.replica.specs.Settings.{Settings}
+use Rattle.replica.specs.Stream.{Payload, Due, Hello, Reply, SecondReply, QueryReply, InDump, Reading, due_behind}
+use Rattle.replica.specs.Conn.{Took, Conn, BreaksStore}
+use Rattle.replica.specs.Sent.{Sent, SentFor}
+
+-- what a session waits for
+abbrev pub due_of : Phase → Due
+due_of phase.Greeting = Hello
+due_of phase.Reply = Reply
+due_of phase.SecondReply = SecondReply
+due_of phase.QueryReply = QueryReply
+due_of phase.Dump = InDump
+
+-- how a session ends if no more comes
+abbrev pub end_of : Session → Ended
+end_of session = unwrap_or session.ended (record { reason = EndOfInput; at = session.at; applied = session.applied })
+
+-- The connection goes on. `all` is what was sent and what waits to be sent. (Over the parts of a session, so that a
+-- change of another part keeps it.)
+pub record GoesOn (settings : Settings) (assembly : ReaderState) (gatherer : Gatherer) (waits : Phase) (at applied : ℕ) (names : Names) (was is : Bool) (old now : Content) (b all : List ℕ) : Type 0 where
+  pub reading : Reading settings.limit names b
+  pub held : reading.rest ≡ assembly.held
+  pub at_is : at ≡ length reading.front
+  pub limit : assembly.limit ≡ settings.limit
+  pub id : assembly.due ≡ reading.id
+  pub reads : assembly.ended ≡ false
+  pub unfinished : IsUnfinished reading.id settings.limit assembly.held
+  pub awaits : due_of waits ≡ due_behind reading.payloads
+  pub gathers : Gathers reading.events reading.deliveries gatherer
+  pub took : Took names old reading.deliveries (due_behind reading.payloads) applied now
+  pub sent : Sent settings old.executed reading.payloads all
+  pub store : is ≡ was
+
+-- The connection has ended.
+pub record HasEnded (settings : Settings) (names : Names) (was is : Bool) (old now : Content) (b all : List ℕ) (end : Ended) : Type 0 where
+  pub conn : Conn settings.limit names was old b now end
+  pub more : end.reason ≢ EndOfInput
+  pub sent : SentFor settings names old.executed b end.at all
+  pub store : BreaksStore end.reason was is
+
+-- A session that was begun over this content has read the bytes b and handed out the bytes o. The store holds `now`, and
+-- a failure had broken it and has broken it or not.
+unfoldable pub Stands : Session → Names → Bool → Bool → Content → Content → List ℕ → List ℕ → Type 0
+Stands session names was is old now b o =
+    MatchOption session.ended
+    (GoesOn session.config session.assembler session.gatherer session.phase session.at session.applied names was is old now b (o ++ session.out.items))
+    (λ end. HasEnded session.config names was is old now b (o ++ session.out.items) end)
+
+-- A payload has come behind the payloads taken, and is to be taken.
+pub record HasPayload (settings : Settings) (assembly : ReaderState) (gatherer : Gatherer) (waits : Phase) (at applied : ℕ) (names : Names) (was is : Bool) (old now : Content) (b all : List ℕ) (p : Payload) : Type 0 where
+  pub reading : Reading settings.limit names b
+  pub whole : IsWholePayload reading.id settings.limit reading.rest p assembly.due
+  pub at_is : at ≡ length reading.front
+  pub limit : assembly.limit ≡ settings.limit
+  pub held : assembly.held ≡ []
+  pub reads : assembly.ended ≡ false
+  pub awaits : due_of waits ≡ due_behind reading.payloads
+  pub gathers : Gathers reading.events reading.deliveries gatherer
+  pub took : Took names old reading.deliveries (due_behind reading.payloads) applied now
+  pub sent : Sent settings old.executed reading.payloads all
+  pub store : is ≡ was
+
+abbrev pub Meets : Session → Names → Bool → Bool → Content → Content → List ℕ → List ℕ → Payload → Type 0
+Meets session names was is old now b o p =
+    HasPayload session.config session.assembler session.gatherer session.phase session.at session.applied names was is old now b (o ++ session.out.items) p
+
+-- what is due at the first packet of the message that is waited for, where no payload of the dump has come
+abbrev pub first_id_of : Phase → ℕ
+first_id_of phase.Greeting = 0
+first_id_of phase.Reply = 2
+first_id_of phase.SecondReply = 4
+first_id_of phase.QueryReply = 1
+first_id_of phase.Dump = 1
+
+-- how many more bytes a session may take in before it ends: a connection ends within 2 ^ 64 - 1 bytes and the packing
+-- of a payload behind them
+abbrev pub room_of : Session → ℕ
+room_of session = (2 ^ 64 + 2 ^ 31) - (session.at + length session.assembler.held)
+
+-- what was taken of the bytes: so many of them, or all
+abbrev pub taken_of : Option ℕ → List ℕ → List ℕ
+taken_of None bytes = bytes
+taken_of (Some n) bytes = take n bytes

@@ -1,0 +1,112 @@
+-- What a session makes of one payload.
+use Rattle.std.specs.Prelude.{◌≡◌, ℕ, Bool, true, false, List, [], ◌∷◌, ◌++◌, Option, Some, Result, Ok, Err}
+use Rattle.greet.specs.Refusal.{Refusal, server_error}
+use Rattle.greet.specs.View.{Refuses}
+use Rattle.replica.specs.Message.{IsOfMessage}
+use Rattle.wire.specs.declared.fault.WireFault.{WireFault}
+use Rattle.wire.specs.declared.fault.WireFault.TheVariants as wire
+use Rattle.byteorder.specs.Endian.{little_bytes}
+use Rattle.greet.specs.Message.{IsOkPacket, IsEofPacket, dump_bytes}
+use Rattle.gtid.specs.Identifier.{Ids}
+use Rattle.gtid.specs.Encoding.{IsEncoding}
+use Rattle.binlog.specs.Follow.{Names}
+use Rattle.binlog.specs.Event.{EventValue}
+use Rattle.replica.specs.declared.end.Reason.{Reason}
+use Rattle.replica.specs.declared.end.Reason.TheVariants.{EndOfInput, SourceEof, SourceError, Wire, Greet, Event, Gather, Refused, Database, Memory, ReadFailed, WriteFailed}
+use Rattle.gather.specs.Transaction.{DeliveryValue}
+use Rattle.gather.specs.Standing.{Stands as Gathers}
+use Rattle.gather.specs.declared.gatherer.Gatherer.{Gatherer}
+use Rattle.store.specs.declared.fault.Applied.{Applied}
+use Rattle.store.specs.declared.fault.Applied.TheVariants as applied
+use Rattle.store.specs.declared.fault.StoreFault.{StoreFault}
+use Rattle.store.specs.declared.fault.StoreFault.TheVariants as fault
+use Rattle.replica.specs.declared.end.Refusal.TheVariants.{NoSuchRow, CountFull}
+use Rattle.replica.specs.Settings.{Settings}
+use Rattle.replica.specs.Stream.{Payload, Due, QueryReply, InDump, Answers, Carries}
+use Rattle.replica.specs.End.{Denies}
+use Rattle.replica.specs.Conn.{IsDumpTooLong}
+use Rattle.replica.specs.Sent.{Owes, IsPacked, flags_of}
+
+-- The packing of the payload from the sequence id was appended.
+pub record Sends (id : ℕ) (p : Payload) (old new : List ℕ) : Type 0 where
+  pub bytes : List ℕ
+  pub packed : IsPacked id p bytes
+  pub appended : new ≡ old ++ bytes
+
+-- What is owed for the message was appended.
+pub record Replies (settings : Settings) (executed : Ids) (due : Due) (p : Payload) (old new : List ℕ) : Type 0 where
+  pub bytes : List ℕ
+  pub owes : Owes settings executed due p bytes
+  pub appended : new ≡ old ++ bytes
+
+-- The message before the dump is the one due, and what is owed for it was appended.
+pub record IsAnswered (settings : Settings) (names : Names) (executed : Ids) (due : Due) (p : Payload) (old new : List ℕ) : Type 0 where
+  pub answers : Answers names due p []
+  pub replies : Replies settings executed due p old new
+  -- the dump was asked for, so its command was short enough
+  pub short : due ≡ QueryReply → IsDumpTooLong executed → ⊥
+
+-- Why the connection ends at a payload before the dump: memory, what the payload is, or the length of the command that
+-- is owed for it.
+abbrev pub EndsAt : Names → Ids → Due → Payload → Reason → Type 0
+EndsAt names executed due p Memory = Unit {0}
+EndsAt names executed due p (Wire f) = (f ≡ wire.TooLarge) × (due ≡ QueryReply) × IsOkPacket p × IsDumpTooLong executed
+EndsAt names executed due p EndOfInput = ⊥
+EndsAt names executed due p SourceEof = ⊥
+EndsAt names executed due p (SourceError code state message) = Denies names due [] p (SourceError code state message)
+EndsAt names executed due p (Greet f) = Denies names due [] p (Greet f)
+EndsAt names executed due p (Event f) = ⊥
+EndsAt names executed due p (Gather f) = ⊥
+EndsAt names executed due p (Refused refusal) = ⊥
+EndsAt names executed due p (Database cause) = ⊥
+EndsAt names executed due p ReadFailed = ⊥
+EndsAt names executed due p WriteFailed = ⊥
+
+-- The dump command with the set was appended.
+pub record AsksFor (settings : Settings) (executed : Ids) (old new : List ℕ) : Type 0 where
+  pub set : List ℕ
+  pub encodes : IsEncoding executed set
+  pub sends : Sends 0 (dump_bytes (record { flags = flags_of settings.once; server_id = settings.server_id; set = set }) [] (little_bytes 8 4)) old new
+
+-- What a refusal of a message is told as, or want of memory.
+abbrev pub IsToldOf : Option Refusal → Reason → Type 0
+IsToldOf refusal Memory = Unit {0}
+IsToldOf refusal (SourceError code state message) = refusal ≡ Some (server_error code state message.items)
+IsToldOf refusal (Greet f) = IsOfMessage f × Refuses refusal f
+IsToldOf refusal _ = ⊥
+
+-- Why the connection ends at a payload of the dump that ends no transaction: memory, the end of the log, or what the
+-- payload is.
+abbrev pub EndsDump : Names → List EventValue → Payload → Reason → Type 0
+EndsDump names es p Memory = Unit {0}
+EndsDump names es p SourceEof = IsEofPacket p
+EndsDump names es p (SourceError code state message) = Denies names InDump es p (SourceError code state message)
+EndsDump names es p (Greet f) = Denies names InDump es p (Greet f)
+EndsDump names es p (Event f) = Denies names InDump es p (Event f)
+EndsDump names es p (Gather f) = Denies names InDump es p (Gather f)
+EndsDump names es p EndOfInput = ⊥
+EndsDump names es p (Wire f) = ⊥
+EndsDump names es p (Refused refusal) = ⊥
+EndsDump names es p (Database cause) = ⊥
+EndsDump names es p ReadFailed = ⊥
+EndsDump names es p WriteFailed = ⊥
+
+-- The payload carries an event that ends these transactions, one or none, and the gatherer was given it.
+pub record GathersMore (names : Names) (es : List EventValue) (ds : List DeliveryValue) (p : Payload) (more : List DeliveryValue) (gatherer : Gatherer) : Type 0 where
+  pub event : EventValue
+  pub carries : Carries names p event
+  pub gathers : Gathers (es ++ event ∷ []) (ds ++ more) gatherer
+
+-- what the store's answer is told as: whether the transaction was applied, or why the connection ends
+abbrev pub outcome_of : Result Applied StoreFault → Result Bool Reason
+outcome_of (Ok applied.Done) = Ok true
+outcome_of (Ok applied.Repeat) = Ok false
+outcome_of (Err (fault.NoSuchRow at)) = Err (Refused (NoSuchRow at))
+outcome_of (Err (fault.CountFull at)) = Err (Refused (CountFull at))
+outcome_of (Err fault.Memory) = Err Memory
+outcome_of (Err cause) = Err (Database cause)
+
+-- what a fault of the packets is told as
+abbrev pub reason_of : WireFault → Reason
+reason_of wire.Memory = Memory
+reason_of fault = Wire fault

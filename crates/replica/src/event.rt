@@ -1,0 +1,95 @@
+//! The payloads of the dump.
+
+ghost use Rattle.std.specs.Prelude.{◌≡◌, ◌⊎◌, Bool, List, ◌++◌, ◌∷◌, [], IfOk, IfErr, IfSome, IfNone, true, false, MatchResult, Ok, Err};
+ghost use Rattle.sqlite.specs.State.{HasCleanDisk};
+ghost use Rattle.sqlite.specs.Held.{state};
+ghost use Rattle.binlog.specs.Follow.{Names};
+ghost use Rattle.binlog.specs.Event.{EventValue};
+ghost use Rattle.binlog.specs.EventView.{event_value};
+ghost use Rattle.gather.specs.Transaction.{DeliveryValue};
+ghost use Rattle.gather.specs.Standing.{Stands as Gathers};
+ghost use Rattle.gather.specs.View.{delivery_value, delivered};
+ghost use Rattle.store.specs.State.{Content};
+ghost use Rattle.store.specs.Store.{Holds, HasFailed, HoldsAs};
+ghost use Rattle.replica.specs.Stream.{Carries, InDump};
+ghost use Rattle.replica.specs.Turn.{EndsDump, GathersMore, outcome_of};
+ghost use Rattle.replica.specs.Message.{begins_event};
+ghost use Rattle.replica.specs.Event.{TakesEvent};
+
+use crate::end::{Reason, Refusal};
+use crate::message::told;
+use binlog::{Event, Follow, read_event_only};
+use gather::{Delivery, GatherFault, Gatherer};
+use greet::read_eof;
+use sqlite::Alter;
+use std::alloc::Global;
+use store::{Applied, Store, StoreFault};
+
+/// What a payload is told as that carries no event.
+fn no_event(alloc: Global, payload: &[u8]) -> Reason
+    requires { begins_event payload.now ≡ false }
+    ensures { (names : Names) (es : List EventValue) → EndsDump names es payload.now result }
+{
+    match read_eof(alloc, payload) {
+        Ok(()) => Reason::SourceEof,
+        Err(fault) => told(fault),
+    }
+}
+
+/// Reads the event of a payload and gathers it, and answers the transaction that it ends.
+fn gather(
+    alloc: Global,
+    gatherer: &mut Gatherer,
+    follow: &Follow,
+    payload: &[u8],
+) -> Result<Option<Delivery>, Reason>
+    ensures ok { (es : List EventValue) (ds : List DeliveryValue) → Gathers es ds gatherer.old → IfOk result (λ delivery. GathersMore follow.now es ds payload.now (delivered delivery) gatherer.new) }
+    ensures err { (es : List EventValue) (ds : List DeliveryValue) → Gathers es ds gatherer.old → IfErr result (EndsDump follow.now es payload.now) }
+{
+    let [0, body @ ..] = payload else {
+        return Err(no_event(alloc, payload));
+    };
+    let event = match read_event_only(body, follow) {
+        Ok(event) => event,
+        Err(fault) => return Err(Reason::Event(fault)),
+    };
+    match gatherer.event(&event) {
+        Ok(delivery) => Ok(delivery),
+        Err(GatherFault::Memory) => Err(Reason::Memory),
+        Err(fault) => Err(Reason::Gather(fault)),
+    }
+}
+
+/// What the store's answer is told as: whether the transaction was applied, or why the connection ends.
+fn outcome(answer: Result<Applied, StoreFault>) -> Result<bool, Reason>
+    ensures { result ≡ outcome_of answer }
+{
+    match answer {
+        Ok(Applied::Done) => Ok(true),
+        Ok(Applied::Repeat) => Ok(false),
+        Err(StoreFault::NoSuchRow(at)) => Err(Reason::Refused(Refusal::NoSuchRow(at))),
+        Err(StoreFault::CountFull(at)) => Err(Reason::Refused(Refusal::CountFull(at))),
+        Err(StoreFault::Memory) => Err(Reason::Memory),
+        Err(fault) => Err(Reason::Database(fault)),
+    }
+}
+
+/// Takes a payload of the dump: reads its event, and where that ends a transaction has the store take it. Answers
+/// whether one was applied.
+pub(crate) fn take_event<S: Alter>(
+    alloc: Global,
+    gatherer: &mut Gatherer,
+    store: &mut Store<S>,
+    payload: &[u8],
+) -> Result<bool, Reason>
+    ensures clean { HasCleanDisk (state S.Store store.new.conn) → HasCleanDisk (state S.Store store.old.conn) }
+    ensures following { store.new.following ≡ store.old.following }
+    ensures broken { store.old.broken ≡ true → store.new ≡ store.old }
+    ensures turn { HasCleanDisk (state S.Store store.new.conn) → (is : Bool) (now : Content) (es : List EventValue) (ds : List DeliveryValue) → Gathers es ds gatherer.old → HoldsAs S.Store is now store.old
+        → TakesEvent S.Store is now es ds payload.now store.old store.new gatherer.new result }
+{
+    let Some(delivery) = gather(alloc, gatherer, store.following(), payload)? else {
+        return Ok(false);
+    };
+    outcome(store.apply(&delivery))
+}

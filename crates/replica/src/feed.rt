@@ -1,0 +1,158 @@
+//! A session over a store.
+
+ghost use Rattle.std.specs.Prelude.{◌≡◌, ◌↔◌, ℕ, ◌+◌, ◌<◌, ◌≤◌, ◌++◌, [], List, length, Bool, true, false, IsErr, IsSome, IfSome, option_map, None};
+ghost use Rattle.sqlite.specs.State.{HasCleanDisk};
+ghost use Rattle.sqlite.specs.Held.{state};
+ghost use Rattle.sqlite_schema.specs.declared.schema.Schema.{Schema};
+ghost use Rattle.binlog.specs.Follow.{Names};
+ghost use Rattle.store.specs.State.{Content};
+ghost use Rattle.replica.specs.Conn.{Conn, BreaksStore, IsNoStreamFailure};
+ghost use Rattle.replica.specs.Sent.{SentFor};
+ghost use Rattle.replica.specs.Standing.{Stands, end_of, room_of, taken_of};
+ghost use Rattle.replica.specs.Over.{StandsOver};
+ghost use Rattle.replica.specs.Turn.{reason_of};
+
+use crate::config::Config;
+use crate::end::{Ended, Reason};
+use crate::phase::Phase;
+use crate::session::Session;
+use gather::Gatherer;
+use sqlite::Alter;
+use std::mem;
+use store::Store;
+use thiserror::Error;
+use wire::{Assembler, Step, WireFault};
+
+/// The session has ended, and reads no more.
+#[derive(Clone, Copy, Debug, PartialEq, Eq, Error)]
+#[error("the session has ended")]
+pub struct Stopped;
+
+/// What a fault of the packets is told as.
+fn reason_for(fault: WireFault) -> Reason
+    ensures { result ≡ reason_of fault }
+{
+    match fault {
+        WireFault::Memory => Reason::Memory,
+        other => Reason::Wire(other),
+    }
+}
+
+impl Session {
+    /// A session that has read nothing. It takes no memory.
+    pub fn new(config: Config) -> Session
+        // Over any store it stands at nothing read and nothing sent.
+        ensures stands { (names : Names) (broken : Bool) (content : Content) → Stands result names broken broken content content [] [] }
+        ensures config { result.config ≡ config }
+        ensures ended { result.ended ≡ None }
+    {
+        let alloc = config.alloc();
+        let limit = config.limit();
+        Session {
+            config,
+            assembler: Assembler::new(alloc, limit),
+            gatherer: Gatherer::new(alloc),
+            phase: Phase::Greeting,
+            out: Vec::new(alloc),
+            at: 0,
+            applied: 0,
+            ended: None,
+        }
+    }
+
+    /// Reads the next bytes of the connection. The call that meets its end answers Ok. After the end nothing is read, and
+    /// the answer is `Stopped`.
+    pub fn feed<S: Alter>(&mut self, store: &mut Store<S>, bytes: &[u8]) -> Result<(), Stopped>
+        // A session and a store that stand at b and o stand at b and these bytes, and at o.
+        ensures stands { HasCleanDisk (state S.Store store.new.conn) → (schema : Schema) (was : Bool) (old : Content) (b o : List ℕ)
+            → StandsOver S.Store self.old store.old schema was old b o → StandsOver S.Store self.new store.new schema was old (b ++ bytes.now) o }
+        // A store that a failure has broken stays as it is.
+        ensures broken { store.old.broken ≡ true → store.new ≡ store.old }
+        ensures clean { HasCleanDisk (state S.Store store.new.conn) → HasCleanDisk (state S.Store store.old.conn) }
+        ensures config { self.new.config ≡ self.old.config }
+        ensures neither { IsNoStreamFailure (end_of self.old).reason → IsNoStreamFailure (end_of self.new).reason }
+        ensures stopped { IsErr result ↔ IsSome self.old.ended }
+        ensures after { IsSome self.old.ended → (self.new ≡ self.old) × (store.new ≡ store.old) }
+        // While it goes on it takes in all bytes, and there is room for so many fewer.
+        ensures room { self.new.ended ≡ None → room_of self.new + length bytes.now ≤ room_of self.old }
+    {
+        if self.ended.is_some() {
+            return Err(Stopped);
+        }
+        let mut rest = bytes;
+        while let Some(used) = self.advance(store, rest) {
+            rest = &rest[used..];
+        }
+        Ok(())
+    }
+
+    /// Reads up to the end of the next payload and takes it, and tells how many bytes these are; or reads all bytes.
+    fn advance<S: Alter>(&mut self, store: &mut Store<S>, bytes: &[u8]) -> Option<usize>
+        ensures stands { HasCleanDisk (state S.Store store.new.conn) → (schema : Schema) (was : Bool) (old : Content) (b o : List ℕ)
+            → StandsOver S.Store self.old store.old schema was old b o → StandsOver S.Store self.new store.new schema was old (b ++ taken_of result bytes.now) o }
+        ensures used { IfSome result (λ used. (0 < used) × (used ≤ length bytes.now)) }
+        ensures broken { store.old.broken ≡ true → store.new ≡ store.old }
+        ensures clean { HasCleanDisk (state S.Store store.new.conn) → HasCleanDisk (state S.Store store.old.conn) }
+        ensures config { self.new.config ≡ self.old.config }
+        ensures neither { IsNoStreamFailure (end_of self.old).reason → IsNoStreamFailure (end_of self.new).reason }
+        ensures room { self.new.ended ≡ None → (self.old.ended ≡ None) × (room_of self.new + length (taken_of result bytes.now) ≤ room_of self.old) }
+    {
+        if self.ended.is_some() {
+            return None;
+        }
+        let step = match self.assembler.step(bytes) {
+            Ok(step) => step,
+            Err(fault) => {
+                self.end(reason_for(fault));
+                return None;
+            }
+        };
+        let Step { used, payload } = step;
+        let payload = payload?;
+        self.take(store, &payload);
+        Some(used)
+    }
+
+    /// Hands over the bytes that are to be sent since the last call. It takes no memory.
+    pub fn take_out(&mut self) -> Vec<u8>
+        ensures stands { (names : Names) (was is : Bool) (old now : Content) (b o : List ℕ) → Stands self.old names was is old now b o → Stands self.new names was is old now b (o ++ result.items) }
+        // With them all is sent that is owed for the payloads taken.
+        ensures sent { (names : Names) (was is : Bool) (old now : Content) (b o : List ℕ) → Stands self.old names was is old now b o → SentFor self.old.config names old.executed b (end_of self.old).at (o ++ result.items) }
+        ensures config { self.new.config ≡ self.old.config }
+        ensures end { end_of self.new ≡ end_of self.old }
+        ensures ended { self.new.ended ≡ self.old.ended }
+        ensures room { room_of self.new ≡ room_of self.old }
+    {
+        let alloc = self.config.alloc();
+        mem::replace(&mut self.out, Vec::new(alloc))
+    }
+
+    /// How the connection ended, or None while it goes on. It takes no memory.
+    pub fn ended(&self) -> Option<&Ended>
+        ensures { option_map (λ e. e.now) result ≡ self.now.ended }
+    {
+        self.ended.as_ref()
+    }
+
+    /// How the connection ends, where no more comes. It takes no memory.
+    pub fn finish(self) -> Ended
+        ensures end { result ≡ end_of self }
+        ensures conn { (names : Names) (was is : Bool) (old now : Content) (b o : List ℕ) → Stands self names was is old now b o → Conn self.config.limit names was old b now result }
+        ensures store { (names : Names) (was is : Bool) (old now : Content) (b o : List ℕ) → Stands self names was is old now b o → BreaksStore result.reason was is }
+    {
+        let Session {
+            at,
+            applied,
+            ended,
+            ..
+        } = self;
+        match ended {
+            Some(ended) => ended,
+            None => Ended {
+                reason: Reason::EndOfInput,
+                at,
+                applied,
+            },
+        }
+    }
+}

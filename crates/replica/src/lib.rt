@@ -1,0 +1,20 @@
+//! A replica: what it says to a source and makes of the source's answers.
+#![tactic(auto)]
+
+mod config;
+mod end;
+mod event;
+mod feed;
+pub mod laws;
+mod login;
+mod message;
+mod phase;
+mod replay;
+mod session;
+mod turn;
+
+pub use config::{Config, ConfigFault};
+pub use end::{Ended, Reason, Refusal};
+pub use feed::Stopped;
+pub use replay::{NoMemory, run};
+pub use session::Session;

@@ -1,0 +1,132 @@
+//! What a replica sends.
+
+ghost use Rattle.std.specs.Prelude.{◌≡◌, ◌≢◌, ◌++◌, ◌⊎◌, IfOk, OnOk, OnErr, IfErr, Err, Ok};
+ghost use Rattle.byteorder.specs.Endian.{little_bytes};
+ghost use Rattle.greet.specs.Message.{response, dump_bytes};
+ghost use Rattle.replica.specs.Conn.{IsDumpTooLong};
+ghost use Rattle.replica.specs.Sent.{auth_bytes, checksum_query, flags_of};
+ghost use Rattle.replica.specs.Turn.{Sends, AsksFor};
+ghost use Rattle.wire.specs.declared.fault.WireFault.TheVariants as wire;
+ghost use Rattle.replica.specs.declared.end.Reason.TheVariants.{Memory, Wire};
+
+use crate::config::Config;
+use crate::end::Reason;
+use greet::{Dump, Response, native, query};
+use gtid::GtidSet;
+use std::alloc::{AllocError, Global};
+use wire::{LARGEST_PAYLOAD, WireFault, write_payload};
+
+/// The query by which a source sends its events without checksums.
+const CHECKSUM_QUERY: &[u8] = b"SET @master_binlog_checksum='NONE'";
+
+/// BINLOG_THROUGH_GTID: a set of GTIDs is given.
+const THROUGH_GTID: u16 = 0x0004;
+
+/// BINLOG_DUMP_NON_BLOCK: the log's end is told by an EOF.
+const NON_BLOCK: u16 = 0x0001;
+
+/// How much of a dump command stands before its set, in bytes.
+const DUMP_LEAD: usize = 23;
+
+/// The answer to a scramble: none for the empty password.
+fn auth(alloc: Global, password: &[u8], scramble: &[u8; 20]) -> Result<Vec<u8>, AllocError>
+    ensures { IfOk result (λ bytes. bytes.items ≡ auth_bytes password.now scramble.now) }
+{
+    if password.is_empty() {
+        return Ok(Vec::new(alloc));
+    }
+    native(password, scramble).to_vec(alloc)
+}
+
+/// Appends the packing of a payload. The only refusal is `Memory`.
+fn send(sequence: u8, payload: &[u8], out: &mut Vec<u8>) -> Result<(), Reason>
+    ensures ok { OnOk result (Sends sequence payload.now out.old.items out.new.items) }
+    ensures err { OnErr result (result ≡ Err Memory) }
+{
+    match write_payload(sequence, payload, out) {
+        Ok(_) => Ok(()),
+        Err(_) => Err(Reason::Memory),
+    }
+}
+
+/// Appends the response to a greeting with this scramble.
+pub(crate) fn log_in(config: &Config, scramble: &[u8; 20], out: &mut Vec<u8>) -> Result<(), Reason>
+    ensures ok { OnOk result (Sends 1 (response (record { user = config.now.user; auth = auth_bytes config.now.password scramble.now })) out.old.items out.new.items) }
+    ensures err { OnErr result (result ≡ Err Memory) }
+{
+    let Ok(auth) = auth(config.alloc(), &config.password, scramble) else {
+        return Err(Reason::Memory);
+    };
+    let Ok(user) = config.user.clone() else {
+        return Err(Reason::Memory);
+    };
+    let response = Response { user, auth };
+    let mut payload = Vec::new(config.alloc());
+    if response.write(&mut payload).is_err() {
+        return Err(Reason::Memory);
+    }
+    send(1, &payload, out)
+}
+
+/// Appends the answer to the scramble of a switch.
+pub(crate) fn log_in_again(
+    config: &Config,
+    scramble: &[u8; 20],
+    out: &mut Vec<u8>,
+) -> Result<(), Reason>
+    ensures ok { OnOk result (Sends 3 (auth_bytes config.now.password scramble.now) out.old.items out.new.items) }
+    ensures err { OnErr result (result ≡ Err Memory) }
+{
+    let Ok(auth) = auth(config.alloc(), &config.password, scramble) else {
+        return Err(Reason::Memory);
+    };
+    send(3, &auth, out)
+}
+
+/// Appends the query that turns checksums off.
+pub(crate) fn turn_checksums_off(alloc: Global, out: &mut Vec<u8>) -> Result<(), Reason>
+    ensures ok { OnOk result (Sends 0 checksum_query out.old.items out.new.items) }
+    ensures err { OnErr result (result ≡ Err Memory) }
+{
+    let mut payload = Vec::new(alloc);
+    if query(CHECKSUM_QUERY, &mut payload).is_err() {
+        return Err(Reason::Memory);
+    }
+    send(0, &payload, out)
+}
+
+/// The flags of the dump command.
+fn flags(once: bool) -> u16
+    ensures { result ≡ flags_of once }
+{
+    if once {
+        THROUGH_GTID | NON_BLOCK
+    } else {
+        THROUGH_GTID
+    }
+}
+
+/// Appends the dump command with the executed set. `TooLarge` where it would be longer than a payload may be.
+pub(crate) fn ask(config: &Config, executed: &GtidSet, out: &mut Vec<u8>) -> Result<(), Reason>
+    ensures ok { OnOk result (AsksFor config.now executed.now out.old.items out.new.items) }
+    ensures short { OnOk result (IsDumpTooLong executed.now → ⊥) }
+    ensures err { IfErr result (λ reason. (reason ≡ Memory) ⊎ ((reason ≡ Wire wire.TooLarge) × IsDumpTooLong executed.now)) }
+{
+    let mut set = Vec::new(config.alloc());
+    if executed.encode(&mut set).is_err() {
+        return Err(Reason::Memory);
+    }
+    if set.len() > LARGEST_PAYLOAD - DUMP_LEAD {
+        return Err(Reason::Wire(WireFault::TooLarge));
+    }
+    let dump = Dump {
+        flags: flags(config.once),
+        server_id: config.server_id,
+        set: &set,
+    };
+    let mut payload = Vec::new(config.alloc());
+    if dump.write(&mut payload).is_err() {
+        return Err(Reason::Memory);
+    }
+    send(0, &payload, out)
+}

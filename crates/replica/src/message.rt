@@ -1,0 +1,123 @@
+//! The messages of a source before the dump.
+
+ghost use Rattle.std.specs.Prelude.{◌≡◌, [], OnOk, IfOk, IfErr, Option};
+ghost use Rattle.binlog.specs.Follow.{Names};
+ghost use Rattle.greet.specs.View.{Refuses};
+ghost use Rattle.greet.specs.Refusal.{Refusal};
+ghost use Rattle.gtid.specs.Identifier.{Ids};
+ghost use Rattle.replica.specs.Stream.{next_due, next_id, Hello, Reply, SecondReply, QueryReply, IsInDump};
+ghost use Rattle.replica.specs.Standing.{due_of};
+ghost use Rattle.replica.specs.Turn.{IsAnswered, EndsAt, IsToldOf};
+
+use crate::config::Config;
+use crate::end::Reason;
+use crate::login::{ask, log_in, log_in_again, turn_checksums_off};
+use crate::phase::Phase;
+use greet::{AuthReply, GreetFault, Greeting, read_ok};
+use gtid::GtidSet;
+
+/// What a fault of a message is told as.
+pub(crate) fn told(fault: GreetFault) -> Reason
+    ensures { (refusal : Option Refusal) → Refuses refusal fault → IsToldOf refusal result }
+{
+    match fault {
+        GreetFault::ServerError {
+            code,
+            state,
+            message,
+        } => Reason::SourceError {
+            code,
+            state,
+            message,
+        },
+        GreetFault::Memory => Reason::Memory,
+        other => Reason::Greet(other),
+    }
+}
+
+/// Takes the greeting.
+fn take_greeting(config: &Config, payload: &[u8], out: &mut Vec<u8>) -> Result<(), Reason>
+    ensures ok { (names : Names) (executed : Ids) → OnOk result (IsAnswered config.now names executed Hello payload.now out.old.items out.new.items) }
+    ensures err { (names : Names) (executed : Ids) → IfErr result (EndsAt names executed Hello payload.now) }
+{
+    match Greeting::read(config.alloc(), payload) {
+        Ok(greeting) => log_in(config, &greeting.scramble, out),
+        Err(fault) => Err(told(fault)),
+    }
+}
+
+/// Takes the reply to the login, and tells what is due behind it.
+fn take_reply(config: &Config, payload: &[u8], out: &mut Vec<u8>) -> Result<Phase, Reason>
+    ensures ok { (names : Names) (executed : Ids) → OnOk result (IsAnswered config.now names executed Reply payload.now out.old.items out.new.items) }
+    ensures due { IfOk result (λ phase. due_of phase ≡ next_due Reply payload.now) }
+    ensures err { (names : Names) (executed : Ids) → IfErr result (EndsAt names executed Reply payload.now) }
+{
+    match AuthReply::read(config.alloc(), payload) {
+        Ok(AuthReply::Ok) => {
+            turn_checksums_off(config.alloc(), out)?;
+            Ok(Phase::QueryReply)
+        }
+        Ok(AuthReply::Switch { scramble }) => {
+            log_in_again(config, &scramble, out)?;
+            Ok(Phase::SecondReply)
+        }
+        Err(fault) => Err(told(fault)),
+    }
+}
+
+/// Takes the reply to the login after a switch.
+fn take_second_reply(config: &Config, payload: &[u8], out: &mut Vec<u8>) -> Result<(), Reason>
+    ensures ok { (names : Names) (executed : Ids) → OnOk result (IsAnswered config.now names executed SecondReply payload.now out.old.items out.new.items) }
+    ensures err { (names : Names) (executed : Ids) → IfErr result (EndsAt names executed SecondReply payload.now) }
+{
+    match read_ok(config.alloc(), payload) {
+        Ok(()) => turn_checksums_off(config.alloc(), out),
+        Err(fault) => Err(told(fault)),
+    }
+}
+
+/// Takes the reply to the query.
+fn take_query_reply(
+    config: &Config,
+    executed: &GtidSet,
+    payload: &[u8],
+    out: &mut Vec<u8>,
+) -> Result<(), Reason>
+    ensures ok { (names : Names) → OnOk result (IsAnswered config.now names executed.now QueryReply payload.now out.old.items out.new.items) }
+    ensures err { (names : Names) → IfErr result (EndsAt names executed.now QueryReply payload.now) }
+{
+    match read_ok(config.alloc(), payload) {
+        Ok(()) => ask(config, executed, out),
+        Err(fault) => Err(told(fault)),
+    }
+}
+
+/// Takes a message before the dump, and tells what is due behind it.
+pub(crate) fn answer(
+    phase: Phase,
+    config: &Config,
+    executed: &GtidSet,
+    payload: &[u8],
+    out: &mut Vec<u8>,
+) -> Result<Phase, Reason>
+    requires { IsInDump (due_of phase) → ⊥ }
+    ensures ok { (names : Names) → OnOk result (IsAnswered config.now names executed.now (due_of phase) payload.now out.old.items out.new.items) }
+    ensures due { IfOk result (λ next. due_of next ≡ next_due (due_of phase) payload.now) }
+    ensures err { (names : Names) → IfErr result (EndsAt names executed.now (due_of phase) payload.now) }
+{
+    match phase {
+        Phase::Greeting => {
+            take_greeting(config, payload, out)?;
+            Ok(Phase::Reply)
+        }
+        Phase::Reply => take_reply(config, payload, out),
+        Phase::SecondReply => {
+            take_second_reply(config, payload, out)?;
+            Ok(Phase::QueryReply)
+        }
+        Phase::QueryReply | Phase::Dump => {
+            take_query_reply(config, executed, payload, out)?;
+            Ok(Phase::Dump)
+        }
+    }
+}

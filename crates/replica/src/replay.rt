@@ -1,0 +1,80 @@
+//! Connections in order.
+
+ghost use Rattle.std.specs.Prelude.{◌≡◌, Bool, true, List, IsErr, IfOk, All};
+ghost use Rattle.sqlite.specs.State.{HasCleanDisk};
+ghost use Rattle.sqlite.specs.Held.{state};
+ghost use Rattle.store.specs.State.{Content};
+ghost use Rattle.store.specs.Store.{HoldsAs};
+ghost use Rattle.replica.specs.Conn.{IsNoStreamFailure};
+ghost use Rattle.replica.specs.Pieces.{stream_of, streams_of};
+ghost use Rattle.replica.specs.Over.{HasRead, HasTaken};
+
+use crate::config::Config;
+use crate::end::{Ended, Reason};
+use crate::session::Session;
+use sqlite::Alter;
+use std::alloc::Global;
+use store::Store;
+use thiserror::Error;
+
+/// There was no room for the answers, and nothing was done.
+#[derive(Clone, Copy, Debug, PartialEq, Eq, Error)]
+#[error("out of memory")]
+pub struct NoMemory;
+
+/// Reads one connection to its end.
+fn read_pieces<S: Alter>(config: Config, store: &mut Store<S>, pieces: &[Vec<u8>]) -> Ended
+    ensures read { HasCleanDisk (state S.Store store.new.conn) → (was : Bool) (old : Content) → HoldsAs S.Store was old store.old → HasRead S.Store config.limit store.old store.new was old (stream_of pieces.now) result }
+    ensures broken { store.old.broken ≡ true → store.new ≡ store.old }
+    ensures neither { IsNoStreamFailure result.reason }
+    ensures clean { HasCleanDisk (state S.Store store.new.conn) → HasCleanDisk (state S.Store store.old.conn) }
+{
+    let mut session = Session::new(config);
+    for piece in pieces {
+        let _ = session.feed(store, piece.as_slice());
+    }
+    session.finish()
+}
+
+/// The same with settings that are kept, of which a copy is made.
+fn read_connection<S: Alter>(config: &Config, store: &mut Store<S>, pieces: &[Vec<u8>]) -> Ended
+    ensures read { HasCleanDisk (state S.Store store.new.conn) → (was : Bool) (old : Content) → HoldsAs S.Store was old store.old → HasRead S.Store config.now.limit store.old store.new was old (stream_of pieces.now) result }
+    ensures broken { store.old.broken ≡ true → store.new ≡ store.old }
+    ensures neither { IsNoStreamFailure result.reason }
+    ensures clean { HasCleanDisk (state S.Store store.new.conn) → HasCleanDisk (state S.Store store.old.conn) }
+{
+    match config.copy() {
+        Ok(config) => read_pieces(config, store, pieces),
+        Err(_) => Ended {
+            reason: Reason::Memory,
+            at: 0,
+            applied: 0,
+        },
+    }
+}
+
+/// Reads connections in order, each a list of pieces of its bytes, and answers how each ended. The room for the answers
+/// is taken first, so that after `NoMemory` nothing was done.
+pub fn run<S: Alter>(
+    alloc: Global,
+    config: &Config,
+    store: &mut Store<S>,
+    connections: &[Vec<Vec<u8>>],
+) -> Result<Vec<Ended>, NoMemory>
+    // What the store holds afterwards, and the ends, are those of taking each connection in order, however it was cut into
+    // pieces; and a crash leaves that, or one transaction more where the database failed.
+    ensures history { IfOk result (λ ends. HasCleanDisk (state S.Store store.new.conn) → (was : Bool) (old : Content) → HoldsAs S.Store was old store.old
+        → HasTaken S.Store config.now.limit store.new (state S.Store store.old.conn).now.schema was old (streams_of connections.now) ends.items) }
+    ensures neither { IfOk result (λ ends. All (λ end. IsNoStreamFailure end.reason) ends.items) }
+    ensures untouched { IsErr result → store.new ≡ store.old }
+    ensures clean { HasCleanDisk (state S.Store store.new.conn) → HasCleanDisk (state S.Store store.old.conn) }
+{
+    let Ok(mut ends) = Vec::with_capacity(alloc, connections.len()) else {
+        return Err(NoMemory);
+    };
+    for pieces in connections {
+        let end = read_connection(config, store, pieces.as_slice());
+        ends.push_reserved(end);
+    }
+    Ok(ends)
+}

@@ -1,0 +1,123 @@
+//! A payload taken by a session.
+
+ghost use Rattle.std.specs.Prelude.{◌≡◌, ◌≤◌, ◌<◌, ◌+◌, ◌^◌, Bool, List, ℕ, Some, None, true, false, length, ◌≢◌, []};
+ghost use Rattle.sqlite.specs.State.{HasCleanDisk};
+ghost use Rattle.sqlite.specs.Held.{state};
+ghost use Rattle.sqlite_schema.specs.declared.schema.Schema.{Schema};
+ghost use Rattle.binlog.specs.Follow.{Names};
+ghost use Rattle.gtid.specs.Identifier.{Ids};
+ghost use Rattle.wire.specs.Packet.{packing_length};
+ghost use Rattle.store.specs.State.{Content};
+ghost use Rattle.replica.specs.Standing.{Stands, Meets, first_id_of, room_of, end_of};
+ghost use Rattle.replica.specs.Conn.{IsNoStreamFailure};
+ghost use Rattle.replica.specs.Over.{StandsOver, MeetsOver};
+ghost use Rattle.replica.specs.declared.phase.Phase.TheVariants.{Dump};
+
+use crate::end::{Ended, Reason};
+use crate::event::take_event;
+use crate::message::answer;
+use crate::phase::Phase;
+use crate::session::Session;
+use gtid::GtidSet;
+use sqlite::Alter;
+use store::Store;
+use wire::{WireFault, packing_length};
+
+/// The sequence id of the first packet that is due, where no payload of the dump has come.
+fn first_id(phase: Phase) -> u8
+    ensures { result ≡ first_id_of phase }
+{
+    match phase {
+        Phase::Greeting => 0,
+        Phase::Reply => 2,
+        Phase::SecondReply => 4,
+        Phase::QueryReply | Phase::Dump => 1,
+    }
+}
+
+impl Session {
+    /// Ends the connection behind the payloads taken.
+    pub(crate) fn end(&mut self, reason: Reason)
+        ensures { self.new ≡ record self.old { ended = Some (record { reason = reason; at = self.old.at; applied = self.old.applied }) } }
+    {
+        self.ended = Some(Ended {
+            reason,
+            at: self.at,
+            applied: self.applied,
+        });
+    }
+
+    /// Takes a message before the dump that ends at this place.
+    fn take_message(&mut self, executed: &GtidSet, payload: &[u8], end: u64)
+        requires going { self.old.ended ≡ None }
+        requires before_dump { self.old.phase ≢ Dump }
+        requires between { (self.old.assembler.held ≡ []) × (self.old.assembler.ended ≡ false) }
+        requires behind { self.old.at < end }
+        ensures takes { (names : Names) (was is : Bool) (old now : Content) (b o : List ℕ) → executed.now ≡ now.executed → end ≡ self.old.at + packing_length (length payload.now)
+            → Meets self.old names was is old now b o payload.now → Stands self.new names was is old now b o }
+    {
+        match answer(
+            self.phase,
+            &self.config,
+            executed,
+            payload,
+            &mut self.out,
+        ) {
+            Ok(phase) => {
+                self.phase = phase;
+                self.assembler.expect(first_id(phase));
+                self.at = end;
+            }
+            Err(reason) => self.end(reason),
+        }
+    }
+
+    /// Takes a payload of the dump that ends at this place.
+    fn take_dump<S: Alter>(&mut self, store: &mut Store<S>, payload: &[u8], end: u64)
+        requires going { self.old.ended ≡ None }
+        requires in_dump { self.old.phase ≡ Dump }
+        requires behind { self.old.at < end }
+        ensures clean { HasCleanDisk (state S.Store store.new.conn) → HasCleanDisk (state S.Store store.old.conn) }
+        ensures broken { store.old.broken ≡ true → store.new ≡ store.old }
+        ensures config { self.new.config ≡ self.old.config }
+        ensures neither { IsNoStreamFailure (end_of self.new).reason }
+        ensures takes { HasCleanDisk (state S.Store store.new.conn) → (schema : Schema) (was : Bool) (old : Content) (b o : List ℕ) → end ≡ self.old.at + packing_length (length payload.now)
+            → MeetsOver S.Store self.old store.old schema was old b o payload.now → StandsOver S.Store self.new store.new schema was old b o }
+    {
+        match take_event(self.config.alloc(), &mut self.gatherer, store, payload) {
+            Ok(applied) => {
+                self.at = end;
+                if applied {
+                    self.applied += 1;
+                }
+            }
+            Err(Reason::SourceEof) => {
+                self.at = end;
+                self.end(Reason::SourceEof);
+            }
+            Err(reason) => self.end(reason),
+        }
+    }
+
+    /// Takes a payload that has come.
+    pub(crate) fn take<S: Alter>(&mut self, store: &mut Store<S>, payload: &[u8])
+        requires going { self.old.ended ≡ None }
+        requires between { (self.old.assembler.held ≡ []) × (self.old.assembler.ended ≡ false) }
+        ensures clean { HasCleanDisk (state S.Store store.new.conn) → HasCleanDisk (state S.Store store.old.conn) }
+        ensures broken { store.old.broken ≡ true → store.new ≡ store.old }
+        ensures config { self.new.config ≡ self.old.config }
+        ensures neither { IsNoStreamFailure (end_of self.new).reason }
+        ensures room { self.new.ended ≡ None → room_of self.new + packing_length (length payload.now) ≤ room_of self.old }
+        ensures takes { HasCleanDisk (state S.Store store.new.conn) → (schema : Schema) (was : Bool) (old : Content) (b o : List ℕ)
+            → MeetsOver S.Store self.old store.old schema was old b o payload.now → StandsOver S.Store self.new store.new schema was old b o }
+    {
+        let Some(end) = self.at.checked_add(packing_length(payload.len()) as u64) else {
+            self.end(Reason::Wire(WireFault::TooLarge));
+            return;
+        };
+        match self.phase {
+            Phase::Dump => self.take_dump(store, payload, end),
+            _ => self.take_message(store.executed(), payload, end),
+        }
+    }
+}
