@@ -51,7 +51,7 @@ module _ {S : Type 0} (g : Ghosts S) (is : Bool) (now : Content) (es : List Even
   EndsSo (Refused refusal) = (d : DeliveryValue) × EndsOne d × IsRefusedBy old.following now d refusal × Rests is
   EndsSo (Database cause) = (d : DeliveryValue) × EndsOne d × Fails d
   EndsSo Memory = (broken : Bool) × (is ≡ true → broken ≡ true) × Rests broken
-      × (is ≡ false → (trees : Trees) → (state g new.conn).may_leave trees → AreOf (state g old.conn).now.schema old.following now trees)
+      × (is ≡ false → broken ≡ true → (trees : Trees) → (state g new.conn).may_leave trees → AreOf (state g old.conn).now.schema old.following now trees)
   EndsSo reason = EndsDump old.following es p reason × Rests is
 
   abbrev pub TakesEvent : Gatherer → Result Bool Reason → Type 0

@@ -16,6 +16,8 @@ use Rattle.replica.specs.declared.end.Reason.TheVariants.{EndOfInput, SourceEof,
 use Rattle.gather.specs.Transaction.{DeliveryValue}
 use Rattle.gather.specs.Standing.{Stands as Gathers}
 use Rattle.gather.specs.declared.gatherer.Gatherer.{Gatherer}
+use Rattle.gather.specs.declared.fault.GatherFault.{GatherFault}
+use Rattle.gather.specs.declared.fault.GatherFault.TheVariants as gather
 use Rattle.store.specs.declared.fault.Applied.{Applied}
 use Rattle.store.specs.declared.fault.Applied.TheVariants as applied
 use Rattle.store.specs.declared.fault.StoreFault.{StoreFault}
@@ -110,3 +112,8 @@ outcome_of (Err cause) = Err (Database cause)
 abbrev pub reason_of : WireFault → Reason
 reason_of wire.Memory = Memory
 reason_of fault = Wire fault
+
+-- what a fault of the events is told as
+abbrev pub reason_of_events : GatherFault → Reason
+reason_of_events gather.Memory = Memory
+reason_of_events f = Gather f

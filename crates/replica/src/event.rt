@@ -12,7 +12,7 @@ ghost use Rattle.gather.specs.View.{delivery_value, delivered};
 ghost use Rattle.store.specs.State.{Content};
 ghost use Rattle.store.specs.Store.{Holds, HasFailed, HoldsAs};
 ghost use Rattle.replica.specs.Stream.{Carries, InDump};
-ghost use Rattle.replica.specs.Turn.{EndsDump, GathersMore, outcome_of};
+ghost use Rattle.replica.specs.Turn.{EndsDump, GathersMore, outcome_of, reason_of_events};
 ghost use Rattle.replica.specs.Message.{begins_event};
 ghost use Rattle.replica.specs.Event.{TakesEvent};
 
@@ -36,6 +36,16 @@ fn no_event(alloc: Global, payload: &[u8]) -> Reason
     }
 }
 
+/// What a fault of the events is told as.
+fn reason_for(fault: GatherFault) -> Reason
+    ensures { result ≡ reason_of_events fault }
+{
+    match fault {
+        GatherFault::Memory => Reason::Memory,
+        other => Reason::Gather(other),
+    }
+}
+
 /// Reads the event of a payload and gathers it, and answers the transaction that it ends.
 fn gather(
     alloc: Global,
@@ -55,8 +65,7 @@ fn gather(
     };
     match gatherer.event(&event) {
         Ok(delivery) => Ok(delivery),
-        Err(GatherFault::Memory) => Err(Reason::Memory),
-        Err(fault) => Err(Reason::Gather(fault)),
+        Err(fault) => Err(reason_for(fault)),
     }
 }
 
@@ -88,8 +97,9 @@ pub(crate) fn take_event<S: Alter>(
     ensures turn { HasCleanDisk (state S.Store store.new.conn) → (is : Bool) (now : Content) (es : List EventValue) (ds : List DeliveryValue) → Gathers es ds gatherer.old → HoldsAs S.Store is now store.old
         → TakesEvent S.Store is now es ds payload.now store.old store.new gatherer.new result }
 {
-    let Some(delivery) = gather(alloc, gatherer, store.following(), payload)? else {
-        return Ok(false);
-    };
-    outcome(store.apply(&delivery))
+    match gather(alloc, gatherer, store.following(), payload) {
+        Ok(Some(delivery)) => outcome(store.apply(&delivery)),
+        Ok(None) => Ok(false),
+        Err(reason) => Err(reason),
+    }
 }

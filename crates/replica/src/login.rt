@@ -1,8 +1,9 @@
 //! What a replica sends.
 
-ghost use Rattle.std.specs.Prelude.{◌≡◌, ◌≢◌, ◌++◌, ◌⊎◌, IfOk, OnOk, OnErr, IfErr, Err, Ok};
+ghost use Rattle.std.specs.Prelude.{◌≡◌, ◌≢◌, ◌++◌, ◌⊎◌, ◌+◌, ◌≤◌, length, [], IfOk, OnOk, OnErr, IfErr, Err, Ok};
 ghost use Rattle.byteorder.specs.Endian.{little_bytes};
 ghost use Rattle.greet.specs.Message.{response, dump_bytes};
+ghost use Rattle.gtid.specs.Encoding.{IsEncoding};
 ghost use Rattle.replica.specs.Conn.{IsDumpTooLong};
 ghost use Rattle.replica.specs.Sent.{auth_bytes, checksum_query, flags_of};
 ghost use Rattle.replica.specs.Turn.{Sends, AsksFor};
@@ -30,7 +31,8 @@ const DUMP_LEAD: usize = 23;
 
 /// The answer to a scramble: none for the empty password.
 fn auth(alloc: Global, password: &[u8], scramble: &[u8; 20]) -> Result<Vec<u8>, AllocError>
-    ensures { IfOk result (λ bytes. bytes.items ≡ auth_bytes password.now scramble.now) }
+    ensures bytes { IfOk result (λ bytes. bytes.items ≡ auth_bytes password.now scramble.now) }
+    ensures short { IfOk result (λ bytes. length bytes.items ≤ 20) }
 {
     if password.is_empty() {
         return Ok(Vec::new(alloc));
@@ -49,10 +51,10 @@ fn send(sequence: u8, payload: &[u8], out: &mut Vec<u8>) -> Result<(), Reason>
     }
 }
 
-/// Appends the response to a greeting with this scramble.
-pub(crate) fn log_in(config: &Config, scramble: &[u8; 20], out: &mut Vec<u8>) -> Result<(), Reason>
-    ensures ok { OnOk result (Sends 1 (response (record { user = config.now.user; auth = auth_bytes config.now.password scramble.now })) out.old.items out.new.items) }
-    ensures err { OnErr result (result ≡ Err Memory) }
+/// The response to a greeting with this scramble.
+fn response_to(config: &Config, scramble: &[u8; 20]) -> Result<Vec<u8>, Reason>
+    ensures ok { IfOk result (λ payload. payload.items ≡ response (record { user = config.now.user; auth = auth_bytes config.now.password scramble.now })) }
+    ensures err { IfErr result (λ reason. reason ≡ Memory) }
 {
     let Ok(auth) = auth(config.alloc(), &config.password, scramble) else {
         return Err(Reason::Memory);
@@ -62,10 +64,21 @@ pub(crate) fn log_in(config: &Config, scramble: &[u8; 20], out: &mut Vec<u8>) ->
     };
     let response = Response { user, auth };
     let mut payload = Vec::new(config.alloc());
-    if response.write(&mut payload).is_err() {
-        return Err(Reason::Memory);
+    match response.write(&mut payload) {
+        Ok(()) => Ok(payload),
+        Err(_) => Err(Reason::Memory),
     }
-    send(1, &payload, out)
+}
+
+/// Appends the response to a greeting with this scramble.
+pub(crate) fn log_in(config: &Config, scramble: &[u8; 20], out: &mut Vec<u8>) -> Result<(), Reason>
+    ensures ok { OnOk result (Sends 1 (response (record { user = config.now.user; auth = auth_bytes config.now.password scramble.now })) out.old.items out.new.items) }
+    ensures err { OnErr result (result ≡ Err Memory) }
+{
+    match response_to(config, scramble) {
+        Ok(payload) => send(1, &payload, out),
+        Err(reason) => Err(reason),
+    }
 }
 
 /// Appends the answer to the scramble of a switch.
@@ -89,10 +102,10 @@ pub(crate) fn turn_checksums_off(alloc: Global, out: &mut Vec<u8>) -> Result<(),
     ensures err { OnErr result (result ≡ Err Memory) }
 {
     let mut payload = Vec::new(alloc);
-    if query(CHECKSUM_QUERY, &mut payload).is_err() {
-        return Err(Reason::Memory);
+    match query(CHECKSUM_QUERY, &mut payload) {
+        Ok(()) => send(0, &payload, out),
+        Err(_) => Err(Reason::Memory),
     }
-    send(0, &payload, out)
 }
 
 /// The flags of the dump command.
@@ -106,27 +119,44 @@ fn flags(once: bool) -> u16
     }
 }
 
+/// The executed set as the dump command has it. `TooLarge` where the command would be longer than a payload may be.
+fn encoded(alloc: Global, executed: &GtidSet) -> Result<Vec<u8>, Reason>
+    ensures ok { IfOk result (λ set. IsEncoding executed.now set.items × (23 + length set.items ≤ LARGEST_PAYLOAD)) }
+    ensures err { IfErr result (λ reason. (reason ≡ Memory) ⊎ ((reason ≡ Wire wire.TooLarge) × IsDumpTooLong executed.now)) }
+{
+    let mut set = Vec::new(alloc);
+    match executed.encode(&mut set) {
+        Ok(()) if set.len() <= LARGEST_PAYLOAD - DUMP_LEAD => Ok(set),
+        Ok(()) => Err(Reason::Wire(WireFault::TooLarge)),
+        Err(_) => Err(Reason::Memory),
+    }
+}
+
+/// The dump command with this set.
+fn dump_with(config: &Config, set: &[u8]) -> Result<Vec<u8>, Reason>
+    requires { 23 + length set.now ≤ LARGEST_PAYLOAD }
+    ensures ok { IfOk result (λ payload. payload.items ≡ dump_bytes (record { flags = flags_of config.now.once; server_id = config.now.server_id; set = set.now }) [] (little_bytes 8 4)) }
+    ensures err { IfErr result (λ reason. reason ≡ Memory) }
+{
+    let dump = Dump {
+        flags: flags(config.once),
+        server_id: config.server_id,
+        set,
+    };
+    let mut payload = Vec::new(config.alloc());
+    match dump.write(&mut payload) {
+        Ok(()) => Ok(payload),
+        Err(_) => Err(Reason::Memory),
+    }
+}
+
 /// Appends the dump command with the executed set. `TooLarge` where it would be longer than a payload may be.
 pub(crate) fn ask(config: &Config, executed: &GtidSet, out: &mut Vec<u8>) -> Result<(), Reason>
     ensures ok { OnOk result (AsksFor config.now executed.now out.old.items out.new.items) }
     ensures short { OnOk result (IsDumpTooLong executed.now → ⊥) }
     ensures err { IfErr result (λ reason. (reason ≡ Memory) ⊎ ((reason ≡ Wire wire.TooLarge) × IsDumpTooLong executed.now)) }
 {
-    let mut set = Vec::new(config.alloc());
-    if executed.encode(&mut set).is_err() {
-        return Err(Reason::Memory);
-    }
-    if set.len() > LARGEST_PAYLOAD - DUMP_LEAD {
-        return Err(Reason::Wire(WireFault::TooLarge));
-    }
-    let dump = Dump {
-        flags: flags(config.once),
-        server_id: config.server_id,
-        set: &set,
-    };
-    let mut payload = Vec::new(config.alloc());
-    if dump.write(&mut payload).is_err() {
-        return Err(Reason::Memory);
-    }
+    let set = encoded(config.alloc(), executed)?;
+    let payload = dump_with(config, &set)?;
     send(0, &payload, out)
 }

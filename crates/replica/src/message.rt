@@ -5,7 +5,7 @@ ghost use Rattle.binlog.specs.Follow.{Names};
 ghost use Rattle.greet.specs.View.{Refuses};
 ghost use Rattle.greet.specs.Refusal.{Refusal};
 ghost use Rattle.gtid.specs.Identifier.{Ids};
-ghost use Rattle.replica.specs.Stream.{next_due, next_id, Hello, Reply, SecondReply, QueryReply, IsInDump};
+ghost use Rattle.replica.specs.Stream.{next_due, next_id, Hello, Reply, SecondReply, QueryReply, InDump, IsInDump};
 ghost use Rattle.replica.specs.Standing.{due_of};
 ghost use Rattle.replica.specs.Turn.{IsAnswered, EndsAt, IsToldOf};
 
@@ -35,13 +35,17 @@ pub(crate) fn told(fault: GreetFault) -> Reason
     }
 }
 
-/// Takes the greeting.
-fn take_greeting(config: &Config, payload: &[u8], out: &mut Vec<u8>) -> Result<(), Reason>
+/// Takes the greeting, and tells what is due behind it.
+fn take_greeting(config: &Config, payload: &[u8], out: &mut Vec<u8>) -> Result<Phase, Reason>
     ensures ok { (names : Names) (executed : Ids) → OnOk result (IsAnswered config.now names executed Hello payload.now out.old.items out.new.items) }
+    ensures due { IfOk result (λ phase. due_of phase ≡ Reply) }
     ensures err { (names : Names) (executed : Ids) → IfErr result (EndsAt names executed Hello payload.now) }
 {
     match Greeting::read(config.alloc(), payload) {
-        Ok(greeting) => log_in(config, &greeting.scramble, out),
+        Ok(greeting) => {
+            log_in(config, &greeting.scramble, out)?;
+            Ok(Phase::Reply)
+        }
         Err(fault) => Err(told(fault)),
     }
 }
@@ -65,29 +69,41 @@ fn take_reply(config: &Config, payload: &[u8], out: &mut Vec<u8>) -> Result<Phas
     }
 }
 
-/// Takes the reply to the login after a switch.
-fn take_second_reply(config: &Config, payload: &[u8], out: &mut Vec<u8>) -> Result<(), Reason>
+/// Takes the reply to the login after a switch, and tells what is due behind it.
+fn take_second_reply(
+    config: &Config,
+    payload: &[u8],
+    out: &mut Vec<u8>,
+) -> Result<Phase, Reason>
     ensures ok { (names : Names) (executed : Ids) → OnOk result (IsAnswered config.now names executed SecondReply payload.now out.old.items out.new.items) }
+    ensures due { IfOk result (λ phase. due_of phase ≡ QueryReply) }
     ensures err { (names : Names) (executed : Ids) → IfErr result (EndsAt names executed SecondReply payload.now) }
 {
     match read_ok(config.alloc(), payload) {
-        Ok(()) => turn_checksums_off(config.alloc(), out),
+        Ok(()) => {
+            turn_checksums_off(config.alloc(), out)?;
+            Ok(Phase::QueryReply)
+        }
         Err(fault) => Err(told(fault)),
     }
 }
 
-/// Takes the reply to the query.
+/// Takes the reply to the query, and tells what is due behind it.
 fn take_query_reply(
     config: &Config,
     executed: &GtidSet,
     payload: &[u8],
     out: &mut Vec<u8>,
-) -> Result<(), Reason>
+) -> Result<Phase, Reason>
     ensures ok { (names : Names) → OnOk result (IsAnswered config.now names executed.now QueryReply payload.now out.old.items out.new.items) }
+    ensures due { IfOk result (λ phase. due_of phase ≡ InDump) }
     ensures err { (names : Names) → IfErr result (EndsAt names executed.now QueryReply payload.now) }
 {
     match read_ok(config.alloc(), payload) {
-        Ok(()) => ask(config, executed, out),
+        Ok(()) => {
+            ask(config, executed, out)?;
+            Ok(Phase::Dump)
+        }
         Err(fault) => Err(told(fault)),
     }
 }
@@ -106,18 +122,9 @@ pub(crate) fn answer(
     ensures err { (names : Names) → IfErr result (EndsAt names executed.now (due_of phase) payload.now) }
 {
     match phase {
-        Phase::Greeting => {
-            take_greeting(config, payload, out)?;
-            Ok(Phase::Reply)
-        }
+        Phase::Greeting => take_greeting(config, payload, out),
         Phase::Reply => take_reply(config, payload, out),
-        Phase::SecondReply => {
-            take_second_reply(config, payload, out)?;
-            Ok(Phase::QueryReply)
-        }
-        Phase::QueryReply | Phase::Dump => {
-            take_query_reply(config, executed, payload, out)?;
-            Ok(Phase::Dump)
-        }
+        Phase::SecondReply => take_second_reply(config, payload, out),
+        Phase::QueryReply | Phase::Dump => take_query_reply(config, executed, payload, out),
     }
 }

@@ -1,0 +1,150 @@
+-- A payload of the dump.
+use Rattle.std.proofs.Common.{◌≡◌, ◌⊎◌, ◌≤◌, ◌<◌, ◌+◌, ◌-◌, ℕ, Bool, true, false, List, [], ◌∷◌, ◌++◌, take, drop, length, Option, Some, None, Result, Ok, Err, get_or, inl, inr, refl, sym, ap, subst, ◌∙◌, arith}
+use Rattle.sqlite_trees.specs.declared.store.Store.{Ghosts}
+use Rattle.sqlite_trees.specs.Tree.{Trees}
+use Rattle.sqlite_schema.specs.declared.schema.Schema.{Schema}
+use Rattle.sqlite.specs.Held.{state}
+use Rattle.std.proofs.Math.Seq.{drop-cons}
+use Rattle.std.proofs.lemmas.List.{take_rest}
+use Rattle.binlog.specs.Follow.{Names}
+use Rattle.binlog.specs.Event.{EventValue, IsEvent}
+use Rattle.gather.specs.Transaction.{DeliveryValue}
+use Rattle.gather.specs.Standing.{Stands as Gathers}
+use Rattle.gather.specs.Fault.{IsFault}
+use Rattle.gather.specs.declared.gatherer.Gatherer.{Gatherer}
+use Rattle.gather.specs.declared.fault.GatherFault.{GatherFault}
+use Rattle.gather.specs.declared.fault.GatherFault.TheVariants as gather
+use Rattle.store.specs.State.{Content}
+use Rattle.store.specs.Take.{is_executed}
+use Rattle.store.specs.declared.fault.Applied.{Applied}
+use Rattle.store.specs.declared.fault.Applied.TheVariants as applied
+use Rattle.store.specs.declared.fault.StoreFault.{StoreFault}
+use Rattle.store.specs.declared.fault.StoreFault.TheVariants as fault
+use Rattle.store.specs.declared.store.Store.{Store}
+use Rattle.store.specs.Store.{Holds, HasFailed, HoldsAs, Applies, AreOf, Leaves}
+use Rattle.store.specs.Apply.{IsTaken}
+use Rattle.replica.specs.declared.end.Reason.{Reason}
+use Rattle.replica.specs.declared.end.Reason.TheVariants.{EndOfInput, SourceEof, SourceError, Wire, Greet, Event, Gather, Refused, Database, Memory, ReadFailed, WriteFailed}
+use Rattle.replica.specs.Stream.{Payload, Carries}
+use Rattle.replica.specs.Turn.{EndsDump, GathersMore, outcome_of, reason_of_events}
+use Rattle.replica.specs.Event.{GoesFurther, EndsOne, Rests, Fails, EndsSo, TakesEvent}
+
+-- ---- the event
+begun_by : (first : ℕ) (xs : List ℕ) → 1 ≤ length xs → get_or xs 0 0 ≡ first → xs ≡ first ∷ take (length xs - 1) (drop 1 xs)
+begun_by first xs some is =
+    drop-cons xs 0 0 (omega (arith, some)) ∙ ap (λ rest. get_or xs 0 0 ∷ rest) (sym (take_rest xs 1)) ∙ ap (λ b. b ∷ take (length xs - 1) (drop 1 xs)) is
+
+pub carries_event : (names : Names) (payload : List ℕ) (e : EventValue) → 1 ≤ length payload → get_or payload 0 0 ≡ 0 → IsEvent names e (take (length payload - 1) (drop 1 payload)) → Carries names payload e
+carries_event names payload e some first is = record { body = take (length payload - 1) (drop 1 payload); payload_is = begun_by 0 payload some first; is_event = is }
+
+pub events_end : (names : Names) (es : List EventValue) (p : Payload) (e : EventValue) (f : GatherFault) (reason : Reason) → Carries names p e → (f ≡ gather.Memory) ⊎ IsFault es e f → reason ≡ reason_of_events f → EndsDump names es p reason
+events_end names es p e f reason carries (inl m) is = subst (EndsDump names es p) (sym (is ∙ ap reason_of_events m)) tt
+events_end names es p e gather.NoFormat reason carries (inr h) is = subst (EndsDump names es p) (sym is) (tt, e, carries, h)
+events_end names es p e (gather.Misplaced n) reason carries (inr h) is = subst (EndsDump names es p) (sym is) (tt, e, carries, h)
+events_end names es p e (gather.UnknownTable n) reason carries (inr h) is = subst (EndsDump names es p) (sym is) (tt, e, carries, h)
+events_end names es p e (gather.Event f) reason carries (inr h) is = subst (EndsDump names es p) (sym is) (tt, e, carries, h)
+events_end names es p e gather.Memory reason carries (inr h) is = subst (EndsDump names es p) (sym is) tt
+events_end names es p e gather.Ended reason carries (inr h) is = subst (EndsDump names es p) (sym is) (tt, e, carries, h)
+
+true-false : true ≡ false → ⊥
+true-false e = cc
+
+false-true : false ≡ true → ⊥
+false-true e = cc
+
+-- ---- the store
+module _ {S : Type 0} (g : Ghosts S) (es : List EventValue) (ds : List DeliveryValue) (p : Payload) where
+  -- the store is as it was
+  pub rested : (is : Bool) (now : Content) (store : Store S g) → HoldsAs g is now store → Rests g is now es ds p store store is
+  rested is now store holds = record { holds = holds; schema = λ _. refl }
+
+  pub ends_early : (is : Bool) (now : Content) (store : Store S g) (reason : Reason) → HoldsAs g is now store → EndsDump store.following es p reason → EndsSo g is now es ds p store store reason
+  ends_early is now store EndOfInput holds h = absurd h
+  ends_early is now store SourceEof holds h = (h, rested is now store holds)
+  ends_early is now store (SourceError code state message) holds h = (h, rested is now store holds)
+  ends_early is now store (Wire f) holds h = absurd h
+  ends_early is now store (Greet f) holds h = (h, rested is now store holds)
+  ends_early is now store (Event f) holds h = (h, rested is now store holds)
+  ends_early is now store (Gather f) holds h = (h, rested is now store holds)
+  ends_early is now store (Refused f) holds h = absurd h
+  ends_early is now store (Database f) holds h = absurd h
+  ends_early is now store Memory holds h = (is, (λ b. b), rested is now store holds, λ whole broken. absurd (false-true (sym whole ∙ broken)))
+  ends_early is now store ReadFailed holds h = absurd h
+  ends_early is now store WriteFailed holds h = absurd h
+
+  pub goes_on : (is : Bool) (now : Content) (store : Store S g) (gatherer : Gatherer) → HoldsAs g is now store → GathersMore store.following es ds p [] gatherer → GoesFurther g is now es ds p store store gatherer false
+  goes_on is now store gatherer holds more = record {
+    more = [];
+    gathered = more;
+    after = now;
+    takes = (refl, refl);
+    holds = holds;
+    schema = λ _. refl;
+    kept = λ _. refl;
+  }
+
+  ends_one : (is : Bool) (now : Content) (old new : Store S g) (d : DeliveryValue) (gatherer : Gatherer) → GathersMore old.following es ds p (d ∷ []) gatherer → EndsOne g is now es ds p old new d
+  ends_one is now old new d gatherer more = record { event = more.event; carries = more.carries; delivers = more.gathers.given.deliveries }
+
+  -- a store that a failure has broken before
+  pub over_broken : (now : Content) (old new : Store S g) (d : DeliveryValue) (gatherer : Gatherer) (r : Result Applied StoreFault) (out : Result Bool Reason) → HasFailed g old now → GathersMore old.following es ds p (d ∷ []) gatherer
+      → (r ≡ Err fault.Broken) × (new ≡ old) → out ≡ outcome_of r → TakesEvent g true now es ds p old new gatherer out
+  over_broken now old new d gatherer r out holds more same is =
+      subst (λ x. TakesEvent g true now es ds p old x gatherer out) (sym same.1)
+      (subst (TakesEvent g true now es ds p old old gatherer) (sym (is ∙ ap outcome_of same.0))
+      (
+        d,
+        ends_one true now old old d gatherer more,
+        record {
+          rests = record { holds = holds; schema = λ _. refl };
+          due_is = inr refl;
+          leaves = λ whole. absurd (true-false whole);
+        },
+      ))
+
+  -- a whole one
+  pub over_whole : (now : Content) (old new : Store S g) (d : DeliveryValue) (gatherer : Gatherer) (r : Result Applied StoreFault) (out : Result Bool Reason) → Holds g old now → GathersMore old.following es ds p (d ∷ []) gatherer
+      → Applies g now d old new r → (new.broken ≡ false → (state g new.conn).now.schema ≡ (state g old.conn).now.schema)
+      → ((trees : Trees) → (state g new.conn).may_leave trees → Leaves (state g old.conn).now.schema old.following now d r trees)
+      → out ≡ outcome_of r → TakesEvent g false now es ds p old new gatherer out
+  over_whole now old new d gatherer (Ok applied.Done) out holds more it schema leaves is = subst (TakesEvent g false now es ds p old new gatherer) (sym is) (record {
+    more = d ∷ [];
+    gathered = more;
+    after = it.after;
+    takes = inl (it.after, 0, it.takes, refl, (refl, refl));
+    holds = it.holds;
+    schema = λ _. schema it.holds.whole;
+    kept = λ b. absurd (false-true b);
+  })
+  over_whole now old new d gatherer (Ok applied.Repeat) out holds more it schema leaves is = subst (TakesEvent g false now es ds p old new gatherer) (sym is) (record {
+    more = d ∷ [];
+    gathered = more;
+    after = now;
+    takes = inr (it.0, (refl, refl));
+    holds = subst (λ x. Holds g x now) (sym it.1) holds;
+    schema = λ _. ap (λ (x : Store S g). (state g x.conn).now.schema) it.1;
+    kept = λ b. refl;
+  })
+  over_whole now old new d gatherer (Err (fault.NoSuchRow at)) out holds more it schema leaves is = subst (TakesEvent g false now es ds p old new gatherer) (sym is)
+      (d, ends_one false now old new d gatherer more, it.0, record { holds = it.1; schema = λ _. schema it.1.whole })
+  over_whole now old new d gatherer (Err (fault.CountFull at)) out holds more it schema leaves is = subst (TakesEvent g false now es ds p old new gatherer) (sym is)
+      (d, ends_one false now old new d gatherer more, it.0, record { holds = it.1; schema = λ _. schema it.1.whole })
+  over_whole now old new d gatherer (Err (fault.Database e)) out holds more it schema leaves is = subst (TakesEvent g false now es ds p old new gatherer) (sym is)
+      (
+        d,
+        ends_one false now old new d gatherer more,
+        record {
+          rests = record { holds = it.1; schema = λ b. absurd (true-false b) };
+          due_is = inl it.0;
+          leaves = λ whole trees left. elim (leaves trees left) [
+            | inl same ↦ (now, same, inl refl)
+            | inr one ↦ (one.after, one.stands, inr one.takes)
+          ];
+        },
+      )
+  over_whole now old new d gatherer (Err fault.Memory) out holds more it schema leaves is = subst (TakesEvent g false now es ds p old new gatherer) (sym is)
+      (true, (λ _. refl), record { holds = it.1; schema = λ b. absurd (true-false b) }, λ whole broken trees left. leaves trees left)
+  over_whole now old new d gatherer (Err fault.Damaged) out holds more it schema leaves is = absurd it
+  over_whole now old new d gatherer (Err (fault.Layout n)) out holds more it schema leaves is = absurd it
+  over_whole now old new d gatherer (Err fault.Broken) out holds more it schema leaves is = absurd it
+  over_whole now old new d gatherer (Err fault.Follows) out holds more it schema leaves is = absurd it

@@ -1,0 +1,65 @@
+-- A message before the dump.
+use Rattle.std.proofs.Common.{◌≡◌, ◌⊎◌, ℕ, List, [], true, Option, Result, Ok, Err, IfErr, inl, inr, refl, sym, ap, subst}
+use Rattle.greet.specs.Message.{IsSwitch}
+use Rattle.greet.specs.Refusal.{Refusal}
+use Rattle.gtid.specs.Identifier.{Ids}
+use Rattle.binlog.specs.Follow.{Names}
+use Rattle.replica.specs.declared.end.Reason.{Reason}
+use Rattle.replica.specs.declared.end.Reason.TheVariants.{EndOfInput, SourceEof, SourceError, Wire, Greet, Event, Gather, Refused, Database, Memory, ReadFailed, WriteFailed}
+use Rattle.replica.specs.declared.phase.Phase.{Phase}
+use Rattle.replica.specs.declared.phase.Phase.TheVariants as phases
+use Rattle.replica.specs.Settings.{Settings}
+use Rattle.replica.specs.Stream.{Payload, Due, IsInDump, Reply, SecondReply, QueryReply, begins_switch, next_due}
+use Rattle.replica.specs.Message.{refusal_of, IsNoEvent}
+use Rattle.replica.specs.Sent.{auth_bytes}
+use Rattle.replica.specs.Standing.{due_of}
+use Rattle.replica.specs.Turn.{IsToldOf, EndsAt, EndsDump, IsAnswered, Sends}
+use Rattle.replica.specs.Stream.{InDump}
+use Rattle.binlog.specs.Event.{EventValue}
+
+pub message_ends : (names : Names) (executed : Ids) (due : Due) (p : Payload) (reason : Reason) → IsNoEvent due p → IsToldOf (refusal_of due p) reason → EndsAt names executed due p reason
+message_ends names executed due p EndOfInput n t = absurd t
+message_ends names executed due p SourceEof n t = absurd t
+message_ends names executed due p (SourceError code state message) n t = (n, t)
+message_ends names executed due p (Wire f) n t = absurd t
+message_ends names executed due p (Greet f) n t = (n, t.0, t.1)
+message_ends names executed due p (Event f) n t = absurd t
+message_ends names executed due p (Gather f) n t = absurd t
+message_ends names executed due p (Refused f) n t = absurd t
+message_ends names executed due p (Database f) n t = absurd t
+message_ends names executed due p Memory n t = tt
+message_ends names executed due p ReadFailed n t = absurd t
+message_ends names executed due p WriteFailed n t = absurd t
+
+pub dump_ends : (names : Names) (es : List EventValue) (p : Payload) (reason : Reason) → IsNoEvent InDump p → IsToldOf (refusal_of InDump p) reason → EndsDump names es p reason
+dump_ends names es p EndOfInput n t = absurd t
+dump_ends names es p SourceEof n t = absurd t
+dump_ends names es p (SourceError code state message) n t = (n, t)
+dump_ends names es p (Wire f) n t = absurd t
+dump_ends names es p (Greet f) n t = (n, t.0, t.1)
+dump_ends names es p (Event f) n t = absurd t
+dump_ends names es p (Gather f) n t = absurd t
+dump_ends names es p (Refused f) n t = absurd t
+dump_ends names es p (Database f) n t = absurd t
+dump_ends names es p Memory n t = tt
+dump_ends names es p ReadFailed n t = absurd t
+dump_ends names es p WriteFailed n t = absurd t
+
+pub answered_again : (settings : Settings) (names : Names) (executed : Ids) (scramble : List ℕ) (p : Payload) (old new : List ℕ) → IsSwitch scramble p → Sends 3 (auth_bytes settings.password scramble) old new
+    → IsAnswered settings names executed Reply p old new
+answered_again settings names executed scramble p old new is s = record {
+  answers = (inr (record { scramble = scramble; is = is }), refl);
+  replies = record { bytes = s.bytes; owes = inl (record { scramble = scramble; switch = is; packs = s.packed }); appended = s.appended };
+  short = λ e. cc;
+}
+
+pub switch_due : (scramble : List ℕ) (p : Payload) → IsSwitch scramble p → SecondReply ≡ next_due Reply p
+switch_due scramble p is = subst (λ q. SecondReply ≡ next_due Reply q) (sym is.payload_is) refl
+
+pub ends_in : {A : Type 0} (names : Names) (executed : Ids) (phase : Phase) (due : Due) (p : Payload) (r : Result A Reason) → due ≡ due_of phase → IfErr r (EndsAt names executed due p) → IfErr r (EndsAt names executed (due_of phase) p)
+ends_in names executed phase due p (Ok a) is h = tt
+ends_in names executed phase due p (Err reason) is h = subst (λ d. EndsAt names executed d p reason) is h
+
+pub query_due : (phase : Phase) → (phase ≡ phases.QueryReply) ⊎ (phase ≡ phases.Dump) → (IsInDump (due_of phase) → ⊥) → QueryReply ≡ due_of phase
+query_due phase (inl e) h = sym (ap due_of e)
+query_due phase (inr e) h = absurd (h (subst (λ x. IsInDump (due_of x)) (sym e) tt))
