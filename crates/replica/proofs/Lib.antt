@@ -1,3 +1,5 @@
 pub mod Sending
 pub mod Messages
 pub mod Events
+pub mod Push
+pub mod Turning

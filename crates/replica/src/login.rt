@@ -44,6 +44,7 @@ fn auth(alloc: Global, password: &[u8], scramble: &[u8; 20]) -> Result<Vec<u8>, 
 fn send(sequence: u8, payload: &[u8], out: &mut Vec<u8>) -> Result<(), Reason>
     ensures ok { OnOk result (Sends sequence payload.now out.old.items out.new.items) }
     ensures err { OnErr result (result ≡ Err Memory) }
+    ensures kept { OnErr result (out.new.items ≡ out.old.items) }
 {
     match write_payload(sequence, payload, out) {
         Ok(_) => Ok(()),
@@ -74,6 +75,7 @@ fn response_to(config: &Config, scramble: &[u8; 20]) -> Result<Vec<u8>, Reason>
 pub(crate) fn log_in(config: &Config, scramble: &[u8; 20], out: &mut Vec<u8>) -> Result<(), Reason>
     ensures ok { OnOk result (Sends 1 (response (record { user = config.now.user; auth = auth_bytes config.now.password scramble.now })) out.old.items out.new.items) }
     ensures err { OnErr result (result ≡ Err Memory) }
+    ensures kept { OnErr result (out.new.items ≡ out.old.items) }
 {
     match response_to(config, scramble) {
         Ok(payload) => send(1, &payload, out),
@@ -89,6 +91,7 @@ pub(crate) fn log_in_again(
 ) -> Result<(), Reason>
     ensures ok { OnOk result (Sends 3 (auth_bytes config.now.password scramble.now) out.old.items out.new.items) }
     ensures err { OnErr result (result ≡ Err Memory) }
+    ensures kept { OnErr result (out.new.items ≡ out.old.items) }
 {
     let Ok(auth) = auth(config.alloc(), &config.password, scramble) else {
         return Err(Reason::Memory);
@@ -100,6 +103,7 @@ pub(crate) fn log_in_again(
 pub(crate) fn turn_checksums_off(alloc: Global, out: &mut Vec<u8>) -> Result<(), Reason>
     ensures ok { OnOk result (Sends 0 checksum_query out.old.items out.new.items) }
     ensures err { OnErr result (result ≡ Err Memory) }
+    ensures kept { OnErr result (out.new.items ≡ out.old.items) }
 {
     let mut payload = Vec::new(alloc);
     match query(CHECKSUM_QUERY, &mut payload) {
@@ -155,6 +159,7 @@ pub(crate) fn ask(config: &Config, executed: &GtidSet, out: &mut Vec<u8>) -> Res
     ensures ok { OnOk result (AsksFor config.now executed.now out.old.items out.new.items) }
     ensures short { OnOk result (IsDumpTooLong executed.now → ⊥) }
     ensures err { IfErr result (λ reason. (reason ≡ Memory) ⊎ ((reason ≡ Wire wire.TooLarge) × IsDumpTooLong executed.now)) }
+    ensures kept { OnErr result (out.new.items ≡ out.old.items) }
 {
     let set = encoded(config.alloc(), executed)?;
     let payload = dump_with(config, &set)?;

@@ -1,6 +1,6 @@
 //! The messages of a source before the dump.
 
-ghost use Rattle.std.specs.Prelude.{◌≡◌, [], OnOk, IfOk, IfErr, Option};
+ghost use Rattle.std.specs.Prelude.{◌≡◌, [], OnOk, OnErr, IfOk, IfErr, Option};
 ghost use Rattle.binlog.specs.Follow.{Names};
 ghost use Rattle.greet.specs.View.{Refuses};
 ghost use Rattle.greet.specs.Refusal.{Refusal};
@@ -40,6 +40,7 @@ fn take_greeting(config: &Config, payload: &[u8], out: &mut Vec<u8>) -> Result<P
     ensures ok { (names : Names) (executed : Ids) → OnOk result (IsAnswered config.now names executed Hello payload.now out.old.items out.new.items) }
     ensures due { IfOk result (λ phase. due_of phase ≡ Reply) }
     ensures err { (names : Names) (executed : Ids) → IfErr result (EndsAt names executed Hello payload.now) }
+    ensures kept { OnErr result (out.new.items ≡ out.old.items) }
 {
     match Greeting::read(config.alloc(), payload) {
         Ok(greeting) => {
@@ -55,6 +56,7 @@ fn take_reply(config: &Config, payload: &[u8], out: &mut Vec<u8>) -> Result<Phas
     ensures ok { (names : Names) (executed : Ids) → OnOk result (IsAnswered config.now names executed Reply payload.now out.old.items out.new.items) }
     ensures due { IfOk result (λ phase. due_of phase ≡ next_due Reply payload.now) }
     ensures err { (names : Names) (executed : Ids) → IfErr result (EndsAt names executed Reply payload.now) }
+    ensures kept { OnErr result (out.new.items ≡ out.old.items) }
 {
     match AuthReply::read(config.alloc(), payload) {
         Ok(AuthReply::Ok) => {
@@ -78,6 +80,7 @@ fn take_second_reply(
     ensures ok { (names : Names) (executed : Ids) → OnOk result (IsAnswered config.now names executed SecondReply payload.now out.old.items out.new.items) }
     ensures due { IfOk result (λ phase. due_of phase ≡ QueryReply) }
     ensures err { (names : Names) (executed : Ids) → IfErr result (EndsAt names executed SecondReply payload.now) }
+    ensures kept { OnErr result (out.new.items ≡ out.old.items) }
 {
     match read_ok(config.alloc(), payload) {
         Ok(()) => {
@@ -98,6 +101,7 @@ fn take_query_reply(
     ensures ok { (names : Names) → OnOk result (IsAnswered config.now names executed.now QueryReply payload.now out.old.items out.new.items) }
     ensures due { IfOk result (λ phase. due_of phase ≡ InDump) }
     ensures err { (names : Names) → IfErr result (EndsAt names executed.now QueryReply payload.now) }
+    ensures kept { OnErr result (out.new.items ≡ out.old.items) }
 {
     match read_ok(config.alloc(), payload) {
         Ok(()) => {
@@ -120,6 +124,7 @@ pub(crate) fn answer(
     ensures ok { (names : Names) → OnOk result (IsAnswered config.now names executed.now (due_of phase) payload.now out.old.items out.new.items) }
     ensures due { IfOk result (λ next. due_of next ≡ next_due (due_of phase) payload.now) }
     ensures err { (names : Names) → IfErr result (EndsAt names executed.now (due_of phase) payload.now) }
+    ensures kept { OnErr result (out.new.items ≡ out.old.items) }
 {
     match phase {
         Phase::Greeting => take_greeting(config, payload, out),

@@ -1,0 +1,147 @@
+-- A session takes a payload.
+use Rattle.std.proofs.Common.{◌≡◌, ◌≢◌, ◌⊎◌, ℕ, ◌+◌, ◌^◌, ◌<◌, ◌≤◌, Bool, true, false, List, [], ◌∷◌, ◌++◌, length, Option, Some, None, MatchOption, if◌then◌else◌, inl, inr, refl, sym, ap, subst, ◌∙◌, append_assoc, append-nil, arith}
+use Rattle.std.proofs.lemmas.List.{length-append}
+use Rattle.wire.specs.Packet.{packing_length}
+use Rattle.wire.specs.Payload.{ReaderState, IsWholePayload, IsUnfinished}
+use Rattle.wire.specs.declared.fault.WireFault.TheVariants as wire
+use Rattle.wire.proofs.OneReading.{nothing_yet}
+use Rattle.wire.proofs.OnePacking.{length_packing}
+use Rattle.gtid.specs.Identifier.{Ids}
+use Rattle.binlog.specs.Follow.{Names}
+use Rattle.binlog.specs.Event.{EventValue}
+use Rattle.gather.specs.declared.gatherer.Gatherer.{Gatherer}
+use Rattle.store.specs.State.{Content}
+use Rattle.replica.specs.declared.end.Reason.{Reason}
+use Rattle.replica.specs.declared.end.Reason.TheVariants.{EndOfInput, SourceEof, SourceError, Wire, Greet, Event, Gather, Refused, Database, Memory, ReadFailed, WriteFailed}
+use Rattle.replica.specs.declared.end.Ended.{Ended}
+use Rattle.replica.specs.declared.phase.Phase.{Phase}
+use Rattle.replica.specs.declared.phase.Phase.TheVariants as phases
+use Rattle.replica.specs.declared.session.Session.{Session}
+use Rattle.replica.specs.Settings.{Settings}
+use Rattle.replica.specs.Stream.{Payload, Due, Hello, QueryReply, IsInDump, next_due, next_id, due_behind, Reading}
+use Rattle.replica.specs.End.{HasNext, StopsAt, PassesEnd, StopsFor}
+use Rattle.replica.specs.Conn.{TakesAll, IsDumpTooLong, CouldAsk, Took, Why, BreaksStore}
+use Rattle.replica.specs.Sent.{Sent, SentFor}
+use Rattle.replica.specs.Standing.{GoesOn, HasEnded, Stands, HasPayload, due_of, first_id_of}
+use Rattle.replica.specs.Turn.{IsAnswered, EndsAt}
+use Rattle.replica.proofs.Push.{due_push, id_is_next, could_ask, no_events, no_deliveries, owes_push, takes_push, with_message}
+
+-- ---- sessions that go on, and that have ended
+pub stands_going : (s : Session) (names : Names) (was is : Bool) (old now : Content) (b o : List ℕ) → s.ended ≡ None
+    → GoesOn s.config s.assembler s.gatherer s.phase s.at s.applied names was is old now b (o ++ s.out.items) → Stands s names was is old now b o
+unfolding Stands
+stands_going s names was is old now b o none g =
+    subst (λ v. MatchOption v (GoesOn s.config s.assembler s.gatherer s.phase s.at s.applied names was is old now b (o ++ s.out.items)) (λ end. HasEnded s.config names was is old now b (o ++ s.out.items) end)) (sym none) g
+
+pub stands_ended : (s : Session) (names : Names) (was is : Bool) (old now : Content) (b o : List ℕ) (end : Ended) → s.ended ≡ Some end
+    → HasEnded s.config names was is old now b (o ++ s.out.items) end → Stands s names was is old now b o
+unfolding Stands
+stands_ended s names was is old now b o end some h =
+    subst (λ v. MatchOption v (GoesOn s.config s.assembler s.gatherer s.phase s.at s.applied names was is old now b (o ++ s.out.items)) (λ end. HasEnded s.config names was is old now b (o ++ s.out.items) end)) (sym some) h
+
+-- what is due before the dump
+pub not_dump : (phase : Phase) → phase ≢ phases.Dump → IsInDump (due_of phase) → ⊥
+not_dump phases.Greeting n i = i
+not_dump phases.Reply n i = i
+not_dump phases.SecondReply n i = i
+not_dump phases.QueryReply n i = i
+not_dump phases.Dump n i = n refl
+
+-- ---- the payload
+module _ (settings : Settings) (assembly : ReaderState) (gatherer : Gatherer) (waits : Phase) (at applied : ℕ) (names : Names) (was is : Bool) (old now : Content) (b all : List ℕ) (p : Payload)
+    (h : HasPayload settings assembly gatherer waits at applied names was is old now b all p) where
+  pub rest_length : length h.reading.rest ≡ packing_length (length p)
+  rest_length = length_packing h.whole.packing
+
+  pub stops : at + length h.reading.rest < 2 ^ 64 → StopsAt settings.limit names (due_behind h.reading.payloads) h.reading.events (length h.reading.front) h.reading.id h.reading.rest p
+  stops within = record {
+    next = record { packing = h.reading.rest; more = []; behind = assembly.due; whole = h.whole; bytes = sym (append-nil h.reading.rest) };
+    within = subst (λ n. n + length h.reading.rest < 2 ^ 64) h.at_is within;
+  }
+
+  pub sent_for : (o : List ℕ) → Sent settings old.executed h.reading.payloads o → SentFor settings names old.executed b at o
+  sent_for o s = record { payloads = h.reading.payloads; taken = record { reading = h.reading; payloads_are = refl; at_is = inl h.at_is }; sent = s }
+
+  -- it ends here, behind the payloads taken
+  pub ended : (reason : Reason) (broken : Bool) → reason ≢ EndOfInput
+      → Why settings.limit names (due_behind h.reading.payloads) h.reading.events h.reading.deliveries (length h.reading.front) h.reading.id h.reading.rest was old now at reason
+      → BreaksStore reason was broken → HasEnded settings names was broken old now b all (record { reason = reason; at = at; applied = applied })
+  ended reason broken more why store = record {
+    conn = record { reading = h.reading; took = h.took; why = why };
+    more = more;
+    sent = sent_for all h.sent;
+    store = store;
+  }
+
+  -- past the greatest place
+  pub too_far : 2 ^ 64 ≤ at + length h.reading.rest → HasEnded settings names was is old now b all (record { reason = Wire wire.TooLarge; at = at; applied = applied })
+  too_far beyond = ended (Wire wire.TooLarge) is (λ e. cc)
+      (inl (
+        h.at_is,
+        inr (
+          refl,
+          record {
+            payload = p;
+            next = record { packing = h.reading.rest; more = []; behind = assembly.due; whole = h.whole; bytes = sym (append-nil h.reading.rest) };
+            beyond = subst (λ n. 2 ^ 64 ≤ n + length h.reading.rest) h.at_is beyond;
+          },
+        ),
+      ))
+      h.store
+
+  -- before the dump nothing was taken
+  pub nothing_taken : (IsInDump (due_of waits) → ⊥) → now ≡ old
+  nothing_taken n =
+      let r = h.reading in
+      let es : r.events ≡ [] = no_events settings.limit names Hello 0 r.payloads r.front r.events r.id r.talk.talks (λ i. n (subst IsInDump (sym h.awaits) i)) in
+      let ds : r.deliveries ≡ [] = no_deliveries r.events r.deliveries es r.talk.delivers in
+      (subst (λ l. TakesAll names old l applied now) ds h.took.takes).1
+
+  -- a message before the dump goes on
+  pub message_goes_on : (next : Phase) (end : ℕ) (more : List ℕ) (out new : List ℕ) (o : List ℕ) → (IsInDump (due_of waits) → ⊥) → end ≡ at + length h.reading.rest → end < 2 ^ 64 → all ≡ o ++ out
+      → IsAnswered settings names old.executed (due_of waits) p out new → due_of next ≡ next_due (due_of waits) p
+      → GoesOn settings (record assembly { due = first_id_of next }) gatherer next end applied names was is old now b (o ++ new)
+  message_goes_on next end more out new o n end_is within all_is a due =
+      let r = h.reading in
+      let d = due_behind r.payloads in
+      let within_at : length r.front + length r.rest < 2 ^ 64 = omega (arith, end_is, within, h.at_is) in
+      let answers = subst (λ x. Rattle.replica.specs.Stream.Answers names x p []) h.awaits a.answers in
+      let owes = subst (λ x. Rattle.replica.specs.Sent.Owes settings old.executed x p a.replies.bytes) h.awaits a.replies.owes in
+      let no_dump : IsInDump d → ⊥ = λ i. n (subst IsInDump (sym h.awaits) i) in
+      let due_next : due_of next ≡ next_due d p = due ∙ ap (λ x. next_due x p) h.awaits in
+      record {
+        reading = with_message settings.limit names b r p assembly.due h.whole within_at answers;
+        held = sym h.held;
+        at_is = end_is ∙ ap (λ k. k + length r.rest) h.at_is ∙ sym (length-append r.front r.rest);
+        limit = h.limit;
+        id = id_is_next d p assembly.due next no_dump due_next;
+        reads = h.reads;
+        unfinished = subst (λ l. IsUnfinished (next_id d p assembly.due) settings.limit l) (sym h.held) (nothing_yet (next_id d p assembly.due) settings.limit);
+        awaits = due_next ∙ sym (due_push Hello r.payloads p);
+        gathers = h.gathers;
+        took = record {
+          takes = h.took.takes;
+          asked = λ i. could_ask d p old.executed no_dump (λ q. a.short (h.awaits ∙ q)) (subst IsInDump (due_push Hello r.payloads p) i);
+        };
+        sent = subst (λ l. Sent settings old.executed (r.payloads ++ p ∷ []) l) (ap (λ l. l ++ a.replies.bytes) all_is ∙ append_assoc o out a.replies.bytes ∙ ap (λ l. o ++ l) (sym a.replies.appended))
+            (owes_push settings old.executed Hello r.payloads all p a.replies.bytes h.sent owes);
+        store = h.store;
+      }
+
+  -- a message before the dump ends it
+  pub message_ends_it : (reason : Reason) → at + length h.reading.rest < 2 ^ 64 → EndsAt names old.executed (due_of waits) p reason → HasEnded settings names was is old now b all (record { reason = reason; at = at; applied = applied })
+  message_ends_it EndOfInput within e = absurd e
+  message_ends_it SourceEof within e = absurd e
+  message_ends_it (SourceError code state message) within e =
+      ended (SourceError code state message) is (λ q. cc) (h.at_is, record { payload = p; stops = stops within; denied = subst (λ x. Rattle.replica.specs.End.Denies names x h.reading.events p (SourceError code state message)) h.awaits e }) h.store
+  message_ends_it (Wire f) within e =
+      ended (Wire f) is (λ q. cc) (inr (e.0, h.at_is, record { payload = p; stops = stops within; due_is = sym h.awaits ∙ e.1; is_ok = e.2 }, e.3)) h.store
+  message_ends_it (Greet f) within e =
+      ended (Greet f) is (λ q. cc) (h.at_is, record { payload = p; stops = stops within; denied = subst (λ x. Rattle.replica.specs.End.Denies names x h.reading.events p (Greet f)) h.awaits e }) h.store
+  message_ends_it (Event f) within e = absurd e
+  message_ends_it (Gather f) within e = absurd e
+  message_ends_it (Refused f) within e = absurd e
+  message_ends_it (Database f) within e = absurd e
+  message_ends_it Memory within e = ended Memory is (λ q. cc) h.at_is (λ w. h.store ∙ w)
+  message_ends_it ReadFailed within e = absurd e
+  message_ends_it WriteFailed within e = absurd e
