@@ -1,7 +1,8 @@
 # make        prove and build mrep, put it at bin/mrep, and run it on a sample
 # make test   the whole gate: a program that must not compile, a file read by sqlite3, every proof from nothing, the
 #             wrong bodies, the tests and the program
-# make bench  time mrep and the sets against plain Rust programs that do the same jobs (needs rustc)
+# make bench  time mrep, the sets and the transactions against plain Rust programs that do the same jobs, and the store
+#             against the C library of SQLite (needs rustc; the store python3 too)
 
 .PHONY: all build test bench
 
@@ -22,9 +23,10 @@ bench: build
 	cd crates/gtid_bench && rt run
 	cd crates/binlog_bench && rt run
 	cd crates/gather_bench && rt run
+	cd crates/store_bench && rt run
 	mkdir -p bench/out
 	rustc -O --edition 2024 -o bench/out/packets bench/packets.rs
 	rustc -O --edition 2024 -o bench/out/gtid bench/gtid.rs
 	rustc -O --edition 2024 -o bench/out/events bench/events.rs
 	rustc -O --edition 2024 -o bench/out/bench bench/bench.rs
-	bench/out/bench bin/mrep bench/out/packets crates/gtid_bench/out/gtid_bench bench/out/gtid crates/binlog_bench/out/binlog_bench crates/gather_bench/out/gather_bench bench/out/events bench/out
+	bench/out/bench bin/mrep bench/out/packets crates/gtid_bench/out/gtid_bench bench/out/gtid crates/binlog_bench/out/binlog_bench crates/gather_bench/out/gather_bench bench/out/events crates/store_bench/out/store_bench bench/store.py bench/out

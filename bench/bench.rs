@@ -1,20 +1,22 @@
 //! Times `mrep packets`, `mrep events`, `gtid_bench`, `binlog_bench` and `gather_bench` against `packets.rs`, `events.rs`
-//! and `gtid.rs`, plain Rust programs that do the same jobs.
+//! and `gtid.rs`, plain Rust programs that do the same jobs, and `store_bench` against `store.py`, which gives the same
+//! statements to the C library of SQLite.
 //!
-//!     bench MREP PACKETS GTID_BENCH GTID BINLOG_BENCH GATHER_BENCH EVENTS FOLDER
+//!     bench MREP PACKETS GTID_BENCH GTID BINLOG_BENCH GATHER_BENCH EVENTS STORE_BENCH STORE FOLDER
 //!
-//! It makes each input of files in the folder. Both programs of a job run in turn, five times each, and
+//! It makes each input of files in the folder. Both programs of a job run in turn, five times each (a store three), and
 //! have to print the same; the line has their best times, the ratio of these and the greatest resident size of
-//! each. The status is 1 where a goal is missed.
+//! each. The status is 1 where a goal is missed. Where there is no `python3` the stores are passed over.
 
 use std::fs::{self, File};
 use std::io::{self, BufReader, BufWriter, Read, Write};
 use std::path::Path;
-use std::process::{Command, ExitCode};
+use std::process::{Command, ExitCode, Stdio};
 use std::time::Instant;
 
 const MIB: usize = 1 << 20;
 const RUNS: usize = 5;
+const STORE_RUNS: usize = 3;
 
 /// The goal of `mrep packets`: at most this many times the time of the Rust program,
 const PACKETS_TIMES: f64 = 1.3;
@@ -29,6 +31,16 @@ const GATHER_TIMES: f64 = 2.5;
 
 /// The goal of each operation on sets.
 const GTID_TIMES: f64 = 1.5;
+
+/// The goal of a store in a file.
+const STORE_TIMES: f64 = 3.0;
+
+/// What a store is given: so many transactions of so many rows each, or so many rows, taken out and put in again.
+const STORES: [(&str, &[&str]); 3] = [
+    ("a store of 20,000 transactions of one row", &["add", "20000", "1"]),
+    ("a store of 200 transactions of 1,000 rows", &["add", "200", "1000"]),
+    ("10,000 rows put in, taken out and put in again", &["again", "10000"]),
+];
 
 const OPERATIONS: [&str; 8] =
     ["contains", "ascending", "scattered", "union", "subtract", "print", "parse", "parse_scattered"];
@@ -196,12 +208,38 @@ fn mib(bytes: usize) -> f64 {
     bytes as f64 / MIB as f64
 }
 
-/// Whether the goal is met by the first of two programs that do the same job.
-fn compare(job: &str, ours: &[&str], theirs: &[&str], folder: &Path, times: f64, bound: usize) -> io::Result<bool> {
+/// What the first of two programs is held to.
+struct Goal {
+    /// What the second one is.
+    other: &'static str,
+    runs: usize,
+    /// At most this many times the time of the second one,
+    times: f64,
+    /// and at most this resident size.
+    bound: usize,
+}
+
+impl Goal {
+    fn of(times: f64, bound: usize) -> Goal {
+        Goal { other: "Rust", runs: RUNS, times, bound }
+    }
+}
+
+/// Whether the goal is met by the first of two programs that do the same job. `before` comes before each run.
+fn compare_from(
+    job: &str,
+    ours: &[&str],
+    theirs: &[&str],
+    folder: &Path,
+    goal: &Goal,
+    before: impl Fn() -> io::Result<()>,
+) -> io::Result<bool> {
     let (ours_out, theirs_out) = (folder.join("ours"), folder.join("theirs"));
     let (mut our_runs, mut their_runs) = (Vec::new(), Vec::new());
-    for _ in 0..RUNS {
+    for _ in 0..goal.runs {
+        before()?;
         our_runs.push(run(ours, &ours_out)?);
+        before()?;
         their_runs.push(run(theirs, &theirs_out)?);
     }
     let agree = our_runs.iter().zip(&their_runs).all(|(a, b)| a.status == b.status) && same(&ours_out, &theirs_out)?;
@@ -209,25 +247,74 @@ fn compare(job: &str, ours: &[&str], theirs: &[&str], folder: &Path, times: f64,
     fs::remove_file(theirs_out)?;
     let ratio = best(&our_runs) / best(&their_runs);
     println!(
-        "{job}: ours {:.3} s, Rust {:.3} s, ratio {ratio:.2} (goal {times}); ours {:.1} MiB, Rust {:.1} MiB",
+        "{job}: ours {:.3} s, {} {:.3} s, ratio {ratio:.2} (goal {}); ours {:.1} MiB, {} {:.1} MiB",
         best(&our_runs),
+        goal.other,
         best(&their_runs),
+        goal.times,
         mib(most(&our_runs)),
+        goal.other,
         mib(most(&their_runs)),
     );
     if !agree {
         println!("the two programs do not print the same");
     }
-    if most(&our_runs) > bound {
-        println!("more than {:.1} MiB", mib(bound));
+    if most(&our_runs) > goal.bound {
+        println!("more than {:.1} MiB", mib(goal.bound));
     }
-    Ok(agree && ratio <= times && most(&our_runs) <= bound)
+    Ok(agree && ratio <= goal.times && most(&our_runs) <= goal.bound)
+}
+
+/// The same of plain Rust programs, which find their input as they are.
+fn compare(job: &str, ours: &[&str], theirs: &[&str], folder: &Path, times: f64, bound: usize) -> io::Result<bool> {
+    compare_from(job, ours, theirs, folder, &Goal::of(times, bound), || Ok(()))
+}
+
+/// Removes a database and what stands beside it.
+fn remove_store(file: &str) -> io::Result<()> {
+    for path in [file.to_string(), format!("{file}-wal"), format!("{file}-shm")] {
+        match fs::remove_file(path) {
+            Err(error) if error.kind() != io::ErrorKind::NotFound => return Err(error),
+            _ => {}
+        }
+    }
+    Ok(())
+}
+
+/// Whether the goals are met by stores in a file, against the C library. Both open the same database.
+fn compare_stores(store_bench: &str, store: &str, folder: &Path) -> io::Result<bool> {
+    let python = Command::new("python3").args(["-c", "import sqlite3"]).stderr(Stdio::null()).status();
+    if !python.is_ok_and(|status| status.success()) {
+        println!("stores: passed over, since there is no python3 with sqlite3");
+        return Ok(true);
+    }
+    let goal = Goal { other: "C", runs: STORE_RUNS, times: STORE_TIMES, bound: usize::MAX };
+    let path = folder.join("store.db");
+    let file = path.to_str().ok_or(io::ErrorKind::InvalidInput)?;
+    let mut met = true;
+    for (job, words) in STORES {
+        let ours = [&[store_bench], words, &[file]].concat();
+        let theirs = [&["python3", store], words, &[file]].concat();
+        met &= compare_from(job, &ours, &theirs, folder, &goal, || remove_store(file))?;
+    }
+    remove_store(file)?;
+    let million = run(&["python3", store, "add", "1000", "1000", file], &folder.join("made"))?;
+    fs::remove_file(folder.join("made"))?;
+    if million.status != 0 {
+        return Err(io::Error::other("store.py fails"));
+    }
+    let (ours, theirs) = ([store_bench, "open", file], ["python3", store, "open", file]);
+    met &= compare_from("a store of 1,000,000 rows opened", &ours, &theirs, folder, &goal, || Ok(()))?;
+    remove_store(file)?;
+    Ok(met)
 }
 
 fn main() -> io::Result<ExitCode> {
     let words: Vec<String> = std::env::args().collect();
-    let [_, mrep, packets, gtid_bench, gtid, binlog_bench, gather_bench, events, folder] = words.as_slice() else {
-        eprintln!("usage: bench MREP PACKETS GTID_BENCH GTID BINLOG_BENCH GATHER_BENCH EVENTS FOLDER");
+    let [_, mrep, packets, gtid_bench, gtid, binlog_bench, gather_bench, events, store_bench, store, folder] =
+        words.as_slice()
+    else {
+        eprintln!("usage: bench MREP PACKETS GTID_BENCH GTID BINLOG_BENCH GATHER_BENCH EVENTS STORE_BENCH STORE FOLDER");
         return Ok(ExitCode::from(2));
     };
     let folder = Path::new(folder);
@@ -254,5 +341,6 @@ fn main() -> io::Result<ExitCode> {
     for operation in OPERATIONS {
         met &= compare(operation, &[gtid_bench, operation], &[gtid, operation], folder, GTID_TIMES, usize::MAX)?;
     }
+    met &= compare_stores(store_bench, store, folder)?;
     Ok(if met { ExitCode::SUCCESS } else { ExitCode::FAILURE })
 }
