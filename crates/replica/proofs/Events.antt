@@ -91,8 +91,7 @@ module _ {S : Type 0} (g : Ghosts S) (es : List EventValue) (ds : List DeliveryV
       → (r ≡ Err fault.Broken) × (new ≡ old) → out ≡ outcome_of r → TakesEvent g true now es ds p old new gatherer out
   over_broken now old new d gatherer r out holds more same is =
       subst (λ x. TakesEvent g true now es ds p old x gatherer out) (sym same.1)
-      (subst (TakesEvent g true now es ds p old old gatherer) (sym (is ∙ ap outcome_of same.0))
-      (
+      (subst (TakesEvent g true now es ds p old old gatherer) (sym (is ∙ ap outcome_of same.0)) (
         d,
         ends_one true now old old d gatherer more,
         record {
@@ -129,19 +128,18 @@ module _ {S : Type 0} (g : Ghosts S) (es : List EventValue) (ds : List DeliveryV
       (d, ends_one false now old new d gatherer more, it.0, record { holds = it.1; schema = λ _. schema it.1.whole })
   over_whole now old new d gatherer (Err (fault.CountFull at)) out holds more it schema leaves is = subst (TakesEvent g false now es ds p old new gatherer) (sym is)
       (d, ends_one false now old new d gatherer more, it.0, record { holds = it.1; schema = λ _. schema it.1.whole })
-  over_whole now old new d gatherer (Err (fault.Database e)) out holds more it schema leaves is = subst (TakesEvent g false now es ds p old new gatherer) (sym is)
-      (
-        d,
-        ends_one false now old new d gatherer more,
-        record {
-          rests = record { holds = it.1; schema = λ b. absurd (true-false b) };
-          due_is = inl it.0;
-          leaves = λ whole trees left. elim (leaves trees left) [
-            | inl same ↦ (now, same, inl refl)
-            | inr one ↦ (one.after, one.stands, inr one.takes)
-          ];
-        },
-      )
+  over_whole now old new d gatherer (Err (fault.Database e)) out holds more it schema leaves is = subst (TakesEvent g false now es ds p old new gatherer) (sym is) (
+    d,
+    ends_one false now old new d gatherer more,
+    record {
+      rests = record { holds = it.1; schema = λ b. absurd (true-false b) };
+      due_is = inl it.0;
+      leaves = λ whole trees left. elim (leaves trees left) [
+        | inl same ↦ (now, same, inl refl)
+        | inr one ↦ (one.after, one.stands, inr one.takes)
+      ];
+    },
+  )
   over_whole now old new d gatherer (Err fault.Memory) out holds more it schema leaves is = subst (TakesEvent g false now es ds p old new gatherer) (sym is)
       (true, (λ _. refl), record { holds = it.1; schema = λ b. absurd (true-false b) }, λ whole broken trees left. leaves trees left)
   over_whole now old new d gatherer (Err fault.Damaged) out holds more it schema leaves is = absurd it

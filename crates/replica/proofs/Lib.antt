@@ -3,3 +3,4 @@ pub mod Messages
 pub mod Events
 pub mod Push
 pub mod Turning
+pub mod Dumping

@@ -22,7 +22,7 @@ use Rattle.replica.specs.Stream.{Payload, Due, Hello, QueryReply, IsInDump, next
 use Rattle.replica.specs.End.{HasNext, StopsAt, PassesEnd, StopsFor}
 use Rattle.replica.specs.Conn.{TakesAll, IsDumpTooLong, CouldAsk, Took, Why, BreaksStore}
 use Rattle.replica.specs.Sent.{Sent, SentFor}
-use Rattle.replica.specs.Standing.{GoesOn, HasEnded, Stands, HasPayload, due_of, first_id_of}
+use Rattle.replica.specs.Standing.{GoesOn, HasEnded, Stands, HasPayload, due_of, first_id_of, room_of}
 use Rattle.replica.specs.Turn.{IsAnswered, EndsAt}
 use Rattle.replica.proofs.Push.{due_push, id_is_next, could_ask, no_events, no_deliveries, owes_push, takes_push, with_message}
 
@@ -39,6 +39,16 @@ unfolding Stands
 stands_ended s names was is old now b o end some h =
     subst (λ v. MatchOption v (GoesOn s.config s.assembler s.gatherer s.phase s.at s.applied names was is old now b (o ++ s.out.items)) (λ end. HasEnded s.config names was is old now b (o ++ s.out.items) end)) (sym some) h
 
+pub some-none : (e : Ended) → Some e ≡ None → ⊥
+some-none e h = cc
+
+-- room for the payload
+pub room_left : (s new : Session) (end n : ℕ) → new.at ≡ end → new.assembler.held ≡ [] → s.assembler.held ≡ [] → end ≡ s.at + n → end < 2 ^ 64 → room_of new + n ≤ room_of s
+room_left s new end n at held was end_is within =
+    let a : length new.assembler.held ≡ 0 = ap length held in
+    let z : length s.assembler.held ≡ 0 = ap length was in
+    omega (arith, a, z, at, end_is, within)
+
 -- what is due before the dump
 pub not_dump : (phase : Phase) → phase ≢ phases.Dump → IsInDump (due_of phase) → ⊥
 not_dump phases.Greeting n i = i
@@ -53,7 +63,7 @@ module _ (settings : Settings) (assembly : ReaderState) (gatherer : Gatherer) (w
   pub rest_length : length h.reading.rest ≡ packing_length (length p)
   rest_length = length_packing h.whole.packing
 
-  pub stops : at + length h.reading.rest < 2 ^ 64 → StopsAt settings.limit names (due_behind h.reading.payloads) h.reading.events (length h.reading.front) h.reading.id h.reading.rest p
+  abbrev pub stops : at + length h.reading.rest < 2 ^ 64 → StopsAt settings.limit names (due_behind h.reading.payloads) h.reading.events (length h.reading.front) h.reading.id h.reading.rest p
   stops within = record {
     next = record { packing = h.reading.rest; more = []; behind = assembly.due; whole = h.whole; bytes = sym (append-nil h.reading.rest) };
     within = subst (λ n. n + length h.reading.rest < 2 ^ 64) h.at_is within;

@@ -5,7 +5,8 @@ use Rattle.binlog.specs.Follow.{Names}
 use Rattle.gather.specs.Standing.{Stands as Gathers}
 use Rattle.gather.specs.declared.gatherer.Gatherer.{Gatherer}
 use Rattle.store.specs.State.{Content}
-use Rattle.replica.specs.declared.end.Reason.TheVariants.{EndOfInput}
+use Rattle.replica.specs.declared.end.Reason.{Reason}
+use Rattle.replica.specs.declared.end.Reason.TheVariants.{EndOfInput, SourceEof}
 use Rattle.replica.specs.declared.end.Ended.{Ended}
 use Rattle.replica.specs.declared.phase.Phase.{Phase}
 use Rattle.replica.specs.declared.phase.Phase.TheVariants as phase
@@ -93,3 +94,19 @@ room_of session = (2 ^ 64 + 2 ^ 31) - (session.at + length session.assembler.hel
 abbrev pub taken_of : Option ℕ → List ℕ → List ℕ
 taken_of None bytes = bytes
 taken_of (Some n) bytes = take n bytes
+
+-- where a connection ends: at the place of the payloads taken, and behind an end of the log
+abbrev pub place_of : Reason → ℕ → ℕ → ℕ
+place_of SourceEof at end = end
+place_of _ at end = at
+
+-- The session has gone on to this place, with so many transactions applied.
+pub record MovesOn (old new : Session) (at applied : ℕ) : Type 0 where
+  pub config : new.config ≡ old.config
+  pub assembler : new.assembler ≡ old.assembler
+  pub gatherer : new.gatherer ≡ old.gatherer
+  pub phase : new.phase ≡ old.phase
+  pub out : new.out ≡ old.out
+  pub at_is : new.at ≡ at
+  pub applied_is : new.applied ≡ applied
+  pub ended : new.ended ≡ old.ended

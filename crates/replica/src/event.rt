@@ -14,6 +14,7 @@ ghost use Rattle.store.specs.Store.{Holds, HasFailed, HoldsAs};
 ghost use Rattle.replica.specs.Stream.{Carries, InDump};
 ghost use Rattle.replica.specs.Turn.{EndsDump, GathersMore, outcome_of, reason_of_events};
 ghost use Rattle.replica.specs.Message.{begins_event};
+ghost use Rattle.replica.specs.Conn.{IsNoStreamFailure};
 ghost use Rattle.replica.specs.Event.{TakesEvent};
 
 use crate::end::{Reason, Refusal};
@@ -28,7 +29,8 @@ use store::{Applied, Store, StoreFault};
 /// What a payload is told as that carries no event.
 fn no_event(alloc: Global, payload: &[u8]) -> Reason
     requires { begins_event payload.now ≡ false }
-    ensures { (names : Names) (es : List EventValue) → EndsDump names es payload.now result }
+    ensures ends { (names : Names) (es : List EventValue) → EndsDump names es payload.now result }
+    ensures neither { IsNoStreamFailure result }
 {
     match read_eof(alloc, payload) {
         Ok(()) => Reason::SourceEof,
@@ -55,6 +57,7 @@ fn gather(
 ) -> Result<Option<Delivery>, Reason>
     ensures ok { (es : List EventValue) (ds : List DeliveryValue) → Gathers es ds gatherer.old → IfOk result (λ delivery. GathersMore follow.now es ds payload.now (delivered delivery) gatherer.new) }
     ensures err { (es : List EventValue) (ds : List DeliveryValue) → Gathers es ds gatherer.old → IfErr result (EndsDump follow.now es payload.now) }
+    ensures neither { IfErr result IsNoStreamFailure }
 {
     let [0, body @ ..] = payload else {
         return Err(no_event(alloc, payload));
@@ -92,6 +95,7 @@ pub(crate) fn take_event<S: Alter>(
     payload: &[u8],
 ) -> Result<bool, Reason>
     ensures clean { HasCleanDisk (state S.Store store.new.conn) → HasCleanDisk (state S.Store store.old.conn) }
+    ensures neither { IfErr result IsNoStreamFailure }
     ensures following { store.new.following ≡ store.old.following }
     ensures broken { store.old.broken ≡ true → store.new ≡ store.old }
     ensures turn { HasCleanDisk (state S.Store store.new.conn) → (is : Bool) (now : Content) (es : List EventValue) (ds : List DeliveryValue) → Gathers es ds gatherer.old → HoldsAs S.Store is now store.old

@@ -6,6 +6,7 @@ ghost use Rattle.greet.specs.View.{Refuses};
 ghost use Rattle.greet.specs.Refusal.{Refusal};
 ghost use Rattle.gtid.specs.Identifier.{Ids};
 ghost use Rattle.replica.specs.Stream.{next_due, next_id, Hello, Reply, SecondReply, QueryReply, InDump, IsInDump};
+ghost use Rattle.replica.specs.Conn.{IsNoStreamFailure};
 ghost use Rattle.replica.specs.Standing.{due_of};
 ghost use Rattle.replica.specs.Turn.{IsAnswered, EndsAt, IsToldOf};
 
@@ -18,7 +19,8 @@ use gtid::GtidSet;
 
 /// What a fault of a message is told as.
 pub(crate) fn told(fault: GreetFault) -> Reason
-    ensures { (refusal : Option Refusal) → Refuses refusal fault → IsToldOf refusal result }
+    ensures told { (refusal : Option Refusal) → Refuses refusal fault → IsToldOf refusal result }
+    ensures neither { IsNoStreamFailure result }
 {
     match fault {
         GreetFault::ServerError {
@@ -41,6 +43,7 @@ fn take_greeting(config: &Config, payload: &[u8], out: &mut Vec<u8>) -> Result<P
     ensures due { IfOk result (λ phase. due_of phase ≡ Reply) }
     ensures err { (names : Names) (executed : Ids) → IfErr result (EndsAt names executed Hello payload.now) }
     ensures kept { OnErr result (out.new.items ≡ out.old.items) }
+    ensures neither { IfErr result IsNoStreamFailure }
 {
     match Greeting::read(config.alloc(), payload) {
         Ok(greeting) => {
@@ -57,6 +60,7 @@ fn take_reply(config: &Config, payload: &[u8], out: &mut Vec<u8>) -> Result<Phas
     ensures due { IfOk result (λ phase. due_of phase ≡ next_due Reply payload.now) }
     ensures err { (names : Names) (executed : Ids) → IfErr result (EndsAt names executed Reply payload.now) }
     ensures kept { OnErr result (out.new.items ≡ out.old.items) }
+    ensures neither { IfErr result IsNoStreamFailure }
 {
     match AuthReply::read(config.alloc(), payload) {
         Ok(AuthReply::Ok) => {
@@ -72,15 +76,12 @@ fn take_reply(config: &Config, payload: &[u8], out: &mut Vec<u8>) -> Result<Phas
 }
 
 /// Takes the reply to the login after a switch, and tells what is due behind it.
-fn take_second_reply(
-    config: &Config,
-    payload: &[u8],
-    out: &mut Vec<u8>,
-) -> Result<Phase, Reason>
+fn take_second_reply(config: &Config, payload: &[u8], out: &mut Vec<u8>) -> Result<Phase, Reason>
     ensures ok { (names : Names) (executed : Ids) → OnOk result (IsAnswered config.now names executed SecondReply payload.now out.old.items out.new.items) }
     ensures due { IfOk result (λ phase. due_of phase ≡ QueryReply) }
     ensures err { (names : Names) (executed : Ids) → IfErr result (EndsAt names executed SecondReply payload.now) }
     ensures kept { OnErr result (out.new.items ≡ out.old.items) }
+    ensures neither { IfErr result IsNoStreamFailure }
 {
     match read_ok(config.alloc(), payload) {
         Ok(()) => {
@@ -102,6 +103,7 @@ fn take_query_reply(
     ensures due { IfOk result (λ phase. due_of phase ≡ InDump) }
     ensures err { (names : Names) → IfErr result (EndsAt names executed.now QueryReply payload.now) }
     ensures kept { OnErr result (out.new.items ≡ out.old.items) }
+    ensures neither { IfErr result IsNoStreamFailure }
 {
     match read_ok(config.alloc(), payload) {
         Ok(()) => {
@@ -125,6 +127,7 @@ pub(crate) fn answer(
     ensures due { IfOk result (λ next. due_of next ≡ next_due (due_of phase) payload.now) }
     ensures err { (names : Names) → IfErr result (EndsAt names executed.now (due_of phase) payload.now) }
     ensures kept { OnErr result (out.new.items ≡ out.old.items) }
+    ensures neither { IfErr result IsNoStreamFailure }
 {
     match phase {
         Phase::Greeting => take_greeting(config, payload, out),

@@ -1,6 +1,6 @@
 //! A payload taken by a session.
 
-ghost use Rattle.std.specs.Prelude.{◌≡◌, ◌≤◌, ◌<◌, ◌+◌, ◌^◌, Bool, List, ℕ, Some, None, true, false, length, ◌≢◌, []};
+ghost use Rattle.std.specs.Prelude.{◌≡◌, ◌≤◌, ◌<◌, ◌+◌, ◌^◌, Bool, List, ℕ, Some, None, true, false, length, ◌≢◌, [], if◌then◌else◌};
 ghost use Rattle.sqlite.specs.State.{HasCleanDisk};
 ghost use Rattle.sqlite.specs.Held.{state};
 ghost use Rattle.sqlite_schema.specs.declared.schema.Schema.{Schema};
@@ -8,7 +8,7 @@ ghost use Rattle.binlog.specs.Follow.{Names};
 ghost use Rattle.gtid.specs.Identifier.{Ids};
 ghost use Rattle.wire.specs.Packet.{packing_length};
 ghost use Rattle.store.specs.State.{Content};
-ghost use Rattle.replica.specs.Standing.{Stands, Meets, first_id_of, room_of, end_of};
+ghost use Rattle.replica.specs.Standing.{Stands, Meets, first_id_of, place_of, MovesOn, room_of, end_of};
 ghost use Rattle.replica.specs.Conn.{IsNoStreamFailure};
 ghost use Rattle.replica.specs.Over.{StandsOver, MeetsOver};
 ghost use Rattle.replica.specs.declared.phase.Phase.TheVariants.{Dump};
@@ -47,22 +47,43 @@ impl Session {
         });
     }
 
+    /// The payload that ends at this place is taken, and with it a transaction or none.
+    fn go_on(&mut self, end: u64, applied: bool)
+        requires { self.old.at < end }
+        ensures { MovesOn self.old self.new end (self.old.applied + (if applied then 1 else 0)) }
+    {
+        self.at = end;
+        if applied {
+            self.applied += 1;
+        }
+    }
+
+    /// Ends the connection behind the payloads taken, and with it the end of the log that ends at this place.
+    fn end_behind(&mut self, reason: Reason, end: u64)
+        requires { self.old.at < end }
+        ensures config { self.new.config ≡ self.old.config }
+        ensures out { self.new.out ≡ self.old.out }
+        ensures ended { self.new.ended ≡ Some (record { reason = reason; at = place_of reason self.old.at end; applied = self.old.applied }) }
+    {
+        if let Reason::SourceEof = reason {
+            self.at = end;
+        }
+        self.end(reason);
+    }
+
     /// Takes a message before the dump that ends at this place.
     fn take_message(&mut self, executed: &GtidSet, payload: &[u8], end: u64)
         requires going { self.old.ended ≡ None }
         requires before_dump { self.old.phase ≢ Dump }
         requires between { (self.old.assembler.held ≡ []) × (self.old.assembler.ended ≡ false) }
         requires behind { self.old.at < end }
+        ensures config { self.new.config ≡ self.old.config }
+        ensures neither { IsNoStreamFailure (end_of self.new).reason }
+        ensures further { self.new.ended ≡ None → (self.new.at ≡ end) × (self.new.assembler.held ≡ []) }
         ensures takes { (names : Names) (was is : Bool) (old now : Content) (b o : List ℕ) → executed.now ≡ now.executed → end ≡ self.old.at + packing_length (length payload.now)
             → Meets self.old names was is old now b o payload.now → Stands self.new names was is old now b o }
     {
-        match answer(
-            self.phase,
-            &self.config,
-            executed,
-            payload,
-            &mut self.out,
-        ) {
+        match answer(self.phase, &self.config, executed, payload, &mut self.out) {
             Ok(phase) => {
                 self.phase = phase;
                 self.assembler.expect(first_id(phase));
@@ -76,26 +97,19 @@ impl Session {
     fn take_dump<S: Alter>(&mut self, store: &mut Store<S>, payload: &[u8], end: u64)
         requires going { self.old.ended ≡ None }
         requires in_dump { self.old.phase ≡ Dump }
+        requires between { self.old.assembler.held ≡ [] }
         requires behind { self.old.at < end }
         ensures clean { HasCleanDisk (state S.Store store.new.conn) → HasCleanDisk (state S.Store store.old.conn) }
         ensures broken { store.old.broken ≡ true → store.new ≡ store.old }
         ensures config { self.new.config ≡ self.old.config }
         ensures neither { IsNoStreamFailure (end_of self.new).reason }
+        ensures further { self.new.ended ≡ None → (self.new.at ≡ end) × (self.new.assembler.held ≡ []) }
         ensures takes { HasCleanDisk (state S.Store store.new.conn) → (schema : Schema) (was : Bool) (old : Content) (b o : List ℕ) → end ≡ self.old.at + packing_length (length payload.now)
             → MeetsOver S.Store self.old store.old schema was old b o payload.now → StandsOver S.Store self.new store.new schema was old b o }
     {
         match take_event(self.config.alloc(), &mut self.gatherer, store, payload) {
-            Ok(applied) => {
-                self.at = end;
-                if applied {
-                    self.applied += 1;
-                }
-            }
-            Err(Reason::SourceEof) => {
-                self.at = end;
-                self.end(Reason::SourceEof);
-            }
-            Err(reason) => self.end(reason),
+            Ok(applied) => self.go_on(end, applied),
+            Err(reason) => self.end_behind(reason, end),
         }
     }
 

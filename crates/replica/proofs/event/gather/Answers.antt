@@ -4,7 +4,7 @@ use Rattle.replica.proofs.Events.{carries_event, events_end}
 use Rattle.replica.proofs.event.gather.Goals as goal
 
 pub returns-in_default-clause-err : goal.returns-in_default-clause-err
-returns-in_default-clause-err c es ds stands = c.no_event.ensures c.args.follow.now es
+returns-in_default-clause-err c es ds stands = c.no_event.ensures.ends c.args.follow.now es
 
 pub returns-in-Ok-event-clause-ok : goal.returns-in-Ok-event-clause-ok
 returns-in-Ok-event-clause-ok c es ds stands =

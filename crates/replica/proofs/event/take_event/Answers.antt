@@ -1,4 +1,4 @@
-use Rattle.std.proofs.Common.{◌≡◌, [], ◌∷◌, true, false, subst}
+use Rattle.std.proofs.Common.{[], ◌∷◌, true, false, subst}
 use Rattle.gather.specs.View.{delivery_value, delivered}
 use Rattle.store.specs.Store.{HoldsAs}
 use Rattle.replica.specs.Turn.{GathersMore, EndsDump}
@@ -19,7 +19,7 @@ returns-in-Ok-Some-clause-turn g c clean is now es ds stands =
     elim is as (λ b. HoldsAs g.S.Store b now store → TakesEvent g.S.Store b now es ds p store new gatherer c.outcome.result) [
       | true ↦ λ holds. over_broken g.S.Store es ds p now store new d gatherer c.apply.result c.outcome.result holds more (c.apply.ensures.broken holds.broken) c.outcome.ensures
       | false ↦ λ holds. over_whole g.S.Store es ds p now store new d gatherer c.apply.result c.outcome.result holds more (c.apply.ensures.applies clean now holds) (c.apply.ensures.schema clean now holds)
-      (c.apply.ensures.crash clean now holds) c.outcome.ensures
+          (c.apply.ensures.crash clean now holds) c.outcome.ensures
     ]
 
 pub returns-in-Ok-None-clause-turn : goal.returns-in-Ok-None-clause-turn

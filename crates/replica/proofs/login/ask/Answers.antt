@@ -1,6 +1,6 @@
 use Rattle.replica.specs.Conn.{IsDumpTooLong}
 use Rattle.replica.specs.Turn.{Sends, AsksFor}
-use Rattle.std.proofs.Common.{◌∙◌, sym, subst, ap}
+use Rattle.std.proofs.Common.{◌∙◌}
 use Rattle.replica.proofs.Sending.{on_ok, asks_for, short_enough}
 use Rattle.replica.proofs.login.ask.Goals as goal
 

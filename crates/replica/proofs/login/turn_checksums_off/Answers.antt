@@ -1,5 +1,4 @@
 use Rattle.std.proofs.Common.{◌∙◌, ◌++◌, ap, List, ℕ}
-use Rattle.greet.specs.Message.{query_bytes}
 use Rattle.replica.specs.Sent.{checksum_query}
 use Rattle.replica.specs.Turn.{Sends}
 use Rattle.replica.proofs.Sending.{on_ok, sends_other}

@@ -1,0 +1,38 @@
+use Rattle.std.proofs.Common.{◌≡◌, ◌+◌, ◌^◌, ◌≤◌, ◌++◌, refl, sym, ap, subst, ◌∙◌, length, arith}
+use Rattle.wire.specs.Packet.{packing_length}
+use Rattle.wire.specs.declared.fault.WireFault.TheVariants as wire
+use Rattle.replica.specs.declared.end.Reason.TheVariants.{Wire}
+use Rattle.replica.specs.declared.end.Ended.{Ended}
+use Rattle.replica.specs.Standing.{HasEnded}
+use Rattle.replica.proofs.Turning.{rest_length, too_far, stands_ended, room_left}
+use Rattle.replica.proofs.Dumping.{over_same}
+use Rattle.replica.proofs.session.Session.take.Goals as goal
+
+pub returns-in_default-clause-takes : goal.returns-in_default-clause-takes
+returns-in_default-clause-takes g c clean schema was old b o m =
+    let s = c.args.self.now in
+    let p = c.args.payload.now in
+    let store = c.args.store.now in
+    let e : Ended = record { reason = Wire wire.TooLarge; at = s.at; applied = s.applied } in
+    let same = rest_length s.config s.assembler s.gatherer s.phase s.at s.applied store.following was m.is old m.now b (o ++ s.out.items) p m.meets in
+    let beyond : 2 ^ 64 ≤ s.at + length m.meets.reading.rest = omega (arith, same, c.packing_length.ensures, c.in_default.ensures) in
+    over_same g.S.Store (λ h db is_open may. g.met.S.Store.settled h.store db is_open may) s c.end.new.self store schema was old b o p m
+    (stands_ended c.end.new.self store.following was m.is old m.now b o e (ap (λ x. x.ended) c.end.ensures)
+    (subst (λ x. HasEnded x.config store.following was m.is old m.now b (o ++ x.out.items) e) (sym c.end.ensures)
+    (too_far s.config s.assembler s.gatherer s.phase s.at s.applied store.following was m.is old m.now b (o ++ s.out.items) p m.meets beyond)))
+
+pub returns-in_default-phase : goal.returns-in_default-phase
+returns-in_default-phase g c =
+    let s = c.args.self.now in
+    let n = packing_length (length c.args.payload.now) in
+    let ends : c.in-Some.end ≡ s.at + n = c.in-Some.ensures.1 ∙ ap (λ k. s.at + k) c.packing_length.ensures in
+    record {
+      clean = λ h. h;
+      broken = λ _. refl;
+      config = c.take_message.ensures.config;
+      neither = c.take_message.ensures.neither;
+      room = λ none. let f = c.take_message.ensures.further none in room_left s c.take_message.new.self c.in-Some.end n f.0 f.1 c.requires.between.0 ends (omega (arith, c.in-Some.ensures));
+      takes = λ clean schema was old b o m.
+          over_same g.S.Store (λ h db is_open may. g.met.S.Store.settled h.store db is_open may) s c.take_message.new.self c.args.store.now schema was old b o c.args.payload.now m
+          (c.take_message.ensures.takes c.args.store.now.following was m.is old m.now b o (c.executed.ensures m.is m.now m.holds) ends m.meets);
+    }
