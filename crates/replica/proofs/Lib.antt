@@ -1,0 +1,4 @@
+pub mod Extend
+pub mod Stood
+pub mod Advance
+pub mod Histories
