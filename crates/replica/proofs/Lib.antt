@@ -2,3 +2,4 @@ pub mod Extend
 pub mod Stood
 pub mod Advance
 pub mod Histories
+pub mod Fed
