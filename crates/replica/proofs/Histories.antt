@@ -11,7 +11,7 @@ use Rattle.replica.specs.Crash.{IsOneMore, IsOneMoreIn, IsLeft, IsLeftOfAll}
 use Rattle.replica.specs.Pieces.{stream_of, streams_of}
 use Rattle.replica.proofs.Stood.{unread}
 
-history-append : (limit : ℕ) (names : Names) (was : Bool) (old : Content) (bs : List (List ℕ)) (is : Bool) (mid : Content) (ends : List Ended) (b : List ℕ) (after : Bool) (new : Content) (end : Ended)
+pub history-append : (limit : ℕ) (names : Names) (was : Bool) (old : Content) (bs : List (List ℕ)) (is : Bool) (mid : Content) (ends : List Ended) (b : List ℕ) (after : Bool) (new : Content) (end : Ended)
     → History limit names was old bs is mid ends → Conn limit names is mid b new end → BreaksStore end.reason is after
     → History limit names was old (bs ++ b ∷ []) after new (ends ++ end ∷ [])
 history-append limit names was old [] is mid [] b after new end h c s =
@@ -45,7 +45,7 @@ later limit names was old bs ends left b end m = record {
 }
 
 -- what a crash leaves of one connection more, over a whole store
-here : (limit : ℕ) (names : Names) (was : Bool) (old : Content) (bs : List (List ℕ)) (mid : Content) (ends : List Ended) (b : List ℕ) (new : Content) (end : Ended) (left : Content)
+pub here : (limit : ℕ) (names : Names) (was : Bool) (old : Content) (bs : List (List ℕ)) (mid : Content) (ends : List Ended) (b : List ℕ) (new : Content) (end : Ended) (left : Content)
     → History limit names was old bs false mid ends → Conn limit names false mid b new end → IsLeft limit names mid b new end left → IsLeftOfAll limit names was old (bs ++ b ∷ []) new (ends ++ end ∷ []) left
 here limit names was old bs mid ends b new end left history conn l = elim l [
   | inl e ↦ inl e
@@ -53,9 +53,22 @@ here limit names was old bs mid ends b new end left history conn l = elim l [
 ]
 
 -- and over one that stays as it was
-stays : (limit : ℕ) (names : Names) (was : Bool) (old : Content) (bs : List (List ℕ)) (mid new : Content) (ends : List Ended) (b : List ℕ) (end : Ended) (left : Content) → new ≡ mid
+pub stays : (limit : ℕ) (names : Names) (was : Bool) (old : Content) (bs : List (List ℕ)) (mid new : Content) (ends : List Ended) (b : List ℕ) (end : Ended) (left : Content) → new ≡ mid
     → IsLeftOfAll limit names was old bs mid ends left → IsLeftOfAll limit names was old (bs ++ b ∷ []) new (ends ++ end ∷ []) left
 stays limit names was old bs mid new ends b end left same l = elim l [
   | inl e ↦ inl (e ∙ sym same)
   | inr m ↦ inr (later limit names was old bs ends left b end m)
 ]
+
+-- nothing was read for want of memory
+pub conn-unread : (limit : ℕ) (names : Names) (was : Bool) (content : Content) (b : List ℕ) → Conn limit names was content b content (record { reason = Memory; at = 0; applied = 0 })
+conn-unread limit names was content b = record {
+  reading = unread limit names b;
+  took = record { takes = (refl, refl); asked = λ in_dump. absurd in_dump };
+  why = refl;
+}
+
+-- the pieces so far, and one more
+pub stream-more : (pieces : List (Vec ℕ Global)) (i : ℕ) (piece : Vec ℕ Global) → take (i + 1) pieces ≡ take i pieces ++ piece ∷ [] → stream_of (take (i + 1) pieces) ≡ stream_of (take i pieces) ++ piece.items
+stream-more pieces i piece more =
+    ap stream_of more ∙ flat_map-append (λ (p : Vec ℕ Global). p.items) (take i pieces) (piece ∷ []) ∙ ap (λ (l : List ℕ). stream_of (take i pieces) ++ l) (append-nil piece.items)

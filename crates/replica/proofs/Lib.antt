@@ -3,3 +3,5 @@ pub mod Stood
 pub mod Advance
 pub mod Histories
 pub mod Fed
+pub mod Runs
+pub mod Told

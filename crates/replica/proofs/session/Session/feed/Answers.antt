@@ -12,6 +12,7 @@ returns-then-is_some-clause-stands g c clean schema was old b o s =
 pub loop-used-init : goal.loop-used-init
 loop-used-init g c = record {
   fed = fed_none g.S.Store c.args.self.now c.args.store.now c.args.bytes.now;
+  following = search rules;
   broken = search rules;
   config = search rules;
   neither = search rules;
@@ -26,6 +27,7 @@ loop-used-preserved g c =
     record {
       fed = subst (λ (l : List ℕ). Fed g.S.Store c.args.self.now c.args.store.now c.advance.new.self c.advance.new.store c.args.bytes.now l) (sym (take_rest rest used))
           (fed_more g.S.Store c.args.self.now c.args.store.now c.loop-used.self c.loop-used.store c.advance.new.self c.advance.new.store c.args.bytes.now rest used inv.fed c.advance.ensures.clean c.in-Some.ensures.stands);
+      following = search rules;
       broken = search rules;
       config = search rules;
       neither = search rules;

@@ -7,6 +7,7 @@ use Rattle.replica.proofs.session.Session.feed.Given as goal
 abbrev pub invariant-loop-used : goal.invariant-loop-used
 invariant-loop-used g l = record {
   fed : Fed g.S.Store l.fn.self l.fn.store l.self l.store l.bytes l.rest;
+  following : l.store.following ≡ l.fn.store.following;
   broken : l.fn.store.broken ≡ true → l.store ≡ l.fn.store;
   config : l.self.config ≡ l.fn.self.config;
   neither : IsNoStreamFailure (end_of l.fn.self).reason → IsNoStreamFailure (end_of l.self).reason;
