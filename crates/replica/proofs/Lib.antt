@@ -5,3 +5,4 @@ pub mod Histories
 pub mod Fed
 pub mod Runs
 pub mod Told
+pub mod OneEnd

@@ -2,12 +2,15 @@
 //!
 //! A law is a function with an empty body: its clauses are proved of the definitions themselves.
 
-ghost use Rattle.std.specs.Prelude.{◌≡◌, ◌↔◌, ℕ, ◌++◌, Bool, List, [], None};
+ghost use Rattle.std.specs.Prelude.{◌≡◌, ◌↔◌, ℕ, ◌<◌, ◌≤◌, ◌++◌, Bool, List, [], length, None};
+ghost use Rattle.std.specs.List.{AllByRecursion};
 ghost use Rattle.sqlite.specs.Held.{state};
 ghost use Rattle.binlog.specs.Follow.{Names};
 ghost use Rattle.store.specs.State.{Content};
 ghost use Rattle.store.specs.Store.{HoldsAs};
+ghost use Rattle.replica.specs.declared.end.Reason.{Reason};
 ghost use Rattle.replica.specs.declared.end.Reason.TheVariants.{EndOfInput};
+ghost use Rattle.replica.specs.Stream.{Reading};
 ghost use Rattle.replica.specs.End.{End};
 ghost use Rattle.replica.specs.Conn.{Conn, Begun, BreaksStore, IsDumpTooLong, IsOfBytes};
 ghost use Rattle.replica.specs.Sent.{SentFor};
@@ -37,4 +40,14 @@ pub fn stood(_session: &Session)
         → End _session.now.config.limit names b (end_of _session.now).reason (end_of _session.now).at }
     ensures store { (names : Names) (was is : Bool) (old now : Content) (b o : List ℕ) → Stands _session.now names was is old now b o → BreaksStore (end_of _session.now).reason was is }
     ensures ended { (names : Names) (was is : Bool) (old now : Content) (b o : List ℕ) → Stands _session.now names was is old now b o → (_session.now.ended ≡ None) ↔ ((end_of _session.now).reason ≡ EndOfInput) }
+{}
+
+/// Where a connection ends by its bytes is determined by them.
+pub fn one_end()
+    ensures { (limit : ℕ) (names : Names) (b : List ℕ) (r s : Reason) (at other : ℕ) → AllByRecursion (λ byte. byte < 256) b → End limit names b r at → End limit names b s other → at ≡ other }
+{}
+
+/// No reading of a connection's bytes has more payloads than that of their end.
+pub fn longest()
+    ensures { (limit : ℕ) (names : Names) (b : List ℕ) (r : Reason) (at : ℕ) → AllByRecursion (λ byte. byte < 256) b → (e : End limit names b r at) → (q : Reading limit names b) → length q.payloads ≤ length e.reading.payloads }
 {}
