@@ -1,5 +1,5 @@
 -- A connection's bytes have one end.
-use Rattle.std.proofs.Common.{◌≡◌, ◌≢◌, ℕ, ◌⊎◌, ◌≤◌, ◌<◌, ◌+◌, ◌^◌, ◌%◌, suc, Bool, true, false, List, [], ◌∷◌, ◌++◌, length, take, refl, sym, ap, ◌∙◌, inl, inr, Some, None, Option, subst, append_assoc, arith}
+use Rattle.std.proofs.Common.{if◌then◌else◌, ◌==◌, ◌≡◌, ◌≢◌, ℕ, ◌⊎◌, ◌≤◌, ◌<◌, ◌+◌, ◌^◌, ◌%◌, suc, Bool, true, false, List, [], ◌∷◌, ◌++◌, length, take, refl, sym, ap, ◌∙◌, inl, inr, Some, None, Option, subst, append_assoc, arith}
 use Rattle.std.proofs.lemmas.List.{length-append}
 use Rattle.std.proofs.Math.Seq.{take-append_seam}
 use Rattle.std.specs.List.{AllByRecursion, concat}
@@ -8,7 +8,7 @@ use Rattle.wire.specs.declared.fault.WireFault.TheVariants as wire
 use Rattle.wire.specs.Packet.{IsPacking, packet, packets}
 use Rattle.wire.specs.Payload.{IsWholePayload, IsUnfinished, IsOutOfSequence, IsTooLarge}
 use Rattle.wire.proofs.OnePacking.{none_begins}
-use Rattle.wire.proofs.OneReading.{wrong_or_whole, large_or_whole}
+use Rattle.wire.proofs.OneReading.{wrong_or_whole, large_or_whole, one_wrong_id, wrong_or_large}
 use Rattle.byteorder.specs.Endian.{little_bytes}
 use Rattle.greet.specs.Message.{IsEofPacket}
 use Rattle.greet.specs.Refusal.{Refusal, server_error}
@@ -24,12 +24,14 @@ use Rattle.binlog.proofs.Events.{one_event, event_not_refused}
 use Rattle.gather.specs.Transaction.{DeliveryValue, AreDeliveries, IsLawful}
 use Rattle.gather.specs.Fault.{IsFault, IsRead}
 use Rattle.gather.specs.declared.fault.GatherFault.{GatherFault}
-use Rattle.gather.proofs.NextEvents.{not_both}
+use Rattle.gather.proofs.NextEvents.{not_both, one as one_fault}
 use Rattle.gather.proofs.Shortening.{beginning}
 use Rattle.replica.specs.declared.end.Reason.{Reason}
 use Rattle.replica.specs.declared.end.Reason.TheVariants.{EndOfInput, SourceEof, SourceError, Wire, Greet, Event, Gather, Refused, Database, Memory, ReadFailed, WriteFailed}
 use Rattle.replica.specs.Stream.{Payload, Due, Hello, Reply, SecondReply, QueryReply, InDump, IsInDump, Carries, Answers, Talks, Conversation, Reading, next_due, next_id, due_from, due_behind}
-use Rattle.replica.specs.Message.{refusal_of, IsNoEvent, IsOfMessage}
+use Rattle.replica.specs.Message.{refusal_of, begins_event, IsNoEvent, IsOfMessage}
+use Rattle.replica.specs.Told.{Told, Verdict, told_of, refusal_told}
+use Rattle.replica.specs.Told as told
 use Rattle.replica.specs.End.{HasNext, StopsAt, PassesEnd, EndsLog, EndsWith, StopsFor, IsWrong, Denies, End}
 
 both : true ≡ false → ⊥
@@ -430,3 +432,210 @@ module _ (limit : ℕ) (names : Names) (b : List ℕ) (bytes : AllByRecursion (�
     | inl same ↦ (let k : length e.reading.payloads ≡ length q.payloads = ap length same.payloads in omega arith)
     | inr o ↦ elim o [ inl a ↦ absurd (no_further e.reading q at r e.stops a.further) | inr a ↦ (let k : length q.payloads < length e.reading.payloads = a.fewer in omega arith) ]
   ]
+
+-- ---- One reason.
+data Heard : Type 0 where
+  Final : Verdict → Heard
+  Carrying : Heard
+
+abbrev of_refusal : Option Refusal → Heard
+of_refusal None = Final told.EndsLog
+of_refusal (Some refusal) = Final (told.IsRefused refusal)
+
+abbrev of_event : Option EventFault → Heard
+of_event None = Carrying
+of_event (Some fault) = Final (told.HasFault fault)
+
+abbrev in_dump_heard : Names → Payload → Heard
+in_dump_heard names [] = of_refusal (refusal_of InDump [])
+in_dump_heard names (byte ∷ body) = if byte == 0x00 then of_event (event_fault names body) else of_refusal (refusal_of InDump (byte ∷ body))
+
+-- what a payload says by itself, where this message is due
+abbrev heard : Names → Due → Payload → Heard
+heard names Hello p = of_refusal (refusal_of Hello p)
+heard names Reply p = of_refusal (refusal_of Reply p)
+heard names SecondReply p = of_refusal (refusal_of SecondReply p)
+heard names QueryReply p = of_refusal (refusal_of QueryReply p)
+heard names InDump p = in_dump_heard names p
+
+dump_refused : (names : Names) (p : Payload) (v : Option Refusal) → begins_event p ≡ false → refusal_of InDump p ≡ v → in_dump_heard names p ≡ of_refusal v
+dump_refused names [] v none e = ap of_refusal e
+dump_refused names (byte ∷ body) v none e =
+    subst (λ t. (if t then of_event (event_fault names body) else of_refusal (refusal_of InDump (byte ∷ body))) ≡ of_refusal v) (sym none) (ap of_refusal e)
+
+heard_refused : (names : Names) (due : Due) (p : Payload) (v : Option Refusal) → IsNoEvent due p → refusal_of due p ≡ v → heard names due p ≡ of_refusal v
+heard_refused names Hello p v none e = ap of_refusal e
+heard_refused names Reply p v none e = ap of_refusal e
+heard_refused names SecondReply p v none e = ap of_refusal e
+heard_refused names QueryReply p v none e = ap of_refusal e
+heard_refused names InDump p v none e = dump_refused names p v none e
+
+heard_event : (names : Names) (due : Due) (p body : List ℕ) (v : Option EventFault) → IsInDump due → p ≡ 0x00 ∷ body → event_fault names body ≡ v → heard names due p ≡ of_event v
+heard_event names Hello p body v h is e = absurd h
+heard_event names Reply p body v h is e = absurd h
+heard_event names SecondReply p body v h is e = absurd h
+heard_event names QueryReply p body v h is e = absurd h
+heard_event names InDump p body v h is e = ap (λ l. in_dump_heard names l) is ∙ ap of_event e
+
+eof_no_event : (due : Due) (p : Payload) → IsEofPacket p → IsNoEvent due p
+eof_no_event Hello p eof = tt
+eof_no_event Reply p eof = tt
+eof_no_event SecondReply p eof = tt
+eof_no_event QueryReply p eof = tt
+eof_no_event InDump p eof = ap (λ l. begins_event l) eof.payload_is
+
+refused_for : (refusal : Option Refusal) (fault : GreetFault) → IsOfMessage fault → Refuses refusal fault → refusal ≡ Some (refusal_told fault)
+refused_for refusal (greet.ServerError code state message) h r = absurd h
+refused_for refusal (greet.Protocol byte) h r = r
+refused_for refusal greet.Truncated h r = r
+refused_for refusal (greet.Capabilities bits) h r = r
+refused_for refusal greet.Plugin h r = r
+refused_for refusal greet.OldAuth h r = r
+refused_for refusal (greet.Unexpected byte) h r = r
+refused_for refusal greet.Memory h r = absurd h
+
+unfinished_right : (id limit : ℕ) (r : List ℕ) (fault : WireFault) → IsUnfinished id limit r → IsWrong id limit r fault → ⊥
+unfinished_right id limit r (wire.Sequence want got) u h = u.in_sequence want got h
+unfinished_right id limit r wire.TooLarge u h = u.not_too_large h
+unfinished_right id limit r wire.Memory u h = h
+unfinished_right id limit r wire.Ended u h = h
+
+-- a header is wrong in one way
+one_wrong : (id limit : ℕ) (r : List ℕ) (f g : WireFault) → IsWrong id limit r f → IsWrong id limit r g → f ≡ g
+one_wrong id limit r (wire.Sequence want got) (wire.Sequence want' got') h k = let e = one_wrong_id h k in subst (λ w. wire.Sequence want got ≡ wire.Sequence w got') e.0 (ap (λ n. wire.Sequence want n) e.1)
+one_wrong id limit r (wire.Sequence want got) wire.TooLarge h k = absurd (wrong_or_large h k)
+one_wrong id limit r (wire.Sequence want got) wire.Memory h k = absurd k
+one_wrong id limit r (wire.Sequence want got) wire.Ended h k = absurd k
+one_wrong id limit r wire.TooLarge (wire.Sequence want' got') h k = absurd (wrong_or_large k h)
+one_wrong id limit r wire.TooLarge wire.TooLarge h k = refl
+one_wrong id limit r wire.TooLarge wire.Memory h k = absurd k
+one_wrong id limit r wire.TooLarge wire.Ended h k = absurd k
+one_wrong id limit r wire.Memory g h k = absurd h
+one_wrong id limit r wire.Ended g h k = absurd h
+
+module _ (limit : ℕ) (names : Names) (due : Due) (es : List EventValue) (taken id : ℕ) (r : List ℕ) where
+  record Misplaces (p : Payload) (v : Verdict) : Type 0 where
+    carrying : heard names due p ≡ Carrying
+    event : EventValue
+    carries : Carries names p event
+    fault : GatherFault
+    is_fault : IsFault es event fault
+    verdict : v ≡ told.IsOutOfPlace fault
+
+  abbrev SaysSo : Payload → Verdict → Type 0
+  SaysSo p v = (heard names due p ≡ Final v) ⊎ Misplaces p v
+
+  record EndsBy (v : Verdict) : Type 0 where
+    payload : Payload
+    stops : StopsAt limit names due es taken id r payload
+    says : SaysSo payload v
+
+  abbrev Tells : Told → Type 0
+  Tells told.Nothing = IsUnfinished id limit r
+  Tells (told.IsWrongHeader fault) = IsWrong id limit r fault ⊎ ((fault ≡ wire.TooLarge) × PassesEnd limit names due es taken id r)
+  Tells (told.Says v) = EndsBy v
+
+  tells : (at : ℕ) (reason : Reason) → StopsFor limit names due es taken id r at reason → Tells (told_of reason)
+  tells at EndOfInput s = s.1
+  tells at SourceEof s = record { payload = s.payload; stops = s.stops; says = inl (heard_refused names due s.payload None (eof_no_event due s.payload s.is_eof) (eof_none due s.payload s.in_dump s.is_eof)) }
+  tells at (SourceError code state message) s = record { payload = s.1.payload; stops = s.1.stops; says = inl (heard_refused names due s.1.payload (Some (server_error code state message.items)) s.1.denied.0 s.1.denied.1) }
+  tells at (Wire fault) s = s.1
+  tells at (Greet fault) s = record {
+    payload = s.1.payload;
+    stops = s.1.stops;
+    says = inl (heard_refused names due s.1.payload (Some (refusal_told fault)) s.1.denied.0 (refused_for (refusal_of due s.1.payload) fault s.1.denied.1 s.1.denied.2));
+  }
+  tells at (Event fault) s = record { payload = s.1.payload; stops = s.1.stops; says = inl (heard_event names due s.1.payload s.1.denied.1 (Some fault) s.1.denied.0 s.1.denied.2 s.1.denied.3) }
+  tells at (Gather fault) s =
+      let d = s.1.denied in
+      record {
+        payload = s.1.payload;
+        stops = s.1.stops;
+        says = inr (record {
+          carrying = heard_event names due s.1.payload d.2.body None d.0 d.2.payload_is (event_not_refused names d.1 d.2.body d.2.is_event);
+          event = d.1;
+          carries = d.2;
+          fault = fault;
+          is_fault = d.3;
+          verdict = refl;
+        });
+      }
+  tells at (Refused refusal) s = absurd s
+  tells at (Database cause) s = absurd s
+  tells at Memory s = absurd s
+  tells at ReadFailed s = absurd s
+  tells at WriteFailed s = absurd s
+
+  same_verdict : (p : Payload) (a b : Verdict) → AllByRecursion (λ v. v < 256) p → SaysSo p a → SaysSo p b → a ≡ b
+  same_verdict p a b fits x y = elim x [
+    | inl h ↦ elim y [
+      | inl k ↦ cc
+      | inr k ↦ (let c = k.carrying in cc)
+    ]
+    | inr h ↦ elim y [
+      | inl k ↦ (let c = h.carrying in cc)
+      | inr k ↦ (
+        let same : h.event ≡ k.event = carries_same names p h.event k.event h.carries k.carries in
+        let body : AllByRecursion (λ v. v < 256) (0x00 ∷ k.carries.body) = subst (λ l. AllByRecursion (λ v. v < 256) l) k.carries.payload_is fits in
+        let f : h.fault ≡ k.fault = one_fault es k.event h.fault k.fault (record { names = names; bytes = k.carries.body; fits = body.1; is_event = k.carries.is_event }) (subst (λ e. IsFault es e h.fault) same h.is_fault) k.is_fault in
+        h.verdict ∙ ap (λ v. told.IsOutOfPlace v) f ∙ sym k.verdict
+      )
+    ]
+  ]
+
+  no_wrong : (fault : WireFault) (v : Verdict) → IsWrong id limit r fault ⊎ ((fault ≡ wire.TooLarge) × PassesEnd limit names due es taken id r) → EndsBy v → ⊥
+  no_wrong fault v w e =
+      let n = e.stops.next in
+      elim w [
+        | inl h ↦ not_wrong id limit r n.packing n.more e.payload n.behind fault h n.whole n.bytes
+        | inr h ↦ not_past limit names due es taken id r n.packing n.more e.payload n.behind h.1 n.whole n.bytes e.stops.within
+      ]
+
+  none_wrong : (fault : WireFault) → IsUnfinished id limit r → IsWrong id limit r fault ⊎ ((fault ≡ wire.TooLarge) × PassesEnd limit names due es taken id r) → ⊥
+  none_wrong fault u w = elim w [
+    | inl h ↦ unfinished_right id limit r fault u h
+    | inr h ↦ (let n = h.1.next in not_unfinished id limit r n.packing n.more h.1.payload n.behind u n.whole n.bytes)
+  ]
+
+  none_whole : (v : Verdict) → IsUnfinished id limit r → EndsBy v → ⊥
+  none_whole v u e = let n = e.stops.next in not_unfinished id limit r n.packing n.more e.payload n.behind u n.whole n.bytes
+
+  same_wrong : (f g : WireFault) → IsWrong id limit r f ⊎ ((f ≡ wire.TooLarge) × PassesEnd limit names due es taken id r) → IsWrong id limit r g ⊎ ((g ≡ wire.TooLarge) × PassesEnd limit names due es taken id r) → f ≡ g
+  same_wrong f g x y = elim x [
+    | inl h ↦ elim y [
+      | inl k ↦ one_wrong id limit r f g h k
+      | inr k ↦ (let n = k.1.next in absurd (not_wrong id limit r n.packing n.more k.1.payload n.behind f h n.whole n.bytes))
+    ]
+    | inr h ↦ elim y [
+      | inl k ↦ (let n = h.1.next in absurd (not_wrong id limit r n.packing n.more h.1.payload n.behind g k n.whole n.bytes))
+      | inr k ↦ h.0 ∙ sym k.0
+    ]
+  ]
+
+  same_told : AllByRecursion (λ v. v < 256) r → (a b : Told) → Tells a → Tells b → a ≡ b
+  same_told fits told.Nothing told.Nothing x y = refl
+  same_told fits told.Nothing (told.IsWrongHeader g) x y = absurd (none_wrong g x y)
+  same_told fits told.Nothing (told.Says w) x y = absurd (none_whole w x y)
+  same_told fits (told.IsWrongHeader f) told.Nothing x y = absurd (none_wrong f y x)
+  same_told fits (told.IsWrongHeader f) (told.IsWrongHeader g) x y = ap (λ v. told.IsWrongHeader v) (same_wrong f g x y)
+  same_told fits (told.IsWrongHeader f) (told.Says w) x y = absurd (no_wrong f w x y)
+  same_told fits (told.Says v) told.Nothing x y = absurd (none_whole v y x)
+  same_told fits (told.Says v) (told.IsWrongHeader g) x y = absurd (no_wrong g v y x)
+  same_told fits (told.Says v) (told.Says w) x y =
+      let n = y.stops.next in
+      let k = same_next id limit r n.packing n.more y.payload x.payload n.behind x.stops.next n.whole n.bytes in
+      let of : AllByRecursion (λ b. b < 256) y.payload = whole_bytes id limit n.packing y.payload n.behind n.whole (all_front n.packing n.more (subst (λ l. AllByRecursion (λ b. b < 256) l) n.bytes fits)) in
+      ap (λ u. told.Says u) (same_verdict y.payload v w of (subst (λ p. SaysSo p v) k.0 x.says) y.says)
+
+module _ (limit : ℕ) (names : Names) (b : List ℕ) (bytes : AllByRecursion (λ v. v < 256) b) where
+  pub one_reason : (r s : Reason) (at other : ℕ) → End limit names b r at → End limit names b s other → told_of r ≡ told_of s
+  one_reason r s at other e f =
+      let x = e.reading in
+      let y = f.reading in
+      elim (both_read limit names b bytes x y) [
+        | inl same ↦ same_told limit names (due_behind x.payloads) x.events (length x.front) x.id x.rest (all_back x.front x.rest (subst (λ l. AllByRecursion (λ v. v < 256) l) x.bytes bytes)) (told_of r) (told_of s)
+            (tells limit names (due_behind x.payloads) x.events (length x.front) x.id x.rest at r e.stops)
+            (tells limit names (due_behind x.payloads) x.events (length x.front) x.id x.rest other s
+            (stops_same limit names x.payloads y.payloads x.events y.events x.front y.front x.id y.id x.rest y.rest other s same f.stops))
+        | inr o ↦ elim o [ inl a ↦ absurd (no_further limit names b bytes x y at r e.stops a.further) | inr a ↦ absurd (no_further limit names b bytes y x other s f.stops a.further) ]
+      ]

@@ -12,6 +12,7 @@ ghost use Rattle.replica.specs.declared.end.Reason.{Reason};
 ghost use Rattle.replica.specs.declared.end.Reason.TheVariants.{EndOfInput};
 ghost use Rattle.replica.specs.Stream.{Reading};
 ghost use Rattle.replica.specs.End.{End};
+ghost use Rattle.replica.specs.Told.{told_of};
 ghost use Rattle.replica.specs.Conn.{Conn, Begun, BreaksStore, IsDumpTooLong, IsOfBytes};
 ghost use Rattle.replica.specs.Sent.{SentFor};
 ghost use Rattle.replica.specs.Standing.{Stands, end_of};
@@ -42,9 +43,10 @@ pub fn stood(_session: &Session)
     ensures ended { (names : Names) (was is : Bool) (old now : Content) (b o : List ℕ) → Stands _session.now names was is old now b o → (_session.now.ended ≡ None) ↔ ((end_of _session.now).reason ≡ EndOfInput) }
 {}
 
-/// Where a connection ends by its bytes is determined by them.
+/// Where a connection ends by its bytes, and what that tells, is determined by them.
 pub fn one_end()
-    ensures { (limit : ℕ) (names : Names) (b : List ℕ) (r s : Reason) (at other : ℕ) → AllByRecursion (λ byte. byte < 256) b → End limit names b r at → End limit names b s other → at ≡ other }
+    ensures told { (limit : ℕ) (names : Names) (b : List ℕ) (r s : Reason) (at other : ℕ) → AllByRecursion (λ byte. byte < 256) b → End limit names b r at → End limit names b s other → told_of r ≡ told_of s }
+    ensures at { (limit : ℕ) (names : Names) (b : List ℕ) (r s : Reason) (at other : ℕ) → AllByRecursion (λ byte. byte < 256) b → End limit names b r at → End limit names b s other → at ≡ other }
 {}
 
 /// No reading of a connection's bytes has more payloads than that of their end.
