@@ -1,7 +1,7 @@
 mod Cuts
 mod Readers
-mod Greetings
-mod Replies
+pub mod Greetings
+pub mod Replies
 mod Responses
 mod Dumps
 mod Errors

@@ -4,3 +4,11 @@ pub mod Events
 pub mod Push
 pub mod Turning
 pub mod Dumping
+pub mod Extend
+pub mod Stood
+pub mod Advance
+pub mod Histories
+pub mod Fed
+pub mod Runs
+pub mod Told
+pub mod OneEnd

@@ -10,3 +10,4 @@ pub mod Standing
 pub mod Crash
 pub mod Over
 pub mod Pieces
+pub mod Told

@@ -88,7 +88,7 @@ first_id_of phase.Dump = 1
 -- how many more bytes a session may take in before it ends: a connection ends within 2 ^ 64 - 1 bytes and the packing
 -- of a payload behind them
 abbrev pub room_of : Session → ℕ
-room_of session = (2 ^ 64 + 2 ^ 31) - (session.at + length session.assembler.held)
+room_of session = (2 ^ 64 - session.at) + (2 ^ 31 - length session.assembler.held)
 
 -- what was taken of the bytes: so many of them, or all
 abbrev pub taken_of : Option ℕ → List ℕ → List ℕ

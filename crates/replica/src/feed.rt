@@ -66,6 +66,7 @@ impl Session {
         // A session and a store that stand at b and o stand at b and these bytes, and at o.
         ensures stands { HasCleanDisk (state S.Store store.new.conn) → (schema : Schema) (was : Bool) (old : Content) (b o : List ℕ)
             → StandsOver S.Store self.old store.old schema was old b o → StandsOver S.Store self.new store.new schema was old (b ++ bytes.now) o }
+        ensures following { store.new.following ≡ store.old.following }
         // A store that a failure has broken stays as it is.
         ensures broken { store.old.broken ≡ true → store.new ≡ store.old }
         ensures clean { HasCleanDisk (state S.Store store.new.conn) → HasCleanDisk (state S.Store store.old.conn) }
@@ -91,6 +92,7 @@ impl Session {
         ensures stands { HasCleanDisk (state S.Store store.new.conn) → (schema : Schema) (was : Bool) (old : Content) (b o : List ℕ)
             → StandsOver S.Store self.old store.old schema was old b o → StandsOver S.Store self.new store.new schema was old (b ++ taken_of result bytes.now) o }
         ensures used { IfSome result (λ used. (0 < used) × (used ≤ length bytes.now)) }
+        ensures following { store.new.following ≡ store.old.following }
         ensures broken { store.old.broken ≡ true → store.new ≡ store.old }
         ensures clean { HasCleanDisk (state S.Store store.new.conn) → HasCleanDisk (state S.Store store.old.conn) }
         ensures config { self.new.config ≡ self.old.config }

@@ -1,3 +1,55 @@
 //! What callers rely on, as laws about the definitions.
 //!
 //! A law is a function with an empty body: its clauses are proved of the definitions themselves.
+
+ghost use Rattle.std.specs.Prelude.{◌≡◌, ◌↔◌, ℕ, ◌<◌, ◌≤◌, ◌++◌, Bool, List, [], length, None};
+ghost use Rattle.std.specs.List.{AllByRecursion};
+ghost use Rattle.sqlite.specs.Held.{state};
+ghost use Rattle.binlog.specs.Follow.{Names};
+ghost use Rattle.store.specs.State.{Content};
+ghost use Rattle.store.specs.Store.{HoldsAs};
+ghost use Rattle.replica.specs.declared.end.Reason.{Reason};
+ghost use Rattle.replica.specs.declared.end.Reason.TheVariants.{EndOfInput};
+ghost use Rattle.replica.specs.Stream.{Reading};
+ghost use Rattle.replica.specs.End.{End};
+ghost use Rattle.replica.specs.Told.{told_of};
+ghost use Rattle.replica.specs.Conn.{Conn, Begun, BreaksStore, IsDumpTooLong, IsOfBytes};
+ghost use Rattle.replica.specs.Sent.{SentFor};
+ghost use Rattle.replica.specs.Standing.{Stands, end_of};
+ghost use Rattle.replica.specs.Over.{StandsOver};
+
+use crate::session::Session;
+use sqlite::Alter;
+use store::Store;
+
+/// A session that has read nothing stands over any store with the content that the store holds.
+pub fn begins<S: Alter>(_session: &Session, _store: &Store<S>)
+    ensures { (was : Bool) (content : Content) → HoldsAs S.Store was content _store.now → Stands _session.now _store.now.following was was content content [] []
+        → StandsOver S.Store _session.now _store.now (state S.Store _store.now.conn).now.schema was content [] [] }
+{}
+
+/// What a session stands at tells how its connection ends if no more comes, what the store holds, and what was sent.
+pub fn stood(_session: &Session)
+    ensures conn { (names : Names) (was is : Bool) (old now : Content) (b o : List ℕ) → Stands _session.now names was is old now b o → Conn _session.now.config.limit names was old b now (end_of _session.now) }
+    ensures sent { (names : Names) (was is : Bool) (old now : Content) (b o : List ℕ) → Stands _session.now names was is old now b o
+        → SentFor _session.now.config names old.executed b (end_of _session.now).at (o ++ _session.now.out.items) }
+    // The store holds what the first so many transactions of the bytes make of what it held.
+    ensures state { (names : Names) (was is : Bool) (old now : Content) (b o : List ℕ) → Stands _session.now names was is old now b o
+        → (count : ℕ) × Begun _session.now.config.limit names old b count (end_of _session.now).applied now }
+    // An end by the bytes is theirs.
+    ensures reason { (names : Names) (was is : Bool) (old now : Content) (b o : List ℕ) → Stands _session.now names was is old now b o → IsOfBytes (end_of _session.now).reason → (IsDumpTooLong old.executed → ⊥)
+        → End _session.now.config.limit names b (end_of _session.now).reason (end_of _session.now).at }
+    ensures store { (names : Names) (was is : Bool) (old now : Content) (b o : List ℕ) → Stands _session.now names was is old now b o → BreaksStore (end_of _session.now).reason was is }
+    ensures ended { (names : Names) (was is : Bool) (old now : Content) (b o : List ℕ) → Stands _session.now names was is old now b o → (_session.now.ended ≡ None) ↔ ((end_of _session.now).reason ≡ EndOfInput) }
+{}
+
+/// Where a connection ends by its bytes, and what that tells, is determined by them.
+pub fn one_end()
+    ensures told { (limit : ℕ) (names : Names) (b : List ℕ) (r s : Reason) (at other : ℕ) → AllByRecursion (λ byte. byte < 256) b → End limit names b r at → End limit names b s other → told_of r ≡ told_of s }
+    ensures at { (limit : ℕ) (names : Names) (b : List ℕ) (r s : Reason) (at other : ℕ) → AllByRecursion (λ byte. byte < 256) b → End limit names b r at → End limit names b s other → at ≡ other }
+{}
+
+/// No reading of a connection's bytes has more payloads than that of their end.
+pub fn longest()
+    ensures { (limit : ℕ) (names : Names) (b : List ℕ) (r : Reason) (at : ℕ) → AllByRecursion (λ byte. byte < 256) b → (e : End limit names b r at) → (q : Reading limit names b) → length q.payloads ≤ length e.reading.payloads }
+{}

@@ -100,6 +100,7 @@ impl Session {
         requires between { self.old.assembler.held ≡ [] }
         requires behind { self.old.at < end }
         ensures clean { HasCleanDisk (state S.Store store.new.conn) → HasCleanDisk (state S.Store store.old.conn) }
+        ensures following { store.new.following ≡ store.old.following }
         ensures broken { store.old.broken ≡ true → store.new ≡ store.old }
         ensures config { self.new.config ≡ self.old.config }
         ensures neither { IsNoStreamFailure (end_of self.new).reason }
@@ -118,6 +119,7 @@ impl Session {
         requires going { self.old.ended ≡ None }
         requires between { (self.old.assembler.held ≡ []) × (self.old.assembler.ended ≡ false) }
         ensures clean { HasCleanDisk (state S.Store store.new.conn) → HasCleanDisk (state S.Store store.old.conn) }
+        ensures following { store.new.following ≡ store.old.following }
         ensures broken { store.old.broken ≡ true → store.new ≡ store.old }
         ensures config { self.new.config ≡ self.old.config }
         ensures neither { IsNoStreamFailure (end_of self.new).reason }

@@ -1,0 +1,216 @@
+-- One step of a session: some bytes, and what they complete.
+use Rattle.std.proofs.Common.{◌≡◌, ◌≢◌, ℕ, ◌⊎◌, ◌≤◌, ◌<◌, ◌+◌, ◌-◌, ◌^◌, Bool, true, false, List, [], ◌∷◌, ◌++◌, length, take, refl, sym, ap, ◌∙◌, inl, inr, Option, Some, None, is_some, MatchOption, unwrap_or, append_assoc, append-nil, subst, IfSome, IfNone, arith}
+use Rattle.std.proofs.lemmas.List.{length-append}
+use Rattle.wire.specs.declared.fault.WireFault.{WireFault}
+use Rattle.wire.specs.declared.fault.WireFault.TheVariants as wire
+use Rattle.wire.specs.Payload.{ReaderState, IsWholePayload, IsUnfinished, IsOutOfSequence, IsTooLarge}
+use Rattle.binlog.specs.Follow.{Names}
+use Rattle.gather.specs.declared.gatherer.Gatherer.{Gatherer}
+use Rattle.sqlite_trees.specs.declared.store.Store.{Ghosts}
+use Rattle.sqlite_trees.specs.Tree.{Trees}
+use Rattle.sqlite_schema.specs.declared.schema.Schema.{Schema}
+use Rattle.sqlite.specs.Held.{state}
+use Rattle.store.specs.State.{Content}
+use Rattle.store.specs.declared.store.Store.{Store}
+use Rattle.store.specs.Store.{AreOf}
+use Rattle.replica.specs.declared.end.Reason.{Reason}
+use Rattle.replica.specs.declared.end.Reason.TheVariants.{EndOfInput, Memory, Wire}
+use Rattle.replica.specs.declared.end.Ended.{Ended}
+use Rattle.replica.specs.declared.phase.Phase.{Phase}
+use Rattle.replica.specs.declared.session.Session.{Session}
+use Rattle.replica.specs.Settings.{Settings}
+use Rattle.replica.specs.Stream.{Payload}
+use Rattle.replica.specs.End.{IsWrong}
+use Rattle.replica.specs.Conn.{Why}
+use Rattle.replica.specs.Crash.{IsLeft}
+use Rattle.replica.specs.Turn.{reason_of}
+use Rattle.replica.specs.Standing.{GoesOn, HasEnded, HasPayload, Stands, Meets, end_of}
+use Rattle.replica.specs.Over.{StandsOver, MeetsOver, LeavesOnly}
+use Rattle.replica.proofs.Extend.{extended, left-append}
+use Rattle.replica.proofs.Stood.{stands-append, going}
+
+both : true ≡ false → ⊥
+both e = cc
+
+module _ (settings : Settings) (a : ReaderState) (gatherer : Gatherer) (phase : Phase) (at applied : ℕ) (names : Names) (was is : Bool) (old now : Content) (b all more : List ℕ)
+    (g : GoesOn settings a gatherer phase at applied names was is old now b all) where
+  -- a header is wrong
+  ended-wire : (fault : WireFault) → IsWrong g.reading.id settings.limit (g.reading.rest ++ more) fault → HasEnded settings names was is old now (b ++ more) all (record { reason = Wire fault; at = at; applied = applied })
+  ended-wire fault w = record {
+    conn = record { reading = extended settings.limit names b more g.reading; took = g.took; why = inl (g.at_is, inl w) };
+    more = λ e. cc;
+    sent = record { payloads = g.reading.payloads; taken = record { reading = extended settings.limit names b more g.reading; payloads_are = refl; at_is = inl g.at_is }; sent = g.sent };
+    store = g.store;
+  }
+
+  -- there was no memory
+  ended-memory : HasEnded settings names was is old now (b ++ more) all (record { reason = Memory; at = at; applied = applied })
+  ended-memory = record {
+    conn = record { reading = extended settings.limit names b more g.reading; took = g.took; why = g.at_is };
+    more = λ e. cc;
+    sent = record { payloads = g.reading.payloads; taken = record { reading = extended settings.limit names b more g.reading; payloads_are = refl; at_is = inl g.at_is }; sent = g.sent };
+    store = λ h. g.store ∙ h;
+  }
+
+  rest-now : g.reading.rest ++ more ≡ a.held ++ more
+  rest-now = ap (λ (l : List ℕ). l ++ more) g.held
+
+  told_as : (fault : WireFault)
+      → ((want got : ℕ) → fault ≡ wire.Sequence want got → IsOutOfSequence a.due a.limit (a.held ++ more) want got) → (fault ≡ wire.TooLarge → IsTooLarge a.due a.limit (a.held ++ more)) → (fault ≡ wire.Ended → a.ended ≡ true)
+      → HasEnded settings names was is old now (b ++ more) all (record { reason = reason_of fault; at = at; applied = applied })
+  told_as (wire.Sequence want got) sequence large ended =
+      ended-wire (wire.Sequence want got)
+      (subst (λ l. IsOutOfSequence g.reading.id settings.limit l want got) (sym rest-now)
+      (subst (λ n. IsOutOfSequence g.reading.id n (a.held ++ more) want got) g.limit (subst (λ n. IsOutOfSequence n a.limit (a.held ++ more) want got) g.id (sequence want got refl))))
+  told_as wire.TooLarge sequence large ended =
+      ended-wire wire.TooLarge
+      (subst (λ l. IsTooLarge g.reading.id settings.limit l) (sym rest-now)
+      (subst (λ n. IsTooLarge g.reading.id n (a.held ++ more)) g.limit (subst (λ n. IsTooLarge n a.limit (a.held ++ more)) g.id (large refl))))
+  told_as wire.Memory sequence large ended = ended-memory
+  told_as wire.Ended sequence large ended = absurd (both (sym (ended refl) ∙ g.reads))
+
+  -- no payload is whole yet
+  goes_on-unfinished : IsUnfinished a.due a.limit (a.held ++ more) → GoesOn settings (record a { held = a.held ++ more }) gatherer phase at applied names was is old now (b ++ more) all
+  goes_on-unfinished u = record {
+    reading = extended settings.limit names b more g.reading;
+    held = rest-now;
+    at_is = g.at_is;
+    limit = g.limit;
+    id = g.id;
+    reads = g.reads;
+    unfinished = subst (λ n. IsUnfinished g.reading.id n (a.held ++ more)) g.limit (subst (λ n. IsUnfinished n a.limit (a.held ++ more)) g.id u);
+    awaits = g.awaits;
+    gathers = g.gathers;
+    took = g.took;
+    sent = g.sent;
+    store = g.store;
+  }
+
+  -- a payload is whole
+  has_payload : (p : Payload) (next : ℕ) → IsWholePayload a.due a.limit (a.held ++ more) p next → HasPayload settings (record a { due = next; held = [] }) gatherer phase at applied names was is old now (b ++ more) all p
+  has_payload p next whole = record {
+    reading = extended settings.limit names b more g.reading;
+    whole = subst (λ l. IsWholePayload g.reading.id settings.limit l p next) (sym rest-now)
+        (subst (λ n. IsWholePayload g.reading.id n (a.held ++ more) p next) g.limit (subst (λ n. IsWholePayload n a.limit (a.held ++ more) p next) g.id whole));
+    at_is = g.at_is;
+    limit = g.limit;
+    held = refl;
+    reads = g.reads;
+    awaits = g.awaits;
+    gathers = g.gathers;
+    took = g.took;
+    sent = g.sent;
+    store = g.store;
+  }
+
+-- what a crash leaves of a session that goes on
+left_here : (session : Session) (limit : ℕ) (names : Names) (old : Content) (b : List ℕ) (now left : Content) → session.ended ≡ None → IsLeft limit names old b now (end_of session) left → left ≡ now
+left_here session limit names old b now left none l = elim l [
+  | inl e ↦ e
+  | inr m ↦ (
+    let going_on : (end_of session).reason ≡ EndOfInput = ap (λ (v : Option Ended). (unwrap_or v (record { reason = EndOfInput; at = session.at; applied = session.applied })).reason) none in
+    let failed = m.failed in
+    cc
+  )
+]
+
+module _ {S : Type 0} (g : Ghosts S) (store : Store S g) (schema : Schema) (was : Bool) (old : Content) (b o : List ℕ) where
+  leaves_now : (session : Session) (limit : ℕ) (now : Content) → session.ended ≡ None
+      → LeavesOnly g schema store (IsLeft limit store.following old b now (end_of session)) → LeavesOnly g schema store (λ left. left ≡ now)
+  leaves_now session limit now none l = record {
+    each = λ trees may.
+        let e = l.each trees may in
+        (e.0, e.1, left_here session limit store.following old b now e.0 none e.2);
+  }
+
+  leaves_so : (limit : ℕ) (now : Content) (end : Ended) (bytes : List ℕ) → LeavesOnly g schema store (λ left. left ≡ now) → LeavesOnly g schema store (IsLeft limit store.following old bytes now end)
+  leaves_so limit now end bytes l = record {
+    each = λ trees may.
+        let e = l.each trees may in
+        (e.0, e.1, inl e.2);
+  }
+
+  -- after the end the session reads nothing
+  pub over-append : (session : Session) (more : List ℕ) → is_some session.ended ≡ true → StandsOver g session store schema was old b o → StandsOver g session store schema was old (b ++ more) o
+  over-append session more ended s = record {
+    is = s.is;
+    now = s.now;
+    holds = s.holds;
+    stands = stands-append session store.following was s.is old s.now b o more ended s.stands;
+    schema_is = s.schema_is;
+    kept = s.kept;
+    leaves = λ w. record {
+      each = λ trees may.
+          let e = (s.leaves w).each trees may in
+          (e.0, e.1, left-append session.config.limit store.following old b more s.now (end_of session) e.0 e.2);
+    };
+  }
+
+  -- a header was wrong, or memory ran out
+  pub over-fault : (session after : Session) (more : List ℕ) (fault : WireFault) → session.ended ≡ None
+      → after.config ≡ session.config → after.out ≡ session.out → after.ended ≡ Some (record { reason = reason_of fault; at = session.at; applied = session.applied })
+      → ((want got : ℕ) → fault ≡ wire.Sequence want got → IsOutOfSequence session.assembler.due session.assembler.limit (session.assembler.held ++ more) want got)
+      → (fault ≡ wire.TooLarge → IsTooLarge session.assembler.due session.assembler.limit (session.assembler.held ++ more)) → (fault ≡ wire.Ended → session.assembler.ended ≡ true)
+      → StandsOver g session store schema was old b o → StandsOver g after store schema was old (b ++ more) o
+  unfolding Stands
+  over-fault session after more fault none config out ended_so sequence large ended s =
+      let goes = going session store.following was s.is old s.now b o none s.stands in
+      let has = told_as session.config session.assembler session.gatherer session.phase session.at session.applied store.following was s.is old s.now b (o ++ session.out.items) more goes fault sequence large ended in
+      record {
+        is = s.is;
+        now = s.now;
+        holds = s.holds;
+        stands = rw (ended_so, config, out) has;
+        schema_is = s.schema_is;
+        kept = s.kept;
+        leaves = λ w. leaves_so after.config.limit s.now (end_of after) (b ++ more) (leaves_now session session.config.limit s.now none (s.leaves w));
+      }
+
+  -- no payload was whole
+  pub over-unfinished : (session after : Session) (more : List ℕ) → session.ended ≡ None → after.ended ≡ None
+      → after.config ≡ session.config → after.assembler ≡ record session.assembler { held = session.assembler.held ++ more } → after.gatherer ≡ session.gatherer → after.phase ≡ session.phase
+      → after.at ≡ session.at → after.applied ≡ session.applied → after.out ≡ session.out
+      → IsUnfinished session.assembler.due session.assembler.limit (session.assembler.held ++ more)
+      → StandsOver g session store schema was old b o → StandsOver g after store schema was old (b ++ more) o
+  unfolding Stands
+  over-unfinished session after more none still config assembler gatherer phase at applied out u s =
+      let goes = going session store.following was s.is old s.now b o none s.stands in
+      let on = goes_on-unfinished session.config session.assembler session.gatherer session.phase session.at session.applied store.following was s.is old s.now b (o ++ session.out.items) more goes u in
+      record {
+        is = s.is;
+        now = s.now;
+        holds = s.holds;
+        stands = rw (still, config, assembler, gatherer, phase, at, applied, out) on;
+        schema_is = s.schema_is;
+        kept = s.kept;
+        leaves = λ w. leaves_so after.config.limit s.now (end_of after) (b ++ more) (leaves_now session session.config.limit s.now none (s.leaves w));
+      }
+
+  -- a payload has come
+  pub over-payload : (session after : Session) (more : List ℕ) (p : Payload) (next : ℕ) → session.ended ≡ None
+      → after.config ≡ session.config → after.assembler ≡ record session.assembler { due = next; held = [] } → after.gatherer ≡ session.gatherer → after.phase ≡ session.phase
+      → after.at ≡ session.at → after.applied ≡ session.applied → after.out ≡ session.out
+      → IsWholePayload session.assembler.due session.assembler.limit (session.assembler.held ++ more) p next
+      → StandsOver g session store schema was old b o → MeetsOver g after store schema was old (b ++ more) o p
+  over-payload session after more p next none config assembler gatherer phase at applied out whole s =
+      let goes = going session store.following was s.is old s.now b o none s.stands in
+      let has = has_payload session.config session.assembler session.gatherer session.phase session.at session.applied store.following was s.is old s.now b (o ++ session.out.items) more goes p next whole in
+      record {
+        is = s.is;
+        now = s.now;
+        holds = s.holds;
+        meets = rw (config, assembler, gatherer, phase, at, applied, out) has;
+        schema_is = s.schema_is;
+        kept = s.kept;
+        leaves = λ w. leaves_now session session.config.limit s.now none (s.leaves w);
+      }
+
+pub none_behind : (v : Option Ended) → is_some v ≡ false → v ≡ None
+none_behind None e = refl
+none_behind (Some end) e = absurd (both e)
+
+pub at_some : {X : Type 0} (P : X → Type 0) (v : Option X) (x : X) → v ≡ Some x → IfSome v P → P x
+at_some P v x e h = subst (λ (w : Option _). IfSome w P) e h
+
+pub at_none : {X : Type 0} (P : Type 0) (v : Option X) → v ≡ None → IfNone v P → P
+at_none P v e h = subst (λ (w : Option _). IfNone w P) e h

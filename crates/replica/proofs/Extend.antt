@@ -1,0 +1,144 @@
+-- What ends a connection still ends it when more bytes follow.
+use Rattle.std.proofs.Common.{◌≡◌, ◌≢◌, ℕ, ◌⊎◌, Bool, List, [], ◌∷◌, ◌++◌, length, refl, sym, ap, ◌∙◌, inl, inr, append_assoc}
+use Rattle.wire.specs.declared.fault.WireFault.{WireFault}
+use Rattle.wire.specs.declared.fault.WireFault.TheVariants as wire
+use Rattle.wire.proofs.OneReading.{more_wrong, more_large}
+use Rattle.gtid.specs.Identifier.{Ids}
+use Rattle.binlog.specs.Follow.{Names}
+use Rattle.binlog.specs.Event.{EventValue}
+use Rattle.gather.specs.Transaction.{DeliveryValue}
+use Rattle.store.specs.State.{Content}
+use Rattle.replica.specs.declared.end.Reason.{Reason}
+use Rattle.replica.specs.declared.end.Reason.TheVariants.{EndOfInput, SourceEof, SourceError, Wire, Greet, Event, Gather, Refused, Database, Memory, ReadFailed, WriteFailed}
+use Rattle.replica.specs.declared.end.Ended.{Ended}
+use Rattle.replica.specs.Settings.{Settings}
+use Rattle.replica.specs.Stream.{Payload, Due, Reading, due_behind}
+use Rattle.replica.specs.End.{HasNext, StopsAt, PassesEnd, EndsLog, EndsWith, StopsFor, IsWrong}
+use Rattle.replica.specs.Conn.{NextEnds, NextAnswers, IsRefusedNext, IsDueNext, Why, Conn}
+use Rattle.replica.specs.Sent.{Taken, SentFor}
+use Rattle.replica.specs.Crash.{IsOneMore, IsLeft}
+
+pub front-append : (b x rest more : List ℕ) → b ≡ x ++ rest → b ++ more ≡ x ++ (rest ++ more)
+front-append b x rest more h = ap (λ (l : List ℕ). l ++ more) h ∙ append_assoc x rest more
+
+-- the same reading of more bytes
+abbrev pub extended : (limit : ℕ) (names : Names) (b more : List ℕ) → Reading limit names b → Reading limit names (b ++ more)
+extended limit names b more r = record {
+  payloads = r.payloads;
+  front = r.front;
+  events = r.events;
+  deliveries = r.deliveries;
+  id = r.id;
+  rest = r.rest ++ more;
+  bytes = front-append b r.front r.rest more r.bytes;
+  talk = r.talk;
+}
+
+abbrev pub next-append : (limit id : ℕ) (r : List ℕ) (p : Payload) (more : List ℕ) → HasNext limit id r p → HasNext limit id (r ++ more) p
+next-append limit id r p more n = record { packing = n.packing; more = n.more ++ more; behind = n.behind; whole = n.whole; bytes = front-append r n.packing n.more more n.bytes }
+
+wrong-append : (id limit : ℕ) (r more : List ℕ) (fault : WireFault) → IsWrong id limit r fault → IsWrong id limit (r ++ more) fault
+wrong-append id limit r more (wire.Sequence want got) w = more_wrong more w
+wrong-append id limit r more wire.TooLarge w = more_large more w
+wrong-append id limit r more wire.Memory w = absurd w
+wrong-append id limit r more wire.Ended w = absurd w
+
+module _ (limit : ℕ) (names : Names) (due : Due) (es : List EventValue) (taken id : ℕ) (r more : List ℕ) where
+  abbrev pub at-append : (p : Payload) → StopsAt limit names due es taken id r p → StopsAt limit names due es taken id (r ++ more) p
+  at-append p s = record { next = next-append limit id r p more s.next; within = s.within }
+
+  passes-append : PassesEnd limit names due es taken id r → PassesEnd limit names due es taken id (r ++ more)
+  passes-append s = record { payload = s.payload; next = next-append limit id r s.payload more s.next; beyond = s.beyond }
+
+  pub log-append : (at : ℕ) → EndsLog limit names due es taken id r at → EndsLog limit names due es taken id (r ++ more) at
+  log-append at s = record { payload = s.payload; stops = at-append s.payload s.stops; in_dump = s.in_dump; is_eof = s.is_eof; at_is = s.at_is }
+
+  with-append : (reason : Reason) → EndsWith limit names due es taken id r reason → EndsWith limit names due es taken id (r ++ more) reason
+  with-append reason s = record { payload = s.payload; stops = at-append s.payload s.stops; denied = s.denied }
+
+  pub stops-append : (at : ℕ) (reason : Reason) → reason ≢ EndOfInput → StopsFor limit names due es taken id r at reason → StopsFor limit names due es taken id (r ++ more) at reason
+  stops-append at EndOfInput h s = absurd (h refl)
+  stops-append at SourceEof h s = log-append at s
+  stops-append at (SourceError code state message) h s = (s.0, with-append (SourceError code state message) s.1)
+  stops-append at (Wire fault) h s = (
+    s.0,
+    elim s.1 [
+      | inl w ↦ inl (wrong-append id limit r more fault w)
+      | inr e ↦ inr (e.0, passes-append e.1)
+    ],
+  )
+  stops-append at (Greet fault) h s = (s.0, with-append (Greet fault) s.1)
+  stops-append at (Event fault) h s = (s.0, with-append (Event fault) s.1)
+  stops-append at (Gather fault) h s = (s.0, with-append (Gather fault) s.1)
+  stops-append at (Refused refusal) h s = s
+  stops-append at (Database cause) h s = s
+  stops-append at Memory h s = s
+  stops-append at ReadFailed h s = s
+  stops-append at WriteFailed h s = s
+
+  module _ (ds : List DeliveryValue) where
+    pub ends-append : (d : DeliveryValue) → NextEnds limit names due es ds taken id r d → NextEnds limit names due es ds taken id (r ++ more) d
+    ends-append d n = record { payload = n.payload; stops = at-append n.payload n.stops; in_dump = n.in_dump; event = n.event; carries = n.carries; delivers = n.delivers }
+
+    answers-append : NextAnswers limit names due es ds taken id r → NextAnswers limit names due es ds taken id (r ++ more)
+    answers-append n = record { payload = n.payload; stops = at-append n.payload n.stops; due_is = n.due_is; is_ok = n.is_ok }
+
+    pub why-append : (was : Bool) (old new : Content) (at : ℕ) (reason : Reason) → reason ≢ EndOfInput → Why limit names due es ds taken id r was old new at reason → Why limit names due es ds taken id (r ++ more) was old new at reason
+    why-append was old new at EndOfInput h w = absurd (h refl)
+    why-append was old new at SourceEof h w = stops-append at SourceEof h w
+    why-append was old new at (SourceError code state message) h w = stops-append at (SourceError code state message) h w
+    why-append was old new at (Wire fault) h w = elim w [
+      | inl s ↦ inl (stops-append at (Wire fault) h s)
+      | inr s ↦ inr (s.0, s.1, answers-append s.2, s.3)
+    ]
+    why-append was old new at (Greet fault) h w = stops-append at (Greet fault) h w
+    why-append was old new at (Event fault) h w = stops-append at (Event fault) h w
+    why-append was old new at (Gather fault) h w = stops-append at (Gather fault) h w
+    why-append was old new at (Refused refusal) h w = (w.0, record { delivery = w.1.delivery; ends = ends-append w.1.delivery w.1.ends; refused = w.1.refused })
+    why-append was old new at (Database cause) h w = (w.0, record { delivery = w.1.delivery; ends = ends-append w.1.delivery w.1.ends; due_is = w.1.due_is })
+    why-append was old new at Memory h w = w
+    why-append was old new at ReadFailed h w = w
+    why-append was old new at WriteFailed h w = elim w [ inl e ↦ inl e | inr f ↦ inr (log-append at f) ]
+
+-- a connection that has ended ends so whatever follows
+pub conn-append : (limit : ℕ) (names : Names) (was : Bool) (old : Content) (b more : List ℕ) (new : Content) (end : Ended) → end.reason ≢ EndOfInput → Conn limit names was old b new end → Conn limit names was old (b ++ more) new end
+conn-append limit names was old b more new end h c =
+    let r = c.reading in
+    record {
+      reading = extended limit names b more r;
+      took = c.took;
+      why = why-append limit names (due_behind r.payloads) r.events (length r.front) r.id r.rest more r.deliveries was old new end.at end.reason h c.why;
+    }
+
+pub taken-append : (limit : ℕ) (names : Names) (b more : List ℕ) (at : ℕ) (payloads : List Payload) → Taken limit names b at payloads → Taken limit names (b ++ more) at payloads
+taken-append limit names b more at payloads t =
+    let r = t.reading in
+    record {
+      reading = extended limit names b more r;
+      payloads_are = t.payloads_are;
+      at_is = elim t.at_is [
+        | inl h ↦ inl h
+        | inr h ↦ inr (log-append limit names (due_behind r.payloads) r.events (length r.front) r.id r.rest more at h)
+      ];
+    }
+
+pub sent-append : (settings : Settings) (names : Names) (executed : Ids) (b more : List ℕ) (at : ℕ) (o : List ℕ) → SentFor settings names executed b at o → SentFor settings names executed (b ++ more) at o
+sent-append settings names executed b more at o s = record { payloads = s.payloads; taken = taken-append settings.limit names b more at s.payloads s.taken; sent = s.sent }
+
+-- and what a crash leaves of it
+pub one_more-append : (limit : ℕ) (names : Names) (old : Content) (b more : List ℕ) (new : Content) (end : Ended) (left : Content) → IsOneMore limit names old b new end left → IsOneMore limit names old (b ++ more) new end left
+one_more-append limit names old b more new end left m =
+    let r = m.reading in
+    record {
+      cause = m.cause;
+      failed = m.failed;
+      reading = extended limit names b more r;
+      at_is = m.at_is;
+      took = m.took;
+      next = m.next;
+      ends = ends-append limit names (due_behind r.payloads) r.events (length r.front) r.id r.rest more r.deliveries m.next m.ends;
+      takes = m.takes;
+    }
+
+pub left-append : (limit : ℕ) (names : Names) (old : Content) (b more : List ℕ) (new : Content) (end : Ended) (left : Content) → IsLeft limit names old b new end left → IsLeft limit names old (b ++ more) new end left
+left-append limit names old b more new end left l = elim l [ inl e ↦ inl e | inr m ↦ inr (one_more-append limit names old b more new end left m) ]

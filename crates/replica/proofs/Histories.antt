@@ -1,0 +1,74 @@
+-- A list of connections, and one more.
+use Rattle.std.proofs.Common.{◌≡◌, ℕ, ◌⊎◌, Bool, true, false, List, [], ◌∷◌, ◌++◌, ◌<◌, ◌+◌, length, take, map, inl, inr, refl, sym, ap, ◌∙◌, subst, append_assoc, arith, Vec, Global}
+use Rattle.std.proofs.lemmas.List.{map-append, take_more, append-nil}
+use Rattle.std.proofs.lemmas.Grind.{flat_map-append}
+use Rattle.binlog.specs.Follow.{Names}
+use Rattle.store.specs.State.{Content}
+use Rattle.replica.specs.declared.end.Ended.{Ended}
+use Rattle.replica.specs.declared.end.Reason.TheVariants.{Memory}
+use Rattle.replica.specs.Conn.{Conn, BreaksStore, History}
+use Rattle.replica.specs.Crash.{IsOneMore, IsOneMoreIn, IsLeft, IsLeftOfAll}
+use Rattle.replica.specs.Pieces.{stream_of, streams_of}
+use Rattle.replica.proofs.Stood.{unread}
+
+pub history-append : (limit : ℕ) (names : Names) (was : Bool) (old : Content) (bs : List (List ℕ)) (is : Bool) (mid : Content) (ends : List Ended) (b : List ℕ) (after : Bool) (new : Content) (end : Ended)
+    → History limit names was old bs is mid ends → Conn limit names is mid b new end → BreaksStore end.reason is after
+    → History limit names was old (bs ++ b ∷ []) after new (ends ++ end ∷ [])
+history-append limit names was old [] is mid [] b after new end h c s =
+    let conn : Conn limit names was old b new end = subst (λ (v : Bool). Conn limit names v old b new end) h.0 (subst (λ (st : Content). Conn limit names is st b new end) h.1 c) in
+    let breaks : BreaksStore end.reason was after = subst (λ (v : Bool). BreaksStore end.reason v after) h.0 s in
+    (new, after, conn, breaks, (refl, refl))
+history-append limit names was old (x ∷ bs) is mid (e ∷ ends) b after new end h c s =
+    (h.0, h.1, h.2, h.3, history-append limit names h.1 h.0 bs is mid ends b after new end h.4 c s)
+history-append limit names was old [] is mid (e ∷ ends) b after new end h c s = absurd h
+history-append limit names was old (x ∷ bs) is mid [] b after new end h c s = absurd h
+
+either : (b : Bool) → (b ≡ false) ⊎ (b ≡ true)
+either false = inl refl
+either true = inr refl
+
+later : (limit : ℕ) (names : Names) (was : Bool) (old : Content) (bs : List (List ℕ)) (ends : List Ended) (left : Content) (b : List ℕ) (end : Ended) → IsOneMoreIn limit names was old bs ends left → IsOneMoreIn limit names was old (bs ++ b ∷ []) (ends ++ end ∷ []) left
+later limit names was old bs ends left b end m = record {
+  before = m.before;
+  b = m.b;
+  after = m.after ++ b ∷ [];
+  ends_before = m.ends_before;
+  end = m.end;
+  ends_after = m.ends_after ++ end ∷ [];
+  mid = m.mid;
+  new = m.new;
+  connections = ap (λ (l : List (List ℕ)). l ++ b ∷ []) m.connections ∙ append_assoc m.before (m.b ∷ m.after) (b ∷ []);
+  ends_are = ap (λ (l : List Ended). l ++ end ∷ []) m.ends_are ∙ append_assoc m.ends_before (m.end ∷ m.ends_after) (end ∷ []);
+  history = m.history;
+  conn = m.conn;
+  more = m.more;
+}
+
+-- what a crash leaves of one connection more, over a whole store
+pub here : (limit : ℕ) (names : Names) (was : Bool) (old : Content) (bs : List (List ℕ)) (mid : Content) (ends : List Ended) (b : List ℕ) (new : Content) (end : Ended) (left : Content)
+    → History limit names was old bs false mid ends → Conn limit names false mid b new end → IsLeft limit names mid b new end left → IsLeftOfAll limit names was old (bs ++ b ∷ []) new (ends ++ end ∷ []) left
+here limit names was old bs mid ends b new end left history conn l = elim l [
+  | inl e ↦ inl e
+  | inr m ↦ inr (record { before = bs; b = b; after = []; ends_before = ends; end = end; ends_after = []; mid = mid; new = new; connections = refl; ends_are = refl; history = history; conn = conn; more = m })
+]
+
+-- and over one that stays as it was
+pub stays : (limit : ℕ) (names : Names) (was : Bool) (old : Content) (bs : List (List ℕ)) (mid new : Content) (ends : List Ended) (b : List ℕ) (end : Ended) (left : Content) → new ≡ mid
+    → IsLeftOfAll limit names was old bs mid ends left → IsLeftOfAll limit names was old (bs ++ b ∷ []) new (ends ++ end ∷ []) left
+stays limit names was old bs mid new ends b end left same l = elim l [
+  | inl e ↦ inl (e ∙ sym same)
+  | inr m ↦ inr (later limit names was old bs ends left b end m)
+]
+
+-- nothing was read for want of memory
+pub conn-unread : (limit : ℕ) (names : Names) (was : Bool) (content : Content) (b : List ℕ) → Conn limit names was content b content (record { reason = Memory; at = 0; applied = 0 })
+conn-unread limit names was content b = record {
+  reading = unread limit names b;
+  took = record { takes = (refl, refl); asked = λ in_dump. absurd in_dump };
+  why = refl;
+}
+
+-- the pieces so far, and one more
+pub stream-more : (pieces : List (Vec ℕ Global)) (i : ℕ) (piece : Vec ℕ Global) → take (i + 1) pieces ≡ take i pieces ++ piece ∷ [] → stream_of (take (i + 1) pieces) ≡ stream_of (take i pieces) ++ piece.items
+stream-more pieces i piece more =
+    ap stream_of more ∙ flat_map-append (λ (p : Vec ℕ Global). p.items) (take i pieces) (piece ∷ []) ∙ ap (λ (l : List ℕ). stream_of (take i pieces) ++ l) (append-nil piece.items)

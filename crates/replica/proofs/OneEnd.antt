@@ -1,0 +1,641 @@
+-- A connection's bytes have one end.
+use Rattle.std.proofs.Common.{if◌then◌else◌, ◌==◌, ◌≡◌, ◌≢◌, ℕ, ◌⊎◌, ◌≤◌, ◌<◌, ◌+◌, ◌^◌, ◌%◌, suc, Bool, true, false, List, [], ◌∷◌, ◌++◌, length, take, refl, sym, ap, ◌∙◌, inl, inr, Some, None, Option, subst, append_assoc, arith}
+use Rattle.std.proofs.lemmas.List.{length-append}
+use Rattle.std.proofs.Math.Seq.{take-append_seam}
+use Rattle.std.specs.List.{AllByRecursion, concat}
+use Rattle.wire.specs.declared.fault.WireFault.{WireFault}
+use Rattle.wire.specs.declared.fault.WireFault.TheVariants as wire
+use Rattle.wire.specs.Packet.{IsPacking, packet, packets}
+use Rattle.wire.specs.Payload.{IsWholePayload, IsUnfinished, IsOutOfSequence, IsTooLarge}
+use Rattle.wire.proofs.OnePacking.{none_begins}
+use Rattle.wire.proofs.OneReading.{wrong_or_whole, large_or_whole, one_wrong_id, wrong_or_large}
+use Rattle.byteorder.specs.Endian.{little_bytes}
+use Rattle.greet.specs.Message.{IsEofPacket}
+use Rattle.greet.specs.Refusal.{Refusal, server_error}
+use Rattle.greet.specs.View.{Refuses}
+use Rattle.greet.specs.declared.fault.GreetFault.{GreetFault}
+use Rattle.greet.specs.declared.fault.GreetFault.TheVariants as greet
+use Rattle.greet.proofs.Replies.{switch_not_refused, ok_not_refused, ok_reply_not_refused, eof_not_refused}
+use Rattle.greet.proofs.Greetings.{not_refused}
+use Rattle.binlog.specs.Follow.{Names}
+use Rattle.binlog.specs.Event.{EventValue, IsEvent, event_fault}
+use Rattle.binlog.specs.declared.fault.EventFault.{EventFault}
+use Rattle.binlog.proofs.Events.{one_event, event_not_refused}
+use Rattle.gather.specs.Transaction.{DeliveryValue, AreDeliveries, IsLawful}
+use Rattle.gather.specs.Fault.{IsFault, IsRead}
+use Rattle.gather.specs.declared.fault.GatherFault.{GatherFault}
+use Rattle.gather.proofs.NextEvents.{not_both, one as one_fault}
+use Rattle.gather.proofs.Shortening.{beginning}
+use Rattle.replica.specs.declared.end.Reason.{Reason}
+use Rattle.replica.specs.declared.end.Reason.TheVariants.{EndOfInput, SourceEof, SourceError, Wire, Greet, Event, Gather, Refused, Database, Memory, ReadFailed, WriteFailed}
+use Rattle.replica.specs.Stream.{Payload, Due, Hello, Reply, SecondReply, QueryReply, InDump, IsInDump, Carries, Answers, Talks, Conversation, Reading, next_due, next_id, due_from, due_behind}
+use Rattle.replica.specs.Message.{refusal_of, begins_event, IsNoEvent, IsOfMessage}
+use Rattle.replica.specs.Told.{Told, Verdict, told_of, refusal_told}
+use Rattle.replica.specs.Told as told
+use Rattle.replica.specs.End.{HasNext, StopsAt, PassesEnd, EndsLog, EndsWith, StopsFor, IsWrong, Denies, End}
+
+both : true ≡ false → ⊥
+both e = cc
+
+
+all_front : (xs ys : List ℕ) → AllByRecursion (λ b. b < 256) (xs ++ ys) → AllByRecursion (λ b. b < 256) xs
+all_front [] ys h = tt
+all_front (x ∷ xs) ys h = (h.0, all_front xs ys h.1)
+
+all_back : (xs ys : List ℕ) → AllByRecursion (λ b. b < 256) (xs ++ ys) → AllByRecursion (λ b. b < 256) ys
+all_back [] ys h = h
+all_back (x ∷ xs) ys h = all_back xs ys h.1
+
+all_both : (xs ys : List ℕ) → AllByRecursion (λ b. b < 256) xs → AllByRecursion (λ b. b < 256) ys → AllByRecursion (λ b. b < 256) (xs ++ ys)
+all_both [] ys g h = h
+all_both (x ∷ xs) ys g h = (g.0, all_both xs ys g.1 h)
+
+-- the bytes of a payload are bytes of its packing
+of_packet : (id : ℕ) (chunk rest : List ℕ) → AllByRecursion (λ b. b < 256) (packet id chunk ++ rest) → AllByRecursion (λ b. b < 256) chunk
+of_packet id chunk rest h =
+    let one : AllByRecursion (λ b. b < 256) (little_bytes 3 (length chunk) ++ (id % 256 ∷ chunk)) = all_front (packet id chunk) rest h in
+    let tail : AllByRecursion (λ b. b < 256) (id % 256 ∷ chunk) = all_back (little_bytes 3 (length chunk)) (id % 256 ∷ chunk) one in
+    tail.1
+
+payload_bytes : (id : ℕ) (chunks : List (List ℕ)) (last : List ℕ) → AllByRecursion (λ b. b < 256) (packets id (chunks ++ last ∷ [])) → AllByRecursion (λ b. b < 256) (concat chunks ++ last)
+payload_bytes id [] last h = of_packet id last [] h
+payload_bytes id (chunk ∷ chunks) last h =
+    let rest = payload_bytes (suc id) chunks last (all_back (packet id chunk) (packets (suc id) (chunks ++ last ∷ [])) h) in
+    subst (λ l. AllByRecursion (λ b. b < 256) l) (sym (append_assoc chunk (concat chunks) last)) (all_both chunk (concat chunks ++ last) (of_packet id chunk (packets (suc id) (chunks ++ last ∷ [])) h) rest)
+
+whole_bytes : (id limit : ℕ) (packing : List ℕ) (p : Payload) (behind : ℕ) → IsWholePayload id limit packing p behind → AllByRecursion (λ b. b < 256) packing → AllByRecursion (λ b. b < 256) p
+whole_bytes id limit packing p behind w h =
+    let k = w.packing in
+    subst (λ l. AllByRecursion (λ b. b < 256) l) (sym k.cut) (payload_bytes id k.chunks k.last (subst (λ l. AllByRecursion (λ b. b < 256) l) k.packed h))
+
+-- ---- What a payload carries.
+carries_same : (names : Names) (p : Payload) (e f : EventValue) → Carries names p e → Carries names p f → e ≡ f
+carries_same names p e f c d =
+    let same : c.body ≡ d.body = (let x = c.payload_is in let y = d.payload_is in cc) in
+    one_event names e f d.body (subst (λ l. IsEvent names e l) same c.is_event) d.is_event
+
+one_answer : (names : Names) (due : Due) (p : Payload) (es fs : List EventValue) → Answers names due p es → Answers names due p fs → es ≡ fs
+one_answer names Hello p es fs a b = a.1 ∙ sym b.1
+one_answer names Reply p es fs a b = a.1 ∙ sym b.1
+one_answer names SecondReply p es fs a b = a.1 ∙ sym b.1
+one_answer names QueryReply p es fs a b = a.1 ∙ sym b.1
+one_answer names InDump p es fs a b = a.2 ∙ ap (λ e. e ∷ []) (carries_same names p a.0 b.0 a.1 b.1) ∙ sym b.2
+
+first_of : (x y : ℕ) (xs ys : List ℕ) → x ∷ xs ≡ y ∷ ys → x ≡ y
+first_of x y xs ys h = cc
+
+-- an event is no end of the log
+no_eof : (names : Names) (p body : List ℕ) → p ≡ 0x00 ∷ body → IsEofPacket p → ⊥
+no_eof names p body is eof =
+    let first = first_of 0x00 0xFE body (eof.counters ++ eof.ignored) (sym is ∙ eof.payload_is) in
+    absurd (omega (arith, first))
+
+begins : (p body : List ℕ) → p ≡ 0x00 ∷ body → IsNoEvent InDump p → ⊥
+begins p body is none = absurd (both (subst (λ l. IsNoEvent InDump l) is none))
+
+-- the message due is not refused
+answered : (names : Names) (due : Due) (p : Payload) (es : List EventValue) → Answers names due p es → IsNoEvent due p → refusal_of due p ≡ None
+answered names Hello p es a none = not_refused a.0.value p a.0.is
+answered names Reply p es a none = elim a.0 [ inl ok ↦ ok_reply_not_refused p ok | inr s ↦ switch_not_refused s.scramble p s.is ]
+answered names SecondReply p es a none = ok_not_refused p a.0
+answered names QueryReply p es a none = ok_not_refused p a.0
+answered names InDump p es a none = absurd (begins p a.1.body a.1.payload_is none)
+
+nothing_refused : (fault : GreetFault) → IsOfMessage fault → Refuses None fault → ⊥
+nothing_refused (greet.ServerError code state message) h r = h
+nothing_refused (greet.Protocol byte) h r = cc
+nothing_refused greet.Truncated h r = cc
+nothing_refused (greet.Capabilities bits) h r = cc
+nothing_refused greet.Plugin h r = cc
+nothing_refused greet.OldAuth h r = cc
+nothing_refused (greet.Unexpected byte) h r = cc
+nothing_refused greet.Memory h r = h
+
+in_dump : (names : Names) (due : Due) (p : Payload) (es : List EventValue) → IsInDump due → Answers names due p es → (e : EventValue) × Carries names p e × (es ≡ e ∷ [])
+in_dump names Hello p es h a = absurd h
+in_dump names Reply p es h a = absurd h
+in_dump names SecondReply p es h a = absurd h
+in_dump names QueryReply p es h a = absurd h
+in_dump names InDump p es h a = a
+
+-- ---- Two readings of the same bytes.
+
+-- Behind this beginning x with these events, the other reading y goes on with a payload.
+pub record Further (limit : ℕ) (names : Names) (due : Due) (id : ℕ) (x : List ℕ) (es : List EventValue) (r y : List ℕ) (fs : List EventValue) : Type 0 where
+  pub payload : Payload
+  pub packing : List ℕ
+  pub left : List ℕ
+  pub behind : ℕ
+  pub first : List EventValue
+  pub others : List EventValue
+  pub whole : IsWholePayload id limit packing payload behind
+  pub rest_is : r ≡ packing ++ left
+  pub answers : Answers names due payload first
+  pub within : length x + length packing ≤ length y
+  pub events : fs ≡ es ++ (first ++ others)
+
+pub record Ahead (limit : ℕ) (names : Names) (due : Due) (ps : List Payload) (x : List ℕ) (es : List EventValue) (m : ℕ) (r : List ℕ) (qs : List Payload) (y : List ℕ) (fs : List EventValue) : Type 0 where
+  pub further : Further limit names (due_from due ps) m x es r y fs
+  pub fewer : length ps < length qs
+
+pub record Same (ps : List Payload) (x : List ℕ) (es : List EventValue) (m : ℕ) (r : List ℕ) (qs : List Payload) (y : List ℕ) (fs : List EventValue) (n : ℕ) (s : List ℕ) : Type 0 where
+  pub payloads : ps ≡ qs
+  pub front : x ≡ y
+  pub events : es ≡ fs
+  pub id : m ≡ n
+  pub rest : r ≡ s
+
+abbrev pub Compared : ℕ → Names → Due → List Payload → List ℕ → List EventValue → ℕ → List ℕ → List Payload → List ℕ → List EventValue → ℕ → List ℕ → Type 0
+Compared limit names due ps x es m r qs y fs n s = Same ps x es m r qs y fs n s ⊎ (Ahead limit names due ps x es m r qs y fs ⊎ Ahead limit names due qs y fs n s ps x es)
+
+longer : (x x1 x2 y y1 y2 z : List ℕ) → x ≡ x1 ++ x2 → y ≡ y1 ++ y2 → x1 ≡ y1 → length x2 + length z ≤ length y2 → length x + length z ≤ length y
+longer x x1 x2 y y1 y2 z xs ys e h =
+    let a : length x ≡ length x1 + length x2 = ap length xs ∙ length-append x1 x2 in
+    let b : length y ≡ length y1 + length y2 = ap length ys ∙ length-append y1 y2 in
+    let c : length x1 ≡ length y1 = ap length e in
+    omega arith
+
+grow : (limit : ℕ) (names : Names) (due : Due) (m : ℕ) (x x1 x2 y y1 y2 r : List ℕ) (es e1 e2 fs f1 f2 : List EventValue) → x ≡ x1 ++ x2 → y ≡ y1 ++ y2 → x1 ≡ y1 → es ≡ e1 ++ e2 → fs ≡ f1 ++ f2 → e1 ≡ f1
+    → Further limit names due m x2 e2 r y2 f2 → Further limit names due m x es r y fs
+grow limit names due m x x1 x2 y y1 y2 r es e1 e2 fs f1 f2 xs ys front esplit fsplit first f = record {
+  payload = f.payload;
+  packing = f.packing;
+  left = f.left;
+  behind = f.behind;
+  first = f.first;
+  others = f.others;
+  whole = f.whole;
+  rest_is = f.rest_is;
+  answers = f.answers;
+  within = longer x x1 x2 y y1 y2 f.packing xs ys front f.within;
+  events = fsplit ∙ ap (λ l. f1 ++ l) f.events ∙ ap (λ l. l ++ (e2 ++ (f.first ++ f.others))) (sym first) ∙ sym (append_assoc e1 e2 (f.first ++ f.others)) ∙ ap (λ l. l ++ (f.first ++ f.others)) (sym esplit);
+}
+
+ahead : (limit : ℕ) (names : Names) (due : Due) (id m : ℕ) (x : List ℕ) (es : List EventValue) (r : List ℕ) (q : Payload) (qs : List Payload) (y : List ℕ) (fs : List EventValue) (n : ℕ) (s : List ℕ)
+    → Talks limit names due id [] x es m → Talks limit names due id (q ∷ qs) y fs n → x ++ r ≡ y ++ s → Ahead limit names due [] x es m r (q ∷ qs) y fs
+ahead limit names due id m x es r q qs y fs n s a b h = record {
+  further = record {
+    payload = q;
+    packing = b.0;
+    left = b.1 ++ s;
+    behind = b.4;
+    first = b.2;
+    others = b.3;
+    whole = subst (λ k. IsWholePayload k limit b.0 q b.4) (sym a.2) b.7;
+    rest_is = ap (λ l. l ++ r) (sym a.0) ∙ h ∙ ap (λ l. l ++ s) b.5 ∙ append_assoc b.0 b.1 s;
+    answers = b.8;
+    within = (
+      let none : length x ≡ 0 = ap length a.0 in
+      let cut : length y ≡ length b.0 + length b.1 = ap length b.5 ∙ length-append b.0 b.1 in
+      omega arith
+    );
+    events = b.6 ∙ ap (λ l. l ++ (b.2 ++ b.3)) (sym a.1);
+  };
+  fewer = omega arith;
+}
+
+compare : (limit : ℕ) (names : Names) (due : Due) (id : ℕ) (ps : List Payload) (x : List ℕ) (es : List EventValue) (m : ℕ) (r : List ℕ) (qs : List Payload) (y : List ℕ) (fs : List EventValue) (n : ℕ) (s : List ℕ)
+    → Talks limit names due id ps x es m → Talks limit names due id qs y fs n → x ++ r ≡ y ++ s → Compared limit names due ps x es m r qs y fs n s
+compare limit names due id [] x es m r [] y fs n s a b h = inl (record {
+  payloads = refl;
+  front = a.0 ∙ sym b.0;
+  events = a.1 ∙ sym b.1;
+  id = a.2 ∙ sym b.2;
+  rest = ap (λ l. l ++ r) (sym a.0) ∙ h ∙ ap (λ l. l ++ s) b.0;
+})
+compare limit names due id [] x es m r (q ∷ qs) y fs n s a b h = inr (inl (ahead limit names due id m x es r q qs y fs n s a b h))
+compare limit names due id (p ∷ ps) x es m r [] y fs n s a b h = inr (inr (ahead limit names due id n y fs s p ps x es m r b a (sym h)))
+compare limit names due id (p ∷ ps) x es m r (q ∷ qs) y fs n s a b h =
+    let e : a.0 ++ (a.1 ++ r) ≡ b.0 ++ (b.1 ++ s) = sym (append_assoc a.0 a.1 r) ∙ ap (λ l. l ++ r) (sym a.5) ∙ h ∙ ap (λ l. l ++ s) b.5 ∙ append_assoc b.0 b.1 s in
+    let w = none_begins (a.1 ++ r) (b.1 ++ s) a.7.packing b.7.packing e in
+    let same : q ≡ p = sym w.0 in
+    let firsts : a.2 ≡ b.2 = one_answer names due p a.2 b.2 a.8 (subst (λ v. Answers names due v b.2) same b.8) in
+    let after : Talks limit names (next_due due p) (next_id due p a.4) qs b.1 b.3 n =
+    subst (λ k. Talks limit names (next_due due p) (next_id due p k) qs b.1 b.3 n) (sym w.3) (subst (λ v. Talks limit names (next_due due v) (next_id due v b.4) qs b.1 b.3 n) same b.9) in
+    elim (compare limit names (next_due due p) (next_id due p a.4) ps a.1 a.3 m r qs b.1 b.3 n s a.9 after w.2) [
+      | inl t ↦ inl (record {
+        payloads = ap (λ v. v ∷ ps) w.0 ∙ ap (λ l. q ∷ l) t.payloads;
+        front = a.5 ∙ ap (λ l. l ++ a.1) w.1 ∙ ap (λ l. b.0 ++ l) t.front ∙ sym b.5;
+        events = a.6 ∙ ap (λ l. l ++ a.3) firsts ∙ ap (λ l. b.2 ++ l) t.events ∙ sym b.6;
+        id = t.id;
+        rest = t.rest;
+      })
+      | inr o ↦ elim o [
+        | inl f ↦ inr (inl (record {
+          further = grow limit names (due_from (next_due due p) ps) m x a.0 a.1 y b.0 b.1 r es a.2 a.3 fs b.2 b.3 a.5 b.5 w.1 a.6 b.6 firsts f.further;
+          fewer = let less : length ps < length qs = f.fewer in omega arith;
+        }))
+        | inr f ↦ inr (inr (record {
+          further = subst (λ v. Further limit names (due_from (next_due due v) qs) n y fs s x es) w.0
+              (grow limit names (due_from (next_due due p) qs) n y b.0 b.1 x a.0 a.1 s fs b.2 b.3 es a.2 a.3 b.5 a.5 (sym w.1) b.6 a.6 (sym firsts) f.further);
+          fewer = let less : length qs < length ps = f.fewer in omega arith;
+        }))
+      ]
+    ]
+
+-- ---- What stops a reading, and a payload that would go on.
+-- bytes that begin with a whole payload are not unfinished, and no header of them is wrong
+not_unfinished : (id limit : ℕ) (r packing left : List ℕ) (p : Payload) (behind : ℕ) → IsUnfinished id limit r → IsWholePayload id limit packing p behind → r ≡ packing ++ left → ⊥
+not_unfinished id limit r packing left p behind u w e =
+    u.not_whole (length packing) p behind (subst (λ l. IsWholePayload id limit l p behind) (sym (ap (λ l. take (length packing) l) e ∙ take-append_seam packing left)) w)
+
+not_wrong : (id limit : ℕ) (r packing left : List ℕ) (p : Payload) (behind : ℕ) (fault : WireFault) → IsWrong id limit r fault → IsWholePayload id limit packing p behind → r ≡ packing ++ left → ⊥
+not_wrong id limit r packing left p behind (wire.Sequence want got) h w e = wrong_or_whole left (subst (λ l. IsOutOfSequence id limit l want got) e h) w
+not_wrong id limit r packing left p behind wire.TooLarge h w e = large_or_whole left (subst (λ l. IsTooLarge id limit l) e h) w
+not_wrong id limit r packing left p behind wire.Memory h w e = absurd h
+not_wrong id limit r packing left p behind wire.Ended h w e = absurd h
+
+-- the next payload is one
+same_next : (id limit : ℕ) (r packing left : List ℕ) (p q : Payload) (behind : ℕ) (n : HasNext limit id r q) → IsWholePayload id limit packing p behind → r ≡ packing ++ left → (q ≡ p) × (n.packing ≡ packing)
+same_next id limit r packing left p q behind n w e =
+    let k = none_begins n.more left n.whole.packing w.packing (sym n.bytes ∙ e) in
+    (k.0, k.1)
+
+not_past : (limit : ℕ) (names : Names) (due : Due) (es : List EventValue) (taken id : ℕ) (r packing left : List ℕ) (p : Payload) (behind : ℕ) → PassesEnd limit names due es taken id r
+    → IsWholePayload id limit packing p behind → r ≡ packing ++ left → taken + length packing < 2 ^ 64 → ⊥
+not_past limit names due es taken id r packing left p behind past w e within =
+    let k = same_next id limit r packing left p past.payload behind past.next w e in
+    let long : 2 ^ 64 ≤ taken + length packing = subst (λ l. 2 ^ 64 ≤ taken + length l) k.1 past.beyond in
+    absurd (omega arith)
+
+lawful : (es first others fs : List EventValue) (ds : List DeliveryValue) (e : EventValue) → fs ≡ es ++ (first ++ others) → first ≡ e ∷ [] → AreDeliveries fs ds → IsLawful (es ++ e ∷ [])
+lawful es first others fs ds e split one are =
+    let cut : fs ≡ (es ++ e ∷ []) ++ others = split ∙ ap (λ l. es ++ (l ++ others)) one ∙ sym (append_assoc es (e ∷ []) others) in
+    let h = beginning (es ++ e ∷ []) others ds (subst (λ l. AreDeliveries l ds) cut are) in
+    record { deliveries = h.first; are = h.are }
+
+apart : (A : Type 0) (o : Option A) (v : A) → o ≡ None → o ≡ Some v → ⊥
+apart A o v none some = cc
+
+eof_none : (due : Due) (p : Payload) → IsInDump due → IsEofPacket p → refusal_of due p ≡ None
+eof_none Hello p h eof = absurd h
+eof_none Reply p h eof = absurd h
+eof_none SecondReply p h eof = absurd h
+eof_none QueryReply p h eof = absurd h
+eof_none InDump p h eof = eof_not_refused p eof
+
+eof_denied : (names : Names) (due : Due) (es : List EventValue) (p : Payload) (reason : Reason) → IsInDump due → IsEofPacket p → Denies names due es p reason → ⊥
+eof_denied names due es p EndOfInput h eof d = d
+eof_denied names due es p SourceEof h eof d = d
+eof_denied names due es p (SourceError code state message) h eof d = apart Refusal (refusal_of due p) (server_error code state message.items) (eof_none due p h eof) d.1
+eof_denied names due es p (Wire fault) h eof d = d
+eof_denied names due es p (Greet fault) h eof d = nothing_refused fault d.1 (subst (λ v. Refuses v fault) (eof_none due p h eof) d.2)
+eof_denied names due es p (Event fault) h eof d = no_eof names p d.1 d.2 eof
+eof_denied names due es p (Gather fault) h eof d = no_eof names p d.2.body d.2.payload_is eof
+eof_denied names due es p (Refused refusal) h eof d = d
+eof_denied names due es p (Database cause) h eof d = d
+eof_denied names due es p Memory h eof d = d
+eof_denied names due es p ReadFailed h eof d = d
+eof_denied names due es p WriteFailed h eof d = d
+
+module _ (limit : ℕ) (names : Names) (due : Due) (es : List EventValue) (taken id : ℕ) (r : List ℕ) where
+  -- an end behind which nothing goes on: what the payload is told as
+  denied : (reason : Reason) (p : Payload) (first others fs : List EventValue) (ds : List DeliveryValue) → AllByRecursion (λ b. b < 256) p → Answers names due p first → fs ≡ es ++ (first ++ others) → AreDeliveries fs ds → Denies names due es p reason → ⊥
+  denied EndOfInput p first others fs ds fits a split are d = d
+  denied SourceEof p first others fs ds fits a split are d = d
+  denied (SourceError code state message) p first others fs ds fits a split are d = apart Refusal (refusal_of due p) (server_error code state message.items) (answered names due p first a d.0) d.1
+  denied (Wire fault) p first others fs ds fits a split are d = d
+  denied (Greet fault) p first others fs ds fits a split are d = nothing_refused fault d.1 (subst (λ v. Refuses v fault) (answered names due p first a d.0) d.2)
+  denied (Event fault) p first others fs ds fits a split are d =
+      let k = in_dump names due p first d.0 a in
+      let none : event_fault names k.1.body ≡ None = event_not_refused names k.0 k.1.body k.1.is_event in
+      let same : d.1 ≡ k.1.body = (let x = d.2 in let y = k.1.payload_is in cc) in
+      let some : event_fault names k.1.body ≡ Some fault = subst (λ l. event_fault names l ≡ Some fault) same d.3 in
+      apart EventFault (event_fault names k.1.body) fault none some
+  denied (Gather fault) p first others fs ds fits a split are d =
+      let k = in_dump names due p first d.0 a in
+      let one : first ≡ d.1 ∷ [] = k.2 ∙ ap (λ e. e ∷ []) (carries_same names p k.0 d.1 k.1 d.2) in
+      let body : AllByRecursion (λ b. b < 256) (0x00 ∷ d.2.body) = subst (λ l. AllByRecursion (λ b. b < 256) l) d.2.payload_is fits in
+      not_both es d.1 fault (record { names = names; bytes = d.2.body; fits = body.1; is_event = d.2.is_event }) (lawful es first others fs ds d.1 split one are) d.3
+  denied (Refused refusal) p first others fs ds fits a split are d = d
+  denied (Database cause) p first others fs ds fits a split are d = d
+  denied Memory p first others fs ds fits a split are d = d
+  denied ReadFailed p first others fs ds fits a split are d = d
+  denied WriteFailed p first others fs ds fits a split are d = d
+
+  module _ (x y : List ℕ) (fs : List EventValue) (ds : List DeliveryValue) (f : Further limit names due id x es r y fs) (taken_is : taken ≡ length x) (bytes : AllByRecursion (λ b. b < 256) r) (within : length y < 2 ^ 64) (are : AreDeliveries fs ds) where
+    fits : taken + length f.packing < 2 ^ 64
+    fits = let h = f.within in omega arith
+
+    with : (reason : Reason) → EndsWith limit names due es taken id r reason → ⊥
+    with reason s =
+        let k = same_next id limit r f.packing f.left f.payload s.payload f.behind s.stops.next f.whole f.rest_is in
+        let of : AllByRecursion (λ b. b < 256) f.payload = whole_bytes id limit f.packing f.payload f.behind f.whole (all_front f.packing f.left (subst (λ l. AllByRecursion (λ b. b < 256) l) f.rest_is bytes)) in
+        denied reason f.payload f.first f.others fs ds of f.answers f.events are (subst (λ v. Denies names due es v reason) k.0 s.denied)
+
+    blocked : (at : ℕ) (reason : Reason) → StopsFor limit names due es taken id r at reason → ⊥
+    blocked at EndOfInput s = not_unfinished id limit r f.packing f.left f.payload f.behind s.1 f.whole f.rest_is
+    blocked at SourceEof s =
+        let k = same_next id limit r f.packing f.left f.payload s.payload f.behind s.stops.next f.whole f.rest_is in
+        let e = in_dump names due f.payload f.first s.in_dump f.answers in
+        no_eof names f.payload e.1.body e.1.payload_is (subst (λ v. IsEofPacket v) k.0 s.is_eof)
+    blocked at (SourceError code state message) s = with (SourceError code state message) s.1
+    blocked at (Wire fault) s = elim s.1 [
+      | inl w ↦ not_wrong id limit r f.packing f.left f.payload f.behind fault w f.whole f.rest_is
+      | inr w ↦ not_past limit names due es taken id r f.packing f.left f.payload f.behind w.1 f.whole f.rest_is fits
+    ]
+    blocked at (Greet fault) s = with (Greet fault) s.1
+    blocked at (Event fault) s = with (Event fault) s.1
+    blocked at (Gather fault) s = with (Gather fault) s.1
+    blocked at (Refused refusal) s = s
+    blocked at (Database cause) s = s
+    blocked at Memory s = s
+    blocked at ReadFailed s = s
+    blocked at WriteFailed s = s
+
+  -- an end of the log is no other end
+  ends_so : (reason : Reason) (other : ℕ) → EndsLog limit names due es taken id r other → EndsWith limit names due es taken id r reason → ⊥
+  ends_so reason other l w =
+      let k = same_next id limit r l.stops.next.packing l.stops.next.more l.payload w.payload l.stops.next.behind w.stops.next l.stops.next.whole l.stops.next.bytes in
+      eof_denied names due es l.payload reason l.in_dump l.is_eof (subst (λ v. Denies names due es v reason) k.0 w.denied)
+
+  no_log : (other : ℕ) (at : ℕ) (reason : Reason) → EndsLog limit names due es taken id r other → StopsFor limit names due es taken id r at reason → (at ≡ taken) × (reason ≢ SourceEof) → ⊥
+  no_log other at EndOfInput l s h = not_unfinished id limit r l.stops.next.packing l.stops.next.more l.payload l.stops.next.behind s.1 l.stops.next.whole l.stops.next.bytes
+  no_log other at SourceEof l s h = h.1 refl
+  no_log other at (SourceError code state message) l s h = ends_so (SourceError code state message) other l s.1
+  no_log other at (Wire fault) l s h = elim s.1 [
+    | inl w ↦ not_wrong id limit r l.stops.next.packing l.stops.next.more l.payload l.stops.next.behind fault w l.stops.next.whole l.stops.next.bytes
+    | inr w ↦ not_past limit names due es taken id r l.stops.next.packing l.stops.next.more l.payload l.stops.next.behind w.1 l.stops.next.whole l.stops.next.bytes l.stops.within
+  ]
+  no_log other at (Greet fault) l s h = ends_so (Greet fault) other l s.1
+  no_log other at (Event fault) l s h = ends_so (Event fault) other l s.1
+  no_log other at (Gather fault) l s h = ends_so (Gather fault) other l s.1
+  no_log other at (Refused refusal) l s h = s
+  no_log other at (Database cause) l s h = s
+  no_log other at Memory l s h = s
+  no_log other at ReadFailed l s h = s
+  no_log other at WriteFailed l s h = s
+
+  -- where it stops
+  place_of : (at : ℕ) (reason : Reason) → StopsFor limit names due es taken id r at reason → ((at ≡ taken) × (reason ≢ SourceEof)) ⊎ EndsLog limit names due es taken id r at
+  place_of at EndOfInput s = inl (s.0, λ e. cc)
+  place_of at SourceEof s = inr s
+  place_of at (SourceError code state message) s = inl (s.0, λ e. cc)
+  place_of at (Wire fault) s = inl (s.0, λ e. cc)
+  place_of at (Greet fault) s = inl (s.0, λ e. cc)
+  place_of at (Event fault) s = inl (s.0, λ e. cc)
+  place_of at (Gather fault) s = inl (s.0, λ e. cc)
+  place_of at (Refused refusal) s = absurd s
+  place_of at (Database cause) s = absurd s
+  place_of at Memory s = absurd s
+  place_of at ReadFailed s = absurd s
+  place_of at WriteFailed s = absurd s
+
+  one_place : (at other : ℕ) (reason also : Reason) → StopsFor limit names due es taken id r at reason → StopsFor limit names due es taken id r other also → at ≡ other
+  one_place at other reason also s t = elim (place_of at reason s) [
+    | inl h ↦ elim (place_of other also t) [
+      | inl k ↦ h.0 ∙ sym k.0
+      | inr l ↦ absurd (no_log other at reason l s h)
+    ]
+    | inr l ↦ elim (place_of other also t) [
+      | inl k ↦ absurd (no_log at other also l t k)
+      | inr m ↦ (
+        let n = same_next id limit r m.stops.next.packing m.stops.next.more m.payload l.payload m.stops.next.behind l.stops.next m.stops.next.whole m.stops.next.bytes in
+        l.at_is ∙ ap (λ p. taken + length p) n.1 ∙ sym m.at_is
+      )
+    ]
+  ]
+
+-- ---- One end.
+stops_same : (limit : ℕ) (names : Names) (ps qs : List Payload) (es fs : List EventValue) (x y : List ℕ) (m n : ℕ) (r s : List ℕ) (at : ℕ) (reason : Reason) → Same ps x es m r qs y fs n s
+    → StopsFor limit names (due_behind qs) fs (length y) n s at reason → StopsFor limit names (due_behind ps) es (length x) m r at reason
+stops_same limit names ps qs es fs x y m n r s at reason e h =
+    subst (λ v. StopsFor limit names (due_behind v) es (length x) m r at reason) (sym e.payloads)
+    (subst (λ v. StopsFor limit names (due_behind qs) v (length x) m r at reason) (sym e.events)
+    (subst (λ v. StopsFor limit names (due_behind qs) fs (length v) m r at reason) (sym e.front)
+    (subst (λ v. StopsFor limit names (due_behind qs) fs (length y) v r at reason) (sym e.id)
+    (subst (λ v. StopsFor limit names (due_behind qs) fs (length y) n v at reason) (sym e.rest) h))))
+
+module _ (limit : ℕ) (names : Names) (b : List ℕ) (bytes : AllByRecursion (λ v. v < 256) b) where
+  no_further : (x y : Reading limit names b) (at : ℕ) (reason : Reason) → StopsFor limit names (due_behind x.payloads) x.events (length x.front) x.id x.rest at reason
+      → Further limit names (due_behind x.payloads) x.id x.front x.events x.rest y.front y.events → ⊥
+  no_further x y at reason s f =
+      blocked limit names (due_behind x.payloads) x.events (length x.front) x.id x.rest x.front y.front y.events y.deliveries f refl (all_back x.front x.rest (subst (λ l. AllByRecursion (λ v. v < 256) l) x.bytes bytes))
+      y.talk.within y.talk.delivers at reason s
+
+  both_read : (x y : Reading limit names b) → Compared limit names Hello x.payloads x.front x.events x.id x.rest y.payloads y.front y.events y.id y.rest
+  both_read x y = compare limit names Hello 0 x.payloads x.front x.events x.id x.rest y.payloads y.front y.events y.id y.rest x.talk.talks y.talk.talks (sym x.bytes ∙ y.bytes)
+
+  pub one_end : (r s : Reason) (at other : ℕ) → End limit names b r at → End limit names b s other → at ≡ other
+  one_end r s at other e f =
+      let x = e.reading in
+      let y = f.reading in
+      elim (both_read x y) [
+        | inl same ↦ one_place limit names (due_behind x.payloads) x.events (length x.front) x.id x.rest at other r s e.stops
+            (stops_same limit names x.payloads y.payloads x.events y.events x.front y.front x.id y.id x.rest y.rest other s same f.stops)
+        | inr o ↦ elim o [ inl a ↦ absurd (no_further x y at r e.stops a.further) | inr a ↦ absurd (no_further y x other s f.stops a.further) ]
+      ]
+
+  -- no reading goes past an end
+  pub longest : (r : Reason) (at : ℕ) (e : End limit names b r at) (q : Reading limit names b) → length q.payloads ≤ length e.reading.payloads
+  longest r at e q = elim (both_read e.reading q) [
+    | inl same ↦ (let k : length e.reading.payloads ≡ length q.payloads = ap length same.payloads in omega arith)
+    | inr o ↦ elim o [ inl a ↦ absurd (no_further e.reading q at r e.stops a.further) | inr a ↦ (let k : length q.payloads < length e.reading.payloads = a.fewer in omega arith) ]
+  ]
+
+-- ---- One reason.
+data Heard : Type 0 where
+  Final : Verdict → Heard
+  Carrying : Heard
+
+abbrev of_refusal : Option Refusal → Heard
+of_refusal None = Final told.EndsLog
+of_refusal (Some refusal) = Final (told.IsRefused refusal)
+
+abbrev of_event : Option EventFault → Heard
+of_event None = Carrying
+of_event (Some fault) = Final (told.HasFault fault)
+
+abbrev in_dump_heard : Names → Payload → Heard
+in_dump_heard names [] = of_refusal (refusal_of InDump [])
+in_dump_heard names (byte ∷ body) = if byte == 0x00 then of_event (event_fault names body) else of_refusal (refusal_of InDump (byte ∷ body))
+
+-- what a payload says by itself, where this message is due
+abbrev heard : Names → Due → Payload → Heard
+heard names Hello p = of_refusal (refusal_of Hello p)
+heard names Reply p = of_refusal (refusal_of Reply p)
+heard names SecondReply p = of_refusal (refusal_of SecondReply p)
+heard names QueryReply p = of_refusal (refusal_of QueryReply p)
+heard names InDump p = in_dump_heard names p
+
+dump_refused : (names : Names) (p : Payload) (v : Option Refusal) → begins_event p ≡ false → refusal_of InDump p ≡ v → in_dump_heard names p ≡ of_refusal v
+dump_refused names [] v none e = ap of_refusal e
+dump_refused names (byte ∷ body) v none e =
+    subst (λ t. (if t then of_event (event_fault names body) else of_refusal (refusal_of InDump (byte ∷ body))) ≡ of_refusal v) (sym none) (ap of_refusal e)
+
+heard_refused : (names : Names) (due : Due) (p : Payload) (v : Option Refusal) → IsNoEvent due p → refusal_of due p ≡ v → heard names due p ≡ of_refusal v
+heard_refused names Hello p v none e = ap of_refusal e
+heard_refused names Reply p v none e = ap of_refusal e
+heard_refused names SecondReply p v none e = ap of_refusal e
+heard_refused names QueryReply p v none e = ap of_refusal e
+heard_refused names InDump p v none e = dump_refused names p v none e
+
+heard_event : (names : Names) (due : Due) (p body : List ℕ) (v : Option EventFault) → IsInDump due → p ≡ 0x00 ∷ body → event_fault names body ≡ v → heard names due p ≡ of_event v
+heard_event names Hello p body v h is e = absurd h
+heard_event names Reply p body v h is e = absurd h
+heard_event names SecondReply p body v h is e = absurd h
+heard_event names QueryReply p body v h is e = absurd h
+heard_event names InDump p body v h is e = ap (λ l. in_dump_heard names l) is ∙ ap of_event e
+
+eof_no_event : (due : Due) (p : Payload) → IsEofPacket p → IsNoEvent due p
+eof_no_event Hello p eof = tt
+eof_no_event Reply p eof = tt
+eof_no_event SecondReply p eof = tt
+eof_no_event QueryReply p eof = tt
+eof_no_event InDump p eof = ap (λ l. begins_event l) eof.payload_is
+
+refused_for : (refusal : Option Refusal) (fault : GreetFault) → IsOfMessage fault → Refuses refusal fault → refusal ≡ Some (refusal_told fault)
+refused_for refusal (greet.ServerError code state message) h r = absurd h
+refused_for refusal (greet.Protocol byte) h r = r
+refused_for refusal greet.Truncated h r = r
+refused_for refusal (greet.Capabilities bits) h r = r
+refused_for refusal greet.Plugin h r = r
+refused_for refusal greet.OldAuth h r = r
+refused_for refusal (greet.Unexpected byte) h r = r
+refused_for refusal greet.Memory h r = absurd h
+
+unfinished_right : (id limit : ℕ) (r : List ℕ) (fault : WireFault) → IsUnfinished id limit r → IsWrong id limit r fault → ⊥
+unfinished_right id limit r (wire.Sequence want got) u h = u.in_sequence want got h
+unfinished_right id limit r wire.TooLarge u h = u.not_too_large h
+unfinished_right id limit r wire.Memory u h = h
+unfinished_right id limit r wire.Ended u h = h
+
+-- a header is wrong in one way
+one_wrong : (id limit : ℕ) (r : List ℕ) (f g : WireFault) → IsWrong id limit r f → IsWrong id limit r g → f ≡ g
+one_wrong id limit r (wire.Sequence want got) (wire.Sequence want' got') h k = let e = one_wrong_id h k in subst (λ w. wire.Sequence want got ≡ wire.Sequence w got') e.0 (ap (λ n. wire.Sequence want n) e.1)
+one_wrong id limit r (wire.Sequence want got) wire.TooLarge h k = absurd (wrong_or_large h k)
+one_wrong id limit r (wire.Sequence want got) wire.Memory h k = absurd k
+one_wrong id limit r (wire.Sequence want got) wire.Ended h k = absurd k
+one_wrong id limit r wire.TooLarge (wire.Sequence want' got') h k = absurd (wrong_or_large k h)
+one_wrong id limit r wire.TooLarge wire.TooLarge h k = refl
+one_wrong id limit r wire.TooLarge wire.Memory h k = absurd k
+one_wrong id limit r wire.TooLarge wire.Ended h k = absurd k
+one_wrong id limit r wire.Memory g h k = absurd h
+one_wrong id limit r wire.Ended g h k = absurd h
+
+module _ (limit : ℕ) (names : Names) (due : Due) (es : List EventValue) (taken id : ℕ) (r : List ℕ) where
+  record Misplaces (p : Payload) (v : Verdict) : Type 0 where
+    carrying : heard names due p ≡ Carrying
+    event : EventValue
+    carries : Carries names p event
+    fault : GatherFault
+    is_fault : IsFault es event fault
+    verdict : v ≡ told.IsOutOfPlace fault
+
+  abbrev SaysSo : Payload → Verdict → Type 0
+  SaysSo p v = (heard names due p ≡ Final v) ⊎ Misplaces p v
+
+  record EndsBy (v : Verdict) : Type 0 where
+    payload : Payload
+    stops : StopsAt limit names due es taken id r payload
+    says : SaysSo payload v
+
+  abbrev Tells : Told → Type 0
+  Tells told.Nothing = IsUnfinished id limit r
+  Tells (told.IsWrongHeader fault) = IsWrong id limit r fault ⊎ ((fault ≡ wire.TooLarge) × PassesEnd limit names due es taken id r)
+  Tells (told.Says v) = EndsBy v
+
+  tells : (at : ℕ) (reason : Reason) → StopsFor limit names due es taken id r at reason → Tells (told_of reason)
+  tells at EndOfInput s = s.1
+  tells at SourceEof s = record { payload = s.payload; stops = s.stops; says = inl (heard_refused names due s.payload None (eof_no_event due s.payload s.is_eof) (eof_none due s.payload s.in_dump s.is_eof)) }
+  tells at (SourceError code state message) s = record { payload = s.1.payload; stops = s.1.stops; says = inl (heard_refused names due s.1.payload (Some (server_error code state message.items)) s.1.denied.0 s.1.denied.1) }
+  tells at (Wire fault) s = s.1
+  tells at (Greet fault) s = record {
+    payload = s.1.payload;
+    stops = s.1.stops;
+    says = inl (heard_refused names due s.1.payload (Some (refusal_told fault)) s.1.denied.0 (refused_for (refusal_of due s.1.payload) fault s.1.denied.1 s.1.denied.2));
+  }
+  tells at (Event fault) s = record { payload = s.1.payload; stops = s.1.stops; says = inl (heard_event names due s.1.payload s.1.denied.1 (Some fault) s.1.denied.0 s.1.denied.2 s.1.denied.3) }
+  tells at (Gather fault) s =
+      let d = s.1.denied in
+      record {
+        payload = s.1.payload;
+        stops = s.1.stops;
+        says = inr (record {
+          carrying = heard_event names due s.1.payload d.2.body None d.0 d.2.payload_is (event_not_refused names d.1 d.2.body d.2.is_event);
+          event = d.1;
+          carries = d.2;
+          fault = fault;
+          is_fault = d.3;
+          verdict = refl;
+        });
+      }
+  tells at (Refused refusal) s = absurd s
+  tells at (Database cause) s = absurd s
+  tells at Memory s = absurd s
+  tells at ReadFailed s = absurd s
+  tells at WriteFailed s = absurd s
+
+  same_verdict : (p : Payload) (a b : Verdict) → AllByRecursion (λ v. v < 256) p → SaysSo p a → SaysSo p b → a ≡ b
+  same_verdict p a b fits x y = elim x [
+    | inl h ↦ elim y [
+      | inl k ↦ cc
+      | inr k ↦ (let c = k.carrying in cc)
+    ]
+    | inr h ↦ elim y [
+      | inl k ↦ (let c = h.carrying in cc)
+      | inr k ↦ (
+        let same : h.event ≡ k.event = carries_same names p h.event k.event h.carries k.carries in
+        let body : AllByRecursion (λ v. v < 256) (0x00 ∷ k.carries.body) = subst (λ l. AllByRecursion (λ v. v < 256) l) k.carries.payload_is fits in
+        let f : h.fault ≡ k.fault = one_fault es k.event h.fault k.fault (record { names = names; bytes = k.carries.body; fits = body.1; is_event = k.carries.is_event }) (subst (λ e. IsFault es e h.fault) same h.is_fault) k.is_fault in
+        h.verdict ∙ ap (λ v. told.IsOutOfPlace v) f ∙ sym k.verdict
+      )
+    ]
+  ]
+
+  no_wrong : (fault : WireFault) (v : Verdict) → IsWrong id limit r fault ⊎ ((fault ≡ wire.TooLarge) × PassesEnd limit names due es taken id r) → EndsBy v → ⊥
+  no_wrong fault v w e =
+      let n = e.stops.next in
+      elim w [
+        | inl h ↦ not_wrong id limit r n.packing n.more e.payload n.behind fault h n.whole n.bytes
+        | inr h ↦ not_past limit names due es taken id r n.packing n.more e.payload n.behind h.1 n.whole n.bytes e.stops.within
+      ]
+
+  none_wrong : (fault : WireFault) → IsUnfinished id limit r → IsWrong id limit r fault ⊎ ((fault ≡ wire.TooLarge) × PassesEnd limit names due es taken id r) → ⊥
+  none_wrong fault u w = elim w [
+    | inl h ↦ unfinished_right id limit r fault u h
+    | inr h ↦ (let n = h.1.next in not_unfinished id limit r n.packing n.more h.1.payload n.behind u n.whole n.bytes)
+  ]
+
+  none_whole : (v : Verdict) → IsUnfinished id limit r → EndsBy v → ⊥
+  none_whole v u e = let n = e.stops.next in not_unfinished id limit r n.packing n.more e.payload n.behind u n.whole n.bytes
+
+  same_wrong : (f g : WireFault) → IsWrong id limit r f ⊎ ((f ≡ wire.TooLarge) × PassesEnd limit names due es taken id r) → IsWrong id limit r g ⊎ ((g ≡ wire.TooLarge) × PassesEnd limit names due es taken id r) → f ≡ g
+  same_wrong f g x y = elim x [
+    | inl h ↦ elim y [
+      | inl k ↦ one_wrong id limit r f g h k
+      | inr k ↦ (let n = k.1.next in absurd (not_wrong id limit r n.packing n.more k.1.payload n.behind f h n.whole n.bytes))
+    ]
+    | inr h ↦ elim y [
+      | inl k ↦ (let n = h.1.next in absurd (not_wrong id limit r n.packing n.more h.1.payload n.behind g k n.whole n.bytes))
+      | inr k ↦ h.0 ∙ sym k.0
+    ]
+  ]
+
+  same_told : AllByRecursion (λ v. v < 256) r → (a b : Told) → Tells a → Tells b → a ≡ b
+  same_told fits told.Nothing told.Nothing x y = refl
+  same_told fits told.Nothing (told.IsWrongHeader g) x y = absurd (none_wrong g x y)
+  same_told fits told.Nothing (told.Says w) x y = absurd (none_whole w x y)
+  same_told fits (told.IsWrongHeader f) told.Nothing x y = absurd (none_wrong f y x)
+  same_told fits (told.IsWrongHeader f) (told.IsWrongHeader g) x y = ap (λ v. told.IsWrongHeader v) (same_wrong f g x y)
+  same_told fits (told.IsWrongHeader f) (told.Says w) x y = absurd (no_wrong f w x y)
+  same_told fits (told.Says v) told.Nothing x y = absurd (none_whole v y x)
+  same_told fits (told.Says v) (told.IsWrongHeader g) x y = absurd (no_wrong g v y x)
+  same_told fits (told.Says v) (told.Says w) x y =
+      let n = y.stops.next in
+      let k = same_next id limit r n.packing n.more y.payload x.payload n.behind x.stops.next n.whole n.bytes in
+      let of : AllByRecursion (λ b. b < 256) y.payload = whole_bytes id limit n.packing y.payload n.behind n.whole (all_front n.packing n.more (subst (λ l. AllByRecursion (λ b. b < 256) l) n.bytes fits)) in
+      ap (λ u. told.Says u) (same_verdict y.payload v w of (subst (λ p. SaysSo p v) k.0 x.says) y.says)
+
+module _ (limit : ℕ) (names : Names) (b : List ℕ) (bytes : AllByRecursion (λ v. v < 256) b) where
+  pub one_reason : (r s : Reason) (at other : ℕ) → End limit names b r at → End limit names b s other → told_of r ≡ told_of s
+  one_reason r s at other e f =
+      let x = e.reading in
+      let y = f.reading in
+      elim (both_read limit names b bytes x y) [
+        | inl same ↦ same_told limit names (due_behind x.payloads) x.events (length x.front) x.id x.rest (all_back x.front x.rest (subst (λ l. AllByRecursion (λ v. v < 256) l) x.bytes bytes)) (told_of r) (told_of s)
+            (tells limit names (due_behind x.payloads) x.events (length x.front) x.id x.rest at r e.stops)
+            (tells limit names (due_behind x.payloads) x.events (length x.front) x.id x.rest other s
+            (stops_same limit names x.payloads y.payloads x.events y.events x.front y.front x.id y.id x.rest y.rest other s same f.stops))
+        | inr o ↦ elim o [ inl a ↦ absurd (no_further limit names b bytes x y at r e.stops a.further) | inr a ↦ absurd (no_further limit names b bytes y x other s f.stops a.further) ]
+      ]

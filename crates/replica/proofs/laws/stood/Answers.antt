@@ -1,0 +1,26 @@
+use Rattle.replica.specs.Standing.{end_of}
+use Rattle.replica.proofs.Stood as stood
+use Rattle.replica.proofs.Told as told
+use Rattle.replica.proofs.laws.stood.Goals as goal
+
+pub returns-clause-conn : goal.returns-clause-conn
+returns-clause-conn c = stood.conn_of c.args._session.now
+
+pub returns-clause-sent : goal.returns-clause-sent
+returns-clause-sent c = stood.sent_of c.args._session.now
+
+pub returns-clause-store : goal.returns-clause-store
+returns-clause-store c = stood.store_of c.args._session.now
+
+pub returns-clause-state : goal.returns-clause-state
+returns-clause-state c names was is old now b o s =
+    let session = c.args._session.now in
+    told.begun_of session.config.limit names was old b now (end_of session) (stood.conn_of session names was is old now b o s)
+
+pub returns-clause-reason : goal.returns-clause-reason
+returns-clause-reason c names was is old now b o s h short =
+    let session = c.args._session.now in
+    told.end_by session.config.limit names was old b now (end_of session) (stood.conn_of session names was is old now b o s) h short
+
+pub returns-clause-ended : goal.returns-clause-ended
+returns-clause-ended c = told.ended_where c.args._session.now

@@ -1,0 +1,18 @@
+use Rattle.std.proofs.Common.{◌≡◌, ℕ, ◌+◌, ◌≤◌, length, true, None}
+use Rattle.replica.specs.Conn.{IsNoStreamFailure}
+use Rattle.replica.specs.Standing.{end_of, room_of}
+use Rattle.replica.proofs.Fed.{Fed}
+use Rattle.replica.proofs.session.Session.feed.Given as goal
+
+abbrev pub invariant-loop-used : goal.invariant-loop-used
+invariant-loop-used g l = record {
+  fed : Fed g.S.Store l.fn.self l.fn.store l.self l.store l.bytes l.rest;
+  following : l.store.following ≡ l.fn.store.following;
+  broken : l.fn.store.broken ≡ true → l.store ≡ l.fn.store;
+  config : l.self.config ≡ l.fn.self.config;
+  neither : IsNoStreamFailure (end_of l.fn.self).reason → IsNoStreamFailure (end_of l.self).reason;
+  room : l.self.ended ≡ None → room_of l.self + length l.bytes ≤ room_of l.fn.self + length l.rest;
+}
+
+abbrev pub decreases-loop-used : goal.decreases-loop-used
+decreases-loop-used g l = length l.rest

@@ -1,0 +1,17 @@
+use Rattle.std.proofs.Common.{◌≡◌, ◌++◌, List, ℕ, sym, ap, ◌∙◌, subst}
+use Rattle.replica.specs.Sent.{SentFor}
+use Rattle.replica.specs.Standing.{Stands, end_of}
+use Rattle.replica.proofs.Stood.{sent_of, stands-out}
+use Rattle.replica.proofs.session.Session.take_out.Goals as goal
+
+pub returns-clause-stands : goal.returns-clause-stands
+unfolding Stands
+returns-clause-stands c names was is old now b o s =
+    let out = c.replace.new.dest in
+    subst (λ (l : List ℕ). Stands (record c.args.self.now { out = out }) names was is old now b (o ++ l)) (sym (ap (λ v. v.items) c.replace.ensures.value))
+    (stands-out c.args.self.now names was is old now b o out (ap (λ v. v.items) c.replace.ensures.after ∙ c.new.ensures.items) s)
+
+pub returns-clause-sent : goal.returns-clause-sent
+returns-clause-sent c names was is old now b o s =
+    subst (λ (l : List ℕ). SentFor c.args.self.now.config names old.executed b (end_of c.args.self.now).at (o ++ l)) (sym (ap (λ v. v.items) c.replace.ensures.value))
+    (sent_of c.args.self.now names was is old now b o s)
