@@ -28,6 +28,7 @@ returns-in_default-phase g c =
     let ends : c.in-Some.end ≡ s.at + n = c.in-Some.ensures.1 ∙ ap (λ k. s.at + k) c.packing_length.ensures in
     record {
       clean = λ h. h;
+      following = refl;
       broken = λ _. refl;
       config = c.take_message.ensures.config;
       neither = c.take_message.ensures.neither;
