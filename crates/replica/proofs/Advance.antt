@@ -108,10 +108,10 @@ left_here : (session : Session) (limit : ℕ) (names : Names) (old : Content) (b
 left_here session limit names old b now left none l = elim l [
   | inl e ↦ e
   | inr m ↦ (
-    let going_on : (end_of session).reason ≡ EndOfInput = ap (λ (v : Option Ended). (unwrap_or v (record { reason = EndOfInput; at = session.at; applied = session.applied })).reason) none in
-    let failed = m.failed in
-    cc
-  )
+      let going_on : (end_of session).reason ≡ EndOfInput = ap (λ (v : Option Ended). (unwrap_or v (record { reason = EndOfInput; at = session.at; applied = session.applied })).reason) none in
+      let failed = m.failed in
+      cc
+      )
 ]
 
 module _ {S : Type 0} (g : Ghosts S) (store : Store S g) (schema : Schema) (was : Bool) (old : Content) (b o : List ℕ) where

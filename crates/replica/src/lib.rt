@@ -18,3 +18,6 @@ pub use end::{Ended, Reason, Refusal};
 pub use feed::Stopped;
 pub use replay::{NoMemory, run};
 pub use session::Session;
+
+#[cfg(test)]
+mod tests;
