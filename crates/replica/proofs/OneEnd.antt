@@ -1,11 +1,11 @@
 -- A connection's bytes have one end.
-use Rattle.std.proofs.Common.{if◌then◌else◌, ◌==◌, ◌≡◌, ◌≢◌, ℕ, ◌⊎◌, ◌≤◌, ◌<◌, ◌+◌, ◌^◌, ◌%◌, suc, Bool, true, false, List, [], ◌∷◌, ◌++◌, length, take, refl, sym, ap, ◌∙◌, inl, inr, Some, None, Option, subst, append_assoc, arith}
+use Rattle.std.proofs.Common.{if◌then◌else◌, ◌==◌, ◌≡◌, ◌≢◌, ℕ, ◌⊎◌, ◌≤◌, ◌<◌, ◌+◌, ◌^◌, ◌%◌, suc, true, false, List, [], ◌∷◌, ◌++◌, length, take, refl, sym, ap, ◌∙◌, inl, inr, Some, None, Option, subst, append_assoc, arith}
 use Rattle.std.proofs.lemmas.List.{length-append}
 use Rattle.std.proofs.Math.Seq.{take-append_seam}
 use Rattle.std.specs.List.{AllByRecursion, concat}
 use Rattle.wire.specs.declared.fault.WireFault.{WireFault}
 use Rattle.wire.specs.declared.fault.WireFault.TheVariants as wire
-use Rattle.wire.specs.Packet.{IsPacking, packet, packets}
+use Rattle.wire.specs.Packet.{packet, packets}
 use Rattle.wire.specs.Payload.{IsWholePayload, IsUnfinished, IsOutOfSequence, IsTooLarge}
 use Rattle.wire.proofs.OnePacking.{none_begins}
 use Rattle.wire.proofs.OneReading.{wrong_or_whole, large_or_whole, one_wrong_id, wrong_or_large}
@@ -22,13 +22,13 @@ use Rattle.binlog.specs.Event.{EventValue, IsEvent, event_fault}
 use Rattle.binlog.specs.declared.fault.EventFault.{EventFault}
 use Rattle.binlog.proofs.Events.{one_event, event_not_refused}
 use Rattle.gather.specs.Transaction.{DeliveryValue, AreDeliveries, IsLawful}
-use Rattle.gather.specs.Fault.{IsFault, IsRead}
+use Rattle.gather.specs.Fault.{IsFault}
 use Rattle.gather.specs.declared.fault.GatherFault.{GatherFault}
 use Rattle.gather.proofs.NextEvents.{not_both, one as one_fault}
 use Rattle.gather.proofs.Shortening.{beginning}
 use Rattle.replica.specs.declared.end.Reason.{Reason}
 use Rattle.replica.specs.declared.end.Reason.TheVariants.{EndOfInput, SourceEof, SourceError, Wire, Greet, Event, Gather, Refused, Database, Memory, ReadFailed, WriteFailed}
-use Rattle.replica.specs.Stream.{Payload, Due, Hello, Reply, SecondReply, QueryReply, InDump, IsInDump, Carries, Answers, Talks, Conversation, Reading, next_due, next_id, due_from, due_behind}
+use Rattle.replica.specs.Stream.{Payload, Due, Hello, Reply, SecondReply, QueryReply, InDump, IsInDump, Carries, Answers, Talks, Reading, next_due, next_id, due_from, due_behind}
 use Rattle.replica.specs.Message.{refusal_of, begins_event, IsNoEvent, IsOfMessage}
 use Rattle.replica.specs.Told.{Told, Verdict, told_of, refusal_told}
 use Rattle.replica.specs.Told as told
@@ -36,7 +36,6 @@ use Rattle.replica.specs.End.{HasNext, StopsAt, PassesEnd, EndsLog, EndsWith, St
 
 both : true ≡ false → ⊥
 both e = cc
-
 
 all_front : (xs ys : List ℕ) → AllByRecursion (λ b. b < 256) (xs ++ ys) → AllByRecursion (λ b. b < 256) xs
 all_front [] ys h = tt
@@ -185,10 +184,10 @@ ahead limit names due id m x es r q qs y fs n s a b h = record {
     rest_is = ap (λ l. l ++ r) (sym a.0) ∙ h ∙ ap (λ l. l ++ s) b.5 ∙ append_assoc b.0 b.1 s;
     answers = b.8;
     within = (
-      let none : length x ≡ 0 = ap length a.0 in
-      let cut : length y ≡ length b.0 + length b.1 = ap length b.5 ∙ length-append b.0 b.1 in
-      omega arith
-    );
+        let none : length x ≡ 0 = ap length a.0 in
+        let cut : length y ≡ length b.0 + length b.1 = ap length b.5 ∙ length-append b.0 b.1 in
+        omega arith
+        );
     events = b.6 ∙ ap (λ l. l ++ (b.2 ++ b.3)) (sym a.1);
   };
   fewer = omega arith;
@@ -390,9 +389,9 @@ module _ (limit : ℕ) (names : Names) (due : Due) (es : List EventValue) (taken
     | inr l ↦ elim (place_of other also t) [
       | inl k ↦ absurd (no_log at other also l t k)
       | inr m ↦ (
-        let n = same_next id limit r m.stops.next.packing m.stops.next.more m.payload l.payload m.stops.next.behind l.stops.next m.stops.next.whole m.stops.next.bytes in
-        l.at_is ∙ ap (λ p. taken + length p) n.1 ∙ sym m.at_is
-      )
+          let n = same_next id limit r m.stops.next.packing m.stops.next.more m.payload l.payload m.stops.next.behind l.stops.next m.stops.next.whole m.stops.next.bytes in
+          l.at_is ∙ ap (λ p. taken + length p) n.1 ∙ sym m.at_is
+          )
     ]
   ]
 
@@ -575,11 +574,11 @@ module _ (limit : ℕ) (names : Names) (due : Due) (es : List EventValue) (taken
     | inr h ↦ elim y [
       | inl k ↦ (let c = h.carrying in cc)
       | inr k ↦ (
-        let same : h.event ≡ k.event = carries_same names p h.event k.event h.carries k.carries in
-        let body : AllByRecursion (λ v. v < 256) (0x00 ∷ k.carries.body) = subst (λ l. AllByRecursion (λ v. v < 256) l) k.carries.payload_is fits in
-        let f : h.fault ≡ k.fault = one_fault es k.event h.fault k.fault (record { names = names; bytes = k.carries.body; fits = body.1; is_event = k.carries.is_event }) (subst (λ e. IsFault es e h.fault) same h.is_fault) k.is_fault in
-        h.verdict ∙ ap (λ v. told.IsOutOfPlace v) f ∙ sym k.verdict
-      )
+          let same : h.event ≡ k.event = carries_same names p h.event k.event h.carries k.carries in
+          let body : AllByRecursion (λ v. v < 256) (0x00 ∷ k.carries.body) = subst (λ l. AllByRecursion (λ v. v < 256) l) k.carries.payload_is fits in
+          let f : h.fault ≡ k.fault = one_fault es k.event h.fault k.fault (record { names = names; bytes = k.carries.body; fits = body.1; is_event = k.carries.is_event }) (subst (λ e. IsFault es e h.fault) same h.is_fault) k.is_fault in
+          h.verdict ∙ ap (λ v. told.IsOutOfPlace v) f ∙ sym k.verdict
+          )
     ]
   ]
 

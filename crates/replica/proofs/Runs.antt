@@ -1,17 +1,16 @@
 -- A session over a store from its begin to its end, and connections in order.
-use Rattle.std.proofs.Common.{◌≡◌, ℕ, ◌⊎◌, Bool, true, false, List, [], ◌∷◌, ◌++◌, ◌+◌, length, take, inl, inr, refl, sym, ap, ◌∙◌, subst, IsTrue, Vec, Global, None, Option, unwrap_or}
+use Rattle.std.proofs.Common.{◌≡◌, ℕ, ◌⊎◌, Bool, true, false, List, [], ◌∷◌, ◌++◌, ◌+◌, take, inl, inr, refl, sym, ap, ◌∙◌, subst, IsTrue, Vec, Global}
 use Rattle.std.proofs.lemmas.List.{map-append}
 use Rattle.sqlite_trees.specs.declared.store.Store.{Ghosts}
 use Rattle.sqlite_trees.specs.Tree.{Trees}
 use Rattle.sqlite_schema.specs.declared.schema.Schema.{Schema}
 use Rattle.sqlite.specs.Held.{Held, state}
-use Rattle.binlog.specs.Follow.{Names}
 use Rattle.store.specs.State.{Content}
 use Rattle.store.specs.declared.store.Store.{Store}
 use Rattle.store.specs.Store.{HoldsAs, Holds, HasFailed, AreOf}
 use Rattle.store.proofs.Taken as taken
 use Rattle.replica.specs.declared.end.Ended.{Ended}
-use Rattle.replica.specs.declared.end.Reason.TheVariants.{Memory, EndOfInput}
+use Rattle.replica.specs.declared.end.Reason.TheVariants.{Memory}
 use Rattle.replica.specs.declared.session.Session.{Session}
 use Rattle.replica.specs.Conn.{Conn, BreaksStore, History}
 use Rattle.replica.specs.Crash.{IsLeft, IsLeftOfAll}
@@ -125,33 +124,31 @@ module _ {S : Type 0} (g : Ghosts S) where
     schema_is = λ w. elim (either t.is) [
       | inl f ↦ r.schema_is w ∙ t.schema_is f
       | inr q ↦ (
-        let was_broken : before.broken ≡ true = broken_of t.is t.new before q t.holds in
-        let is_whole : store.broken ≡ false = whole_of r.is r.new store w r.holds in
-        let same : store.broken ≡ before.broken = ap (λ (s : Store S g). s.broken) (broken was_broken) in
-        absurd (both (sym was_broken ∙ sym same ∙ is_whole))
-      )
+          let was_broken : before.broken ≡ true = broken_of t.is t.new before q t.holds in
+          let is_whole : store.broken ≡ false = whole_of r.is r.new store w r.holds in
+          let same : store.broken ≡ before.broken = ap (λ (s : Store S g). s.broken) (broken was_broken) in
+          absurd (both (sym was_broken ∙ sym same ∙ is_whole))
+          )
     ];
     leaves = λ w. record {
       each = λ trees may. elim (either t.is) [
         | inl f ↦ (
-          let l = (r.leaves f).each trees may in
-          (
-            l.0,
-            subst (λ sc. AreOf sc store.following l.0 trees) (t.schema_is f) l.1,
-            subst (λ n. IsLeftOfAll limit n was old (bs ++ b ∷ []) r.new (ends ++ end ∷ []) l.0) (sym r.following)
-            (here limit before.following was old bs t.new ends b r.new end l.0 (subst (λ v. History limit before.following was old bs v t.new ends) f t.history) (subst (λ v. Conn limit before.following v t.new b r.new end) f r.conn) l.2),
-          )
-        )
+            let l = (r.leaves f).each trees may in (
+              l.0,
+              subst (λ sc. AreOf sc store.following l.0 trees) (t.schema_is f) l.1,
+              subst (λ n. IsLeftOfAll limit n was old (bs ++ b ∷ []) r.new (ends ++ end ∷ []) l.0) (sym r.following)
+                  (here limit before.following was old bs t.new ends b r.new end l.0 (subst (λ v. History limit before.following was old bs v t.new ends) f t.history) (subst (λ v. Conn limit before.following v t.new b r.new end) f r.conn) l.2),
+            )
+            )
         | inr q ↦ (
-          let e = broken (broken_of t.is t.new before q t.holds) in
-          let l = (t.leaves w).each trees (subst (λ (s : Store S g). (state g s.conn).may_leave trees) e may) in
-          (
-            l.0,
-            subst (λ (s : Store S g). AreOf schema s.following l.0 trees) (sym e) l.1,
-            subst (λ n. IsLeftOfAll limit n was old (bs ++ b ∷ []) r.new (ends ++ end ∷ []) l.0) (sym r.following)
-            (stays limit before.following was old bs t.new r.new ends b end l.0 (r.kept q) l.2),
-          )
-        )
+            let e = broken (broken_of t.is t.new before q t.holds) in
+            let l = (t.leaves w).each trees (subst (λ (s : Store S g). (state g s.conn).may_leave trees) e may) in (
+              l.0,
+              subst (λ (s : Store S g). AreOf schema s.following l.0 trees) (sym e) l.1,
+              subst (λ n. IsLeftOfAll limit n was old (bs ++ b ∷ []) r.new (ends ++ end ∷ []) l.0) (sym r.following)
+                  (stays limit before.following was old bs t.new r.new ends b end l.0 (r.kept q) l.2),
+            )
+            )
       ];
     };
   }

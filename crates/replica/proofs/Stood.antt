@@ -1,5 +1,5 @@
 -- What follows from where a session stands.
-use Rattle.std.proofs.Common.{◌≡◌, ◌≢◌, ℕ, ◌⊎◌, ◌<◌, ◌^◌, Bool, true, false, List, [], ◌∷◌, ◌++◌, length, refl, sym, ap, ◌∙◌, inl, inr, Some, None, is_some, MatchOption, unwrap_or, append-nil, append_assoc, subst, Vec, Global, Option, ◌+◌, arith}
+use Rattle.std.proofs.Common.{◌≡◌, ℕ, Bool, true, false, List, [], ◌++◌, refl, sym, ap, ◌∙◌, inl, Some, None, is_some, MatchOption, unwrap_or, append-nil, subst, Vec, Global, Option, arith}
 use Rattle.binlog.specs.Follow.{Names}
 use Rattle.wire.specs.Payload.{ReaderState, IsUnfinished}
 use Rattle.wire.proofs.OneReading.{nothing_yet}
@@ -14,7 +14,7 @@ use Rattle.replica.specs.Settings.{Settings}
 use Rattle.replica.specs.Stream.{Reading}
 use Rattle.replica.specs.Conn.{Conn, BreaksStore}
 use Rattle.replica.specs.Sent.{SentFor}
-use Rattle.replica.specs.Standing.{GoesOn, HasEnded, Stands, end_of, room_of}
+use Rattle.replica.specs.Standing.{GoesOn, HasEnded, Stands, end_of}
 use Rattle.replica.proofs.Extend.{conn-append, sent-append}
 
 false-true : false ≡ true → ⊥
@@ -64,40 +64,40 @@ module _ (session : Session) (names : Names) (was is : Bool) (old now : Content)
   pub conn_of : Stands session names was is old now b o → Conn session.config.limit names was old b now (end_of session)
   unfolding Stands
   conn_of s = elim session.ended as (λ v. MatchOption v (goes_on b) (has_ended b) → Conn session.config.limit names was old b now (unwrap_or v not_yet)) [
-      | None ↦ λ g. record {
-        reading = g.reading;
-        took = g.took;
-        why = (g.at_is, subst (λ h. IsUnfinished g.reading.id session.config.limit h) (sym g.held) g.unfinished);
-      }
-      | Some end ↦ λ h. h.conn
-    ] s
+    | None ↦ λ g. record {
+      reading = g.reading;
+      took = g.took;
+      why = (g.at_is, subst (λ h. IsUnfinished g.reading.id session.config.limit h) (sym g.held) g.unfinished);
+    }
+    | Some end ↦ λ h. h.conn
+  ] s
 
   pub store_of : Stands session names was is old now b o → BreaksStore (end_of session).reason was is
   unfolding Stands
   store_of s = elim session.ended as (λ v. MatchOption v (goes_on b) (has_ended b) → BreaksStore (unwrap_or v not_yet).reason was is) [
-      | None ↦ λ g. g.store
-      | Some end ↦ λ h. h.store
-    ] s
+    | None ↦ λ g. g.store
+    | Some end ↦ λ h. h.store
+  ] s
 
   pub sent_of : Stands session names was is old now b o → SentFor session.config names old.executed b (end_of session).at (o ++ session.out.items)
   unfolding Stands
   sent_of s = elim session.ended as (λ v. MatchOption v (goes_on b) (has_ended b) → SentFor session.config names old.executed b (unwrap_or v not_yet).at (o ++ session.out.items)) [
-      | None ↦ λ g. record { payloads = g.reading.payloads; taken = record { reading = g.reading; payloads_are = refl; at_is = inl g.at_is }; sent = g.sent }
-      | Some end ↦ λ h. h.sent
-    ] s
+    | None ↦ λ g. record { payloads = g.reading.payloads; taken = record { reading = g.reading; payloads_are = refl; at_is = inl g.at_is }; sent = g.sent }
+    | Some end ↦ λ h. h.sent
+  ] s
 
   -- after the end the session reads nothing
   pub stands-append : (more : List ℕ) → is_some session.ended ≡ true → Stands session names was is old now b o → Stands session names was is old now (b ++ more) o
   unfolding Stands
   stands-append more h s = elim session.ended as (λ v. is_some v ≡ true → MatchOption v (goes_on b) (has_ended b) → MatchOption v (goes_on (b ++ more)) (has_ended (b ++ more))) [
-      | None ↦ λ e g. absurd (false-true e)
-      | Some end ↦ λ e h. record {
-        conn = conn-append session.config.limit names was old b more now end h.more h.conn;
-        more = h.more;
-        sent = sent-append session.config names old.executed b more end.at (o ++ session.out.items) h.sent;
-        store = h.store;
-      }
-    ] h s
+    | None ↦ λ e g. absurd (false-true e)
+    | Some end ↦ λ e h. record {
+      conn = conn-append session.config.limit names was old b more now end h.more h.conn;
+      more = h.more;
+      sent = sent-append session.config names old.executed b more end.at (o ++ session.out.items) h.sent;
+      store = h.store;
+    }
+  ] h s
 
   -- what is known of a session that has not ended
   pub going : session.ended ≡ None → Stands session names was is old now b o → goes_on b
