@@ -1,19 +1,14 @@
 -- One step of a session: some bytes, and what they complete.
-use Rattle.std.proofs.Common.{◌≡◌, ◌≢◌, ℕ, ◌⊎◌, ◌≤◌, ◌<◌, ◌+◌, ◌-◌, ◌^◌, Bool, true, false, List, [], ◌∷◌, ◌++◌, length, take, refl, sym, ap, ◌∙◌, inl, inr, Option, Some, None, is_some, MatchOption, unwrap_or, append_assoc, append-nil, subst, IfSome, IfNone, arith}
-use Rattle.std.proofs.lemmas.List.{length-append}
+use Rattle.std.proofs.Common.{◌≡◌, ℕ, Bool, true, false, List, [], ◌++◌, refl, sym, ap, ◌∙◌, inl, inr, Option, Some, None, is_some, unwrap_or, subst, IfSome, IfNone}
 use Rattle.wire.specs.declared.fault.WireFault.{WireFault}
 use Rattle.wire.specs.declared.fault.WireFault.TheVariants as wire
 use Rattle.wire.specs.Payload.{ReaderState, IsWholePayload, IsUnfinished, IsOutOfSequence, IsTooLarge}
 use Rattle.binlog.specs.Follow.{Names}
 use Rattle.gather.specs.declared.gatherer.Gatherer.{Gatherer}
 use Rattle.sqlite_trees.specs.declared.store.Store.{Ghosts}
-use Rattle.sqlite_trees.specs.Tree.{Trees}
 use Rattle.sqlite_schema.specs.declared.schema.Schema.{Schema}
-use Rattle.sqlite.specs.Held.{state}
 use Rattle.store.specs.State.{Content}
 use Rattle.store.specs.declared.store.Store.{Store}
-use Rattle.store.specs.Store.{AreOf}
-use Rattle.replica.specs.declared.end.Reason.{Reason}
 use Rattle.replica.specs.declared.end.Reason.TheVariants.{EndOfInput, Memory, Wire}
 use Rattle.replica.specs.declared.end.Ended.{Ended}
 use Rattle.replica.specs.declared.phase.Phase.{Phase}
@@ -21,10 +16,9 @@ use Rattle.replica.specs.declared.session.Session.{Session}
 use Rattle.replica.specs.Settings.{Settings}
 use Rattle.replica.specs.Stream.{Payload}
 use Rattle.replica.specs.End.{IsWrong}
-use Rattle.replica.specs.Conn.{Why}
 use Rattle.replica.specs.Crash.{IsLeft}
 use Rattle.replica.specs.Turn.{reason_of}
-use Rattle.replica.specs.Standing.{GoesOn, HasEnded, HasPayload, Stands, Meets, end_of}
+use Rattle.replica.specs.Standing.{GoesOn, HasEnded, HasPayload, Stands, end_of}
 use Rattle.replica.specs.Over.{StandsOver, MeetsOver, LeavesOnly}
 use Rattle.replica.proofs.Extend.{extended, left-append}
 use Rattle.replica.proofs.Stood.{stands-append, going}

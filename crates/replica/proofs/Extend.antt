@@ -1,5 +1,5 @@
 -- What ends a connection still ends it when more bytes follow.
-use Rattle.std.proofs.Common.{◌≡◌, ◌≢◌, ℕ, ◌⊎◌, Bool, List, [], ◌∷◌, ◌++◌, length, refl, sym, ap, ◌∙◌, inl, inr, append_assoc}
+use Rattle.std.proofs.Common.{◌≡◌, ◌≢◌, ℕ, Bool, List, ◌++◌, length, refl, ap, ◌∙◌, inl, inr, append_assoc}
 use Rattle.wire.specs.declared.fault.WireFault.{WireFault}
 use Rattle.wire.specs.declared.fault.WireFault.TheVariants as wire
 use Rattle.wire.proofs.OneReading.{more_wrong, more_large}
@@ -14,7 +14,7 @@ use Rattle.replica.specs.declared.end.Ended.{Ended}
 use Rattle.replica.specs.Settings.{Settings}
 use Rattle.replica.specs.Stream.{Payload, Due, Reading, due_behind}
 use Rattle.replica.specs.End.{HasNext, StopsAt, PassesEnd, EndsLog, EndsWith, StopsFor, IsWrong}
-use Rattle.replica.specs.Conn.{NextEnds, NextAnswers, IsRefusedNext, IsDueNext, Why, Conn}
+use Rattle.replica.specs.Conn.{NextEnds, NextAnswers, Why, Conn}
 use Rattle.replica.specs.Sent.{Taken, SentFor}
 use Rattle.replica.specs.Crash.{IsOneMore, IsLeft}
 

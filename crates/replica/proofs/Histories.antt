@@ -1,14 +1,14 @@
 -- A list of connections, and one more.
-use Rattle.std.proofs.Common.{◌≡◌, ℕ, ◌⊎◌, Bool, true, false, List, [], ◌∷◌, ◌++◌, ◌<◌, ◌+◌, length, take, map, inl, inr, refl, sym, ap, ◌∙◌, subst, append_assoc, arith, Vec, Global}
-use Rattle.std.proofs.lemmas.List.{map-append, take_more, append-nil}
+use Rattle.std.proofs.Common.{◌≡◌, ℕ, ◌⊎◌, Bool, true, false, List, [], ◌∷◌, ◌++◌, ◌+◌, take, inl, inr, refl, sym, ap, ◌∙◌, subst, append_assoc, Vec, Global}
+use Rattle.std.proofs.lemmas.List.{append-nil}
 use Rattle.std.proofs.lemmas.Grind.{flat_map-append}
 use Rattle.binlog.specs.Follow.{Names}
 use Rattle.store.specs.State.{Content}
 use Rattle.replica.specs.declared.end.Ended.{Ended}
 use Rattle.replica.specs.declared.end.Reason.TheVariants.{Memory}
 use Rattle.replica.specs.Conn.{Conn, BreaksStore, History}
-use Rattle.replica.specs.Crash.{IsOneMore, IsOneMoreIn, IsLeft, IsLeftOfAll}
-use Rattle.replica.specs.Pieces.{stream_of, streams_of}
+use Rattle.replica.specs.Crash.{IsOneMoreIn, IsLeft, IsLeftOfAll}
+use Rattle.replica.specs.Pieces.{stream_of}
 use Rattle.replica.proofs.Stood.{unread}
 
 pub history-append : (limit : ℕ) (names : Names) (was : Bool) (old : Content) (bs : List (List ℕ)) (is : Bool) (mid : Content) (ends : List Ended) (b : List ℕ) (after : Bool) (new : Content) (end : Ended)

@@ -1,11 +1,11 @@
 -- A connection's bytes have one end.
-use Rattle.std.proofs.Common.{if◌then◌else◌, ◌==◌, ◌≡◌, ◌≢◌, ℕ, ◌⊎◌, ◌≤◌, ◌<◌, ◌+◌, ◌^◌, ◌%◌, suc, Bool, true, false, List, [], ◌∷◌, ◌++◌, length, take, refl, sym, ap, ◌∙◌, inl, inr, Some, None, Option, subst, append_assoc, arith}
+use Rattle.std.proofs.Common.{if◌then◌else◌, ◌==◌, ◌≡◌, ◌≢◌, ℕ, ◌⊎◌, ◌≤◌, ◌<◌, ◌+◌, ◌^◌, ◌%◌, suc, true, false, List, [], ◌∷◌, ◌++◌, length, take, refl, sym, ap, ◌∙◌, inl, inr, Some, None, Option, subst, append_assoc, arith}
 use Rattle.std.proofs.lemmas.List.{length-append}
 use Rattle.std.proofs.Math.Seq.{take-append_seam}
 use Rattle.std.specs.List.{AllByRecursion, concat}
 use Rattle.wire.specs.declared.fault.WireFault.{WireFault}
 use Rattle.wire.specs.declared.fault.WireFault.TheVariants as wire
-use Rattle.wire.specs.Packet.{IsPacking, packet, packets}
+use Rattle.wire.specs.Packet.{packet, packets}
 use Rattle.wire.specs.Payload.{IsWholePayload, IsUnfinished, IsOutOfSequence, IsTooLarge}
 use Rattle.wire.proofs.OnePacking.{none_begins}
 use Rattle.wire.proofs.OneReading.{wrong_or_whole, large_or_whole, one_wrong_id, wrong_or_large}
@@ -22,13 +22,13 @@ use Rattle.binlog.specs.Event.{EventValue, IsEvent, event_fault}
 use Rattle.binlog.specs.declared.fault.EventFault.{EventFault}
 use Rattle.binlog.proofs.Events.{one_event, event_not_refused}
 use Rattle.gather.specs.Transaction.{DeliveryValue, AreDeliveries, IsLawful}
-use Rattle.gather.specs.Fault.{IsFault, IsRead}
+use Rattle.gather.specs.Fault.{IsFault}
 use Rattle.gather.specs.declared.fault.GatherFault.{GatherFault}
 use Rattle.gather.proofs.NextEvents.{not_both, one as one_fault}
 use Rattle.gather.proofs.Shortening.{beginning}
 use Rattle.replica.specs.declared.end.Reason.{Reason}
 use Rattle.replica.specs.declared.end.Reason.TheVariants.{EndOfInput, SourceEof, SourceError, Wire, Greet, Event, Gather, Refused, Database, Memory, ReadFailed, WriteFailed}
-use Rattle.replica.specs.Stream.{Payload, Due, Hello, Reply, SecondReply, QueryReply, InDump, IsInDump, Carries, Answers, Talks, Conversation, Reading, next_due, next_id, due_from, due_behind}
+use Rattle.replica.specs.Stream.{Payload, Due, Hello, Reply, SecondReply, QueryReply, InDump, IsInDump, Carries, Answers, Talks, Reading, next_due, next_id, due_from, due_behind}
 use Rattle.replica.specs.Message.{refusal_of, begins_event, IsNoEvent, IsOfMessage}
 use Rattle.replica.specs.Told.{Told, Verdict, told_of, refusal_told}
 use Rattle.replica.specs.Told as told

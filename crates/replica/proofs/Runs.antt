@@ -1,17 +1,16 @@
 -- A session over a store from its begin to its end, and connections in order.
-use Rattle.std.proofs.Common.{◌≡◌, ℕ, ◌⊎◌, Bool, true, false, List, [], ◌∷◌, ◌++◌, ◌+◌, length, take, inl, inr, refl, sym, ap, ◌∙◌, subst, IsTrue, Vec, Global, None, Option, unwrap_or}
+use Rattle.std.proofs.Common.{◌≡◌, ℕ, ◌⊎◌, Bool, true, false, List, [], ◌∷◌, ◌++◌, ◌+◌, take, inl, inr, refl, sym, ap, ◌∙◌, subst, IsTrue, Vec, Global}
 use Rattle.std.proofs.lemmas.List.{map-append}
 use Rattle.sqlite_trees.specs.declared.store.Store.{Ghosts}
 use Rattle.sqlite_trees.specs.Tree.{Trees}
 use Rattle.sqlite_schema.specs.declared.schema.Schema.{Schema}
 use Rattle.sqlite.specs.Held.{Held, state}
-use Rattle.binlog.specs.Follow.{Names}
 use Rattle.store.specs.State.{Content}
 use Rattle.store.specs.declared.store.Store.{Store}
 use Rattle.store.specs.Store.{HoldsAs, Holds, HasFailed, AreOf}
 use Rattle.store.proofs.Taken as taken
 use Rattle.replica.specs.declared.end.Ended.{Ended}
-use Rattle.replica.specs.declared.end.Reason.TheVariants.{Memory, EndOfInput}
+use Rattle.replica.specs.declared.end.Reason.TheVariants.{Memory}
 use Rattle.replica.specs.declared.session.Session.{Session}
 use Rattle.replica.specs.Conn.{Conn, BreaksStore, History}
 use Rattle.replica.specs.Crash.{IsLeft, IsLeftOfAll}

@@ -1,5 +1,5 @@
 -- What follows from where a session stands.
-use Rattle.std.proofs.Common.{◌≡◌, ◌≢◌, ℕ, ◌⊎◌, ◌<◌, ◌^◌, Bool, true, false, List, [], ◌∷◌, ◌++◌, length, refl, sym, ap, ◌∙◌, inl, inr, Some, None, is_some, MatchOption, unwrap_or, append-nil, append_assoc, subst, Vec, Global, Option, ◌+◌, arith}
+use Rattle.std.proofs.Common.{◌≡◌, ℕ, Bool, true, false, List, [], ◌++◌, refl, sym, ap, ◌∙◌, inl, Some, None, is_some, MatchOption, unwrap_or, append-nil, subst, Vec, Global, Option, arith}
 use Rattle.binlog.specs.Follow.{Names}
 use Rattle.wire.specs.Payload.{ReaderState, IsUnfinished}
 use Rattle.wire.proofs.OneReading.{nothing_yet}
@@ -14,7 +14,7 @@ use Rattle.replica.specs.Settings.{Settings}
 use Rattle.replica.specs.Stream.{Reading}
 use Rattle.replica.specs.Conn.{Conn, BreaksStore}
 use Rattle.replica.specs.Sent.{SentFor}
-use Rattle.replica.specs.Standing.{GoesOn, HasEnded, Stands, end_of, room_of}
+use Rattle.replica.specs.Standing.{GoesOn, HasEnded, Stands, end_of}
 use Rattle.replica.proofs.Extend.{conn-append, sent-append}
 
 false-true : false ≡ true → ⊥

@@ -1,5 +1,4 @@
 -- What the end of a connection by its bytes tells, whatever memory holds it.
-use Rattle.std.specs.Prelude.{ℕ, Vec}
 use Rattle.wire.specs.declared.fault.WireFault.{WireFault}
 use Rattle.greet.specs.Refusal.{Refusal, server_error, protocol, truncated, capabilities, plugin, old_auth, unexpected}
 use Rattle.greet.specs.declared.fault.GreetFault.{GreetFault}

@@ -1,4 +1,4 @@
-use Rattle.std.proofs.Common.{rules, ◌≡◌, ◌++◌, ◌∷◌, ◌+◌, ℕ, List, [], Bool, Vec, Global, take, length, sym, ap, ◌∙◌, subst, refl}
+use Rattle.std.proofs.Common.{rules, ◌≡◌, ◌++◌, ◌∷◌, ◌+◌, ℕ, List, [], Vec, Global, take, sym, ap, ◌∙◌, subst, refl}
 use Rattle.std.proofs.lemmas.List.{take_more, take_all}
 use Rattle.sqlite.specs.Held.{state}
 use Rattle.replica.specs.declared.end.Ended.{Ended}

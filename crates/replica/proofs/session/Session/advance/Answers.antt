@@ -1,10 +1,8 @@
-use Rattle.std.proofs.Common.{◌≡◌, ◌+◌, ◌++◌, ℕ, List, [], take, length, sym, ap, ◌∙◌, subst, Option, None, Some, Err, rules, refl, Vec, Global, ◌<◌, ◌^◌, arith}
+use Rattle.std.proofs.Common.{◌≡◌, ◌+◌, ◌++◌, ℕ, [], take, length, sym, ap, ◌∙◌, Some, Err, refl, Vec, Global, ◌<◌, ◌^◌, arith}
 use Rattle.std.proofs.lemmas.List.{length-append}
-use Rattle.wire.specs.Payload.{ReaderState, IsWholePayload, IsUnfinished}
+use Rattle.wire.specs.Payload.{ReaderState, IsWholePayload}
 use Rattle.replica.specs.declared.end.Reason.{Reason}
 use Rattle.replica.specs.declared.session.Session.{Session}
-use Rattle.replica.specs.Standing.{taken_of}
-use Rattle.replica.specs.Over.{StandsOver, MeetsOver}
 use Rattle.replica.proofs.Advance.{over-append, over-fault, over-unfinished, over-payload, none_behind, at_some, at_none}
 use Rattle.replica.proofs.session.Session.advance.Goals as goal
 

@@ -1,8 +1,8 @@
-use Rattle.std.proofs.Common.{rules, ◌≡◌, ◌+◌, ◌≤◌, ℕ, List, Some, None, take, drop, length, sym, ap, ◌∙◌, subst, subst₂, arith}
+use Rattle.std.proofs.Common.{rules, ◌≡◌, ◌+◌, ◌≤◌, ℕ, List, None, length, sym, ◌∙◌, subst}
 use Rattle.std.proofs.lemmas.List.{take_rest}
-use Rattle.replica.specs.Standing.{room_of, taken_of}
+use Rattle.replica.specs.Standing.{room_of}
 use Rattle.replica.proofs.Advance.{over-append}
-use Rattle.replica.proofs.Fed.{Fed, Leads, fed_none, fed_more, fed_all, room_more}
+use Rattle.replica.proofs.Fed.{Fed, fed_none, fed_more, fed_all, room_more}
 use Rattle.replica.proofs.session.Session.feed.Goals as goal
 
 pub returns-then-is_some-clause-stands : goal.returns-then-is_some-clause-stands

@@ -1,4 +1,4 @@
-use Rattle.std.proofs.Common.{◌≡◌, ap, ◌∙◌}
+use Rattle.std.proofs.Common.{ap, ◌∙◌}
 use Rattle.wire.specs.Payload.{ReaderState}
 use Rattle.replica.specs.Standing.{Stands}
 use Rattle.replica.proofs.Stood.{begun}
