@@ -31,7 +31,7 @@ module _ (settings : Settings) (a : ReaderState) (gatherer : Gatherer) (phase : 
   -- a header is wrong
   ended-wire : (fault : WireFault) → IsWrong g.reading.id settings.limit (g.reading.rest ++ more) fault → HasEnded settings names was is old now (b ++ more) all (record { reason = Wire fault; at = at; applied = applied })
   ended-wire fault w = record {
-    conn = record { reading = extended settings.limit names b more g.reading; took = g.took; why = inl (g.at_is, inl w) };
+    conn = record { reading = extended settings.limit names b more g.reading; took = g.took; why = inl (g.at_is, inl w); kept = g.kept };
     more = λ e. cc;
     sent = record { payloads = g.reading.payloads; taken = record { reading = extended settings.limit names b more g.reading; payloads_are = refl; at_is = inl g.at_is }; sent = g.sent };
     store = g.store;
@@ -40,7 +40,7 @@ module _ (settings : Settings) (a : ReaderState) (gatherer : Gatherer) (phase : 
   -- there was no memory
   ended-memory : HasEnded settings names was is old now (b ++ more) all (record { reason = Memory; at = at; applied = applied })
   ended-memory = record {
-    conn = record { reading = extended settings.limit names b more g.reading; took = g.took; why = g.at_is };
+    conn = record { reading = extended settings.limit names b more g.reading; took = g.took; why = g.at_is; kept = g.kept };
     more = λ e. cc;
     sent = record { payloads = g.reading.payloads; taken = record { reading = extended settings.limit names b more g.reading; payloads_are = refl; at_is = inl g.at_is }; sent = g.sent };
     store = λ h. g.store ∙ h;
@@ -78,6 +78,7 @@ module _ (settings : Settings) (a : ReaderState) (gatherer : Gatherer) (phase : 
     took = g.took;
     sent = g.sent;
     store = g.store;
+    kept = g.kept;
   }
 
   -- a payload is whole
@@ -95,6 +96,7 @@ module _ (settings : Settings) (a : ReaderState) (gatherer : Gatherer) (phase : 
     took = g.took;
     sent = g.sent;
     store = g.store;
+    kept = g.kept;
   }
 
 -- what a crash leaves of a session that goes on
@@ -132,7 +134,6 @@ module _ {S : Type 0} (g : Ghosts S) (store : Store S g) (schema : Schema) (was 
     holds = s.holds;
     stands = stands-append session store.following was s.is old s.now b o more ended s.stands;
     schema_is = s.schema_is;
-    kept = s.kept;
     leaves = λ w. record {
       each = λ trees may.
           let e = (s.leaves w).each trees may in
@@ -156,7 +157,6 @@ module _ {S : Type 0} (g : Ghosts S) (store : Store S g) (schema : Schema) (was 
         holds = s.holds;
         stands = rw (ended_so, config, out) has;
         schema_is = s.schema_is;
-        kept = s.kept;
         leaves = λ w. leaves_so after.config.limit s.now (end_of after) (b ++ more) (leaves_now session session.config.limit s.now none (s.leaves w));
       }
 
@@ -176,7 +176,6 @@ module _ {S : Type 0} (g : Ghosts S) (store : Store S g) (schema : Schema) (was 
         holds = s.holds;
         stands = rw (still, config, assembler, gatherer, phase, at, applied, out) on;
         schema_is = s.schema_is;
-        kept = s.kept;
         leaves = λ w. leaves_so after.config.limit s.now (end_of after) (b ++ more) (leaves_now session session.config.limit s.now none (s.leaves w));
       }
 
@@ -195,7 +194,6 @@ module _ {S : Type 0} (g : Ghosts S) (store : Store S g) (schema : Schema) (was 
         holds = s.holds;
         meets = rw (config, assembler, gatherer, phase, at, applied, out) has;
         schema_is = s.schema_is;
-        kept = s.kept;
         leaves = λ w. leaves_now session session.config.limit s.now none (s.leaves w);
       }
 

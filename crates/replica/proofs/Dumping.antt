@@ -1,5 +1,5 @@
 -- A session over a store takes a payload.
-use Rattle.std.proofs.Common.{◌≡◌, ◌≢◌, ◌⊎◌, ℕ, ◌+◌, ◌^◌, ◌<◌, Bool, true, false, List, [], ◌∷◌, ◌++◌, length, Option, Some, None, MatchOption, unwrap_or, if◌then◌else◌, IsTrue, inl, inr, refl, sym, ap, subst, ◌∙◌, append-nil, arith}
+use Rattle.std.proofs.Common.{◌≡◌, ◌≢◌, ◌⊎◌, ℕ, ◌+◌, ◌^◌, ◌<◌, Bool, true, false, List, [], ◌∷◌, ◌++◌, length, Some, None, unwrap_or, IsTrue, inl, inr, refl, sym, ap, subst, ◌∙◌, append-nil, arith}
 use Rattle.std.proofs.lemmas.List.{length-append}
 use Rattle.sqlite_trees.specs.declared.store.Store.{Ghosts}
 use Rattle.sqlite_trees.specs.Tree.{Trees}
@@ -7,14 +7,17 @@ use Rattle.sqlite_schema.specs.declared.schema.Schema.{Schema}
 use Rattle.sqlite.specs.Held.{Held, state}
 use Rattle.wire.specs.Packet.{packing_length}
 use Rattle.wire.specs.Payload.{ReaderState, IsUnfinished}
-use Rattle.wire.specs.declared.fault.WireFault.TheVariants as wire
 use Rattle.wire.proofs.OneReading.{nothing_yet}
 use Rattle.binlog.specs.Follow.{Names}
 use Rattle.gather.specs.Transaction.{DeliveryValue}
 use Rattle.gather.specs.declared.gatherer.Gatherer.{Gatherer}
+use Rattle.sqlite.specs.declared.error.Error.{Error}
 use Rattle.store.specs.State.{Content}
+use Rattle.store.specs.Take.{Takes, done}
+use Rattle.store.specs.declared.fault.StoreFault.{StoreFault}
+use Rattle.store.specs.declared.fault.StoreFault.TheVariants as fault
 use Rattle.store.specs.declared.store.Store.{Store}
-use Rattle.store.specs.Store.{Holds, HasFailed, HoldsAs, AreOf}
+use Rattle.store.specs.Store.{Holds, HoldsAs, AreOf}
 use Rattle.store.proofs.Taken.{stays}
 use Rattle.replica.specs.declared.end.Reason.{Reason}
 use Rattle.replica.specs.declared.end.Reason.TheVariants.{EndOfInput, SourceEof, SourceError, Wire, Greet, Event, Gather, Refused, Database, Memory, ReadFailed, WriteFailed}
@@ -22,17 +25,17 @@ use Rattle.replica.specs.declared.end.Ended.{Ended}
 use Rattle.replica.specs.declared.phase.Phase.{Phase}
 use Rattle.replica.specs.declared.session.Session.{Session}
 use Rattle.replica.specs.Settings.{Settings}
-use Rattle.replica.specs.Stream.{Payload, Due, Hello, InDump, IsInDump, Answers, next_due, next_id, due_behind, due_from}
+use Rattle.replica.specs.Stream.{Payload, Hello, InDump, IsInDump, Answers, next_due, next_id, due_behind, due_from}
 use Rattle.replica.specs.End.{Denies, EndsLog}
-use Rattle.replica.specs.Conn.{TakesAll, Took, Why, NextEnds, BreaksStore}
+use Rattle.replica.specs.Conn.{TakesAll, Why, NextEnds, BreaksStore}
 use Rattle.replica.specs.Sent.{Sent, SentFor}
-use Rattle.replica.specs.Standing.{GoesOn, HasEnded, Stands, HasPayload, Meets, due_of, end_of, place_of, MovesOn}
-use Rattle.replica.specs.Crash.{IsLeft, IsOneMore}
+use Rattle.replica.specs.Standing.{GoesOn, HasEnded, Stands, HasPayload, due_of, end_of, place_of, MovesOn}
+use Rattle.replica.specs.Crash.{IsLeft}
 use Rattle.replica.specs.Turn.{GathersMore}
-use Rattle.replica.specs.Event.{GoesFurther, EndsOne, Rests, Fails, EndsSo}
+use Rattle.replica.specs.Event.{GoesFurther, EndsOne, Rests, EndsSo}
 use Rattle.replica.specs.Over.{LeavesOnly, StandsOver, MeetsOver}
-use Rattle.replica.proofs.Push.{due_push, in_dump, owes_push, takes_push, with_event}
-use Rattle.replica.proofs.Turning.{stands_going, stands_ended, stops, sent_for, ended, rest_length}
+use Rattle.replica.proofs.Push.{due_push, owes_push, takes_push, with_event}
+use Rattle.replica.proofs.Turning.{stands_going, stands_ended, stops, ended, rest_length}
 
 either : (b : Bool) → (b ≡ false) ⊎ (b ≡ true)
 either false = inl refl
@@ -55,8 +58,8 @@ module _ (settings : Settings) (assembly : ReaderState) (gatherer : Gatherer) (w
   in_the_dump = subst IsInDump (sym due_is) tt
 
   pub event_goes_on : (after_gatherer : Gatherer) (end n : ℕ) (more : List DeliveryValue) (after : Content) → GathersMore names h.reading.events h.reading.deliveries p more after_gatherer → TakesAll names now more n after
-      → end ≡ at + length h.reading.rest → end < 2 ^ 64 → GoesOn settings assembly after_gatherer waits end (applied + n) names was is old after b all
-  event_goes_on after_gatherer end n more after gathered takes end_is within =
+      → end ≡ at + length h.reading.rest → end < 2 ^ 64 → (is ≡ true → after ≡ now) → GoesOn settings assembly after_gatherer waits end (applied + n) names was is old after b all
+  event_goes_on after_gatherer end n more after gathered takes end_is within same =
       let r = h.reading in
       let d = due_behind r.payloads in
       let within_at : length r.front + length r.rest < 2 ^ 64 = omega (arith, end_is, within, h.at_is) in
@@ -80,6 +83,7 @@ module _ (settings : Settings) (assembly : ReaderState) (gatherer : Gatherer) (w
         sent = subst (λ l. Sent settings old.executed (r.payloads ++ p ∷ []) l) (append-nil all)
             (owes_push settings old.executed Hello r.payloads all p [] h.sent (subst (λ x. Rattle.replica.specs.Sent.Owes settings old.executed x p []) (sym due_is) refl));
         store = h.store;
+        kept = λ w. same (h.store ∙ w) ∙ h.kept w;
       }
 
   -- the end of the log ends it
@@ -94,7 +98,7 @@ module _ (settings : Settings) (assembly : ReaderState) (gatherer : Gatherer) (w
         at_is = end_is ∙ ap (λ k. k + length r.rest) h.at_is;
       } in
       record {
-        conn = record { reading = r; took = h.took; why = log };
+        conn = record { reading = r; took = h.took; why = log; kept = h.kept };
         more = λ e. cc;
         sent = record { payloads = r.payloads; taken = record { reading = r; payloads_are = refl; at_is = inr log }; sent = h.sent };
         store = h.store;
@@ -132,14 +136,13 @@ module _ {S : Type 0} (g : Ghosts S) (settled : (h : Held S) (db : Trees) → Is
 
   pub over_going : (s : Session) (store : Store S g) (schema : Schema) (was is : Bool) (old now : Content) (b o : List ℕ) → s.ended ≡ None → HoldsAs g is now store
       → GoesOn s.config s.assembler s.gatherer s.phase s.at s.applied store.following was is old now b (o ++ s.out.items)
-      → (is ≡ false → (state g store.conn).now.schema ≡ schema) → (was ≡ true → now ≡ old) → StandsOver g s store schema was old b o
-  over_going s store schema was is old now b o none holds goes same kept = record {
+      → (is ≡ false → (state g store.conn).now.schema ≡ schema) → StandsOver g s store schema was old b o
+  over_going s store schema was is old now b o none holds goes same = record {
     is = is;
     now = now;
     holds = holds;
     stands = stands_going s store.following was is old now b o none goes;
     schema_is = same;
-    kept = kept;
     leaves = λ whole.
         let is_whole : is ≡ false = goes.store ∙ whole in
         leaves_only store schema now (IsLeft s.config.limit store.following old b now (end_of s)) (subst (λ i. HoldsAs g i now store) is_whole holds) (same is_whole) (inl refl);
@@ -147,15 +150,14 @@ module _ {S : Type 0} (g : Ghosts S) (settled : (h : Held S) (db : Trees) → Is
 
   pub over_ended : (s : Session) (store : Store S g) (schema : Schema) (was is : Bool) (old now : Content) (b o : List ℕ) (end : Ended) → s.ended ≡ Some end → HoldsAs g is now store
       → HasEnded s.config store.following was is old now b (o ++ s.out.items) end
-      → (is ≡ false → (state g store.conn).now.schema ≡ schema) → (was ≡ true → now ≡ old) → (was ≡ false → LeavesOnly g schema store (IsLeft s.config.limit store.following old b now end))
+      → (is ≡ false → (state g store.conn).now.schema ≡ schema) → (was ≡ false → LeavesOnly g schema store (IsLeft s.config.limit store.following old b now end))
       → StandsOver g s store schema was old b o
-  over_ended s store schema was is old now b o end some holds has same kept leaves = record {
+  over_ended s store schema was is old now b o end some holds has same leaves = record {
     is = is;
     now = now;
     holds = holds;
     stands = stands_ended s store.following was is old now b o end some has;
     schema_is = same;
-    kept = kept;
     leaves = λ whole.
         let is_end : end_of s ≡ end = ap (λ v. unwrap_or v (record { reason = EndOfInput; at = s.at; applied = s.applied })) some in
         subst (λ e. LeavesOnly g schema store (IsLeft s.config.limit store.following old b now e)) (sym is_end) (leaves whole);
@@ -170,7 +172,6 @@ module _ {S : Type 0} (g : Ghosts S) (settled : (h : Held S) (db : Trees) → Is
     holds = m.holds;
     stands = stands;
     schema_is = m.schema_is;
-    kept = m.kept;
     leaves = λ whole. record { each = λ trees may. let l = (m.leaves whole).each trees may in (l.0, l.1, inl l.2) };
   }
 
@@ -184,14 +185,13 @@ module _ {S : Type 0} (g : Ghosts S) (settled : (h : Held S) (db : Trees) → Is
         over_going new after schema was m.is old f.after b o none f.holds
         (subst (λ n. GoesOn new.config new.assembler new.gatherer new.phase new.at new.applied n was m.is old f.after b (o ++ new.out.items)) (sym same_names) goes)
         (λ whole. f.schema whole ∙ m.schema_is whole)
-        (λ w. f.kept (m.meets.store ∙ w) ∙ m.kept w)
 
     dump_ended : (new : Session) (is : Bool) (end : Ended) → new.ended ≡ Some end → HoldsAs g is m.now after → HasEnded new.config store.following was is old m.now b (o ++ new.out.items) end
         → (is ≡ false → (state g after.conn).now.schema ≡ schema) → (was ≡ false → LeavesOnly g schema after (IsLeft new.config.limit store.following old b m.now end)) → StandsOver g new after schema was old b o
     dump_ended new is end some holds has same leaves =
         over_ended new after schema was is old m.now b o end some holds
         (subst (λ n. HasEnded new.config n was is old m.now b (o ++ new.out.items) end) (sym same_names) has)
-        same m.kept
+        same
         (λ whole. subst (λ n. LeavesOnly g schema after (IsLeft new.config.limit n old b m.now end)) (sym same_names) (leaves whole))
 
     module _ (new : Session) (end : ℕ) (dump : due_of s.phase ≡ InDump) (end_is : end ≡ s.at + packing_length (length p)) (within : end < 2 ^ 64) (config : new.config ≡ s.config) (out : new.out.items ≡ s.out.items) where
@@ -236,13 +236,13 @@ module _ {S : Type 0} (g : Ghosts S) (settled : (h : Held S) (db : Trees) → Is
         delivers = e.delivers;
       }
 
-      one_more : (cause : Rattle.store.specs.declared.fault.StoreFault.StoreFault) (d : DeliveryValue) → EndsOne g m.is m.now m.meets.reading.events m.meets.reading.deliveries p store after d → (left : Content)
-          → (left ≡ m.now) ⊎ Rattle.store.specs.Take.Takes store.following m.now d (Rattle.store.specs.Take.done left)
+      one_more : (cause : StoreFault) (error : Error) → cause ≡ fault.Database error → (d : DeliveryValue) → EndsOne g m.is m.now m.meets.reading.events m.meets.reading.deliveries p store after d → (left : Content)
+          → (left ≡ m.now) ⊎ Takes store.following m.now d (done left)
           → IsLeft s.config.limit store.following old b m.now (record { reason = Database cause; at = s.at; applied = s.applied }) left
-      one_more cause d e left (inl same) = inl same
-      one_more cause d e left (inr takes) = inr (record {
-        cause = cause;
-        failed = refl;
+      one_more cause error is d e left (inl same) = inl same
+      one_more cause error is d e left (inr takes) = inr (record {
+        cause = error;
+        failed = ap Database is;
         reading = m.meets.reading;
         at_is = m.meets.at_is;
         took = m.meets.took;
@@ -270,7 +270,7 @@ module _ {S : Type 0} (g : Ghosts S) (settled : (h : Held S) (db : Trees) → Is
           (subst (λ c. HasEnded c store.following was true old m.now b (o ++ new.out.items) end_at) (sym config)
           (subst (λ l. HasEnded s.config store.following was true old m.now b (o ++ l) end_at) (sym out)
           (stopped (Database cause) true (λ q. cc)
-          (m.meets.at_is, record { delivery = e.0; ends = next_ends e.0 e.1; due_is = elim e.2.due_is [ inl out_of ↦ inl out_of | inr w ↦ inr (sym m.meets.store ∙ w) ] }) refl)))
+          (m.meets.at_is, record { delivery = e.0; ends = next_ends e.0 e.1; fails = elim e.2.fails [ inl w ↦ inl (w.0, w.1, sym m.meets.store ∙ w.2, w.3) | inr w ↦ inr (w.0, sym m.meets.store ∙ w.1) ] }) refl)))
           (λ f. absurd (true-false f))
           (λ whole. record {
             each = λ trees may.
@@ -278,7 +278,7 @@ module _ {S : Type 0} (g : Ghosts S) (settled : (h : Held S) (db : Trees) → Is
                 let l = e.2.leaves is_whole trees may in (
                   l.0,
                   subst (λ n. AreOf schema n l.0 trees) (sym same_names) (subst (λ x. AreOf x store.following l.0 trees) (m.schema_is is_whole) l.1),
-                  subst (λ (c : Settings). IsLeft c.limit store.following old b m.now end_at l.0) (sym config) (one_more cause e.0 e.1 l.0 l.2),
+                  subst (λ (c : Settings). IsLeft c.limit store.following old b m.now end_at l.0) (sym config) (elim e.2.fails [ inl w ↦ one_more cause w.0 w.1 e.0 e.1 l.0 l.2 | inr w ↦ absurd (true-false (sym w.1 ∙ is_whole)) ]),
                 );
           })
       dump_ends Memory some e =

@@ -1,33 +1,29 @@
 -- A payload of the dump.
-use Rattle.std.proofs.Common.{◌≡◌, ◌⊎◌, ◌≤◌, ◌<◌, ◌+◌, ◌-◌, ℕ, Bool, true, false, List, [], ◌∷◌, ◌++◌, take, drop, length, Option, Some, None, Result, Ok, Err, get_or, inl, inr, refl, sym, ap, subst, ◌∙◌, arith}
+use Rattle.std.proofs.Common.{◌≡◌, ◌⊎◌, ◌≤◌, ◌-◌, ℕ, Bool, true, false, List, [], ◌∷◌, take, drop, length, Result, Ok, Err, get_or, inl, inr, refl, sym, ap, subst, ◌∙◌, arith}
 use Rattle.sqlite_trees.specs.declared.store.Store.{Ghosts}
 use Rattle.sqlite_trees.specs.Tree.{Trees}
-use Rattle.sqlite_schema.specs.declared.schema.Schema.{Schema}
 use Rattle.sqlite.specs.Held.{state}
 use Rattle.std.proofs.Math.Seq.{drop-cons}
 use Rattle.std.proofs.lemmas.List.{take_rest}
 use Rattle.binlog.specs.Follow.{Names}
 use Rattle.binlog.specs.Event.{EventValue, IsEvent}
 use Rattle.gather.specs.Transaction.{DeliveryValue}
-use Rattle.gather.specs.Standing.{Stands as Gathers}
 use Rattle.gather.specs.Fault.{IsFault}
 use Rattle.gather.specs.declared.gatherer.Gatherer.{Gatherer}
 use Rattle.gather.specs.declared.fault.GatherFault.{GatherFault}
 use Rattle.gather.specs.declared.fault.GatherFault.TheVariants as gather
 use Rattle.store.specs.State.{Content}
-use Rattle.store.specs.Take.{is_executed}
 use Rattle.store.specs.declared.fault.Applied.{Applied}
 use Rattle.store.specs.declared.fault.Applied.TheVariants as applied
 use Rattle.store.specs.declared.fault.StoreFault.{StoreFault}
 use Rattle.store.specs.declared.fault.StoreFault.TheVariants as fault
 use Rattle.store.specs.declared.store.Store.{Store}
-use Rattle.store.specs.Store.{Holds, HasFailed, HoldsAs, Applies, AreOf, Leaves}
-use Rattle.store.specs.Apply.{IsTaken}
+use Rattle.store.specs.Store.{Holds, HasFailed, HoldsAs, Applies, Leaves}
 use Rattle.replica.specs.declared.end.Reason.{Reason}
 use Rattle.replica.specs.declared.end.Reason.TheVariants.{EndOfInput, SourceEof, SourceError, Wire, Greet, Event, Gather, Refused, Database, Memory, ReadFailed, WriteFailed}
 use Rattle.replica.specs.Stream.{Payload, Carries}
 use Rattle.replica.specs.Turn.{EndsDump, GathersMore, outcome_of, reason_of_events}
-use Rattle.replica.specs.Event.{GoesFurther, EndsOne, Rests, Fails, EndsSo, TakesEvent}
+use Rattle.replica.specs.Event.{GoesFurther, EndsOne, Rests, EndsSo, TakesEvent}
 
 -- ---- the event
 begun_by : (first : ℕ) (xs : List ℕ) → 1 ≤ length xs → get_or xs 0 0 ≡ first → xs ≡ first ∷ take (length xs - 1) (drop 1 xs)
@@ -96,7 +92,7 @@ module _ {S : Type 0} (g : Ghosts S) (es : List EventValue) (ds : List DeliveryV
         ends_one true now old old d gatherer more,
         record {
           rests = record { holds = holds; schema = λ _. refl };
-          due_is = inr refl;
+          fails = inr (refl, refl);
           leaves = λ whole. absurd (true-false whole);
         },
       ))
@@ -133,7 +129,7 @@ module _ {S : Type 0} (g : Ghosts S) (es : List EventValue) (ds : List DeliveryV
     ends_one false now old new d gatherer more,
     record {
       rests = record { holds = it.1; schema = λ b. absurd (true-false b) };
-      due_is = inl it.0;
+      fails = inl (e, refl, refl, it.0);
       leaves = λ whole trees left. elim (leaves trees left) [
         | inl same ↦ (now, same, inl refl)
         | inr one ↦ (one.after, one.stands, inr one.takes)

@@ -95,7 +95,7 @@ module _ (limit : ℕ) (names : Names) (due : Due) (es : List EventValue) (taken
     why-append was old new at (Event fault) h w = stops-append at (Event fault) h w
     why-append was old new at (Gather fault) h w = stops-append at (Gather fault) h w
     why-append was old new at (Refused refusal) h w = (w.0, record { delivery = w.1.delivery; ends = ends-append w.1.delivery w.1.ends; refused = w.1.refused })
-    why-append was old new at (Database cause) h w = (w.0, record { delivery = w.1.delivery; ends = ends-append w.1.delivery w.1.ends; due_is = w.1.due_is })
+    why-append was old new at (Database cause) h w = (w.0, record { delivery = w.1.delivery; ends = ends-append w.1.delivery w.1.ends; fails = w.1.fails })
     why-append was old new at Memory h w = w
     why-append was old new at ReadFailed h w = w
     why-append was old new at WriteFailed h w = elim w [ inl e ↦ inl e | inr f ↦ inr (log-append at f) ]
@@ -108,6 +108,7 @@ conn-append limit names was old b more new end h c =
       reading = extended limit names b more r;
       took = c.took;
       why = why-append limit names (due_behind r.payloads) r.events (length r.front) r.id r.rest more r.deliveries was old new end.at end.reason h c.why;
+      kept = c.kept;
     }
 
 pub taken-append : (limit : ℕ) (names : Names) (b more : List ℕ) (at : ℕ) (payloads : List Payload) → Taken limit names b at payloads → Taken limit names (b ++ more) at payloads

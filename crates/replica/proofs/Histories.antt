@@ -66,6 +66,7 @@ conn-unread limit names was content b = record {
   reading = unread limit names b;
   took = record { takes = (refl, refl); asked = λ in_dump. absurd in_dump };
   why = refl;
+  kept = λ w. refl;
 }
 
 -- the pieces so far, and one more

@@ -1,7 +1,6 @@
 -- A message before the dump.
-use Rattle.std.proofs.Common.{◌≡◌, ◌⊎◌, ℕ, List, [], true, Option, Result, Ok, Err, IfErr, inl, inr, refl, sym, ap, subst}
+use Rattle.std.proofs.Common.{◌≡◌, ◌⊎◌, ℕ, List, Result, Ok, Err, IfErr, inl, inr, refl, sym, ap, subst}
 use Rattle.greet.specs.Message.{IsSwitch}
-use Rattle.greet.specs.Refusal.{Refusal}
 use Rattle.gtid.specs.Identifier.{Ids}
 use Rattle.binlog.specs.Follow.{Names}
 use Rattle.replica.specs.declared.end.Reason.{Reason}
@@ -9,7 +8,7 @@ use Rattle.replica.specs.declared.end.Reason.TheVariants.{EndOfInput, SourceEof,
 use Rattle.replica.specs.declared.phase.Phase.{Phase}
 use Rattle.replica.specs.declared.phase.Phase.TheVariants as phases
 use Rattle.replica.specs.Settings.{Settings}
-use Rattle.replica.specs.Stream.{Payload, Due, IsInDump, Reply, SecondReply, QueryReply, begins_switch, next_due}
+use Rattle.replica.specs.Stream.{Payload, Due, IsInDump, Reply, SecondReply, QueryReply, next_due}
 use Rattle.replica.specs.Message.{refusal_of, IsNoEvent}
 use Rattle.replica.specs.Sent.{auth_bytes}
 use Rattle.replica.specs.Standing.{due_of}

@@ -1,5 +1,5 @@
 -- One payload more.
-use Rattle.std.proofs.Common.{◌≡◌, ◌≢◌, ◌⊎◌, ℕ, ◌+◌, ◌^◌, ◌<◌, Bool, true, false, not, List, [], ◌∷◌, ◌++◌, length, filter, flat_map, if◌then◌else◌, inl, inr, refl, sym, ap, subst, ◌∙◌, append_assoc, append-nil, arith}
+use Rattle.std.proofs.Common.{◌≡◌, ℕ, ◌+◌, ◌^◌, ◌<◌, true, false, List, [], ◌∷◌, ◌++◌, length, flat_map, if◌then◌else◌, inl, inr, refl, sym, ap, subst, ◌∙◌, append_assoc, append-nil, arith}
 use Rattle.std.proofs.lemmas.List.{length-append}
 use Rattle.wire.specs.Payload.{IsWholePayload}
 use Rattle.gtid.specs.Identifier.{Ids}
@@ -10,7 +10,7 @@ use Rattle.store.specs.State.{Content}
 use Rattle.replica.specs.declared.phase.Phase.{Phase}
 use Rattle.replica.specs.declared.phase.Phase.TheVariants as phases
 use Rattle.replica.specs.Settings.{Settings}
-use Rattle.replica.specs.Stream.{Payload, Due, Hello, Reply, SecondReply, QueryReply, InDump, begins_switch, next_due, next_id, due_from, due_behind, IsInDump, Answers, Talks, Conversation, Reading}
+use Rattle.replica.specs.Stream.{Payload, Due, Hello, Reply, SecondReply, QueryReply, InDump, begins_switch, next_due, next_id, due_from, due_behind, IsInDump, Answers, Talks, Reading}
 use Rattle.replica.specs.Conn.{TakesAll, IsDumpTooLong}
 use Rattle.replica.specs.Sent.{Owes, OwesFrom}
 use Rattle.replica.specs.Standing.{due_of, first_id_of}

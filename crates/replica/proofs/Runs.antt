@@ -43,7 +43,6 @@ module _ {S : Type 0} (g : Ghosts S) (settled : (h : Held S) (db : Trees) → Is
     holds = holds;
     stands = stands;
     schema_is = λ w. refl;
-    kept = λ b. refl;
     leaves = λ w. record {
       each = λ trees may.
           let l = (whole_leaves was content store w holds).each trees may in
@@ -61,7 +60,6 @@ module _ {S : Type 0} (g : Ghosts S) (settled : (h : Held S) (db : Trees) → Is
     conn = conn-unread limit store.following was content b;
     breaks = λ h. h;
     schema_is = λ w. refl;
-    kept = λ h. refl;
     leaves = λ w. record {
       each = λ trees may.
           let l = (whole_leaves was content store w holds).each trees may in
@@ -103,7 +101,6 @@ module _ {S : Type 0} (g : Ghosts S) where
         conn = subst (λ (e : Ended). Conn limit before.following was old b s.now e) (sym end_is) conn;
         breaks = subst (λ (e : Ended). BreaksStore e.reason was s.is) (sym end_is) (store_of session store.following was s.is old s.now b o s.stands);
         schema_is = s.schema_is;
-        kept = s.kept;
         leaves = λ w. subst (λ (e : Ended). LeavesOnly g (state g before.conn).now.schema store (IsLeft limit before.following old b s.now e)) (sym end_is) (leaves w);
       }
 
@@ -146,7 +143,7 @@ module _ {S : Type 0} (g : Ghosts S) where
               l.0,
               subst (λ (s : Store S g). AreOf schema s.following l.0 trees) (sym e) l.1,
               subst (λ n. IsLeftOfAll limit n was old (bs ++ b ∷ []) r.new (ends ++ end ∷ []) l.0) (sym r.following)
-                  (stays limit before.following was old bs t.new r.new ends b end l.0 (r.kept q) l.2),
+                  (stays limit before.following was old bs t.new r.new ends b end l.0 (r.conn.kept q) l.2),
             )
             )
       ];

@@ -1,5 +1,5 @@
 -- What is appended for a payload.
-use Rattle.std.proofs.Common.{◌≡◌, ◌≤◌, ◌<◌, ◌+◌, ℕ, List, [], length, Result, Ok, Err, OnOk, sym, ap, subst, ◌∙◌, arith}
+use Rattle.std.proofs.Common.{◌≡◌, ◌≤◌, ◌+◌, ℕ, List, [], length, Result, Ok, Err, OnOk, sym, ap, subst, ◌∙◌, arith}
 use Rattle.byteorder.specs.Endian.{little_bytes}
 use Rattle.greet.specs.Message.{dump_bytes}
 use Rattle.gtid.specs.Identifier.{Ids}

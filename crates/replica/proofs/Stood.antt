@@ -49,6 +49,7 @@ begun settings a gatherer names was old all held limit due ended gathers sent = 
   took = record { takes = (refl, refl); asked = λ in_dump. absurd in_dump };
   sent = sent;
   store = refl;
+  kept = λ b. refl;
 }
 
 module _ (session : Session) (names : Names) (was is : Bool) (old now : Content) (b o : List ℕ) where
@@ -68,6 +69,7 @@ module _ (session : Session) (names : Names) (was is : Bool) (old now : Content)
       reading = g.reading;
       took = g.took;
       why = (g.at_is, subst (λ h. IsUnfinished g.reading.id session.config.limit h) (sym g.held) g.unfinished);
+      kept = g.kept;
     }
     | Some end ↦ λ h. h.conn
   ] s

@@ -1,5 +1,6 @@
 -- What an end tells.
-use Rattle.std.proofs.Common.{◌≡◌, ◌↔◌, ℕ, Bool, List, ◌++◌, length, refl, inl, inr, Some, None, MatchOption, unwrap_or}
+use Rattle.std.proofs.Common.{◌≡◌, ◌↔◌, ◌⊎◌, ap, ℕ, Bool, List, ◌++◌, length, refl, inl, inr, Some, None, MatchOption, unwrap_or}
+use Rattle.wire.specs.declared.fault.WireFault.TheVariants as wire
 use Rattle.binlog.specs.Follow.{Names}
 use Rattle.store.specs.State.{Content}
 use Rattle.replica.specs.declared.end.Reason.{Reason}
@@ -14,23 +15,28 @@ use Rattle.replica.specs.Standing.{GoesOn, HasEnded, Stands, end_of}
 pub begun_of : (limit : ℕ) (names : Names) (was : Bool) (old : Content) (b : List ℕ) (new : Content) (end : Ended) → Conn limit names was old b new end → (count : ℕ) × Begun limit names old b count end.applied new
 begun_of limit names was old b new end c = (length c.reading.deliveries, record { reading = c.reading; counted = refl; took = c.took })
 
-stops_of : (limit : ℕ) (names : Names) (was : Bool) (old new : Content) (b : List ℕ) (r : Reading limit names b) (at : ℕ) (reason : Reason) → IsOfBytes reason → (IsDumpTooLong old.executed → ⊥)
-    → Why limit names (due_behind r.payloads) r.events r.deliveries (length r.front) r.id r.rest was old new at reason → StopsFor limit names (due_behind r.payloads) r.events (length r.front) r.id r.rest at reason
-stops_of limit names was old new b r at EndOfInput h short w = w
-stops_of limit names was old new b r at SourceEof h short w = w
-stops_of limit names was old new b r at (SourceError code state message) h short w = w
-stops_of limit names was old new b r at (Wire fault) h short w = elim w [ inl s ↦ s | inr s ↦ absurd (short s.3) ]
-stops_of limit names was old new b r at (Greet fault) h short w = w
-stops_of limit names was old new b r at (Event fault) h short w = w
-stops_of limit names was old new b r at (Gather fault) h short w = w
-stops_of limit names was old new b r at (Refused refusal) h short w = absurd h
-stops_of limit names was old new b r at (Database cause) h short w = absurd h
-stops_of limit names was old new b r at Memory h short w = absurd h
-stops_of limit names was old new b r at ReadFailed h short w = absurd h
-stops_of limit names was old new b r at WriteFailed h short w = absurd h
+stops_of : (limit : ℕ) (names : Names) (was : Bool) (old new : Content) (b : List ℕ) (r : Reading limit names b) (at : ℕ) (reason : Reason) → IsOfBytes reason
+    → Why limit names (due_behind r.payloads) r.events r.deliveries (length r.front) r.id r.rest was old new at reason
+    → StopsFor limit names (due_behind r.payloads) r.events (length r.front) r.id r.rest at reason ⊎ ((reason ≡ Wire wire.TooLarge) × IsDumpTooLong old.executed)
+stops_of limit names was old new b r at EndOfInput h w = inl w
+stops_of limit names was old new b r at SourceEof h w = inl w
+stops_of limit names was old new b r at (SourceError code state message) h w = inl w
+stops_of limit names was old new b r at (Wire fault) h w = elim w [ inl s ↦ inl s | inr s ↦ inr (ap Wire s.0, s.3) ]
+stops_of limit names was old new b r at (Greet fault) h w = inl w
+stops_of limit names was old new b r at (Event fault) h w = inl w
+stops_of limit names was old new b r at (Gather fault) h w = inl w
+stops_of limit names was old new b r at (Refused refusal) h w = absurd h
+stops_of limit names was old new b r at (Database cause) h w = absurd h
+stops_of limit names was old new b r at Memory h w = absurd h
+stops_of limit names was old new b r at ReadFailed h w = absurd h
+stops_of limit names was old new b r at WriteFailed h w = absurd h
 
-pub end_by : (limit : ℕ) (names : Names) (was : Bool) (old : Content) (b : List ℕ) (new : Content) (end : Ended) → Conn limit names was old b new end → IsOfBytes end.reason → (IsDumpTooLong old.executed → ⊥) → End limit names b end.reason end.at
-end_by limit names was old b new end c h short = record { reading = c.reading; stops = stops_of limit names was old new b c.reading end.at end.reason h short c.why }
+pub end_by : (limit : ℕ) (names : Names) (was : Bool) (old : Content) (b : List ℕ) (new : Content) (end : Ended) → Conn limit names was old b new end → IsOfBytes end.reason
+    → End limit names b end.reason end.at ⊎ ((end.reason ≡ Wire wire.TooLarge) × IsDumpTooLong old.executed)
+end_by limit names was old b new end c h = elim (stops_of limit names was old new b c.reading end.at end.reason h c.why) [
+  | inl s ↦ inl (record { reading = c.reading; stops = s })
+  | inr s ↦ inr s
+]
 
 -- a session that has ended has not ended by the end of the input
 pub ended_where : (session : Session) (names : Names) (was is : Bool) (old now : Content) (b o : List ℕ) → Stands session names was is old now b o → (session.ended ≡ None) ↔ ((end_of session).reason ≡ EndOfInput)

@@ -1,14 +1,12 @@
 -- A session takes a payload.
-use Rattle.std.proofs.Common.{◌≡◌, ◌≢◌, ◌⊎◌, ℕ, ◌+◌, ◌^◌, ◌<◌, ◌≤◌, Bool, true, false, List, [], ◌∷◌, ◌++◌, length, Option, Some, None, MatchOption, if◌then◌else◌, inl, inr, refl, sym, ap, subst, ◌∙◌, append_assoc, append-nil, arith}
+use Rattle.std.proofs.Common.{◌≡◌, ◌≢◌, ℕ, ◌+◌, ◌^◌, ◌<◌, ◌≤◌, Bool, List, [], ◌∷◌, ◌++◌, length, Some, None, MatchOption, inl, inr, refl, sym, ap, subst, ◌∙◌, append_assoc, append-nil, arith}
 use Rattle.std.proofs.lemmas.List.{length-append}
 use Rattle.wire.specs.Packet.{packing_length}
-use Rattle.wire.specs.Payload.{ReaderState, IsWholePayload, IsUnfinished}
+use Rattle.wire.specs.Payload.{ReaderState, IsUnfinished}
 use Rattle.wire.specs.declared.fault.WireFault.TheVariants as wire
 use Rattle.wire.proofs.OneReading.{nothing_yet}
 use Rattle.wire.proofs.OnePacking.{length_packing}
-use Rattle.gtid.specs.Identifier.{Ids}
 use Rattle.binlog.specs.Follow.{Names}
-use Rattle.binlog.specs.Event.{EventValue}
 use Rattle.gather.specs.declared.gatherer.Gatherer.{Gatherer}
 use Rattle.store.specs.State.{Content}
 use Rattle.replica.specs.declared.end.Reason.{Reason}
@@ -20,11 +18,11 @@ use Rattle.replica.specs.declared.session.Session.{Session}
 use Rattle.replica.specs.Settings.{Settings}
 use Rattle.replica.specs.Stream.{Payload, Due, Hello, QueryReply, IsInDump, next_due, next_id, due_behind, Reading}
 use Rattle.replica.specs.End.{HasNext, StopsAt, PassesEnd, StopsFor}
-use Rattle.replica.specs.Conn.{TakesAll, IsDumpTooLong, CouldAsk, Took, Why, BreaksStore}
+use Rattle.replica.specs.Conn.{TakesAll, Why, BreaksStore}
 use Rattle.replica.specs.Sent.{Sent, SentFor}
 use Rattle.replica.specs.Standing.{GoesOn, HasEnded, Stands, HasPayload, due_of, first_id_of, room_of}
 use Rattle.replica.specs.Turn.{IsAnswered, EndsAt}
-use Rattle.replica.proofs.Push.{due_push, id_is_next, could_ask, no_events, no_deliveries, owes_push, takes_push, with_message}
+use Rattle.replica.proofs.Push.{due_push, id_is_next, could_ask, no_events, no_deliveries, owes_push, with_message}
 
 -- ---- sessions that go on, and that have ended
 pub stands_going : (s : Session) (names : Names) (was is : Bool) (old now : Content) (b o : List ℕ) → s.ended ≡ None
@@ -77,7 +75,7 @@ module _ (settings : Settings) (assembly : ReaderState) (gatherer : Gatherer) (w
       → Why settings.limit names (due_behind h.reading.payloads) h.reading.events h.reading.deliveries (length h.reading.front) h.reading.id h.reading.rest was old now at reason
       → BreaksStore reason was broken → HasEnded settings names was broken old now b all (record { reason = reason; at = at; applied = applied })
   ended reason broken more why store = record {
-    conn = record { reading = h.reading; took = h.took; why = why };
+    conn = record { reading = h.reading; took = h.took; why = why; kept = h.kept };
     more = more;
     sent = sent_for all h.sent;
     store = store;
@@ -136,6 +134,7 @@ module _ (settings : Settings) (assembly : ReaderState) (gatherer : Gatherer) (w
         sent = subst (λ l. Sent settings old.executed (r.payloads ++ p ∷ []) l) (ap (λ l. l ++ a.replies.bytes) all_is ∙ append_assoc o out a.replies.bytes ∙ ap (λ l. o ++ l) (sym a.replies.appended))
             (owes_push settings old.executed Hello r.payloads all p a.replies.bytes h.sent owes);
         store = h.store;
+        kept = h.kept;
       }
 
   -- a message before the dump ends it

@@ -1,5 +1,5 @@
 -- What a connection does to what a replica holds, and how it ends; what a list of connections does.
-use Rattle.std.specs.Prelude.{◌≡◌, ◌≢◌, ℕ, ◌+◌, ◌^◌, ◌<◌, ◌≤◌, ◌⊎◌, Bool, true, false, List, [], ◌∷◌, ◌++◌, length}
+use Rattle.std.specs.Prelude.{◌≡◌, ℕ, ◌+◌, ◌<◌, ◌⊎◌, Bool, true, false, List, [], ◌∷◌, ◌++◌, length}
 use Rattle.wire.specs.declared.fault.WireFault.TheVariants as wire
 use Rattle.greet.specs.Message.{IsOkPacket}
 use Rattle.gtid.specs.Identifier.{Ids}
@@ -7,6 +7,9 @@ use Rattle.gtid.specs.Encoding.{IsEncoding}
 use Rattle.binlog.specs.Follow.{Names}
 use Rattle.binlog.specs.Event.{EventValue}
 use Rattle.gather.specs.Transaction.{DeliveryValue, AreDeliveries}
+use Rattle.sqlite.specs.declared.error.Error.{Error}
+use Rattle.store.specs.declared.fault.StoreFault.{StoreFault}
+use Rattle.store.specs.declared.fault.StoreFault.TheVariants as fault
 use Rattle.store.specs.State.{Content}
 use Rattle.store.specs.Take.{Takes, done, repeat, refused, is_executed}
 use Rattle.store.specs.declared.change.Refusal.TheVariants as why
@@ -51,6 +54,12 @@ pub record Took (names : Names) (old : Content) (ds : List DeliveryValue) (due :
 
 -- ---- A connection.
 
+-- The database failed, of a store that was whole, in a transaction that is not executed; or a failure had broken the
+-- store before.
+abbrev pub FailsFor : Bool → Bool → StoreFault → Type 0
+FailsFor was_broken executed cause =
+    ((e : Error) × (cause ≡ fault.Database e) × (was_broken ≡ false) × (executed ≡ false)) ⊎ ((cause ≡ fault.Broken) × (was_broken ≡ true))
+
 module _ (limit : ℕ) (names : Names) (due : Due) (es : List EventValue) (ds : List DeliveryValue) (taken id : ℕ) (rest : List ℕ) where
   -- The next payload carries an event that ends the transaction.
   pub record NextEnds (d : DeliveryValue) : Type 0 where
@@ -74,11 +83,11 @@ module _ (limit : ℕ) (names : Names) (due : Due) (es : List EventValue) (ds : 
     pub ends : NextEnds delivery
     pub refused : IsRefusedBy names new delivery refusal
 
-  -- The next payload ends a transaction that is not executed, or the store was broken before.
-  pub record IsDueNext (was_broken : Bool) (new : Content) : Type 0 where
+  -- The next payload ends a transaction in which the database failed, or which met a broken store.
+  pub record FailsNext (was_broken : Bool) (new : Content) (cause : StoreFault) : Type 0 where
     pub delivery : DeliveryValue
     pub ends : NextEnds delivery
-    pub due_is : (is_executed new delivery ≡ false) ⊎ (was_broken ≡ true)
+    pub fails : FailsFor was_broken (is_executed new delivery) cause
 
   -- Why a connection ends at this place, over a store that a failure had broken before or not.
   abbrev pub Why : Bool → Content → Content → ℕ → Reason → Type 0
@@ -86,24 +95,26 @@ module _ (limit : ℕ) (names : Names) (due : Due) (es : List EventValue) (ds : 
   Why was old new at SourceEof = StopsFor limit names due es taken id rest at SourceEof
   Why was old new at (SourceError code state message) = StopsFor limit names due es taken id rest at (SourceError code state message)
   -- or the dump command would be too long
-  Why was old new at (Wire fault) =
-      StopsFor limit names due es taken id rest at (Wire fault) ⊎ ((fault ≡ wire.TooLarge) × (at ≡ taken) × NextAnswers × IsDumpTooLong old.executed)
-  Why was old new at (Greet fault) = StopsFor limit names due es taken id rest at (Greet fault)
-  Why was old new at (Event fault) = StopsFor limit names due es taken id rest at (Event fault)
-  Why was old new at (Gather fault) = StopsFor limit names due es taken id rest at (Gather fault)
+  Why was old new at (Wire f) =
+      StopsFor limit names due es taken id rest at (Wire f) ⊎ ((f ≡ wire.TooLarge) × (at ≡ taken) × NextAnswers × IsDumpTooLong old.executed)
+  Why was old new at (Greet f) = StopsFor limit names due es taken id rest at (Greet f)
+  Why was old new at (Event f) = StopsFor limit names due es taken id rest at (Event f)
+  Why was old new at (Gather f) = StopsFor limit names due es taken id rest at (Gather f)
   Why was old new at (Refused refusal) = (at ≡ taken) × IsRefusedNext new refusal
-  Why was old new at (Database cause) = (at ≡ taken) × IsDueNext was new
+  Why was old new at (Database cause) = (at ≡ taken) × FailsNext was new cause
   Why was old new at Memory = at ≡ taken
   Why was old new at ReadFailed = at ≡ taken
   -- what is owed may be sent behind the end of the log
   Why was old new at WriteFailed = (at ≡ taken) ⊎ EndsLog limit names due es taken id rest at
 
 -- A connection of the bytes, over a store that a failure had broken before or not, leads from old to new and ends so: a
--- beginning of its bytes is a conversation, whose transactions are taken in order and none refused.
+-- beginning of its bytes is a conversation, whose transactions are taken in order and none refused. Over a broken store
+-- nothing changes.
 pub record Conn (limit : ℕ) (names : Names) (was_broken : Bool) (old : Content) (b : List ℕ) (new : Content) (end : Ended) : Type 0 where
   pub reading : Reading limit names b
   pub took : Took names old reading.deliveries (due_behind reading.payloads) end.applied new
   pub why : Why limit names (due_behind reading.payloads) reading.events reading.deliveries (length reading.front) reading.id reading.rest was_broken old new end.at end.reason
+  pub kept : was_broken ≡ true → new ≡ old
 
 -- Taking the first so many transactions of the bytes refuses none, and leads from old to new.
 pub record Begun (limit : ℕ) (names : Names) (old : Content) (b : List ℕ) (count applied : ℕ) (new : Content) : Type 0 where

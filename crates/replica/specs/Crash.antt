@@ -1,10 +1,11 @@
 -- What a crash may leave of connections.
-use Rattle.std.specs.Prelude.{◌≡◌, ℕ, ◌⊎◌, Bool, false, List, [], ◌∷◌, ◌++◌, length}
+use Rattle.std.specs.Prelude.{◌≡◌, ℕ, ◌⊎◌, Bool, false, List, ◌∷◌, ◌++◌, length}
 use Rattle.binlog.specs.Follow.{Names}
 use Rattle.gather.specs.Transaction.{DeliveryValue}
 use Rattle.store.specs.State.{Content}
 use Rattle.store.specs.Take.{Takes, done}
-use Rattle.store.specs.declared.fault.StoreFault.{StoreFault}
+use Rattle.sqlite.specs.declared.error.Error.{Error}
+use Rattle.store.specs.declared.fault.StoreFault.TheVariants as fault
 use Rattle.replica.specs.declared.end.Reason.TheVariants.{Database}
 use Rattle.replica.specs.declared.end.Ended.{Ended}
 use Rattle.replica.specs.Stream.{Reading, due_behind}
@@ -12,8 +13,8 @@ use Rattle.replica.specs.Conn.{Took, NextEnds, Conn, History}
 
 -- The database failed in the transaction that the next payload ends, and what is left has this one more.
 pub record IsOneMore (limit : ℕ) (names : Names) (old : Content) (b : List ℕ) (new : Content) (end : Ended) (left : Content) : Type 0 where
-  pub cause : StoreFault
-  pub failed : end.reason ≡ Database cause
+  pub cause : Error
+  pub failed : end.reason ≡ Database (fault.Database cause)
   pub reading : Reading limit names b
   pub at_is : end.at ≡ length reading.front
   pub took : Took names old reading.deliveries (due_behind reading.payloads) end.applied new

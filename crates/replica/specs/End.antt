@@ -1,5 +1,5 @@
 -- Where the reading of a connection stops, and why.
-use Rattle.std.specs.Prelude.{◌≡◌, ℕ, ◌+◌, ◌^◌, ◌<◌, ◌≤◌, ◌⊎◌, List, [], ◌∷◌, ◌++◌, length, Some}
+use Rattle.std.specs.Prelude.{◌≡◌, ℕ, ◌+◌, ◌^◌, ◌<◌, ◌≤◌, ◌⊎◌, List, ◌∷◌, ◌++◌, length, Some}
 use Rattle.wire.specs.Payload.{IsWholePayload, IsUnfinished, IsOutOfSequence, IsTooLarge}
 use Rattle.wire.specs.declared.fault.WireFault.{WireFault}
 use Rattle.wire.specs.declared.fault.WireFault.TheVariants as wire
@@ -67,7 +67,7 @@ module _ (limit : ℕ) (names : Names) (due : Due) (es : List EventValue) (taken
     pub denied : Denies names due es payload reason
 
   -- The reading stops at this place, for this reason: no payload is whole; the log ends; a payload is not the message
-  -- due; a header is wrong. The other reasons are not those of bytes.
+  -- due; a header is wrong, or the payload ends past 2 ^ 64 - 1 bytes. The other reasons are not those of bytes.
   abbrev pub StopsFor : ℕ → Reason → Type 0
   StopsFor at EndOfInput = (at ≡ taken) × IsUnfinished id limit rest
   StopsFor at SourceEof = EndsLog at

@@ -1,5 +1,5 @@
 -- What a store makes of a payload of the dump.
-use Rattle.std.specs.Prelude.{◌≡◌, ◌⊎◌, ℕ, Bool, true, false, if◌then◌else◌, List, [], ◌∷◌, ◌++◌, Result, Ok, Err}
+use Rattle.std.specs.Prelude.{◌≡◌, ◌⊎◌, Bool, true, false, if◌then◌else◌, List, [], ◌∷◌, ◌++◌, Result, Ok, Err}
 use Rattle.sqlite_trees.specs.declared.store.Store.{Ghosts}
 use Rattle.sqlite_trees.specs.Tree.{Trees}
 use Rattle.sqlite.specs.Held.{state}
@@ -8,12 +8,13 @@ use Rattle.gather.specs.Transaction.{DeliveryValue, AreDeliveries}
 use Rattle.gather.specs.declared.gatherer.Gatherer.{Gatherer}
 use Rattle.store.specs.State.{Content}
 use Rattle.store.specs.Take.{Takes, done, is_executed}
+use Rattle.store.specs.declared.fault.StoreFault.{StoreFault}
 use Rattle.store.specs.declared.store.Store.{Store}
 use Rattle.store.specs.Store.{HoldsAs, AreOf}
 use Rattle.replica.specs.declared.end.Reason.{Reason}
-use Rattle.replica.specs.declared.end.Reason.TheVariants.{EndOfInput, SourceEof, SourceError, Wire, Greet, Event, Gather, Refused, Database, Memory, ReadFailed, WriteFailed}
+use Rattle.replica.specs.declared.end.Reason.TheVariants.{Refused, Database, Memory}
 use Rattle.replica.specs.Stream.{Payload, Carries}
-use Rattle.replica.specs.Conn.{TakesAll, IsRefusedBy, BreaksStore}
+use Rattle.replica.specs.Conn.{TakesAll, IsRefusedBy, FailsFor}
 use Rattle.replica.specs.Turn.{GathersMore, EndsDump}
 
 module _ {S : Type 0} (g : Ghosts S) (is : Bool) (now : Content) (es : List EventValue) (ds : List DeliveryValue) (p : Payload) (old new : Store S g) where
@@ -39,9 +40,9 @@ module _ {S : Type 0} (g : Ghosts S) (is : Bool) (now : Content) (es : List Even
     pub schema : broken ≡ false → (state g new.conn).now.schema ≡ (state g old.conn).now.schema
 
   -- The database failed in the transaction: a crash leaves what was held, or what the transaction makes of it.
-  pub record Fails (d : DeliveryValue) : Type 0 where
+  pub record Fails (cause : StoreFault) (d : DeliveryValue) : Type 0 where
     pub rests : Rests true
-    pub due_is : (is_executed now d ≡ false) ⊎ (is ≡ true)
+    pub fails : FailsFor is (is_executed now d) cause
     pub leaves : is ≡ false → (trees : Trees) → (state g new.conn).may_leave trees
         → (left : Content) × AreOf (state g old.conn).now.schema old.following left trees × ((left ≡ now) ⊎ Takes old.following now d (done left))
 
@@ -49,7 +50,7 @@ module _ {S : Type 0} (g : Ghosts S) (is : Bool) (now : Content) (es : List Even
   -- database.
   abbrev pub EndsSo : Reason → Type 0
   EndsSo (Refused refusal) = (d : DeliveryValue) × EndsOne d × IsRefusedBy old.following now d refusal × Rests is
-  EndsSo (Database cause) = (d : DeliveryValue) × EndsOne d × Fails d
+  EndsSo (Database cause) = (d : DeliveryValue) × EndsOne d × Fails cause d
   EndsSo Memory = (broken : Bool) × (is ≡ true → broken ≡ true) × Rests broken
       × (is ≡ false → broken ≡ true → (trees : Trees) → (state g new.conn).may_leave trees → AreOf (state g old.conn).now.schema old.following now trees)
   EndsSo reason = EndsDump old.following es p reason × Rests is

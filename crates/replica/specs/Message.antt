@@ -1,7 +1,6 @@
 -- Payloads that are not the message due.
-use Rattle.std.specs.Prelude.{◌≡◌, ℕ, ◌==◌, Bool, true, false, List, [], ◌∷◌, Option, Some, if◌then◌else◌, Vec}
-use Rattle.greet.specs.Refusal.{Refusal, server_error, truncated, greeting_refusal, reply_refusal, ok_refusal, eof_refusal}
-use Rattle.greet.specs.View.{Refuses}
+use Rattle.std.specs.Prelude.{◌≡◌, ◌==◌, Bool, false, [], ◌∷◌, Option}
+use Rattle.greet.specs.Refusal.{Refusal, greeting_refusal, reply_refusal, ok_refusal, eof_refusal}
 use Rattle.greet.specs.declared.fault.GreetFault.{GreetFault}
 use Rattle.greet.specs.declared.fault.GreetFault.TheVariants as greet
 use Rattle.replica.specs.Stream.{Payload, Due, Hello, Reply, SecondReply, QueryReply, InDump}

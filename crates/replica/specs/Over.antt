@@ -1,5 +1,5 @@
 -- A session over a store, and a list of connections over a store.
-use Rattle.std.specs.Prelude.{◌≡◌, ℕ, Bool, true, false, List}
+use Rattle.std.specs.Prelude.{◌≡◌, ℕ, Bool, false, List}
 use Rattle.sqlite_trees.specs.declared.store.Store.{Ghosts}
 use Rattle.sqlite_trees.specs.Tree.{Trees}
 use Rattle.sqlite_schema.specs.declared.schema.Schema.{Schema}
@@ -26,7 +26,6 @@ module _ {S : Type 0} (g : Ghosts S) where
     pub holds : HoldsAs g is now store
     pub stands : Stands session store.following was is old now b o
     pub schema_is : is ≡ false → (state g store.conn).now.schema ≡ schema
-    pub kept : was ≡ true → now ≡ old
     pub leaves : was ≡ false → LeavesOnly schema store (IsLeft session.config.limit store.following old b now (end_of session))
 
   -- The same where a payload has come and is to be taken.
@@ -36,7 +35,6 @@ module _ {S : Type 0} (g : Ghosts S) where
     pub holds : HoldsAs g is now store
     pub meets : Meets session store.following was is old now b o p
     pub schema_is : is ≡ false → (state g store.conn).now.schema ≡ schema
-    pub kept : was ≡ true → now ≡ old
     pub leaves : was ≡ false → LeavesOnly schema store (λ left. left ≡ now)
 
   -- A store that held this content, and which a failure had broken or not, has read one connection, which ended so.
@@ -48,7 +46,6 @@ module _ {S : Type 0} (g : Ghosts S) where
     pub conn : Conn limit before.following was old b new end
     pub breaks : BreaksStore end.reason was is
     pub schema_is : is ≡ false → (state g after.conn).now.schema ≡ (state g before.conn).now.schema
-    pub kept : was ≡ true → new ≡ old
     pub leaves : was ≡ false → LeavesOnly (state g before.conn).now.schema after (IsLeft limit before.following old b new end)
 
   -- A store that held this content under this schema, and which a failure had broken or not, has taken these connections,

@@ -1,5 +1,5 @@
 -- A session in the midst of a connection.
-use Rattle.std.specs.Prelude.{◌≡◌, ◌≢◌, ℕ, ◌+◌, ◌-◌, ◌^◌, Bool, false, List, [], ◌++◌, length, Option, Some, None, MatchOption, unwrap_or, take}
+use Rattle.std.specs.Prelude.{◌≡◌, ◌≢◌, ℕ, ◌+◌, ◌-◌, ◌^◌, Bool, true, false, List, [], ◌++◌, length, Option, Some, None, MatchOption, unwrap_or, take}
 use Rattle.wire.specs.Payload.{ReaderState, IsUnfinished, IsWholePayload}
 use Rattle.binlog.specs.Follow.{Names}
 use Rattle.gather.specs.Standing.{Stands as Gathers}
@@ -43,6 +43,7 @@ pub record GoesOn (settings : Settings) (assembly : ReaderState) (gatherer : Gat
   pub took : Took names old reading.deliveries (due_behind reading.payloads) applied now
   pub sent : Sent settings old.executed reading.payloads all
   pub store : is ≡ was
+  pub kept : was ≡ true → now ≡ old
 
 -- The connection has ended.
 pub record HasEnded (settings : Settings) (names : Names) (was is : Bool) (old now : Content) (b all : List ℕ) (end : Ended) : Type 0 where
@@ -72,6 +73,7 @@ pub record HasPayload (settings : Settings) (assembly : ReaderState) (gatherer :
   pub took : Took names old reading.deliveries (due_behind reading.payloads) applied now
   pub sent : Sent settings old.executed reading.payloads all
   pub store : is ≡ was
+  pub kept : was ≡ true → now ≡ old
 
 abbrev pub Meets : Session → Names → Bool → Bool → Content → Content → List ℕ → List ℕ → Payload → Type 0
 Meets session names was is old now b o p =

@@ -1,6 +1,6 @@
 -- A conversation with a source: its payloads in order, and the bytes that pack them. MySQL Source Documentation,
 -- Client/Server Protocol, "Connection Phase" and "Command Phase"; Replication Protocol: COM_BINLOG_DUMP_GTID.
-use Rattle.std.specs.Prelude.{◌≡◌, ℕ, ◌+◌, ◌^◌, ◌<◌, ◌==◌, ◌⊎◌, Bool, true, false, if◌then◌else◌, List, [], ◌∷◌, ◌++◌, length, ⊤}
+use Rattle.std.specs.Prelude.{◌≡◌, ℕ, ◌^◌, ◌<◌, ◌==◌, ◌⊎◌, Bool, false, if◌then◌else◌, List, [], ◌∷◌, ◌++◌, length, ⊤}
 use Rattle.wire.specs.Payload.{IsWholePayload}
 use Rattle.greet.specs.Message.{IsOkPacket}
 use Rattle.greet.specs.Complete.{HasGreeting, HasSwitch}

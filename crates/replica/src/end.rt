@@ -41,7 +41,7 @@ pub enum Reason {
     Gather(GatherFault),
     /// A transaction is refused.
     Refused(Refusal),
-    /// The database failed, or had failed before.
+    /// The database failed, or a failure had broken the store before.
     Database(StoreFault),
     /// An allocation was refused.
     Memory,

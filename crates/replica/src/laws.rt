@@ -2,14 +2,15 @@
 //!
 //! A law is a function with an empty body: its clauses are proved of the definitions themselves.
 
-ghost use Rattle.std.specs.Prelude.{◌≡◌, ◌↔◌, ℕ, ◌<◌, ◌≤◌, ◌++◌, Bool, List, [], length, None};
+ghost use Rattle.std.specs.Prelude.{◌≡◌, ◌↔◌, ◌⊎◌, ℕ, ◌<◌, ◌≤◌, ◌++◌, Bool, List, [], length, None};
 ghost use Rattle.std.specs.List.{AllByRecursion};
 ghost use Rattle.sqlite.specs.Held.{state};
 ghost use Rattle.binlog.specs.Follow.{Names};
 ghost use Rattle.store.specs.State.{Content};
 ghost use Rattle.store.specs.Store.{HoldsAs};
 ghost use Rattle.replica.specs.declared.end.Reason.{Reason};
-ghost use Rattle.replica.specs.declared.end.Reason.TheVariants.{EndOfInput};
+ghost use Rattle.replica.specs.declared.end.Reason.TheVariants.{EndOfInput, Wire};
+ghost use Rattle.wire.specs.declared.fault.WireFault.TheVariants as wire;
 ghost use Rattle.replica.specs.Stream.{Reading};
 ghost use Rattle.replica.specs.End.{End};
 ghost use Rattle.replica.specs.Told.{told_of};
@@ -36,9 +37,9 @@ pub fn stood(_session: &Session)
     // The store holds what the first so many transactions of the bytes make of what it held.
     ensures state { (names : Names) (was is : Bool) (old now : Content) (b o : List ℕ) → Stands _session.now names was is old now b o
         → (count : ℕ) × Begun _session.now.config.limit names old b count (end_of _session.now).applied now }
-    // An end by the bytes is theirs.
-    ensures reason { (names : Names) (was is : Bool) (old now : Content) (b o : List ℕ) → Stands _session.now names was is old now b o → IsOfBytes (end_of _session.now).reason → (IsDumpTooLong old.executed → ⊥)
-        → End _session.now.config.limit names b (end_of _session.now).reason (end_of _session.now).at }
+    // An end by the bytes is theirs, but for a dump command that would be too long.
+    ensures reason { (names : Names) (was is : Bool) (old now : Content) (b o : List ℕ) → Stands _session.now names was is old now b o → IsOfBytes (end_of _session.now).reason
+        → End _session.now.config.limit names b (end_of _session.now).reason (end_of _session.now).at ⊎ (((end_of _session.now).reason ≡ Wire wire.TooLarge) × IsDumpTooLong old.executed) }
     ensures store { (names : Names) (was is : Bool) (old now : Content) (b o : List ℕ) → Stands _session.now names was is old now b o → BreaksStore (end_of _session.now).reason was is }
     ensures ended { (names : Names) (was is : Bool) (old now : Content) (b o : List ℕ) → Stands _session.now names was is old now b o → (_session.now.ended ≡ None) ↔ ((end_of _session.now).reason ≡ EndOfInput) }
 {}

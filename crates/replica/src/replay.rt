@@ -25,6 +25,7 @@ pub struct NoMemory;
 /// Reads one connection to its end.
 fn read_pieces<S: Alter>(config: Config, store: &mut Store<S>, pieces: &[Vec<u8>]) -> Ended
     ensures read { HasCleanDisk (state S.Store store.new.conn) → (was : Bool) (old : Content) → HoldsAs S.Store was old store.old → HasRead S.Store config.limit store.old store.new was old (stream_of pieces.now) result }
+    ensures following { store.new.following ≡ store.old.following }
     ensures broken { store.old.broken ≡ true → store.new ≡ store.old }
     ensures neither { IsNoStreamFailure result.reason }
     ensures clean { HasCleanDisk (state S.Store store.new.conn) → HasCleanDisk (state S.Store store.old.conn) }
@@ -39,6 +40,7 @@ fn read_pieces<S: Alter>(config: Config, store: &mut Store<S>, pieces: &[Vec<u8>
 /// The same with settings that are kept, of which a copy is made.
 fn read_connection<S: Alter>(config: &Config, store: &mut Store<S>, pieces: &[Vec<u8>]) -> Ended
     ensures read { HasCleanDisk (state S.Store store.new.conn) → (was : Bool) (old : Content) → HoldsAs S.Store was old store.old → HasRead S.Store config.now.limit store.old store.new was old (stream_of pieces.now) result }
+    ensures following { store.new.following ≡ store.old.following }
     ensures broken { store.old.broken ≡ true → store.new ≡ store.old }
     ensures neither { IsNoStreamFailure result.reason }
     ensures clean { HasCleanDisk (state S.Store store.new.conn) → HasCleanDisk (state S.Store store.old.conn) }
@@ -65,6 +67,9 @@ pub fn run<S: Alter>(
     // pieces; and a crash leaves that, or one transaction more where the database failed.
     ensures history { IfOk result (λ ends. HasCleanDisk (state S.Store store.new.conn) → (was : Bool) (old : Content) → HoldsAs S.Store was old store.old
         → HasTaken S.Store config.now.limit store.new (state S.Store store.old.conn).now.schema was old (streams_of connections.now) ends.items) }
+    ensures following { store.new.following ≡ store.old.following }
+    // A store that a failure has broken stays as it is.
+    ensures broken { store.old.broken ≡ true → store.new ≡ store.old }
     ensures neither { IfOk result (λ ends. All (λ end. IsNoStreamFailure end.reason) ends.items) }
     ensures untouched { IsErr result → store.new ≡ store.old }
     ensures clean { HasCleanDisk (state S.Store store.new.conn) → HasCleanDisk (state S.Store store.old.conn) }

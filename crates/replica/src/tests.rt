@@ -395,6 +395,68 @@ fn takes_an_end_of_the_log_and_an_error(rt: HostRuntime) -> Result<(), Fail> {
 }
 
 #[test]
+fn names_what_is_out_of_place(rt: HostRuntime) -> Result<(), Fail> {
+    let mut unformatted = opened(
+        rt.alloc(),
+        100,
+        ONE_TRANSACTION.get(221..270).unwrap_or(&[]),
+    )?;
+    if let Some(id) = unformatted.get_mut(103) {
+        *id = 1;
+    }
+    reads(
+        &rt,
+        rt.alloc(),
+        &[&unformatted],
+        false,
+        &[("Gather.NoFormat", 100, 0)],
+        ("", 0),
+    )?;
+    let mut twice = opened(
+        rt.alloc(),
+        313,
+        ONE_TRANSACTION.get(270..313).unwrap_or(&[]),
+    )?;
+    if let Some(id) = twice.get_mut(316) {
+        *id = 4;
+    }
+    reads(
+        &rt,
+        rt.alloc(),
+        &[&twice],
+        false,
+        &[("Gather.Misplaced", 313, 0)],
+        ("", 0),
+    )?;
+    let busy = b"\x17\0\0\0\xff\x10\x04Too many connections";
+    reads(
+        &rt,
+        rt.alloc(),
+        &[busy],
+        true,
+        &[("SourceError", 0, 0)],
+        ("", 0),
+    )
+}
+
+#[test]
+fn answers_one_switch(rt: HostRuntime) -> Result<(), Fail> {
+    let mut twice = Vec::from_slice(rt.alloc(), SWITCHED.get(..126).unwrap_or(&[]))?;
+    twice.extend_from_slice(SWITCHED.get(78..126).unwrap_or(&[]))?;
+    if let Some(id) = twice.get_mut(129) {
+        *id = 4;
+    }
+    reads(
+        &rt,
+        rt.alloc(),
+        &[&twice],
+        false,
+        &[("Greet.Unexpected", 126, 0)],
+        ("", 0),
+    )
+}
+
+#[test]
 fn keeps_to_its_limit(rt: HostRuntime) -> Result<(), Fail> {
     let mut store = store(rt.alloc())?;
     let ends = read(rt.alloc(), &mut store, 100, &[&ONE_TRANSACTION], false);

@@ -18,9 +18,9 @@ returns-clause-state c names was is old now b o s =
     told.begun_of session.config.limit names was old b now (end_of session) (stood.conn_of session names was is old now b o s)
 
 pub returns-clause-reason : goal.returns-clause-reason
-returns-clause-reason c names was is old now b o s h short =
+returns-clause-reason c names was is old now b o s h =
     let session = c.args._session.now in
-    told.end_by session.config.limit names was old b now (end_of session) (stood.conn_of session names was is old now b o s) h short
+    told.end_by session.config.limit names was old b now (end_of session) (stood.conn_of session names was is old now b o s) h
 
 pub returns-clause-ended : goal.returns-clause-ended
 returns-clause-ended c = told.ended_where c.args._session.now

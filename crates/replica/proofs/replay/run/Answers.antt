@@ -1,4 +1,4 @@
-use Rattle.std.proofs.Common.{rules, ◌≡◌, ◌++◌, ◌∷◌, [], ◌+◌, ℕ, List, Vec, Global, take, sym, ap, ◌∙◌, subst, All}
+use Rattle.std.proofs.Common.{rules, ◌≡◌, ◌++◌, ◌∷◌, [], ◌+◌, ℕ, List, Vec, Global, take, refl, sym, ap, ◌∙◌, subst, All}
 use Rattle.std.proofs.lemmas.List.{take_more}
 use Rattle.std.proofs.lemmas.List.Elements.{All-push}
 use Rattle.sqlite.specs.Held.{state}
@@ -17,6 +17,8 @@ loop-pieces-init g c = record {
   taken = λ h was old holds.
       subst (λ (l : List Ended). HasTaken g.S.Store c.args.config.now.limit c.args.store.now (state g.S.Store c.args.store.now.conn).now.schema was old [] l) (sym c.in-Ok.ensures.items)
       (taken_none g.S.Store (λ h db is_open may. g.met.S.Store.settled h.store db is_open may) c.args.config.now.limit c.args.store.now was old holds);
+  following = refl;
+  broken = λ h. refl;
   neither = subst (λ (l : List Ended). All (λ (e : Ended). IsNoStreamFailure e.reason) l) (sym c.in-Ok.ensures.items) (search rules);
 }
 
@@ -41,6 +43,8 @@ loop-pieces-preserved g c =
           subst (λ (l : List Ended). HasTaken g.S.Store limit c.read_connection-end.new.store schema was old (streams_of (take (i + 1) all)) l) (sym c.push_reserved.ensures.items)
           (taken_next g.S.Store limit c.loop-pieces.store c.read_connection-end.new.store schema was old all i pieces ends end c.read_connection-end.ensures.broken more t
           (subst (λ (l : List (Vec ℕ Global)). HasRead g.S.Store limit c.loop-pieces.store c.read_connection-end.new.store t.is t.new (stream_of l) end) c.as_slice.ensures.value r));
+      following = c.read_connection-end.ensures.following ∙ c.loop-pieces.invariant.following;
+      broken = search rules;
       neither = subst (λ (l : List Ended). All (λ (e : Ended). IsNoStreamFailure e.reason) l) (sym c.push_reserved.ensures.items)
           (All-push (λ (e : Ended). IsNoStreamFailure e.reason) ends end c.loop-pieces.invariant.neither c.read_connection-end.ensures.neither);
     }

@@ -19,7 +19,7 @@ returns-in-Ok-clause-takes g c clean schema was old b o ends m =
     c.go_on.new.self c.take_event.new.gatherer c.in-Ok.applied (c.go_on.ensures.ended ∙ c.requires.going) t
     (moved _ c.go_on.new.self c.args.end (s.applied + n) store.following was m.is old t.after b o c.go_on.ensures
     (event_goes_on s.config s.assembler s.gatherer s.phase s.at s.applied store.following was m.is old m.now b (o ++ s.out.items) p m.meets (ap due_of c.requires.in_dump)
-    c.take_event.new.gatherer c.args.end n t.more t.after t.gathered t.takes place within))
+    c.take_event.new.gatherer c.args.end n t.more t.after t.gathered t.takes place within t.kept))
 
 pub returns-in-Err-clause-takes : goal.returns-in-Err-clause-takes
 returns-in-Err-clause-takes g c clean schema was old b o ends m =
