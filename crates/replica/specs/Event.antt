@@ -2,7 +2,6 @@
 use Rattle.std.specs.Prelude.{◌≡◌, ◌⊎◌, Bool, true, false, if◌then◌else◌, List, [], ◌∷◌, ◌++◌, Result, Ok, Err}
 use Rattle.sqlite_trees.specs.declared.store.Store.{Ghosts}
 use Rattle.sqlite_trees.specs.Tree.{Trees}
-use Rattle.sqlite.specs.Held.{state}
 use Rattle.binlog.specs.Event.{EventValue}
 use Rattle.gather.specs.Transaction.{DeliveryValue, AreDeliveries}
 use Rattle.gather.specs.declared.gatherer.Gatherer.{Gatherer}
@@ -10,7 +9,7 @@ use Rattle.store.specs.State.{Content}
 use Rattle.store.specs.Take.{Takes, done, is_executed}
 use Rattle.store.specs.declared.fault.StoreFault.{StoreFault}
 use Rattle.store.specs.declared.store.Store.{Store}
-use Rattle.store.specs.Store.{HoldsAs, AreOf}
+use Rattle.store.specs.Store.{HoldsAs, AreOf, database, names_of}
 use Rattle.replica.specs.declared.end.Reason.{Reason}
 use Rattle.replica.specs.declared.end.Reason.TheVariants.{Refused, Database, Memory}
 use Rattle.replica.specs.Stream.{Payload, Carries}
@@ -21,39 +20,39 @@ module _ {S : Type 0} (g : Ghosts S) (is : Bool) (now : Content) (es : List Even
   -- The event is gathered, and its transactions, one or none, are taken.
   pub record GoesFurther (gatherer : Gatherer) (applied : Bool) : Type 0 where
     pub more : List DeliveryValue
-    pub gathered : GathersMore old.following es ds p more gatherer
+    pub gathered : GathersMore (names_of g old) es ds p more gatherer
     pub after : Content
-    pub takes : TakesAll old.following now more (if applied then 1 else 0) after
+    pub takes : TakesAll (names_of g old) now more (if applied then 1 else 0) after
     pub holds : HoldsAs g is after new
-    pub schema : is ≡ false → (state g new.conn).now.schema ≡ (state g old.conn).now.schema
+    pub schema : is ≡ false → (database g new).now.schema ≡ (database g old).now.schema
     pub kept : is ≡ true → after ≡ now
 
   -- The event ends this transaction.
   pub record EndsOne (d : DeliveryValue) : Type 0 where
     pub event : EventValue
-    pub carries : Carries old.following p event
+    pub carries : Carries (names_of g old) p event
     pub delivers : AreDeliveries (es ++ event ∷ []) (ds ++ d ∷ [])
 
   -- The store is as it was, but that a failure may have broken it.
   pub record Rests (broken : Bool) : Type 0 where
     pub holds : HoldsAs g broken now new
-    pub schema : broken ≡ false → (state g new.conn).now.schema ≡ (state g old.conn).now.schema
+    pub schema : broken ≡ false → (database g new).now.schema ≡ (database g old).now.schema
 
   -- The database failed in the transaction: a crash leaves what was held, or what the transaction makes of it.
   pub record Fails (cause : StoreFault) (d : DeliveryValue) : Type 0 where
     pub rests : Rests true
     pub fails : FailsFor is (is_executed now d) cause
-    pub leaves : is ≡ false → (trees : Trees) → (state g new.conn).may_leave trees
-        → (left : Content) × AreOf (state g old.conn).now.schema old.following left trees × ((left ≡ now) ⊎ Takes old.following now d (done left))
+    pub leaves : is ≡ false → (trees : Trees) → (database g new).may_leave trees
+        → (left : Content) × AreOf (database g old).now.schema (names_of g old) left trees × ((left ≡ now) ⊎ Takes (names_of g old) now d (done left))
 
   -- The connection ends: by the payload or for want of memory, by a transaction that is refused, or by a failure of the
   -- database.
   abbrev pub EndsSo : Reason → Type 0
-  EndsSo (Refused refusal) = (d : DeliveryValue) × EndsOne d × IsRefusedBy old.following now d refusal × Rests is
+  EndsSo (Refused refusal) = (d : DeliveryValue) × EndsOne d × IsRefusedBy (names_of g old) now d refusal × Rests is
   EndsSo (Database cause) = (d : DeliveryValue) × EndsOne d × Fails cause d
   EndsSo Memory = (broken : Bool) × (is ≡ true → broken ≡ true) × Rests broken
-      × (is ≡ false → broken ≡ true → (trees : Trees) → (state g new.conn).may_leave trees → AreOf (state g old.conn).now.schema old.following now trees)
-  EndsSo reason = EndsDump old.following es p reason × Rests is
+      × (is ≡ false → broken ≡ true → (trees : Trees) → (database g new).may_leave trees → AreOf (database g old).now.schema (names_of g old) now trees)
+  EndsSo reason = EndsDump (names_of g old) es p reason × Rests is
 
   abbrev pub TakesEvent : Gatherer → Result Bool Reason → Type 0
   TakesEvent gatherer (Ok applied) = GoesFurther gatherer applied

@@ -3,10 +3,9 @@ use Rattle.std.specs.Prelude.{◌≡◌, ℕ, Bool, false, List}
 use Rattle.sqlite_trees.specs.declared.store.Store.{Ghosts}
 use Rattle.sqlite_trees.specs.Tree.{Trees}
 use Rattle.sqlite_schema.specs.declared.schema.Schema.{Schema}
-use Rattle.sqlite.specs.Held.{state}
 use Rattle.store.specs.State.{Content}
 use Rattle.store.specs.declared.store.Store.{Store}
-use Rattle.store.specs.Store.{HoldsAs, AreOf}
+use Rattle.store.specs.Store.{HoldsAs, AreOf, database, names_of}
 use Rattle.replica.specs.declared.end.Ended.{Ended}
 use Rattle.replica.specs.declared.session.Session.{Session}
 use Rattle.replica.specs.Conn.{Conn, BreaksStore, History}
@@ -16,7 +15,7 @@ use Rattle.replica.specs.Crash.{IsLeft, IsLeftOfAll}
 module _ {S : Type 0} (g : Ghosts S) where
   -- Whatever a crash may leave of the store's database stands, under the schema, for one of these contents.
   pub record LeavesOnly (schema : Schema) (store : Store S g) (left : Content → Type 0) : Type 0 where
-    pub each : (trees : Trees) → (state g store.conn).may_leave trees → (content : Content) × AreOf schema store.following content trees × left content
+    pub each : (trees : Trees) → (database g store).may_leave trees → (content : Content) × AreOf schema (names_of g store) content trees × left content
 
   -- A session that was begun over a store, which held this content under this schema and which a failure had broken or
   -- not, has read the bytes b and handed out the bytes o.
@@ -24,17 +23,17 @@ module _ {S : Type 0} (g : Ghosts S) where
     pub is : Bool
     pub now : Content
     pub holds : HoldsAs g is now store
-    pub stands : Stands session store.following was is old now b o
-    pub schema_is : is ≡ false → (state g store.conn).now.schema ≡ schema
-    pub leaves : was ≡ false → LeavesOnly schema store (IsLeft session.config.limit store.following old b now (end_of session))
+    pub stands : Stands session (names_of g store) was is old now b o
+    pub schema_is : is ≡ false → (database g store).now.schema ≡ schema
+    pub leaves : was ≡ false → LeavesOnly schema store (IsLeft session.config.limit (names_of g store) old b now (end_of session))
 
   -- The same where a payload has come and is to be taken.
   pub record MeetsOver (session : Session) (store : Store S g) (schema : Schema) (was : Bool) (old : Content) (b o p : List ℕ) : Type 0 where
     pub is : Bool
     pub now : Content
     pub holds : HoldsAs g is now store
-    pub meets : Meets session store.following was is old now b o p
-    pub schema_is : is ≡ false → (state g store.conn).now.schema ≡ schema
+    pub meets : Meets session (names_of g store) was is old now b o p
+    pub schema_is : is ≡ false → (database g store).now.schema ≡ schema
     pub leaves : was ≡ false → LeavesOnly schema store (λ left. left ≡ now)
 
   -- A store that held this content, and which a failure had broken or not, has read one connection, which ended so.
@@ -42,11 +41,11 @@ module _ {S : Type 0} (g : Ghosts S) where
     pub is : Bool
     pub new : Content
     pub holds : HoldsAs g is new after
-    pub following : after.following ≡ before.following
-    pub conn : Conn limit before.following was old b new end
+    pub following : names_of g after ≡ names_of g before
+    pub conn : Conn limit (names_of g before) was old b new end
     pub breaks : BreaksStore end.reason was is
-    pub schema_is : is ≡ false → (state g after.conn).now.schema ≡ (state g before.conn).now.schema
-    pub leaves : was ≡ false → LeavesOnly (state g before.conn).now.schema after (IsLeft limit before.following old b new end)
+    pub schema_is : is ≡ false → (database g after).now.schema ≡ (database g before).now.schema
+    pub leaves : was ≡ false → LeavesOnly (database g before).now.schema after (IsLeft limit (names_of g before) old b new end)
 
   -- A store that held this content under this schema, and which a failure had broken or not, has taken these connections,
   -- which ended so.
@@ -54,6 +53,6 @@ module _ {S : Type 0} (g : Ghosts S) where
     pub is : Bool
     pub new : Content
     pub holds : HoldsAs g is new store
-    pub history : History limit store.following was old bs is new ends
-    pub schema_is : is ≡ false → (state g store.conn).now.schema ≡ schema
-    pub leaves : was ≡ false → LeavesOnly schema store (IsLeftOfAll limit store.following was old bs new ends)
+    pub history : History limit (names_of g store) was old bs is new ends
+    pub schema_is : is ≡ false → (database g store).now.schema ≡ schema
+    pub leaves : was ≡ false → LeavesOnly schema store (IsLeftOfAll limit (names_of g store) was old bs new ends)

@@ -10,7 +10,7 @@ ghost use Rattle.gather.specs.Transaction.{DeliveryValue};
 ghost use Rattle.gather.specs.Standing.{Stands as Gathers};
 ghost use Rattle.gather.specs.View.{delivery_value, delivered};
 ghost use Rattle.store.specs.State.{Content};
-ghost use Rattle.store.specs.Store.{Holds, HasFailed, HoldsAs};
+ghost use Rattle.store.specs.Store.{Holds, HasFailed, HoldsAs, database, names_of, IsBroken};
 ghost use Rattle.replica.specs.Stream.{Carries, InDump};
 ghost use Rattle.replica.specs.Turn.{EndsDump, GathersMore, outcome_of, reason_of_events};
 ghost use Rattle.replica.specs.Message.{begins_event};
@@ -94,11 +94,11 @@ pub(crate) fn take_event<S: Alter>(
     store: &mut Store<S>,
     payload: &[u8],
 ) -> Result<bool, Reason>
-    ensures clean { HasCleanDisk (state S.Store store.new.conn) → HasCleanDisk (state S.Store store.old.conn) }
+    ensures clean { HasCleanDisk (database S.Store store.new) → HasCleanDisk (database S.Store store.old) }
     ensures neither { IfErr result IsNoStreamFailure }
-    ensures following { store.new.following ≡ store.old.following }
-    ensures broken { store.old.broken ≡ true → store.new ≡ store.old }
-    ensures turn { HasCleanDisk (state S.Store store.new.conn) → (is : Bool) (now : Content) (es : List EventValue) (ds : List DeliveryValue) → Gathers es ds gatherer.old → HoldsAs S.Store is now store.old
+    ensures following { names_of S.Store store.new ≡ names_of S.Store store.old }
+    ensures broken { IsBroken S.Store store.old → store.new ≡ store.old }
+    ensures turn { HasCleanDisk (database S.Store store.new) → (is : Bool) (now : Content) (es : List EventValue) (ds : List DeliveryValue) → Gathers es ds gatherer.old → HoldsAs S.Store is now store.old
         → TakesEvent S.Store is now es ds payload.now store.old store.new gatherer.new result }
 {
     match gather(alloc, gatherer, store.following(), payload) {

@@ -11,6 +11,7 @@ ghost use Rattle.replica.specs.Sent.{SentFor};
 ghost use Rattle.replica.specs.Standing.{Stands, end_of, room_of, taken_of};
 ghost use Rattle.replica.specs.Over.{StandsOver};
 ghost use Rattle.replica.specs.Turn.{reason_of};
+ghost use Rattle.store.specs.Store.{database, names_of, IsBroken};
 
 use crate::config::Config;
 use crate::end::{Ended, Reason};
@@ -64,12 +65,12 @@ impl Session {
     /// the answer is `Stopped`.
     pub fn feed<S: Alter>(&mut self, store: &mut Store<S>, bytes: &[u8]) -> Result<(), Stopped>
         // A session and a store that stand at b and o stand at b and these bytes, and at o.
-        ensures stands { HasCleanDisk (state S.Store store.new.conn) → (schema : Schema) (was : Bool) (old : Content) (b o : List ℕ)
+        ensures stands { HasCleanDisk (database S.Store store.new) → (schema : Schema) (was : Bool) (old : Content) (b o : List ℕ)
             → StandsOver S.Store self.old store.old schema was old b o → StandsOver S.Store self.new store.new schema was old (b ++ bytes.now) o }
-        ensures following { store.new.following ≡ store.old.following }
+        ensures following { names_of S.Store store.new ≡ names_of S.Store store.old }
         // A store that a failure has broken stays as it is.
-        ensures broken { store.old.broken ≡ true → store.new ≡ store.old }
-        ensures clean { HasCleanDisk (state S.Store store.new.conn) → HasCleanDisk (state S.Store store.old.conn) }
+        ensures broken { IsBroken S.Store store.old → store.new ≡ store.old }
+        ensures clean { HasCleanDisk (database S.Store store.new) → HasCleanDisk (database S.Store store.old) }
         ensures config { self.new.config ≡ self.old.config }
         ensures neither { IsNoStreamFailure (end_of self.old).reason → IsNoStreamFailure (end_of self.new).reason }
         ensures stopped { IsErr result ↔ IsSome self.old.ended }
@@ -89,12 +90,12 @@ impl Session {
 
     /// Reads up to the end of the next payload and takes it, and tells how many bytes these are; or reads all bytes.
     fn advance<S: Alter>(&mut self, store: &mut Store<S>, bytes: &[u8]) -> Option<usize>
-        ensures stands { HasCleanDisk (state S.Store store.new.conn) → (schema : Schema) (was : Bool) (old : Content) (b o : List ℕ)
+        ensures stands { HasCleanDisk (database S.Store store.new) → (schema : Schema) (was : Bool) (old : Content) (b o : List ℕ)
             → StandsOver S.Store self.old store.old schema was old b o → StandsOver S.Store self.new store.new schema was old (b ++ taken_of result bytes.now) o }
         ensures used { IfSome result (λ used. (0 < used) × (used ≤ length bytes.now)) }
-        ensures following { store.new.following ≡ store.old.following }
-        ensures broken { store.old.broken ≡ true → store.new ≡ store.old }
-        ensures clean { HasCleanDisk (state S.Store store.new.conn) → HasCleanDisk (state S.Store store.old.conn) }
+        ensures following { names_of S.Store store.new ≡ names_of S.Store store.old }
+        ensures broken { IsBroken S.Store store.old → store.new ≡ store.old }
+        ensures clean { HasCleanDisk (database S.Store store.new) → HasCleanDisk (database S.Store store.old) }
         ensures config { self.new.config ≡ self.old.config }
         ensures neither { IsNoStreamFailure (end_of self.old).reason → IsNoStreamFailure (end_of self.new).reason }
         ensures room { self.new.ended ≡ None → (self.old.ended ≡ None) × (room_of self.new + length (taken_of result bytes.now) ≤ room_of self.old) }

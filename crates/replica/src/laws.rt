@@ -7,7 +7,7 @@ ghost use Rattle.std.specs.List.{AllByRecursion};
 ghost use Rattle.sqlite.specs.Held.{state};
 ghost use Rattle.binlog.specs.Follow.{Names};
 ghost use Rattle.store.specs.State.{Content};
-ghost use Rattle.store.specs.Store.{HoldsAs};
+ghost use Rattle.store.specs.Store.{HoldsAs, database, names_of};
 ghost use Rattle.replica.specs.declared.end.Reason.{Reason};
 ghost use Rattle.replica.specs.declared.end.Reason.TheVariants.{EndOfInput, Wire};
 ghost use Rattle.wire.specs.declared.fault.WireFault.TheVariants as wire;
@@ -25,8 +25,8 @@ use store::Store;
 
 /// A session that has read nothing stands over any store with the content that the store holds.
 pub fn begins<S: Alter>(_session: &Session, _store: &Store<S>)
-    ensures { (was : Bool) (content : Content) → HoldsAs S.Store was content _store.now → Stands _session.now _store.now.following was was content content [] []
-        → StandsOver S.Store _session.now _store.now (state S.Store _store.now.conn).now.schema was content [] [] }
+    ensures { (was : Bool) (content : Content) → HoldsAs S.Store was content _store.now → Stands _session.now (names_of S.Store _store.now) was was content content [] []
+        → StandsOver S.Store _session.now _store.now (database S.Store _store.now).now.schema was content [] [] }
 {}
 
 /// What a session stands at tells how its connection ends if no more comes, what the store holds, and what was sent.

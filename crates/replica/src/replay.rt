@@ -4,7 +4,7 @@ ghost use Rattle.std.specs.Prelude.{◌≡◌, Bool, true, List, IsErr, IfOk, Al
 ghost use Rattle.sqlite.specs.State.{HasCleanDisk};
 ghost use Rattle.sqlite.specs.Held.{state};
 ghost use Rattle.store.specs.State.{Content};
-ghost use Rattle.store.specs.Store.{HoldsAs};
+ghost use Rattle.store.specs.Store.{HoldsAs, database, names_of, IsBroken};
 ghost use Rattle.replica.specs.Conn.{IsNoStreamFailure};
 ghost use Rattle.replica.specs.Pieces.{stream_of, streams_of};
 ghost use Rattle.replica.specs.Over.{HasRead, HasTaken};
@@ -24,11 +24,11 @@ pub struct NoMemory;
 
 /// Reads one connection to its end.
 fn read_pieces<S: Alter>(config: Config, store: &mut Store<S>, pieces: &[Vec<u8>]) -> Ended
-    ensures read { HasCleanDisk (state S.Store store.new.conn) → (was : Bool) (old : Content) → HoldsAs S.Store was old store.old → HasRead S.Store config.limit store.old store.new was old (stream_of pieces.now) result }
-    ensures following { store.new.following ≡ store.old.following }
-    ensures broken { store.old.broken ≡ true → store.new ≡ store.old }
+    ensures read { HasCleanDisk (database S.Store store.new) → (was : Bool) (old : Content) → HoldsAs S.Store was old store.old → HasRead S.Store config.limit store.old store.new was old (stream_of pieces.now) result }
+    ensures following { names_of S.Store store.new ≡ names_of S.Store store.old }
+    ensures broken { IsBroken S.Store store.old → store.new ≡ store.old }
     ensures neither { IsNoStreamFailure result.reason }
-    ensures clean { HasCleanDisk (state S.Store store.new.conn) → HasCleanDisk (state S.Store store.old.conn) }
+    ensures clean { HasCleanDisk (database S.Store store.new) → HasCleanDisk (database S.Store store.old) }
 {
     let mut session = Session::new(config);
     for piece in pieces {
@@ -39,11 +39,11 @@ fn read_pieces<S: Alter>(config: Config, store: &mut Store<S>, pieces: &[Vec<u8>
 
 /// The same with settings that are kept, of which a copy is made.
 fn read_connection<S: Alter>(config: &Config, store: &mut Store<S>, pieces: &[Vec<u8>]) -> Ended
-    ensures read { HasCleanDisk (state S.Store store.new.conn) → (was : Bool) (old : Content) → HoldsAs S.Store was old store.old → HasRead S.Store config.now.limit store.old store.new was old (stream_of pieces.now) result }
-    ensures following { store.new.following ≡ store.old.following }
-    ensures broken { store.old.broken ≡ true → store.new ≡ store.old }
+    ensures read { HasCleanDisk (database S.Store store.new) → (was : Bool) (old : Content) → HoldsAs S.Store was old store.old → HasRead S.Store config.now.limit store.old store.new was old (stream_of pieces.now) result }
+    ensures following { names_of S.Store store.new ≡ names_of S.Store store.old }
+    ensures broken { IsBroken S.Store store.old → store.new ≡ store.old }
     ensures neither { IsNoStreamFailure result.reason }
-    ensures clean { HasCleanDisk (state S.Store store.new.conn) → HasCleanDisk (state S.Store store.old.conn) }
+    ensures clean { HasCleanDisk (database S.Store store.new) → HasCleanDisk (database S.Store store.old) }
 {
     match config.copy() {
         Ok(config) => read_pieces(config, store, pieces),
@@ -65,14 +65,14 @@ pub fn run<S: Alter>(
 ) -> Result<Vec<Ended>, NoMemory>
     // What the store holds afterwards, and the ends, are those of taking each connection in order, however it was cut into
     // pieces; and a crash leaves that, or one transaction more where the database failed.
-    ensures history { IfOk result (λ ends. HasCleanDisk (state S.Store store.new.conn) → (was : Bool) (old : Content) → HoldsAs S.Store was old store.old
-        → HasTaken S.Store config.now.limit store.new (state S.Store store.old.conn).now.schema was old (streams_of connections.now) ends.items) }
-    ensures following { store.new.following ≡ store.old.following }
+    ensures history { IfOk result (λ ends. HasCleanDisk (database S.Store store.new) → (was : Bool) (old : Content) → HoldsAs S.Store was old store.old
+        → HasTaken S.Store config.now.limit store.new (database S.Store store.old).now.schema was old (streams_of connections.now) ends.items) }
+    ensures following { names_of S.Store store.new ≡ names_of S.Store store.old }
     // A store that a failure has broken stays as it is.
-    ensures broken { store.old.broken ≡ true → store.new ≡ store.old }
+    ensures broken { IsBroken S.Store store.old → store.new ≡ store.old }
     ensures neither { IfOk result (λ ends. All (λ end. IsNoStreamFailure end.reason) ends.items) }
     ensures untouched { IsErr result → store.new ≡ store.old }
-    ensures clean { HasCleanDisk (state S.Store store.new.conn) → HasCleanDisk (state S.Store store.old.conn) }
+    ensures clean { HasCleanDisk (database S.Store store.new) → HasCleanDisk (database S.Store store.old) }
 {
     let Ok(mut ends) = Vec::with_capacity(alloc, connections.len()) else {
         return Err(NoMemory);

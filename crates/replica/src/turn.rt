@@ -12,6 +12,7 @@ ghost use Rattle.replica.specs.Standing.{Stands, Meets, first_id_of, place_of, M
 ghost use Rattle.replica.specs.Conn.{IsNoStreamFailure};
 ghost use Rattle.replica.specs.Over.{StandsOver, MeetsOver};
 ghost use Rattle.replica.specs.declared.phase.Phase.TheVariants.{Dump};
+ghost use Rattle.store.specs.Store.{database, names_of, IsBroken};
 
 use crate::end::{Ended, Reason};
 use crate::event::take_event;
@@ -99,13 +100,13 @@ impl Session {
         requires in_dump { self.old.phase ≡ Dump }
         requires between { self.old.assembler.held ≡ [] }
         requires behind { self.old.at < end }
-        ensures clean { HasCleanDisk (state S.Store store.new.conn) → HasCleanDisk (state S.Store store.old.conn) }
-        ensures following { store.new.following ≡ store.old.following }
-        ensures broken { store.old.broken ≡ true → store.new ≡ store.old }
+        ensures clean { HasCleanDisk (database S.Store store.new) → HasCleanDisk (database S.Store store.old) }
+        ensures following { names_of S.Store store.new ≡ names_of S.Store store.old }
+        ensures broken { IsBroken S.Store store.old → store.new ≡ store.old }
         ensures config { self.new.config ≡ self.old.config }
         ensures neither { IsNoStreamFailure (end_of self.new).reason }
         ensures further { self.new.ended ≡ None → (self.new.at ≡ end) × (self.new.assembler.held ≡ []) }
-        ensures takes { HasCleanDisk (state S.Store store.new.conn) → (schema : Schema) (was : Bool) (old : Content) (b o : List ℕ) → end ≡ self.old.at + packing_length (length payload.now)
+        ensures takes { HasCleanDisk (database S.Store store.new) → (schema : Schema) (was : Bool) (old : Content) (b o : List ℕ) → end ≡ self.old.at + packing_length (length payload.now)
             → MeetsOver S.Store self.old store.old schema was old b o payload.now → StandsOver S.Store self.new store.new schema was old b o }
     {
         match take_event(self.config.alloc(), &mut self.gatherer, store, payload) {
@@ -118,13 +119,13 @@ impl Session {
     pub(crate) fn take<S: Alter>(&mut self, store: &mut Store<S>, payload: &[u8])
         requires going { self.old.ended ≡ None }
         requires between { (self.old.assembler.held ≡ []) × (self.old.assembler.ended ≡ false) }
-        ensures clean { HasCleanDisk (state S.Store store.new.conn) → HasCleanDisk (state S.Store store.old.conn) }
-        ensures following { store.new.following ≡ store.old.following }
-        ensures broken { store.old.broken ≡ true → store.new ≡ store.old }
+        ensures clean { HasCleanDisk (database S.Store store.new) → HasCleanDisk (database S.Store store.old) }
+        ensures following { names_of S.Store store.new ≡ names_of S.Store store.old }
+        ensures broken { IsBroken S.Store store.old → store.new ≡ store.old }
         ensures config { self.new.config ≡ self.old.config }
         ensures neither { IsNoStreamFailure (end_of self.new).reason }
         ensures room { self.new.ended ≡ None → room_of self.new + packing_length (length payload.now) ≤ room_of self.old }
-        ensures takes { HasCleanDisk (state S.Store store.new.conn) → (schema : Schema) (was : Bool) (old : Content) (b o : List ℕ)
+        ensures takes { HasCleanDisk (database S.Store store.new) → (schema : Schema) (was : Bool) (old : Content) (b o : List ℕ)
             → MeetsOver S.Store self.old store.old schema was old b o payload.now → StandsOver S.Store self.new store.new schema was old b o }
     {
         let Some(end) = self.at.checked_add(packing_length(payload.len()) as u64) else {

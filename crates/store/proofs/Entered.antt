@@ -1,12 +1,11 @@
 -- What opening a database comes to.
-use Rattle.std.proofs.Common.{◌≡◌, ◌≢◌, inl, inr, Bool, true, false, arith, refl, sym, ap, subst, ◌∙◌}
+use Rattle.std.proofs.Common.{◌≡◌, ◌≢◌, inl, inr, Bool, false, arith, refl, sym, subst, ◌∙◌}
 use Rattle.sqlite_trees.specs.Tree.{Trees}
 use Rattle.sqlite.specs.Effect.{Database as Stored}
 use Rattle.sqlite.specs.State.{State, Survives, IsUnchanged, HasCleanDisk}
 use Rattle.sqlite.proofs.StateLemmas.{survives_then}
 use Rattle.gtid.specs.Identifier.{Ids}
 use Rattle.binlog.specs.Follow.{Names}
-use Rattle.store.specs.State.{Content}
 use Rattle.store.specs.declared.fault.StoreFault.TheVariants.{Follows}
 use Rattle.store.specs.Layout.{no_schema}
 use Rattle.store.specs.Rows.{StandsFor, StandsForFirst}

@@ -1,5 +1,5 @@
 -- Which tables a known schema has, and one reading after another.
-use Rattle.std.proofs.Common.{◌≡◌, inl, inr, ℤ, Bool, true, false, ◌&&◌, ◌||◌, Result, Ok, Err, IfOk, IfErr, arith, refl, sym, ap, subst, ◌∙◌}
+use Rattle.std.proofs.Common.{◌≡◌, ℤ, Bool, true, false, ◌||◌, Result, Ok, Err, IfOk, IfErr, arith, refl, sym, ap, subst, ◌∙◌}
 use Rattle.std.proofs.lemmas.Bool.{false≢true, true≢false, and_parts}
 use Rattle.sqlite_trees.specs.Tree.{Trees}
 use Rattle.sqlite_schema.specs.declared.schema.Schema.{Schema}
@@ -14,7 +14,7 @@ use Rattle.store.specs.declared.layout.Tables.{Tables}
 use Rattle.store.specs.Layout.{no_schema, first_layout, IsLaidOut}
 use Rattle.store.specs.Rows.{SaysLayout, first_meta_rows}
 use Rattle.store.specs.Load.{IsMetaFirst}
-use Rattle.store.specs.Entering.{IsReady, IsKnown, blank, first, second, lacking, IsOf, IsStored, IsWhy, IsEntered, IsTurned, MayEnter, tables_of, has_any, has_first, has_second}
+use Rattle.store.specs.Entering.{IsReady, IsKnown, blank, first, second, lacking, IsOf, IsWhy, IsEntered, IsTurned, MayEnter, tables_of, has_any, has_first, has_second}
 use Rattle.store.proofs.Wholes.{laid_meta_first, first_meta_first}
 use Rattle.store.proofs.Lives.{narrowed}
 use Rattle.store.proofs.Entered.{rests_after}

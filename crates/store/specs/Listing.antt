@@ -9,7 +9,6 @@ use Rattle.std.specs.Cmp.Lexicographic.{slice_cmp}
 use Rattle.sqlite_trees.specs.declared.store.Store.{Ghosts}
 use Rattle.sqlite_value.specs.declared.value.Value.TheVariants.{Int, Blob}
 use Rattle.sqlite_value.specs.Order.{Row, column}
-use Rattle.sqlite.specs.Held.{state}
 use Rattle.gather.specs.Image.{HasImage, image}
 use Rattle.store.specs.declared.fault.StoreFault.{StoreFault}
 use Rattle.store.specs.declared.fault.StoreFault.TheVariants.{Database, Memory}
@@ -19,7 +18,7 @@ use Rattle.store.specs.declared.rows.RowKey.{RowKey}
 use Rattle.store.specs.declared.store.Store.{Store}
 use Rattle.store.specs.State.{TableRow, row_of, Bag, Content}
 use Rattle.store.specs.Rows.{Key, key_in, key_for}
-use Rattle.store.specs.Store.{Holds}
+use Rattle.store.specs.Store.{Holds, database}
 
 -- a row, and how often it is there
 abbrev pub Entry : Type 0
@@ -103,5 +102,5 @@ module _ {S : Type 0} (g : Ghosts S) where
   -- is still open.
   abbrev pub Lists : Content → Store S g → Result Listing StoreFault → Type 0
   Lists content new (Ok listing) = (entries : List Entry) × AreRows content.rows entries × IsToCome listing entries × Holds g new content
-  Lists content new (Err (Database e)) = IsTrue (state g new.conn).is_open → Holds g new content
+  Lists content new (Err (Database e)) = IsTrue (database g new).is_open → Holds g new content
   Lists content new (Err _) = ⊥

@@ -4,7 +4,7 @@ use Rattle.sqlite_trees.specs.declared.store.Store.{Ghosts}
 use Rattle.sqlite_trees.specs.Tree.{Trees}
 use Rattle.sqlite_schema.specs.declared.schema.Schema.{Schema}
 use Rattle.sqlite.specs.State.{State}
-use Rattle.sqlite.specs.Held.{state}
+use Rattle.sqlite.specs.Held.{Held, state}
 use Rattle.binlog.specs.Follow.{Names}
 use Rattle.gather.specs.Transaction.{DeliveryValue}
 use Rattle.store.specs.declared.change.Refusal.TheVariants as why
@@ -20,18 +20,36 @@ use Rattle.store.specs.Apply.{IsAtRest, IsTaken}
 use Rattle.store.specs.Entering.{IsOf, IsWanted}
 
 module _ {S : Type 0} (g : Ghosts S) where
+  -- the connection of a store, and its database
+  abbrev pub connection : Store S g → Held S
+  connection store = store.conn
+
+  abbrev pub database : Store S g → State
+  database store = state g store.conn
+
+  -- the tables whose rows it keeps
+  abbrev pub names_of : Store S g → Names
+  names_of store = store.following
+
+  -- whether a failure has broken it
+  abbrev pub IsBroken : Store S g → Type 0
+  IsBroken store = store.broken ≡ true
+
+  abbrev pub IsWhole : Store S g → Type 0
+  IsWhole store = store.broken ≡ false
+
   -- The store is whole: its tables, its connection and its set in memory stand for this content.
   pub record Holds (store : Store S g) (content : Content) : Type 0 where
-    pub whole : store.broken ≡ false
+    pub whole : IsWhole store
     pub executed : store.executed ≡ content.executed
-    pub rest : IsAtRest (state g store.conn) store.following content
+    pub rest : IsAtRest (database store) store.following content
 
   -- A failure has broken the store: its set in memory stands for this content, and so do its tables where the connection
   -- is still open.
   pub record HasFailed (store : Store S g) (content : Content) : Type 0 where
-    pub broken : store.broken ≡ true
+    pub broken : IsBroken store
     pub executed : store.executed ≡ content.executed
-    pub rest : IsTrue (state g store.conn).is_open → IsAtRest (state g store.conn) store.following content
+    pub rest : IsTrue (database store).is_open → IsAtRest (database store) store.following content
 
   -- The store holds this content, and a failure has broken it or not.
   abbrev pub HoldsAs : Bool → Content → Store S g → Type 0
@@ -50,14 +68,14 @@ module _ {S : Type 0} (g : Ghosts S) where
   Applies content d old new (Err (NoSuchRow at)) = Takes old.following content d (refused at why.NoSuchRow) × Holds new content
   Applies content d old new (Err (CountFull at)) = Takes old.following content d (refused at why.CountFull) × Holds new content
   Applies content d old new (Err (Database e)) = (is_executed content d ≡ false) × HasFailed new content
-  Applies content d old new (Err Memory) = (is_executed content d ≡ false) × HasFailed new content × (new.conn ≡ old.conn)
+  Applies content d old new (Err Memory) = (is_executed content d ≡ false) × HasFailed new content × (connection new ≡ connection old)
   Applies content d old new (Err _) = ⊥
 
   -- The number of copies of a row is answered, and the store holds the same. So it does after a failure, where the
   -- connection is still open.
   abbrev pub Counts : Content → TableRow → Store S g → Result ℕ StoreFault → Type 0
   Counts content row new (Ok n) = (n ≡ content.rows row) × Holds new content
-  Counts content row new (Err (Database e)) = IsTrue (state g new.conn).is_open → Holds new content
+  Counts content row new (Err (Database e)) = IsTrue (database new).is_open → Holds new content
   Counts content row new (Err _) = ⊥
 
   -- The store holds what the database stood for.

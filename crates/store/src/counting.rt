@@ -8,7 +8,7 @@ ghost use Rattle.store.specs.State.{Content, row_of};
 ghost use Rattle.store.specs.Layout.{IsLaidOut};
 ghost use Rattle.store.specs.Rows.{key_in, is_at, held_rows, count};
 ghost use Rattle.store.specs.Apply.{Rests};
-ghost use Rattle.store.specs.Store.{Holds, Counts, AreOf};
+ghost use Rattle.store.specs.Store.{Holds, Counts, AreOf, database, names_of, IsBroken};
 ghost use Rattle.store.specs.declared.fault.StoreFault.TheVariants.{Broken};
 
 use crate::fault::StoreFault;
@@ -57,11 +57,11 @@ impl<S: Alter> Store<S> {
     ///
     /// The faults: `Database` where the database failed, `Broken` after an earlier failure of `apply`.
     pub fn count(&mut self, schema: &[u8], table: &[u8], image: &Image) -> Result<u64, StoreFault>
-        ensures counts { HasCleanDisk (state S.Store self.new.conn) → (content : Content) → Holds S.Store self.old content → Counts S.Store content (row_of schema.now table.now image.now) self.new result }
-        ensures broken { self.old.broken ≡ true → (result ≡ Err Broken) × (self.new ≡ self.old) }
-        ensures following { self.new.following ≡ self.old.following }
-        ensures crash { HasCleanDisk (state S.Store self.new.conn) → (content : Content) → Holds S.Store self.old content → (trees : _) → (state S.Store self.new.conn).may_leave trees
-            → AreOf (state S.Store self.old.conn).now.schema self.old.following content trees }
+        ensures counts { HasCleanDisk (database S.Store self.new) → (content : Content) → Holds S.Store self.old content → Counts S.Store content (row_of schema.now table.now image.now) self.new result }
+        ensures broken { IsBroken S.Store self.old → (result ≡ Err Broken) × (self.new ≡ self.old) }
+        ensures following { names_of S.Store self.new ≡ names_of S.Store self.old }
+        ensures crash { HasCleanDisk (database S.Store self.new) → (content : Content) → Holds S.Store self.old content → (trees : _) → (database S.Store self.new).may_leave trees
+            → AreOf (database S.Store self.old).now.schema (names_of S.Store self.old) content trees }
     {
         if self.broken {
             return Err(StoreFault::Broken);

@@ -2,7 +2,7 @@
 
 ghost use Rattle.std.specs.Prelude.{◌≡◌, Bool, false};
 ghost use Rattle.store.specs.State.{Content};
-ghost use Rattle.store.specs.Store.{HoldsAs};
+ghost use Rattle.store.specs.Store.{HoldsAs, connection, names_of};
 
 use crate::store::Store;
 use binlog::Follow;
@@ -19,14 +19,14 @@ impl<S: Alter> Store<S> {
 
     /// The tables whose rows are kept. It takes no memory, and a broken store answers it too.
     pub fn following(&self) -> &Follow
-        ensures { result.now ≡ self.now.following }
+        ensures { result.now ≡ (names_of S.Store self.now) }
     {
         &self.following
     }
 
     /// Gives back the connection, whose database is as it was.
     pub fn close(self) -> Connection<S>
-        ensures same { result ≡ self.conn }
+        ensures same { result ≡ connection S.Store self }
         ensures autocommit { result.in_transaction ≡ false }
     {
         let Store {

@@ -5,7 +5,7 @@
 ghost use Rattle.std.specs.Prelude.{◌≡◌};
 ghost use Rattle.sqlite.specs.Held.{state};
 ghost use Rattle.store.specs.State.{Content};
-ghost use Rattle.store.specs.Store.{Holds, AreOf};
+ghost use Rattle.store.specs.Store.{Holds, AreOf, database, names_of};
 
 use crate::store::Store;
 use sqlite::Alter;
@@ -17,6 +17,6 @@ pub fn one_content<S: Alter>(_store: &Store<S>)
 
 /// A crash leaves what a whole store holds, and nothing else.
 pub fn left_over_a_crash<S: Alter>(_store: &Store<S>)
-    ensures { (content : Content) → Holds S.Store _store.now content → (trees : _) → (state S.Store _store.now.conn).may_leave trees
-        → AreOf (state S.Store _store.now.conn).now.schema _store.now.following content trees }
+    ensures { (content : Content) → Holds S.Store _store.now content → (trees : _) → (database S.Store _store.now).may_leave trees
+        → AreOf (database S.Store _store.now).now.schema (names_of S.Store _store.now) content trees }
 {}

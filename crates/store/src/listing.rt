@@ -10,7 +10,7 @@ ghost use Rattle.store.specs.State.{Content};
 ghost use Rattle.store.specs.Layout.{IsLaidOut};
 ghost use Rattle.store.specs.Rows.{Key, key_in, held_rows};
 ghost use Rattle.store.specs.Apply.{Rests};
-ghost use Rattle.store.specs.Store.{Holds, AreOf};
+ghost use Rattle.store.specs.Store.{Holds, AreOf, database, names_of, IsBroken};
 ghost use Rattle.store.specs.Listing.{Entry, shown_entry, key_cmp, HasKey, IsAbove, KeysRise, key_found, IsToCome, Gives, Hands, Lists};
 ghost use Rattle.store.specs.declared.fault.StoreFault.TheVariants.{Broken};
 
@@ -188,11 +188,11 @@ impl<S: Alter> Store<S> {
     /// The faults: `Database` where the database failed, `Broken` after an earlier failure of `apply`. The list holds
     /// the table's rows in memory.
     pub fn list(&mut self) -> Result<List, StoreFault>
-        ensures lists { HasCleanDisk (state S.Store self.new.conn) → (content : Content) → Holds S.Store self.old content → Lists S.Store content self.new result }
-        ensures broken { self.old.broken ≡ true → (result ≡ Err Broken) × (self.new ≡ self.old) }
-        ensures following { self.new.following ≡ self.old.following }
-        ensures crash { HasCleanDisk (state S.Store self.new.conn) → (content : Content) → Holds S.Store self.old content → (trees : _) → (state S.Store self.new.conn).may_leave trees
-            → AreOf (state S.Store self.old.conn).now.schema self.old.following content trees }
+        ensures lists { HasCleanDisk (database S.Store self.new) → (content : Content) → Holds S.Store self.old content → Lists S.Store content self.new result }
+        ensures broken { IsBroken S.Store self.old → (result ≡ Err Broken) × (self.new ≡ self.old) }
+        ensures following { names_of S.Store self.new ≡ names_of S.Store self.old }
+        ensures crash { HasCleanDisk (database S.Store self.new) → (content : Content) → Holds S.Store self.old content → (trees : _) → (database S.Store self.new).may_leave trees
+            → AreOf (database S.Store self.old).now.schema (names_of S.Store self.old) content trees }
     {
         if self.broken {
             return Err(StoreFault::Broken);

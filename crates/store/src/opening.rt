@@ -7,7 +7,7 @@ ghost use Rattle.store.specs.declared.fault.StoreFault.TheVariants.{Memory, Dama
 ghost use Rattle.store.specs.Layout.{no_schema, first_layout, IsLaidOut};
 ghost use Rattle.store.specs.Rows.{SaysLayout, first_meta_rows};
 ghost use Rattle.store.specs.Open.{all};
-ghost use Rattle.store.specs.Store.{Opens};
+ghost use Rattle.store.specs.Store.{Opens, database};
 ghost use Rattle.store.specs.Entering.{IsReady, IsEntered, IsTurned, IsWanted, MayEnter, tables_of, has_any, has_first, has_second};
 
 use crate::fault::StoreFault;
@@ -212,11 +212,11 @@ fn open_with<S: Alter>(
     only: &Follow,
 ) -> Result<Store<S>, (StoreFault, Connection<S>)>
     requires { conn.in_transaction ≡ false }
-    ensures opens { IfOk result (λ store. HasCleanDisk (state S.Store store.conn) → IsReady (state S.Store conn) → Opens S.Store any only.now (state S.Store conn) store) }
+    ensures opens { IfOk result (λ store. HasCleanDisk (database S.Store store) → IsReady (state S.Store conn) → Opens S.Store any only.now (state S.Store conn) store) }
     ensures turned { IfErr result (λ e. HasCleanDisk (state S.Store e.1) → IsReady (state S.Store conn) → IsTurned any only.now (state S.Store conn) (state S.Store e.1) e.0) }
     ensures headless { (tables_of (state S.Store conn).now.schema).meta ≡ false → has_any (tables_of (state S.Store conn).now.schema) ≡ true → result ≡ Err (Damaged, conn) }
     ensures autocommit { IfErr result (λ e. e.1.in_transaction ≡ false) }
-    ensures crash { IfOk result (λ store. IsReady (state S.Store conn) → Survives (state S.Store conn) (state S.Store store.conn) (MayEnter only.now (state S.Store conn))) }
+    ensures crash { IfOk result (λ store. IsReady (state S.Store conn) → Survives (state S.Store conn) (database S.Store store) (MayEnter only.now (state S.Store conn))) }
     ensures left { IfErr result (λ e. IsReady (state S.Store conn) → Survives (state S.Store conn) (state S.Store e.1) (MayEnter only.now (state S.Store conn))) }
 {
     match enter(alloc, &mut conn, any, only) {
@@ -249,11 +249,11 @@ impl<S: Alter> Store<S> {
     /// The connection is in no transaction: `is_autocommit` tells.
     pub fn open(alloc: Global, conn: Connection<S>) -> Result<Store<S>, (StoreFault, Connection<S>)>
         requires { conn.in_transaction ≡ false }
-        ensures opens { IfOk result (λ store. HasCleanDisk (state S.Store store.conn) → IsReady (state S.Store conn) → Opens S.Store true all (state S.Store conn) store) }
+        ensures opens { IfOk result (λ store. HasCleanDisk (database S.Store store) → IsReady (state S.Store conn) → Opens S.Store true all (state S.Store conn) store) }
         ensures turned { IfErr result (λ e. HasCleanDisk (state S.Store e.1) → IsReady (state S.Store conn) → IsTurned true all (state S.Store conn) (state S.Store e.1) e.0) }
         ensures headless { (tables_of (state S.Store conn).now.schema).meta ≡ false → has_any (tables_of (state S.Store conn).now.schema) ≡ true → result ≡ Err (Damaged, conn) }
         ensures autocommit { IfErr result (λ e. e.1.in_transaction ≡ false) }
-        ensures crash { IfOk result (λ store. IsReady (state S.Store conn) → Survives (state S.Store conn) (state S.Store store.conn) (MayEnter all (state S.Store conn))) }
+        ensures crash { IfOk result (λ store. IsReady (state S.Store conn) → Survives (state S.Store conn) (database S.Store store) (MayEnter all (state S.Store conn))) }
         ensures left { IfErr result (λ e. IsReady (state S.Store conn) → Survives (state S.Store conn) (state S.Store e.1) (MayEnter all (state S.Store conn))) }
     {
         let only = Follow::all(alloc);
@@ -268,11 +268,11 @@ impl<S: Alter> Store<S> {
         follow: &Follow,
     ) -> Result<Store<S>, (StoreFault, Connection<S>)>
         requires { conn.in_transaction ≡ false }
-        ensures opens { IfOk result (λ store. HasCleanDisk (state S.Store store.conn) → IsReady (state S.Store conn) → Opens S.Store false follow.now (state S.Store conn) store) }
+        ensures opens { IfOk result (λ store. HasCleanDisk (database S.Store store) → IsReady (state S.Store conn) → Opens S.Store false follow.now (state S.Store conn) store) }
         ensures turned { IfErr result (λ e. HasCleanDisk (state S.Store e.1) → IsReady (state S.Store conn) → IsTurned false follow.now (state S.Store conn) (state S.Store e.1) e.0) }
         ensures headless { (tables_of (state S.Store conn).now.schema).meta ≡ false → has_any (tables_of (state S.Store conn).now.schema) ≡ true → result ≡ Err (Damaged, conn) }
         ensures autocommit { IfErr result (λ e. e.1.in_transaction ≡ false) }
-        ensures crash { IfOk result (λ store. IsReady (state S.Store conn) → Survives (state S.Store conn) (state S.Store store.conn) (MayEnter follow.now (state S.Store conn))) }
+        ensures crash { IfOk result (λ store. IsReady (state S.Store conn) → Survives (state S.Store conn) (database S.Store store) (MayEnter follow.now (state S.Store conn))) }
         ensures left { IfErr result (λ e. IsReady (state S.Store conn) → Survives (state S.Store conn) (state S.Store e.1) (MayEnter follow.now (state S.Store conn))) }
     {
         open_with(alloc, conn, false, follow)

@@ -9,7 +9,7 @@ ghost use Rattle.gather.specs.View.{delivery_value};
 ghost use Rattle.store.specs.State.{Content};
 ghost use Rattle.store.specs.Take.{is_executed};
 ghost use Rattle.store.specs.Apply.{IsAtRest, Comes, MayMove, IsTold};
-ghost use Rattle.store.specs.Store.{Holds, Applies, Leaves, breaks};
+ghost use Rattle.store.specs.Store.{Holds, Applies, Leaves, breaks, database, names_of, IsBroken, IsWhole};
 ghost use Rattle.store.specs.declared.fault.StoreFault.TheVariants.{Broken, Memory};
 
 use crate::apply::run;
@@ -91,13 +91,13 @@ impl<S: Alter> Store<S> {
     ///   and this call, `count` and `list` answer `Broken` from now on.
     /// - `Broken` after one of these two.
     pub fn apply(&mut self, delivery: &Delivery) -> Result<Applied, StoreFault>
-        ensures applies { HasCleanDisk (state S.Store self.new.conn) → (content : Content) → Holds S.Store self.old content → Applies S.Store content (delivery_value delivery.now) self.old self.new result }
-        ensures broken { self.old.broken ≡ true → (result ≡ Err Broken) × (self.new ≡ self.old) }
-        ensures following { self.new.following ≡ self.old.following }
-        ensures schema { HasCleanDisk (state S.Store self.new.conn) → (content : Content) → Holds S.Store self.old content → self.new.broken ≡ false → (state S.Store self.new.conn).now.schema ≡ (state S.Store self.old.conn).now.schema }
-        ensures clean { HasCleanDisk (state S.Store self.new.conn) → HasCleanDisk (state S.Store self.old.conn) }
-        ensures crash { HasCleanDisk (state S.Store self.new.conn) → (content : Content) → Holds S.Store self.old content → (trees : _) → (state S.Store self.new.conn).may_leave trees
-            → Leaves (state S.Store self.old.conn).now.schema self.old.following content (delivery_value delivery.now) result trees }
+        ensures applies { HasCleanDisk (database S.Store self.new) → (content : Content) → Holds S.Store self.old content → Applies S.Store content (delivery_value delivery.now) self.old self.new result }
+        ensures broken { IsBroken S.Store self.old → (result ≡ Err Broken) × (self.new ≡ self.old) }
+        ensures following { names_of S.Store self.new ≡ names_of S.Store self.old }
+        ensures schema { HasCleanDisk (database S.Store self.new) → (content : Content) → Holds S.Store self.old content → IsWhole S.Store self.new → (database S.Store self.new).now.schema ≡ (database S.Store self.old).now.schema }
+        ensures clean { HasCleanDisk (database S.Store self.new) → HasCleanDisk (database S.Store self.old) }
+        ensures crash { HasCleanDisk (database S.Store self.new) → (content : Content) → Holds S.Store self.old content → (trees : _) → (database S.Store self.new).may_leave trees
+            → Leaves (database S.Store self.old).now.schema (names_of S.Store self.old) content (delivery_value delivery.now) result trees }
     {
         if self.broken {
             return Err(StoreFault::Broken);

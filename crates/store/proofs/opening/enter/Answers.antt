@@ -1,7 +1,6 @@
 use Rattle.std.proofs.Common.{◌≡◌, false, sym, ap, ◌∙◌}
 use Rattle.std.proofs.lemmas.Bool.{not-false}
 use Rattle.sqlite.specs.Held.{state}
-use Rattle.store.specs.Layout.{no_schema}
 use Rattle.store.specs.Entering.{tables_of, has_any}
 use Rattle.store.proofs.Known.{known_none}
 use Rattle.store.proofs.opening.enter.Goals as goal

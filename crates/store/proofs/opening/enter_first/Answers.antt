@@ -1,4 +1,4 @@
-use Rattle.std.proofs.Common.{◌≡◌, true, sym, subst, refl, arith}
+use Rattle.std.proofs.Common.{sym, subst, refl, arith}
 use Rattle.sqlite.specs.State.{HasCleanDisk}
 use Rattle.std.specs.Bool.{IsTrue}
 use Rattle.sqlite.specs.Held.{state}

@@ -1,4 +1,3 @@
-use Rattle.std.proofs.Common.{◌≡◌}
 use Rattle.sqlite.specs.Held.{state}
 use Rattle.store.proofs.Entered.{blank, entered_new, may_new}
 use Rattle.store.proofs.opening.enter_new.Goals as goal

@@ -1,9 +1,9 @@
-use Rattle.std.proofs.Common.{◌≡◌, true, false, pos, sym, subst, ap, refl, ◌∙◌, arith, rules}
-use Rattle.sqlite.specs.State.{HasCleanDisk, IsUnchanged, Survives}
+use Rattle.std.proofs.Common.{◌≡◌, true, false, pos, sym, subst, ap, ◌∙◌, arith, rules}
+use Rattle.sqlite.specs.State.{HasCleanDisk, IsUnchanged}
 use Rattle.sqlite.specs.Held.{state}
 use Rattle.store.specs.Rows.{SaysLayout, first_meta_rows}
 use Rattle.store.specs.Load.{IsMetaFirst}
-use Rattle.store.specs.Entering.{IsDamaged, lacks_first, lacks_second, MayEnter, IsReady, tables_of, has_first, has_second}
+use Rattle.store.specs.Entering.{lacks_first, lacks_second, MayEnter, tables_of, has_first, has_second}
 use Rattle.store.proofs.Counted.{rests_unchanged}
 use Rattle.store.proofs.Known.{meta_first, known_first, known_second, ready_after, entered_after, turned_after, may_then, none_then, ok_weaker, err_weaker, laid_after_first, laid_after_second, says_after}
 use Rattle.store.proofs.Entered.{weaken}

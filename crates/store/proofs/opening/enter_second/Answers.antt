@@ -1,4 +1,4 @@
-use Rattle.std.proofs.Common.{◌≡◌, pos, sym, subst, refl}
+use Rattle.std.proofs.Common.{pos, sym, subst, refl}
 use Rattle.std.specs.Bool.{IsTrue}
 use Rattle.sqlite.specs.Held.{state}
 use Rattle.store.specs.Rows.{SaysLayout, meta_rows}
