@@ -12,3 +12,4 @@ pub mod Fed
 pub mod Runs
 pub mod Told
 pub mod OneEnd
+pub mod Followed

@@ -11,3 +11,5 @@ pub mod Crash
 pub mod Over
 pub mod Pieces
 pub mod Told
+pub mod Failing
+pub mod Follow

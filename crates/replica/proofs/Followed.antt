@@ -1,0 +1,365 @@
+-- How following a stream ends.
+use Rattle.std.proofs.Common.{◌≡◌, ◌≢◌, ℕ, ◌⊎◌, ◌+◌, ◌<◌, arith, take, drop, unwrap_or, MatchOption, Bool, true, false, List, [], ◌++◌, length, Option, refl, sym, ap, ◌∙◌, inl, inr, subst, IsTrue, append_assoc, append-nil, Some, None, is_some, option_map, Bor}
+use Rattle.std.specs.Io.KnownBytes.{Appends, Consumes, Keeps, IsAtEnd}
+use Rattle.std.proofs.Math.Seq.{take-append_seam}
+use Rattle.std.proofs.KnownBytes.{Appends-trans, Appends-kept, Consumes-trans, Consumes-kept, Appends-nil, Consumes-nil}
+use Rattle.sqlite_trees.specs.declared.store.Store.{Ghosts}
+use Rattle.sqlite_trees.specs.Tree.{Trees}
+use Rattle.sqlite.specs.Held.{Held, state}
+use Rattle.sqlite_schema.specs.declared.schema.Schema.{Schema}
+use Rattle.binlog.specs.Follow.{Names}
+use Rattle.binlog.specs.Event.{EventValue}
+use Rattle.gather.specs.Transaction.{DeliveryValue}
+use Rattle.store.specs.State.{Content}
+use Rattle.store.specs.declared.store.Store.{Store}
+use Rattle.store.specs.Store.{HoldsAs, database}
+use Rattle.store.specs.declared.fault.StoreFault.TheVariants as fault
+use Rattle.replica.specs.declared.end.Reason.{Reason}
+use Rattle.replica.specs.declared.end.Reason.TheVariants.{EndOfInput, SourceEof, SourceError, Wire, Greet, Event, Gather, Refused, Database, Memory, ReadFailed, WriteFailed}
+use Rattle.replica.specs.declared.end.Ended.{Ended}
+use Rattle.replica.specs.declared.session.Session.{Session}
+use Rattle.replica.specs.Settings.{Settings}
+use Rattle.replica.specs.Stream.{Due, Reading, due_behind}
+use Rattle.replica.specs.Conn.{Why, Conn, BreaksStore, IsNoStreamFailure}
+use Rattle.replica.specs.Crash.{IsLeft}
+use Rattle.replica.specs.Sent.{SentFor}
+use Rattle.replica.specs.Standing.{Stands, GoesOn, HasEnded, end_of, room_of}
+use Rattle.replica.specs.Over.{StandsOver, HasRead, LeavesOnly}
+use Rattle.replica.specs.Follow.{IsInFull, IsOfStream, MayOwe, EndsInFull, Follows, IsFollowing, HandsOut, gave_up_with, turns_left, while_going}
+use Rattle.replica.proofs.Stood.{sent_of}
+use Rattle.replica.proofs.Runs.{begins, read_all}
+
+may_owe : (reason : Reason) → gave_up_with reason ≡ true → MayOwe reason
+may_owe EndOfInput h = cc
+may_owe SourceEof h = cc
+may_owe (SourceError code state message) h = cc
+may_owe (Wire fault) h = cc
+may_owe (Greet fault) h = cc
+may_owe (Event fault) h = cc
+may_owe (Gather fault) h = cc
+may_owe (Refused refusal) h = cc
+may_owe (Database cause) h = tt
+may_owe Memory h = tt
+may_owe ReadFailed h = cc
+may_owe WriteFailed h = cc
+
+is_in_full : (reason : Reason) → gave_up_with reason ≡ false → IsNoStreamFailure reason → IsInFull reason
+is_in_full EndOfInput h n = tt
+is_in_full SourceEof h n = tt
+is_in_full (SourceError code state message) h n = tt
+is_in_full (Wire fault) h n = tt
+is_in_full (Greet fault) h n = tt
+is_in_full (Event fault) h n = tt
+is_in_full (Gather fault) h n = tt
+is_in_full (Refused refusal) h n = tt
+is_in_full (Database cause) h n = cc
+is_in_full Memory h n = cc
+is_in_full ReadFailed h n = absurd n
+is_in_full WriteFailed h n = absurd n
+
+not_of_stream : (reason : Reason) → IsNoStreamFailure reason → IsOfStream reason → ⊥
+not_of_stream EndOfInput n h = h
+not_of_stream SourceEof n h = h
+not_of_stream (SourceError code state message) n h = h
+not_of_stream (Wire fault) n h = h
+not_of_stream (Greet fault) n h = h
+not_of_stream (Event fault) n h = h
+not_of_stream (Gather fault) n h = h
+not_of_stream (Refused refusal) n h = h
+not_of_stream (Database cause) n h = h
+not_of_stream Memory n h = h
+not_of_stream ReadFailed n h = n
+not_of_stream WriteFailed n h = n
+
+-- such an end leaves the store broken or whole as it was
+as_it_was : (reason : Reason) (was is : Bool) → IsInFull reason → BreaksStore reason was is → is ≡ was
+as_it_was EndOfInput was is full h = h
+as_it_was SourceEof was is full h = h
+as_it_was (SourceError code state message) was is full h = h
+as_it_was (Wire fault) was is full h = h
+as_it_was (Greet fault) was is full h = h
+as_it_was (Event fault) was is full h = h
+as_it_was (Gather fault) was is full h = h
+as_it_was (Refused refusal) was is full h = h
+as_it_was (Database cause) was is full h = absurd full
+as_it_was Memory was is full h = absurd full
+as_it_was ReadFailed was is full h = h
+as_it_was WriteFailed was is full h = h
+
+-- want of memory, or a failure of the stream
+abbrev pub IsLate : Reason → Type 0
+IsLate Memory = Unit {0}
+IsLate reason = IsOfStream reason
+
+told_late : (reason : Reason) (was is : Bool) → IsLate reason → is ≡ was → BreaksStore reason was is
+told_late EndOfInput was is s h = absurd s
+told_late SourceEof was is s h = absurd s
+told_late (SourceError code state message) was is s h = absurd s
+told_late (Wire fault) was is s h = absurd s
+told_late (Greet fault) was is s h = absurd s
+told_late (Event fault) was is s h = absurd s
+told_late (Gather fault) was is s h = absurd s
+told_late (Refused refusal) was is s h = absurd s
+told_late (Database cause) was is s h = absurd s
+told_late Memory was is s h = λ w. h ∙ w
+told_late ReadFailed was is s h = h
+told_late WriteFailed was is s h = h
+
+module _ (limit : ℕ) (names : Names) (due : Due) (es : List EventValue) (ds : List DeliveryValue) (taken id : ℕ) (rest : List ℕ) (was : Bool) (old new : Content) (at : ℕ) where
+  abbrev pub why : Reason → Type 0
+  why reason = Why limit names due es ds taken id rest was old new at reason
+
+  -- what ended a connection may be told as a failed write
+  pub why_write_failed : (reason : Reason) → IsInFull reason → why reason → why WriteFailed
+  why_write_failed EndOfInput h w = inl w.0
+  why_write_failed SourceEof h w = inr w
+  why_write_failed (SourceError code state message) h w = inl w.0
+  why_write_failed (Wire fault) h w = elim w [ inl s ↦ inl s.0 | inr s ↦ inl s.1 ]
+  why_write_failed (Greet fault) h w = inl w.0
+  why_write_failed (Event fault) h w = inl w.0
+  why_write_failed (Gather fault) h w = inl w.0
+  why_write_failed (Refused refusal) h w = inl w.0
+  why_write_failed (Database cause) h w = absurd h
+  why_write_failed Memory h w = absurd h
+  why_write_failed ReadFailed h w = absurd h
+  why_write_failed WriteFailed h w = absurd h
+
+  -- and an end of the input as a failed read
+  pub why_read_failed : (reason : Reason) → reason ≡ EndOfInput → why reason → why ReadFailed
+  why_read_failed reason h w = (subst (λ (v : Reason). why v) h w).0
+
+  why_memory : (reason : Reason) → reason ≡ EndOfInput → why reason → why Memory
+  why_memory reason h w = (subst (λ (v : Reason). why v) h w).0
+
+-- for each reading of the bytes, one reason implies the other
+abbrev pub Retells : ℕ → Names → Bool → Content → List ℕ → Content → ℕ → Reason → Reason → Type 0
+Retells limit names was old b new at reason other =
+    (r : Reading limit names b) → why limit names (due_behind r.payloads) r.events r.deliveries (length r.front) r.id r.rest was old new at reason → why limit names (due_behind r.payloads) r.events r.deliveries (length r.front) r.id r.rest was old new at other
+
+-- an end, told for another reason
+abbrev pub told_as : Reason → Ended → Ended
+told_as reason end = record { reason = reason; at = end.at; applied = end.applied }
+
+conn-retold : (limit : ℕ) (names : Names) (was : Bool) (old : Content) (b : List ℕ) (new : Content) (end : Ended) (reason : Reason) → Retells limit names was old b new end.at end.reason reason
+    → Conn limit names was old b new end → Conn limit names was old b new (told_as reason end)
+conn-retold limit names was old b new end reason f c = record {
+  reading = c.reading;
+  took = c.took;
+  why = f c.reading c.why;
+  kept = c.kept;
+}
+
+module _ {S : Type 0} (g : Ghosts S) where
+  retold : (limit : ℕ) (before store : Store S g) (was : Bool) (old : Content) (b : List ℕ) (end : Ended) (reason : Reason) → IsInFull end.reason → IsLate reason
+      → ((new : Content) → Retells limit before.following was old b new end.at end.reason reason) → HasRead g limit before store was old b end → HasRead g limit before store was old b (told_as reason end)
+  retold limit before store was old b end reason full late f r = record {
+    is = r.is;
+    new = r.new;
+    holds = r.holds;
+    following = r.following;
+    conn = conn-retold limit before.following was old b r.new end reason (f r.new) r.conn;
+    breaks = told_late reason was r.is late (as_it_was end.reason was r.is full r.breaks);
+    schema_is = r.schema_is;
+    leaves = λ w. record {
+      each = λ trees may.
+          let l = (r.leaves w).each trees may in
+          (l.0, l.1, elim l.2 [ inl e ↦ inl e | inr m ↦ absurd (subst (λ (v : Reason). IsInFull v) m.failed full) ]);
+    };
+  }
+
+  -- what waited to be sent was handed out
+  pub over-out : (session after : Session) (store : Store S g) (schema : Schema) (was : Bool) (old : Content) (b o out : List ℕ) → HandsOut session after out
+      → StandsOver g session store schema was old b o → StandsOver g after store schema was old b (o ++ out)
+  over-out session after store schema was old b o out h s = record {
+    is = s.is;
+    now = s.now;
+    holds = s.holds;
+    stands = h.stands store.following was s.is old s.now b o s.stands;
+    schema_is = s.schema_is;
+    leaves = λ w.
+        subst (λ (c : Settings). LeavesOnly g schema store (IsLeft c.limit store.following old b s.now (end_of after))) (sym h.config)
+        (subst (λ (e : Ended). LeavesOnly g schema store (IsLeft session.config.limit store.following old b s.now e)) (sym h.end) (s.leaves w));
+  }
+
+  module _ (session : Session) (before store : Store S g) (was : Bool) (old : Content) (left0 left written0 written : Option (List ℕ)) (names : store.following ≡ before.following) (f : IsFollowing g session before store was old left0 left written0 written) where
+    abbrev pub end : Ended
+    end = end_of session
+
+    has_read : HasRead g session.config.limit before store was old f.read end
+    has_read = read_all g session before store session.config.limit was old f.read f.sent end refl names refl f.stands
+
+    owes : SentFor session.config before.following old.executed f.read end.at (f.sent ++ session.out.items)
+    owes = subst (λ n. SentFor session.config n old.executed f.read end.at (f.sent ++ session.out.items)) names (sent_of session store.following was f.stands.is old f.stands.now f.read f.sent f.stands.stands)
+
+    -- nothing can be read for want of memory
+    pub follows-memory : end.reason ≡ EndOfInput → Follows g session.config before store was old left0 left written0 written (told_as Memory end)
+    unfolding retold has_read
+    follows-memory e =
+        let full : IsInFull end.reason = subst (λ (v : Reason). IsInFull v) (sym e) tt in
+        record {
+          read = f.read;
+          sent = f.sent;
+          owed = session.out.items;
+          reads = f.reads;
+          writes = f.writes;
+          has_read = retold session.config.limit before store was old f.read end Memory full tt
+              (λ new r w. why_memory session.config.limit before.following (due_behind r.payloads) r.events r.deliveries (length r.front) r.id r.rest was old new end.at end.reason e w) has_read;
+          in_full = λ h. absurd h;
+          all_read = λ bad. let no : Memory ≡ EndOfInput = bad in cc;
+          owes = owes;
+          all_sent = inl tt;
+        }
+
+    -- memory or the database ended it: nothing more is sent
+    pub follows-gave_up : gave_up_with end.reason ≡ true → IsNoStreamFailure end.reason → Follows g session.config before store was old left0 left written0 written end
+    follows-gave_up gave n = record {
+      read = f.read;
+      sent = f.sent;
+      owed = session.out.items;
+      reads = f.reads;
+      writes = f.writes;
+      has_read = has_read;
+      in_full = λ h. absurd (not_of_stream end.reason n h);
+      all_read = λ e. let bad : false ≡ true = sym (ap gave_up_with e) ∙ gave in cc;
+      owes = owes;
+      all_sent = inl (may_owe end.reason gave);
+    }
+
+    module _ (after : Session) (left' written' : Option (List ℕ)) (y z : List ℕ) (keeps : Keeps left left') (appends : Appends written written' y) (hands : HandsOut session after (y ++ z)) where
+      writes' : Appends written0 written' (f.sent ++ y)
+      writes' = Appends-trans written0 written written' f.sent y f.writes appends
+
+      reads' : Consumes left0 left' f.read
+      reads' = Consumes-kept left0 left left' f.read f.reads keeps
+
+      owes' : SentFor session.config before.following old.executed f.read end.at ((f.sent ++ y) ++ z)
+      owes' =
+          subst (λ (l : List ℕ). SentFor session.config before.following old.executed f.read end.at l) (sym (append_assoc f.sent y z))
+          (subst (λ n. SentFor session.config n old.executed f.read end.at (f.sent ++ (y ++ z))) names (hands.sent store.following was f.stands.is old f.stands.now f.read f.sent f.stands.stands))
+
+      -- a write failed
+      pub follows-write_failed : gave_up_with end.reason ≡ false → IsNoStreamFailure end.reason → Follows g session.config before store was old left0 left' written0 written' (told_as WriteFailed end)
+      unfolding retold has_read
+      follows-write_failed gave n =
+          let full = is_in_full end.reason gave n in
+          record {
+            read = f.read;
+            sent = f.sent ++ y;
+            owed = z;
+            reads = reads';
+            writes = writes';
+            has_read = retold session.config.limit before store was old f.read end WriteFailed full tt
+                (λ new r w. why_write_failed session.config.limit before.following (due_behind r.payloads) r.events r.deliveries (length r.front) r.id r.rest was old new end.at end.reason full w) has_read;
+            in_full = λ h. (end.reason, full, has_read.conn);
+            all_read = λ e. let bad : WriteFailed ≡ EndOfInput = e in cc;
+            owes = owes';
+            all_sent = inl tt;
+          }
+
+      module _ (all : z ≡ []) where
+        sent' : SentFor session.config before.following old.executed f.read end.at ((f.sent ++ y) ++ [])
+        sent' = subst (λ (l : List ℕ). SentFor session.config before.following old.executed f.read end.at ((f.sent ++ y) ++ l)) all owes'
+
+        -- all is sent, and the session has ended or all is read
+        pub follows-ended : IsNoStreamFailure end.reason → (end.reason ≡ EndOfInput → IsAtEnd left') → Follows g session.config before store was old left0 left' written0 written' end
+        follows-ended n read = record {
+          read = f.read;
+          sent = f.sent ++ y;
+          owed = [];
+          reads = reads';
+          writes = writes';
+          has_read = has_read;
+          in_full = λ h. absurd (not_of_stream end.reason n h);
+          all_read = read;
+          owes = sent';
+          all_sent = inr refl;
+        }
+
+        -- a read failed
+        pub follows-read_failed : end.reason ≡ EndOfInput → Follows g session.config before store was old left0 left' written0 written' (told_as ReadFailed end)
+        unfolding retold has_read
+        follows-read_failed e =
+            let full : IsInFull end.reason = subst (λ (v : Reason). IsInFull v) (sym e) tt in
+            record {
+              read = f.read;
+              sent = f.sent ++ y;
+              owed = [];
+              reads = reads';
+              writes = writes';
+              has_read = retold session.config.limit before store was old f.read end ReadFailed full tt
+                  (λ new r w. why_read_failed session.config.limit before.following (due_behind r.payloads) r.events r.deliveries (length r.front) r.id r.rest was old new end.at end.reason e w) has_read;
+              in_full = λ h. (end.reason, full, has_read.conn);
+              all_read = λ bad. let no : ReadFailed ≡ EndOfInput = bad in cc;
+              owes = sent';
+              all_sent = inr refl;
+            }
+
+        -- all is sent
+        pub following-sent : IsFollowing g after before store was old left0 left' written0 written'
+        following-sent = record {
+          read = f.read;
+          sent = f.sent ++ (y ++ z);
+          reads = reads';
+          writes = subst (λ (l : List ℕ). Appends written0 written' (f.sent ++ l)) (sym (ap (λ (l : List ℕ). y ++ l) all ∙ append-nil y)) writes';
+          stands = over-out session after store (database g before).now.schema was old f.read f.sent (y ++ z) hands f.stands;
+        }
+
+  -- nothing was read and sent
+  pub following-begins : ((h : Held S) (db : Trees) → IsTrue (state g h).is_open → (state g h).may_leave db → db ≡ (state g h).committed.trees)
+      → (session : Session) (store : Store S g) (was : Bool) (content : Content) (left written : Option (List ℕ)) → HoldsAs g was content store → Stands session store.following was was content content [] []
+      → IsFollowing g session store store was content left left written written
+  following-begins settled session store was content left written holds stands = record {
+    read = [];
+    sent = [];
+    reads = Consumes-nil left;
+    writes = Appends-nil written;
+    stands = begins g settled session store was content holds stands;
+  }
+
+  -- some bytes were read
+  pub following-read : (session after : Session) (before store new : Store S g) (was : Bool) (old : Content) (left0 left left' written0 written written' : Option (List ℕ)) (x : List ℕ)
+      → (f : IsFollowing g session before store was old left0 left written0 written) → Consumes left left' x → Keeps written written'
+      → StandsOver g after new (database g before).now.schema was old (f.read ++ x) f.sent → IsFollowing g after before new was old left0 left' written0 written'
+  following-read session after before store new was old left0 left left' written0 written written' x f consumes keeps stands = record {
+    read = f.read ++ x;
+    sent = f.sent;
+    reads = Consumes-trans left0 left left' f.read x f.reads consumes;
+    writes = Appends-kept written0 written written' f.sent f.writes keeps;
+    stands = stands;
+  }
+
+  -- the same for settings and an end that are alike
+  pub follows-same : (settings settings' : Settings) (before store : Store S g) (was : Bool) (old : Content) (left left' written written' : Option (List ℕ)) (end end' : Ended) → settings ≡ settings' → end ≡ end'
+      → Follows g settings before store was old left left' written written' end → Follows g settings' before store was old left left' written written' end'
+  follows-same settings settings' before store was old left left' written written' end end' s e f =
+      subst (λ (v : Ended). Follows g settings' before store was old left left' written written' v) e
+      (subst (λ (v : Settings). Follows g v before store was old left left' written written' end) s f)
+
+pub some_behind : (o : Option (Bor Ended)) (e : Option Ended) → option_map (λ (r : Bor Ended). r.now) o ≡ e → is_some e ≡ is_some o
+some_behind None e h = sym (ap (λ (v : Option Ended). is_some v) h)
+some_behind (Some r) e h = sym (ap (λ (v : Option Ended). is_some v) h)
+
+pub none_behind : (e : Option Ended) → is_some e ≡ false → e ≡ None
+none_behind None h = refl
+none_behind (Some e) h = cc
+
+pub same_turns : (before after : Session) → after.ended ≡ before.ended → room_of after ≡ room_of before → turns_left after ≡ turns_left before
+same_turns before after e r = ap (λ (v : Option Ended). while_going v (room_of after + 1)) e ∙ ap (λ (n : ℕ). while_going before.ended (n + 1)) r
+
+-- a session that has ended has not ended by the end of the input
+pub ended_early : (session : Session) (names : Names) (was is : Bool) (old now : Content) (b o : List ℕ) → is_some session.ended ≡ true → Stands session names was is old now b o → (end_of session).reason ≢ EndOfInput
+unfolding Stands
+ended_early session names was is old now b o h s = elim session.ended as (λ v. is_some v ≡ true
+    → MatchOption v
+    (GoesOn session.config session.assembler session.gatherer session.phase session.at session.applied names was is old now b (o ++ session.out.items))
+    (λ last. HasEnded session.config names was is old now b (o ++ session.out.items) last)
+    → (unwrap_or v (record { reason = EndOfInput; at = session.at; applied = session.applied })).reason ≢ EndOfInput) [
+      | None ↦ λ e g. let bad : false ≡ true = e in cc
+      | Some last ↦ λ e h. h.more
+    ] h s
+
+-- what is written back into a vector that keeps its length
+pub some_kept : (n : ℕ) (xs ys : List ℕ) → n ≡ length ys → length xs ≡ length ys → 0 < length ys → 0 < length (take n (xs ++ drop (length xs) ys))
+some_kept n xs ys at same some =
+    let all : take n (xs ++ drop (length xs) ys) ≡ xs = ap (λ k. take k (xs ++ drop (length xs) ys)) (at ∙ sym same) ∙ take-append_seam xs (drop (length xs) ys) in
+    subst (λ (l : List ℕ). 0 < length l) (sym all) (omega (arith, same, some))

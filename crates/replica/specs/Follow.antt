@@ -1,0 +1,96 @@
+-- What following a stream comes to.
+use Rattle.std.specs.Prelude.{◌≡◌, ℕ, ◌+◌, ◌⊎◌, Bool, true, false, List, [], ◌++◌, Option, Some, None}
+use Rattle.std.specs.Io.KnownBytes.{Appends, Consumes, IsAtEnd}
+use Rattle.sqlite_trees.specs.declared.store.Store.{Ghosts}
+use Rattle.binlog.specs.Follow.{Names}
+use Rattle.store.specs.State.{Content}
+use Rattle.store.specs.declared.store.Store.{Store}
+use Rattle.store.specs.Store.{database, names_of}
+use Rattle.replica.specs.declared.end.Reason.{Reason}
+use Rattle.replica.specs.declared.end.Reason.TheVariants.{EndOfInput, SourceEof, SourceError, Wire, Greet, Event, Gather, Refused, Database, Memory, ReadFailed, WriteFailed}
+use Rattle.replica.specs.declared.end.Ended.{Ended}
+use Rattle.replica.specs.declared.session.Session.{Session}
+use Rattle.replica.specs.declared.following.Turn.{Turn}
+use Rattle.replica.specs.declared.following.Turn.TheVariants as turn
+use Rattle.replica.specs.Settings.{Settings}
+use Rattle.replica.specs.Conn.{Conn, IsOfBytes}
+use Rattle.replica.specs.Sent.{SentFor}
+use Rattle.replica.specs.Standing.{Stands, end_of, room_of}
+use Rattle.replica.specs.Over.{StandsOver, HasRead}
+
+-- the bytes of the connection end it, or a refused transaction does
+abbrev pub IsInFull : Reason → Type 0
+IsInFull (Refused refusal) = Unit {0}
+IsInFull reason = IsOfBytes reason
+
+-- memory or the database has ended the connection
+abbrev pub gave_up_with : Reason → Bool
+gave_up_with Memory = true
+gave_up_with (Database cause) = true
+gave_up_with _ = false
+
+-- some of what is owed may stay unsent
+abbrev pub MayOwe : Reason → Type 0
+MayOwe Memory = Unit {0}
+MayOwe (Database cause) = Unit {0}
+MayOwe WriteFailed = Unit {0}
+MayOwe _ = ⊥
+
+-- a failure of the stream
+abbrev pub IsOfStream : Reason → Type 0
+IsOfStream ReadFailed = Unit {0}
+IsOfStream WriteFailed = Unit {0}
+IsOfStream _ = ⊥
+
+-- The content, the place and the count are in full those of the bytes.
+abbrev pub EndsInFull : ℕ → Names → Bool → Content → List ℕ → Content → Ended → Type 0
+EndsInFull limit names was old b new end = (reason : Reason) × IsInFull reason × Conn limit names was old b new (record { reason = reason; at = end.at; applied = end.applied })
+
+module _ {S : Type 0} (g : Ghosts S) where
+  -- A store that held this content, and which a failure had broken or not, has followed a stream, of which these bytes
+  -- were left and which had written these, before and after; and that ended so.
+  pub record Follows (settings : Settings) (before after : Store S g) (was : Bool) (old : Content) (left left' written written' : Option (List ℕ)) (end : Ended) : Type 0 where
+    -- the bytes read, the bytes sent, and those that are owed still
+    pub read : List ℕ
+    pub sent : List ℕ
+    pub owed : List ℕ
+    pub reads : Consumes left left' read
+    pub writes : Appends written written' sent
+    pub has_read : HasRead g settings.limit before after was old read end
+    pub in_full : IsOfStream end.reason → EndsInFull settings.limit (names_of g before) was old read has_read.new end
+    pub all_read : end.reason ≡ EndOfInput → IsAtEnd left'
+    pub owes : SentFor settings (names_of g before) old.executed read end.at (sent ++ owed)
+    pub all_sent : MayOwe end.reason ⊎ (owed ≡ [])
+
+  -- In the midst of following a stream these bytes were read and these sent, and the session and its store stand there.
+  pub record IsFollowing (session : Session) (before store : Store S g) (was : Bool) (old : Content) (left left' written written' : Option (List ℕ)) : Type 0 where
+    pub read : List ℕ
+    pub sent : List ℕ
+    pub reads : Consumes left left' read
+    pub writes : Appends written written' sent
+    pub stands : StandsOver g session store (database g before).now.schema was old read sent
+
+-- none after the end
+abbrev pub while_going : Option Ended → ℕ → ℕ
+while_going None n = n
+while_going (Some end) n = 0
+
+-- how many more turns of reading there can be
+abbrev pub turns_left : Session → ℕ
+turns_left session = while_going session.ended (room_of session + 1)
+
+-- The session hands out these bytes: it stands where it stood, and with them all is sent that is owed for the payloads
+-- taken.
+pub record HandsOut (before after : Session) (out : List ℕ) : Type 0 where
+  pub stands : (names : Names) (was is : Bool) (old now : Content) (b o : List ℕ) → Stands before names was is old now b o → Stands after names was is old now b (o ++ out)
+  pub sent : (names : Names) (was is : Bool) (old now : Content) (b o : List ℕ) → Stands before names was is old now b o → SentFor before.config names old.executed b (end_of before).at (o ++ out)
+  pub config : after.config ≡ before.config
+  pub ended : after.ended ≡ before.ended
+  pub end : end_of after ≡ end_of before
+  pub turns : turns_left after ≡ turns_left before
+
+-- how many reads have failed in a turn
+abbrev pub reads_failed : Turn → ℕ
+reads_failed turn.Read = 0
+reads_failed turn.AtEnd = 0
+reads_failed turn.Failed = 1

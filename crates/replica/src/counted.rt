@@ -1,0 +1,120 @@
+//! Streams of two directions, and a count of what failed on them.
+
+ghost use Rattle.std.specs.Prelude.{◌≡◌, ◌<◌, ◌≤◌, ◌+◌, ◌-◌, ◌^◌, min, length, is_err, is_ok, if◌then◌else◌, OnErr, Ok};
+ghost use Rattle.std.specs.Io.{ReadsAtMost, WritesAtMost};
+ghost use Rattle.std.specs.Io.KnownBytes.{Keeps, ReadConsumes, WriteAppends};
+ghost use Rattle.replica.specs.Failing.{failed_to_write};
+
+use std::io;
+use std::io::{Read, Write};
+use std::net::TcpStream;
+
+/// A stream whose two directions are apart: reading leaves what was written as it is, and writing what is left to read.
+pub trait Duplex: Read + Write {
+    /// Reads as `read` does.
+    fn receive(&mut self, buf: &mut [u8]) -> io::Result<usize>
+        ensures bound { ReadsAtMost result buf.new }
+        ensures bytes { ReadConsumes (Self.Read.remaining self.old) (Self.Read.remaining self.new) result buf.new }
+        ensures apart { Keeps (Self.Write.contents self.old) (Self.Write.contents self.new) };
+
+    /// Writes as `write` does.
+    fn send(&mut self, buf: &[u8]) -> io::Result<usize>
+        ensures bound { WritesAtMost result buf.now }
+        ensures bytes { WriteAppends (Self.Write.contents self.old) (Self.Write.contents self.new) result buf.now }
+        ensures apart { Keeps (Self.Read.remaining self.old) (Self.Read.remaining self.new) };
+}
+
+// A socket tells nothing of its bytes.
+impl Duplex for TcpStream {
+    fn receive(&mut self, buf: &mut [u8]) -> io::Result<usize> {
+        self.read(buf)
+    }
+
+    fn send(&mut self, buf: &[u8]) -> io::Result<usize> {
+        self.write(buf)
+    }
+}
+
+/// A stream with the counts of its failed reads and of its failed writes. A write of some bytes that takes none has
+/// failed. A call with an empty slice is not passed on and counts nothing.
+#[derive(Drop)]
+pub struct Counted<T> {
+    stream: T,
+    failed_reads: u64,
+    failed_writes: u64,
+}
+
+impl<T> Counted<T> {
+    /// A stream on which nothing has failed.
+    pub fn new(stream: T) -> Counted<T>
+        ensures { result ≡ record { stream = stream; failed_reads = 0; failed_writes = 0 } }
+    {
+        Counted {
+            stream,
+            failed_reads: 0,
+            failed_writes: 0,
+        }
+    }
+
+    /// How many reads have failed.
+    pub fn failed_reads(&self) -> u64
+        ensures { result ≡ self.now.failed_reads }
+    {
+        self.failed_reads
+    }
+
+    /// How many writes have failed.
+    pub fn failed_writes(&self) -> u64
+        ensures { result ≡ self.now.failed_writes }
+    {
+        self.failed_writes
+    }
+
+    /// The stream itself.
+    pub fn into_inner(self) -> T
+        ensures { result ≡ self.stream }
+    {
+        let Counted { stream, .. } = self;
+        stream
+    }
+}
+
+impl<T: Duplex> Counted<T> {
+    /// Reads some bytes, or none at the end of the input.
+    pub fn receive(&mut self, buf: &mut [u8]) -> io::Result<usize>
+        requires { self.old.failed_reads < 2 ^ 64 - 1 }
+        ensures bound { ReadsAtMost result buf.new }
+        ensures bytes { ReadConsumes (T.Read.remaining self.old.stream) (T.Read.remaining self.new.stream) result buf.new }
+        ensures apart { Keeps (T.Write.contents self.old.stream) (T.Write.contents self.new.stream) }
+        ensures reads { self.new.failed_reads ≡ self.old.failed_reads + (if is_err result then 1 else 0) }
+        ensures writes { self.new.failed_writes ≡ self.old.failed_writes }
+    {
+        if buf.is_empty() {
+            return Ok(0);
+        }
+        let result = self.stream.receive(buf);
+        if result.is_err() {
+            self.failed_reads += 1;
+        }
+        result
+    }
+
+    /// Writes some bytes. Where it takes none of some, the write has failed.
+    pub fn send(&mut self, buf: &[u8]) -> io::Result<usize>
+        requires { self.old.failed_writes < 2 ^ 64 - 1 }
+        ensures bound { WritesAtMost result buf.now }
+        ensures bytes { WriteAppends (T.Write.contents self.old.stream) (T.Write.contents self.new.stream) result buf.now }
+        ensures apart { Keeps (T.Read.remaining self.old.stream) (T.Read.remaining self.new.stream) }
+        ensures writes { self.new.failed_writes ≡ self.old.failed_writes + (if failed_to_write result (length buf.now) then 1 else 0) }
+        ensures reads { self.new.failed_reads ≡ self.old.failed_reads }
+    {
+        if buf.is_empty() {
+            return Ok(0);
+        }
+        let result = self.stream.send(buf);
+        if !matches!(result, Ok(1..)) {
+            self.failed_writes += 1;
+        }
+        result
+    }
+}

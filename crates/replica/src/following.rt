@@ -1,0 +1,167 @@
+//! A source followed over a stream.
+
+ghost use Rattle.std.specs.Prelude.{◌≡◌, ◌≢◌, ◌<◌, ◌≤◌, ◌+◌, ◌-◌, ◌^◌, ◌++◌, ◌↔◌, ℕ, List, [], Bool, true, length, take, if◌then◌else◌, None};
+ghost use Rattle.std.specs.Io.KnownBytes.{Appends, Consumes, Keeps, IsAtEnd};
+ghost use Rattle.sqlite.specs.State.{HasCleanDisk};
+ghost use Rattle.sqlite_schema.specs.declared.schema.Schema.{Schema};
+ghost use Rattle.store.specs.State.{Content};
+ghost use Rattle.store.specs.Store.{HoldsAs, IsBroken, database, names_of};
+ghost use Rattle.replica.specs.Conn.{IsNoStreamFailure};
+ghost use Rattle.replica.specs.Standing.{end_of};
+ghost use Rattle.replica.specs.Over.{StandsOver};
+ghost use Rattle.replica.specs.Follow.{Follows, HandsOut, gave_up_with, reads_failed, turns_left};
+
+use crate::config::Config;
+use crate::counted::{Counted, Duplex};
+use crate::end::{Ended, Reason};
+use crate::session::Session;
+use sqlite::Alter;
+use std::alloc::Global;
+use store::Store;
+
+/// How many bytes are read at once.
+const PIECE: usize = 65_536;
+
+/// Whether want of memory or the database has ended the connection, so that nothing more is sent.
+fn gave_up(session: &Session) -> bool
+    ensures { result ≡ gave_up_with (end_of session.now).reason }
+{
+    match session.ended() {
+        Some(end) => matches!(end.reason, Reason::Memory | Reason::Database(_)),
+        None => false,
+    }
+}
+
+/// Sends the bytes, and tells whether no write has failed.
+fn send_all<T: Duplex>(stream: &mut Counted<T>, bytes: &[u8]) -> bool
+    requires { stream.old.failed_writes < 2 ^ 64 - 1 }
+    ensures sent { (n : ℕ) × (n ≤ length bytes.now) × Appends (T.Write.contents stream.old.stream) (T.Write.contents stream.new.stream) (take n bytes.now)
+        × (result ≡ true → n ≡ length bytes.now) }
+    ensures apart { Keeps (T.Read.remaining stream.old.stream) (T.Read.remaining stream.new.stream) }
+    ensures writes { stream.new.failed_writes ≡ stream.old.failed_writes + (if result then 0 else 1) }
+    ensures reads { stream.new.failed_reads ≡ stream.old.failed_reads }
+{
+    let mut at = 0;
+    while at < bytes.len() {
+        match stream.send(&bytes[at..]) {
+            Ok(taken @ 1..) => at += taken,
+            _ => return false,
+        }
+    }
+    true
+}
+
+/// Sends what the session has to send, and tells whether no write has failed.
+fn send_owed<T: Duplex>(session: &mut Session, stream: &mut Counted<T>) -> bool
+    requires { stream.old.failed_writes < 2 ^ 64 - 1 }
+    // What was sent, and what could not be sent.
+    ensures sent { (y : List ℕ) × (z : List ℕ) × Appends (T.Write.contents stream.old.stream) (T.Write.contents stream.new.stream) y × (result ≡ true → z ≡ [])
+        × HandsOut session.old session.new (y ++ z) }
+    ensures apart { Keeps (T.Read.remaining stream.old.stream) (T.Read.remaining stream.new.stream) }
+    ensures writes { stream.new.failed_writes ≡ stream.old.failed_writes + (if result then 0 else 1) }
+    ensures reads { stream.new.failed_reads ≡ stream.old.failed_reads }
+{
+    let out = session.take_out();
+    send_all(stream, out.as_slice())
+}
+
+/// What came of a read.
+#[derive(Clone, Copy, Debug, PartialEq, Eq)]
+enum Turn {
+    Read,
+    AtEnd,
+    Failed,
+}
+
+/// Reads some bytes of the stream into the session.
+fn read_some<T: Duplex, S: Alter>(
+    session: &mut Session,
+    stream: &mut Counted<T>,
+    store: &mut Store<S>,
+    buffer: &mut [u8],
+) -> Turn
+    requires room { stream.old.failed_reads < 2 ^ 64 - 1 }
+    requires going { session.old.ended ≡ None }
+    requires some { 0 < length buffer.old }
+    ensures buffer { length buffer.new ≡ length buffer.old }
+    ensures read { result ≡ Turn.Read → (x : List ℕ) × Consumes (T.Read.remaining stream.old.stream) (T.Read.remaining stream.new.stream) x
+        × (HasCleanDisk (database S.Store store.new) → (schema : Schema) (was : Bool) (old : Content) (b o : List ℕ) → StandsOver S.Store session.old store.old schema was old b o → StandsOver S.Store session.new store.new schema was old (b ++ x) o) }
+    ensures apart { Keeps (T.Write.contents stream.old.stream) (T.Write.contents stream.new.stream) }
+    ensures reads { stream.new.failed_reads ≡ stream.old.failed_reads + reads_failed result }
+    ensures writes { stream.new.failed_writes ≡ stream.old.failed_writes }
+    ensures following { names_of S.Store store.new ≡ names_of S.Store store.old }
+    ensures broken { IsBroken S.Store store.old → store.new ≡ store.old }
+    ensures clean { HasCleanDisk (database S.Store store.new) → HasCleanDisk (database S.Store store.old) }
+    ensures config { session.new.config ≡ session.old.config }
+    ensures neither { IsNoStreamFailure (end_of session.old).reason → IsNoStreamFailure (end_of session.new).reason }
+    ensures turns { result ≡ Turn.Read → turns_left session.new < turns_left session.old }
+    ensures still { result ≢ Turn.Read → (session.new ≡ session.old) × (store.new ≡ store.old) × Keeps (T.Read.remaining stream.old.stream) (T.Read.remaining stream.new.stream) }
+    ensures at_end { result ≡ Turn.AtEnd → IsAtEnd (T.Read.remaining stream.new.stream) }
+{
+    match stream.receive(buffer) {
+        Err(_) => Turn::Failed,
+        Ok(0) => Turn::AtEnd,
+        Ok(n) => {
+            let _ = session.feed(store, &buffer[..n]);
+            Turn::Read
+        }
+    }
+}
+
+/// The same end, told for another reason.
+fn retold(session: Session, reason: Reason) -> Ended
+    ensures { result ≡ record { reason = reason; at = (end_of session).at; applied = (end_of session).applied } }
+{
+    let Ended { at, applied, .. } = session.finish();
+    Ended {
+        reason,
+        at,
+        applied,
+    }
+}
+
+/// Follows a source over a stream to the end of the connection. All that is owed is sent before the next read; each read
+/// asks for 64 KiB. Every error of the stream is a failure, and so is a write that takes nothing of some bytes; a read of
+/// no bytes is the end of the input.
+///
+/// After want of memory or a failure of the database nothing more is sent.
+pub fn follow<T: Duplex, S: Alter>(
+    alloc: Global,
+    stream: &mut Counted<T>,
+    store: &mut Store<S>,
+    config: Config,
+) -> Ended
+    requires reads { stream.old.failed_reads < 2 ^ 64 - 1 }
+    requires writes { stream.old.failed_writes < 2 ^ 64 - 1 }
+    // What the store holds afterwards and the end are those of the bytes read, and the bytes sent are owed for them.
+    ensures follows { HasCleanDisk (database S.Store store.new) → (was : Bool) (old : Content) → HoldsAs S.Store was old store.old
+        → Follows S.Store config store.old store.new was old (T.Read.remaining stream.old.stream) (T.Read.remaining stream.new.stream) (T.Write.contents stream.old.stream) (T.Write.contents stream.new.stream) result }
+    // A failure of the stream is told exactly where there was one.
+    ensures read_failed { (result.reason ≡ Reason.ReadFailed) ↔ (stream.old.failed_reads < stream.new.failed_reads) }
+    ensures write_failed { (result.reason ≡ Reason.WriteFailed) ↔ (stream.old.failed_writes < stream.new.failed_writes) }
+    ensures following { names_of S.Store store.new ≡ names_of S.Store store.old }
+    // A store that a failure has broken stays as it is.
+    ensures broken { IsBroken S.Store store.old → store.new ≡ store.old }
+    ensures clean { HasCleanDisk (database S.Store store.new) → HasCleanDisk (database S.Store store.old) }
+{
+    let mut session = Session::new(config);
+    let Ok(mut buffer) = vec![in alloc; 0u8; PIECE] else {
+        return retold(session, Reason::Memory);
+    };
+    'turns: loop {
+        if gave_up(&session) {
+            return session.finish();
+        }
+        if !send_owed(&mut session, stream) {
+            return retold(session, Reason::WriteFailed);
+        }
+        if session.ended().is_some() {
+            return session.finish();
+        }
+        match read_some(&mut session, stream, store, &mut buffer) {
+            Turn::Read => {}
+            Turn::AtEnd => return session.finish(),
+            Turn::Failed => return retold(session, Reason::ReadFailed),
+        }
+    }
+}
