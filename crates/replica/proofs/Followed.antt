@@ -1,5 +1,5 @@
 -- How following a stream ends.
-use Rattle.std.proofs.Common.{◌≡◌, ◌≢◌, ℕ, ◌⊎◌, ◌+◌, ◌<◌, arith, take, drop, unwrap_or, MatchOption, Bool, true, false, List, [], ◌++◌, length, Option, refl, sym, ap, ◌∙◌, inl, inr, subst, IsTrue, append_assoc, append-nil, Some, None, is_some, option_map, Bor}
+use Rattle.std.proofs.Common.{◌≡◌, ◌≢◌, ℕ, ◌+◌, ◌<◌, arith, take, drop, unwrap_or, MatchOption, Bool, true, false, List, [], ◌++◌, length, Option, refl, sym, ap, ◌∙◌, inl, inr, subst, IsTrue, append_assoc, append-nil, Some, None, is_some, option_map, Bor}
 use Rattle.std.specs.Io.KnownBytes.{Appends, Consumes, Keeps, IsAtEnd}
 use Rattle.std.proofs.Math.Seq.{take-append_seam}
 use Rattle.std.proofs.KnownBytes.{Appends-trans, Appends-kept, Consumes-trans, Consumes-kept, Appends-nil, Consumes-nil}
@@ -13,7 +13,6 @@ use Rattle.gather.specs.Transaction.{DeliveryValue}
 use Rattle.store.specs.State.{Content}
 use Rattle.store.specs.declared.store.Store.{Store}
 use Rattle.store.specs.Store.{HoldsAs, database}
-use Rattle.store.specs.declared.fault.StoreFault.TheVariants as fault
 use Rattle.replica.specs.declared.end.Reason.{Reason}
 use Rattle.replica.specs.declared.end.Reason.TheVariants.{EndOfInput, SourceEof, SourceError, Wire, Greet, Event, Gather, Refused, Database, Memory, ReadFailed, WriteFailed}
 use Rattle.replica.specs.declared.end.Ended.{Ended}
@@ -25,7 +24,7 @@ use Rattle.replica.specs.Crash.{IsLeft}
 use Rattle.replica.specs.Sent.{SentFor}
 use Rattle.replica.specs.Standing.{Stands, GoesOn, HasEnded, end_of, room_of}
 use Rattle.replica.specs.Over.{StandsOver, HasRead, LeavesOnly}
-use Rattle.replica.specs.Follow.{IsInFull, IsOfStream, MayOwe, EndsInFull, Follows, IsFollowing, HandsOut, gave_up_with, turns_left, while_going}
+use Rattle.replica.specs.Follow.{IsInFull, IsOfStream, MayOwe, Follows, IsFollowing, HandsOut, gave_up_with, turns_left, while_going}
 use Rattle.replica.proofs.Stood.{sent_of}
 use Rattle.replica.proofs.Runs.{begins, read_all}
 

@@ -7,7 +7,7 @@ use Rattle.store.specs.State.{Content}
 use Rattle.store.specs.declared.store.Store.{Store}
 use Rattle.store.specs.Store.{database, names_of}
 use Rattle.replica.specs.declared.end.Reason.{Reason}
-use Rattle.replica.specs.declared.end.Reason.TheVariants.{EndOfInput, SourceEof, SourceError, Wire, Greet, Event, Gather, Refused, Database, Memory, ReadFailed, WriteFailed}
+use Rattle.replica.specs.declared.end.Reason.TheVariants.{EndOfInput, Refused, Database, Memory, ReadFailed, WriteFailed}
 use Rattle.replica.specs.declared.end.Ended.{Ended}
 use Rattle.replica.specs.declared.session.Session.{Session}
 use Rattle.replica.specs.declared.following.Turn.{Turn}

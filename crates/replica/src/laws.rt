@@ -5,6 +5,7 @@
 ghost use Rattle.std.specs.Prelude.{◌≡◌, ◌↔◌, ◌⊎◌, ℕ, ◌<◌, ◌≤◌, ◌++◌, Bool, List, [], length, None};
 ghost use Rattle.std.specs.List.{AllByRecursion};
 ghost use Rattle.sqlite.specs.Held.{state};
+ghost use Rattle.sqlite_schema.specs.declared.schema.Schema.{Schema};
 ghost use Rattle.binlog.specs.Follow.{Names};
 ghost use Rattle.store.specs.State.{Content};
 ghost use Rattle.store.specs.Store.{HoldsAs, database, names_of};
@@ -18,6 +19,7 @@ ghost use Rattle.replica.specs.Conn.{Conn, Begun, BreaksStore, IsDumpTooLong, Is
 ghost use Rattle.replica.specs.Sent.{SentFor};
 ghost use Rattle.replica.specs.Standing.{Stands, end_of};
 ghost use Rattle.replica.specs.Over.{StandsOver};
+ghost use Rattle.replica.specs.Follow.{HandsOut};
 
 use crate::session::Session;
 use sqlite::Alter;
@@ -27,6 +29,11 @@ use store::Store;
 pub fn begins<S: Alter>(_session: &Session, _store: &Store<S>)
     ensures { (was : Bool) (content : Content) → HoldsAs S.Store was content _store.now → Stands _session.now (names_of S.Store _store.now) was was content content [] []
         → StandsOver S.Store _session.now _store.now (database S.Store _store.now).now.schema was content [] [] }
+{}
+
+/// What a session hands out (`Session::take_out`) is sent over a store too.
+pub fn handed_out<S: Alter>(_before: &Session, _after: &Session, _store: &Store<S>)
+    ensures { (schema : Schema) (was : Bool) (old : Content) (b o out : List ℕ) → HandsOut _before.now _after.now out → StandsOver S.Store _before.now _store.now schema was old b o → StandsOver S.Store _after.now _store.now schema was old b (o ++ out) }
 {}
 
 /// What a session stands at tells how its connection ends if no more comes, what the store holds, and what was sent.

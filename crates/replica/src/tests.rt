@@ -1,12 +1,15 @@
 //! Connections read into a store in memory.
 
+mod follows;
+mod stops;
+mod stream;
 mod streams;
 
 use crate::{Config, ConfigFault, Ended, Reason, Refusal, Session, run};
 use binlog::EventFaultKind;
 use gather::{GatherFault, Image};
 use greet::GreetFault;
-use sqlite::{Connection, MemStore};
+use sqlite::{Alter, Connection, MemStore};
 use std::alloc::Global;
 use std::process::Abort;
 use std::test::Fail;
@@ -137,7 +140,7 @@ fn read(
 }
 
 /// What is executed, without the source, and how often (7, "ab") is in shop.items.
-fn held(alloc: Global, store: &mut Store<MemStore>) -> Result<(String, u64), Fail> {
+fn held<S: Alter>(alloc: Global, store: &mut Store<S>) -> Result<(String, u64), Fail> {
     let mut text = String::new(alloc);
     store.executed().print(&mut text)?;
     let numbers = text
@@ -513,7 +516,7 @@ fn sends_what_is_owed(rt: HostRuntime) -> Result<(), Fail> {
     done
 }
 
-fn stops(rt: &impl Abort, alloc: Global, store: &mut Store<MemStore>) -> Result<(), Fail> {
+fn reads_no_more(rt: &impl Abort, alloc: Global, store: &mut Store<MemStore>) -> Result<(), Fail> {
     let mut session = Session::new(config(alloc, LIMIT)?);
     session.feed(store, &[0, 0, 0, 9])?;
     assert!(rt; session.ended().is_some());
@@ -529,7 +532,7 @@ fn stops(rt: &impl Abort, alloc: Global, store: &mut Store<MemStore>) -> Result<
 #[test]
 fn reads_nothing_behind_its_end(rt: HostRuntime) -> Result<(), Fail> {
     let mut store = store(rt.alloc())?;
-    let done = stops(&rt, rt.alloc(), &mut store);
+    let done = reads_no_more(&rt, rt.alloc(), &mut store);
     let _ = store.close();
     done
 }

@@ -1,14 +1,13 @@
-use Rattle.std.proofs.Common.{◌≡◌, ◌≢◌, ◌++◌, Bool, true, false, ℕ, List, [], Option, None, is_some, unwrap_or, sym, ap, ◌∙◌, subst, refl, rules}
+use Rattle.std.proofs.Common.{◌≡◌, ◌≢◌, ◌++◌, true, Option, None, is_some, unwrap_or, sym, ap, ◌∙◌, subst, refl, rules}
 use Rattle.std.proofs.KnownBytes.{Appends-kept, Keeps-trans}
 use Rattle.replica.specs.declared.end.Ended.{Ended}
 use Rattle.replica.specs.declared.end.Reason.TheVariants.{EndOfInput, Memory, WriteFailed, ReadFailed}
 use Rattle.replica.specs.declared.session.Session.{Session}
 use Rattle.replica.specs.declared.following.Turn.TheVariants as turn
-use Rattle.store.specs.declared.store.Store.{Store}
 use Rattle.store.specs.Store.{database}
 use Rattle.replica.specs.Conn.{IsNoStreamFailure}
 use Rattle.replica.specs.Standing.{end_of}
-use Rattle.replica.specs.Follow.{Follows, IsFollowing}
+use Rattle.replica.specs.Follow.{Follows}
 use Rattle.replica.proofs.Followed.{told_as, follows-memory, follows-gave_up, follows-write_failed, follows-ended, follows-read_failed, following-begins, following-sent, following-read, follows-same, some_behind, none_behind, ended_early, over-out, some_kept}
 use Rattle.replica.proofs.following.follow.Goals as goal
 

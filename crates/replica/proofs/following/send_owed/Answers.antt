@@ -1,4 +1,4 @@
-use Rattle.std.proofs.Common.{◌≡◌, ◌++◌, ◌+◌, ℕ, List, [], take, drop, length, arith, subst, sym, ap, ◌∙◌, true, Option}
+use Rattle.std.proofs.Common.{◌≡◌, ℕ, List, take, drop, arith, subst, sym, ◌∙◌}
 use Rattle.std.proofs.lemmas.List.{take-append-drop, drop_all}
 use Rattle.replica.specs.Follow.{HandsOut}
 use Rattle.replica.proofs.Followed.{same_turns}

@@ -1,0 +1,5 @@
+use Rattle.replica.proofs.Followed.{over-out}
+use Rattle.replica.proofs.laws.handed_out.Goals as goal
+
+pub returns : goal.returns
+returns g c schema was old b o out h s = over-out g.S.Store c.args._before.now c.args._after.now c.args._store.now schema was old b o out h s

@@ -1,0 +1,120 @@
+//! A stream in memory.
+
+ghost use Rattle.std.specs.Prelude.{◌≡◌, Some};
+ghost use Rattle.std.specs.Io.{ReadsAtMost, WritesAtMost};
+ghost use Rattle.std.specs.Io.KnownBytes.{ReadConsumes, WriteAppends};
+
+use crate::counted::Duplex;
+use std::io;
+use std::io::{Read, Write};
+
+/// A stream that tells what is left to read and what was written. It can fail.
+#[derive(Drop)]
+pub(crate) struct Stream<'a> {
+    left: &'a [u8],
+    written: Vec<u8>,
+    /// The most bytes that a read gives, or 0 for a packet at a time.
+    gives: usize,
+    /// The most bytes that a write takes.
+    takes: usize,
+    /// How many bytes can be read before a read fails, and how many be written before a write does.
+    readable: usize,
+    writable: usize,
+}
+
+impl<'a> Stream<'a> {
+    /// A stream with these bytes to read that does not fail. A read gives so many, and a write takes so many.
+    pub(crate) fn new(left: &'a [u8], written: Vec<u8>, gives: usize, takes: usize) -> Stream<'a> {
+        Stream {
+            left,
+            written,
+            gives,
+            takes,
+            readable: usize::MAX,
+            writable: usize::MAX,
+        }
+    }
+
+    /// It fails to read once so many bytes were read.
+    pub(crate) fn fail_to_read_behind(mut self, count: usize) -> Stream<'a> {
+        self.readable = count;
+        self
+    }
+
+    /// It fails to write once so many bytes were written.
+    pub(crate) fn fail_to_write_behind(mut self, count: usize) -> Stream<'a> {
+        self.writable = count;
+        self
+    }
+
+    pub(crate) fn left(&self) -> &[u8] {
+        self.left
+    }
+
+    pub(crate) fn into_written(self) -> Vec<u8> {
+        let Stream { written, .. } = self;
+        written
+    }
+
+    /// The most bytes that the next read gives.
+    fn piece(&self) -> usize {
+        match (self.gives, self.left) {
+            (0, [low, mid, high, ..]) => {
+                4 + (*low as usize) + (*mid as usize) * 256 + (*high as usize) * 65_536
+            }
+            (gives, _) => gives.max(1),
+        }
+    }
+}
+
+impl<'a> Read for Stream<'a> {
+    ghost remaining = { λ s. Some s.left.now };
+
+    fn read(&mut self, buf: &mut [u8]) -> io::Result<usize>
+        ensures bound { ReadsAtMost result buf.new }
+        ensures bytes { ReadConsumes (Some self.old.left.now) (Some self.new.left.now) result buf.new }
+        ensures apart { self.new.written ≡ self.old.written }
+    {
+        if self.readable == 0 {
+            return Err(io::Error::from(io::ErrorKind::ConnectionReset));
+        }
+        let most = self.piece().max(1).min(self.readable);
+        let count = buf.len().min(self.left.len()).min(most);
+        buf[..count].copy_from_slice(&self.left[..count]);
+        self.left = &self.left[count..];
+        self.readable -= count;
+        Ok(count)
+    }
+}
+
+impl<'a> Write for Stream<'a> {
+    ghost contents = { λ s. Some s.written.items };
+
+    fn write(&mut self, buf: &[u8]) -> io::Result<usize>
+        ensures bound { WritesAtMost result buf.now }
+        ensures bytes { WriteAppends (Some self.old.written.items) (Some self.new.written.items) result buf.now }
+        ensures apart { self.new.left ≡ self.old.left }
+    {
+        if self.writable == 0 {
+            return Err(io::Error::from(io::ErrorKind::BrokenPipe));
+        }
+        let count = buf.len().min(self.takes).min(self.writable);
+        self.written.extend_from_slice(&buf[..count])?;
+        self.writable -= count;
+        Ok(count)
+    }
+
+    fn flush(&mut self) -> io::Result<()> {
+        Ok(())
+    }
+}
+
+impl<'a> Duplex for Stream<'a> {
+    fn receive(&mut self, buf: &mut [u8]) -> io::Result<usize> {
+        self.read(buf)
+    }
+
+    fn send(&mut self, buf: &[u8]) -> io::Result<usize> {
+        self.write(buf)
+    }
+}
