@@ -1,12 +1,14 @@
 //! Times `mrep packets`, `mrep events`, `gtid_bench`, `binlog_bench` and `gather_bench` against `packets.rs`, `events.rs`
-//! and `gtid.rs`, plain Rust programs that do the same jobs, and `store_bench` against `store.py`, which gives the same
-//! statements to the C library of SQLite.
+//! and `gtid.rs`, plain Rust programs that do the same jobs, `store_bench` against `store.py`, which gives the same
+//! statements to the C library of SQLite, and `mrep replay` and `mrep follow` against `store_bench` and one another.
 //!
 //!     bench MREP PACKETS GTID_BENCH GTID BINLOG_BENCH GATHER_BENCH EVENTS STORE_BENCH STORE FOLDER
 //!
 //! It makes each input of files in the folder. Both programs of a job run in turn, five times each (a store three), and
 //! have to print the same; the line has their best times, the ratio of these and the greatest resident size of
 //! each. The status is 1 where a goal is missed. Where there is no `python3` the stores are passed over.
+
+mod replay;
 
 use std::fs::{self, File};
 use std::io::{self, BufReader, BufWriter, Read, Write};
@@ -342,5 +344,6 @@ fn main() -> io::Result<ExitCode> {
         met &= compare(operation, &[gtid_bench, operation], &[gtid, operation], folder, GTID_TIMES, usize::MAX)?;
     }
     met &= compare_stores(store_bench, store, folder)?;
+    met &= replay::compare_connections(mrep, store_bench, folder)?;
     Ok(if met { ExitCode::SUCCESS } else { ExitCode::FAILURE })
 }

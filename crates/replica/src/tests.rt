@@ -1,6 +1,7 @@
 //! Connections read into a store in memory.
 
 mod follows;
+mod rows;
 mod stops;
 mod stream;
 mod streams;
@@ -207,6 +208,7 @@ fn takes_a_cut_transaction_later(rt: HostRuntime) -> Result<(), Fail> {
         let front = ONE_TRANSACTION.get(..length).unwrap_or(&[]);
         let streams: [&[u8]; 2] = [front, &ONE_TRANSACTION];
         reads(&rt, rt.alloc(), &streams, false, &[cut, WHOLE], ("1", 2))?;
+        reads(&rt, rt.alloc(), &streams, true, &[cut, WHOLE], ("1", 2))?;
     }
     Ok(())
 }

@@ -35,6 +35,9 @@ fn read_on(
     alloc: Global,
     conn: Connection<FileStore<Fused>>,
 ) -> Result<(Vec<Ended>, Files<Fused>), Fail> {
+    if !conn.is_autocommit() {
+        return Err("in a transaction".into());
+    }
     match Store::open(alloc, conn) {
         Ok(store) => {
             let mut store = store;
@@ -63,18 +66,21 @@ fn stop(alloc: Global, log_calls: u64, db_calls: u64) -> Result<(Vec<Ended>, Fil
     Ok((ends, files))
 }
 
-/// What a replica holds after each transaction of the history.
-const STATES: [(&str, u64); 4] = [("", 0), ("1", 1), ("1:3", 1), ("1-3", 0)];
+/// What a replica holds after so many transactions of the history.
+const STATES: [(u64, (&str, u64)); 4] = [
+    (0, ("", 0)),
+    (1, ("1", 1)),
+    (2, ("1:3", 1)),
+    (3, ("1-3", 0)),
+];
 
 /// How many transactions of the history a store holds.
 fn taken(alloc: Global, store: &mut Store<FileStore<Fused>>) -> Result<u64, Fail> {
     let (set, count) = held(alloc, store)?;
-    let mut at = 0;
-    for state in STATES {
+    for (taken, state) in STATES {
         if (set.as_str(), count) == state {
-            return Ok(at);
+            return Ok(taken);
         }
-        at += 1;
     }
     Err("no state of the history".into())
 }
@@ -120,7 +126,7 @@ fn stop_at(rt: &impl Abort, alloc: Global, calls: (u64, u64)) -> Result<bool, Fa
     };
     let failed = name(&first.reason) == "Database";
     assert!(rt;
-        left == first.applied || (failed && left == first.applied + 1),
+        left == first.applied || (failed && left == first.applied.saturating_add(1)),
         "{calls:?}"
     );
     let want = if failed {
@@ -163,6 +169,9 @@ fn filled(alloc: Global) -> Result<Store<MemStore>, Fail> {
     let mut conn = store.close();
     let _ = taken?;
     conn.execute_batch("UPDATE held SET n = 9223372036854775807")?;
+    if !conn.is_autocommit() {
+        return Err("in a transaction".into());
+    }
     match Store::open(alloc, conn) {
         Ok(store) => Ok(store),
         Err((fault, _)) => Err(fault.into()),

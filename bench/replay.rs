@@ -1,0 +1,224 @@
+//! Times `mrep replay` against `store_bench`, which gives a store the same transactions, with a stream in pieces of one
+//! byte against one in pieces of 64 KiB, and `mrep follow` over loopback against `mrep replay` of the same bytes.
+//!
+//! The databases stand in memory, under /dev/shm, where there is such a folder, so that no time is that of a disk's syncs.
+
+use super::{FORMAT, Run, best, event, gtid, mib, most, remove_store, run};
+use std::fs::{self, File, OpenOptions};
+use std::io::{self, BufReader, BufWriter, Read, Write};
+use std::net::{Shutdown, TcpListener};
+use std::os::unix::fs::OpenOptionsExt;
+use std::path::{Path, PathBuf};
+use std::process::Command;
+use std::thread;
+
+const RUNS: usize = 3;
+
+/// The goals: at most these many times the time of a store that is given the same transactions,
+const REPLAY_TIMES: f64 = 1.1;
+/// of a stream in pieces of 64 KiB where it comes in pieces of one byte,
+const BYTES_TIMES: f64 = 20.0;
+/// and of a replay of the bytes that come over loopback.
+const FOLLOW_TIMES: f64 = 1.1;
+/// A stream of five times the length takes at most so many times the memory.
+const MEMORY_TIMES: f64 = 1.25;
+
+/// A pipe whose reads give what was written at once (`O_DIRECT` of Linux).
+const O_DIRECT: i32 = 0o40000;
+
+/// A greeting, and the OKs to the login and to the query.
+const OPENING: &[u8] = b"\x4a\0\0\0\x0a8.0.36\0\x08\0\0\0\x01\x02\x03\x04\x05\x06\x07\x08\0\x05\xa2\x21\x02\0\x08\0\x15\0\0\0\0\0\0\0\0\0\0\x09\x0a\x0b\x0c\x0d\x0e\x0f\x10\x11\x12\x13\x14\0mysql_native_password\0\x07\0\0\x02\0\0\0\x02\0\0\0\x07\0\0\x01\0\0\0\x02\0\0\0";
+const BEGIN: &[u8] = b"\0\0\0\0\0\0\0\0\0\0\0\0\0\0BEGIN";
+const MAP: &[u8] = b"\x01\0\0\0\0\0\0\0\x04shop\0\x05items\0\x02\x08\x0f\x02\xff\0\x03";
+const TEXT: &[u8] = b"\x10sixteen bytes...";
+
+/// How many rows an event has at most.
+const ROWS: u64 = 300;
+
+/// A connection with transactions of so many inserts each, of the rows of `store_bench add`, and the end of the log.
+fn make(path: &Path, transactions: u64, changes: u64) -> io::Result<()> {
+    let mut out = BufWriter::new(File::create(path)?);
+    out.write_all(OPENING)?;
+    let mut sequence = 1;
+    event(&mut out, &mut sequence, 15, FORMAT)?;
+    let mut row = 0u64;
+    for number in 1..=transactions {
+        gtid(&mut out, &mut sequence, number)?;
+        event(&mut out, &mut sequence, 2, BEGIN)?;
+        event(&mut out, &mut sequence, 19, MAP)?;
+        let end = row + changes;
+        while row < end {
+            let mut body = vec![1, 0, 0, 0, 0, 0, 1, 0, 2, 0, 2, 3];
+            for _ in 0..ROWS.min(end - row) {
+                body.push(0);
+                body.extend_from_slice(&row.to_le_bytes());
+                body.extend_from_slice(TEXT);
+                row += 1;
+            }
+            event(&mut out, &mut sequence, 30, &body)?;
+        }
+        event(&mut out, &mut sequence, 16, &number.to_le_bytes())?;
+    }
+    out.write_all(&[5, 0, 0, sequence, 0xfe, 0, 0, 2, 0])?;
+    out.flush()
+}
+
+/// Where the files stand.
+struct Files<'a> {
+    mrep: &'a str,
+    out: PathBuf,
+    stream: PathBuf,
+    database: String,
+    password: PathBuf,
+    pipe: PathBuf,
+}
+
+impl Files<'_> {
+    /// Runs a program on a database that is not there, and fails where it does.
+    fn run(&self, program: &[&str]) -> io::Result<Run> {
+        remove_store(&self.database)?;
+        let run = run(program, &self.out)?;
+        if run.status != 0 {
+            return Err(io::Error::other(format!("{program:?} fails")));
+        }
+        Ok(run)
+    }
+
+    /// Looks at the line of a connection with so many transactions.
+    fn check(&self, applied: u64) -> io::Result<()> {
+        let end = format!("1 SourceEof at {} applied {applied}\n", fs::metadata(&self.stream)?.len());
+        if fs::read_to_string(&self.out)? == end {
+            return Ok(());
+        }
+        Err(io::Error::other(format!("a line that is not {end}")))
+    }
+
+    fn replay(&self, stream: &Path, applied: u64) -> io::Result<Run> {
+        let stream = stream.to_str().ok_or(io::ErrorKind::InvalidInput)?;
+        let run = self.run(&[self.mrep, "replay", "--db", &self.database, stream])?;
+        self.check(applied)?;
+        Ok(run)
+    }
+
+    /// The same from a pipe whose reads give one byte each.
+    fn replay_bytes(&self, applied: u64) -> io::Result<Run> {
+        let (stream, pipe) = (self.stream.clone(), self.pipe.clone());
+        let writer = thread::spawn(move || -> io::Result<()> {
+            let mut pipe = OpenOptions::new().write(true).custom_flags(O_DIRECT).open(pipe)?;
+            for byte in BufReader::new(File::open(stream)?).bytes() {
+                pipe.write_all(&[byte?])?;
+            }
+            Ok(())
+        });
+        let run = self.replay(&self.pipe, applied)?;
+        writer.join().map_err(|_| io::Error::other("the writer of a pipe panics"))??;
+        Ok(run)
+    }
+
+    /// Follows a program that sends the stream as it is, and reads what comes to its end.
+    fn follow(&self, applied: u64) -> io::Result<Run> {
+        let listener = TcpListener::bind(("127.0.0.1", 0))?;
+        let port = listener.local_addr()?.port().to_string();
+        let stream = self.stream.clone();
+        let source = thread::spawn(move || -> io::Result<()> {
+            let (mut peer, _) = listener.accept()?;
+            io::copy(&mut File::open(stream)?, &mut peer)?;
+            peer.shutdown(Shutdown::Write)?;
+            io::copy(&mut peer, &mut io::sink())?;
+            Ok(())
+        });
+        let password = self.password.to_str().ok_or(io::ErrorKind::InvalidInput)?;
+        let words = [
+            &[self.mrep, "follow", "--host", "127.0.0.1", "--port", &port, "--user", "repl"][..],
+            &["--password-file", password, "--server-id", "7", "--db", &self.database, "--once"],
+        ];
+        let run = self.run(&words.concat())?;
+        self.check(applied)?;
+        source.join().map_err(|_| io::Error::other("the source panics"))??;
+        Ok(run)
+    }
+}
+
+/// Runs two jobs in turn, and tells whether the goal is met by the first.
+fn compare(
+    job: &str,
+    other: &str,
+    goal: f64,
+    runs: usize,
+    ours: impl Fn() -> io::Result<Run>,
+    theirs: impl Fn() -> io::Result<Run>,
+) -> io::Result<(bool, f64, usize)> {
+    let (mut our_runs, mut their_runs) = (Vec::new(), Vec::new());
+    for _ in 0..runs {
+        our_runs.push(ours()?);
+        their_runs.push(theirs()?);
+    }
+    let ratio = best(&our_runs) / best(&their_runs);
+    println!(
+        "{job}: {:.3} s, {other} {:.3} s, ratio {ratio:.2} (goal {goal}); {:.1} MiB, {other} {:.1} MiB",
+        best(&our_runs),
+        best(&their_runs),
+        mib(most(&our_runs)),
+        mib(most(&their_runs)),
+    );
+    Ok((ratio <= goal, best(&our_runs), most(&our_runs)))
+}
+
+/// How many megabytes and transactions a second these are.
+fn print_rate(path: &Path, transactions: u64, seconds: f64) -> io::Result<()> {
+    let megabytes = fs::metadata(path)?.len() as f64 / 1e6;
+    println!("    {:.1} MB/s, {:.0} transactions/s", megabytes / seconds, transactions as f64 / seconds);
+    Ok(())
+}
+
+/// Whether the goals are met by connections that are replayed and followed.
+pub fn compare_connections(mrep: &str, store_bench: &str, folder: &Path) -> io::Result<bool> {
+    let memory = Path::new("/dev/shm");
+    let store = if memory.is_dir() { memory.join("mrep-bench.db") } else { folder.join("replay.db") };
+    let files = Files {
+        mrep,
+        out: folder.join("line"),
+        stream: folder.join("stream"),
+        database: store.to_str().ok_or(io::ErrorKind::InvalidInput)?.to_string(),
+        password: folder.join("password"),
+        pipe: folder.join("pipe"),
+    };
+    fs::write(&files.password, "\n")?;
+    let _ = fs::remove_file(&files.pipe);
+    if !Command::new("mkfifo").arg(&files.pipe).status()?.success() {
+        return Err(io::Error::other("mkfifo fails"));
+    }
+    let mut met = true;
+    let stored = |transactions: &str, changes: &str| files.run(&[store_bench, "add", transactions, changes, &files.database]);
+
+    make(&files.stream, 1, 100_000)?;
+    let job = "a transaction of 100,000 rows replayed";
+    let (ok, seconds, _) =
+        compare(job, "store", REPLAY_TIMES, RUNS, || files.replay(&files.stream, 1), || stored("1", "100000"))?;
+    met &= ok;
+    print_rate(&files.stream, 1, seconds)?;
+    let job = "the same in pieces of one byte";
+    met &= compare(job, "64 KiB", BYTES_TIMES, 1, || files.replay_bytes(1), || files.replay(&files.stream, 1))?.0;
+
+    make(&files.stream, 20_000, 1)?;
+    let fifth = files.replay(&files.stream, 20_000)?.resident;
+    make(&files.stream, 100_000, 1)?;
+    let job = "100,000 transactions of one row replayed";
+    let (ok, seconds, resident) =
+        compare(job, "store", REPLAY_TIMES, RUNS, || files.replay(&files.stream, 100_000), || stored("100000", "1"))?;
+    let flat = resident as f64 <= MEMORY_TIMES * fifth as f64;
+    met &= ok && flat;
+    print_rate(&files.stream, 100_000, seconds)?;
+    println!("    {:.1} MiB for 20,000 of them (goal {MEMORY_TIMES} times)", mib(fifth));
+    let job = "the same followed over loopback";
+    let (ok, seconds, _) =
+        compare(job, "replay", FOLLOW_TIMES, RUNS, || files.follow(100_000), || files.replay(&files.stream, 100_000))?;
+    met &= ok;
+    print_rate(&files.stream, 100_000, seconds)?;
+
+    remove_store(&files.database)?;
+    for path in [&files.out, &files.stream, &files.password, &files.pipe] {
+        fs::remove_file(path)?;
+    }
+    Ok(met)
+}
