@@ -1,13 +1,17 @@
-# make        prove and build mrep, put it at bin/mrep, and run it on a sample
+# make        prove and build mrep, put it at bin/mrep, and run it on a sample: a captured stream is replayed into a new
+#             database, whose rows and executed set are shown
 # make test   the whole gate: a program that must not compile, a file read by sqlite3, every proof from nothing, the
-#             wrong bodies, the tests and the program
+#             wrong bodies, the tests and the program, and then the captured streams, by the program that was built
 # make bench  time mrep, the sets and the transactions against plain Rust programs that do the same jobs, and the store
 #             against the C library of SQLite (needs rustc; the store python3 too)
 
 .PHONY: all build test bench
 
 all: build
-	bin/mrep packets samples/s1.bin
+	rm -f bin/sample.db bin/sample.db-wal
+	bin/mrep replay --db bin/sample.db samples/real-commit.bin
+	bin/mrep show --db bin/sample.db
+	bin/mrep gtids --db bin/sample.db
 
 build:
 	cd crates/mrep && rt run -- --version
@@ -17,7 +21,7 @@ build:
 test:
 	tests/borrows/run
 	tests/sqlite3/run
-	rt ci
+	tests/gate/run
 
 bench: build
 	cd crates/gtid_bench && rt run

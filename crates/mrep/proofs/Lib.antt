@@ -1,1 +1,3 @@
 pub mod Entries
+pub mod Statuses
+pub mod Taking

@@ -6,16 +6,33 @@ use Rattle.std.specs.declared.io.ErrorKind.TheVariants as io_kind
 use Rattle.clap.specs.Words.{kind_of}
 use Rattle.clap.specs.declared.error.ErrorKind.TheVariants as clap_kind
 use Rattle.mrep.specs.declared.failure.Failure.{Failure}
-use Rattle.mrep.specs.declared.failure.Failure.TheVariants.{Words, Set, File, Output, Memory}
+use Rattle.store.specs.declared.fault.StoreFault.{StoreFault}
+use Rattle.store.specs.declared.fault.StoreFault.TheVariants as store
+use Rattle.mrep.specs.declared.failure.Failure.TheVariants.{Words, Set, Gtid, Table, File, Database, Output, Memory}
 
 -- 4 for want of memory, else 3
 abbrev pub IsFileStatus : Error → ℕ → Type 0
 IsFileStatus cause status = (error_kind cause ≡ io_kind.OutOfMemory → status ≡ 4) × (error_kind cause ≢ io_kind.OutOfMemory → status ≡ 3)
 
--- 2 for a mistake in the words or a set's text, 3 for a file or the output, 4 for want of memory
+-- 4 for want of memory, else 3: also of a database that is damaged, of another layout or for other tables
+abbrev pub database_status : StoreFault → ℕ
+database_status store.Memory = 4
+database_status (store.NoSuchRow at) = 3
+database_status (store.CountFull at) = 3
+database_status (store.Database cause) = 3
+database_status store.Damaged = 3
+database_status (store.Layout n) = 3
+database_status store.Broken = 3
+database_status store.Follows = 3
+
+-- 2 for a mistake in the words, as a text that is no set, no GTID or no table; 3 for a file, a database or the output; 4
+-- for want of memory
 abbrev pub IsStatus : Failure → ℕ → Type 0
 IsStatus (Words error) status = (kind_of error ≡ clap_kind.OutOfMemory → status ≡ 4) × (kind_of error ≢ clap_kind.OutOfMemory → status ≡ 2)
 IsStatus (Set word cause) status = status ≡ 2
+IsStatus (Gtid word) status = status ≡ 2
+IsStatus (Table word) status = status ≡ 2
+IsStatus (Database name cause) status = status ≡ database_status cause
 IsStatus (File name cause) status = IsFileStatus cause status
 IsStatus (Output cause) status = IsFileStatus cause status
 IsStatus Memory status = status ≡ 4

@@ -1,2 +1,4 @@
 pub mod Failure
 pub mod Listing
+pub mod Reading
+pub mod Reason

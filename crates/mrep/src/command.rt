@@ -1,63 +1,109 @@
 //! The commands, by the words of a command line.
 
-ghost use Rattle.std.specs.Prelude.{◌≤◌, IfOk};
+ghost use Rattle.std.specs.Prelude.{◌≤◌, IfOk, IfSome};
 
-use crate::failure::{DONE, Failure, MEMORY, REFUSED};
+use crate::failure::{DONE, Failure, MEMORY};
+use crate::grammar::grammar;
 use crate::minus::minus;
+use crate::replay::replay;
+use crate::sets::{gtids, missing};
+use crate::show::show;
+use crate::skip::skip;
 use crate::stream::{Lines, list};
+use clap::ArgMatches;
 use clap::error::ErrorKind;
-use clap::{Arg, ArgAction, Command};
-use std::alloc::{AllocError, Global};
 use std::convert::AsStr;
-use std::io;
 use std::io::Write;
-use std::rt::Files;
 
-/// The word that names a stream.
-fn stream<'a>(alloc: Global) -> Arg<'a> {
-    Arg::new(alloc, "FILE")
-        .required(true)
-        .action(ArgAction::Set)
-        .help("A stream of packets, as a file")
+/// The word that was given by this name. The words with these names are required.
+fn word<'a>(given: &ArgMatches<'a>, name: &str) -> &'a str {
+    given.get_str(name).unwrap_or("")
 }
 
-/// What the words may be.
-fn grammar<'a>(alloc: Global) -> Result<Command<'a>, AllocError> {
-    let packets = Command::new(alloc, "packets")
-        .about("List the payloads of a stream of packets: offset, sequence id, length")
-        .arg(stream(alloc))?;
-    let events = Command::new(alloc, "events")
-        .about("List the events of a stream of packets: offset, sequence id, type, size, kind")
-        .arg(stream(alloc))?;
-    let left = Arg::new(alloc, "X")
-        .required(true)
-        .action(ArgAction::Set)
-        .help("A GTID set");
-    let right = Arg::new(alloc, "Y")
-        .required(true)
-        .action(ArgAction::Set)
-        .help("The GTID set that is taken away");
-    let minus = Command::new(alloc, "minus")
-        .about("Print a GTID set without another")
-        .arg(left)?
-        .arg(right)?;
-    Ok(
-        Command::new(alloc, "mrep")
-            .version("0.1.0")
-            .about("A follower of MySQL")
-            .subcommand_required(true)
-            .subcommand(packets)?
-            .subcommand(events)?
-            .subcommand(minus)?,
+/// Runs a command without a database, where the name is that of one.
+fn run_plain<'a, W: Write>(
+    rt: &HostRuntime,
+    name: &str,
+    given: &ArgMatches<'a>,
+    out: &mut W,
+) -> Result<Option<u8>, Failure<'a>>
+    ensures { IfOk result (λ done. IfSome done (λ status. status ≤ MEMORY)) }
+{
+    let status = match name {
+        "packets" => list(rt, word(given, "FILE"), Lines::Packets, out)?,
+        "events" => list(rt, word(given, "FILE"), Lines::Events, out)?,
+        "minus" => minus(rt, word(given, "X"), word(given, "Y"), out)?,
+        _ => return Ok(None),
+    };
+    Ok(Some(status))
+}
+
+/// Runs a command that reads a database, where the name is that of one.
+fn run_reading<'a, W: Write>(
+    rt: &HostRuntime,
+    name: &str,
+    given: &ArgMatches<'a>,
+    out: &mut W,
+) -> Result<Option<u8>, Failure<'a>>
+    ensures { IfOk result (λ done. IfSome done (λ status. status ≤ MEMORY)) }
+{
+    let file = word(given, "db");
+    let status = match name {
+        "show" => show(rt, file, out)?,
+        "gtids" => gtids(rt, file, out)?,
+        "missing" => missing(rt, file, word(given, "SET"), out)?,
+        "skip" => skip(rt, file, word(given, "G"), out)?,
+        _ => return Ok(None),
+    };
+    Ok(Some(status))
+}
+
+fn run_replay<'a, W: Write, E: Write>(
+    rt: &HostRuntime,
+    given: &ArgMatches<'a>,
+    out: &mut W,
+    err: &mut E,
+) -> Result<u8, Failure<'a>>
+    ensures { IfOk result (λ status. status ≤ MEMORY) }
+{
+    let streams = given.get_strs("STREAM").unwrap_or(&[]);
+    replay(
+        rt,
+        word(given, "db"),
+        given.get_strs("only"),
+        streams,
+        out,
+        err,
     )
 }
 
-fn run<'a, R: Files + AllocGlobal, S: AsStr, O: Write>(
-    rt: &R,
+/// Runs the command of this name, if there is one.
+fn run_named<'a, W: Write, E: Write>(
+    rt: &HostRuntime,
+    name: &str,
+    given: &ArgMatches<'a>,
+    out: &mut W,
+    err: &mut E,
+) -> Result<Option<u8>, Failure<'a>>
+    ensures { IfOk result (λ done. IfSome done (λ status. status ≤ MEMORY)) }
+{
+    if name == "replay" {
+        let status = run_replay(rt, given, out, err)?;
+        return Ok(Some(status));
+    }
+    if let Some(status) = run_plain(rt, name, given, out)? {
+        return Ok(Some(status));
+    }
+    run_reading(rt, name, given, out)
+}
+
+fn run<'a, S: AsStr, O: Write, E: Write>(
+    rt: &HostRuntime,
     words: &'a [S],
     out: &mut O,
+    err: &mut E,
 ) -> Result<u8, Failure<'a>>
-    ensures { IfOk result (λ status. status ≤ REFUSED) }
+    ensures { IfOk result (λ status. status ≤ MEMORY) }
 {
     let mut command = grammar(rt.alloc())?;
     let matches = match command.try_get_matches_from_mut(words) {
@@ -69,42 +115,32 @@ fn run<'a, R: Files + AllocGlobal, S: AsStr, O: Write>(
         }
         Err(error) => return Err(Failure::Words(error)),
     };
-    let status = match matches.subcommand() {
-        Some(("packets", given)) => {
-            list(rt, given.get_str("FILE").unwrap_or(""), Lines::Packets, out)?
-        }
-        Some(("events", given)) => {
-            list(rt, given.get_str("FILE").unwrap_or(""), Lines::Events, out)?
-        }
-        Some(("minus", given)) => minus(
-            rt,
-            given.get_str("X").unwrap_or(""),
-            given.get_str("Y").unwrap_or(""),
-            out,
-        )?,
-        _ => {
-            let error = command.error(ErrorKind::MissingSubcommand, "a command is needed")?;
-            return Err(Failure::Words(error));
-        }
+    let done = match matches.subcommand() {
+        Some((name, given)) => run_named(rt, name, given, out, err)?,
+        None => None,
+    };
+    let Some(status) = done else {
+        let error = command.error(ErrorKind::MissingSubcommand, "a command is needed")?;
+        return Err(Failure::Words(error));
     };
     out.flush()?;
     Ok(status)
 }
 
 /// Runs the command that the words name, the first of which is the program's own name, and answers its
-/// exit status: 0 done, 1 refused by what the data says, 2 a mistake in the words, 3 a file or the
-/// output, 4 want of memory.
+/// exit status: 0 done, 1 refused by the source or by what the data says, 2 a mistake in the words, 3 a file,
+/// the database or the output, 4 want of memory.
 ///
 /// The lines of a command, help and the version go to `out`, which is flushed; all else goes to `err`.
-pub fn command<R: Files + AllocGlobal, S: AsStr, O: Write, E: Write>(
-    rt: &R,
+pub fn command<S: AsStr, O: Write, E: Write>(
+    rt: &HostRuntime,
     words: &[S],
     out: &mut O,
     err: &mut E,
 ) -> u8
     ensures { result ≤ MEMORY }
 {
-    match run(rt, words, out) {
+    match run(rt, words, out, err) {
         Ok(status) => status,
         Err(failure) => {
             if !matches!(failure, Failure::Output(_)) {

@@ -1,5 +1,6 @@
 //! The lines of `mrep events`.
 
+use crate::name::write_table;
 use crate::reason::event_reason;
 use binlog::{Event, EventFault, Header, RowsEvent, RowsKind, TableMap, read_event};
 use std::io;
@@ -67,9 +68,7 @@ fn write_kind<W: Write>(event: &Event<'_>, out: &mut W) -> io::Result<()> {
 
 fn write_map<W: Write>(map: &TableMap<'_>, out: &mut W) -> io::Result<()> {
     write!(out, "TableMap {} ", map.id)?;
-    write_name(map.schema, out)?;
-    write!(out, ".")?;
-    write_name(map.table, out)?;
+    write_table(map.schema, map.table, out)?;
     write!(out, " {}", map.columns.len())
 }
 
@@ -80,17 +79,4 @@ fn write_rows<W: Write>(rows: &RowsEvent<'_>, out: &mut W) -> io::Result<()> {
         RowsKind::Delete => "delete",
     };
     write!(out, "Rows {} {kind}", rows.id)
-}
-
-/// Writes a name: digits, letters, `_` and `$` as they are, every other byte as `%` and two hexadecimal digits.
-fn write_name<W: Write>(name: &[u8], out: &mut W) -> io::Result<()> {
-    for byte in name {
-        match *byte {
-            plain @ (b'0'..=b'9' | b'A'..=b'Z' | b'a'..=b'z' | b'_' | b'$') => {
-                out.write_all(&[plain])?
-            }
-            other => write!(out, "%{other:02x}")?,
-        }
-    }
-    Ok(())
 }

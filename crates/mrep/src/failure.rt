@@ -1,7 +1,7 @@
 //! Why a command stopped, other than by what it found in its data.
 
 ghost use Rattle.std.specs.Prelude.{◌≡◌, ◌≤◌};
-ghost use Rattle.mrep.specs.Failure.{IsFileStatus, IsStatus};
+ghost use Rattle.mrep.specs.Failure.{IsFileStatus, IsStatus, database_status};
 ghost use Rattle.mrep.specs.declared.failure.Failure.TheVariants as variants;
 
 use clap::error::ErrorKind;
@@ -9,6 +9,7 @@ use gtid::GtidFault;
 use std::alloc::{AllocError, AllocFailed};
 use std::io;
 use std::io::Write;
+use store::StoreFault;
 
 /// Done.
 pub const DONE: u8 = 0;
@@ -28,8 +29,14 @@ pub enum Failure<'a> {
     Words(clap::Error),
     /// The word of this name is not the text of a GTID set.
     Set { word: &'a str, cause: GtidFault },
+    /// The word of this name is no GTID.
+    Gtid { word: &'a str },
+    /// This word is no table.
+    Table { word: &'a str },
     /// The file of this name could not be opened or read.
     File { name: &'a str, cause: io::Error },
+    /// The database file of this name could not be opened, or the database failed.
+    Database { name: &'a str, cause: StoreFault },
     /// The output could not be written.
     Output(io::Error),
     /// An allocation was refused.
@@ -47,6 +54,23 @@ fn status_of(cause: &io::Error) -> u8
     }
 }
 
+/// The status of what the store answered in place of an open or of its rows.
+fn database_status(cause: StoreFault) -> u8
+    ensures status { result ≡ database_status cause }
+    ensures range { result ≤ MEMORY }
+{
+    match cause {
+        StoreFault::Memory => MEMORY,
+        StoreFault::NoSuchRow(_)
+        | StoreFault::CountFull(_)
+        | StoreFault::Database(_)
+        | StoreFault::Damaged
+        | StoreFault::Layout(_)
+        | StoreFault::Broken
+        | StoreFault::Follows => FILES,
+    }
+}
+
 impl Failure<'_> {
     /// The exit status.
     pub fn status(&self) -> u8
@@ -55,7 +79,11 @@ impl Failure<'_> {
     {
         match self {
             Failure::Words(error) if error.kind() == ErrorKind::OutOfMemory => MEMORY,
-            Failure::Words(_) | Failure::Set { .. } => USAGE,
+            Failure::Words(_)
+            | Failure::Set { .. }
+            | Failure::Gtid { .. }
+            | Failure::Table { .. } => USAGE,
+            Failure::Database { cause, .. } => database_status(*cause),
             Failure::File { cause, .. } | Failure::Output(cause) => status_of(cause),
             Failure::Memory => MEMORY,
         }
@@ -66,7 +94,16 @@ impl Failure<'_> {
         match self {
             Failure::Words(error) => write!(err, "{error}"),
             Failure::Set { word, cause } => writeln!(err, "mrep: {word}: {cause}"),
+            Failure::Gtid { word } => writeln!(
+                err,
+                "mrep: {word}: no GTID: a hyphenated UUID, `:` and a number from 1 to 2^63 - 2"
+            ),
+            Failure::Table { word } => writeln!(
+                err,
+                "mrep: {word}: no table: SCHEMA.TABLE, where `%` stands before two hexadecimal digits"
+            ),
             Failure::File { name, cause } => writeln!(err, "mrep: {name}: {cause}"),
+            Failure::Database { name, cause } => writeln!(err, "mrep: {name}: {cause}"),
             Failure::Output(cause) => writeln!(err, "mrep: output: {cause}"),
             Failure::Memory => writeln!(err, "mrep: out of memory"),
         }

@@ -4,12 +4,21 @@
 //! those of the process.
 #![tactic(auto)]
 
+mod cells;
 mod command;
+mod database;
 mod events;
 mod failure;
+mod grammar;
 mod listing;
 mod minus;
+mod name;
+mod reading;
 mod reason;
+mod replay;
+mod sets;
+mod show;
+mod skip;
 mod stream;
 #[cfg(test)]
 mod tests;

@@ -41,7 +41,7 @@ fn difference<'a>(alloc: Global, left: &str, right: &str) -> Result<String, Fail
 }
 
 /// The set that the text in a word stands for.
-fn read<'a>(alloc: Global, word: &'a str, text: &str) -> Result<GtidSet, Failure<'a>>
+pub fn read<'a>(alloc: Global, word: &'a str, text: &str) -> Result<GtidSet, Failure<'a>>
     ensures { IfOk result (λ read. (ids : Ids) → IsRead text.now ids → read ≡ ids) }
 {
     match GtidSet::parse(alloc, text) {

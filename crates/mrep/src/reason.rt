@@ -1,6 +1,15 @@
-//! The printed names of what ends a stream.
+//! The printed names of what ends a stream or a connection, and the exit statuses that they mean.
 
+ghost use Rattle.std.specs.Prelude.{◌≡◌, ◌≤◌};
+ghost use Rattle.mrep.specs.Reason.{status_of, first_status};
+
+use crate::failure::{DONE, FILES, MEMORY, REFUSED};
 use binlog::EventFaultKind;
+use gather::GatherFault;
+use greet::GreetFault;
+use replica::{Ended, Reason, Refusal};
+use std::io;
+use std::io::Write;
 use wire::WireFault;
 
 /// The name of a fault of packets.
@@ -32,4 +41,135 @@ pub fn event_reason(fault: EventFaultKind) -> &'static str {
         EventFaultKind::Memory => "Memory",
         EventFaultKind::Anonymous => "Event.Anonymous",
     }
+}
+
+/// The name of a fault of a message.
+fn greet_reason(fault: &GreetFault) -> &'static str {
+    match fault {
+        GreetFault::ServerError { .. } => "Greet.ServerError",
+        GreetFault::Protocol(_) => "Greet.Protocol",
+        GreetFault::Truncated => "Greet.Truncated",
+        GreetFault::Capabilities(_) => "Greet.Capabilities",
+        GreetFault::Plugin => "Greet.Plugin",
+        GreetFault::OldAuth => "Greet.OldAuth",
+        GreetFault::Unexpected(_) => "Greet.Unexpected",
+        GreetFault::Memory => "Memory",
+    }
+}
+
+/// The name of a fault of a list of events, but of the fault of an event in it.
+fn gather_reason(fault: &GatherFault) -> &'static str {
+    match fault {
+        GatherFault::NoFormat => "Gather.NoFormat",
+        GatherFault::Misplaced(_) => "Gather.Misplaced",
+        GatherFault::UnknownTable(_) => "Gather.UnknownTable",
+        GatherFault::Event(_) => "Gather.Event",
+        GatherFault::Memory => "Memory",
+        GatherFault::Ended => "Gather.Ended",
+    }
+}
+
+/// The name of a reason, but of what a number stands in.
+fn plain_reason(reason: &Reason) -> &'static str {
+    match reason {
+        Reason::EndOfInput => "EndOfInput",
+        Reason::SourceEof => "SourceEof",
+        Reason::SourceError { .. } => "SourceError",
+        Reason::Wire(fault) => wire_reason(*fault),
+        Reason::Greet(fault) => greet_reason(fault),
+        Reason::Event(fault) => event_reason(fault.kind),
+        Reason::Gather(fault) => gather_reason(fault),
+        Reason::Refused(Refusal::NoSuchRow(_)) => "Refused.NoSuchRow",
+        Reason::Refused(Refusal::CountFull(_)) => "Refused.CountFull",
+        Reason::Database(_) => "Database",
+        Reason::Memory => "Memory",
+        Reason::ReadFailed => "ReadFailed",
+        Reason::WriteFailed => "WriteFailed",
+    }
+}
+
+/// Writes the name of a reason.
+fn write_reason<W: Write>(reason: &Reason, out: &mut W) -> io::Result<()> {
+    match reason {
+        Reason::SourceError { code, .. } => write!(out, "SourceError.{code}"),
+        Reason::Gather(GatherFault::Event(fault)) => {
+            write!(out, "Gather.{}", event_reason(fault.kind))
+        }
+        other => write!(out, "{}", plain_reason(other)),
+    }
+}
+
+/// Writes the line of a connection's end.
+pub fn write_end<W: Write>(number: usize, end: &Ended, out: &mut W) -> io::Result<()> {
+    write!(out, "{number} ")?;
+    write_reason(&end.reason, out)?;
+    writeln!(out, " at {} applied {}", end.at, end.applied)
+}
+
+/// Writes what a line of an end leaves out of its reason, if anything: the stream or the database file and the cause.
+pub fn write_cause<W: Write>(
+    stream: &str,
+    file: &str,
+    reason: &Reason,
+    out: &mut W,
+) -> io::Result<()> {
+    match reason {
+        Reason::SourceError { message, .. } => write_message(stream, message, out),
+        Reason::Wire(fault) => writeln!(out, "mrep: {stream}: {fault}"),
+        Reason::Greet(fault) => writeln!(out, "mrep: {stream}: {fault}"),
+        Reason::Event(fault) => writeln!(out, "mrep: {stream}: {fault}"),
+        Reason::Gather(fault) => writeln!(out, "mrep: {stream}: {fault}"),
+        Reason::Refused(Refusal::NoSuchRow(at)) => {
+            writeln!(out, "mrep: {stream}: change {at}: the row is not there")
+        }
+        Reason::Refused(Refusal::CountFull(at)) => {
+            writeln!(
+                out,
+                "mrep: {stream}: change {at}: the row is there as often as can be"
+            )
+        }
+        Reason::Database(fault) => writeln!(out, "mrep: {file}: {fault}"),
+        _ => Ok(()),
+    }
+}
+
+/// Writes the message of a source, of which only printable ASCII stands for itself.
+fn write_message<W: Write>(stream: &str, message: &[u8], out: &mut W) -> io::Result<()> {
+    write!(out, "mrep: {stream}: the source says: ")?;
+    for byte in message {
+        write!(out, "{}", byte.escape_ascii())?;
+    }
+    writeln!(out)
+}
+
+/// The exit status of a reason.
+fn status_of(reason: &Reason) -> u8
+    ensures status { result ≡ status_of reason.now }
+    ensures range { result ≤ MEMORY }
+{
+    match reason {
+        Reason::EndOfInput | Reason::SourceEof => DONE,
+        Reason::SourceError { .. }
+        | Reason::Wire(_)
+        | Reason::Greet(_)
+        | Reason::Event(_)
+        | Reason::Gather(_)
+        | Reason::Refused(_) => REFUSED,
+        Reason::Database(_) | Reason::ReadFailed | Reason::WriteFailed => FILES,
+        Reason::Memory => MEMORY,
+    }
+}
+
+/// The exit status of connections in order: that of the first whose own is not 0.
+pub fn first_status(ends: &[Ended]) -> u8
+    ensures status { result ≡ first_status ends.now }
+    ensures range { result ≤ MEMORY }
+{
+    for end in ends {
+        let status = status_of(&end.reason);
+        if status != DONE {
+            return status;
+        }
+    }
+    DONE
 }

@@ -1,5 +1,7 @@
 //! What the commands print and answer, over real files.
 
+mod replays;
+mod script;
 mod streams;
 
 use crate::command::command;
@@ -204,7 +206,7 @@ fn reasons(rt: HostRuntime) {
 /// to the errors, with nothing on the other.
 #[test]
 fn words(rt: HostRuntime) -> Result<(), Fail> {
-    let cases: [(&[&str], u8, &str); 10] = [
+    let cases: [(&[&str], u8, &str); 13] = [
         (&["mrep", "--help"], 0, "A follower of MySQL"),
         (&["mrep", "--version"], 0, "mrep 0.1.0\n"),
         (&["mrep", "packets", "--help"], 0, "List the payloads"),
@@ -215,6 +217,9 @@ fn words(rt: HostRuntime) -> Result<(), Fail> {
         (&["mrep", "events"], 2, "error: "),
         (&["mrep", "events", "--help"], 0, "List the events"),
         (&["mrep", "packets", "a", "b"], 2, "error: "),
+        (&["mrep", "replay", "--help"], 0, "Read streams"),
+        (&["mrep", "follow"], 2, "error: "),
+        (&["mrep", "gtids", "--db"], 2, "error: "),
     ];
     for (words, want, beginning) in cases {
         let (status, out, err) = run(&rt, words)?;

@@ -1,0 +1,26 @@
+-- The exit statuses of connections.
+use Rattle.std.specs.Prelude.{ℕ, ◌==◌, if◌then◌else◌, List, [], ◌∷◌}
+use Rattle.replica.specs.declared.end.Reason.{Reason}
+use Rattle.replica.specs.declared.end.Reason.TheVariants.{EndOfInput, SourceEof, SourceError, Wire, Greet, Event, Gather, Refused, Database, Memory, ReadFailed, WriteFailed}
+use Rattle.replica.specs.declared.end.Ended.{Ended}
+
+-- 0 where the input or the source's log has ended, 1 for a refusal by the source or of its data, 3 for a file, a socket
+-- or the database, 4 for want of memory
+abbrev pub status_of : Reason → ℕ
+status_of EndOfInput = 0
+status_of SourceEof = 0
+status_of (SourceError code state message) = 1
+status_of (Wire fault) = 1
+status_of (Greet fault) = 1
+status_of (Event fault) = 1
+status_of (Gather fault) = 1
+status_of (Refused refusal) = 1
+status_of (Database cause) = 3
+status_of Memory = 4
+status_of ReadFailed = 3
+status_of WriteFailed = 3
+
+-- the first status that is not 0, and 0 where there is none
+unfoldable pub first_status : List Ended → ℕ
+first_status [] = 0
+first_status (end ∷ ends) = if status_of end.reason == 0 then first_status ends else status_of end.reason

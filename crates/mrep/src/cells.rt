@@ -1,0 +1,41 @@
+//! Rows as they are printed.
+
+use binlog::Cell;
+use gather::Image;
+use std::io;
+use std::io::Write;
+
+/// Writes a cell: `null`; a number in decimal digits, `/` and its width; or bytes as `x` and hexadecimal digits.
+fn write_cell<W: Write>(cell: Cell<'_>, out: &mut W) -> io::Result<()> {
+    match cell {
+        Cell::Null => write!(out, "null"),
+        Cell::Number { value, width } => write!(out, "{value}/{width}"),
+        Cell::Bytes(bytes) => write_bytes(bytes, out),
+    }
+}
+
+fn write_bytes<W: Write>(bytes: &[u8], out: &mut W) -> io::Result<()> {
+    write!(out, "x")?;
+    for byte in bytes {
+        write!(out, "{byte:02x}")?;
+    }
+    Ok(())
+}
+
+/// Writes a cell, behind a comma where it is not the first.
+fn write_next<W: Write>(cell: Cell<'_>, first: bool, out: &mut W) -> io::Result<()> {
+    if !first {
+        write!(out, ",")?;
+    }
+    write_cell(cell, out)
+}
+
+/// Writes the cells of a row, with commas between.
+pub fn write_cells<W: Write>(row: &Image, out: &mut W) -> io::Result<()> {
+    let mut first = true;
+    for cell in row.cells() {
+        write_next(cell, first, out)?;
+        first = false;
+    }
+    Ok(())
+}

@@ -1,0 +1,81 @@
+//! Names of schemas and tables, as they are printed and as a word gives them.
+
+use std::alloc::{AllocError, Global};
+use std::io;
+use std::io::Write;
+
+/// What begins a byte that is written by its two digits.
+const MARK: u8 = b'%';
+
+/// Writes a name: digits, letters, `_` and `$` as they are, every other byte as `%` and two hexadecimal digits.
+pub fn write_name<W: Write>(name: &[u8], out: &mut W) -> io::Result<()> {
+    for byte in name {
+        match *byte {
+            plain @ (b'0'..=b'9' | b'A'..=b'Z' | b'a'..=b'z' | b'_' | b'$') => {
+                out.write_all(&[plain])?
+            }
+            other => write!(out, "%{other:02x}")?,
+        }
+    }
+    Ok(())
+}
+
+/// Writes the name of a table behind that of its schema.
+pub fn write_table<W: Write>(schema: &[u8], table: &[u8], out: &mut W) -> io::Result<()> {
+    write_name(schema, out)?;
+    write!(out, ".")?;
+    write_name(table, out)
+}
+
+/// The value of a hexadecimal digit, in either case.
+fn digit(byte: u8) -> Option<u8> {
+    match byte {
+        b'0'..=b'9' => Some(byte - b'0'),
+        b'a'..=b'f' => Some(byte - b'a' + 10),
+        b'A'..=b'F' => Some(byte - b'A' + 10),
+        _ => None,
+    }
+}
+
+/// The byte of two hexadecimal digits.
+fn byte_of(high: u8, low: u8) -> Option<u8> {
+    Some(digit(high)? << 4 | digit(low)?)
+}
+
+/// The bytes of a name that is written as `write_name` does, where any other byte may stand for itself too. None where
+/// two digits do not follow a `%`.
+fn read_name(alloc: Global, text: &[u8]) -> Result<Option<Vec<u8>>, AllocError> {
+    let mut name = Vec::new(alloc);
+    let mut rest = text;
+    for _ in text {
+        match rest {
+            [] => break,
+            [MARK, high, low, behind @ ..] => {
+                let Some(byte) = byte_of(*high, *low) else {
+                    return Ok(None);
+                };
+                name.push(byte)?;
+                rest = behind;
+            }
+            [MARK, ..] => return Ok(None),
+            [byte, behind @ ..] => {
+                name.push(*byte)?;
+                rest = behind;
+            }
+        }
+    }
+    Ok(Some(name))
+}
+
+/// The schema and the table that `SCHEMA.TABLE` names. None where the text has not exactly one `.`, or a `%` that two
+/// digits do not follow.
+pub fn read_table(alloc: Global, text: &str) -> Result<Option<(Vec<u8>, Vec<u8>)>, AllocError> {
+    let mut parts = text.as_bytes().split(|byte| *byte == b'.');
+    let (Some(schema), Some(table), None) = (parts.next(), parts.next(), parts.next()) else {
+        return Ok(None);
+    };
+    let (Some(schema), Some(table)) = (read_name(alloc, schema)?, read_name(alloc, table)?) else {
+        return Ok(None);
+    };
+    Ok(Some((schema, table)))
+}

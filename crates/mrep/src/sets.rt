@@ -1,0 +1,81 @@
+//! `mrep gtids` and `mrep missing`: the executed set of a database, and what it lacks of another set.
+
+ghost use Rattle.std.specs.Prelude.{◌≡◌, [], Bool, string_bytes, IfOk};
+ghost use Rattle.std.specs.FinSet as set;
+ghost use Rattle.gtid.specs.Identifier.{Ids};
+ghost use Rattle.gtid.specs.Text.{AppendsText};
+ghost use Rattle.store.specs.State.{Content};
+ghost use Rattle.store.specs.Store.{HoldsAs};
+
+use crate::database::{close, open};
+use crate::failure::{DONE, Failure};
+use crate::minus::read;
+use gtid::GtidSet;
+use sqlite::Alter;
+use std::alloc::Global;
+use std::io::Write;
+use store::Store;
+
+/// Prints the executed set of a database.
+pub fn gtids<'a, W: Write>(rt: &HostRuntime, file: &'a str, out: &mut W) -> Result<u8, Failure<'a>>
+    ensures { IfOk result (λ status. status ≡ DONE) }
+{
+    let store = open(rt, file, None)?;
+    let text = executed_text(rt.alloc(), &store);
+    let closed = close(file, store);
+    let text = text?;
+    closed?;
+    writeln!(out, "{text}")?;
+    Ok(DONE)
+}
+
+/// Prints what a database lacks of a set, which is given as a text.
+pub fn missing<'a, W: Write>(
+    rt: &HostRuntime,
+    file: &'a str,
+    text: &str,
+    out: &mut W,
+) -> Result<u8, Failure<'a>>
+    ensures { IfOk result (λ status. status ≡ DONE) }
+{
+    let asked = read(rt.alloc(), "SET", text)?;
+    let store = open(rt, file, None)?;
+    let text = missing_text(rt.alloc(), asked, &store);
+    let closed = close(file, store);
+    let text = text?;
+    closed?;
+    writeln!(out, "{text}")?;
+    Ok(DONE)
+}
+
+/// The text of a set.
+fn text_of<'a>(alloc: Global, ids: &GtidSet) -> Result<String, Failure<'a>>
+    ensures { IfOk result (λ text. AppendsText ids.now [] (string_bytes text)) }
+{
+    let mut text = String::new(alloc);
+    match ids.print(&mut text) {
+        Ok(()) => Ok(text),
+        Err(_) => Err(Failure::Memory),
+    }
+}
+
+/// The text of the executed set.
+fn executed_text<'a, S: Alter>(alloc: Global, store: &Store<S>) -> Result<String, Failure<'a>>
+    ensures { IfOk result (λ text. (broken : Bool) (content : Content) → HoldsAs S.Store broken content store.now → AppendsText content.executed [] (string_bytes text)) }
+{
+    text_of(alloc, store.executed())
+}
+
+/// The text of a set without the executed one.
+fn missing_text<'a, S: Alter>(
+    alloc: Global,
+    mut asked: GtidSet,
+    store: &Store<S>,
+) -> Result<String, Failure<'a>>
+    ensures { IfOk result (λ text. (broken : Bool) (content : Content) → HoldsAs S.Store broken content store.now → AppendsText (set.difference asked content.executed) [] (string_bytes text)) }
+{
+    let Ok(()) = asked.subtract(store.executed()) else {
+        return Err(Failure::Memory);
+    };
+    text_of(alloc, &asked)
+}
