@@ -8,7 +8,7 @@ use Rattle.clap.specs.declared.error.ErrorKind.TheVariants as clap_kind
 use Rattle.mrep.specs.declared.failure.Failure.{Failure}
 use Rattle.store.specs.declared.fault.StoreFault.{StoreFault}
 use Rattle.store.specs.declared.fault.StoreFault.TheVariants as store
-use Rattle.mrep.specs.declared.failure.Failure.TheVariants.{Words, Set, Gtid, Table, File, Database, Output, Memory}
+use Rattle.mrep.specs.declared.failure.Failure.TheVariants.{Words, Set, Gtid, Table, Number, User, File, Host, Database, Output, Memory}
 
 -- 4 for want of memory, else 3
 abbrev pub IsFileStatus : Error → ℕ → Type 0
@@ -25,14 +25,17 @@ database_status (store.Layout n) = 3
 database_status store.Broken = 3
 database_status store.Follows = 3
 
--- 2 for a mistake in the words, as a text that is no set, no GTID or no table; 3 for a file, a database or the output; 4
--- for want of memory
+-- 2 for a mistake in the words, as a text that is no set, no GTID, no table, no number or no user's name; 3 for a file, a
+-- host, a database or the output; 4 for want of memory
 abbrev pub IsStatus : Failure → ℕ → Type 0
 IsStatus (Words error) status = (kind_of error ≡ clap_kind.OutOfMemory → status ≡ 4) × (kind_of error ≢ clap_kind.OutOfMemory → status ≡ 2)
 IsStatus (Set word cause) status = status ≡ 2
 IsStatus (Gtid word) status = status ≡ 2
 IsStatus (Table word) status = status ≡ 2
+IsStatus (Number word largest) status = status ≡ 2
+IsStatus (User word cause) status = status ≡ 2
 IsStatus (Database name cause) status = status ≡ database_status cause
 IsStatus (File name cause) status = IsFileStatus cause status
+IsStatus (Host name cause) status = IsFileStatus cause status
 IsStatus (Output cause) status = IsFileStatus cause status
 IsStatus Memory status = status ≡ 4

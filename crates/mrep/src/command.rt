@@ -3,6 +3,7 @@
 ghost use Rattle.std.specs.Prelude.{◌≤◌, IfOk, IfSome};
 
 use crate::failure::{DONE, Failure, MEMORY};
+use crate::follow::{Words, follow_source};
 use crate::grammar::grammar;
 use crate::minus::minus;
 use crate::replay::replay;
@@ -77,6 +78,20 @@ fn run_replay<'a, W: Write, E: Write>(
     )
 }
 
+/// What the words of `mrep follow` say.
+fn source<'a>(given: &ArgMatches<'a>) -> Words<'a> {
+    Words {
+        host: word(given, "host"),
+        port: word(given, "port"),
+        user: word(given, "user"),
+        password_file: word(given, "password-file"),
+        server_id: word(given, "server-id"),
+        db: word(given, "db"),
+        once: given.get_flag("once"),
+        progress: given.get_flag("progress"),
+    }
+}
+
 /// Runs the command of this name, if there is one.
 fn run_named<'a, W: Write, E: Write>(
     rt: &HostRuntime,
@@ -89,6 +104,10 @@ fn run_named<'a, W: Write, E: Write>(
 {
     if name == "replay" {
         let status = run_replay(rt, given, out, err)?;
+        return Ok(Some(status));
+    }
+    if name == "follow" {
+        let status = follow_source(rt, source(given), given.get_strs("only"), out, err)?;
         return Ok(Some(status));
     }
     if let Some(status) = run_plain(rt, name, given, out)? {

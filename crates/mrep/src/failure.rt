@@ -6,6 +6,7 @@ ghost use Rattle.mrep.specs.declared.failure.Failure.TheVariants as variants;
 
 use clap::error::ErrorKind;
 use gtid::GtidFault;
+use replica::ConfigFault;
 use std::alloc::{AllocError, AllocFailed};
 use std::io;
 use std::io::Write;
@@ -33,8 +34,14 @@ pub enum Failure<'a> {
     Gtid { word: &'a str },
     /// This word is no table.
     Table { word: &'a str },
+    /// This word is no number from 1 to the largest.
+    Number { word: &'a str, largest: u32 },
+    /// This word is no user's name.
+    User { word: &'a str, cause: ConfigFault },
     /// The file of this name could not be opened or read.
     File { name: &'a str, cause: io::Error },
+    /// The host of this name was not found or could not be reached.
+    Host { name: &'a str, cause: io::Error },
     /// The database file of this name could not be opened, or the database failed.
     Database { name: &'a str, cause: StoreFault },
     /// The output could not be written.
@@ -82,9 +89,12 @@ impl Failure<'_> {
             Failure::Words(_)
             | Failure::Set { .. }
             | Failure::Gtid { .. }
-            | Failure::Table { .. } => USAGE,
+            | Failure::Table { .. }
+            | Failure::Number { .. }
+            | Failure::User { .. } => USAGE,
             Failure::Database { cause, .. } => database_status(*cause),
-            Failure::File { cause, .. } | Failure::Output(cause) => status_of(cause),
+            Failure::File { cause, .. } | Failure::Host { cause, .. } | Failure::Output(cause) =>
+                status_of(cause),
             Failure::Memory => MEMORY,
         }
     }
@@ -102,7 +112,13 @@ impl Failure<'_> {
                 err,
                 "mrep: {word}: no table: SCHEMA.TABLE, where `%` stands before two hexadecimal digits"
             ),
-            Failure::File { name, cause } => writeln!(err, "mrep: {name}: {cause}"),
+            Failure::Number { word, largest } => {
+                writeln!(err, "mrep: {word}: no number from 1 to {largest}")
+            }
+            Failure::User { word, cause } => writeln!(err, "mrep: {word}: {cause}"),
+            Failure::File { name, cause } | Failure::Host { name, cause } => {
+                writeln!(err, "mrep: {name}: {cause}")
+            }
             Failure::Database { name, cause } => writeln!(err, "mrep: {name}: {cause}"),
             Failure::Output(cause) => writeln!(err, "mrep: output: {cause}"),
             Failure::Memory => writeln!(err, "mrep: out of memory"),

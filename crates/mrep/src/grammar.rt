@@ -42,15 +42,61 @@ fn plain<'a>(alloc: Global, command: Command<'a>) -> Result<Command<'a>, AllocEr
         .subcommand(minus)
 }
 
-/// `mrep replay`.
-fn replay<'a>(alloc: Global) -> Result<Command<'a>, AllocError> {
-    let only = Arg::new(alloc, "only")
+/// The tables whose rows are kept.
+fn only<'a>(alloc: Global) -> Arg<'a> {
+    Arg::new(alloc, "only")
         .long("only")
         .value_name("SCHEMA.TABLE")
         .action(ArgAction::Append)
         .help(
             "A table whose rows are kept; without any, those of the tables that the database was made for",
-        );
+        )
+}
+
+/// An option that has to be there.
+fn option<'a>(alloc: Global, name: &'a str, value: &'a str, help: &'a str) -> Arg<'a> {
+    needed(alloc, name, help).long(name).value_name(value)
+}
+
+/// Where a source is, and who follows it.
+fn who<'a>(alloc: Global, command: Command<'a>) -> Result<Command<'a>, AllocError> {
+    let port = "Its port, from 1 to 65535";
+    let password = "The file with the password, of which one last line feed is left out";
+    let server_id = "The server id of the replica, from 1 to 4294967295";
+    command
+        .arg(option(
+            alloc,
+            "host",
+            "H",
+            "The source's host, by its name or its address",
+        ))?
+        .arg(option(alloc, "port", "P", port))?
+        .arg(option(alloc, "user", "U", "The name of a replication account"))?
+        .arg(option(alloc, "password-file", "W", password))?
+        .arg(option(alloc, "server-id", "I", server_id))
+}
+
+/// A word that may be there.
+fn flag<'a>(alloc: Global, name: &'a str, help: &'a str) -> Arg<'a> {
+    Arg::new(alloc, name)
+        .long(name)
+        .action(ArgAction::SetTrue)
+        .help(help)
+}
+
+/// `mrep follow`.
+fn follow<'a>(alloc: Global) -> Result<Command<'a>, AllocError> {
+    let about = "Follow a source into a database over a socket, and print how the connection ended";
+    let once = "End where the source's log ends, in place of waiting for more";
+    let progress = "Tell on standard error how many bytes have come, at most once a second";
+    who(alloc, over(alloc, "follow", about)?)?
+        .arg(flag(alloc, "once", once))?
+        .arg(flag(alloc, "progress", progress))?
+        .arg(only(alloc))
+}
+
+/// `mrep replay`.
+fn replay<'a>(alloc: Global) -> Result<Command<'a>, AllocError> {
     let streams = Arg::new(alloc, "STREAM")
         .required(true)
         .num_args(1..)
@@ -61,7 +107,7 @@ fn replay<'a>(alloc: Global) -> Result<Command<'a>, AllocError> {
         "replay",
         "Read streams into a database, each as one connection, and print how each ended",
     )?
-    .arg(only)?
+    .arg(only(alloc))?
     .arg(streams)
 }
 
@@ -98,6 +144,8 @@ pub fn grammar<'a>(alloc: Global) -> Result<Command<'a>, AllocError> {
         .version("0.1.0")
         .about("A follower of MySQL")
         .subcommand_required(true);
-    let command = plain(alloc, command)?.subcommand(replay(alloc)?)?;
+    let command = plain(alloc, command)?
+        .subcommand(replay(alloc)?)?
+        .subcommand(follow(alloc)?)?;
     reading(alloc, command)
 }

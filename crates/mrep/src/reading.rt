@@ -6,7 +6,7 @@ ghost use Rattle.std.specs.Io.KnownBytes.{ReadConsumes, IsAtEnd};
 ghost use Rattle.sqlite.specs.State.{HasCleanDisk};
 ghost use Rattle.sqlite.specs.Held.{state};
 ghost use Rattle.store.specs.State.{Content};
-ghost use Rattle.store.specs.Store.{HoldsAs};
+ghost use Rattle.store.specs.Store.{HoldsAs, database};
 ghost use Rattle.replica.specs.declared.end.Reason.TheVariants.{EndOfInput};
 ghost use Rattle.replica.specs.declared.end.Ended.{Ended as End};
 ghost use Rattle.mrep.specs.Reading.{HasReadOf};
@@ -43,12 +43,12 @@ pub fn read_stream<R: Read, S: Alter>(
 ) -> io::Result<Ended>
     requires { 0 < length piece.old }
     // The end and what the store holds are those of exactly the bytes that were read.
-    ensures read { IfOk result (λ end. HasCleanDisk (state S.Store store.new.conn) → (was : Bool) (old : Content) → HoldsAs S.Store was old store.old
+    ensures read { IfOk result (λ end. HasCleanDisk (database S.Store store.new) → (was : Bool) (old : Content) → HoldsAs S.Store was old store.old
         → HasReadOf S.Store config.limit store.old store.new was old first.now (R.remaining reader.old) (R.remaining reader.new) end) }
     // Where the input has ended, nothing is left unread.
-    ensures all { IfOk result (λ end. HasCleanDisk (state S.Store store.new.conn) → (was : Bool) (old : Content) → HoldsAs S.Store was old store.old
+    ensures all { IfOk result (λ end. HasCleanDisk (database S.Store store.new) → (was : Bool) (old : Content) → HoldsAs S.Store was old store.old
         → end.reason ≡ EndOfInput → IsAtEnd (R.remaining reader.new)) }
-    ensures failed { IfErr result (λ _. HasCleanDisk (state S.Store store.new.conn) → (was : Bool) (old : Content) → HoldsAs S.Store was old store.old
+    ensures failed { IfErr result (λ _. HasCleanDisk (database S.Store store.new) → (was : Bool) (old : Content) → HoldsAs S.Store was old store.old
         → (end : End) × HasReadOf S.Store config.limit store.old store.new was old first.now (R.remaining reader.old) (R.remaining reader.new) end) }
 {
     let mut session = Session::new(config);

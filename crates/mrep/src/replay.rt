@@ -1,6 +1,7 @@
 //! `mrep replay`: connections read from files into a database.
 
-ghost use Rattle.std.specs.Prelude.{◌≤◌, IfOk};
+ghost use Rattle.std.specs.Prelude.{◌≡◌, ◌≤◌, IfOk};
+ghost use Rattle.mrep.specs.Reason.{first_status};
 
 use crate::database::{close, open};
 use crate::failure::{DONE, Failure, MEMORY};
@@ -54,9 +55,20 @@ pub fn replay<'a, W: Write, E: Write>(
     let mut store = open(rt, file, only.as_ref())?;
     let read = read_streams(rt.alloc(), file, &mut store, streams, &mut ends, out, err);
     let closed = close(file, store);
-    let status = first_status(&ends);
-    let failed = read.and(closed);
-    match failed {
+    status_of(&ends, read.and(closed), err)
+}
+
+/// The first status of connections that is not 0, or else that of what failed beside them.
+pub fn status_of<'a, E: Write>(
+    ends: &[Ended],
+    done: Result<(), Failure<'a>>,
+    err: &mut E,
+) -> Result<u8, Failure<'a>>
+    ensures first { IfOk result (λ status. status ≡ first_status ends.now) }
+    ensures range { IfOk result (λ status. status ≤ MEMORY) }
+{
+    let status = first_status(ends);
+    match done {
         Err(failure) if status == DONE => Err(failure),
         Err(failure) => {
             let _ = failure.write(err);
@@ -67,7 +79,7 @@ pub fn replay<'a, W: Write, E: Write>(
 }
 
 /// The list of the tables that are named.
-fn tables<'a>(alloc: Global, words: &[&'a str]) -> Result<Follow, Failure<'a>> {
+pub fn tables<'a>(alloc: Global, words: &[&'a str]) -> Result<Follow, Failure<'a>> {
     let mut names = Vec::with_capacity(alloc, words.len())?;
     for word in words {
         let Some(name) = read_table(alloc, word)? else {

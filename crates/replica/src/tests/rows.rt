@@ -49,7 +49,7 @@ fn stream(alloc: Global, dump: &[Sent]) -> Result<Vec<u8>, Fail> {
     let mut stream = Vec::from_slice(alloc, &ONE_TRANSACTION[..100])?;
     for (before, sent) in (1..=255u8).zip(dump) {
         let bytes = payload(*sent);
-        stream.extend_from_slice(&[bytes.len() as u8, 0, 0, before])?;
+        stream.extend_from_slice(&[bytes.len().min(255) as u8, 0, 0, before])?;
         let start = stream.len();
         stream.extend_from_slice(bytes)?;
         if let Sent::Gtid(number) = sent

@@ -1,0 +1,135 @@
+//! `mrep follow`: a source followed over a socket.
+
+ghost use Rattle.std.specs.Prelude.{◌≤◌, IfOk};
+
+use crate::database::{FileOf, close, open};
+use crate::failure::{Failure, MEMORY};
+use crate::progress::Progress;
+use crate::reason::{write_cause, write_end};
+use crate::replay::{status_of, tables};
+use replica::{Config, ConfigFault, Counted, Duplex, Ended, follow};
+use std::fs;
+use std::io::Write;
+use std::net::TcpStream;
+use store::Store;
+use wire::LARGEST_PAYLOAD;
+
+/// What the words say.
+#[derive(Clone, Copy)]
+pub struct Words<'a> {
+    /// A host's name or its address.
+    pub host: &'a str,
+    pub port: &'a str,
+    pub user: &'a str,
+    /// The file that has the password.
+    pub password_file: &'a str,
+    pub server_id: &'a str,
+    /// The database file.
+    pub db: &'a str,
+    /// Whether the source is to tell the log's end in place of waiting there.
+    pub once: bool,
+    /// Whether to tell how much has come.
+    pub progress: bool,
+}
+
+/// Follows a source into a database to the end of the connection, and prints how it ended. With a list of tables the
+/// database keeps the rows of these. The answer is the end's status.
+///
+/// Faults are looked for in the words, the password's file, the user's name, the database and the socket, in this order.
+pub fn follow_source<'a, W: Write, E: Write>(
+    rt: &HostRuntime,
+    words: Words<'a>,
+    only: Option<&[&'a str]>,
+    out: &mut W,
+    err: &mut E,
+) -> Result<u8, Failure<'a>>
+    ensures { IfOk result (λ status. status ≤ MEMORY) }
+{
+    let port = number(words.port, 65_535)? as u16;
+    let server_id = number(words.server_id, u32::MAX)?;
+    let only = match only {
+        Some(names) => Some(tables(rt.alloc(), names)?),
+        None => None,
+    };
+    let config = settings(rt, words, server_id)?;
+    let mut ends = Vec::with_capacity(rt.alloc(), 1)?;
+    let mut store = open(rt, words.db, only.as_ref())?;
+    let followed = follow_into(rt, words, port, config, &mut store, &mut ends, out, err);
+    let closed = close(words.db, store);
+    status_of(&ends, followed.and(closed), err)
+}
+
+/// A number from 1 to the largest, in decimal digits.
+fn number<'a>(word: &'a str, largest: u32) -> Result<u32, Failure<'a>>
+    ensures { IfOk result (λ n. n ≤ largest) }
+{
+    match word.parse::<u32>() {
+        Ok(number) if number >= 1 && number <= largest && !word.starts_with('+') => Ok(number),
+        _ => Err(Failure::Number { word, largest }),
+    }
+}
+
+/// The password: the bytes of its file without one last line feed.
+fn settings<'a>(rt: &HostRuntime, words: Words<'a>, server_id: u32) -> Result<Config, Failure<'a>> {
+    let name = words.password_file;
+    let bytes = fs::read(rt, name).map_err(|cause| Failure::File { name, cause })?;
+    let password = match bytes.as_slice() {
+        [line @ .., b'\n'] => line,
+        all => all,
+    };
+    match Config::new(
+        rt.alloc(),
+        words.user.as_bytes(),
+        password,
+        server_id,
+        words.once,
+        LARGEST_PAYLOAD,
+    ) {
+        Ok(config) => Ok(config),
+        Err(ConfigFault::Memory) => Err(Failure::Memory),
+        Err(cause) => Err(Failure::User {
+            word: words.user,
+            cause,
+        }),
+    }
+}
+
+/// Connects and follows, and writes the line of the end.
+fn follow_into<'a, W: Write, E: Write>(
+    rt: &HostRuntime,
+    words: Words<'a>,
+    port: u16,
+    config: Config,
+    store: &mut Store<FileOf>,
+    ends: &mut Vec<Ended>,
+    out: &mut W,
+    err: &mut E,
+) -> Result<(), Failure<'a>> {
+    let host = words.host;
+    let stream = match TcpStream::connect(rt, (host, port)) {
+        Ok(stream) => stream,
+        Err(cause) => return Err(Failure::Host { name: host, cause }),
+    };
+    let end = if words.progress {
+        let _ = writeln!(err, "mrep: connected to {host} port {port}");
+        follow_over(rt, Progress::new(stream, rt, err), config, store)
+    } else {
+        follow_over(rt, stream, config, store)
+    };
+    let _ = write_cause(host, words.db, &end.reason, err);
+    ends.push(end)?;
+    if let Some(end) = ends.last() {
+        write_end(ends.len(), end, out)?;
+    }
+    Ok(())
+}
+
+fn follow_over<T: Duplex + Drop>(
+    rt: &HostRuntime,
+    stream: T,
+    config: Config,
+    store: &mut Store<FileOf>,
+) -> Ended {
+    let mut counted = Counted::new(stream);
+    follow(rt.alloc(), &mut counted, store, config)
+}
