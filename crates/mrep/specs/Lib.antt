@@ -1,2 +1,5 @@
 pub mod Failure
 pub mod Listing
+pub mod Script
+pub mod Forge
+pub mod Resume

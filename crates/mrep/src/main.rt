@@ -7,6 +7,7 @@
 mod command;
 mod events;
 mod failure;
+mod forge;
 mod listing;
 mod minus;
 mod reason;

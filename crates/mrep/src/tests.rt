@@ -1,5 +1,6 @@
 //! What the commands print and answer, over real files.
 
+mod forge;
 mod streams;
 
 use crate::command::command;
