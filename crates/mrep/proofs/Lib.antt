@@ -1,3 +1,5 @@
 pub mod Entries
 pub mod Statuses
 pub mod Taking
+pub mod Sending
+pub mod Checking

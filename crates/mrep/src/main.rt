@@ -10,6 +10,7 @@ mod database;
 mod events;
 mod failure;
 mod follow;
+mod forge;
 mod grammar;
 mod listing;
 mod minus;

@@ -2,6 +2,7 @@
 
 mod replays;
 mod script;
+mod forge;
 mod streams;
 
 use crate::command::command;

@@ -1,0 +1,91 @@
+-- A replica that asks a scripted source again. MySQL Source Documentation, Client/Server Protocol, "Connection Phase";
+-- Replication Protocol: COM_BINLOG_DUMP_GTID.
+use Rattle.std.specs.Prelude.{◌≡◌, ℕ, ◌+◌, ◌≤◌, Bool, false, List, [], ◌∷◌, ◌++◌, length, map, take, drop, flat_map, if◌then◌else◌}
+use Rattle.std.specs.FinSet as set
+use Rattle.std.specs.List.{AllByRecursion}
+use Rattle.wire.specs.Packet.{IsPacking}
+use Rattle.wire.specs.declared.packet.TheConstants.{LARGEST_PAYLOAD}
+use Rattle.greet.specs.Message.{IsOkPacket, DumpValue}
+use Rattle.greet.specs.Complete.{HasGreeting}
+use Rattle.binlog.specs.Follow.{Names, follows}
+use Rattle.gather.specs.Transaction.{ChangeValue, DeliveryValue, change_of}
+use Rattle.store.specs.State.{Content}
+use Rattle.replica.specs.declared.end.Reason.{Reason}
+use Rattle.replica.specs.declared.end.Reason.TheVariants.{EndOfInput, SourceEof}
+use Rattle.replica.specs.declared.end.Ended.{Ended}
+use Rattle.replica.specs.Conn.{TakesAll, Conn, Begun}
+use Rattle.mrep.specs.Script.{PartValue, ScriptValue}
+use Rattle.mrep.specs.Forge.{Payload, Asks, IsAnswer, is_once, sent_payloads, due}
+
+-- ---- What a history says to a replica that follows these tables.
+
+-- the changes of a part: none, where its table is not followed
+abbrev pub part_changes : Names → PartValue → List ChangeValue
+part_changes names part = if follows names part.table.schema part.table.table then map (change_of part.table) part.pairs else []
+
+abbrev pub transaction : Names → ScriptValue → DeliveryValue
+transaction names script = record { source = script.source; number = script.number; changes = flat_map (part_changes names) script.parts }
+
+abbrev pub transactions : Names → List ScriptValue → List DeliveryValue
+transactions names history = map (transaction names) history
+
+-- nothing is executed, and there is no row
+abbrev pub empty_content : Content
+empty_content = record { executed = set.empty; rows = λ row. 0 }
+
+-- The first so many transactions are each new and can be taken, in their order from the empty content, and lead to this
+-- one.
+abbrev pub Reaches : Names → List ScriptValue → ℕ → Content → Type 0
+Reaches names history count content = TakesAll names empty_content (take count (transactions names history)) count content
+
+-- ---- What comes before the dump.
+
+-- The bytes are a greeting with the needed capabilities, packed from 0, an OK to the login, packed from 2, and an OK to
+-- the query, packed from 1.
+pub record Opens (greeting login query : Payload) (bytes : List ℕ) : Type 0 where
+  pub first : List ℕ
+  pub second : List ℕ
+  pub third : List ℕ
+  pub after_greeting : ℕ
+  pub after_login : ℕ
+  pub after_query : ℕ
+  pub greets : HasGreeting greeting
+  pub lets_in : IsOkPacket login
+  pub confirms : IsOkPacket query
+  pub packs_greeting : IsPacking 0 greeting first after_greeting
+  pub packs_login : IsPacking 2 login second after_login
+  pub packs_query : IsPacking 1 query third after_query
+  pub bytes_are : bytes ≡ first ++ (second ++ third)
+
+-- ---- The law.
+
+-- A source with this history is asked by a replica that holds the content after its first j transactions, all of which
+-- can be taken, and that follows these tables and takes payloads up to this limit: what the source sends before the dump
+-- and in it.
+pub record Resumes (limit : ℕ) (names : Names) (history : List ScriptValue) (j : ℕ) (held last : Content) (request : Payload) (opening answer : List ℕ) : Type 0 where
+  pub within : j ≤ length history
+  pub reached : Reaches names history j held
+  pub all_taken : Reaches names history (length history) last
+  pub dump : DumpValue
+  pub asks : Asks request dump held.executed
+  pub short : length request ≤ LARGEST_PAYLOAD
+  pub greeting : Payload
+  pub login : Payload
+  pub query : Payload
+  pub opens : Opens greeting login query opening
+  pub answers : IsAnswer history request answer
+  pub admits : AllByRecursion (λ p. length p ≤ limit) (greeting ∷ login ∷ query ∷ sent_payloads (is_once dump.flags) (due held.executed history))
+
+-- why the connection ends
+abbrev pub end_of : Bool → Reason
+end_of once = if once then SourceEof else EndOfInput
+
+-- The connection of these bytes leads from one content to the other by these transactions, in this order, and no others,
+-- each of them new; it ends with the bytes, for this reason.
+pub record Leads (limit : ℕ) (names : Names) (held last : Content) (bytes : List ℕ) (ds : List DeliveryValue) (reason : Reason) : Type 0 where
+  pub end : Ended
+  pub conn : Conn limit names false held bytes last end
+  pub delivers : conn.reading.deliveries ≡ ds
+  pub applied : end.applied ≡ length ds
+  pub at : end.at ≡ length bytes
+  pub reason_is : end.reason ≡ reason
