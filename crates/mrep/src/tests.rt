@@ -1,8 +1,9 @@
 //! What the commands print and answer, over real files.
 
+mod follows;
+mod forge;
 mod replays;
 mod script;
-mod forge;
 mod streams;
 
 use crate::command::command;

@@ -10,11 +10,11 @@ use greet::Dump;
 use replica::{Config, Counted, Ended, Reason, follow, run as read};
 use sqlite::{Connection, MemStore};
 use std::alloc::Global;
+use std::fs;
 use std::io::{Read, Write};
 use std::net::{TcpListener, TcpStream};
 use std::process::Abort;
 use std::test::Fail;
-use std::{fs, thread};
 use store::Store;
 
 const SCRAMBLE: [u8; 20] = [
@@ -51,7 +51,10 @@ fn read_one(alloc: Global, store: &mut Store<MemStore>, stream: &[u8]) -> Result
     let mut connections = Vec::new(alloc);
     connections.push(pieces)?;
     let mut ends = read(alloc, &config(alloc, false)?, store, &connections)?;
-    ends.pop().ok_or("no end".into())
+    match ends.pop() {
+        Some(end) => Ok(end),
+        None => Err("no end".into()),
+    }
 }
 
 /// The dump command for what a store has executed.
@@ -77,7 +80,7 @@ fn count(
     let cells = row(alloc, number, text)?;
     let mut borrowed = Vec::new(alloc);
     for cell in &cells {
-        borrowed.push(cell.borrow())?;
+        borrowed.push(cell.as_cell())?;
     }
     let image = Image::new(alloc, &borrowed)?.ok_or("no image")?;
     Ok(store.count(b"shop", b"items", &image)?)
@@ -95,4 +98,301 @@ fn executed(alloc: Global, store: &Store<MemStore>) -> Result<String, Fail> {
     let mut text = String::new(alloc);
     store.executed().print(&mut text)?;
     Ok(String::from_str(alloc, text.strip_prefix(A).unwrap_or(""))?)
+}
+
+/// What a replica holds after so many bytes of the history, and how long the answer is that it gets then.
+#[derive(Clone, Copy)]
+struct Cut {
+    up_to: usize,
+    set: &'static str,
+    counts: [u64; 3],
+    next: usize,
+}
+
+/// The opening, and the answer for the history to a replica that has nothing.
+fn whole(alloc: Global, history: &[Script]) -> Result<Vec<u8>, Fail> {
+    let mut stream = opening(alloc, &SCRAMBLE)?;
+    stream.extend_from_slice(&answer(alloc, history, &DUMP[4..])?)?;
+    Ok(stream)
+}
+
+/// Reads a beginning of the stream, asks again, and reads the answer.
+fn resumes(
+    rt: &impl Abort,
+    alloc: Global,
+    store: &mut Store<MemStore>,
+    history: &[Script],
+    front: &[u8],
+    cut: &Cut,
+    last: [u64; 3],
+) -> Result<(), Fail> {
+    let _ = read_one(alloc, store, front)?;
+    assert_eq!(rt; executed(alloc, store)?.as_str(), cut.set);
+    assert_eq!(rt; counts(alloc, store)?, cut.counts);
+    let next = answer(alloc, history, &ask(alloc, store)?)?;
+    assert_eq!(rt; next.len(), cut.next);
+    let mut stream = opening(alloc, &SCRAMBLE)?;
+    stream.extend_from_slice(&next)?;
+    let end = read_one(alloc, store, &stream)?;
+    assert!(rt; matches!(end.reason, Reason::EndOfInput));
+    assert_eq!(rt; executed(alloc, store)?.as_str(), "1-3");
+    assert_eq!(rt; counts(alloc, store)?, last);
+    Ok(())
+}
+
+/// The same on a new database.
+fn resumes_from_new(
+    rt: &impl Abort,
+    alloc: Global,
+    given: &Given<'_>,
+    front: &[u8],
+    cut: &Cut,
+) -> Result<(), Fail> {
+    let mut store = store(alloc, given.all)?;
+    let done = resumes(rt, alloc, &mut store, given.history, front, cut, given.last);
+    let _ = store.close();
+    done
+}
+
+/// A history, whether the rows of its table are kept, how often each is there in the end, and whether it is cut at every
+/// length or at the ends of each part alone.
+#[derive(Clone, Copy)]
+struct Given<'a> {
+    history: &'a [Script],
+    all: bool,
+    last: [u64; 3],
+    everywhere: bool,
+}
+
+/// Cuts the stream, each time on a new database.
+fn resumes_behind_each_cut(
+    rt: &impl Abort,
+    alloc: Global,
+    given: &Given<'_>,
+    cuts: &[Cut],
+) -> Result<(), Fail> {
+    let stream = whole(alloc, given.history)?;
+    let mut first = 0;
+    for cut in cuts {
+        for read in first..=cut.up_to {
+            if given.everywhere || read == first || read == cut.up_to {
+                let front = stream.get(..read).unwrap_or(&[]);
+                resumes_from_new(rt, alloc, given, front, cut)?;
+            }
+        }
+        first = cut.up_to.saturating_add(1);
+    }
+    assert_eq!(rt; first, stream.len().saturating_add(1));
+    Ok(())
+}
+
+/// The cuts of the history, where each transaction ends so many bytes later than with an XID, and its rows are kept or
+/// not.
+fn cuts(more: usize, kept: u64) -> [Cut; 4] {
+    let next = |left: usize, bytes: usize| bytes.saturating_add(more.saturating_mul(left).min(100));
+    [
+        Cut {
+            up_to: next(1, 440),
+            set: "",
+            counts: [0, 0, 0],
+            next: next(3, 790),
+        },
+        Cut {
+            up_to: next(2, 660),
+            set: "1",
+            counts: [kept, 0, 0],
+            next: next(2, 570),
+        },
+        Cut {
+            up_to: next(3, 889),
+            set: "1:3",
+            counts: [kept, kept, 0],
+            next: next(1, 350),
+        },
+        Cut {
+            up_to: next(3, 890),
+            set: "1-3",
+            counts: [0, kept, kept],
+            next: 121,
+        },
+    ]
+}
+
+#[test]
+fn resumes_a_history(rt: HostRuntime) -> Result<(), Fail> {
+    let given = Given {
+        history: &three(rt.alloc())?,
+        all: true,
+        last: [0, 1, 1],
+        everywhere: true,
+    };
+    resumes_behind_each_cut(&rt, rt.alloc(), &given, &cuts(0, 1))
+}
+
+#[test]
+fn resumes_a_history_of_commits(rt: HostRuntime) -> Result<(), Fail> {
+    let mut history = three(rt.alloc())?;
+    for script in &mut history {
+        script.ending = Ending::Commit;
+    }
+    let given = Given {
+        history: &history,
+        all: true,
+        last: [0, 1, 1],
+        everywhere: false,
+    };
+    resumes_behind_each_cut(&rt, rt.alloc(), &given, &cuts(12, 1))
+}
+
+#[test]
+fn resumes_without_a_table(rt: HostRuntime) -> Result<(), Fail> {
+    let given = Given {
+        history: &three(rt.alloc())?,
+        all: false,
+        last: [0, 0, 0],
+        everywhere: false,
+    };
+    resumes_behind_each_cut(&rt, rt.alloc(), &given, &cuts(0, 0))
+}
+
+/// A source at an end of a connection, and a replica at the other.
+fn follows(
+    rt: &HostRuntime,
+    store: &mut Store<MemStore>,
+    sends: &[u8],
+) -> Result<(Ended, Vec<u8>), Fail> {
+    let listener = TcpListener::bind(rt, ("127.0.0.1", 0u16))?;
+    let stream = TcpStream::connect(rt, listener.local_addr()?)?;
+    let (mut source, _) = listener.accept()?;
+    source.write_all(sends)?;
+    let mut stream = Counted::new(stream);
+    let end = follow(rt.alloc(), &mut stream, store, config(rt.alloc(), false)?);
+    drop(stream);
+    let mut sent = Vec::new(rt.alloc());
+    source.read_to_end(&mut sent)?;
+    Ok((end, sent))
+}
+
+/// Follows a source that ends its log, twice.
+fn follows_twice(
+    rt: &HostRuntime,
+    abort: &impl Abort,
+    store: &mut Store<MemStore>,
+) -> Result<(), Fail> {
+    let eof = [5, 0, 0, 7, 0xfe, 0, 0, 2, 0];
+    let mut stream = Vec::from_slice(rt.alloc(), &ONE_TRANSACTION)?;
+    stream.extend_from_slice(&eof)?;
+    for (set, applied) in [("", 1), ("1", 0)] {
+        let (end, sent) = follows(rt, store, &stream)?;
+        assert!(abort; matches!(end.reason, Reason::SourceEof));
+        assert_eq!(abort; (end.at, end.applied), (458, applied));
+        let mut asked = String::new(rt.alloc());
+        check(rt.alloc(), &sent)?.print(&mut asked)?;
+        assert_eq!(abort; asked.strip_prefix(A).unwrap_or(""), set);
+        if applied == 1 {
+            assert_eq!(abort; sent.len(), 138);
+            assert_eq!(abort; sent.get(103..), Some(&DUMP[..]));
+        }
+    }
+    assert_eq!(abort; counts(rt.alloc(), store)?, [2, 0, 0]);
+    Ok(())
+}
+
+#[test]
+fn follows_over_loopback(rt: HostRuntime) -> Result<(), Fail> {
+    let mut store = store(rt.alloc(), true)?;
+    let done = follows_twice(&rt, &rt, &mut store);
+    let _ = store.close();
+    done
+}
+
+/// What `mrep follow` answers.
+fn follow_words(
+    rt: &HostRuntime,
+    host: &str,
+    port: &str,
+    more: &[&str],
+) -> Result<(u8, String, String), Fail> {
+    let mut words = Vec::new(rt.alloc());
+    words.extend_from_slice(&["mrep", "follow", "--host", host, "--port", port, "--once"])?;
+    words.extend_from_slice(more)?;
+    run(rt, &words)
+}
+
+const WHO: [&str; 8] = [
+    "--user",
+    "repl",
+    "--password-file",
+    "password",
+    "--server-id",
+    "7",
+    "--db",
+    "follow.db",
+];
+
+#[test]
+fn follow_tells_where_nobody_listens(rt: HostRuntime) -> Result<(), Fail> {
+    fs::write(&rt, "password", b"secret\n")?;
+    let port = TcpListener::bind(&rt, ("127.0.0.1", 0u16))?
+        .local_addr()?
+        .port();
+    let port = format!(in rt.alloc(); "{port}")?;
+    let (status, out, err) = follow_words(&rt, "127.0.0.1", &port, &WHO)?;
+    assert_eq!(rt; (status, out.as_str()), (3, ""));
+    assert!(rt; err.as_str().starts_with("mrep: 127.0.0.1: "));
+    assert!(rt; !err.as_str().contains("secret"));
+    Ok(())
+}
+
+/// Faults of the words come first, then the password's file, the user's name and the database.
+#[test]
+fn follow_looks_for_faults_in_order(rt: HostRuntime) -> Result<(), Fail> {
+    fs::write(&rt, "password", b"secret\n")?;
+    let mut long = String::new(rt.alloc());
+    for _ in 0..256 {
+        long.push('a')?;
+    }
+    let long = long.as_str();
+    let cases: [(&str, &str, &str, &str, &str, u8, &str); 8] = [
+        ("0", long, "none", "7", "no/f.db", 2, "mrep: 0: "),
+        ("65536", long, "none", "7", "no/f.db", 2, "mrep: 65536: "),
+        ("+5", long, "none", "7", "no/f.db", 2, "mrep: +5: "),
+        ("1", long, "none", "0", "no/f.db", 2, "mrep: 0: "),
+        (
+            "1",
+            long,
+            "none",
+            "4294967296",
+            "no/f.db",
+            2,
+            "mrep: 4294967296: ",
+        ),
+        ("1", long, "none", "7", "no/f.db", 3, "mrep: none: "),
+        ("1", long, "password", "7", "no/f.db", 2, "mrep: aaa"),
+        (
+            "1",
+            "repl",
+            "password",
+            "4294967295",
+            "no/f.db",
+            3,
+            "mrep: no/f.db: ",
+        ),
+    ];
+    for (port, user, password, id, db, want, text) in cases {
+        let more = [
+            "--user",
+            user,
+            "--password-file",
+            password,
+            "--server-id",
+            id,
+            "--db",
+            db,
+        ];
+        let (status, out, err) = follow_words(&rt, "127.0.0.1", port, &more)?;
+        assert_eq!(rt; (status, out.as_str()), (want, ""), "{port} {id}");
+        assert!(rt; err.as_str().starts_with(text), "{err}");
+    }
+    Ok(())
 }
