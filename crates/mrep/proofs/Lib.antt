@@ -1,3 +1,7 @@
 pub mod Entries
 pub mod Sending
 pub mod Checking
+pub mod Scripted
+pub mod Talking
+pub mod Taking
+pub mod Resuming
