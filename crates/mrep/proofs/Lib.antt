@@ -3,3 +3,7 @@ pub mod Statuses
 pub mod Taking
 pub mod Sending
 pub mod Checking
+pub mod Scripted
+pub mod Talking
+pub mod Transactions
+pub mod Resuming

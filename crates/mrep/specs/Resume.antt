@@ -1,6 +1,6 @@
 -- A replica that asks a scripted source again. MySQL Source Documentation, Client/Server Protocol, "Connection Phase";
 -- Replication Protocol: COM_BINLOG_DUMP_GTID.
-use Rattle.std.specs.Prelude.{◌≡◌, ℕ, ◌+◌, ◌≤◌, Bool, false, List, [], ◌∷◌, ◌++◌, length, map, take, drop, flat_map, if◌then◌else◌}
+use Rattle.std.specs.Prelude.{◌≡◌, ℕ, ◌≤◌, Bool, false, List, [], ◌∷◌, ◌++◌, length, map, take, flat_map, if◌then◌else◌}
 use Rattle.std.specs.FinSet as set
 use Rattle.std.specs.List.{AllByRecursion}
 use Rattle.wire.specs.Packet.{IsPacking}
@@ -13,7 +13,7 @@ use Rattle.store.specs.State.{Content}
 use Rattle.replica.specs.declared.end.Reason.{Reason}
 use Rattle.replica.specs.declared.end.Reason.TheVariants.{EndOfInput, SourceEof}
 use Rattle.replica.specs.declared.end.Ended.{Ended}
-use Rattle.replica.specs.Conn.{TakesAll, Conn, Begun}
+use Rattle.replica.specs.Conn.{TakesAll, Conn}
 use Rattle.mrep.specs.Script.{PartValue, ScriptValue}
 use Rattle.mrep.specs.Forge.{Payload, Asks, IsAnswer, is_once, sent_payloads, due}
 
@@ -36,7 +36,7 @@ empty_content = record { executed = set.empty; rows = λ row. 0 }
 -- The first so many transactions are each new and can be taken, in their order from the empty content, and lead to this
 -- one.
 abbrev pub Reaches : Names → List ScriptValue → ℕ → Content → Type 0
-Reaches names history count content = TakesAll names empty_content (take count (transactions names history)) count content
+Reaches names history count content = TakesAll names empty_content (transactions names (take count history)) count content
 
 -- ---- What comes before the dump.
 
@@ -63,7 +63,6 @@ pub record Opens (greeting login query : Payload) (bytes : List ℕ) : Type 0 wh
 -- can be taken, and that follows these tables and takes payloads up to this limit: what the source sends before the dump
 -- and in it.
 pub record Resumes (limit : ℕ) (names : Names) (history : List ScriptValue) (j : ℕ) (held last : Content) (request : Payload) (opening answer : List ℕ) : Type 0 where
-  pub within : j ≤ length history
   pub reached : Reaches names history j held
   pub all_taken : Reaches names history (length history) last
   pub dump : DumpValue

@@ -10,7 +10,7 @@
 mod answering;
 mod checking;
 mod fault;
-//pub mod laws;
+pub mod laws;
 mod opening;
 mod script;
 mod sending;
