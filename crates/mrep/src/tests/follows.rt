@@ -220,8 +220,9 @@ fn cuts(more: usize, kept: u64) -> [Cut; 4] {
 
 #[test]
 fn resumes_a_history(rt: HostRuntime) -> Result<(), Fail> {
+    let history = three(rt.alloc())?;
     let given = Given {
-        history: &three(rt.alloc())?,
+        history: &history,
         all: true,
         last: [0, 1, 1],
         everywhere: true,
@@ -246,8 +247,9 @@ fn resumes_a_history_of_commits(rt: HostRuntime) -> Result<(), Fail> {
 
 #[test]
 fn resumes_without_a_table(rt: HostRuntime) -> Result<(), Fail> {
+    let history = three(rt.alloc())?;
     let given = Given {
-        history: &three(rt.alloc())?,
+        history: &history,
         all: false,
         last: [0, 0, 0],
         everywhere: false,
