@@ -254,6 +254,24 @@ fn takes_only(
     holds(rt, "only.db", set, count)
 }
 
+/// A transaction that was refused is taken where it comes again in its place.
+#[test]
+fn refused_then_taken(rt: HostRuntime) -> Result<(), Fail> {
+    fresh(&rt, "again.db")?;
+    let early = script(rt.alloc(), "f2bmdx1bmwx")?;
+    let ordered = script(rt.alloc(), "f1bmwx2bmdx")?;
+    fs::write(&rt, "early", early.as_slice())?;
+    fs::write(&rt, "ordered", ordered.as_slice())?;
+    let words = ["mrep", "replay", "--db", "again.db", "early", "ordered"];
+    let lines = "1 Refused.NoSuchRow at 409 applied 0\n2 EndOfInput at 661 applied 2\n";
+    says(&rt, &words, 1, lines)?;
+    holds(&rt, "again.db", ":1-2", 0)?;
+    fresh(&rt, "again.db")?;
+    fs::remove_file(&rt, "early")?;
+    fs::remove_file(&rt, "ordered")?;
+    Ok(())
+}
+
 /// Tables that are followed, and others.
 #[test]
 fn only_tables(rt: HostRuntime) -> Result<(), Fail> {
@@ -403,6 +421,6 @@ fn statuses(rt: HostRuntime) -> Result<(), Fail> {
     says(&rt, &["mrep", "show", "--db", "no-such-folder/db"], 3, "")?;
     fresh(&rt, "statuses.db")?;
     fs::remove_file(&rt, "good")?;
-    fs::remove_file(&rt, "bad")?;
+    fresh(&rt, "bad")?;
     Ok(())
 }
