@@ -5,3 +5,4 @@ pub mod Scripted
 pub mod Talking
 pub mod Taking
 pub mod Resuming
+pub mod PassedOver
