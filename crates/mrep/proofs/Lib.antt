@@ -7,3 +7,4 @@ pub mod Scripted
 pub mod Talking
 pub mod Transactions
 pub mod Resuming
+pub mod PassedOver

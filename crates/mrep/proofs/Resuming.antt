@@ -124,6 +124,9 @@ ends_so limit names awaited es ds true front back all mid last old new in_dump i
 ends_so limit names awaited es ds false front back all mid last old new in_dump is small a short =
     (ap length is ∙ length-append front back ∙ (let none : length back ≡ 0 = ap length a.0 in omega (arith, none)), subst (λ l. IsUnfinished mid limit l) (sym a.0) (nothing_yet mid limit))
 
+begun_by : (all first others mine : List DeliveryValue) → all ≡ first ++ others → first ≡ mine → all ≡ mine ++ others
+begun_by all first others mine is same = is ∙ ap (λ l. l ++ others) same
+
 module _ (one_dump : (a b : DumpValue) (payload : List ℕ) → IsDump a payload → IsDump b payload → a ≡ b) (limit : ℕ) (names : Names) (history : List ScriptValue) (j : ℕ) (held last : Content) (request opening answer : List ℕ)
     (r : Resumes limit names history j held last request opening answer) where
   left : Left names history j held last
@@ -224,7 +227,7 @@ module _ (one_dump : (a b : DumpValue) (payload : List ℕ) → IsDump a payload
         let front : AllByRecursion (λ b. b < 256) c.front = all_front (λ b. b < 256) c.front c.back (subst (λ l. AllByRecursion (λ b. b < 256) l) c.bytes_are plain) in
         let read : AllByRecursion IsRead q.events = all_front IsRead q.events g.others (subst (λ l. AllByRecursion IsRead l) g.events_are (are_read names 1 (events_of (drop j history)) c.front c.mid writable front c.first)) in
         let same : f.first ≡ q.deliveries = one_list_of_deliveries q.events f.first q.deliveries read f.are q.talk.delivers in
-        let parts : transactions names (drop j history) ≡ q.deliveries ++ f.others = f.ds_are ∙ ap (λ l. l ++ f.others) same in
+        let parts : transactions names (drop j history) ≡ q.deliveries ++ f.others = begun_by (transactions names (drop j history)) f.first f.others q.deliveries f.ds_are same in
         subst (λ k. Reaches names history (j + k) new) b.counted (reaches_on names history j held last q.deliveries f.others applied new r.reached left parts b.took.takes)
 
 pub all_bytes : (xs : List ℕ) → ((i : ℕ) → get_or xs i 0 < 256) → AllByRecursion (λ b. b < 256) xs

@@ -1,12 +1,15 @@
 //! What a replica is led to that asks a scripted source, as laws about the definitions.
 
-ghost use Rattle.std.specs.Prelude.{◌≡◌, ℕ, ◌+◌, ◌++◌, List, drop, length};
+ghost use Rattle.std.specs.Prelude.{◌≡◌, ◌↔◌, ℕ, ◌+◌, ◌++◌, List, drop, map};
+ghost use Rattle.std.specs.FinSet as set;
 ghost use Rattle.binlog.specs.Follow.{Names};
+ghost use Rattle.gather.specs.Transaction.{change_of};
 ghost use Rattle.store.specs.State.{Content};
+ghost use Rattle.store.specs.Take.{Takes, done};
 ghost use Rattle.replica.specs.Conn.{Begun};
-ghost use Rattle.mrep.specs.Script.{ScriptValue};
+ghost use Rattle.mrep.specs.Script.{PartValue, ScriptValue};
 ghost use Rattle.mrep.specs.Forge.{is_once, greeting_payload, ok_payload, IsOpening};
-ghost use Rattle.mrep.specs.Resume.{Opens, Resumes, Leads, Reaches, transactions, end_of};
+ghost use Rattle.mrep.specs.Resume.{Opens, Resumes, Leads, Reaches, part_changes, transaction, transactions, end_of};
 
 /// What [`crate::forge::opening`] gives opens a connection.
 pub fn opens(_scramble: &[u8; 20])
@@ -27,3 +30,11 @@ pub fn resuming(_opening: &[u8], _answer: &[u8])
 {
     greet::laws::dumps();
 }
+
+/// The transactions of a history that a connection is said to have are without the changes of tables that are not
+/// followed: with no list they have all, and a replica takes one without them exactly where it takes it whole.
+pub fn passes_over()
+    ensures all { (part : PartValue) → part_changes set.empty part ≡ map (change_of part.table) part.pairs }
+    ensures taken { (names : Names) (script : ScriptValue) (old new : Content) →
+        Takes names old (transaction set.empty script) (done new) ↔ Takes names old (transaction names script) (done new) }
+{}
