@@ -67,6 +67,9 @@ fn ask(alloc: Global, store: &Store<MemStore>) -> Result<Vec<u8>, Fail> {
         server_id: 7,
         set: &set,
     };
+    if !dump.fits() {
+        return Err("too long a command".into());
+    }
     dump.write(&mut payload)?;
     Ok(payload)
 }
