@@ -96,11 +96,11 @@ fn counts(alloc: Global, store: &mut Store<MemStore>) -> Result<[u64; 3], Fail> 
     Ok([first, second, count(alloc, store, 9, b"ef")?])
 }
 
-/// The numbers of the executed set.
-fn executed(alloc: Global, store: &Store<MemStore>) -> Result<String, Fail> {
+/// Whether these numbers are executed, and no others.
+fn has_executed(alloc: Global, store: &Store<MemStore>, numbers: &str) -> Result<bool, Fail> {
     let mut text = String::new(alloc);
     store.executed().print(&mut text)?;
-    Ok(String::from_str(alloc, text.strip_prefix(A).unwrap_or(""))?)
+    Ok(text.strip_prefix(A).unwrap_or("") == numbers)
 }
 
 /// What a replica holds after so many bytes of the history, and how long the answer is that it gets then.
@@ -126,11 +126,11 @@ fn resumes(
     store: &mut Store<MemStore>,
     history: &[Script],
     front: &[u8],
-    cut: &Cut,
+    cut: Cut,
     last: [u64; 3],
 ) -> Result<(), Fail> {
     let _ = read_one(alloc, store, front)?;
-    assert_eq!(rt; executed(alloc, store)?.as_str(), cut.set);
+    assert!(rt; has_executed(alloc, store, cut.set)?);
     assert_eq!(rt; counts(alloc, store)?, cut.counts);
     let next = answer(alloc, history, &ask(alloc, store)?)?;
     assert_eq!(rt; next.len(), cut.next);
@@ -138,7 +138,7 @@ fn resumes(
     stream.extend_from_slice(&next)?;
     let end = read_one(alloc, store, &stream)?;
     assert!(rt; matches!(end.reason, Reason::EndOfInput));
-    assert_eq!(rt; executed(alloc, store)?.as_str(), "1-3");
+    assert!(rt; has_executed(alloc, store, "1-3")?);
     assert_eq!(rt; counts(alloc, store)?, last);
     Ok(())
 }
@@ -149,7 +149,7 @@ fn resumes_from_new(
     alloc: Global,
     given: &Given<'_>,
     front: &[u8],
-    cut: &Cut,
+    cut: Cut,
 ) -> Result<(), Fail> {
     let mut store = store(alloc, given.all)?;
     let done = resumes(rt, alloc, &mut store, given.history, front, cut, given.last);
@@ -180,7 +180,7 @@ fn resumes_behind_each_cut(
         for read in first..=cut.up_to {
             if given.everywhere || read == first || read == cut.up_to {
                 let front = stream.get(..read).unwrap_or(&[]);
-                resumes_from_new(rt, alloc, given, front, cut)?;
+                resumes_from_new(rt, alloc, given, front, *cut)?;
             }
         }
         first = cut.up_to.saturating_add(1);
@@ -349,31 +349,32 @@ fn follow_tells_where_nobody_listens(rt: HostRuntime) -> Result<(), Fail> {
     Ok(())
 }
 
+/// A name of 256 bytes.
+const LONG: &str = "aaaaaaaaaaaaaaaaaaaaaaaaaaaaaaaaaaaaaaaaaaaaaaaaaaaaaaaaaaaaaaaa\
+    aaaaaaaaaaaaaaaaaaaaaaaaaaaaaaaaaaaaaaaaaaaaaaaaaaaaaaaaaaaaaaaa\
+    aaaaaaaaaaaaaaaaaaaaaaaaaaaaaaaaaaaaaaaaaaaaaaaaaaaaaaaaaaaaaaaa\
+    aaaaaaaaaaaaaaaaaaaaaaaaaaaaaaaaaaaaaaaaaaaaaaaaaaaaaaaaaaaaaaaa";
+
 /// Faults of the words come first, then the password's file, the user's name and the database.
 #[test]
 fn follow_looks_for_faults_in_order(rt: HostRuntime) -> Result<(), Fail> {
     fs::write(&rt, "password", b"secret\n")?;
-    let mut long = String::new(rt.alloc());
-    for _ in 0..256 {
-        long.push('a')?;
-    }
-    let long = long.as_str();
     let cases: [(&str, &str, &str, &str, &str, u8, &str); 8] = [
-        ("0", long, "none", "7", "no/f.db", 2, "mrep: 0: "),
-        ("65536", long, "none", "7", "no/f.db", 2, "mrep: 65536: "),
-        ("+5", long, "none", "7", "no/f.db", 2, "mrep: +5: "),
-        ("1", long, "none", "0", "no/f.db", 2, "mrep: 0: "),
+        ("0", LONG, "none", "7", "no/f.db", 2, "mrep: 0: "),
+        ("65536", LONG, "none", "7", "no/f.db", 2, "mrep: 65536: "),
+        ("+5", LONG, "none", "7", "no/f.db", 2, "mrep: +5: "),
+        ("1", LONG, "none", "0", "no/f.db", 2, "mrep: 0: "),
         (
             "1",
-            long,
+            LONG,
             "none",
             "4294967296",
             "no/f.db",
             2,
             "mrep: 4294967296: ",
         ),
-        ("1", long, "none", "7", "no/f.db", 3, "mrep: none: "),
-        ("1", long, "password", "7", "no/f.db", 2, "mrep: aaa"),
+        ("1", LONG, "none", "7", "no/f.db", 3, "mrep: none: "),
+        ("1", LONG, "password", "7", "no/f.db", 2, "mrep: aaa"),
         (
             "1",
             "repl",
