@@ -7,7 +7,7 @@ use super::{FORMAT, Run, best, event, gtid, mib, most, remove_store, run};
 use std::fs::{self, File, OpenOptions};
 use std::io::{self, BufReader, BufWriter, Read, Write};
 use std::net::{Shutdown, TcpListener};
-use std::os::unix::fs::OpenOptionsExt;
+use std::os::fd::AsRawFd;
 use std::path::{Path, PathBuf};
 use std::process::Command;
 use std::thread;
@@ -23,8 +23,13 @@ const FOLLOW_TIMES: f64 = 1.1;
 /// A stream of five times the length takes at most so many times the memory.
 const MEMORY_TIMES: f64 = 1.25;
 
-/// A pipe whose reads give what was written at once (`O_DIRECT` of Linux).
+/// Linux: what makes each read of a pipe give what one write has put in.
+const F_SETFL: i32 = 4;
 const O_DIRECT: i32 = 0o40000;
+
+unsafe extern "C" {
+    fn fcntl(file: i32, command: i32, flags: i32) -> i32;
+}
 
 /// A greeting, and the OKs to the login and to the query.
 const OPENING: &[u8] = b"\x4a\0\0\0\x0a8.0.36\0\x08\0\0\0\x01\x02\x03\x04\x05\x06\x07\x08\0\x05\xa2\x21\x02\0\x08\0\x15\0\0\0\0\0\0\0\0\0\0\x09\x0a\x0b\x0c\x0d\x0e\x0f\x10\x11\x12\x13\x14\0mysql_native_password\0\x07\0\0\x02\0\0\0\x02\0\0\0\x07\0\0\x01\0\0\0\x02\0\0\0";
@@ -104,7 +109,11 @@ impl Files<'_> {
     fn replay_bytes(&self, applied: u64) -> io::Result<Run> {
         let (stream, pipe) = (self.stream.clone(), self.pipe.clone());
         let writer = thread::spawn(move || -> io::Result<()> {
-            let mut pipe = OpenOptions::new().write(true).custom_flags(O_DIRECT).open(pipe)?;
+            let mut pipe = OpenOptions::new().write(true).open(pipe)?;
+            // Sound: no memory is shared with the call.
+            if unsafe { fcntl(pipe.as_raw_fd(), F_SETFL, O_DIRECT) } < 0 {
+                return Err(io::Error::last_os_error());
+            }
             for byte in BufReader::new(File::open(stream)?).bytes() {
                 pipe.write_all(&[byte?])?;
             }
