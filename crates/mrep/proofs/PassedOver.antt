@@ -1,5 +1,5 @@
 -- Changes of tables that are not followed are passed over.
-use Rattle.std.proofs.Common.{◌≡◌, ℕ, Bool, true, false, List, [], ◌∷◌, ◌++◌, map, flat_map, if◌then◌else◌, refl, sym, subst, ◌∙◌, MatchBool}
+use Rattle.std.proofs.Common.{◌≡◌, Bool, true, false, List, [], ◌∷◌, ◌++◌, map, flat_map, if◌then◌else◌, refl, sym, subst, ◌∙◌, MatchBool}
 use Rattle.std.specs.FinSet as set
 use Rattle.binlog.specs.Follow.{Names, follows}
 use Rattle.binlog.specs.Table.{TableValue}
@@ -7,7 +7,7 @@ use Rattle.binlog.specs.Rows.{PairValue, inserted, deleted, updated}
 use Rattle.binlog.proofs.Followed.{all_follow}
 use Rattle.gather.specs.Transaction.{ChangeValue, change_of}
 use Rattle.store.specs.State.{Bag, Content}
-use Rattle.store.specs.Take.{IsMade, is_followed, IsDone, AreDone, Takes, done}
+use Rattle.store.specs.Take.{IsMade, is_followed, AreDone, Takes, done}
 use Rattle.mrep.specs.Script.{PartValue, ScriptValue}
 use Rattle.mrep.specs.Resume.{part_changes, transaction}
 
