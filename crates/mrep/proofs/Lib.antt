@@ -6,3 +6,4 @@ pub mod Talking
 pub mod Taking
 pub mod Resuming
 pub mod PassedOver
+pub mod OneAnswer
