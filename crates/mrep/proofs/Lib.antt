@@ -8,3 +8,4 @@ pub mod Talking
 pub mod Transactions
 pub mod Resuming
 pub mod PassedOver
+pub mod OneAnswer

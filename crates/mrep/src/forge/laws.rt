@@ -8,7 +8,8 @@ ghost use Rattle.store.specs.State.{Content};
 ghost use Rattle.store.specs.Take.{Takes, done};
 ghost use Rattle.replica.specs.Conn.{Begun};
 ghost use Rattle.mrep.specs.Script.{PartValue, ScriptValue};
-ghost use Rattle.mrep.specs.Forge.{is_once, greeting_payload, ok_payload, IsOpening};
+ghost use Rattle.mrep.specs.Forge.{is_once, greeting_payload, ok_payload, IsOpening, IsAnswer, IsUnsendable};
+ghost use Rattle.mrep.specs.declared.forge.fault.ForgeFault.{ForgeFault};
 ghost use Rattle.mrep.specs.Resume.{Opens, Resumes, Leads, Reaches, part_changes, transaction, transactions, end_of};
 
 /// What [`crate::forge::opening`] gives opens a connection.
@@ -16,6 +17,15 @@ pub fn opens(_scramble: &[u8; 20])
     ensures { (bytes : List ℕ) → IsOpening _scramble.now bytes → Opens (greeting_payload _scramble.now) ok_payload ok_payload bytes }
 {
     greet::laws::greetings();
+}
+
+/// A request is answered by one list of bytes, or a script that would be sent cannot be, for one reason, and not both.
+pub fn one_answer()
+    ensures one { (history : List ScriptValue) (request a b : List ℕ) → IsAnswer history request a → IsAnswer history request b → a ≡ b }
+    ensures not_both { (history : List ScriptValue) (request bytes : List ℕ) (fault : ForgeFault) → IsAnswer history request bytes → IsUnsendable history request fault → ⊥ }
+    ensures one_fault { (history : List ScriptValue) (request : List ℕ) (a b : ForgeFault) → IsUnsendable history request a → IsUnsendable history request b → a ≡ b }
+{
+    greet::laws::dumps();
 }
 
 /// A replica that holds the content after the first j transactions of a history, and asks with its executed set, is led
