@@ -393,7 +393,7 @@ fn takes_an_end_of_the_log_and_an_error(rt: HostRuntime) -> Result<(), Fail> {
         &rt,
         rt.alloc(),
         &[&old],
-        false,
+        true,
         &[("Greet.OldAuth", 78, 0)],
         ("", 0),
     )

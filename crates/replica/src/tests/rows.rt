@@ -21,6 +21,13 @@ enum Sent {
     Rotate,
     Heartbeat,
     Xid,
+    /// The number 2^63 - 1, which no GTID has.
+    TooLarge,
+    /// A type that no event has.
+    Unknown,
+    /// A schema change, and a savepoint.
+    Create,
+    Savepoint,
 }
 
 /// A payload of the dump.
@@ -38,6 +45,16 @@ fn payload(sent: Sent) -> &'static [u8] {
         Sent::Rotate => { b"\0\0\0\0\0\x04\x01\0\0\0\x1e\0\0\0\0\0\0\0\0\0\x04\0\0\0\0\0\0\0log" }
         Sent::Heartbeat => b"\0\0\0\0\0\x1b\x01\0\0\0\x16\0\0\0\0\0\0\0\0\0log",
         Sent::Xid => &ONE_TRANSACTION[421..449],
+        Sent::TooLarge => {
+            b"\0\0\0\0\0\x21\x01\0\0\0\x2c\0\0\0\0\0\0\0\0\0\0\x3e\x11\xfa\x47\x71\xca\x11\xe1\x9e\x33\xc8\x0a\xa9\x42\x95\x62\xff\xff\xff\xff\xff\xff\xff\x7f"
+        }
+        Sent::Unknown => b"\0\0\0\0\0\x28\x01\0\0\0\x13\0\0\0\0\0\0\0\0\0",
+        Sent::Create => {
+            b"\0\0\0\0\0\x02\x01\0\0\0\x37\0\0\0\0\0\0\0\0\0\0\0\0\0\0\0\0\0\0\0\0\0\0\0CREATE TABLE t (a INT)"
+        }
+        Sent::Savepoint => {
+            b"\0\0\0\0\0\x02\x01\0\0\0\x2c\0\0\0\0\0\0\0\0\0\0\0\0\0\0\0\0\0\0\0\0\0\0\0SAVEPOINT a"
+        }
     }
 }
 
@@ -146,4 +163,23 @@ fn needs_a_format_and_a_map(rt: HostRuntime) -> Result<(), Fail> {
     let unmapped = [Format, Gtid(1), Begin, Two, Xid];
     let unknown = ("Gather.UnknownTable", 52 + 32, 0);
     reads_both(&rt, rt.alloc(), &unmapped, unknown, ("", 0))
+}
+
+#[test]
+fn names_events_that_it_does_not_take(rt: HostRuntime) -> Result<(), Fail> {
+    use Sent::{Begin, Create, Format, Gtid, Map, Savepoint, TooLarge, Two, Unknown, Xid};
+    let cases: [(Sent, &'static str, u64); 4] = [
+        (TooLarge, "Number", 49),
+        (Unknown, "TypeCode", 24),
+        (Create, "Statement", 60),
+        (Savepoint, "Statement", 49),
+    ];
+    for (last, name, behind) in cases {
+        // The transaction before it stands.
+        let dump = [Format, Gtid(1), Begin, Map, Two, Xid, last];
+        reads_both(&rt, rt.alloc(), &dump, (name, behind, 1), ("1", 2))?;
+    }
+    let inside = [Format, Gtid(1), Begin, Savepoint, Map, Two, Xid];
+    let left = 49 + 52 + 52 + 32;
+    reads_both(&rt, rt.alloc(), &inside, ("Statement", left, 0), ("", 0))
 }
