@@ -9,7 +9,7 @@ use crate::reason::{write_cause, write_end};
 use crate::replay::{status_of, tables};
 use replica::{Config, ConfigFault, Counted, Duplex, Ended, follow};
 use std::fs;
-use std::io::Write;
+use std::io::{ErrorKind, Write};
 use std::net::TcpStream;
 use store::Store;
 use wire::LARGEST_PAYLOAD;
@@ -110,13 +110,16 @@ fn follow_into<'a, W: Write, E: Write>(
         Ok(stream) => stream,
         Err(cause) => return Err(Failure::Host { name: host, cause }),
     };
-    let end = if words.progress {
+    let (end, failure) = if words.progress {
         let _ = writeln!(err, "mrep: connected to {host} port {port}");
         follow_over(rt, Progress::new(stream, rt, err), config, store)
     } else {
         follow_over(rt, stream, config, store)
     };
-    let _ = write_cause(host, words.db, &end.reason, err);
+    let _ = match failure {
+        Some(kind) => writeln!(err, "mrep: {host}: {kind}"),
+        None => write_cause(host, words.db, &end.reason, err),
+    };
     ends.push(end)?;
     if let Some(end) = ends.last() {
         write_end(ends.len(), end, out)?;
@@ -124,12 +127,14 @@ fn follow_into<'a, W: Write, E: Write>(
     Ok(())
 }
 
+/// How the connection ended, and what the last failure of the stream was, if there was one.
 fn follow_over<T: Duplex + Drop>(
     rt: &HostRuntime,
     stream: T,
     config: Config,
     store: &mut Store<FileOf>,
-) -> Ended {
+) -> (Ended, Option<ErrorKind>) {
     let mut counted = Counted::new(stream);
-    follow(rt.alloc(), &mut counted, store, config)
+    let end = follow(rt.alloc(), &mut counted, store, config);
+    (end, counted.failure())
 }

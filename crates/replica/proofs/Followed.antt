@@ -1,5 +1,5 @@
 -- How following a stream ends.
-use Rattle.std.proofs.Common.{◌≡◌, ◌≢◌, ℕ, ◌+◌, ◌<◌, arith, take, drop, unwrap_or, MatchOption, Bool, true, false, List, [], ◌++◌, length, Option, refl, sym, ap, ◌∙◌, inl, inr, subst, IsTrue, append_assoc, append-nil, Some, None, is_some, option_map, Bor}
+use Rattle.std.proofs.Common.{◌≤◌, ◌≡◌, ◌≢◌, ℕ, ◌+◌, ◌<◌, arith, take, drop, unwrap_or, MatchOption, Bool, true, false, List, [], ◌++◌, length, Option, refl, sym, ap, ◌∙◌, inl, inr, subst, IsTrue, append_assoc, append-nil, Some, None, is_some, option_map, Bor}
 use Rattle.std.specs.Io.KnownBytes.{Appends, Consumes, Keeps, IsAtEnd}
 use Rattle.std.proofs.Math.Seq.{take-append_seam}
 use Rattle.std.proofs.KnownBytes.{Appends-trans, Appends-kept, Consumes-trans, Consumes-kept, Appends-nil, Consumes-nil}
@@ -24,8 +24,8 @@ use Rattle.replica.specs.Crash.{IsLeft}
 use Rattle.replica.specs.Sent.{SentFor}
 use Rattle.replica.specs.Standing.{Stands, GoesOn, HasEnded, end_of, room_of}
 use Rattle.replica.specs.Over.{StandsOver, HasRead, LeavesOnly}
-use Rattle.replica.specs.Follow.{IsInFull, IsOfStream, MayOwe, Follows, IsFollowing, HandsOut, gave_up_with, turns_left, while_going}
-use Rattle.replica.proofs.Stood.{sent_of}
+use Rattle.replica.specs.Follow.{IsInFull, IsOfStream, MayOwe, Follows, IsFollowing, HandsOut, EndsInLast, told_as, gave_up_with, turns_left, while_going}
+use Rattle.replica.proofs.Stood.{conn_of, sent_of}
 use Rattle.replica.proofs.Runs.{begins, read_all}
 
 may_owe : (reason : Reason) → gave_up_with reason ≡ true → MayOwe reason
@@ -135,10 +135,6 @@ abbrev pub Retells : ℕ → Names → Bool → Content → List ℕ → Content
 Retells limit names was old b new at reason other =
     (r : Reading limit names b) → why limit names (due_behind r.payloads) r.events r.deliveries (length r.front) r.id r.rest was old new at reason → why limit names (due_behind r.payloads) r.events r.deliveries (length r.front) r.id r.rest was old new at other
 
--- an end, told for another reason
-abbrev pub told_as : Reason → Ended → Ended
-told_as reason end = record { reason = reason; at = end.at; applied = end.applied }
-
 conn-retold : (limit : ℕ) (names : Names) (was : Bool) (old : Content) (b : List ℕ) (new : Content) (end : Ended) (reason : Reason) → Retells limit names was old b new end.at end.reason reason
     → Conn limit names was old b new end → Conn limit names was old b new (told_as reason end)
 conn-retold limit names was old b new end reason f c = record {
@@ -201,6 +197,8 @@ module _ {S : Type 0} (g : Ghosts S) where
           owed = session.out.items;
           reads = f.reads;
           writes = f.writes;
+          last = f.last;
+          unended = λ h. let no : Memory ≡ ReadFailed = h in cc;
           has_read = retold session.config.limit before store was old f.read end Memory full tt
               (λ new r w. why_memory session.config.limit before.following (due_behind r.payloads) r.events r.deliveries (length r.front) r.id r.rest was old new end.at end.reason e w) has_read;
           in_full = λ h. absurd h;
@@ -218,6 +216,8 @@ module _ {S : Type 0} (g : Ghosts S) where
       reads = f.reads;
       writes = f.writes;
       has_read = has_read;
+      last = f.last;
+      unended = λ h. absurd (subst (λ (v : Reason). IsNoStreamFailure v) h n);
       in_full = λ h. absurd (not_of_stream end.reason n h);
       all_read = λ e. let bad : false ≡ true = sym (ap gave_up_with e) ∙ gave in cc;
       owes = owes;
@@ -247,6 +247,8 @@ module _ {S : Type 0} (g : Ghosts S) where
             owed = z;
             reads = reads';
             writes = writes';
+            last = f.last;
+            unended = λ h. let no : WriteFailed ≡ ReadFailed = h in cc;
             has_read = retold session.config.limit before store was old f.read end WriteFailed full tt
                 (λ new r w. why_write_failed session.config.limit before.following (due_behind r.payloads) r.events r.deliveries (length r.front) r.id r.rest was old new end.at end.reason full w) has_read;
             in_full = λ h. (end.reason, full, has_read.conn);
@@ -268,6 +270,8 @@ module _ {S : Type 0} (g : Ghosts S) where
           reads = reads';
           writes = writes';
           has_read = has_read;
+          last = f.last;
+          unended = λ h. absurd (subst (λ (v : Reason). IsNoStreamFailure v) h n);
           in_full = λ h. absurd (not_of_stream end.reason n h);
           all_read = read;
           owes = sent';
@@ -285,6 +289,9 @@ module _ {S : Type 0} (g : Ghosts S) where
               owed = [];
               reads = reads';
               writes = writes';
+              last = f.last;
+              unended = λ h. conn-retold session.config.limit before.following was old f.read has_read.new end EndOfInput
+                  (λ r w. subst (λ (v : Reason). why session.config.limit before.following (due_behind r.payloads) r.events r.deliveries (length r.front) r.id r.rest was old has_read.new end.at v) e w) has_read.conn;
               has_read = retold session.config.limit before store was old f.read end ReadFailed full tt
                   (λ new r w. why_read_failed session.config.limit before.following (due_behind r.payloads) r.events r.deliveries (length r.front) r.id r.rest was old new end.at end.reason e w) has_read;
               in_full = λ h. (end.reason, full, has_read.conn);
@@ -301,30 +308,63 @@ module _ {S : Type 0} (g : Ghosts S) where
           reads = reads';
           writes = subst (λ (l : List ℕ). Appends written0 written' (f.sent ++ l)) (sym (ap (λ (l : List ℕ). y ++ l) all ∙ append-nil y)) writes';
           stands = over-out session after store (database g before).now.schema was old f.read f.sent (y ++ z) hands f.stands;
+          last = subst (λ (c : Settings). EndsInLast c.limit before.following was old f.read) (sym hands.config) f.last;
         }
+
+  -- a session that goes on has read bytes that do not end the connection
+  unended : (session : Session) (before store : Store S g) (schema : Schema) (was : Bool) (old : Content) (b o : List ℕ) → store.following ≡ before.following → session.ended ≡ None
+      → (s : StandsOver g session store schema was old b o) → Conn session.config.limit before.following was old b s.now (told_as EndOfInput (end_of session))
+  unended session before store schema was old b o names going s =
+      let conn : Conn session.config.limit before.following was old b s.now (end_of session) =
+      subst (λ n. Conn session.config.limit n was old b s.now (end_of session)) names (conn_of session store.following was s.is old s.now b o s.stands) in
+      let not_yet : Ended = record { reason = EndOfInput; at = session.at; applied = session.applied } in
+      let told : end_of session ≡ told_as EndOfInput (end_of session) =
+      ap (λ (v : Option Ended). unwrap_or v not_yet) going ∙ sym (ap (λ (v : Option Ended). told_as EndOfInput (unwrap_or v not_yet)) going) in
+      subst (λ (e : Ended). Conn session.config.limit before.following was old b s.now e) told conn
 
   -- nothing was read and sent
   pub following-begins : ((h : Held S) (db : Trees) → IsTrue (state g h).is_open → (state g h).may_leave db → db ≡ (state g h).committed.trees)
-      → (session : Session) (store : Store S g) (was : Bool) (content : Content) (left written : Option (List ℕ)) → HoldsAs g was content store → Stands session store.following was was content content [] []
+      → (session : Session) (store : Store S g) (was : Bool) (content : Content) (left written : Option (List ℕ)) → session.ended ≡ None → HoldsAs g was content store → Stands session store.following was was content content [] []
       → IsFollowing g session store store was content left left written written
-  following-begins settled session store was content left written holds stands = record {
-    read = [];
-    sent = [];
-    reads = Consumes-nil left;
-    writes = Appends-nil written;
-    stands = begins g settled session store was content holds stands;
-  }
+  following-begins settled session store was content left written going holds stands =
+      let s = begins g settled session store was content holds stands in
+      record {
+        read = [];
+        sent = [];
+        reads = Consumes-nil left;
+        writes = Appends-nil written;
+        stands = s;
+        last = record {
+          front = [];
+          last = [];
+          read_is = refl;
+          piece = omega arith;
+          now = s.now;
+          end = end_of session;
+          unended = unended session store store (database g store).now.schema was content [] [] refl going s;
+        };
+      }
 
   -- some bytes were read
   pub following-read : (session after : Session) (before store new : Store S g) (was : Bool) (old : Content) (left0 left left' written0 written written' : Option (List ℕ)) (x : List ℕ)
-      → (f : IsFollowing g session before store was old left0 left written0 written) → Consumes left left' x → Keeps written written'
+      → (f : IsFollowing g session before store was old left0 left written0 written) → store.following ≡ before.following → session.ended ≡ None → after.config ≡ session.config → length x ≤ 65536
+      → Consumes left left' x → Keeps written written'
       → StandsOver g after new (database g before).now.schema was old (f.read ++ x) f.sent → IsFollowing g after before new was old left0 left' written0 written'
-  following-read session after before store new was old left0 left left' written0 written written' x f consumes keeps stands = record {
+  following-read session after before store new was old left0 left left' written0 written written' x f names going config piece consumes keeps stands = record {
     read = f.read ++ x;
     sent = f.sent;
     reads = Consumes-trans left0 left left' f.read x f.reads consumes;
     writes = Appends-kept written0 written written' f.sent f.writes keeps;
     stands = stands;
+    last = subst (λ (c : Settings). EndsInLast c.limit before.following was old (f.read ++ x)) (sym config) (record {
+      front = f.read;
+      last = x;
+      read_is = refl;
+      piece = piece;
+      now = f.stands.now;
+      end = end_of session;
+      unended = unended session before store (database g before).now.schema was old f.read f.sent names going f.stands;
+    });
   }
 
   -- the same for settings and an end that are alike
@@ -357,8 +397,7 @@ ended_early session names was is old now b o h s = elim session.ended as (λ v. 
       | Some last ↦ λ e h. h.more
     ] h s
 
--- what is written back into a vector that keeps its length
-pub some_kept : (n : ℕ) (xs ys : List ℕ) → n ≡ length ys → length xs ≡ length ys → 0 < length ys → 0 < length (take n (xs ++ drop (length xs) ys))
-some_kept n xs ys at same some =
-    let all : take n (xs ++ drop (length xs) ys) ≡ xs = ap (λ k. take k (xs ++ drop (length xs) ys)) (at ∙ sym same) ∙ take-append_seam xs (drop (length xs) ys) in
-    subst (λ (l : List ℕ). 0 < length l) (sym all) (omega (arith, same, some))
+-- what is written back into a vector keeps its length
+pub length_kept : (n : ℕ) (xs ys : List ℕ) → n ≡ length ys → length xs ≡ length ys → length (take n (xs ++ drop (length xs) ys)) ≡ length ys
+length_kept n xs ys at same =
+    ap (λ (l : List ℕ). length l) (ap (λ k. take k (xs ++ drop (length xs) ys)) (at ∙ sym same) ∙ take-append_seam xs (drop (length xs) ys)) ∙ same

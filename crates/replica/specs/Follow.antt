@@ -1,5 +1,5 @@
 -- What following a stream comes to.
-use Rattle.std.specs.Prelude.{◌≡◌, ℕ, ◌+◌, ◌⊎◌, Bool, true, false, List, [], ◌++◌, Option, Some, None}
+use Rattle.std.specs.Prelude.{◌≡◌, ◌≤◌, ℕ, ◌+◌, ◌⊎◌, Bool, true, false, List, [], ◌++◌, length, Option, Some, None}
 use Rattle.std.specs.Io.KnownBytes.{Appends, Consumes, IsAtEnd}
 use Rattle.sqlite_trees.specs.declared.store.Store.{Ghosts}
 use Rattle.binlog.specs.Follow.{Names}
@@ -42,9 +42,23 @@ IsOfStream ReadFailed = Unit {0}
 IsOfStream WriteFailed = Unit {0}
 IsOfStream _ = ⊥
 
+-- the same end, told for another reason
+abbrev pub told_as : Reason → Ended → Ended
+told_as reason end = record { reason = reason; at = end.at; applied = end.applied }
+
 -- The content, the place and the count are in full those of the bytes.
 abbrev pub EndsInFull : ℕ → Names → Bool → Content → List ℕ → Content → Ended → Type 0
-EndsInFull limit names was old b new end = (reason : Reason) × IsInFull reason × Conn limit names was old b new (record { reason = reason; at = end.at; applied = end.applied })
+EndsInFull limit names was old b new end = (reason : Reason) × IsInFull reason × Conn limit names was old b new (told_as reason end)
+
+-- The connection had not ended before the last piece was read, of at most 65,536 bytes.
+pub record EndsInLast (limit : ℕ) (names : Names) (was : Bool) (old : Content) (read : List ℕ) : Type 0 where
+  pub front : List ℕ
+  pub last : List ℕ
+  pub read_is : read ≡ front ++ last
+  pub piece : length last ≤ 65536
+  pub now : Content
+  pub end : Ended
+  pub unended : Conn limit names was old front now (told_as EndOfInput end)
 
 module _ {S : Type 0} (g : Ghosts S) where
   -- A store that held this content, and which a failure had broken or not, has followed a stream, of which these bytes
@@ -57,7 +71,10 @@ module _ {S : Type 0} (g : Ghosts S) where
     pub reads : Consumes left left' read
     pub writes : Appends written written' sent
     pub has_read : HasRead g settings.limit before after was old read end
+    pub last : EndsInLast settings.limit (names_of g before) was old read
     pub in_full : IsOfStream end.reason → EndsInFull settings.limit (names_of g before) was old read has_read.new end
+    -- a read fails where the bytes read do not end the connection
+    pub unended : end.reason ≡ ReadFailed → Conn settings.limit (names_of g before) was old read has_read.new (told_as EndOfInput end)
     pub all_read : end.reason ≡ EndOfInput → IsAtEnd left'
     pub owes : SentFor settings (names_of g before) old.executed read end.at (sent ++ owed)
     pub all_sent : MayOwe end.reason ⊎ (owed ≡ [])
@@ -69,6 +86,7 @@ module _ {S : Type 0} (g : Ghosts S) where
     pub reads : Consumes left left' read
     pub writes : Appends written written' sent
     pub stands : StandsOver g session store (database g before).now.schema was old read sent
+    pub last : EndsInLast session.config.limit (names_of g before) was old read
 
 -- none after the end
 abbrev pub while_going : Option Ended → ℕ → ℕ

@@ -1,6 +1,6 @@
 //! Streams of two directions, and a count of what failed on them.
 
-ghost use Rattle.std.specs.Prelude.{◌≡◌, ◌<◌, ◌≤◌, ◌+◌, ◌-◌, ◌^◌, min, length, is_err, is_ok, if◌then◌else◌, OnErr, Ok};
+ghost use Rattle.std.specs.Prelude.{◌≡◌, ◌<◌, ◌≤◌, ◌+◌, ◌-◌, ◌^◌, min, length, is_err, is_ok, if◌then◌else◌, OnErr, Ok, None};
 ghost use Rattle.std.specs.Io.{ReadsAtMost, WritesAtMost};
 ghost use Rattle.std.specs.Io.KnownBytes.{Keeps, ReadConsumes, WriteAppends};
 ghost use Rattle.replica.specs.Failing.{failed_to_write};
@@ -42,17 +42,20 @@ pub struct Counted<T> {
     stream: T,
     failed_reads: u64,
     failed_writes: u64,
+    /// What the last failure was.
+    failure: Option<io::ErrorKind>,
 }
 
 impl<T> Counted<T> {
     /// A stream on which nothing has failed.
     pub fn new(stream: T) -> Counted<T>
-        ensures { result ≡ record { stream = stream; failed_reads = 0; failed_writes = 0 } }
+        ensures { result ≡ record { stream = stream; failed_reads = 0; failed_writes = 0; failure = None } }
     {
         Counted {
             stream,
             failed_reads: 0,
             failed_writes: 0,
+            failure: None,
         }
     }
 
@@ -68,6 +71,13 @@ impl<T> Counted<T> {
         ensures { result ≡ self.now.failed_writes }
     {
         self.failed_writes
+    }
+
+    /// What the last failed call met; of a write of some bytes that takes none, `WriteZero`.
+    pub fn failure(&self) -> Option<io::ErrorKind>
+        ensures { result ≡ self.now.failure }
+    {
+        self.failure
     }
 
     /// The stream itself.
@@ -86,6 +96,7 @@ impl<T: Duplex> Counted<T> {
         ensures bound { ReadsAtMost result buf.new }
         ensures bytes { ReadConsumes (T.Read.remaining self.old.stream) (T.Read.remaining self.new.stream) result buf.new }
         ensures apart { Keeps (T.Write.contents self.old.stream) (T.Write.contents self.new.stream) }
+        ensures empty { length buf.old ≡ 0 → (result ≡ Ok 0) × (self.new ≡ self.old) }
         ensures reads { self.new.failed_reads ≡ self.old.failed_reads + (if is_err result then 1 else 0) }
         ensures writes { self.new.failed_writes ≡ self.old.failed_writes }
     {
@@ -93,8 +104,9 @@ impl<T: Duplex> Counted<T> {
             return Ok(0);
         }
         let result = self.stream.receive(buf);
-        if result.is_err() {
+        if let Err(cause) = &result {
             self.failed_reads += 1;
+            self.failure = Some(cause.kind());
         }
         result
     }
@@ -105,6 +117,7 @@ impl<T: Duplex> Counted<T> {
         ensures bound { WritesAtMost result buf.now }
         ensures bytes { WriteAppends (T.Write.contents self.old.stream) (T.Write.contents self.new.stream) result buf.now }
         ensures apart { Keeps (T.Read.remaining self.old.stream) (T.Read.remaining self.new.stream) }
+        ensures empty { length buf.now ≡ 0 → (result ≡ Ok 0) × (self.new ≡ self.old) }
         ensures writes { self.new.failed_writes ≡ self.old.failed_writes + (if failed_to_write result (length buf.now) then 1 else 0) }
         ensures reads { self.new.failed_reads ≡ self.old.failed_reads }
     {
@@ -112,9 +125,13 @@ impl<T: Duplex> Counted<T> {
             return Ok(0);
         }
         let result = self.stream.send(buf);
-        if !matches!(result, Ok(1..)) {
-            self.failed_writes += 1;
-        }
+        let failure = match &result {
+            Ok(1..) => return result,
+            Ok(_) => io::ErrorKind::WriteZero,
+            Err(cause) => cause.kind(),
+        };
+        self.failed_writes += 1;
+        self.failure = Some(failure);
         result
     }
 }

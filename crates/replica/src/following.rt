@@ -84,7 +84,7 @@ fn read_some<T: Duplex, S: Alter>(
     requires going { session.old.ended ≡ None }
     requires some { 0 < length buffer.old }
     ensures buffer { length buffer.new ≡ length buffer.old }
-    ensures read { result ≡ Turn.Read → (x : List ℕ) × Consumes (T.Read.remaining stream.old.stream) (T.Read.remaining stream.new.stream) x
+    ensures read { result ≡ Turn.Read → (x : List ℕ) × (length x ≤ length buffer.old) × Consumes (T.Read.remaining stream.old.stream) (T.Read.remaining stream.new.stream) x
         × (HasCleanDisk (database S.Store store.new) → (schema : Schema) (was : Bool) (old : Content) (b o : List ℕ) → StandsOver S.Store session.old store.old schema was old b o → StandsOver S.Store session.new store.new schema was old (b ++ x) o) }
     ensures apart { Keeps (T.Write.contents stream.old.stream) (T.Write.contents stream.new.stream) }
     ensures reads { stream.new.failed_reads ≡ stream.old.failed_reads + reads_failed result }
@@ -139,6 +139,8 @@ pub fn follow<T: Duplex, S: Alter>(
     // A failure of the stream is told exactly where there was one.
     ensures read_failed { (result.reason ≡ Reason.ReadFailed) ↔ (stream.old.failed_reads < stream.new.failed_reads) }
     ensures write_failed { (result.reason ≡ Reason.WriteFailed) ↔ (stream.old.failed_writes < stream.new.failed_writes) }
+    // It is the last call: none is made again.
+    ensures once { (stream.new.failed_reads ≤ stream.old.failed_reads + 1) × (stream.new.failed_writes ≤ stream.old.failed_writes + 1) }
     ensures following { names_of S.Store store.new ≡ names_of S.Store store.old }
     // A store that a failure has broken stays as it is.
     ensures broken { IsBroken S.Store store.old → store.new ≡ store.old }

@@ -6,6 +6,7 @@ use super::{End, LIMIT, PACKET_ENDS, WHOLE, changed, config, held, name, opened,
 use crate::{Config, Counted, follow};
 use sqlite::MemStore;
 use std::alloc::Global;
+use std::io::ErrorKind;
 use std::process::Abort;
 use std::test::Fail;
 use store::Store;
@@ -279,4 +280,53 @@ fn logs_in_with_a_password(rt: HostRuntime) -> Result<(), Fail> {
     let done = log_in(&rt, rt.alloc(), &mut store);
     let _ = store.close();
     done
+}
+
+/// What the last failure of a stream was that is followed into a store.
+fn failure(
+    alloc: Global,
+    store: &mut Store<MemStore>,
+    given: Given,
+) -> Result<Option<ErrorKind>, Fail> {
+    let stream = Stream::new(&ONE_TRANSACTION, Vec::new(alloc), given.gives, given.takes)
+        .fail_to_read_behind(given.readable)
+        .fail_to_write_behind(given.writable);
+    let mut counted = Counted::new(stream);
+    let _ = follow(alloc, &mut counted, store, config(alloc, LIMIT)?);
+    Ok(counted.failure())
+}
+
+#[test]
+fn keeps_what_a_failure_was(rt: HostRuntime) -> Result<(), Fail> {
+    let cases = [
+        (AT_ONCE, None),
+        (
+            Given {
+                readable: 90,
+                ..AT_ONCE
+            },
+            Some(ErrorKind::ConnectionReset),
+        ),
+        (
+            Given {
+                writable: 70,
+                ..AT_ONCE
+            },
+            Some(ErrorKind::BrokenPipe),
+        ),
+        (
+            Given {
+                takes: 0,
+                ..AT_ONCE
+            },
+            Some(ErrorKind::WriteZero),
+        ),
+    ];
+    for (given, want) in cases {
+        let mut store = store(rt.alloc())?;
+        let got = failure(rt.alloc(), &mut store, given);
+        let _ = store.close();
+        assert_eq!(rt; got?, want);
+    }
+    Ok(())
 }

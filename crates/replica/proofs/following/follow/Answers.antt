@@ -1,4 +1,5 @@
-use Rattle.std.proofs.Common.{◌≡◌, ◌≢◌, ◌++◌, true, Option, None, is_some, unwrap_or, sym, ap, ◌∙◌, subst, refl, rules}
+use Rattle.std.proofs.Common.{length, arith, ◌≡◌, ◌≢◌, ◌++◌, true, Option, None, is_some, unwrap_or, sym, ap, ◌∙◌, subst, refl, rules}
+use Rattle.replica.specs.Follow.{told_as}
 use Rattle.std.proofs.KnownBytes.{Appends-kept, Keeps-trans}
 use Rattle.replica.specs.declared.end.Ended.{Ended}
 use Rattle.replica.specs.declared.end.Reason.TheVariants.{EndOfInput, Memory, WriteFailed, ReadFailed}
@@ -8,7 +9,7 @@ use Rattle.store.specs.Store.{database}
 use Rattle.replica.specs.Conn.{IsNoStreamFailure}
 use Rattle.replica.specs.Standing.{end_of}
 use Rattle.replica.specs.Follow.{Follows}
-use Rattle.replica.proofs.Followed.{told_as, follows-memory, follows-gave_up, follows-write_failed, follows-ended, follows-read_failed, following-begins, following-sent, following-read, follows-same, some_behind, none_behind, ended_early, over-out, some_kept}
+use Rattle.replica.proofs.Followed.{follows-memory, follows-gave_up, follows-write_failed, follows-ended, follows-read_failed, following-begins, following-sent, following-read, follows-same, some_behind, none_behind, ended_early, over-out, length_kept}
 use Rattle.replica.proofs.following.follow.Goals as goal
 
 pub returns-in_default-clause-follows : goal.returns-in_default-clause-follows
@@ -17,12 +18,12 @@ returns-in_default-clause-follows g c clean was old holds =
     let reason : (end_of session).reason ≡ EndOfInput = ap (λ (v : Option Ended). (unwrap_or v (record { reason = EndOfInput; at = session.at; applied = session.applied })).reason) c.new-session.ensures.ended in
     follows-same g.S.Store session.config c.args.config c.args.store.now c.args.store.now was old (g.T.Read.remaining c.args.stream.now.stream) (g.T.Read.remaining c.args.stream.now.stream) (g.T.Write.contents c.args.stream.now.stream) (g.T.Write.contents c.args.stream.now.stream) (told_as Memory (end_of session)) c.retold.result c.new-session.ensures.config (sym c.retold.ensures)
     (follows-memory g.S.Store session c.args.store.now c.args.store.now was old (g.T.Read.remaining c.args.stream.now.stream) (g.T.Read.remaining c.args.stream.now.stream) (g.T.Write.contents c.args.stream.now.stream) (g.T.Write.contents c.args.stream.now.stream) refl
-    (following-begins g.S.Store (λ h db is_open may. g.met.S.Store.settled h.store db is_open may) session c.args.store.now was old (g.T.Read.remaining c.args.stream.now.stream) (g.T.Write.contents c.args.stream.now.stream) holds (c.new-session.ensures.stands c.args.store.now.following was old)) reason)
+    (following-begins g.S.Store (λ h db is_open may. g.met.S.Store.settled h.store db is_open may) session c.args.store.now was old (g.T.Read.remaining c.args.stream.now.stream) (g.T.Write.contents c.args.stream.now.stream) c.new-session.ensures.ended holds (c.new-session.ensures.stands c.args.store.now.following was old)) reason)
 
 pub turns-init : goal.turns-init
 turns-init g c = record {
   config = c.new-session.ensures.config;
-  some = search rules;
+  piece = search rules;
   reads = refl;
   writes = refl;
   names = refl;
@@ -30,7 +31,7 @@ turns-init g c = record {
   clean = λ h. h;
   neither = rw c.new-session.ensures.ended tt;
   following = λ clean was old holds.
-      following-begins g.S.Store (λ h db is_open may. g.met.S.Store.settled h.store db is_open may) c.new-session.result c.args.store.now was old (g.T.Read.remaining c.args.stream.now.stream) (g.T.Write.contents c.args.stream.now.stream) holds (c.new-session.ensures.stands c.args.store.now.following was old);
+      following-begins g.S.Store (λ h db is_open may. g.met.S.Store.settled h.store db is_open may) c.new-session.result c.args.store.now was old (g.T.Read.remaining c.args.stream.now.stream) (g.T.Write.contents c.args.stream.now.stream) c.new-session.ensures.ended holds (c.new-session.ensures.stands c.args.store.now.following was old);
 }
 
 pub returns-then-gave_up-clause-follows : goal.returns-then-gave_up-clause-follows
@@ -75,10 +76,12 @@ turns-preserved g c =
     let sent = c.send_owed.ensures.sent in
     let after = c.send_owed.new.session in
     let read = c.read_some.ensures.read c.in-Read.is in
+    let going : after.ended ≡ None = none_behind after.ended (some_behind c.ended.result after.ended c.ended.ensures ∙ sym c.is_some.ensures ∙ c.if-is_some.false) in
+    let long : length c.deref_mut.result.now ≡ 65536 = search (rules, inv.piece) in
     let neither : IsNoStreamFailure (end_of after).reason = subst (λ (e : Ended). IsNoStreamFailure e.reason) (sym sent.4.end) inv.neither in
     record {
       config = c.read_some.ensures.config ∙ sent.4.config ∙ inv.config;
-      some = some_kept c.turns.buffer.len c.read_some.new.buffer c.turns.buffer.items (search rules) (search rules) inv.some;
+      piece = length_kept c.turns.buffer.len c.read_some.new.buffer c.turns.buffer.items (search rules) (search rules) ∙ inv.piece;
       reads = search rules;
       writes = search rules;
       names = c.read_some.ensures.following ∙ inv.names;
@@ -90,7 +93,7 @@ turns-preserved g c =
           let sent_f = following-sent g.S.Store session c.args.store.now c.turns.store was old (g.T.Read.remaining c.args.stream.now.stream) (g.T.Read.remaining c.turns.stream.stream) (g.T.Write.contents c.args.stream.now.stream) (g.T.Write.contents c.turns.stream.stream) inv.names f
           after (g.T.Read.remaining c.send_owed.new.stream.stream) (g.T.Write.contents c.send_owed.new.stream.stream) sent.0 sent.1 c.send_owed.ensures.apart sent.2 sent.4 (sent.3 c.if-not-send_owed.false) in
           following-read g.S.Store after c.read_some.new.session c.args.store.now c.turns.store c.read_some.new.store was old (g.T.Read.remaining c.args.stream.now.stream) (g.T.Read.remaining c.send_owed.new.stream.stream) (g.T.Read.remaining c.read_some.new.stream.stream) (g.T.Write.contents c.args.stream.now.stream) (g.T.Write.contents c.send_owed.new.stream.stream) (g.T.Write.contents c.read_some.new.stream.stream) read.0
-          sent_f read.1 c.read_some.ensures.apart (read.2 clean (database g.S.Store c.args.store.now).now.schema was old sent_f.read sent_f.sent sent_f.stands);
+          sent_f inv.names going (c.read_some.ensures.config) (omega (arith, read.1, long)) read.2 c.read_some.ensures.apart (read.3 clean (database g.S.Store c.args.store.now).now.schema was old sent_f.read sent_f.sent sent_f.stands);
     }
 
 pub returns-in-AtEnd-clause-follows : goal.returns-in-AtEnd-clause-follows

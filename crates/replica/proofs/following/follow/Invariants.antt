@@ -1,4 +1,4 @@
-use Rattle.std.proofs.Common.{◌≡◌, ◌<◌, Bool, length}
+use Rattle.std.proofs.Common.{◌≡◌, Bool, length}
 use Rattle.sqlite.specs.State.{HasCleanDisk}
 use Rattle.store.specs.State.{Content}
 use Rattle.store.specs.Store.{HoldsAs, IsBroken, database, names_of}
@@ -10,7 +10,7 @@ use Rattle.replica.proofs.following.follow.Given as goal
 abbrev pub invariant-turns : goal.invariant-turns
 invariant-turns g l = record {
   config : l.session.config ≡ l.fn.config;
-  some : 0 < length l.buffer.items;
+  piece : length l.buffer.items ≡ 65536;
   reads : l.stream.failed_reads ≡ l.fn.stream.failed_reads;
   writes : l.stream.failed_writes ≡ l.fn.stream.failed_writes;
   names : names_of g.S.Store l.store ≡ names_of g.S.Store l.fn.store;
