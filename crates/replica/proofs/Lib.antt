@@ -13,3 +13,4 @@ pub mod Runs
 pub mod Told
 pub mod OneEnd
 pub mod Followed
+pub mod Left

@@ -1,5 +1,5 @@
 -- What a crash may leave of connections.
-use Rattle.std.specs.Prelude.{◌≡◌, ℕ, ◌⊎◌, Bool, false, List, ◌∷◌, ◌++◌, length}
+use Rattle.std.specs.Prelude.{◌≡◌, ℕ, ◌+◌, ◌⊎◌, Bool, false, List, ◌∷◌, ◌++◌, length}
 use Rattle.binlog.specs.Follow.{Names}
 use Rattle.gather.specs.Transaction.{DeliveryValue}
 use Rattle.store.specs.State.{Content}
@@ -9,7 +9,7 @@ use Rattle.store.specs.declared.fault.StoreFault.TheVariants as fault
 use Rattle.replica.specs.declared.end.Reason.TheVariants.{Database}
 use Rattle.replica.specs.declared.end.Ended.{Ended}
 use Rattle.replica.specs.Stream.{Reading, due_behind}
-use Rattle.replica.specs.Conn.{Took, NextEnds, Conn, History}
+use Rattle.replica.specs.Conn.{Took, NextEnds, Conn, Begun, History}
 
 -- The database failed in the transaction that the next payload ends, and what is left has this one more.
 pub record IsOneMore (limit : ℕ) (names : Names) (old : Content) (b : List ℕ) (new : Content) (end : Ended) (left : Content) : Type 0 where
@@ -25,6 +25,13 @@ pub record IsOneMore (limit : ℕ) (names : Names) (old : Content) (b : List ℕ
 -- What a crash leaves of a connection: the transactions that were taken, or one more where the database failed.
 abbrev pub IsLeft : ℕ → Names → Content → List ℕ → Content → Ended → Content → Type 0
 IsLeft limit names old b new end left = (left ≡ new) ⊎ IsOneMore limit names old b new end left
+
+-- The connection took the first so many transactions of its bytes, and what is left is the content after these; or, where
+-- the database failed, after one transaction more, which is new.
+pub record LeavesBegun (limit : ℕ) (names : Names) (old : Content) (b : List ℕ) (new : Content) (end : Ended) (left : Content) : Type 0 where
+  pub count : ℕ
+  pub begun : Begun limit names old b count end.applied new
+  pub left_is : (left ≡ new) ⊎ ((cause : Error) × (end.reason ≡ Database (fault.Database cause)) × Begun limit names old b (count + 1) (end.applied + 1) left)
 
 -- The same of a list of connections: the one more is of the first connection in which the database failed.
 pub record IsOneMoreIn (limit : ℕ) (names : Names) (was : Bool) (old : Content) (bs : List (List ℕ)) (ends : List Ended) (left : Content) : Type 0 where

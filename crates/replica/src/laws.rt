@@ -12,10 +12,12 @@ ghost use Rattle.store.specs.Store.{HoldsAs, database, names_of};
 ghost use Rattle.replica.specs.declared.end.Reason.{Reason};
 ghost use Rattle.replica.specs.declared.end.Reason.TheVariants.{EndOfInput, Wire};
 ghost use Rattle.wire.specs.declared.fault.WireFault.TheVariants as wire;
+ghost use Rattle.replica.specs.declared.end.Ended.{Ended};
 ghost use Rattle.replica.specs.Stream.{Reading};
 ghost use Rattle.replica.specs.End.{End};
 ghost use Rattle.replica.specs.Told.{told_of};
 ghost use Rattle.replica.specs.Conn.{Conn, Begun, BreaksStore, IsDumpTooLong, IsOfBytes};
+ghost use Rattle.replica.specs.Crash.{IsLeft, LeavesBegun};
 ghost use Rattle.replica.specs.Sent.{SentFor};
 ghost use Rattle.replica.specs.Standing.{Stands, end_of};
 ghost use Rattle.replica.specs.Over.{StandsOver};
@@ -49,6 +51,13 @@ pub fn stood(_session: &Session)
         → End _session.now.config.limit names b (end_of _session.now).reason (end_of _session.now).at ⊎ (((end_of _session.now).reason ≡ Wire wire.TooLarge) × IsDumpTooLong old.executed) }
     ensures store { (names : Names) (was is : Bool) (old now : Content) (b o : List ℕ) → Stands _session.now names was is old now b o → BreaksStore (end_of _session.now).reason was is }
     ensures ended { (names : Names) (was is : Bool) (old now : Content) (b o : List ℕ) → Stands _session.now names was is old now b o → (_session.now.ended ≡ None) ↔ ((end_of _session.now).reason ≡ EndOfInput) }
+{}
+
+/// What a crash leaves of a connection is what the first so many of its transactions make of what the store held: all that
+/// were taken are among them, and at most one is more, where the database failed.
+pub fn left_begun()
+    ensures { (limit : ℕ) (names : Names) (was : Bool) (old : Content) (b : List ℕ) (new : Content) (end : Ended) (left : Content) → Conn limit names was old b new end
+        → IsLeft limit names old b new end left → LeavesBegun limit names old b new end left }
 {}
 
 /// Where a connection ends by its bytes, and what that tells, is determined by them.

@@ -1,12 +1,14 @@
 //! What a replica is led to that asks a scripted source, as laws about the definitions.
 
-ghost use Rattle.std.specs.Prelude.{◌≡◌, ◌↔◌, ℕ, ◌+◌, ◌++◌, List, drop, map};
+ghost use Rattle.std.specs.Prelude.{◌≡◌, ◌↔◌, ◌⊎◌, ℕ, ◌+◌, ◌++◌, Bool, List, drop, map};
 ghost use Rattle.std.specs.FinSet as set;
 ghost use Rattle.binlog.specs.Follow.{Names};
 ghost use Rattle.gather.specs.Transaction.{change_of};
 ghost use Rattle.store.specs.State.{Content};
 ghost use Rattle.store.specs.Take.{Takes, done};
-ghost use Rattle.replica.specs.Conn.{Begun};
+ghost use Rattle.replica.specs.declared.end.Ended.{Ended};
+ghost use Rattle.replica.specs.Conn.{Conn, Begun};
+ghost use Rattle.replica.specs.Crash.{IsLeft};
 ghost use Rattle.mrep.specs.Script.{PartValue, ScriptValue};
 ghost use Rattle.mrep.specs.Forge.{is_once, greeting_payload, ok_payload, IsOpening, IsAnswer, IsUnsendable};
 ghost use Rattle.mrep.specs.declared.forge.fault.ForgeFault.{ForgeFault};
@@ -39,6 +41,18 @@ pub fn resuming(_opening: &[u8], _answer: &[u8])
         → (part more : List ℕ) (count applied : ℕ) (new : Content) → _opening.now ++ _answer.now ≡ part ++ more → Begun limit names held part count applied new → Reaches names history (j + count) new }
 {
     greet::laws::dumps();
+}
+
+/// Whatever beginning of that connection a replica has followed, and wherever it is stopped: what it took, and what a crash
+/// leaves, are the content after the first so many transactions of the history. None that it had is lost, and at most one
+/// is more.
+pub fn stopped_anywhere(_opening: &[u8], _answer: &[u8])
+    ensures { (limit : ℕ) (names : Names) (history : List ScriptValue) (j : ℕ) (held last : Content) (request : List ℕ) → (r : Resumes limit names history j held last request _opening.now _answer.now)
+        → (part more : List ℕ) (was : Bool) (new : Content) (end : Ended) (left : Content) → _opening.now ++ _answer.now ≡ part ++ more → Conn limit names was held part new end → IsLeft limit names held part new end left
+        → (i : ℕ) × Reaches names history (j + i) new × ((left ≡ new) ⊎ Reaches names history (j + (i + 1)) left) }
+{
+    resuming(_opening, _answer);
+    replica::laws::left_begun();
 }
 
 /// The transactions of a history that a connection is said to have are without the changes of tables that are not
