@@ -142,8 +142,22 @@ fn run<'a, S: AsStr, O: Write, E: Write>(
         let error = command.error(ErrorKind::MissingSubcommand, "a command is needed")?;
         return Err(Failure::Words(error));
     };
-    out.flush()?;
-    Ok(status)
+    flushed(status, out, err)
+}
+
+/// Flushes the output of a command that ends with this status. Where that fails, a command that is done has failed, and
+/// any other keeps its status.
+fn flushed<'a, O: Write, E: Write>(status: u8, out: &mut O, err: &mut E) -> Result<u8, Failure<'a>>
+    ensures { status ≤ MEMORY → IfOk result (λ s. s ≤ MEMORY) }
+{
+    match out.flush() {
+        Ok(()) => Ok(status),
+        Err(cause) if status == DONE => Err(Failure::Output(cause)),
+        Err(cause) => {
+            let _ = Failure::Output(cause).write(err);
+            Ok(status)
+        }
+    }
 }
 
 /// Runs the command that the words name, the first of which is the program's own name, and answers its

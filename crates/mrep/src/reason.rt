@@ -133,11 +133,14 @@ pub fn write_cause<W: Write>(
     }
 }
 
-/// Writes the message of a source, of which only printable ASCII stands for itself.
+/// Writes the message of a source, of which only printable ASCII but the backslash stands for itself.
 fn write_message<W: Write>(stream: &str, message: &[u8], out: &mut W) -> io::Result<()> {
     write!(out, "mrep: {stream}: the source says: ")?;
     for byte in message {
-        write!(out, "{}", byte.escape_ascii())?;
+        match *byte {
+            plain @ (b' '..=b'[' | b']'..=b'~') => out.write_all(&[plain])?,
+            other => write!(out, "\\x{other:02x}")?,
+        }
     }
     writeln!(out)
 }

@@ -9,7 +9,7 @@ use crate::name::read_table;
 use crate::reading::{read_some, read_stream};
 use crate::reason::{first_status, write_cause, write_end};
 use binlog::Follow;
-use replica::{Config, Ended};
+use replica::{Config, Ended, Reason};
 use sqlite::Alter;
 use std::alloc::Global;
 use std::fs;
@@ -23,6 +23,13 @@ const PIECE: usize = 65_536;
 
 /// The server id of the replica. No source reads what a replay would send.
 const SERVER_ID: u32 = 1;
+
+/// How a connection ends that cannot be begun, as one of `run` does.
+const NO_MEMORY: Ended = Ended {
+    reason: Reason::Memory,
+    at: 0,
+    applied: 0,
+};
 
 /// A stream that is open, with its first byte, if it has one.
 #[derive(Drop)]
@@ -146,9 +153,11 @@ fn read_one<'a, S: Alter>(
         first,
     } = stream;
     let Ok(config) = Config::new(alloc, b"", b"", SERVER_ID, false, LARGEST_PAYLOAD) else {
-        return Err(Failure::Memory);
+        return Ok(NO_MEMORY);
     };
-    let mut piece = vec![in alloc; 0; PIECE]?;
+    let Ok(mut piece) = vec![in alloc; 0; PIECE] else {
+        return Ok(NO_MEMORY);
+    };
     match read_stream(config, store, first.as_slice(), &mut file, &mut piece) {
         Ok(end) => Ok(end),
         Err(cause) => Err(Failure::File { name, cause }),

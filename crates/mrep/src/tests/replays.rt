@@ -402,6 +402,25 @@ fn mistakes(rt: HostRuntime) -> Result<(), Fail> {
     Ok(())
 }
 
+const DENIED: &[u8] = b"\x24\0\0\0\xff\x15\x04Access denied for user 'repl'@'h'";
+
+#[test]
+fn what_a_source_says(rt: HostRuntime) -> Result<(), Fail> {
+    fresh(&rt, "denied.db")?;
+    fs::write(&rt, "denied", DENIED)?;
+    let words = ["mrep", "replay", "--db", "denied.db", "denied"];
+    let (status, out, err) = run(&rt, &words)?;
+    assert_eq!(rt;
+        (status, out.as_str()),
+        (1, "1 SourceError.1045 at 0 applied 0\n")
+    );
+    assert_eq!(rt;
+        err.as_str(),
+        "mrep: denied: the source says: Access denied for user 'repl'@'h'\n"
+    );
+    Ok(())
+}
+
 /// The first status that is not 0 is answered, and a file that is no database is status 3.
 #[test]
 fn statuses(rt: HostRuntime) -> Result<(), Fail> {
