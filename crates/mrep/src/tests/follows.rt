@@ -1,6 +1,7 @@
 //! Sources that are followed: over loopback, and a history that is asked for again after every cut.
 
 use super::forge::{request, row, three};
+use super::replays::fresh;
 use super::run;
 use super::streams::{DUMP, ONE_TRANSACTION};
 use crate::forge::{Ending, Script, answer, check, opening};
@@ -346,7 +347,8 @@ fn follow_tells_where_nobody_listens(rt: HostRuntime) -> Result<(), Fail> {
     assert_eq!(rt; (status, out.as_str()), (3, ""));
     assert!(rt; err.as_str().starts_with("mrep: 127.0.0.1: "));
     assert!(rt; !err.as_str().contains("secret"));
-    Ok(())
+    fs::remove_file(&rt, "password")?;
+    fresh(&rt, "follow.db")
 }
 
 /// A name of 256 bytes.
@@ -400,5 +402,6 @@ fn follow_looks_for_faults_in_order(rt: HostRuntime) -> Result<(), Fail> {
         assert_eq!(rt; (status, out.as_str()), (want, ""), "{port} {id}");
         assert!(rt; err.as_str().starts_with(text), "{err}");
     }
+    fs::remove_file(&rt, "password")?;
     Ok(())
 }

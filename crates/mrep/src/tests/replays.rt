@@ -23,7 +23,7 @@ fn says(rt: &HostRuntime, words: &[&str], want: u8, lines: &str) -> Result<(), F
 }
 
 /// A database without a file.
-fn fresh(rt: &HostRuntime, db: &str) -> Result<(), Fail> {
+pub fn fresh(rt: &HostRuntime, db: &str) -> Result<(), Fail> {
     let _ = fs::remove_file(rt, db);
     let log = format!(in rt.alloc(); "{db}-wal")?;
     let _ = fs::remove_file(rt, log.as_str());
@@ -418,7 +418,8 @@ fn what_a_source_says(rt: HostRuntime) -> Result<(), Fail> {
         err.as_str(),
         "mrep: denied: the source says: Access denied for user 'repl'@'h'\n"
     );
-    Ok(())
+    fs::remove_file(&rt, "denied")?;
+    fresh(&rt, "denied.db")
 }
 
 /// The first status that is not 0 is answered, and a file that is no database is status 3.
