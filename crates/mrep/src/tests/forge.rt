@@ -308,3 +308,36 @@ fn checks(rt: HostRuntime) -> Result<(), Fail> {
     assert_eq!(rt; check(alloc, &[]).err(), Some(ForgeFault::Request));
     Ok(())
 }
+
+/// A table of one column whose values have four bytes for their length.
+fn blobs(alloc: Global) -> Result<TableDef, Fail> {
+    let mut types = Vec::new(alloc);
+    let kind = ColumnKind::Blob { prefix: 4 };
+    types.push(ColumnType::new(kind).ok_or("a type")?)?;
+    Ok(TableDef::new(
+        Vec::from_slice(alloc, b"shop")?,
+        Vec::from_slice(alloc, b"blobs")?,
+        types,
+    ))
+}
+
+/// An event that is longer than a payload may be.
+#[test]
+fn refuses_too_large_an_event(rt: HostRuntime) -> Result<(), Fail> {
+    let alloc = rt.alloc();
+    let mut cells = Vec::new(alloc);
+    cells.push(OwnedCell::Bytes(vec![in alloc; 0; 1 << 30]?))?;
+    let mut pairs = Vec::new(alloc);
+    pairs.push(OwnedPair::Insert { after: cells })?;
+    let mut large = script(alloc, 1, RowsKind::Write, pairs, Ending::Xid)?;
+    for part in &mut large.parts {
+        part.table = blobs(alloc)?;
+    }
+    let mut history = Vec::new(alloc);
+    history.push(large)?;
+    assert_eq!(rt;
+        answer(alloc, &history, &DUMP[4..]).err(),
+        Some(ForgeFault::TooLarge)
+    );
+    Ok(())
+}
