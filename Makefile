@@ -1,7 +1,8 @@
 # make        prove and build mrep, put it at bin/mrep, and run it on a sample: a captured stream is replayed into a new
 #             database, whose rows and executed set are shown
-# make test   the whole gate: a program that must not compile, a file read by sqlite3, every proof from nothing, the
-#             wrong bodies, the tests and the program, and then the captured streams, by the program that was built
+# make test   the whole gate: a program that must not compile, every proof from nothing, the wrong bodies, the tests and
+#             the program, and then, by the program that was built, what tests/ has: files read by sqlite3, captured
+#             streams, a source over loopback, and the pages' commands, examples and names
 # make bench  time mrep, the sets and the transactions against plain Rust programs that do the same jobs, and the store
 #             against the C library of SQLite (needs rustc; the store python3 too)
 
@@ -20,7 +21,6 @@ build:
 
 test:
 	tests/borrows/run
-	tests/sqlite3/run
 	tests/gate/run
 
 bench: build

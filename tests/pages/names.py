@@ -1,0 +1,138 @@
+"""Looks whether each file, function, clause, law and definition that a page names is there.
+
+    python3 tests/pages/names.py ROOT
+
+- A link, and a path in backticks, has to exist: from the root, from the page's folder, or from the crate's.
+- `CRATE::NAME` and `CRATE::TYPE::NAME` have to be items of that crate.
+- `clause `X`` or `clauses `X`, `Y`` after a function: a clause of a function that the same sentence or row names.
+- In a crate's page: the first column of a table `Function` or `Law` names functions of the crate, and its second
+  column clauses of theirs.
+- A table `File` | `Lines`: the file has about so many lines.
+"""
+import glob, os, re, sys
+
+root = os.path.abspath(sys.argv[1])
+CRATES = ['wire', 'greet', 'gtid', 'binlog', 'gather', 'store', 'replica', 'mrep']
+TOP = ('crates/', 'docs/', 'tests/', 'bench/', 'samples/', 'specs/', 'src/', 'proofs/', 'must-fail/', '.ci/')
+bad = []
+
+
+def read(path):
+    with open(path, encoding='utf-8') as file:
+        return file.read()
+
+
+def items(crate):
+    """The names of a crate's items, and of each function, also as TYPE::NAME, its clauses."""
+    names, clauses = set(), {}
+    for path in glob.glob(f'{root}/crates/{crate}/src/**/*.rt', recursive=True):
+        owner, function = None, None
+        for line in read(path).split('\n'):
+            found = re.match(r'(?:impl\b[^{]*?\b(?:for )?|pub trait )(\w+)(?:<[^{]*>)?(?: where.*)? \{', line)
+            if found: owner = found.group(1)
+            elif line == '}': owner = None
+            found = re.match(r'\s*(?:pub(?:\(crate\))? )?(?:const )?(?:unsafe )?fn (\w+)', line)
+            if found:
+                function = [found.group(1)] + ([f'{owner}::{found.group(1)}'] if owner else [])
+                for name in function: clauses.setdefault(name, set())
+                continue
+            found = re.match(r'\s*(?:pub(?:\(crate\))? )?(?:struct|enum|trait|const|mod|type) (\w+)', line)
+            if found: names.add(found.group(1))
+            found = re.match(r'\s*ensures (\w+) \{', line)
+            if found and function:
+                for name in function: clauses[name].add(found.group(1))
+            found = re.match(r'    (\w+)(?:\(.*\)| \{.*)?,?$', line)
+            if found: names.add(found.group(1))
+    return names, clauses
+
+
+def words(crate):
+    """The definitions of a crate."""
+    found = set()
+    for path in glob.glob(f'{root}/crates/{crate}/specs/*.antt'):
+        found.update(re.findall(r'^\s*(?:unfoldable |abbrev )?(?:pub )?(?:record |data )?(\w+)', read(path), re.M))
+    return found
+
+
+INDEX = {crate: items(crate) for crate in CRATES}
+WORDS = {crate: words(crate) for crate in CRATES}
+
+
+def there(page, path):
+    folders = [root, os.path.dirname(page)]
+    folder = os.path.relpath(page, root).split('/')
+    if folder[0] == 'crates': folders.append(f'{root}/crates/{folder[1]}')
+    return any(glob.glob(os.path.join(folder, path)) for folder in folders)
+
+
+def paths(page, text):
+    for target in re.findall(r'\]\(([^)#]+)(?:#[^)]*)?\)', text):
+        if not target.startswith('http') and not os.path.exists(os.path.join(os.path.dirname(page), target)):
+            yield f'no file {target}'
+    for token in re.findall(r'`([\w.*/-]+)`', text):
+        if (token.startswith(TOP) or re.fullmatch(r'[\w/-]+\.(?:md|rt|antt|py|rs)', token)) and not there(page, token):
+            yield f'no file {token}'
+
+
+def qualified(text):
+    for token in re.findall(r'`((?:%s)::[\w:]+)`' % '|'.join(CRATES), text):
+        crate, *rest = token.split('::')
+        names, clauses = INDEX[crate]
+        last = '::'.join(rest[-2:])
+        if not (rest[-1] in names or rest[-1] in WORDS[crate] or last in clauses or (len(rest) < 3 and rest[-1] in clauses)):
+            yield f'no item {token}'
+
+
+def of_sentence(crate, sentence):
+    """The functions that a sentence names, with their crate."""
+    for token in re.findall(r'`([\w:]+)`', sentence):
+        parts = token.split('::')
+        if parts[0] in CRATES and len(parts) > 1: yield parts[0], '::'.join(parts[1:])
+        elif crate: yield crate, token
+
+
+def has_clause(functions, clause):
+    for crate, name in functions:
+        clauses = INDEX[crate][1]
+        for key in (name, '::'.join(name.split('::')[-2:]), name.split('::')[-1]):
+            if clause in clauses.get(key, ()): return True
+    return False
+
+
+def claims(crate, text):
+    for sentence in re.split(r'(?<=[.;])\s|\n', text):
+        for group in re.findall(r'\bclauses? ((?:`\w+`(?:, | and )?)+)', sentence):
+            for clause in re.findall(r'`(\w+)`', group):
+                if not has_clause(list(of_sentence(crate, sentence)), clause): yield f'no clause {clause}: {sentence[:90]}'
+
+
+def tables(page, crate, text):
+    kind, functions = None, []
+    for line in text.split('\n'):
+        cells = [cell.strip() for cell in line.strip('|').split(' | ')] if line.startswith('|') else []
+        if not cells: kind = None; continue
+        if cells[0] in ('Function', 'Law', 'File', 'Promise'): kind = cells[0]; continue
+        if kind in ('Function', 'Law') and crate and not set(cells[0]) <= set('|- '):
+            named = re.findall(r'`([\w:]+)`', cells[0])
+            if named: functions = named
+            for name in named:
+                known = INDEX[crate][1]
+                if not (name in known or '::'.join(name.split('::')[-2:]) in known): yield f'no function {name}'
+            for clause in re.findall(r'`(\w+)`', cells[1]) if len(cells) > 2 else []:
+                if not has_clause([(crate, name) for name in functions], clause): yield f'no clause {clause} of {functions}'
+        if kind == 'File' and len(cells) > 1 and cells[1].isdigit():
+            path = re.search(r'`([^`]+)`', cells[0]).group(1)
+            lines = read(os.path.join(root, path)).count('\n') if os.path.exists(os.path.join(root, path)) else 0
+            if abs(lines - int(cells[1])) > max(10, lines // 5): yield f'{path} has {lines} lines'
+
+
+pages = [path for pattern in ('*.md', 'docs/*.md', 'crates/*/README.md', 'samples/*.md', 'bench/*.md')
+         for path in sorted(glob.glob(f'{root}/{pattern}'))]
+for page in pages:
+    text = read(page)
+    folder = os.path.relpath(page, root).split('/')
+    crate = folder[1] if folder[0] == 'crates' and folder[1] in CRATES else None
+    for finding in [*paths(page, text), *qualified(text), *claims(crate, text), *tables(page, crate, text)]:
+        bad.append(f'{os.path.relpath(page, root)}: {finding}')
+print('\n'.join(bad), end='\n' if bad else '')
+sys.exit(1 if bad else 0)
