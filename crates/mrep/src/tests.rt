@@ -254,14 +254,14 @@ fn minus(rt: HostRuntime) -> Result<(), Fail> {
             ":0",
             2,
             "",
-            "mrep: Y: a number is outside its range\n",
+            "mrep: Y: a transaction number is outside 1 to 9223372036854775806\n",
         ),
         (
             ":1",
             ":1,",
             2,
             "",
-            "mrep: Y: no GTID set: the text is wrong at byte 39\n",
+            "mrep: Y: not a GTID set: the text is wrong at byte 39\n",
         ),
     ];
     for (left, right, want, printed, failed) in cases {
