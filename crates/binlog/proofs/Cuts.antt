@@ -67,7 +67,7 @@ cut n m xs = sym (take-append-drop m (drop n xs)) ∙ ap (λ rest. take m (drop 
 pub one : (n : ℕ) (xs : List ℕ) → n < length xs → drop n xs ≡ get_or xs n 0 ∷ drop (suc n) xs
 one n xs short = drop-cons xs n 0 short
 
--- what stands behind a front
+-- what follows a front
 pub behind : (n m : ℕ) (front rest : List ℕ) → length front ≡ n → drop (n + m) (front ++ rest) ≡ drop m rest
 behind n m front rest long = ap (λ k. drop (k + m) (front ++ rest)) (sym long) ∙ drop-append-add front rest m
 

@@ -62,7 +62,7 @@ by_parts : (id flags schema table count codes m md nb : List ℕ) →
     id ++ (flags ++ schema) ++ table ++ (0 ∷ []) ++ count ++ codes ++ m ++ md ++ nb ≡ id ++ flags ++ schema ++ table ++ (0 ∷ (count ++ codes ++ m ++ md ++ nb ++ []))
 by_parts id flags schema table count codes m md nb = simp (append_assoc, append-nil)
 
--- the table map, of which some body is
+-- the table map of some body
 pub record Suits (t : TableValue) : Type 0 where
   pub an_id : t.id < 2 ^ 48
   pub schema : length t.schema < 256
