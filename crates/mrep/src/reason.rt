@@ -125,7 +125,7 @@ pub fn write_cause<W: Write>(
         Reason::Refused(Refusal::CountFull(at)) => {
             writeln!(
                 out,
-                "mrep: {stream}: change {at}: the row is there as often as can be"
+                "mrep: {stream}: change {at}: the count of the row is at its maximum"
             )
         }
         Reason::Database(fault) => writeln!(out, "mrep: {file}: {fault}"),
