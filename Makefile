@@ -1,9 +1,9 @@
-# make        prove and build mrep, put it at bin/mrep, and run it on a sample: a captured stream is replayed into a new
-#             database, whose rows and executed set are shown
-# make test   the whole gate: a program that must not compile, a file read by sqlite3, every proof from nothing, the
-#             wrong bodies, the tests and the program, and then the captured streams, by the program that was built
-# make bench  time mrep, the sets and the transactions against plain Rust programs that do the same jobs, and the store
-#             against the C library of SQLite (needs rustc; the store python3 too)
+# make        proves and builds mrep, puts it at bin/mrep, and runs it on a sample: a captured stream is replayed into
+#             a new database, whose rows and executed set are shown
+# make test   runs the whole gate: a program that must not compile, a file read by sqlite3, every proof from nothing,
+#             the wrong bodies, the tests and the program, and then the captured streams with the program that was built
+# make bench  times mrep, the sets and the transactions against plain Rust programs that do the same jobs, and the
+#             store against the C library of SQLite (needs rustc; the store also python3)
 
 .PHONY: all build test bench
 
