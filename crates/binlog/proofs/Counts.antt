@@ -132,7 +132,7 @@ is_counted bytes place kind fits none =
     let not_last : first ≡ 255 → ⊥ = λ e. false≢true (sym nonzero ∙ ap (λ f. width_of f == 0) e) in
     record { whole = whole; encoded = encoded_at bytes place fits (begins first (fits place) not_null not_last) there whole }
 
--- There is no count, but its first byte begins one, if there is a first byte.
+-- There is no count, although its first byte, if there is one, begins one.
 pub too_few : (bytes : List ℕ) (place : ℕ) (kind : EventFaultKind) → IsBytes bytes → ((n len : ℕ) → IsLengthEncoded n (take len (drop place bytes)) → ⊥) →
     (place + 1 ≤ length bytes → (get_or bytes place 0 ≡ 251 → ⊥) × (get_or bytes place 0 ≡ 255 → ⊥)) → no_count bytes place kind ≡ Some (record { kind = Truncated; at = place })
 unfolding no_count

@@ -42,7 +42,7 @@ pub all_metadata_short : (kinds : List ColumnKind) → length (flat_map metadata
 all_metadata_short [] = omega arith
 all_metadata_short (kind ∷ kinds) = omega (arith, metadata_short kind, all_metadata_short kinds, length-append (metadata kind) (flat_map metadata kinds))
 
--- the shortest spelling of a small number
+-- the shortest encoding of a small number
 pub record Spelled (n : ℕ) : Type 0 where
   pub is : IsLengthEncoded n (length_encoded n)
   pub short : length (length_encoded n) ≤ 3

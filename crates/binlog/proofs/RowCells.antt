@@ -239,7 +239,7 @@ one_there bitmap i t types bytes size first (Ok n) clear is fits total others =
       nulls = earlier bitmap i (length types) (cell_of (shape t) bytes) (cells_of bitmap (suc i) types (drop first bytes)) (clear ∙ sym v.not_null) o.nulls;
     })
 
--- by what stands for the first column
+-- depending on the value of the first column
 by_value : (bitmap : List ℕ) (i : ℕ) (t : ColumnKind) (types : List ColumnKind) (bytes : List ℕ) (size : ℕ) (end : Result ℕ ℕ) → is_set bitmap i ≡ false → value_end (shape t) bytes ≡ end → IsBytes bytes →
     (end >>= (λ n. values_end bitmap (suc i) types (drop n bytes))) ≡ Ok size →
     ((first n : ℕ) → values_end bitmap (suc i) types (drop first bytes) ≡ Ok n → AreThere bitmap (suc i) types (cells_of bitmap (suc i) types (drop first bytes)) (drop first bytes) n) →

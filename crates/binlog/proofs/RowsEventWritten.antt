@@ -13,7 +13,7 @@ use Rattle.binlog.proofs.FullBitmap.{all_present}
 
 -- ---- Counts and bitmaps.
 
--- a spelling is determined by its width
+-- an encoding is determined by its width
 same_count : (n : ℕ) (count : List ℕ) → IsLengthEncoded n count → count_bytes (length count) n ≡ count
 same_count n count (inl (fits, is)) = ap (λ c. count_bytes (length c) n) is ∙ sym is
 same_count n count (inr (inl (fits, is))) = ap (λ c. count_bytes (length c) n) is ∙ sym is

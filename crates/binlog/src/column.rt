@@ -291,7 +291,7 @@ fn string(first: u8, second: u8) -> Result<ColumnType, EventFaultKind>
     }
 }
 
-/// The type, where its metadata is in range.
+/// The type, if its metadata is in range.
 fn in_range(kind: ColumnKind) -> Result<ColumnType, EventFaultKind>
     ensures ok { IfOk result (λ column. column.kind ≡ kind) }
     ensures err { IfErr result (λ fault. when (not (is_lawful kind)) Metadata ≡ Some fault) }

@@ -610,7 +610,7 @@ fn map_of(alloc: Global, types: &[u8], metadata: &[u8]) -> Result<Vec<u8>, Fail>
     event(alloc, 19, 0, &body)
 }
 
-/// Types whose metadata is read, and where it is refused.
+/// Types whose metadata is read, and the offsets at which it is refused.
 #[test]
 fn metadata(rt: HostRuntime) -> Result<(), Fail> {
     let alloc = rt.alloc();

@@ -70,7 +70,7 @@ digits_second m n s (b ∷ bs) rest h =
 
 -- ---- Intervals.
 
--- An interval is at hand.
+-- An interval has been read, and not yet been ended.
 abbrev Pending : Part → ℕ × ℕ → Type 0
 Pending p i = ((p ≡ First (at_most i.0)) × (i.1 ≡ i.0)) ⊎ (p ≡ Second (at_most i.0) (at_most i.1))
 

@@ -11,7 +11,7 @@ use Rattle.gtid.specs.declared.span.Span.{Span}
 use Rattle.store.specs.Rows.{AreLeast}
 use Rattle.store.proofs.SpanLists.{IsSome, IsClear, removed}
 
--- the span that an identifier lies in
+-- the span that a GTID is in
 pub record Lies (q : Id) (spans : List Span) : Type 0 where
   pub t : Span
   pub has : Has spans t

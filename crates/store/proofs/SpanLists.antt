@@ -66,7 +66,7 @@ all_apart b (t ∷ rest) all = (apart_from b t all.0, all_apart b rest all.1)
 
 -- ---- one span is taken out
 
--- What is left besides this part of the spans' numbers.
+-- What is left apart from this part of the spans' numbers.
 pub record Split (source : List ℕ) (lo hi : ℕ) (before after : List Span) : Type 1 where
   pub some : AllByRecursion IsSome after
   pub apart : IsDistinct touches after

@@ -1,4 +1,4 @@
--- The spans beside a number and the number become one span.
+-- The spans next to a number and the number become one span.
 use Rattle.std.proofs.Common.{get_or, suc, ◌≡◌, ◌≢◌, inl, inr, ℕ, ◌+◌, ◌<◌, ◌≤◌, pos, List, [], ◌∷◌, map, Bool, true, false, Some, None, Option, Ok, Err, Result, OnOk, sym, ap, ◌∙◌, arith}
 use Rattle.std.specs.Option.{unwrap_or, is_some}
 use Rattle.std.specs.List.{AllByRecursion, IsDistinct}

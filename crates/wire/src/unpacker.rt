@@ -9,7 +9,7 @@ use byteorder::{ByteOrder, LittleEndian};
 use std::alloc::Global;
 use std::mem;
 
-/// The current payload, of which some bytes have come.
+/// The current payload, as far as its bytes have come.
 #[derive(Drop)]
 pub(crate) struct Unpacker {
     /// The longest payload that is taken, in bytes.
