@@ -20,7 +20,7 @@ pub enum EventFaultKind {
     #[error("the version of the binlog format is not 4")]
     FormatVersion,
     /// A format description with this checksum algorithm, which is not 0 (no checksums).
-    #[error("the source writes checksums (algorithm {0})")]
+    #[error("the checksum algorithm is {0}, not 0 (none)")]
     Checksum(u8),
     /// A format description with an unexpected header length, too few post-header lengths, or one that differs for a
     /// type that is supported.

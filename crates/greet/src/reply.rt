@@ -81,8 +81,9 @@ fn read_switch(body: &[u8]) -> Result<[u8; 20], GreetFault>
 
 /// Reads an OK.
 ///
-/// An empty payload, or an OK whose fields do not fit, is reported as `Truncated`, an ERR as `ServerError` (as `Truncated` if
-/// it is shorter than three bytes), and another first byte as `Unexpected`. `Memory` if an allocation was refused.
+/// An empty payload, or an OK whose fields do not fit, is reported as `Truncated`, an ERR as `ServerError` (as
+/// `Truncated` if it is shorter than three bytes), and another first byte as `Unexpected`. `Memory` if an allocation
+/// was refused.
 pub fn read_ok(alloc: Global, payload: &[u8]) -> Result<(), GreetFault>
     ensures ok { OnOk result (IsOkPacket payload.now) }
     ensures only { IsOkPacket payload.now → MatchResult result (λ _. ⊤) (λ fault. fault ≡ GreetFault.Memory) }
