@@ -1,10 +1,10 @@
-# make        prove and build mrep, put it at bin/mrep, and run it on a sample: a captured stream is replayed into a new
-#             database, whose rows and executed set are shown
-# make test   the whole gate: a program that must not compile, every proof from nothing, the wrong bodies, the tests and
-#             the program, and then, by the program that was built, what tests/ has: files read by sqlite3, captured
-#             streams, a source over loopback, and the pages' commands, examples and names
-# make bench  time mrep, the sets and the transactions against plain Rust programs that do the same jobs, and the store
-#             against the C library of SQLite (needs rustc; the store python3 too)
+# make        proves and builds mrep, puts it at bin/mrep, and runs it on a sample: a captured stream is replayed into
+#             a new database, whose rows and executed set are shown
+# make test   runs the whole gate: a program that must not compile, every proof from nothing, the wrong bodies, the tests
+#             and the program, and then, with the program that was built, what tests/ has: files read by sqlite3,
+#             captured streams, a source over loopback, and the commands, examples and names of the pages
+# make bench  times mrep, the sets and the transactions against plain Rust programs that do the same jobs, and the
+#             store against the C library of SQLite (needs rustc; the store also python3)
 
 .PHONY: all build test bench
 

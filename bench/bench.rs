@@ -4,9 +4,9 @@
 //!
 //!     bench MREP PACKETS GTID_BENCH GTID BINLOG_BENCH GATHER_BENCH EVENTS STORE_BENCH STORE FOLDER
 //!
-//! It makes each input of files in the folder. Both programs of a job run in turn, five times each (a store three), and
-//! have to print the same; the line has their best times, the ratio of these and the greatest resident size of
-//! each. The status is 1 where a goal is missed. Where there is no `python3` the stores are passed over.
+//! It makes each input from files in the folder. Both programs of a job run in turn, five times each (for stores three
+//! times), and must print the same; the line has their best times, the ratio of these and the greatest resident size of
+//! each. The status is 1 if a goal is missed. If there is no `python3`, the stores are skipped.
 
 mod replay;
 
@@ -22,10 +22,10 @@ const STORE_RUNS: usize = 3;
 
 /// The goal of `mrep packets`: at most this many times the time of the Rust program,
 const PACKETS_TIMES: f64 = 1.3;
-/// and at most the largest payload twice and this much more.
+/// and at most twice the largest payload and this much memory more.
 const MORE: usize = 16 * MIB;
 
-/// The goal of events: of their rows to the last cell, and of their list.
+/// The goal of events: for their rows to the last cell, and for their list.
 const EVENTS_TIMES: f64 = 1.5;
 
 /// The goal of gathering transactions: a row is read twice, so that its image has its final size from the start.
@@ -34,10 +34,10 @@ const GATHER_TIMES: f64 = 2.5;
 /// The goal of each operation on sets.
 const GTID_TIMES: f64 = 1.5;
 
-/// The goal of a store in a file.
+/// The goal for a store in a file.
 const STORE_TIMES: f64 = 3.0;
 
-/// What a store is given: so many transactions of so many rows each, or so many rows, taken out and put in again.
+/// What a store is given: transactions with a number of rows each, or rows that are removed and inserted again.
 const STORES: [(&str, &[&str]); 3] = [
     ("a store of 20,000 transactions of one row", &["add", "20000", "1"]),
     ("a store of 200 transactions of 1,000 rows", &["add", "200", "1000"]),
@@ -210,7 +210,7 @@ fn mib(bytes: usize) -> f64 {
     bytes as f64 / MIB as f64
 }
 
-/// What the first of two programs is held to.
+/// What the first of two programs must achieve.
 struct Goal {
     /// What the second one is.
     other: &'static str,
@@ -227,7 +227,7 @@ impl Goal {
     }
 }
 
-/// Whether the goal is met by the first of two programs that do the same job. `before` comes before each run.
+/// Whether the goal is met by the first of two programs that do the same job. `before` is called before each run.
 fn compare_from(
     job: &str,
     ours: &[&str],
@@ -267,12 +267,12 @@ fn compare_from(
     Ok(agree && ratio <= goal.times && most(&our_runs) <= goal.bound)
 }
 
-/// The same of plain Rust programs, which find their input as they are.
+/// As `compare_from`, for plain Rust programs, which use their input as it is.
 fn compare(job: &str, ours: &[&str], theirs: &[&str], folder: &Path, times: f64, bound: usize) -> io::Result<bool> {
     compare_from(job, ours, theirs, folder, &Goal::of(times, bound), || Ok(()))
 }
 
-/// Removes a database and what stands beside it.
+/// Removes a database and the files next to it.
 fn remove_store(file: &str) -> io::Result<()> {
     for path in [file.to_string(), format!("{file}-wal"), format!("{file}-shm")] {
         match fs::remove_file(path) {
@@ -283,7 +283,7 @@ fn remove_store(file: &str) -> io::Result<()> {
     Ok(())
 }
 
-/// Whether the goals are met by stores in a file, against the C library. Both open the same database.
+/// Whether the goals are met for stores in a file, compared with the C library. Both open the same database.
 fn compare_stores(store_bench: &str, store: &str, folder: &Path) -> io::Result<bool> {
     let python = Command::new("python3").args(["-c", "import sqlite3"]).stderr(Stdio::null()).status();
     if !python.is_ok_and(|status| status.success()) {

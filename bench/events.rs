@@ -4,12 +4,12 @@
 //!     events gather FILE   the changes of its transactions, and the bytes of their images
 //!     events list FILE     a line for each event
 //!
-//! It reads the layouts as they stand and trusts its input: nothing is looked at but what is needed.
+//! It relies on the layouts and trusts its input: only what is needed is read.
 
 use std::fs;
 use std::io::{self, BufWriter, Write};
 
-/// How the values of a column stand in a row.
+/// How the values of a column are stored in a row.
 enum Shape {
     Number(usize),
     Fixed(usize),
@@ -96,7 +96,7 @@ fn rows(shapes: &[Shape], body: &[u8], found: &mut (u64, u64)) {
     }
 }
 
-/// The stored images of the rows of a write, from its body, one behind the other in a list.
+/// The stored images of the rows of a write, from its body, one after the other in a list.
 fn images(shapes: &[Shape], body: &[u8], scratch: &mut Vec<u8>, images: &mut Vec<Vec<u8>>) {
     let bitmap = shapes.len().div_ceil(8);
     let mut rest = &body[8 + usize::from(body[8]) + 1 + bitmap..];
@@ -129,7 +129,7 @@ fn images(shapes: &[Shape], body: &[u8], scratch: &mut Vec<u8>, images: &mut Vec
     }
 }
 
-/// The line of an event but for its place.
+/// The line of an event without its offset.
 fn list(event: &[u8], out: &mut impl Write) -> io::Result<()> {
     let body = &event[19..];
     write!(out, "{} {} ", event[4], number(&event[9..13]))?;

@@ -1,5 +1,5 @@
-//! The jobs of `crates/gtid_bench` in plain Rust with the standard library alone, by the same algorithms over
-//! `Vec<(u64, u64)>`: the yardstick of `make bench`. A text is read in one pass, with the same refusals.
+//! The jobs of `crates/gtid_bench` in plain Rust with only the standard library, by the same algorithms over `Vec<(u64,
+//! u64)>`: the reference of `make bench`. A text is read in one pass, with the same faults.
 
 use std::fmt::Write;
 use std::process::ExitCode;
@@ -18,7 +18,7 @@ fn next(seed: &mut u64) -> u64 {
     *seed >> 33
 }
 
-/// Least intervals, each from its first number up to, but without, its end.
+/// Least intervals, each from its first number up to but not including its end.
 type Set = Vec<(u64, u64)>;
 
 fn has(set: &Set, number: u64) -> bool {
@@ -188,7 +188,7 @@ enum Fault {
     Interval,
 }
 
-/// An interval of a source, from its first number up to, but without, its end.
+/// An interval of a source, from its first number up to but not including its end.
 struct Span {
     source: [u8; 16],
     lo: u64,
@@ -242,7 +242,7 @@ impl Reader<'_> {
         Ok(source)
     }
 
-    /// A number of one digit or more, or the greatest one.
+    /// A number of at least one digit, or the greatest one.
     fn number(&mut self) -> Result<u64, Fault> {
         let start = self.at;
         let mut number = 0u64;
@@ -254,7 +254,7 @@ impl Reader<'_> {
     }
 }
 
-/// The intervals as they are written. A text that is none comes before a number that is wrong.
+/// The intervals as they are written. A text that is not a set is reported before a number that is wrong.
 fn read(text: &str) -> Result<Vec<Span>, Fault> {
     let mut reader = Reader { text: text.as_bytes(), at: 0 };
     let mut spans = Vec::new();
@@ -316,7 +316,7 @@ fn gather(mut spans: Vec<Span>) -> Vec<([u8; 16], Set)> {
     groups
 }
 
-/// How many intervals the set of a text has, or 0 where it is none.
+/// How many intervals the set of a text has, or 0 if the text is not a set.
 fn read_count(text: &str) -> u64 {
     match read(text) {
         Ok(spans) => gather(spans).iter().map(|(_, set)| set.len() as u64).sum(),
@@ -324,7 +324,7 @@ fn read_count(text: &str) -> u64 {
     }
 }
 
-/// The text of a set is read five times.
+/// Reads the text of a set five times.
 fn parse() -> u64 {
     let mut seed = 1;
     let set = intervals(&mut seed);
@@ -333,7 +333,7 @@ fn parse() -> u64 {
     (0..5).map(|_| read_count(&text)).sum()
 }
 
-/// A text of 10 MB with an item for each interval, of sixteen sources, at any places, is read five times.
+/// Reads five times a text of 10 MB with one interval in each item, of sixteen sources, in any order.
 fn parse_scattered() -> u64 {
     let mut seed = 1;
     let mut text = String::new();

@@ -1,4 +1,4 @@
-//! The job of `mrep packets` in plain Rust with the standard library alone: the yardstick of `make bench`.
+//! The job of `mrep packets` in plain Rust with only the standard library: the reference of `make bench`.
 //!
 //! It assembles each payload in a vector of its own, checks the sequence ids inside a payload and the
 //! limit, and reads and writes with the same buffers.
@@ -20,7 +20,7 @@ struct Listing {
     header: [u8; 4],
     filled: usize,
     left: usize,
-    /// The id that is due, inside a payload.
+    /// The expected id inside a payload.
     due: Option<u8>,
     /// The id of the payload's first packet.
     first: u8,

@@ -1,7 +1,9 @@
-//! Times `mrep replay` against `store_bench`, which gives a store the same transactions, with a stream in pieces of one
-//! byte against one in pieces of 64 KiB, and `mrep follow` over loopback against `mrep replay` of the same bytes.
+//! Times `mrep replay` against `store_bench`, which gives a store the same transactions; a stream in pieces of one byte
+//! against one in pieces of 64 KiB; and `mrep follow` over the loopback interface against `mrep replay` of the same
+//! bytes.
 //!
-//! The databases stand in memory, under /dev/shm, where there is such a folder, so that no time is that of a disk's syncs.
+//! The databases are in memory, under /dev/shm, if there is such a folder, so that the times do not include the syncs
+//! of a disk.
 
 use super::{FORMAT, Run, best, event, gtid, mib, most, remove_store, run};
 use std::fs::{self, File, OpenOptions};
@@ -16,14 +18,14 @@ const RUNS: usize = 3;
 
 /// The goals: at most these many times the time of a store that is given the same transactions,
 const REPLAY_TIMES: f64 = 1.1;
-/// of a stream in pieces of 64 KiB where it comes in pieces of one byte,
+/// of a stream in pieces of 64 KiB, for one in pieces of one byte,
 const BYTES_TIMES: f64 = 20.0;
-/// and of a replay of the bytes that come over loopback.
+/// and of a replay of the bytes, for the same bytes over the loopback interface.
 const FOLLOW_TIMES: f64 = 1.1;
-/// A stream of five times the length takes at most so many times the memory.
+/// A stream of five times the length takes at most this many times the memory.
 const MEMORY_TIMES: f64 = 1.25;
 
-/// Linux: what makes each read of a pipe give what one write has put in.
+/// Linux: makes each read of a pipe return what one write has put in.
 const F_SETFL: i32 = 4;
 const O_DIRECT: i32 = 0o40000;
 
@@ -40,7 +42,8 @@ const TEXT: &[u8] = b"\x10sixteen bytes...";
 /// How many rows an event has at most.
 const ROWS: u64 = 300;
 
-/// A connection with transactions of so many inserts each, of the rows of `store_bench add`, and the end of the log.
+/// A connection with transactions of this many inserts each, of the rows of `store_bench add`, and the EOF at the end
+/// of the log.
 fn make(path: &Path, transactions: u64, changes: u64) -> io::Result<()> {
     let mut out = BufWriter::new(File::create(path)?);
     out.write_all(OPENING)?;
@@ -68,7 +71,7 @@ fn make(path: &Path, transactions: u64, changes: u64) -> io::Result<()> {
     out.flush()
 }
 
-/// Where the files stand.
+/// Where the files are.
 struct Files<'a> {
     mrep: &'a str,
     out: PathBuf,
@@ -79,7 +82,7 @@ struct Files<'a> {
 }
 
 impl Files<'_> {
-    /// Runs a program on a database that is not there, and fails where it does.
+    /// Runs a program on a database that does not exist yet, and fails if the program does.
     fn run(&self, program: &[&str]) -> io::Result<Run> {
         remove_store(&self.database)?;
         let run = run(program, &self.out)?;
@@ -89,7 +92,7 @@ impl Files<'_> {
         Ok(run)
     }
 
-    /// Looks at the line of a connection with so many transactions.
+    /// Checks the line of a connection with this many transactions.
     fn check(&self, applied: u64) -> io::Result<()> {
         let end = format!("1 SourceEof at {} applied {applied}\n", fs::metadata(&self.stream)?.len());
         if fs::read_to_string(&self.out)? == end {
@@ -105,7 +108,7 @@ impl Files<'_> {
         Ok(run)
     }
 
-    /// The same from a pipe whose reads give one byte each.
+    /// As above, from a pipe whose reads give one byte each.
     fn replay_bytes(&self, applied: u64) -> io::Result<Run> {
         let (stream, pipe) = (self.stream.clone(), self.pipe.clone());
         let writer = thread::spawn(move || -> io::Result<()> {
@@ -124,7 +127,7 @@ impl Files<'_> {
         Ok(run)
     }
 
-    /// Follows a program that sends the stream as it is, and reads what comes to its end.
+    /// Follows a program that sends the stream as it is, and reads what it gets to its end.
     fn follow(&self, applied: u64) -> io::Result<Run> {
         let listener = TcpListener::bind(("127.0.0.1", 0))?;
         let port = listener.local_addr()?.port().to_string();
@@ -148,7 +151,7 @@ impl Files<'_> {
     }
 }
 
-/// Runs two jobs in turn, and tells whether the goal is met by the first.
+/// Runs two jobs in turn, and returns whether the first meets the goal.
 fn compare(
     job: &str,
     other: &str,
@@ -180,7 +183,7 @@ fn print_rate(path: &Path, transactions: u64, seconds: f64) -> io::Result<()> {
     Ok(())
 }
 
-/// Whether the goals are met by connections that are replayed and followed.
+/// Whether the goals are met for connections that are replayed and followed.
 pub fn compare_connections(mrep: &str, store_bench: &str, folder: &Path) -> io::Result<bool> {
     let memory = Path::new("/dev/shm");
     let store = if memory.is_dir() { memory.join("mrep-bench.db") } else { folder.join("replay.db") };

@@ -1,11 +1,11 @@
-"""The yardstick of `store_bench`: the same statements by the C library of SQLite, through Python's sqlite3.
+"""The reference of `store_bench`: the same statements run by the C library of SQLite, through Python's sqlite3.
 
     store.py add TRANSACTIONS CHANGES FILE
     store.py again ROWS FILE
     store.py open FILE
 
-A file has a log and each commit is synced, as those of `store_bench` are, and no other process may use it. `open` tests
-the file and reads every row of each table, as an open of the store does; it does not test that an image is one.
+A file has a write-ahead log and each commit is synced, as for `store_bench`, and no other process may use it. `open`
+checks the file and reads every row of each table, as opening the store does; it does not check the images.
 """
 
 import sqlite3
@@ -74,7 +74,7 @@ class Store:
             self.load()
 
     def load(self):
-        """Tests the file and reads all rows."""
+        """Checks the file and reads all rows."""
         if self.execute("PRAGMA integrity_check").fetchall() != [("ok",)]:
             raise ValueError("damaged")
         for text in OTHERS:
@@ -118,7 +118,7 @@ class Store:
         self.keep(lo, hi)
 
     def give(self, number, change, images):
-        """One transaction, with the same change for each of the images, which are all made before it begins."""
+        """One transaction, with the same change for each of the images, all of which are made before it begins."""
         self.execute("BEGIN")
         for image in images:
             change(image)

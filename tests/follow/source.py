@@ -1,10 +1,10 @@
-"""A source that sends one recorded connection, and looks at what the replica sends.
+"""A source that sends one recorded connection, and checks what the replica sends.
 
     source.py STREAM PASSWORD SET
 
-It prints its port, lets one replica connect to 127.0.0.1, sends the stream at once, and reads to the end. The status is 0
-where the replica has sent the response of the user `repl` with this password, the query, and the dump command of server
-id 7 for this set (in hexadecimal digits) that asks for the log's end.
+It prints its port, lets one replica connect to 127.0.0.1, sends the whole stream at once, and reads to the end. The status
+is 0 if the replica has sent the response of the user `repl` with this password, the query, and the dump command with the
+server id 7 and this set (in hexadecimal digits) that asks for an EOF at the end of the log.
 """
 
 import hashlib

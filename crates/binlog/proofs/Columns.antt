@@ -112,7 +112,7 @@ known code size has =
           ]
     ]
 
--- no other type has so many bytes of metadata
+-- no other type has this many bytes of metadata
 pub no_more_0 : (code : ℕ) → Known code 0 → (code ≡ 1 → ⊥) → (code ≡ 2 → ⊥) → (code ≡ 3 → ⊥) → (code ≡ 8 → ⊥) → (code ≡ 9 → ⊥) → (code ≡ 10 → ⊥) → (code ≡ 13 → ⊥) → ⊥
 no_more_0 _ is_tiny a b c d e f g = a refl
 no_more_0 _ is_short a b c d e f g = b refl

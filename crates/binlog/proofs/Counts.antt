@@ -1,4 +1,4 @@
--- Counts: length-encoded integers at a place.
+-- Counts: length-encoded integers inside an event.
 use Rattle.std.proofs.Common.{◌≡◌, ℕ, suc, ◌+◌, ◌-◌, ◌<◌, ◌≤◌, ◌==◌, List, ◌∷◌, ◌++◌, length, get_or, take, drop, Some, None, refl, sym, ap, subst, ◌∙◌, arith, inl, inr}
 use Rattle.std.specs.Prelude.{nat_le, if◌then◌else◌}
 use Rattle.std.proofs.lemmas.Bool.{false≢true, cases_eq, cases_lt, le-leb, le-ltb, lt-ltb, ne_eqb}
@@ -12,7 +12,7 @@ use Rattle.binlog.specs.declared.fault.EventFaultKind.TheVariants.{Truncated}
 use Rattle.binlog.proofs.Tables.{passes, not_refused, is_there}
 use Rattle.binlog.proofs.Cuts.{IsBytes, drop_drop, one, take_is_number}
 
--- ---- By the bytes from the place on.
+-- ---- By the bytes from the offset on.
 
 first_at : (bytes : List ℕ) (place : ℕ) → get_or bytes place 0 ≡ get_or (drop place bytes) 0 0
 first_at bytes place = let e : place ≡ place + 0 = omega arith in rw get_or-drop (ap (λ k. get_or bytes k 0) e)
@@ -34,14 +34,14 @@ front_told n front rest (inr (inl (fits, is))) = ((λ i. count_width (is i ++ re
 front_told n front rest (inr (inr (inl (fits, is)))) = ((λ i. count_width (is i ++ rest) 0) ∙ sym (ap length is), (λ i. count_at (is i ++ rest) 0) ∙ little_number-reads_back 3 n rest fits)
 front_told n front rest (inr (inr (inr (fits, is)))) = ((λ i. count_width (is i ++ rest) 0) ∙ sym (ap length is), (λ i. count_at (is i ++ rest) 0) ∙ little_number-reads_back 8 n rest fits)
 
--- ---- A count that stands at a place.
+-- ---- A count at an offset.
 
 pub counted : (n : ℕ) (front rest bytes : List ℕ) (place : ℕ) → IsLengthEncoded n front → drop place bytes ≡ front ++ rest → (count_width bytes place ≡ length front) × (count_at bytes place ≡ n)
 counted n front rest bytes place is stands =
     let t = front_told n front rest is in
     (ap width_of (first_at bytes place) ∙ ap (λ l. count_width l 0) stands ∙ t.0, value_at bytes place ∙ ap (λ l. count_at l 0) stands ∙ t.1)
 
--- no spelling is empty
+-- no encoding is empty
 pub some_bytes : (n : ℕ) (front : List ℕ) → IsLengthEncoded n front → 1 ≤ length front
 some_bytes n front (inl (fits, is)) = omega (arith, ap length is)
 some_bytes n front (inr (inl (fits, is))) = omega (arith, ap length is)
@@ -101,7 +101,7 @@ front_is first more fits (eight e) long =
     let enough : 8 ≤ length more = omega (arith, long, ap width_of e) in
     rw e (inr (inr (inr (little_from-lt 0 8 more fits, ap (λ l. 254 ∷ l) (take_is_number 8 more enough fits)))))
 
--- from a place on, where there is a byte
+-- from an offset on, if there is a byte
 encoded_at : (bytes : List ℕ) (place : ℕ) → IsBytes bytes → Begins (get_or bytes place 0) → place + 1 ≤ length bytes → place + count_width bytes place ≤ length bytes →
     IsLengthEncoded (count_at bytes place) (take (count_width bytes place) (drop place bytes))
 encoded_at bytes place fits begin there whole =
@@ -113,7 +113,7 @@ encoded_at bytes place fits begin there whole =
     let value : count_at bytes place ≡ count_at (first ∷ more) 0 = value_at bytes place ∙ ap (λ l. count_at l 0) stands in
     subst (λ (q : ℕ × List ℕ). IsLengthEncoded q.0 q.1) (λ i. (sym value i, take (width_of first) (sym stands i))) (front_is first more bytes_more begin long)
 
--- A count stands where none is refused.
+-- If none is refused, there is a count.
 pub record Counted (bytes : List ℕ) (place : ℕ) : Type 0 where
   pub whole : place + count_width bytes place ≤ length bytes
   pub encoded : IsLengthEncoded (count_at bytes place) (take (count_width bytes place) (drop place bytes))
@@ -132,7 +132,7 @@ is_counted bytes place kind fits none =
     let not_last : first ≡ 255 → ⊥ = λ e. false≢true (sym nonzero ∙ ap (λ f. width_of f == 0) e) in
     record { whole = whole; encoded = encoded_at bytes place fits (begins first (fits place) not_null not_last) there whole }
 
--- No count stands where its first byte begins one, if there is one.
+-- There is no count, although its first byte, if there is one, begins one.
 pub too_few : (bytes : List ℕ) (place : ℕ) (kind : EventFaultKind) → IsBytes bytes → ((n len : ℕ) → IsLengthEncoded n (take len (drop place bytes)) → ⊥) →
     (place + 1 ≤ length bytes → (get_or bytes place 0 ≡ 251 → ⊥) × (get_or bytes place 0 ≡ 255 → ⊥)) → no_count bytes place kind ≡ Some (record { kind = Truncated; at = place })
 unfolding no_count
@@ -147,7 +147,7 @@ too_few bytes place kind fits not first =
           ]
     ]
 
--- A first byte that begins none.
+-- A first byte that begins no count.
 pub none_begins : (bytes : List ℕ) (place : ℕ) (kind : EventFaultKind) → place + 1 ≤ length bytes → width_of (get_or bytes place 0) ≡ 0 → no_count bytes place kind ≡ Some (record { kind = kind; at = place })
 unfolding no_count
 none_begins bytes place kind there zero = rw (le-ltb _ _ there, zero) refl

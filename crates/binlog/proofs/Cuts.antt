@@ -25,7 +25,7 @@ byte_at-pow : (j n : ℕ) → byte_at j n ≡ n / 256 ^ j % 256
 byte_at-pow zero n = ap (λ (y : ℕ). y % 256) (sym (div-one n))
 byte_at-pow (suc j) n = refl
 
--- the bytes of the number that bytes spell, from one of its bytes on
+-- the bytes of the number that bytes encode, from one of its bytes on
 low_bytes : (k j n : ℕ) (xs : List ℕ) → k ≤ length xs → IsBytes xs → n / 256 ^ j ≡ little_number k xs → bytes_low_first j k n ≡ take k xs
 low_bytes zero j n xs long fits is = refl
 low_bytes (suc k) j n [] long fits is = absurd (omega (arith, long))
@@ -37,13 +37,13 @@ low_bytes (suc k) j n (x ∷ xs) long fits is =
     let others : n / 256 ^ suc j ≡ little_number k xs = shift ∙ (omega (arith, is, moved)) in
     λ i. first i ∷ low_bytes k (suc j) n xs (omega (arith, long)) (IsBytes-rest x xs fits) others i
 
--- the first bytes are those of the number that they spell
+-- the first bytes are those of the number that they encode
 pub take_is_number : (k : ℕ) (xs : List ℕ) → k ≤ length xs → IsBytes xs → take k xs ≡ little_bytes k (little_number k xs)
 take_is_number k xs long fits =
     let whole : little_number k xs / 256 ^ 0 ≡ little_number k xs = omega arith in
     sym (low_bytes k 0 (little_number k xs) xs long fits whole)
 
--- bytes begin with those of the number that they spell
+-- bytes begin with those of the number that they encode
 pub number_at_front : (k : ℕ) (xs : List ℕ) → k ≤ length xs → IsBytes xs → xs ≡ little_bytes k (little_number k xs) ++ drop k xs
 number_at_front k xs long fits = sym (take-append-drop k xs) ∙ ap (λ front. front ++ drop k xs) (take_is_number k xs long fits)
 
@@ -67,7 +67,7 @@ cut n m xs = sym (take-append-drop m (drop n xs)) ∙ ap (λ rest. take m (drop 
 pub one : (n : ℕ) (xs : List ℕ) → n < length xs → drop n xs ≡ get_or xs n 0 ∷ drop (suc n) xs
 one n xs short = drop-cons xs n 0 short
 
--- what stands behind a front
+-- what follows a front
 pub behind : (n m : ℕ) (front rest : List ℕ) → length front ≡ n → drop (n + m) (front ++ rest) ≡ drop m rest
 behind n m front rest long = ap (λ k. drop (k + m) (front ++ rest)) (sym long) ∙ drop-append-add front rest m
 

@@ -189,7 +189,7 @@ said names (other_map id) code may_ignore bytes (is, body) =
 said names (rows r) code may_ignore bytes (is, body) = rows_said names r.kind r code bytes is (rows_told r bytes body).is
 said names (xid number) code may_ignore bytes (is, body) = ap (event_at names bytes) is ∙ ap xid (xid_one number bytes body)
 
--- no list is two events
+-- no bytes are two events
 pub one_event : (names : Names) (a b : EventValue) (bytes : List ℕ) → IsEvent names a bytes → IsEvent names b bytes → a ≡ b
 one_event names a b bytes is also =
     let t = headers.told is.code is.may_ignore is.body bytes is.framed in
@@ -236,7 +236,7 @@ fine names (other_map id) code may_ignore bytes (is, body) =
 fine names (rows r) code may_ignore bytes (is, body) = rows_fine names r.kind code may_ignore bytes is (rows_not_refused r.kind bytes (rows_told r bytes body).are)
 fine names (xid number) code may_ignore bytes (is, body) = subst (IsFine names bytes may_ignore) (sym is) (refl, xid_not_refused number bytes body)
 
--- the refusals behind a header that is there
+-- the faults after a header that is there
 pub behind_header : (names : Names) (code : ℕ) (may_ignore : Bool) (body bytes : List ℕ) → IsFramed code may_ignore body bytes →
     event_fault names bytes ≡ first_of (type_fault code may_ignore ∷ body_fault names code bytes ∷ [])
 unfolding event_fault
@@ -345,7 +345,7 @@ pub answered : {X : Type 0} (names : Names) (bytes : List ℕ) (value : X → Ev
 answered names bytes value (Ok x) found fault e is = one_event names (value x) e bytes found is
 answered names bytes value (Err f) found fault e is = absurd (none-some _ (sym (event_not_refused names e bytes is) ∙ fault))
 
--- what is wrong behind a header
+-- what is wrong after a header
 pub if_err_by : {X : Type 0} (result : Result X EventFault) (a b : Option EventFault) → a ≡ b → IfErr result (λ fault. b ≡ Some fault) → IfErr result (λ fault. a ≡ Some fault)
 if_err_by (Ok x) a b same fault = tt
 if_err_by (Err f) a b same fault = same ∙ fault

@@ -54,7 +54,7 @@ pub none_of : (x : Bool) → (x ≡ true → ⊥) → x ≡ false
 none_of true not = absurd (not refl)
 none_of false not = refl
 
--- the empty list stands for the empty set, and no other does
+-- the empty list is the empty set, and no other list is
 pub all_of_none : set.is_subset (set.from_list {R = name_cmp} []) set.empty ≡ true
 all_of_none = set.contains-is_subset name_cmp_total set.empty set.empty (λ q is. is)
 

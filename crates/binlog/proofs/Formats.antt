@@ -12,7 +12,7 @@ use Rattle.binlog.proofs.Tables.{passes, not_refused}
 use Rattle.binlog.proofs.Cuts.{IsBytes, number_at_front, drop_drop, cut, one, behind, drop_front}
 use Rattle.binlog.proofs.Bodies.{first_left}
 
--- ---- Tables one behind the other.
+-- ---- Tables one after the other.
 
 pub first_front : (front rest : List (Option EventFault)) (fault : EventFault) → first_of front ≡ Some fault → first_of (front ++ rest) ≡ Some fault
 first_front [] rest fault is = absurd cc
@@ -62,7 +62,7 @@ none_wrong bytes are = rw (are.query, are.rotate, are.table_map, are.write, are.
 right_5 : (a b c d e : List ℕ) → a ++ b ++ c ++ d ++ e ≡ a ++ (b ++ (c ++ (d ++ e)))
 right_5 a b c d e = simp append_assoc
 
--- a length, where it stands among all of them
+-- a length, as one of all of them
 among : (bytes : List ℕ) (size i wanted : ℕ) → i < size → get_or bytes (76 + i) 0 ≡ wanted → get_or (take size (drop 76 bytes)) i 0 ≡ wanted
 among bytes size i wanted short is = get_or-take size (drop 76 bytes) i 0 short ∙ get_or-drop 76 bytes i 0 ∙ is
 
@@ -142,7 +142,7 @@ format_told bytes is =
       algorithm = first_left (length bytes - 5) 0 bytes is.unread last;
     }
 
--- the refusals that are left behind the version, the header's length and the number of lengths
+-- the remaining faults after the version, the header's length and the number of lengths
 pub format_then : (bytes : List ℕ) → 116 ≤ length bytes → number_at 2 bytes 19 ≡ 4 → get_or bytes 75 0 ≡ 19 →
     format_fault bytes ≡ first_of (length_refusals bytes read_lengths ++ refuse (not (get_or bytes (length bytes - 5) 0 == 0)) (Checksum (get_or bytes (length bytes - 5) 0)) (length bytes - 5) ∷ [])
 unfolding format_fault

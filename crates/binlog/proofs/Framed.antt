@@ -6,7 +6,7 @@ use Rattle.std.proofs.lemmas.List.{length-append, length-drop, length-take-le, a
 use Rattle.binlog.specs.Writing.{header_bytes}
 use Rattle.binlog.proofs.Cuts.{drop_drop}
 
--- a vector of which the bytes from a place on are others, of the same number
+-- a vector in which the bytes from an offset on are replaced by as many others
 pub set_back : (len start : ℕ) (items front new : List ℕ) → start ≤ length items → len ≡ length items → front ≡ take start items → length new ≡ length items - start →
     take len (front ++ new ++ drop (length (front ++ new)) items) ≡ take start items ++ new
 set_back len start items front new within whole front_is size =

@@ -41,7 +41,7 @@ is_framed bytes fits long size =
       marked = refl;
     }
 
--- What framed bytes say at each place.
+-- The fields of framed bytes at each offset.
 pub record Told (code : ℕ) (may_ignore : Bool) (body bytes : List ℕ) : Type 0 where
   pub long : 19 ≤ length bytes
   pub code_is : code ≡ get_or bytes 4 0

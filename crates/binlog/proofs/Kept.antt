@@ -7,13 +7,13 @@ use Rattle.std.proofs.lemmas.List.{take-append-drop, take_all, append-nil}
 pub kept : (old more new : List ℕ) → new ≡ old ++ more → take (length old) new ≡ old
 kept old more new is = ap (take (length old)) is ∙ take-append_seam old more
 
--- the same where a part was written before
+-- as above, if a part was written before
 pub still_kept : (old more next new : List ℕ) → next ≡ old ++ more → take (length next) new ≡ next → take (length old) new ≡ old
 still_kept old more next new is stays =
     let rest = drop (length next) new in
     kept old (more ++ rest) new (sym (take-append-drop (length next) new) ∙ ap (λ l. l ++ rest) (stays ∙ is) ∙ append_assoc old more rest)
 
--- the same where more is written then
+-- as above, if more is written afterwards
 pub kept_on : (old now more new : List ℕ) → take (length old) now ≡ old → new ≡ now ++ more → take (length old) new ≡ old
 kept_on old now more new stays is =
     let rest = drop (length old) now in

@@ -1,4 +1,4 @@
--- The metadata of the columns that bytes or types stand for is in range.
+-- The metadata of the columns that bytes or types encode is in range.
 use Rattle.std.proofs.Common.{◌≡◌, ℕ, ◌+◌, List, [], ◌∷◌, get_or, drop, Option, Some, None, IsTrue, refl, sym, ap, subst}
 use Rattle.std.specs.List.{AllByRecursion}
 use Rattle.std.proofs.lemmas.List.{get_or-drop}

@@ -42,7 +42,7 @@ pub all_metadata_short : (kinds : List ColumnKind) → length (flat_map metadata
 all_metadata_short [] = omega arith
 all_metadata_short (kind ∷ kinds) = omega (arith, metadata_short kind, all_metadata_short kinds, length-append (metadata kind) (flat_map metadata kinds))
 
--- the shortest spelling of a small number
+-- the shortest encoding of a small number
 pub record Spelled (n : ℕ) : Type 0 where
   pub is : IsLengthEncoded n (length_encoded n)
   pub short : length (length_encoded n) ≤ 3
@@ -62,7 +62,7 @@ by_parts : (id flags schema table count codes m md nb : List ℕ) →
     id ++ (flags ++ schema) ++ table ++ (0 ∷ []) ++ count ++ codes ++ m ++ md ++ nb ≡ id ++ flags ++ schema ++ table ++ (0 ∷ (count ++ codes ++ m ++ md ++ nb ++ []))
 by_parts id flags schema table count codes m md nb = simp (append_assoc, append-nil)
 
--- the table map, of which some body is
+-- the table map of some body
 pub record Suits (t : TableValue) : Type 0 where
   pub an_id : t.id < 2 ^ 48
   pub schema : length t.schema < 256

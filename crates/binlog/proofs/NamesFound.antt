@@ -68,7 +68,7 @@ differ a b = Prim.cc
 differ_above : {o : Ordering} → o ≡ Equal → o ≡ Greater → ⊥
 differ_above a b = Prim.cc
 
--- what a search by halving answers
+-- what a binary search answers
 pub searched : {A : Type 0} (q : Name) (names : List (Kept A)) (r : Result ℕ ℕ) → IsStrictlySortedBy name_cmp (names_of names) → IsSearchInRange r (length names) → IsBinarySearchResult (compares q) names r → is_ok r ≡ is_listed q (names_of names)
 searched q [] (Ok at) up bound position = absurd (omega (arith, bound))
 searched q (a ∷ names) (Ok at) up bound position = sym (named q (a ∷ names) ∙ list_any_at (is_named q) (a ∷ names) at a bound (equal_named q (slice_index_or (a ∷ names) at a) (position a)))

@@ -35,7 +35,7 @@ kept_ties : {A : Type 0} (a b : Kept A) → kept_eq a b ≡ eq_by_cmp kept_cmp a
 kept_ties a b =
     both_tied _ _ (slice_cmp nat_cmp a.0.items b.0.items) (slice_cmp nat_cmp a.1.items b.1.items) (texts_ties a.0.items b.0.items) (texts_ties a.1.items b.1.items)
 
--- A double that goes leaves one that passes the same tests.
+-- Removing a duplicate leaves a name that passes the same tests.
 any_dedup : {A : Type 0} (p : Kept A → Bool) → ((a b : Kept A) → kept_eq a b ≡ true → p a ≡ p b) → (a : Kept A) (names : List (Kept A)) → list_any p (dedup_from kept_eq a names) ≡ (p a || list_any p names)
 any_dedup p same a [] = refl
 any_dedup p same a (b ∷ names) = by (kept_eq b a) refl (any_dedup p same a names) (any_dedup p same b names)
@@ -79,7 +79,7 @@ rise {A = A} (a ∷ names) up = (above names up.0, rise names up.1)
     above [] less = tt
     above (b ∷ names) less = (less.0, above names less.1)
 
--- Sorted and without doubles the names ascend, and stand for the same set.
+-- Sorted and without duplicates the names ascend, and they are the same set.
 pub once_rise : {A : Type 0} (sorted kept : List (Kept A)) → IsSorted kept_cmp sorted → IsFiltered (DiffersFromLast kept_eq) [] sorted kept → IsStrictlySortedBy name_cmp (names_of kept)
 once_rise sorted kept up some = rw (dedup_is kept_eq sorted kept some) (rise (dedup kept_eq sorted) (IsStrictlySortedBy-dedup (on_total name_of name_cmp_total) kept_ties sorted up))
 
@@ -94,7 +94,7 @@ once_same copied sorted kept given of moved some = set.same_set name_cmp_total n
     ∙ ap (is_listed q) of
     ∙ sym (listed given q))
 
--- no names ascend
+-- the empty list of names ascends
 pub none_rise : {A : Type 0} (names : List (Kept A)) → names ≡ [] → IsStrictlySortedBy name_cmp (names_of names)
 unfolding IsStrictlySortedBy
 none_rise names none = rw none tt

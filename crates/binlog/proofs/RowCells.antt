@@ -37,7 +37,7 @@ none_first bitmap values types i place t short at clear is = ap (λ l. cells_of 
 
 -- ---- The end of a row, found column by column.
 
--- the values of the columns before column i end at the place
+-- the values of the columns before column i end at this offset
 pub record Reached (types : List ColumnType) (bytes bitmap : List ℕ) (i place : ℕ) : Type 0 where
   pub within : place ≤ length bytes
   pub left : further place (values_end bitmap i (drop i (kinds types)) (drop place bytes)) ≡ row_end (kinds types) bytes
@@ -179,7 +179,7 @@ pub record AreRead (bitmap : List ℕ) (i : ℕ) (types : List ColumnKind) (cell
   pub end : values_end bitmap i types (values ++ more) ≡ Ok (length values)
   pub cells_are : cells_of bitmap i types (values ++ more) ≡ cells
 
--- a value, and others behind it
+-- a value, and others after it
 one_read : (bitmap : List ℕ) (i : ℕ) (t : ColumnKind) (types : List ColumnKind) (cell : CellValue) (cells : List CellValue) (values first others more : List ℕ) →
     is_set bitmap i ≡ false → values ≡ first ++ others → IsValue (shape t) cell first → AreRead bitmap (suc i) types cells others more → AreRead bitmap i (t ∷ types) (cell ∷ cells) values more
 one_read bitmap i t types cell cells values first others more clear e is rest =
@@ -222,7 +222,7 @@ are_values t types (bytes_cell v) cells bytes first others not_null e is are = (
 pub drop_bytes : (n : ℕ) (bytes : List ℕ) → IsBytes bytes → IsBytes (drop n bytes)
 drop_bytes n bytes fits i = rw get_or-drop (fits (n + i))
 
--- the rest of the values, where the first ends at a place
+-- the rest of the values, if the first ends at an offset
 one_there : (bitmap : List ℕ) (i : ℕ) (t : ColumnKind) (types : List ColumnKind) (bytes : List ℕ) (size first : ℕ) (rest : Result ℕ ℕ) → is_set bitmap i ≡ false → value_end (shape t) bytes ≡ Ok first →
     IsBytes bytes → further first rest ≡ Ok size → ((n : ℕ) → rest ≡ Ok n → AreThere bitmap (suc i) types (cells_of bitmap (suc i) types (drop first bytes)) (drop first bytes) n) →
     AreThere bitmap i (t ∷ types) (cell_of (shape t) bytes ∷ cells_of bitmap (suc i) types (drop first bytes)) bytes size
@@ -239,7 +239,7 @@ one_there bitmap i t types bytes size first (Ok n) clear is fits total others =
       nulls = earlier bitmap i (length types) (cell_of (shape t) bytes) (cells_of bitmap (suc i) types (drop first bytes)) (clear ∙ sym v.not_null) o.nulls;
     })
 
--- by what stands for the first column
+-- depending on the value of the first column
 by_value : (bitmap : List ℕ) (i : ℕ) (t : ColumnKind) (types : List ColumnKind) (bytes : List ℕ) (size : ℕ) (end : Result ℕ ℕ) → is_set bitmap i ≡ false → value_end (shape t) bytes ≡ end → IsBytes bytes →
     (end >>= (λ n. values_end bitmap (suc i) types (drop n bytes))) ≡ Ok size →
     ((first n : ℕ) → values_end bitmap (suc i) types (drop first bytes) ≡ Ok n → AreThere bitmap (suc i) types (cells_of bitmap (suc i) types (drop first bytes)) (drop first bytes) n) →
@@ -310,7 +310,7 @@ row_is_there types bytes end fits is = elim (cases_lt (length bytes) (bitmap_siz
       ))
 ]
 
--- A row has one list of cells, and none begins another one.
+-- A row has one list of cells, and none is a proper prefix of another one.
 pub one_row : (types : List ColumnKind) (a b : List CellValue) (first second x y : List ℕ) → IsRow types a first → IsRow types b second → first ++ x ≡ second ++ y → (a ≡ b) × (first ≡ second)
 one_row types a b first second x y is_a is_b same =
     let p = row_is_read types a first x is_a in

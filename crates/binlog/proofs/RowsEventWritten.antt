@@ -13,14 +13,14 @@ use Rattle.binlog.proofs.FullBitmap.{all_present}
 
 -- ---- Counts and bitmaps.
 
--- a spelling is determined by its width
+-- an encoding is determined by its width
 same_count : (n : ℕ) (count : List ℕ) → IsLengthEncoded n count → count_bytes (length count) n ≡ count
 same_count n count (inl (fits, is)) = ap (λ c. count_bytes (length c) n) is ∙ sym is
 same_count n count (inr (inl (fits, is))) = ap (λ c. count_bytes (length c) n) is ∙ sym is
 same_count n count (inr (inr (inl (fits, is)))) = ap (λ c. count_bytes (length c) n) is ∙ sym is
 same_count n count (inr (inr (inr (fits, is)))) = ap (λ c. count_bytes (length c) n) is ∙ sym is
 
--- a number is spelled in so many bytes
+-- a number is encoded in `width` bytes
 pub record Spells (width n : ℕ) : Type 0 where
   pub is : IsLengthEncoded n (count_bytes width n)
   pub long : length (count_bytes width n) ≡ width
@@ -51,7 +51,7 @@ are_present Update n = (full_bitmap n, full_bitmap n, refl, all_present n, all_p
 abbrev pub width_asked : RowsValue → ℕ
 width_asked r = r.bytes_at - r.columns_at - presents_size r.kind r.columns
 
--- the rows event, of which some body is
+-- the rows event of some body
 pub record Suits (r : RowsValue) : Type 0 where
   pub an_id : r.id < 2 ^ 48
   pub number : (1 ≤ r.columns) × (r.columns ≤ 4096)

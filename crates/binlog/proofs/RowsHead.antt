@@ -1,4 +1,4 @@
--- What stands before the rows of a rows event.
+-- The part of a rows event before its rows.
 use Rattle.std.proofs.Common.{◌≡◌, ℕ, zero, suc, ◌+◌, ◌-◌, ◌<◌, ◌≤◌, ◌^◌, Bool, true, false, not, List, [], ◌∷◌, ◌++◌, length, get_or, take, drop, Option, Some, None, refl, sym, ap, subst, ◌∙◌, append_assoc, arith, inl, inr}
 use Rattle.std.specs.Prelude.{nat_lt, nat_le}
 use Rattle.std.specs.List.{list_all, range_with_len}
@@ -128,14 +128,14 @@ presents_there Update bytes place n none =
 
 -- ---- The whole.
 
--- where the number of columns stands
+-- the offset of the number of columns
 abbrev pub count_place : List ℕ → ℕ
 count_place bytes = 27 + number_at 2 bytes 27
 
 abbrev pub columns_of : List ℕ → ℕ
 columns_of bytes = count_at bytes (count_place bytes)
 
--- where the bitmaps stand, and the rows
+-- the offset of the bitmaps, and that of the rows
 abbrev pub presents_place : List ℕ → ℕ
 presents_place bytes = count_place bytes + count_width bytes (count_place bytes)
 
@@ -273,7 +273,7 @@ one_more i p before last k below = elim (cases_lt k i) as (λ _. p k ≡ true) [
   | inr ge ↦ (let e : i ≡ k = omega (arith, ge, below) in ap p (sym e) ∙ last)
 ]
 
--- the refusals that are left behind the number of columns
+-- the remaining faults after the number of columns
 pub rows_then : (kind : RowsKind) (bytes : List ℕ) → 29 ≤ length bytes → 2 ≤ number_at 2 bytes 27 → count_place bytes ≤ length bytes → no_count bytes (count_place bytes) Columns ≡ None → 1 ≤ columns_of bytes → columns_of bytes ≤ 4096 →
     rows_fault kind bytes ≡ first_of (presents_fault kind bytes (presents_place bytes) (columns_of bytes) ∷ [])
 unfolding rows_fault

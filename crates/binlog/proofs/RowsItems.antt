@@ -18,7 +18,7 @@ use Rattle.binlog.specs.declared.shape.Shape.TheVariants.{Number, Fixed, Prefixe
 use Rattle.binlog.proofs.Cuts.{IsBytes, drop_front}
 use Rattle.binlog.proofs.RowCells.{value_is_there, drop_bytes, split_end, row_is_read, row_is_there}
 
--- ---- What does not fit stands within the bytes.
+-- ---- The offset of what does not fit is within the bytes.
 
 split_err : (n place : ℕ) (r : Result ℕ ℕ) → further n r ≡ Err place → (p : ℕ) × (r ≡ Err p) × (n + p ≡ place)
 split_err n place (Ok m) is = absurd cc
@@ -58,7 +58,7 @@ values_early bitmap i (t ∷ types) bytes place fits is = elim (cases_Bool (is_s
       (rw clear at is)
 ]
 
--- A part of a row that does not fit stands within the bytes.
+-- The offset of a part of a row that does not fit is within the bytes.
 pub row_early : (types : List ColumnKind) (bytes : List ℕ) (place : ℕ) → IsBytes bytes → row_end types bytes ≡ Err place → place ≤ length bytes
 unfolding row_end
 row_early types bytes place fits is =

@@ -111,7 +111,7 @@ pub record Checked (bytes codes : List ℕ) (start i place : ℕ) : Type 0 where
   pub left : all_metadata_fault bytes start codes ≡ all_metadata_fault bytes place (drop i codes)
   pub fits : place + sum_by metadata_length (drop i codes) ≤ length bytes
 
--- what is wrong with the metadata at a place is what is wrong with the column there
+-- what is wrong with the metadata at an offset is what is wrong with the column there
 pub fault_there : (bytes : List ℕ) (code size place : ℕ) → metadata_size code ≡ Some size → place + size ≤ length bytes →
     column_fault code (drop place bytes) ≡ metadata_fault code (get_or bytes place 0) (get_or bytes (place + 1) 0)
 fault_there bytes code size place has long =

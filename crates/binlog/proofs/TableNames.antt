@@ -14,11 +14,11 @@ use Rattle.binlog.proofs.Bodies.{first_left}
 right_5 : (a b c d e : List ℕ) → a ++ b ++ c ++ d ++ e ≡ a ++ (b ++ (c ++ (d ++ e)))
 right_5 a b c d e = simp append_assoc
 
--- a byte at a place, and what stands from the next place on
+-- a byte at an offset, and what follows it
 pub one_at : (n m : ℕ) (xs : List ℕ) → m ≡ suc n → n < length xs → drop n xs ≡ get_or xs n 0 ∷ drop m xs
 one_at n m xs next short = one n xs short ∙ ap (λ k. get_or xs n 0 ∷ drop k xs) (sym next)
 
--- ---- The names that stand in the bytes.
+-- ---- The names in the bytes.
 
 pub is_named : (bytes : List ℕ) → IsBytes bytes → terminator_place bytes + 1 ≤ length bytes →
     IsNamed (number_at 6 bytes 19) (schema_of bytes) (table_of bytes) (drop (terminator_place bytes + 1) bytes) (drop 19 bytes)

@@ -7,7 +7,7 @@ use Rattle.binlog.specs.declared.fault.EventFaultKind.{EventFaultKind}
 use Rattle.binlog.specs.declared.fault.EventFault.{EventFault}
 use Rattle.binlog.specs.declared.fault.EventFaultKind.TheVariants.{Truncated}
 
--- a table without a refusal has none in its first line, and none behind it
+-- a table without a fault has none in its first line, and none in the lines after it
 pub passes : (line : Option EventFault) (lines : List (Option EventFault)) → first_of (line ∷ lines) ≡ None → (line ≡ None) × (first_of lines ≡ None)
 passes None lines none = (refl, none)
 passes (Some fault) lines none = absurd cc

@@ -11,8 +11,8 @@ use Rattle.binlog.specs.declared.fault.EventFaultKind.TheVariants.{FormatVersion
 
 -- ---- The layouts.
 
--- A format description: version 4, headers of 19 bytes, a length for each type from 1 on, of which those of the types
--- that are read are these, and no checksum. The server's version, the time and the last 4 bytes are left free.
+-- A format description: version 4, headers of 19 bytes, a post-header length for each type from 1 on, the expected ones
+-- for the supported types, and no checksums. The server's version, the time and the last 4 bytes are left free.
 pub record IsFormat (body : List ℕ) : Type 0 where
   pub server_version : List ℕ
   pub time : List ℕ
@@ -33,7 +33,7 @@ IsRotate position name body = (position < 2 ^ 64) × (body ≡ little_bytes 8 po
 abbrev pub IsXid : ℕ → List ℕ → Type 0
 IsXid number body = (number < 2 ^ 64) × (body ≡ little_bytes 8 number)
 
--- A transaction's identifier: flags, 16 bytes of source and a number in range. What follows is ignored.
+-- The GTID of a transaction: flags, 16 bytes of source and a number in range. What follows is ignored.
 pub record IsGtid (source : List ℕ) (number : ℕ) (body : List ℕ) : Type 0 where
   pub flags : ℕ
   pub ignored : List ℕ
@@ -41,7 +41,7 @@ pub record IsGtid (source : List ℕ) (number : ℕ) (body : List ℕ) : Type 0 
   pub source_length : length source ≡ 16
   pub in_range : (1 ≤ number) × (number ≤ 2 ^ 63 - 2)
 
--- A query of this text, whatever thread, time, error, status, schema and terminator it has.
+-- A query with this text, and any thread, time, error, status, schema and terminator.
 pub record IsQuery (text body : List ℕ) : Type 0 where
   pub thread : List ℕ
   pub time : List ℕ
@@ -52,14 +52,14 @@ pub record IsQuery (text body : List ℕ) : Type 0 where
   pub body_is : body ≡ thread ++ time ++ length schema ∷ error ++ little_bytes 2 (length status) ++ status ++ schema ++ terminator ∷ text
   pub sizes : (length thread ≡ 4) × (length time ≡ 4) × (length error ≡ 2) × (length status < 2 ^ 16) × (length schema < 256)
 
--- the texts that are read
+-- the supported texts
 abbrev pub statement : Query → List ℕ
 statement Begin = codes "BEGIN"
 statement Commit = codes "COMMIT"
 
--- ---- The refusals, in order, by the whole event, whose body begins at 19.
+-- ---- The faults, in order, of the whole event, whose body begins at 19.
 
--- the types that are read, with the lengths of their post-headers
+-- the supported types, with the lengths of their post-headers
 abbrev pub read_lengths : List (ℕ × ℕ)
 read_lengths = (2, 13) ∷ (4, 8) ∷ (19, 8) ∷ (30, 10) ∷ (31, 10) ∷ (32, 10) ∷ []
 
@@ -99,7 +99,7 @@ gtid_fault bytes =
 abbrev pub is_statement : List ℕ → Bool
 is_statement text = bytes_eq text (codes "BEGIN") || bytes_eq text (codes "COMMIT")
 
--- where the text begins: behind the status, the schema and the terminator
+-- where the text begins: after the status, the schema and the terminator
 abbrev pub text_place : List ℕ → ℕ
 text_place bytes = 32 + number_at 2 bytes 30 + slice_index bytes 27 + 1
 

@@ -31,8 +31,8 @@ type_code (Char maximum) = 254
 type_code (Enum width) = 254
 type_code (Set width) = 254
 
--- the metadata of a STRING of this real type and length: bits 8 and 9 of the length stand, flipped, in bits 4 and 5 of
--- the first byte
+-- the metadata of a STRING of this real type and length: bits 8 and 9 of the length are flipped and put in bits 4 and 5
+-- of the first byte
 abbrev pub string_metadata : ℕ → ℕ → List ℕ
 string_metadata real size = (real - 16 * (size / 256)) ∷ (size % 256) ∷ []
 
@@ -69,7 +69,7 @@ is_lawful (Enum width) = is_within 1 2 width
 is_lawful (Set width) = is_within 1 8 width
 is_lawful _ = true
 
--- The type byte and the front of the bytes are those of a type whose metadata is in range.
+-- The type code and the front of the bytes are those of a type whose metadata is in range.
 pub record IsColumn (kind : ColumnKind) (code : ℕ) (rest bytes : List ℕ) : Type 0 where
   pub lawful : IsTrue (is_lawful kind)
   pub code_is : code ≡ type_code kind
@@ -81,9 +81,9 @@ pub record HasColumn (code : ℕ) (bytes : List ℕ) : Type 0 where
   pub rest : List ℕ
   pub is_column : IsColumn kind code rest bytes
 
--- ---- What is wrong with a type byte and its metadata.
+-- ---- What is wrong with a type code and its metadata.
 
--- how many bytes of metadata a type has, where it is one that is read
+-- how many bytes of metadata a supported type has
 unfoldable pub metadata_size : ℕ → Option ℕ
 metadata_size code =
     if (code == 1) || (code == 2) || (code == 3) || (code == 8) || (code == 9) || (code == 10) || (code == 13) then Some 0
@@ -94,7 +94,7 @@ metadata_size code =
 abbrev pub when : Bool → EventFaultKind → Option EventFaultKind
 when test kind = if test then Some kind else None
 
--- the real type and the length of a STRING, by its two bytes of metadata
+-- the real type and the length of a STRING, from its two bytes of metadata
 abbrev pub real_type : ℕ → ℕ
 real_type first = bit_or first 0x30
 
@@ -108,7 +108,7 @@ string_fault real size =
     else if real == 248 then when (not (is_within 1 8 size)) Metadata
     else Some (UnknownColumn real)
 
--- what is wrong with the metadata of a type that is read: its first byte, and the second, where it has two
+-- what is wrong with the metadata of a supported type: its first byte, and the second, if it has two
 unfoldable pub metadata_fault : ℕ → ℕ → ℕ → Option EventFaultKind
 metadata_fault code first second =
     if code == 4 then when (not (first == 4)) Metadata
@@ -120,8 +120,8 @@ metadata_fault code first second =
     else if code == 254 then string_fault (real_type first) (string_length first second)
     else None
 
--- the same for a type byte and bytes that begin with its metadata: a type that isn't read, then metadata that doesn't
--- fit, then what is wrong with it
+-- what is wrong with a type code and bytes that begin with its metadata: a type that is not supported, then metadata
+-- that does not fit, then what is wrong with it
 abbrev pub sized_fault : Option ℕ → ℕ → List ℕ → Option EventFaultKind
 sized_fault None code bytes = Some (UnknownColumn code)
 sized_fault (Some size) code bytes =

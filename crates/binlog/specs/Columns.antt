@@ -1,4 +1,4 @@
--- The columns of a table, as type bytes and metadata stand for them.
+-- The columns of a table, as type codes and metadata encode them.
 use Rattle.std.specs.Prelude.{ℕ, ◌+◌, ◌*◌, List, [], ◌∷◌, drop, slice_index, ◌==◌, if◌then◌else◌, Option, Some, None}
 use Rattle.binlog.specs.Column.{real_type, string_length, column_fault}
 use Rattle.binlog.specs.Table.{AreColumns, IsNamed, metadata_length, codes_at, metadata_place}
@@ -6,7 +6,7 @@ use Rattle.binlog.specs.declared.fault.EventFaultKind.{EventFaultKind}
 use Rattle.binlog.specs.declared.column.ColumnKind.{ColumnKind}
 use Rattle.binlog.specs.declared.column.ColumnKind.TheVariants.{Tiny, Short, Int24, Long, LongLong, Varchar, Blob, Bit, NewDecimal, Float, Double, Date, Year, Timestamp2, Datetime2, Time2, Char, Enum, Set}
 
--- the type of a column that is not at fault, by its type byte and the first two bytes from its metadata on
+-- the type of a column that is not at fault, from its type code and the first two bytes from its metadata on
 unfoldable pub kind_of : ℕ → ℕ → ℕ → ColumnKind
 kind_of code first second =
     if code == 1 then Tiny
@@ -33,13 +33,13 @@ abbrev pub column_front : Option EventFaultKind → ColumnKind → List ColumnKi
 column_front None kind others = kind ∷ others
 column_front (Some fault) kind others = []
 
--- the columns of these type bytes whose metadata, one after the other, begins the bytes: all of them, or those before
--- the first that is at fault
+-- the columns of these type codes, whose metadata is at the front of the bytes, one after the other: all of them, or
+-- those before the first that is at fault
 abbrev pub columns_of : List ℕ → List ℕ → List ColumnKind
 columns_of [] bytes = []
 columns_of (code ∷ codes) bytes = column_front (column_fault code bytes) (kind_of code (slice_index bytes 0) (slice_index bytes 1)) (columns_of codes (drop (metadata_length code) bytes))
 
--- the columns that stand in an event from a place on
+-- the columns in an event from an offset on
 abbrev pub columns_at : List ℕ → ℕ → List ColumnKind
 columns_at bytes place = columns_of (codes_at bytes place) (drop (metadata_place bytes place) bytes)
 

@@ -6,12 +6,12 @@ use Rattle.binlog.specs.declared.column.ColumnKind.{ColumnKind}
 use Rattle.binlog.specs.declared.column_types.Columns.{Columns}
 use Rattle.binlog.specs.declared.column_types.Columns.TheVariants.{Encoded, Types}
 
--- the types that they stand for
+-- the types that they encode
 abbrev pub columns_in : Columns → List ColumnKind
 columns_in (Encoded codes metadata) = columns_of codes.now metadata.now
 columns_in (Types types) = kinds types.now
 
--- how many type bytes or types there are
+-- how many type codes or types there are
 abbrev pub column_count : Columns → ℕ
 column_count (Encoded codes metadata) = length codes.now
 column_count (Types types) = length types.now

@@ -1,10 +1,10 @@
--- Counts: length-encoded integers at a place of an event.
+-- Counts: length-encoded integers inside an event.
 use Rattle.std.specs.Prelude.{ℕ, ◌+◌, ◌-◌, List, [], ◌∷◌, slice_index, nat_le, ◌==◌, if◌then◌else◌, Option}
 use Rattle.binlog.specs.Fault.{refuse, needs, first_of, number_at}
 use Rattle.binlog.specs.declared.fault.EventFaultKind.{EventFaultKind}
 use Rattle.binlog.specs.declared.fault.EventFault.{EventFault}
 
--- how many bytes a length-encoded integer takes that begins with this byte; 0 where none begins so
+-- how many bytes a length-encoded integer takes that begins with this byte; 0 if none begins with it
 abbrev pub width_of : ℕ → ℕ
 width_of first =
     if nat_le first 250 then 1
@@ -13,7 +13,7 @@ width_of first =
     else if first == 0xFE then 9
     else 0
 
--- the bytes of the count at a place
+-- the number of bytes of the count at an offset
 abbrev pub count_width : List ℕ → ℕ → ℕ
 count_width bytes place = width_of (slice_index bytes place)
 
@@ -23,7 +23,7 @@ count_at bytes place =
     if nat_le (slice_index bytes place) 250 then slice_index bytes place
     else number_at (count_width bytes place - 1) bytes (place + 1)
 
--- No count stands at the place: there is no byte, or one that begins none, or too few.
+-- There is no count at the offset: no byte, one that begins no count, or too few bytes.
 unfoldable pub no_count : List ℕ → ℕ → EventFaultKind → Option EventFault
 no_count bytes place kind = first_of (
     needs bytes place 1

@@ -1,5 +1,5 @@
--- Events, and why bytes are none. MySQL Source Documentation, Binlog Event: binary_log::Log_event_type and the classes
--- of the events that are read.
+-- Events, and the faults of bytes that are not events. MySQL Source Documentation, Binlog Event:
+-- binary_log::Log_event_type and the classes of the supported events.
 use Rattle.std.specs.Prelude.{◌≡◌, ℕ, ◌+◌, Bool, true, false, ◌&&◌, not, List, [], ◌∷◌, ◌==◌, slice_index, nat_le, if◌then◌else◌, Option, None, ◌⊎◌}
 use Rattle.std.specs.List.{list_any}
 use Rattle.binlog.specs.Fault.{refuse, first_of}
@@ -32,7 +32,7 @@ pub data EventValue : Type 0 where
 abbrev pub is_one_of : List ℕ → ℕ → Bool
 is_one_of codes code = list_any (λ c. code == c) codes
 
--- those that are passed over: HEARTBEAT, IGNORABLE, ROWS_QUERY, PREVIOUS_GTIDS
+-- those that are ignored: HEARTBEAT, IGNORABLE, ROWS_QUERY, PREVIOUS_GTIDS
 abbrev pub neutral_codes : List ℕ
 neutral_codes = 27 ∷ 28 ∷ 29 ∷ 35 ∷ []
 
@@ -40,17 +40,17 @@ neutral_codes = 27 ∷ 28 ∷ 29 ∷ 35 ∷ []
 abbrev pub refused_codes : List ℕ
 refused_codes = 38 ∷ 39 ∷ 40 ∷ []
 
--- those that are read, passed over or refused (34 is ANONYMOUS_GTID), whatever their flags
+-- those that are read, ignored or refused (34 is ANONYMOUS_GTID), whatever their flags
 abbrev pub known_codes : List ℕ
 known_codes = 2 ∷ 3 ∷ 4 ∷ 15 ∷ 16 ∷ 19 ∷ 27 ∷ 28 ∷ 29 ∷ 30 ∷ 31 ∷ 32 ∷ 33 ∷ 34 ∷ 35 ∷ 38 ∷ 39 ∷ 40 ∷ []
 
--- An event that is passed over is of such a type, or of no known type and marked as one that may be ignored.
+-- An event that is ignored is of such a type, or of an unknown type and has the flag LOG_EVENT_IGNORABLE_F.
 abbrev pub IsNeutral : ℕ → Bool → Type 0
 IsNeutral code may_ignore = (is_one_of neutral_codes code ≡ true) ⊎ ((is_one_of known_codes code ≡ false) × (may_ignore ≡ true))
 
--- ---- Events, where the changes of these tables are taken.
+-- ---- Events, for a reader that follows these tables.
 
--- A table map of another table, of which only its number and its names are looked at.
+-- A table map of another table, of which only its number and its names are read.
 pub record IsOtherMap (names : Names) (id : ℕ) (body : List ℕ) : Type 0 where
   pub schema : List ℕ
   pub table : List ℕ
@@ -85,7 +85,7 @@ pub record HasEvent (names : Names) (bytes : List ℕ) : Type 0 where
   pub event : EventValue
   pub is_event : IsEvent names event bytes
 
--- ---- The refusals, in order: of the header, of the type, of the body.
+-- ---- The faults, in order: of the header, of the type, of the body.
 
 -- the type, at 4, and the flag 0x0080
 abbrev pub code_of : List ℕ → ℕ

@@ -1,4 +1,4 @@
--- Events, whatever memory holds them, and the tables that a reader of them follows.
+-- Events, apart from the memory that holds them, and the tables that a reader follows.
 use Rattle.std.specs.Prelude.{Option, Some, None}
 use Rattle.std.specs.Borrow.{Bor}
 use Rattle.std.specs.FinSet as set
@@ -23,7 +23,7 @@ event_value (events.OtherMap id) = other_map id
 event_value (events.Rows r) = rows (rows_value r)
 event_value (events.Xid number) = xid number
 
--- the tables that are followed: with no list, all
+-- the tables that are followed: all if there is no list
 abbrev pub followed : Option (Bor Names) → Names
 followed (Some follow) = follow.now
 followed None = set.empty

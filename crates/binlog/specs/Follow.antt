@@ -1,4 +1,4 @@
--- The tables whose changes are taken: a plain set of names, of which the empty one means all.
+-- The tables that are followed: a plain set of names; the empty set means all tables.
 use Rattle.std.specs.Prelude.{◌≡◌, ℕ, Bool, true, ◌||◌, ◌&&◌, List}
 use Rattle.std.specs.List.{list_any, AllByRecursion}
 use Rattle.std.specs.Str.{bytes_eq}
@@ -23,14 +23,14 @@ Names = set.FinSet name_cmp
 abbrev pub names_code : Coded Names
 names_code = set.code (coded× (coded_list coded_ℕ) (coded_list coded_ℕ))
 
--- whether a name is one of the list's
+-- whether a name is in the list
 abbrev pub is_listed : Name → List Name → Bool
 is_listed name names = list_any (λ n. bytes_eq n.0 name.0 && bytes_eq n.1 name.1) names
 
--- Each of the names is one of the list's.
+-- Each of the names is in the list.
 abbrev pub AreAmong : List Name → List Name → Type 0
 AreAmong names of = AllByRecursion (λ n. is_listed n of ≡ true) names
 
--- whether the changes of a table are taken
+-- whether a table is followed
 abbrev pub follows : Names → List ℕ → List ℕ → Bool
 follows names schema table = set.is_subset names set.empty || set.contains names (schema, table)

@@ -6,8 +6,8 @@ use Rattle.binlog.specs.declared.fault.EventFault.{EventFault}
 use Rattle.binlog.specs.declared.fault.EventFaultKind.TheVariants.{Size}
 
 -- The bytes are an event of this type with this body: a header of 19 bytes (timestamp, type, server id, size of the
--- whole event, next position, flags) and the body. The flag 0x0080, the highest bit of the flags' low byte, marks an
--- event that may be ignored. The other fields are left free.
+-- whole event, next position, flags) and the body. The flag 0x0080, the highest bit of the flags' low byte, is
+-- LOG_EVENT_IGNORABLE_F. The other fields are left free.
 pub record IsFramed (code : ℕ) (may_ignore : Bool) (body bytes : List ℕ) : Type 0 where
   pub timestamp : List ℕ
   pub server_id : List ℕ
@@ -19,14 +19,14 @@ pub record IsFramed (code : ℕ) (may_ignore : Bool) (body bytes : List ℕ) : T
   pub a_size : length bytes < 2 ^ 32
   pub marked : may_ignore ≡ nat_le 128 low_flags
 
--- the refusals of a header, in order
+-- the faults of a header, in order
 unfoldable pub header_fault : List ℕ → Option EventFault
 header_fault bytes = first_of (
     needs bytes 0 4 ∷ needs bytes 4 1 ∷ needs bytes 5 4 ∷ needs bytes 9 4 ∷ needs bytes 13 4 ∷ needs bytes 17 2
     ∷ refuse (not (number_at 4 bytes 9 == length bytes)) Size 9
     ∷ [])
 
--- some type, mark and body
+-- some type, flag and body
 pub record HasFrame (bytes : List ℕ) : Type 0 where
   pub code : ℕ
   pub may_ignore : Bool

@@ -10,7 +10,7 @@ use Rattle.binlog.specs.declared.column.ColumnType.{ColumnType}
 abbrev pub kinds : List ColumnType → List ColumnKind
 kinds types = map (λ t. t.kind) types
 
--- the bytes of a bitmap of n bits
+-- how many bytes a bitmap of n bits takes
 abbrev pub bitmap_size : ℕ → ℕ
 bitmap_size n = div_ceil n 8
 
@@ -25,8 +25,8 @@ AreValues (t ∷ types) (null_cell ∷ cells) bytes = AreValues types cells byte
 AreValues (t ∷ types) (cell ∷ cells) bytes = (first : List ℕ) × (others : List ℕ) × (bytes ≡ first ++ others) × IsValue (shape t) cell first × AreValues types cells others
 AreValues _ _ bytes = ⊥
 
--- The bytes are the row of the cells: a bitmap whose bit i says that cell i is null, and the values of the others. Bits
--- behind the last column are left free.
+-- The bytes are the row of the cells: a bitmap whose bit i says that cell i is null, and the values of the others. The
+-- unused bits of the bitmap are left free.
 pub record IsRow (types : List ColumnKind) (cells : List CellValue) (bytes : List ℕ) : Type 0 where
   pub bitmap : List ℕ
   pub values : List ℕ
@@ -43,7 +43,7 @@ pub record HasRow (types : List ColumnKind) (end : ℕ) (bytes : List ℕ) : Typ
 
 -- ---- The row at the front of bytes.
 
--- a place so much further on
+-- an offset counted from further on
 abbrev pub further : ℕ → Result ℕ ℕ → Result ℕ ℕ
 further n (Ok place) = Ok (n + place)
 further n (Err place) = Err (n + place)
@@ -53,7 +53,7 @@ abbrev pub ◌>>=◌ : Result ℕ ℕ → (ℕ → Result ℕ ℕ) → Result �
 (Ok size) >>= next = further size (next size)
 (Err place) >>= next = Err place
 
--- where the values of the columns from column i on end, those that are null left out, or (Err) the place of the first
+-- where the values of the columns from column i on end, without those that are null, or (Err) the offset of the first
 -- length or value that doesn't fit
 abbrev pub values_end : List ℕ → ℕ → List ColumnKind → List ℕ → Result ℕ ℕ
 values_end bitmap i [] bytes = Ok 0
@@ -61,7 +61,7 @@ values_end bitmap i (t ∷ types) bytes =
     if is_set bitmap i then values_end bitmap (suc i) types bytes
     else value_end (shape t) bytes >>= (λ size. values_end bitmap (suc i) types (drop size bytes))
 
--- where the row ends, or (Err) the place of the bitmap, length or value that doesn't fit
+-- where the row ends, or (Err) the offset of the bitmap, length or value that doesn't fit
 unfoldable pub row_end : List ColumnKind → List ℕ → Result ℕ ℕ
 row_end types bytes =
     let size = bitmap_size (length types) in

@@ -17,7 +17,7 @@ use Rattle.binlog.specs.declared.rows_event.RowsKind.TheVariants.{Write, Update,
 
 -- ---- The event.
 
--- the table's number, the number of its columns, the bytes of its rows, and where in the event the last two stand
+-- the table's number, the number of its columns, the bytes of its rows, and the offsets of the last two in the event
 pub record RowsValue : Type 0 where
   pub id : ℕ
   pub kind : RowsKind
@@ -37,8 +37,8 @@ ArePresent Update n bitmaps = (first : List ℕ) × (second : List ℕ) × (bitm
 ArePresent Write n bitmaps = AllPresent n bitmaps
 ArePresent Delete n bitmaps = AllPresent n bitmaps
 
--- The body is the rows event, of which no column is left out. Flags and the extra data are left free; the length of the
--- extra data counts itself.
+-- The body is the rows event, without any column left out. Flags and the extra data are left free; the length of the
+-- extra data includes its own two bytes.
 pub record IsRows (r : RowsValue) (body : List ℕ) : Type 0 where
   pub flags : List ℕ
   pub extra : List ℕ
@@ -65,26 +65,26 @@ rows_code Write = 30
 rows_code Update = 31
 rows_code Delete = 32
 
--- ---- Its refusals, by the whole event, whose body begins at 19.
+-- ---- Its faults, of the whole event, whose body begins at 19.
 
 -- all of the first n bits of a bitmap are set
 abbrev pub is_full : ℕ → List ℕ → Bool
 is_full n bitmap = list_all (is_set bitmap) (range_with_len 0 n)
 
--- a bitmap of n present columns at a place
+-- a bitmap of n present columns at an offset
 abbrev pub present_fault : List ℕ → ℕ → ℕ → Option EventFault
 present_fault bytes place n = first_of (
     needs bytes place (bitmap_size n)
     ∷ refuse (not (is_full n (take (bitmap_size n) (drop place bytes)))) Partial place
     ∷ [])
 
--- the bitmaps of present columns at a place
+-- the bitmaps of present columns at an offset
 abbrev pub presents_fault : RowsKind → List ℕ → ℕ → ℕ → Option EventFault
 presents_fault Update bytes place n = first_of (present_fault bytes place n ∷ present_fault bytes (place + bitmap_size n) n ∷ [])
 presents_fault Write bytes place n = present_fault bytes place n
 presents_fault Delete bytes place n = present_fault bytes place n
 
--- their bytes
+-- how many bytes they take
 abbrev pub presents_size : RowsKind → ℕ → ℕ
 presents_size Update n = bitmap_size n + bitmap_size n
 presents_size Write n = bitmap_size n
@@ -104,13 +104,13 @@ rows_fault kind bytes =
 
 -- ---- Its rows.
 
--- what a rows event says of one row: cells that came, that went, or that changed
+-- one row change: the row after it, the row before it, or both
 pub data PairValue : Type 0 where
   inserted : List CellValue → PairValue
   deleted : List CellValue → PairValue
   updated : List CellValue → List CellValue → PairValue
 
--- The bytes are the pair: of an update the row before and then the row after.
+-- The bytes are the pair; an update has the row before and then the row after.
 abbrev pub IsPair : RowsKind → List ColumnKind → PairValue → List ℕ → Type 0
 IsPair Write types (inserted cells) bytes = IsRow types cells bytes
 IsPair Delete types (deleted cells) bytes = IsRow types cells bytes
@@ -122,13 +122,13 @@ abbrev pub AreRows : RowsKind → List ColumnKind → List PairValue → List �
 AreRows kind types [] bytes = bytes ≡ []
 AreRows kind types (pair ∷ pairs) bytes = (first : List ℕ) × (others : List ℕ) × (bytes ≡ first ++ others) × IsPair kind types pair first × AreRows kind types pairs others
 
--- where the pair at the front of bytes ends, or (Err) the place of what doesn't fit
+-- where the pair at the front of bytes ends, or (Err) the offset of what doesn't fit
 abbrev pub pair_end : RowsKind → List ColumnKind → List ℕ → Result ℕ ℕ
 pair_end Update types bytes = row_end types bytes >>= (λ size. row_end types (drop size bytes))
 pair_end Write types bytes = row_end types bytes
 pair_end Delete types bytes = row_end types bytes
 
--- The bytes are the rows of these pairs and then some of a pair that isn't whole: what doesn't fit of it stands at the place.
+-- The bytes are the rows of these pairs and then a part of another pair, of which the part at `place` doesn't fit.
 pub record EndsEarly (kind : RowsKind) (types : List ColumnKind) (pairs : List PairValue) (bytes : List ℕ) (place : ℕ) : Type 0 where
   pub whole : List ℕ
   pub rest : List ℕ
@@ -139,7 +139,8 @@ pub record EndsEarly (kind : RowsKind) (types : List ColumnKind) (pairs : List P
   pub ends : pair_end kind types rest ≡ Err early
   pub place_is : place ≡ length whole + early
 
--- The items are the pairs of the rows, which begin at a place of the event, or the pairs before the first fault and then that fault.
+-- The items are the pairs of the rows, which begin at an offset of the event, or the pairs before the first fault and
+-- then that fault.
 abbrev pub AreItemsAt : RowsKind → List ColumnKind → List ℕ → ℕ → List (Result PairValue EventFault) → Type 0
 AreItemsAt kind types bytes at items =
     ((pairs : List PairValue) × AreRows kind types pairs bytes × (items ≡ map Ok pairs))
@@ -156,18 +157,18 @@ pub record HasItems (kind : RowsKind) (types : List ColumnKind) (bytes : List �
 
 -- ---- Its items, by its bytes.
 
--- a place, found or not
+-- an offset, found or not
 abbrev pub reached : Result ℕ ℕ → ℕ
 reached (Ok place) = place
 reached (Err place) = place
 
--- the pair at the front of bytes, where it fits
+-- the pair at the front of bytes, if it fits
 abbrev pub pair_of : RowsKind → List ColumnKind → List ℕ → PairValue
 pair_of Write types bytes = inserted (row_cells types bytes)
 pair_of Delete types bytes = deleted (row_cells types bytes)
 pair_of Update types bytes = updated (row_cells types bytes) (row_cells types (drop (reached (row_end types bytes)) bytes))
 
--- what the bytes say that begin at a place of the event, at most so many items
+-- the items of the bytes, which begin at an offset of the event; at most as many as the fuel
 abbrev pub item_front : Result ℕ ℕ → PairValue → ℕ → (ℕ → List (Result PairValue EventFault)) → List (Result PairValue EventFault)
 item_front (Ok size) pair at others = Ok pair ∷ others size
 item_front (Err place) pair at others = Err (record { kind = Truncated; at = at + place }) ∷ []

@@ -1,4 +1,4 @@
--- Rows events and their pairs, whatever memory holds them.
+-- Rows events and their pairs, apart from the memory that holds them.
 use Rattle.std.specs.Prelude.{List, map, Result, Ok, Err}
 use Rattle.binlog.specs.Cell.{owned_values}
 use Rattle.binlog.specs.Rows.{RowsValue, PairValue, inserted, deleted, updated}
@@ -24,7 +24,7 @@ abbrev pub item_value : Result RowPair EventFault → Result PairValue EventFaul
 item_value (Ok pair) = Ok (pair_value pair)
 item_value (Err fault) = Err fault
 
--- the same of a pair with cells of its own
+-- the value of a pair that owns its cells
 abbrev pub owned_pair : OwnedPair → PairValue
 owned_pair (OwnInsert after) = inserted (owned_values after.items)
 owned_pair (OwnDelete before) = deleted (owned_values before.items)

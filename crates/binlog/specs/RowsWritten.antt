@@ -1,5 +1,4 @@
--- The rows that pairs are written as: of the lists of bytes that are their rows, the one whose bits behind the last
--- column are 0.
+-- The bytes that are written for pairs: of all bytes that are their rows, those whose unused bitmap bits are 0.
 use Rattle.std.specs.Prelude.{ℕ, zero, suc, ◌+◌, ◌*◌, ◌^◌, Bool, true, false, ◌&&◌, List, [], ◌∷◌, ◌++◌, length, map, flat_map, slice_index_or, nat_lt, ◌==◌, if◌then◌else◌}
 use Rattle.std.specs.List.{list_all, range_with_len}
 use Rattle.byteorder.specs.Endian.{little_bytes}
@@ -15,7 +14,7 @@ use Rattle.binlog.specs.declared.shape.Shape.TheVariants.{Number, Fixed, Prefixe
 
 -- ---- The bytes.
 
--- a number of so many bits, the lowest first
+-- a bit as a number
 abbrev pub digit : Bool → ℕ
 digit b = if b then 1 else 0
 
@@ -23,7 +22,7 @@ abbrev pub bits_number : ℕ → (ℕ → Bool) → ℕ
 bits_number zero bit = 0
 bits_number (suc k) bit = digit (bit 0) + 2 * bits_number k (λ i. bit (suc i))
 
--- the bitmap of bits, and those behind the last are 0
+-- a byte of the bitmap of these bits; the unused bits are 0
 abbrev pub bitmap_byte : List Bool → ℕ → ℕ
 bitmap_byte bits j = bits_number 8 (λ i. slice_index_or bits (8 * j + i) false)
 
@@ -53,7 +52,7 @@ pair_bytes types (updated before after) = row_bytes types before ++ row_bytes ty
 abbrev pub rows_bytes : List ColumnKind → List PairValue → List ℕ
 rows_bytes types pairs = flat_map (pair_bytes types) pairs
 
--- ---- Which pairs have rows.
+-- ---- Which pairs can be written.
 
 -- some bytes are their rows
 pub record HaveRows (kind : RowsKind) (types : List ColumnKind) (pairs : List PairValue) : Type 0 where

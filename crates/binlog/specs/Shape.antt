@@ -1,5 +1,5 @@
--- How the value of a column stands in a row. MySQL Source Documentation, Binlog Event: binary_log::Rows_event, and the
--- storage of decimals and times of binary_log::Table_map_event's types.
+-- How the value of a column is stored in a row. MySQL Source Documentation, Binlog Event: binary_log::Rows_event, and
+-- the storage of decimals and times of binary_log::Table_map_event's types.
 use Rattle.std.specs.Prelude.{◌≡◌, ℕ, ◌+◌, ◌-◌, ◌*◌, ◌/◌, ◌%◌, ◌<◌, ◌^◌, Bool, true, List, ◌++◌, length, take, drop, nat_lt, if◌then◌else◌, Result, Ok, Err}
 use Rattle.byteorder.specs.Endian.{little_bytes, little_number}
 use Rattle.binlog.specs.Cell.{CellValue, number_cell, bytes_cell}
@@ -9,11 +9,11 @@ use Rattle.binlog.specs.declared.column.ColumnKind.TheVariants.{Tiny, Short, Int
 use Rattle.binlog.specs.declared.shape.Shape.{Shape}
 use Rattle.binlog.specs.declared.shape.Shape.TheVariants.{Number, Fixed, Prefixed}
 
--- the bytes of k decimal digits: four for nine of them, and for those left over one for each two
+-- how many bytes k decimal digits take: four for each nine, and one for each two of the rest, rounded up
 abbrev pub digits_size : ℕ → ℕ
 digits_size k = 4 * (k / 9) + (k % 9 + 1) / 2
 
--- the bytes of the length before a text of at most so many bytes
+-- how many bytes the length takes in front of a text of at most this many bytes
 abbrev pub prefix_of : ℕ → ℕ
 prefix_of maximum = if nat_lt maximum 256 then 1 else 2
 
@@ -38,7 +38,7 @@ shape (Char maximum) = Prefixed (prefix_of maximum)
 shape (Enum width) = Number width
 shape (Set width) = Number width
 
--- numbers and lengths of a size that can be read
+-- numbers and lengths of a size that is supported
 abbrev pub is_readable : Shape → Bool
 is_readable (Number width) = is_within 1 8 width
 is_readable (Fixed size) = true
@@ -53,7 +53,7 @@ IsValue _ _ bytes = ⊥
 
 -- ---- The value at the front of bytes.
 
--- how many bytes it takes, or (Err) where in them its length or its bytes don't fit
+-- how many bytes the value takes, or (Err) the offset in it of the length or the bytes that don't fit
 abbrev pub value_end : Shape → List ℕ → Result ℕ ℕ
 value_end (Number width) bytes = if nat_lt (length bytes) width then Err 0 else Ok width
 value_end (Fixed size) bytes = if nat_lt (length bytes) size then Err 0 else Ok size
@@ -62,7 +62,7 @@ value_end (Prefixed size) bytes =
     else if nat_lt (length bytes - size) (little_number size bytes) then Err size
     else Ok (size + little_number size bytes)
 
--- its cell, where it fits
+-- its cell, if it fits
 abbrev pub cell_of : Shape → List ℕ → CellValue
 cell_of (Number width) bytes = number_cell (little_number width bytes) width
 cell_of (Fixed size) bytes = bytes_cell (take size bytes)

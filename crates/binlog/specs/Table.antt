@@ -21,7 +21,7 @@ pub record TableValue : Type 0 where
   pub table : List ℕ
   pub columns : List ColumnKind
 
--- The body begins with a table's number, flags and its two names, each behind its length and before a terminator, and
+-- The body begins with a table's number, flags and its two names, each after its length and before a terminator, and
 -- goes on with the rest. Flags and terminators are left free.
 pub record IsNamed (id : ℕ) (schema table rest body : List ℕ) : Type 0 where
   pub flags : List ℕ
@@ -31,7 +31,7 @@ pub record IsNamed (id : ℕ) (schema table rest body : List ℕ) : Type 0 where
   pub an_id : id < 2 ^ 48
   pub sizes : (length flags ≡ 2) × (length schema < 256) × (length table < 256)
 
--- The bytes are the columns of a table: their number, a type byte each, the length of all metadata, the metadata, and a
+-- The bytes are the columns of a table: their number, a type code each, the length of all metadata, the metadata, and a
 -- bitmap of those that may be null. That bitmap's bits and what follows it are left free.
 pub record AreColumns (columns : List ColumnKind) (bytes : List ℕ) : Type 0 where
   pub count : List ℕ
@@ -51,9 +51,9 @@ pub record IsTableMap (t : TableValue) (body : List ℕ) : Type 0 where
   pub named : IsNamed t.id t.schema t.table rest body
   pub columns : AreColumns t.columns rest
 
--- ---- The refusals, by the whole event, whose body begins at 19.
+-- ---- The faults, of the whole event, whose body begins at 19.
 
--- where the table's name begins, and where its terminator stands
+-- where the table's name begins, and where its terminator is
 abbrev pub table_place : List ℕ → ℕ
 table_place bytes = 30 + slice_index bytes 27
 
@@ -78,7 +78,7 @@ names_fault bytes =
 abbrev pub is_column_count : ℕ → Bool
 is_column_count n = nat_le 1 n && nat_le n 4096
 
--- the first type byte that is none that is read, where they stand from a place on
+-- the first type code that is not supported; the codes begin at an offset
 abbrev pub types_fault : ℕ → List ℕ → Option EventFault
 types_fault place [] = None
 types_fault place (code ∷ others) = first_of (refuse (is_none (metadata_size code)) (UnknownColumn code) place ∷ types_fault (suc place) others ∷ [])
@@ -90,7 +90,7 @@ abbrev pub at_place : Option EventFaultKind → ℕ → Option EventFault
 at_place None place = None
 at_place (Some kind) place = Some (record { kind = kind; at = place })
 
--- the first column with metadata that is out of range, where all metadata stands from a place on
+-- the first column whose metadata is out of range; all metadata begins at an offset
 abbrev pub all_metadata_fault : List ℕ → ℕ → List ℕ → Option EventFault
 all_metadata_fault bytes place [] = None
 all_metadata_fault bytes place (code ∷ others) = first_of (
@@ -98,18 +98,19 @@ all_metadata_fault bytes place (code ∷ others) = first_of (
     ∷ all_metadata_fault bytes (place + metadata_length code) others
     ∷ [])
 
--- the type bytes of the columns that stand from a place on
+-- the type codes of the columns that begin at an offset
 abbrev pub codes_at : List ℕ → ℕ → List ℕ
 codes_at bytes place = take (count_at bytes place) (drop (place + count_width bytes place) bytes)
 
--- where the length of all metadata stands, and where the metadata
+-- the offset of the length of all metadata, and that of the metadata
 abbrev pub measure_place : List ℕ → ℕ → ℕ
 measure_place bytes place = place + count_width bytes place + count_at bytes place
 
 abbrev pub metadata_place : List ℕ → ℕ → ℕ
 metadata_place bytes place = measure_place bytes place + count_width bytes (measure_place bytes place)
 
--- the columns that stand from a place on: their number, all types, the length of all metadata, each column's, the bitmap
+-- the columns that begin at an offset: their number, all types, the length of all metadata, each column's metadata, the
+-- bitmap
 unfoldable pub columns_fault : List ℕ → ℕ → Option EventFault
 columns_fault bytes place =
     let columns = count_at bytes place in

@@ -1,5 +1,5 @@
--- Events as they are written: what a reader takes no notice of is written in one way. MySQL Source Documentation, Binlog
--- Event, the same classes.
+-- Events as they are written: the fields that a reader ignores are fixed. MySQL Source Documentation, Binlog Event, the
+-- same classes as in Event.antt.
 use Rattle.std.specs.Prelude.{ℕ, ◌+◌, ◌-◌, true, List, [], ◌∷◌, ◌++◌, length, map, flat_map, replicate, ◌==◌, if◌then◌else◌, codes}
 use Rattle.std.specs.FinSet as set
 use Rattle.byteorder.specs.Endian.{little_bytes}
@@ -14,12 +14,12 @@ use Rattle.binlog.specs.declared.body.Query.TheVariants.{Begin, Commit}
 use Rattle.binlog.specs.declared.rows_event.RowsKind.{RowsKind}
 use Rattle.binlog.specs.declared.rows_event.RowsKind.TheVariants.{Write, Update, Delete}
 
--- The event that some bytes are, where all tables are followed.
+-- Some bytes are the event, for a reader that follows all tables.
 pub record IsWritable (e : EventValue) : Type 0 where
   pub bytes : List ℕ
   pub is_event : IsEvent set.empty e bytes
 
--- the table map that some body is, and the rows event
+-- some body is the table map, or the rows event
 pub record HasMap (t : TableValue) : Type 0 where
   pub body : List ℕ
   pub is_map : IsTableMap t body
@@ -28,22 +28,22 @@ pub record HasRowsBody (r : RowsValue) : Type 0 where
   pub body : List ℕ
   pub is_rows : IsRows r body
 
--- a header: no time, server 1, no next position, no flags
+-- a header: time 0, server 1, next position 0, no flags
 abbrev pub header_bytes : ℕ → ℕ → List ℕ
 header_bytes code size = 0 ∷ 0 ∷ 0 ∷ 0 ∷ code ∷ 1 ∷ 0 ∷ 0 ∷ 0 ∷ little_bytes 4 size ++ 0 ∷ 0 ∷ 0 ∷ 0 ∷ 0 ∷ 0 ∷ []
 
--- a format description of server 8.0.36, with the lengths of 35 types, of which those that are not read are 0
+-- a format description of server 8.0.36, with the lengths of 35 types, which are 0 for types that are not supported
 abbrev pub format_body : List ℕ
 format_body = 4 ∷ 0 ∷ codes "8.0.36" ++ replicate 44 0 ++ 0 ∷ 0 ∷ 0 ∷ 0 ∷ 19 ∷ 0 ∷ 13 ∷ 0 ∷ 8 ∷ replicate 14 0 ++ 8 ∷ replicate 10 0 ++ 10 ∷ 10 ∷ 10 ∷ 0 ∷ 0 ∷ 0 ∷ 0 ∷ 0 ∷ 0 ∷ 0 ∷ 0 ∷ []
 
--- a query of no thread, no time, no schema, no error and no status
+-- a query with zero for thread, time, schema, error and status
 abbrev pub query_body : List ℕ → List ℕ
 query_body text = replicate 13 0 ++ 0 ∷ text
 
 abbrev pub gtid_body : List ℕ → ℕ → List ℕ
 gtid_body source number = 0 ∷ source ++ little_bytes 8 number
 
--- a bitmap of n bits, all set, and those behind them are 0
+-- a bitmap of n bits, all set; the unused bits are 0
 abbrev pub full_bitmap : ℕ → List ℕ
 full_bitmap n = bitmap_bytes (replicate n true)
 
@@ -57,7 +57,7 @@ table_map_body t =
     let all_metadata = flat_map metadata t.columns in
     names_bytes t ++ length_encoded (length t.columns) ++ map type_code t.columns ++ length_encoded (length all_metadata) ++ all_metadata ++ full_bitmap (length t.columns)
 
--- a count in so many bytes
+-- a count in `width` bytes
 abbrev pub count_bytes : ℕ → ℕ → List ℕ
 count_bytes width n =
     if width == 1 then n ∷ []
@@ -70,7 +70,7 @@ presents_bytes Update n = full_bitmap n ++ full_bitmap n
 presents_bytes Write n = full_bitmap n
 presents_bytes Delete n = full_bitmap n
 
--- the rows event of these rows without extra data and with the shortest count
+-- the rows event of these rows without extra data and with the shortest encoding of the number of columns
 abbrev pub plain_rows : ℕ → RowsKind → ℕ → List ℕ → RowsValue
 plain_rows id kind columns bytes = record {
   id = id;
@@ -81,20 +81,20 @@ plain_rows id kind columns bytes = record {
   bytes_at = 29 + length (length_encoded columns) + presents_size kind columns;
 }
 
--- what stands before the number of columns of an event that ends its statement, with as many bytes of extra data as its
--- place asks for
+-- what comes before the number of columns of an event that ends its statement, with as many bytes of extra data as the
+-- offset of that number requires
 abbrev pub rows_head : RowsValue → List ℕ
 rows_head r =
     let extra = r.columns_at - 29 in
     little_bytes 6 r.id ++ 1 ∷ 0 ∷ little_bytes 2 (2 + extra) ++ replicate extra 0
 
--- a rows event, with a count in as many bytes as its places ask for
+-- a rows event, with the number of columns in as many bytes as its offsets require
 abbrev pub rows_body : RowsValue → List ℕ
 rows_body r =
     let width = r.bytes_at - r.columns_at - presents_size r.kind r.columns in
     rows_head r ++ count_bytes width r.columns ++ presents_bytes r.kind r.columns ++ r.bytes
 
--- the type that is written; of a neutral event IGNORABLE
+-- the type that is written; IGNORABLE for a neutral event
 abbrev pub event_code : EventValue → ℕ
 event_code format = 15
 event_code begin = 2

@@ -1,8 +1,8 @@
 //! The bodies of events other than table maps and rows. MySQL Source Documentation, "Binlog Event": the pages of
 //! `Format_description_event`, `Rotate_event`, `Xid_event`, `Gtid_event` and `Query_event`.
 //!
-//! Each function takes a whole event whose header was read; the body begins at 19, and places of faults count from
-//! the event's first byte.
+//! Each function takes a whole event whose header was read. The body begins at offset 19, and the offsets of faults
+//! count from the event's first byte.
 
 ghost use Rattle.std.specs.Prelude.{◌≡◌, ℕ, ◌≤◌, List, length, drop, IfOk, IfErr, IfSome, IfNone, OnOk, IsOk, Ok, Some, None};
 ghost use Rattle.binlog.specs.declared.body.Query.{Query};
@@ -13,10 +13,10 @@ use crate::fault::{EventFault, EventFaultKind};
 use byteorder::{ByteOrder, LittleEndian};
 use gtid::Gtid;
 
-/// The types that are read, with the lengths of their post-headers.
+/// The supported types with post-headers, and the lengths of these.
 const LENGTHS: [(usize, u8); 6] = [(2, 13), (4, 8), (19, 8), (30, 10), (31, 10), (32, 10)];
 
-/// Reads a format description: version 4, the lengths of the types that are read, and no checksum.
+/// Reads a format description: version 4, the expected post-header lengths of the supported types, and no checksums.
 #[tactic(auto, unfolding(crate::specs::Body::format_fault))]
 pub(crate) fn read_format(bytes: &[u8]) -> Result<(), EventFault>
     ensures found { OnOk result (IsFormat (drop 19 bytes.now)) }
@@ -67,7 +67,7 @@ pub(crate) fn read_format(bytes: &[u8]) -> Result<(), EventFault>
     Ok(())
 }
 
-/// Where the first of the lengths stands that is not as it should be.
+/// The offset of the first post-header length that is not the expected one.
 fn wrong_length(bytes: &[u8]) -> Option<usize>
     requires { 116 ≤ length bytes.now }
     ensures some { IfSome result (λ at. first_of (length_refusals bytes.now read_lengths) ≡ Some (record { kind = EventFaultKind.HeaderLengths; at = at })) }
@@ -81,7 +81,7 @@ fn wrong_length(bytes: &[u8]) -> Option<usize>
     None
 }
 
-/// Reads the end of a transaction: its number.
+/// Reads an XID event: its number.
 #[tactic(auto, unfolding(crate::specs::Body::xid_fault))]
 pub(crate) fn read_xid(bytes: &[u8]) -> Result<u64, EventFault>
     ensures found { IfOk result (λ number. IsXid number (drop 19 bytes.now)) }
@@ -100,7 +100,7 @@ pub(crate) fn read_xid(bytes: &[u8]) -> Result<u64, EventFault>
     Ok(LittleEndian::read_u64(&bytes[19..]))
 }
 
-/// Reads a rotation: the position and the name of the next file.
+/// Reads a rotation: the position in the next file, and the file's name.
 #[tactic(auto, unfolding(crate::specs::Body::rotate_fault))]
 pub(crate) fn read_rotate(bytes: &[u8]) -> Result<(u64, &[u8]), EventFault>
     ensures found { IfOk result (λ read. IsRotate read.0 read.1.now (drop 19 bytes.now)) }
@@ -113,7 +113,7 @@ pub(crate) fn read_rotate(bytes: &[u8]) -> Result<(u64, &[u8]), EventFault>
     Ok((LittleEndian::read_u64(&bytes[19..]), &bytes[27..]))
 }
 
-/// Reads a transaction's identifier.
+/// Reads the GTID of a GTID event.
 #[tactic(auto, unfolding(crate::specs::Body::gtid_fault))]
 pub(crate) fn read_gtid(bytes: &[u8]) -> Result<Gtid, EventFault>
     ensures found { IfOk result (λ gtid. IsGtid gtid.source gtid.number (drop 19 bytes.now)) }
@@ -142,14 +142,14 @@ const BEGIN: &[u8] = b"BEGIN";
 
 const COMMIT: &[u8] = b"COMMIT";
 
-/// A statement that is read.
+/// A statement that is supported.
 #[derive(Clone, Copy, Debug, PartialEq, Eq)]
 pub(crate) enum Query {
     Begin,
     Commit,
 }
 
-/// Reads a query whose text is one of the statements that are read.
+/// Reads a QUERY event whose text is `BEGIN` or `COMMIT`.
 #[tactic(auto, unfolding(crate::specs::Body::query_fault))]
 pub(crate) fn read_query(bytes: &[u8]) -> Result<Query, EventFault>
     ensures found { IfOk result (λ query. IsQuery (statement query) (drop 19 bytes.now)) }
@@ -170,7 +170,7 @@ pub(crate) fn read_query(bytes: &[u8]) -> Result<Query, EventFault>
     })
 }
 
-/// Where the text of a query begins.
+/// The offset at which the text of a QUERY event begins.
 #[tactic(auto, unfolding(crate::specs::Body::query_fault))]
 fn read_text(bytes: &[u8]) -> Result<usize, EventFault>
     ensures place { IfOk result (λ text. text ≡ text_place bytes.now) }

@@ -33,12 +33,12 @@ fn format(alloc: Global) -> Result<Vec<u8>, Fail> {
     Ok(event)
 }
 
-/// The first bytes of an event.
+/// The first `len` bytes of an event.
 fn front(event: &[u8], len: usize) -> Result<&[u8], Fail> {
     Ok(event.get(..len).ok_or("a shorter event")?)
 }
 
-/// The fault of a result, as its offset and its kind's text; or `read`.
+/// The fault of a result, as its kind's text and its offset; or `read`.
 fn told<T: Drop>(alloc: Global, read: Result<T, EventFault>) -> Result<String, Fail> {
     Ok(match read {
         Ok(_) => format!(in alloc; "read")?,
@@ -46,7 +46,7 @@ fn told<T: Drop>(alloc: Global, read: Result<T, EventFault>) -> Result<String, F
     })
 }
 
-/// A field that does not fit.
+/// A field at this offset that does not fit.
 fn early(at: usize) -> EventFault {
     EventFault {
         kind: EventFaultKind::Truncated,
@@ -54,7 +54,7 @@ fn early(at: usize) -> EventFault {
     }
 }
 
-/// What is wrong with bytes that are no format description.
+/// The fault of bytes that are not a format description.
 fn format_fault(event: &[u8]) -> Result<EventFault, Fail> {
     Ok(read_format(event).err().ok_or("read")?)
 }
@@ -70,7 +70,7 @@ fn formats(rt: HostRuntime) -> Result<(), Fail> {
     Ok(())
 }
 
-/// The length of a format description that is cut short, and the place of what does not fit.
+/// The length of a format description that is cut short, and the offset of the field that does not fit.
 const CUT_FORMATS: [(usize, usize); 8] = [
     (20, 19),
     (21, 21),
@@ -92,7 +92,7 @@ fn cut_formats(rt: HostRuntime) -> Result<(), Fail> {
     Ok(())
 }
 
-/// A place, the byte that is put there, and what is refused where.
+/// An offset, the byte that is put there, and the fault with its offset.
 const CHANGED_FORMATS: [(usize, u8, EventFaultKind, usize); 9] = [
     (19, 3, EventFaultKind::FormatVersion, 19),
     (75, 18, EventFaultKind::HeaderLengths, 75),
@@ -117,7 +117,7 @@ fn changed_formats(rt: HostRuntime) -> Result<(), Fail> {
     Ok(())
 }
 
-/// What is read of a query of this text without a schema.
+/// What is read of a QUERY event with this text and no schema.
 fn query(alloc: Global, text: &[u8]) -> Result<String, Fail> {
     let mut event = header(alloc, 2, 0)?;
     event.extend_from_slice(&[0; 14])?;
@@ -145,12 +145,12 @@ fn queries(rt: HostRuntime) -> Result<(), Fail> {
     Ok(())
 }
 
-/// What is wrong with bytes that are no query.
+/// The fault of bytes that are not a supported query.
 fn query_fault(event: &[u8]) -> Result<EventFault, Fail> {
     Ok(read_query(event).err().ok_or("read")?)
 }
 
-/// The length of a query that is cut short, and the place of what does not fit.
+/// The length of a query that is cut short, and the offset of the field that does not fit.
 const CUT_QUERIES: [(usize, usize); 8] = [
     (22, 19),
     (26, 23),
@@ -180,7 +180,7 @@ const SOURCE: [u8; 16] = [
     0x3e, 0x11, 0xfa, 0x47, 0x71, 0xca, 0x11, 0xe1, 0x9e, 0x33, 0xc8, 0x0a, 0xa9, 0x42, 0x95, 0x62,
 ];
 
-/// An identifier of this number.
+/// A GTID event with this number.
 fn identifier(alloc: Global, number: u64) -> Result<Vec<u8>, Fail> {
     let mut event = header(alloc, 33, 44)?;
     event.push(0)?;
@@ -189,7 +189,7 @@ fn identifier(alloc: Global, number: u64) -> Result<Vec<u8>, Fail> {
     Ok(event)
 }
 
-/// What is wrong with bytes that are no identifier.
+/// The fault of bytes that are not a GTID event.
 fn gtid_fault(event: &[u8]) -> Result<EventFault, Fail> {
     Ok(read_gtid(event).err().ok_or("read")?)
 }
@@ -203,7 +203,10 @@ fn identifiers(rt: HostRuntime) -> Result<(), Fail> {
     }
     for number in [0, 9_223_372_036_854_775_807] {
         let text = told(alloc, read_gtid(&identifier(alloc, number)?))?;
-        assert_eq!(rt; text.as_str(), "a number outside its range at 36");
+        assert_eq!(rt;
+            text.as_str(),
+            "a transaction number outside 1 to 9223372036854775806 at 36"
+        );
     }
     Ok(())
 }

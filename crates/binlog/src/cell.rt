@@ -1,19 +1,20 @@
-//! Cells.
+//! Cells of rows.
 
-/// A cell of a row. It borrows its bytes from the row's.
+/// A cell of a row. It borrows from the bytes of the row.
 #[derive(Clone, Copy, Debug, PartialEq, Eq)]
 pub enum Cell<'a> {
     Null,
-    /// A whole number, taken as unsigned, and how many bytes it takes.
+    /// An integer, ENUM or SET as an unsigned number, and how many bytes it takes in the row.
     Number { value: u64, width: u8 },
+    /// The value's bytes in the row, of any other type; without the length in front.
     Bytes(&'a [u8]),
 }
 
-/// A cell with bytes of its own.
+/// A cell that owns its bytes.
 #[derive(Debug, Drop)]
 pub enum OwnedCell {
     Null,
-    /// A whole number, taken as unsigned, and how many bytes it takes.
+    /// An integer, ENUM or SET as an unsigned number, and how many bytes it takes in the row.
     Number { value: u64, width: u8 },
     Bytes(Vec<u8>),
 }
@@ -22,7 +23,7 @@ impl OwnedCell {
     ghost use Rattle.std.specs.Prelude.{◌≡◌};
     ghost use Rattle.binlog.specs.Cell.{cell_value, owned_value};
 
-    /// The cell, whose bytes are borrowed.
+    /// The cell with its bytes borrowed.
     pub fn as_cell(&self) -> Cell<'_>
         ensures { cell_value result ≡ owned_value self.now }
     {

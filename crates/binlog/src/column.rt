@@ -6,36 +6,50 @@ ghost use Rattle.binlog.specs.declared.fault.EventFaultKind.TheVariants.{Metadat
 
 use crate::fault::{EventFault, EventFaultKind};
 
-/// A type of column, with what its metadata says.
+/// The type of a column, with what its metadata says. In a table map it is a type code and 0 to 2 bytes of metadata.
 #[derive(Clone, Copy, Debug, PartialEq, Eq)]
 pub enum ColumnKind {
+    /// TINY, code 1: 1 byte.
     Tiny,
+    /// SHORT, code 2: 2 bytes.
     Short,
+    /// INT24, code 9: 3 bytes.
     Int24,
+    /// LONG, code 3: 4 bytes.
     Long,
+    /// LONGLONG, code 8: 8 bytes.
     LongLong,
-    /// The greatest number of bytes.
+    /// VARCHAR, code 15, of at most this many bytes.
     Varchar { maximum: u16 },
-    /// How many bytes of length stand before a value.
+    /// BLOB, code 252: a value's length is stored in this many bytes, 1 to 4.
     Blob { prefix: u8 },
+    /// BIT, code 16, of 1 to 64 bits.
     Bit { bits: u8 },
+    /// NEWDECIMAL, code 246: 1 to 65 digits, of which `scale` follow the point, at most 30.
     NewDecimal { precision: u8, scale: u8 },
+    /// FLOAT, code 4: 4 bytes.
     Float,
+    /// DOUBLE, code 5: 8 bytes.
     Double,
+    /// DATE, code 10: 3 bytes.
     Date,
+    /// YEAR, code 13: 1 byte.
     Year,
-    /// The digits of a second's fraction.
+    /// TIMESTAMP2, code 17, with 0 to 6 digits of a second's fraction.
     Timestamp2 { fraction: u8 },
+    /// DATETIME2, code 18, with 0 to 6 digits of a second's fraction.
     Datetime2 { fraction: u8 },
+    /// TIME2, code 19, with 0 to 6 digits of a second's fraction.
     Time2 { fraction: u8 },
-    /// The greatest number of bytes.
+    /// STRING, code 254, with the real type 254 (CHAR), of at most this many bytes, 0 to 1,023.
     Char { maximum: u16 },
-    /// How many bytes a value takes.
+    /// STRING, code 254, with the real type 247 (ENUM): 1 or 2 bytes.
     Enum { width: u8 },
+    /// STRING, code 254, with the real type 248 (SET): 1 to 8 bytes.
     Set { width: u8 },
 }
 
-/// A type of column whose metadata is in range.
+/// A column type whose metadata is in range.
 #[derive(Clone, Copy, Debug, PartialEq, Eq)]
 pub struct ColumnType {
     pub kind: ColumnKind,
@@ -43,7 +57,7 @@ pub struct ColumnType {
 }
 
 impl ColumnType {
-    /// The type, where its metadata is in range.
+    /// The type, if its metadata is in range.
     pub fn new(kind: ColumnKind) -> Option<ColumnType>
         ensures lawful { IsSome result ↔ IsTrue (is_lawful kind) }
         ensures kind { IfSome result (λ column. column.kind ≡ kind) }
@@ -69,7 +83,7 @@ impl ColumnType {
         }
     }
 
-    /// The type's byte in a table map. The types of strings share one.
+    /// The type's code in a table map. CHAR, ENUM and SET share one.
     pub(crate) fn code(self) -> u8
         ensures { result ≡ type_code self.kind }
     {
@@ -94,10 +108,12 @@ impl ColumnType {
         }
     }
 
-    /// Reads the type of this byte whose metadata begins the bytes: the type, and the bytes behind its metadata.
+    /// Reads the type of this code, whose metadata is at the front of the bytes, and returns it with the bytes after
+    /// its metadata.
     ///
-    /// Refused are, in this order: a type that is not read as `ColumnType`; metadata that does not fit the bytes as
-    /// `Truncated`; metadata out of range as `Metadata`, and a string of a real type that is not read as `ColumnType`.
+    /// The first of these is reported: a type that is not supported as `ColumnType`; metadata that does not fit the
+    /// bytes as `Truncated`; metadata out of range as `Metadata`, or a STRING of a real type that is not supported as
+    /// `ColumnType`.
     pub(crate) fn read(code: u8, bytes: &[u8]) -> Result<(ColumnType, &[u8]), EventFaultKind>
         ensures found { IfOk result (λ read. IsColumn read.0.kind code read.1.now bytes.now) }
         ensures only { (kind : ColumnKind) (rest : List ℕ) → IsColumn kind code rest bytes.now → MatchResult result (λ read. (read.0.kind ≡ kind) × (read.1.now ≡ rest)) (λ _. ⊥) }
@@ -121,7 +137,7 @@ impl ColumnType {
         }
     }
 
-    /// Appends the type's metadata. The only refusal is `Memory`, which leaves the vector as it was.
+    /// Appends the type's metadata. The only error is `Memory`, which leaves the vector as it was.
     pub(crate) fn write_metadata(self, out: &mut Vec<u8>) -> Result<(), EventFault>
         ensures ok { OnOk result (out.new.items ≡ out.old.items ++ metadata self.kind) }
         ensures err { OnErr result ((result ≡ Err (record { kind = Memory; at = 0 })) × (out.new.items ≡ out.old.items)) }
@@ -156,7 +172,7 @@ impl ColumnType {
     }
 }
 
-/// How many bytes of metadata a type has, where it is one that is read.
+/// How many bytes of metadata a supported type has.
 #[tactic(auto, unfolding(crate::specs::Column::metadata_size))]
 pub(crate) fn metadata_size(code: u8) -> Option<usize>
     ensures { result ≡ metadata_size code }
@@ -275,7 +291,7 @@ fn string(first: u8, second: u8) -> Result<ColumnType, EventFaultKind>
     }
 }
 
-/// The type, where its metadata is in range.
+/// The type, if its metadata is in range.
 fn in_range(kind: ColumnKind) -> Result<ColumnType, EventFaultKind>
     ensures ok { IfOk result (λ column. column.kind ≡ kind) }
     ensures err { IfErr result (λ fault. when (not (is_lawful kind)) Metadata ≡ Some fault) }

@@ -14,15 +14,16 @@ use crate::fault::EventFault;
 use std::alloc::Global;
 use std::marker::Model;
 
-/// Where the types are.
+/// Where the types come from.
 #[derive(Clone, Copy, Debug)]
 enum Columns<'a> {
-    /// A type byte each, and bytes that the metadata of all begins.
+    /// The type codes of a table map, and bytes that begin with the metadata of all columns.
     Encoded { codes: &'a [u8], metadata: &'a [u8] },
     Types(&'a [ColumnType]),
 }
 
-/// The types of a table's columns, seen as a list. They are borrowed: of a table map that was read they are its bytes.
+/// The types of a table's columns. They are borrowed; those of a table map are the bytes of its event. In contracts it
+/// is the list of the types.
 #[derive(Debug, Drop)]
 pub struct ColumnTypes<'a> {
     columns: Columns<'a>,
@@ -43,7 +44,7 @@ impl<'a> Model for ColumnTypes<'a> {
     ghost invariant = { λ c. (length (columns_in c.columns) ≡ column_count c.columns) × AllByRecursion (λ kind. IsTrue (is_lawful kind)) (columns_in c.columns) };
 }
 
-/// The types of a table's columns, one after another, seen as the list of those that are left.
+/// An iterator over the types of a table's columns. In contracts it is the list of those that are still to come.
 #[derive(Debug, Drop)]
 pub struct ColumnTypesIter<'a> {
     left: Columns<'a>,
@@ -61,7 +62,7 @@ impl<'a> Model for ColumnTypesIter<'a> {
 }
 
 impl<'a> ColumnTypes<'a> {
-    /// The types that these bytes stand for.
+    /// The types that these codes and metadata encode.
     pub(crate) fn encoded(codes: &'a [u8], metadata: &'a [u8]) -> ColumnTypes<'a>
         requires { length (columns_of codes.now metadata.now) ≡ length codes.now }
         ensures { result ≡ columns_of codes.now metadata.now }
@@ -80,7 +81,7 @@ impl<'a> ColumnTypes<'a> {
         }
     }
 
-    /// How many columns there are. The metadata of each is in range.
+    /// The number of columns.
     pub fn len(&self) -> usize
         ensures length { result ≡ length self.now }
         ensures lawful { AllByRecursion (λ kind. IsTrue (is_lawful kind)) self.now }
@@ -91,21 +92,21 @@ impl<'a> ColumnTypes<'a> {
         }
     }
 
-    /// Whether there is no column.
+    /// Whether there are no columns.
     pub fn is_empty(&self) -> bool
         ensures { result ≡ (length self.now == 0) }
     {
         self.len() == 0
     }
 
-    /// The types in order.
+    /// An iterator over the types, in order.
     pub fn iter(&self) -> ColumnTypesIter<'a>
         ensures { result ≡ self.now }
     {
         ColumnTypesIter { left: self.columns }
     }
 
-    /// The types in a vector. The only refusal is `Memory`.
+    /// The types as a vector. The only error is `Memory`.
     pub fn to_vec(&self, alloc: Global) -> Result<Vec<ColumnType>, EventFault>
         ensures ok { IfOk result (λ types. kinds types.items ≡ self.now) }
         ensures err { OnErr result (result ≡ Err (record { kind = Memory; at = 0 })) }

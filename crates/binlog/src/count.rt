@@ -1,4 +1,4 @@
-//! Counts: length-encoded integers at a place of an event.
+//! Counts: length-encoded integers inside an event.
 
 ghost use Rattle.std.specs.Prelude.{◌≡◌, ◌+◌, ◌≤◌, length, take, drop, IfOk, IfErr, Some, None};
 ghost use Rattle.wire.specs.Integer.{IsLengthEncoded};
@@ -7,9 +7,9 @@ ghost use Rattle.binlog.specs.Count.{count_width, count_at, no_count};
 use crate::fault::{EventFault, EventFaultKind};
 use wire::read_int;
 
-/// Reads the count at a place: its value, and how many bytes it takes.
+/// Reads the count at an offset: its value, and how many bytes it takes.
 ///
-/// One that does not fit the bytes is `Truncated`; where the first byte begins none, the refusal is of the kind given.
+/// A count that does not fit the bytes is `Truncated`; one that begins with 0xFB or 0xFF is reported as `kind`.
 #[tactic(auto, unfolding(crate::specs::Count::no_count))]
 pub(crate) fn read_count(
     bytes: &[u8],

@@ -22,36 +22,36 @@ use gtid::Gtid;
 /// An event of the binary log. It borrows from the bytes that it was read from.
 #[derive(Debug, Drop)]
 pub enum Event<'a> {
-    /// The description of the events that follow it.
+    /// FORMAT_DESCRIPTION: the format of the events that follow it.
     Format,
-    /// The beginning of a transaction's changes.
+    /// QUERY with the text `BEGIN`: the beginning of a transaction's changes.
     Begin,
-    /// The end of a transaction over tables without transactions.
+    /// QUERY with the text `COMMIT`: the end of a transaction on tables of a non-transactional storage engine.
     Commit,
-    /// An event that counts for nothing: a heartbeat, the text of a statement, a list of earlier GTIDs, or one of an
-    /// unknown type that may be ignored.
+    /// An event without changes, whose body is ignored: HEARTBEAT, IGNORABLE, ROWS_QUERY, PREVIOUS_GTIDS, or one of an
+    /// unknown type whose header has the flag LOG_EVENT_IGNORABLE_F.
     Neutral,
-    /// The end of the source's log.
+    /// STOP: the end of a log file, since the server was shut down.
     Stop,
-    /// The next file of the log, and where it begins.
+    /// ROTATE: the name of the next log file, and the position of its first event.
     Rotate { position: u64, name: &'a [u8] },
-    /// The identifier of the transaction that begins.
+    /// GTID: the GTID of the transaction that begins.
     Gtid(Gtid),
-    /// Which table the rows events behind it mean by a number.
+    /// TABLE_MAP: which table the following rows events mean by a number.
     TableMap(TableMap<'a>),
-    /// The same of a table that is not followed, of which only its number is kept.
+    /// A table map of a table that is not followed. Only the table's number is kept.
     OtherMap { id: u64 },
-    /// Changes of rows.
+    /// WRITE_ROWS, UPDATE_ROWS or DELETE_ROWS: changes of rows.
     Rows(RowsEvent<'a>),
-    /// The end of a transaction.
+    /// XID: the end of a transaction.
     Xid { number: u64 },
 }
 
-/// Reads the event that the bytes are. It takes no memory.
+/// Reads an event. It takes no memory.
 ///
-/// Refused are, in this order: what is wrong with the header, as [`Header::read`] says; a transaction without a GTID as
-/// `Anonymous`, and a type that is not read as `TypeCode`; and what is wrong with the body. Fields are looked at from
-/// left to right; one that does not fit is `Truncated`.
+/// The first of these is reported: what is wrong with the header, as [`Header::read`] says; a transaction without a
+/// GTID as `Anonymous`, or a type that is not supported as `TypeCode`; what is wrong with the body. Fields are checked
+/// from left to right; one that does not fit is `Truncated`.
 pub fn read_event(bytes: &[u8]) -> Result<Event<'_>, EventFault>
     ensures found { IfOk result (λ event. IsEvent set.empty (event_value event) bytes.now) }
     ensures only { (e : EventValue) → IsEvent set.empty e bytes.now → MatchResult result (λ event. event_value event ≡ e) (λ _. ⊥) }
@@ -60,8 +60,8 @@ pub fn read_event(bytes: &[u8]) -> Result<Event<'_>, EventFault>
     read(bytes, None)
 }
 
-/// The same where the changes of some tables are taken: of a table map of another table nothing is read behind the
-/// names.
+/// Like [`read_event`], with a list of tables: a table map of another table is not read after its names, and is
+/// answered as [`Event::OtherMap`]. An empty list means all tables.
 pub fn read_event_only<'a>(bytes: &'a [u8], follow: &Follow) -> Result<Event<'a>, EventFault>
     ensures found { IfOk result (λ event. IsEvent follow.now (event_value event) bytes.now) }
     ensures only { (e : EventValue) → IsEvent follow.now e bytes.now → MatchResult result (λ event. event_value event ≡ e) (λ _. ⊥) }
@@ -70,7 +70,7 @@ pub fn read_event_only<'a>(bytes: &'a [u8], follow: &Follow) -> Result<Event<'a>
     read(bytes, Some(follow))
 }
 
-/// Reads an event; without a list of tables all are followed.
+/// Reads an event. Without a list all tables are followed.
 fn read<'a>(bytes: &'a [u8], follow: Option<&Follow>) -> Result<Event<'a>, EventFault>
     ensures found { IfOk result (λ event. IsEvent (followed follow.entry) (event_value event) bytes.now) }
     ensures only { (e : EventValue) → IsEvent (followed follow.entry) e bytes.now → MatchResult result (λ event. event_value event ≡ e) (λ _. ⊥) }
@@ -82,7 +82,7 @@ fn read<'a>(bytes: &'a [u8], follow: Option<&Follow>) -> Result<Event<'a>, Event
     }
 }
 
-/// Reads what follows the header of an event.
+/// Reads the body of an event.
 #[tactic(auto, unfolding(crate::specs::Event::body_fault))]
 fn read_body<'a>(
     header: Header,
@@ -133,7 +133,7 @@ fn read_body<'a>(
     }
 }
 
-/// Reads a table map: of a table that is not followed only its number and its names.
+/// Reads a table map; of a table that is not followed, only its number and its names.
 #[tactic(auto, unfolding(crate::specs::Event::table_map_fault))]
 fn read_map<'a>(
     header: Header,
@@ -157,7 +157,7 @@ fn read_map<'a>(
     }))
 }
 
-/// Whether a table is followed; without a list all are.
+/// Whether a table is followed. Without a list all tables are.
 fn is_followed(follow: Option<&Follow>, schema: &[u8], table: &[u8]) -> bool
     ensures { result ≡ follows (followed follow.entry) schema.now table.now }
 {

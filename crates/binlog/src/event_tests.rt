@@ -36,7 +36,7 @@ fn event(alloc: Global, code: u8, flags: u8, body: &[u8]) -> Result<Vec<u8>, Fai
     Ok(event)
 }
 
-/// The same with some bytes changed.
+/// As `event` without flags, with some bytes changed.
 fn changed(alloc: Global, code: u8, body: &[u8], changes: &[(usize, u8)]) -> Result<Vec<u8>, Fail> {
     let mut event = event(alloc, code, 0, body)?;
     for (at, new) in changes {
@@ -50,7 +50,7 @@ fn fault(kind: EventFaultKind, at: usize) -> EventFault {
     EventFault { kind, at }
 }
 
-/// What is wrong with bytes that are no event.
+/// The fault of bytes that are not an event.
 fn refused(bytes: &[u8]) -> Result<EventFault, Fail> {
     Ok(read_event(bytes).err().ok_or("an event")?)
 }
@@ -71,7 +71,7 @@ fn rows_in(bytes: &[u8]) -> Result<RowsEvent<'_>, Fail> {
     }
 }
 
-/// Whether the bytes are an event that counts for nothing.
+/// Whether the bytes are a neutral event.
 fn is_neutral(bytes: &[u8]) -> bool {
     matches!(read_event(bytes), Ok(Event::Neutral))
 }
@@ -157,7 +157,7 @@ fn copied_maps(rt: HostRuntime) -> Result<(), Fail> {
     Ok(())
 }
 
-/// Bytes of a table map changed, and the first refusal.
+/// Bytes of a table map that are changed, and the first fault.
 const CHANGED_MAPS: [(&[(usize, u8)], EventFaultKind, usize); 14] = [
     (&[(27, 200)], EventFaultKind::Truncated, 28),
     (&[(27, 19)], EventFaultKind::Truncated, 47),
@@ -211,7 +211,7 @@ fn refused_strings(rt: HostRuntime) -> Result<(), Fail> {
     Ok(())
 }
 
-/// A type, bytes of a rows event changed, and the first refusal.
+/// A type, bytes of a rows event that are changed, and the first fault.
 const CHANGED_ROWS: [(u8, &[(usize, u8)], EventFaultKind, usize); 9] = [
     (30, &[(27, 1)], EventFaultKind::Size, 27),
     (30, &[(27, 0)], EventFaultKind::Size, 27),
@@ -234,7 +234,7 @@ fn refused_rows(rt: HostRuntime) -> Result<(), Fail> {
     Ok(())
 }
 
-/// Events cut short: each field that does not fit is named by its first byte.
+/// Events cut short: the fault is at the first byte of the field that does not fit.
 #[test]
 fn cut_events(rt: HostRuntime) -> Result<(), Fail> {
     let alloc = rt.alloc();
@@ -299,7 +299,7 @@ fn cells(alloc: Global, row: &Row<'_>) -> Result<String, Fail> {
     Ok(text)
 }
 
-/// A pair of rows, each behind its sign.
+/// A pair of rows, each with a sign in front.
 fn pair(alloc: Global, pair: &RowPair<'_>) -> Result<String, Fail> {
     Ok(match pair {
         RowPair::Insert { after } => format!(in alloc; "+ {}", cells(alloc, after)?)?,
@@ -390,7 +390,7 @@ fn is_other(bytes: &[u8], follow: &Follow) -> bool {
     )
 }
 
-/// What is wrong with the bytes, where it is looked for.
+/// The fault of the bytes, for a reader with this list.
 fn refused_only(bytes: &[u8], follow: &Follow) -> Option<EventFault> {
     read_event_only(bytes, follow).err()
 }
@@ -406,7 +406,7 @@ fn follows(rt: HostRuntime) -> Result<(), Fail> {
     Ok(())
 }
 
-/// Names are kept once, by the bytes of the schema and then of the table.
+/// Each name is kept once, in the order of the bytes of the schema and then of the table.
 #[test]
 fn names_once(rt: HostRuntime) -> Result<(), Fail> {
     let alloc = rt.alloc();
@@ -610,7 +610,7 @@ fn map_of(alloc: Global, types: &[u8], metadata: &[u8]) -> Result<Vec<u8>, Fail>
     event(alloc, 19, 0, &body)
 }
 
-/// Types whose metadata is read, and where it is refused.
+/// Types whose metadata is read, and the offsets at which it is refused.
 #[test]
 fn metadata(rt: HostRuntime) -> Result<(), Fail> {
     let alloc = rt.alloc();

@@ -6,62 +6,64 @@ ghost use Rattle.binlog.specs.declared.fault.EventFaultKind.TheVariants.{Memory,
 use std::alloc::{AllocError, AllocFailed};
 use thiserror::Error;
 
-/// What is wrong with an event.
+/// Why an event is refused.
 #[derive(Clone, Copy, Debug, PartialEq, Eq, Error)]
 pub enum EventFaultKind {
     /// A field does not fit the bytes.
     #[error("the event ends early")]
     Truncated,
-    /// A size is not that of what it measures.
-    #[error("a size is not that of what it measures")]
+    /// The event's size field is not the number of its bytes, or the extra data of a rows event has a length below 2,
+    /// which is less than the length field itself.
+    #[error("a size field is wrong")]
     Size,
-    /// A format description of another version than 4.
-    #[error("not version 4 of the format")]
+    /// A format description with a version other than 4.
+    #[error("the version of the binlog format is not 4")]
     FormatVersion,
-    /// A format description with this checksum algorithm.
-    #[error("checksum algorithm {0}")]
+    /// A format description with this checksum algorithm, which is not 0 (no checksums).
+    #[error("the checksum algorithm is {0}, not 0 (none)")]
     Checksum(u8),
-    /// A format description with other header lengths than those of the types that are read.
+    /// A format description with an unexpected header length, too few post-header lengths, or one that differs for a
+    /// type that is supported.
     #[error("unexpected header lengths")]
     HeaderLengths,
-    /// An event of this type, which is not read.
-    #[error("event type {0} is not read")]
+    /// An event of this type, which is not supported.
+    #[error("event type {0} is not supported")]
     TypeCode(u8),
-    /// A query that is neither BEGIN nor COMMIT.
+    /// A QUERY event whose text is neither BEGIN nor COMMIT.
     #[error("a statement that is neither BEGIN nor COMMIT")]
     Statement,
-    /// A column of this type, which is not read.
-    #[error("column type {0} is not read")]
+    /// A column of this type, which is not supported.
+    #[error("column type {0} is not supported")]
     ColumnType(u8),
-    /// A column's metadata is outside its range, or all metadata has another size than the columns need.
-    #[error("wrong metadata")]
+    /// A column's metadata is out of range, or the length of all metadata is not the sum of the columns' lengths.
+    #[error("wrong column metadata")]
     Metadata,
-    /// A number of columns is none, or not the table's.
+    /// A number of columns is malformed, is not from 1 to 4,096, or is not that of the table.
     #[error("wrong number of columns")]
     Columns,
-    /// A row image leaves columns out.
+    /// A row image leaves out columns (`binlog_row_image` is not `FULL`).
     #[error("a partial row image")]
     Partial,
-    /// A transaction's number is outside its range.
-    #[error("a number outside its range")]
+    /// A GTID's transaction number is outside 1 to 2^63 - 2.
+    #[error("a transaction number outside 1 to 9223372036854775806")]
     Number,
-    /// Bytes stand behind the event's last field.
+    /// Bytes follow the event's last field.
     #[error("bytes after the event's end")]
     Trailing,
     /// An allocation was refused.
     #[error("out of memory")]
     Memory,
-    /// A transaction without a GTID.
-    #[error("an anonymous transaction")]
+    /// A transaction without a GTID (ANONYMOUS_GTID).
+    #[error("a transaction without a GTID")]
     Anonymous,
 }
 
-/// What is wrong, and at which offset in the event.
+/// Why an event is refused, and at which offset.
 #[derive(Clone, Copy, Debug, PartialEq, Eq, Error)]
 #[error("{kind} at {at}")]
 pub struct EventFault {
     pub kind: EventFaultKind,
-    /// Where the field stands that is refused, counted from the event's first byte; 0 for `Memory`.
+    /// The offset in bytes of the field at fault, counted from the event's first byte; 0 for `Memory`.
     pub at: usize,
 }
 
@@ -72,7 +74,7 @@ impl EventFault {
         at: 0,
     };
 
-    /// A field at this offset does not fit.
+    /// The field at this offset does not fit.
     pub(crate) fn truncated(at: usize) -> EventFault
         ensures { result ≡ record { kind = Truncated; at = at } }
     {

@@ -1,4 +1,4 @@
-//! The tables whose changes are taken.
+//! The list of tables that are followed.
 
 ghost use Rattle.std.specs.Prelude.{◌≡◌, ◌↔◌, false, IsTrue, IfOk, IfErr};
 ghost use Rattle.std.specs.FinSet as set;
@@ -12,9 +12,10 @@ use std::alloc::Global;
 use std::cmp::Ordering;
 use std::marker::Model;
 
-/// The tables whose changes are taken, by schema and name: those of a list, and where that is empty, all.
+/// The tables that are followed, by schema and name: those of a list, or all tables if the list is empty.
 ///
-/// It keeps each name once, in the order of the schema's bytes and then of the table's.
+/// It keeps each name once, in the order of the schema's bytes and then of the table's. In contracts it is the set of
+/// names.
 #[derive(Debug, Drop)]
 pub struct Follow {
     names: Vec<(Vec<u8>, Vec<u8>)>,
@@ -39,7 +40,7 @@ impl Model for Follow {
 }
 
 impl Follow {
-    /// All tables.
+    /// The empty list: all tables are followed.
     pub fn all(alloc: Global) -> Follow
         ensures { result ≡ set.empty }
     {
@@ -48,8 +49,8 @@ impl Follow {
         }
     }
 
-    /// The tables of a list, each a schema and a name. One that stands there twice counts once, and an empty list
-    /// means all tables. The only refusal is `Memory`.
+    /// The tables of a list, each a schema and a name. Duplicates count once, and an empty list means all tables. The
+    /// only error is `Memory`.
     pub fn new(alloc: Global, names: &[(Vec<u8>, Vec<u8>)]) -> Result<Follow, EventFault>
         ensures ok { IfOk result (λ follow. follow ≡ set.from_list (names_of names.now)) }
         ensures err { IfErr result (λ fault. fault ≡ record { kind = Memory; at = 0 }) }
@@ -60,8 +61,8 @@ impl Follow {
         Ok(Follow { names })
     }
 
-    /// The names, each once and in ascending order by the bytes of the schema and then of the table. With all tables
-    /// there are none.
+    /// The names, each once and in ascending order by the bytes of the schema and then of the table. If all tables are
+    /// followed there are none.
     pub fn names(&self) -> &[(Vec<u8>, Vec<u8>)]
         ensures ascend { IsStrictlySortedBy name_cmp (names_of result.now) }
         ensures set { set.from_list (names_of result.now) ≡ self.now }
@@ -79,7 +80,7 @@ impl Follow {
         are_among(&other.names, &self.names)
     }
 
-    /// Whether the changes of a table are taken. It takes no memory.
+    /// Whether a table is followed. It takes no memory.
     pub fn follows(&self, schema: &[u8], table: &[u8]) -> bool
         ensures { result ≡ follows self.now schema.now table.now }
     {
@@ -88,7 +89,7 @@ impl Follow {
     }
 }
 
-/// A copy of the names. The only refusal is `Memory`.
+/// A copy of the names. The only error is `Memory`.
 fn copy_all(
     alloc: Global,
     names: &[(Vec<u8>, Vec<u8>)],
@@ -104,7 +105,7 @@ fn copy_all(
     Ok(copied)
 }
 
-/// A copy of a name. The only refusal is `Memory`.
+/// A copy of a name. The only error is `Memory`.
 fn copy(name: &(Vec<u8>, Vec<u8>)) -> Result<(Vec<u8>, Vec<u8>), EventFault>
     ensures schema { IfOk result (λ copied. copied.0.items ≡ name.now.0.items) }
     ensures table { IfOk result (λ copied. copied.1.items ≡ name.now.1.items) }
@@ -127,7 +128,7 @@ fn are_among(names: &[(Vec<u8>, Vec<u8>)], of: &[(Vec<u8>, Vec<u8>)]) -> bool
     true
 }
 
-/// Whether a table is one of the list's. It is found by halving.
+/// Whether a table is in the list, by binary search.
 fn is_listed(names: &[(Vec<u8>, Vec<u8>)], schema: &[u8], table: &[u8]) -> bool
     requires { IsStrictlySortedBy name_cmp (names_of names.now) }
     ensures { result ≡ is_listed (schema.now, table.now) (names_of names.now) }

@@ -1,5 +1,5 @@
-//! Bitmaps of which all bits are set. MySQL Source Documentation, "Binlog Event", the pages
-//! `binary_log::Table_map_event` and `binary_log::Rows_event`.
+//! Bitmaps with all bits set. MySQL Source Documentation, "Binlog Event", the pages `binary_log::Table_map_event` and
+//! `binary_log::Rows_event`.
 
 ghost use Rattle.std.specs.Prelude.{◌≡◌, ◌≤◌, ◌++◌, nat_lt, length, take, OnOk, OnErr, Err};
 ghost use Rattle.binlog.specs.RowsWritten.{bits_number};
@@ -8,7 +8,7 @@ ghost use Rattle.binlog.specs.declared.fault.EventFaultKind.TheVariants.{Memory}
 
 use crate::fault::EventFault;
 
-/// Appends a bitmap of n bits, all set, or a part of it. The bits behind them are 0.
+/// Appends a bitmap of n bits, all set, or a part of it. The unused bits of its last byte are 0.
 pub(crate) fn write_full_bitmap(n: usize, out: &mut Vec<u8>) -> Result<(), EventFault>
     requires { n ≤ 4096 }
     ensures ok { OnOk result (out.new.items ≡ out.old.items ++ full_bitmap n) }
@@ -21,7 +21,7 @@ pub(crate) fn write_full_bitmap(n: usize, out: &mut Vec<u8>) -> Result<(), Event
     Ok(())
 }
 
-/// A byte whose lowest n bits are set, or all.
+/// A byte whose lowest n bits are set, or all eight.
 fn full_byte(n: usize) -> u8
     ensures { result ≡ bits_number 8 (λ i. nat_lt i n) }
 {

@@ -7,22 +7,23 @@ ghost use Rattle.binlog.specs.Header.{IsFramed, header_fault};
 use crate::fault::{EventFault, EventFaultKind};
 use byteorder::{ByteOrder, LittleEndian};
 
-/// What is read of a header.
+/// The fields of a header that are read.
 #[derive(Clone, Copy, Debug, PartialEq, Eq)]
 pub struct Header {
-    /// The event's type.
+    /// The event's type code.
     pub code: u8,
-    /// The length of the whole event.
+    /// The length in bytes of the whole event, header included.
     pub size: u32,
-    /// Whether the event may be ignored by who does not know its type.
+    /// Whether the flag LOG_EVENT_IGNORABLE_F (0x0080) is set: a reader that does not know the type may ignore the
+    /// event.
     pub may_ignore: bool,
 }
 
 impl Header {
-    /// Reads the header of the event that the bytes are.
+    /// Reads the header of an event. `bytes` must be the whole event.
     ///
-    /// Refused are, in this order: a field that does not fit the bytes as `Truncated` at its first byte, and a size
-    /// other than the length of the bytes as `Size`.
+    /// A field that does not fit the bytes is reported as `Truncated` at its first byte; then a size other than the
+    /// number of the bytes as `Size`.
     #[tactic(auto, unfolding(crate::specs::Header::header_fault))]
     pub fn read(bytes: &[u8]) -> Result<Header, EventFault>
         ensures found { IfOk result (λ header. IsFramed header.code header.may_ignore (drop 19 bytes.now) bytes.now) }

@@ -1,4 +1,4 @@
-//! What callers rely on, as laws about the definitions.
+//! Laws about the definitions, for callers.
 //!
 //! A law is a function with an empty body: its clauses are proved of the definitions themselves.
 
@@ -20,7 +20,7 @@ ghost use Rattle.binlog.specs.declared.fault.EventFault.{EventFault};
 ghost use Rattle.binlog.specs.declared.rows_event.RowsKind.{RowsKind};
 ghost use Rattle.binlog.specs.declared.column.ColumnKind.{ColumnKind};
 
-/// Bytes have a header's frame or a fault, and not both, and a frame has one type, one mark and one body.
+/// Bytes either have a header that frames them, with one type, one flag and one body, or have a fault, and not both.
 pub fn one_header()
     ensures some { (bytes : List ℕ) → AllByRecursion (λ b. b < 256) bytes → header_fault bytes ≡ None → HasFrame bytes }
     ensures no_fault { (code : ℕ) (may_ignore : Bool) (body bytes : List ℕ) → IsFramed code may_ignore body bytes → header_fault bytes ≡ None }
@@ -28,9 +28,8 @@ pub fn one_header()
         IsFramed code may_ignore body bytes → IsFramed code' may_ignore' body' bytes → (code ≡ code') × (may_ignore ≡ may_ignore') × (body ≡ body') }
 {}
 
-/// A type byte and bytes that begin with its metadata are those of a type whose metadata is in range, or have a
-/// fault, and not both, and they are those of one type. So types and their bytes, the type byte with the metadata,
-/// are one to one.
+/// A type code and bytes that begin with its metadata either are those of one type whose metadata is in range, or have
+/// a fault, and not both. So types and their codes with metadata are one to one.
 pub fn one_column()
     ensures some { (code : ℕ) (bytes : List ℕ) → AllByRecursion (λ b. b < 256) bytes → column_fault code bytes ≡ None → HasColumn code bytes }
     ensures no_fault { (kind : ColumnKind) (code : ℕ) (rest bytes : List ℕ) → IsColumn kind code rest bytes → column_fault code bytes ≡ None }
@@ -38,15 +37,15 @@ pub fn one_column()
     ensures size { (kind : ColumnKind) → metadata_size (type_code kind) ≡ Some (length (metadata kind)) }
 {}
 
-/// Bytes begin with a row exactly where no part of it fails to fit, and then with one row of one list of cells.
+/// Bytes begin with a row exactly if every part of it fits, and then with one row of one list of cells.
 pub fn one_row()
     ensures some { (types : List ColumnKind) (bytes : List ℕ) (end : ℕ) → AllByRecursion (λ b. b < 256) bytes → row_end types bytes ≡ Ok end → HasRow types end bytes }
     ensures whole { (types : List ColumnKind) (cells : List CellValue) (first rest : List ℕ) → IsRow types cells first → row_end types (first ++ rest) ≡ Ok (length first) }
     ensures one { (types : List ColumnKind) (a b : List CellValue) (first second x y : List ℕ) → IsRow types a first → IsRow types b second → first ++ x ≡ second ++ y → (a ≡ b) × (first ≡ second) }
 {}
 
-/// The body of an event begins with a table's number and names, or the event has a fault in them, and not both, and
-/// they are determined.
+/// The body of an event either begins with one table number and one pair of names, or the event has a fault in them,
+/// and not both.
 pub fn one_names()
     ensures some { (bytes : List ℕ) → AllByRecursion (λ b. b < 256) bytes → names_fault bytes ≡ None → HasNames (drop 19 bytes) }
     ensures no_fault { (id : ℕ) (schema table rest bytes : List ℕ) → IsNamed id schema table rest (drop 19 bytes) → names_fault bytes ≡ None }
@@ -54,23 +53,23 @@ pub fn one_names()
         (id ≡ id') × (schema ≡ schema') × (table ≡ table') × (rest ≡ rest') }
 {}
 
-/// The bytes from a place on are the columns of a table, or the event has a fault in them, and not both, and they are
-/// of one list of types.
+/// The bytes from an offset on either are the columns of a table, with one list of types, or the event has a fault in
+/// them, and not both.
 pub fn one_columns()
     ensures some { (bytes : List ℕ) (place : ℕ) → AllByRecursion (λ b. b < 256) bytes → columns_fault bytes place ≡ None → HasColumns (drop place bytes) }
     ensures no_fault { (columns : List ColumnKind) (bytes : List ℕ) (place : ℕ) → AreColumns columns (drop place bytes) → columns_fault bytes place ≡ None }
     ensures one { (a b : List ColumnKind) (bytes : List ℕ) → AreColumns a bytes → AreColumns b bytes → a ≡ b }
 {}
 
-/// The body of an event is that of a rows event of a kind or has a fault, and not both, and it is that of one.
+/// The body of an event either is that of one rows event of a kind, or has a fault, and not both.
 pub fn one_rows_event()
     ensures some { (kind : RowsKind) (bytes : List ℕ) → AllByRecursion (λ b. b < 256) bytes → rows_fault kind bytes ≡ None → HasRows kind (drop 19 bytes) }
     ensures no_fault { (r : RowsValue) (bytes : List ℕ) → IsRows r (drop 19 bytes) → rows_fault r.kind bytes ≡ None }
     ensures one { (a b : RowsValue) (bytes : List ℕ) → a.kind ≡ b.kind → IsRows a (drop 19 bytes) → IsRows b (drop 19 bytes) → a ≡ b }
 {}
 
-/// Bytes are the rows of one list of pairs, or end early behind one list of pairs and at one place, and not both. So
-/// they have one list of items.
+/// Bytes either are the rows of one list of pairs, or end early after one list of pairs and at one offset, and not
+/// both. So they have one list of items.
 pub fn one_list_of_rows()
     ensures one { (kind : RowsKind) (types : List ColumnKind) (a b : List PairValue) (bytes : List ℕ) → 1 ≤ length types → AreRows kind types a bytes → AreRows kind types b bytes → a ≡ b }
     ensures not_both { (kind : RowsKind) (types : List ColumnKind) (a b : List PairValue) (bytes : List ℕ) (place : ℕ) → 1 ≤ length types → AreRows kind types a bytes → EndsEarly kind types b bytes place → ⊥ }
@@ -81,19 +80,19 @@ pub fn one_list_of_rows()
         AreItemsAt kind types bytes at x → AreItemsAt kind types bytes at y → x ≡ y }
 {}
 
-/// Bytes are an event or have a fault, and not both, and they are one event, whichever tables are followed.
+/// Bytes either are one event or have a fault, and not both, whichever tables are followed.
 pub fn one_event()
     ensures some { (names : Names) (bytes : List ℕ) → AllByRecursion (λ b. b < 256) bytes → event_fault names bytes ≡ None → HasEvent names bytes }
     ensures no_fault { (names : Names) (e : EventValue) (bytes : List ℕ) → IsEvent names e bytes → event_fault names bytes ≡ None }
     ensures one { (names : Names) (a b : EventValue) (bytes : List ℕ) → IsEvent names a bytes → IsEvent names b bytes → a ≡ b }
 {}
 
-/// Pairs that have rows are written as rows of theirs.
+/// Pairs that can be written are written as their rows.
 pub fn written_rows()
     ensures { (kind : RowsKind) (types : List ColumnKind) (pairs : List PairValue) → HaveRows kind types pairs → AreRows kind types pairs (rows_bytes types pairs) }
 {}
 
-/// What is written of an event is that event. So what is written is read again as the same value.
+/// What is written of an event is that event. So it is read back as the same value.
 pub fn written_event()
     ensures { (e : EventValue) → IsWritable e → IsEvent set.empty e (event_bytes e) }
 {}

@@ -1,14 +1,15 @@
 //! Events and rows of the binary log.
 //!
-//! [`read_event`] reads an [`Event`] from the bytes of one payload, from which the event borrows: nothing is copied, and
-//! no memory is taken. [`read_event_only`] looks at table maps only where a [`Follow`] lists their tables. A
-//! [`TableMap`] that is to outlive its payload is copied to a [`TableDef`], and [`RowsEvent::rows`] goes over the rows
-//! of an event by such a table, one [`RowPair`] a step; [`Row::cells`] are its cells.
+//! [`read_event`] reads an [`Event`] from the bytes of one payload. The event borrows from these bytes: nothing is
+//! copied, and no memory is taken. [`read_event_only`] takes a filter, [`Follow`], and reads of a table map only its
+//! names if the table is not in the filter. A [`TableMap`] that is to outlive its payload is copied to a [`TableDef`].
+//! [`RowsEvent::rows`] iterates over the rows of an event, given such a table, one [`RowPair`] at a time;
+//! [`Row::cells`] are the cells of a row.
 //!
-//! [`Event::write`] and [`write_rows`] are the way back.
+//! [`Event::write`] and [`write_rows`] are the other direction.
 //!
-//! The layouts are those of the MySQL Source Documentation, "Binlog Event". `specs/` states them as relations on whole
-//! byte lists, and [`laws`] what follows from them.
+//! The layouts are those of the MySQL Source Documentation, "Binlog Event". `specs/` defines them as relations on whole
+//! byte lists, and [`laws`] states what follows from them.
 #![tactic(auto)]
 
 mod body;

@@ -1,4 +1,4 @@
-//! Table maps as bytes. MySQL Source Documentation, "Binlog Event", the page `binary_log::Table_map_event`.
+//! Table maps written as bytes. MySQL Source Documentation, "Binlog Event", the page `binary_log::Table_map_event`.
 
 ghost use Rattle.std.specs.Prelude.{◌≡◌, ◌≤◌, ◌++◌, ◌↔◌, length, take, map, flat_map, OnOk, OnErr, Err, IsTrue};
 ghost use Rattle.wire.specs.Integer.{length_encoded};
@@ -14,7 +14,7 @@ use crate::full_bitmap::write_full_bitmap;
 use crate::table::TableMap;
 use wire::write_int;
 
-/// Appends the body of a table map, or a part of it. All columns may be null, and there are no flags.
+/// Appends the body of a table map, or a part of it. All columns may be null, and no flags are set.
 pub(crate) fn write_table_map(map: &TableMap<'_>, out: &mut Vec<u8>) -> Result<(), EventFault>
     requires { HasMap (table_value map.now) }
     ensures ok { OnOk result (out.new.items ≡ out.old.items ++ table_map_body (table_value map.now)) }
@@ -30,7 +30,7 @@ pub(crate) fn write_table_map(map: &TableMap<'_>, out: &mut Vec<u8>) -> Result<(
     Ok(())
 }
 
-/// Appends a table's number, its flags and its names, or a part of that.
+/// Appends a table's number, its flags and its names, or a part of these.
 fn write_names(map: &TableMap<'_>, out: &mut Vec<u8>) -> Result<(), EventFault>
     requires { HasMap (table_value map.now) }
     ensures ok { OnOk result (out.new.items ≡ out.old.items ++ names_bytes (table_value map.now)) }
@@ -58,7 +58,7 @@ fn write_count(count: usize, out: &mut Vec<u8>) -> Result<(), EventFault>
     }
 }
 
-/// Appends the type bytes of columns, or a part of them.
+/// Appends the type codes of columns, or a part of them.
 fn write_codes(columns: &ColumnTypes<'_>, out: &mut Vec<u8>) -> Result<(), EventFault>
     ensures ok { OnOk result (out.new.items ≡ out.old.items ++ map type_code columns.now) }
     ensures err { OnErr result (result ≡ Err (record { kind = Memory; at = 0 })) }
@@ -94,7 +94,7 @@ fn write_all_metadata(columns: &ColumnTypes<'_>, out: &mut Vec<u8>) -> Result<()
     Ok(())
 }
 
-/// Whether some bytes are the table map: its number is below 2^48, its names have at most 255 bytes, and it has 1 to
+/// Whether a table map can be written: its number is below 2^48, its names have at most 255 bytes, and it has 1 to
 /// 4,096 columns.
 pub(crate) fn map_fits(map: &TableMap<'_>) -> bool
     ensures { IsTrue result ↔ HasMap (table_value map.now) }

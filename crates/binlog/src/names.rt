@@ -7,19 +7,19 @@ ghost use Rattle.binlog.specs.Table.{IsNamed, terminator_place, schema_of, table
 use crate::fault::EventFault;
 use byteorder::{ByteOrder, LittleEndian};
 
-/// What a table map says of its table before the columns.
+/// The part of a table map before the columns.
 #[derive(Clone, Copy, Debug)]
 pub(crate) struct Names<'a> {
     pub(crate) id: u64,
     pub(crate) schema: &'a [u8],
     pub(crate) table: &'a [u8],
-    /// Where in the event the columns begin.
+    /// The offset in the event at which the columns begin.
     pub(crate) end: usize,
 }
 
-/// Reads a table map's number and names: the front of the body of an event whose header was read.
+/// Reads a table map's number and names, from an event whose header was read.
 ///
-/// A field that does not fit is `Truncated` at its first byte. Nothing behind the names is read.
+/// A field that does not fit is `Truncated` at its first byte. Nothing after the names is read.
 #[tactic(auto, unfolding(crate::specs::Table::names_fault))]
 pub(crate) fn read_names(bytes: &[u8]) -> Result<Names<'_>, EventFault>
     ensures found { IfOk result (λ names. IsNamed names.id names.schema.now names.table.now (drop names.end bytes.now) (drop 19 bytes.now)) }

@@ -10,11 +10,11 @@ use crate::column::ColumnType;
 use crate::shape::{read_value, shape_of};
 use std::marker::Model;
 
-/// A row, seen as its cells.
+/// A row image. It borrows from the event's bytes and takes no memory. In contracts it is the list of its cells.
 #[derive(Debug, Drop)]
 pub struct Row<'a> {
     types: &'a [ColumnType],
-    /// Which cells are null.
+    /// The bitmap of the null cells.
     bitmap: &'a [u8],
     /// The values of the other cells.
     values: &'a [u8],
@@ -31,12 +31,13 @@ impl<'a> Model for Row<'a> {
     ghost view = { λ r. cells_of r.bitmap.now 0 (kinds r.types.now) r.values.now };
 }
 
-/// The cells of a row, one after another, seen as the list of those that are left.
+/// An iterator over the cells of a row. It takes no memory. In contracts it is the list of those that are still to
+/// come.
 #[derive(Debug, Drop)]
 pub struct Cells<'a> {
     types: &'a [ColumnType],
     bitmap: &'a [u8],
-    /// The next column.
+    /// The index of the next column.
     index: usize,
     /// The values from the next column on.
     values: &'a [u8],
@@ -54,8 +55,8 @@ impl<'a> Model for Cells<'a> {
 }
 
 impl<'a> Row<'a> {
-    /// Reads the row at the front of the bytes: the row, and how many bytes it takes. Where its bitmap, or the length
-    /// or the bytes of a value do not fit, the answer is the place where they begin.
+    /// Reads the row at the front of the bytes, and returns it with the number of bytes that it takes. If its bitmap,
+    /// or the length or the bytes of a value, does not fit, the error is the offset of that part.
     pub(crate) fn read(types: &'a [ColumnType], bytes: &'a [u8]) -> Result<(Row<'a>, usize), usize>
         ensures found { IfOk result (λ read. IsRow (kinds types.now) read.0 (take read.1 bytes.now)) }
         ensures within { IfOk result (λ read. read.1 ≤ length bytes.now) }
@@ -72,7 +73,7 @@ impl<'a> Row<'a> {
         Ok((row, end))
     }
 
-    /// The cells in order.
+    /// An iterator over the cells, in order.
     pub fn cells(&self) -> Cells<'a>
         ensures { result ≡ self.now }
     {
@@ -107,7 +108,7 @@ impl<'a> Iterator for Cells<'a> {
     }
 }
 
-/// Where the row at the front of the bytes ends, or where it ends early.
+/// Where the row at the front of the bytes ends, or the offset of the part that does not fit.
 fn row_end(types: &[ColumnType], bytes: &[u8]) -> Result<usize, usize>
     ensures { result ≡ row_end (kinds types.now) bytes.now }
 {

@@ -1,4 +1,4 @@
-//! A row as bytes. MySQL Source Documentation, "Binlog Event", the page `binary_log::Rows_event`.
+//! Rows written as bytes, cell by cell. MySQL Source Documentation, "Binlog Event", the page `binary_log::Rows_event`.
 
 ghost use Rattle.std.specs.Prelude.{◌≡◌, ◌*◌, ◌≤◌, ◌++◌, false, length, map, take, slice_index_or, IsTrue, OnOk, OnErr, Err};
 ghost use Rattle.binlog.specs.Cell.{is_null, owned_value, owned_values};
@@ -12,7 +12,7 @@ use crate::column::ColumnType;
 use crate::fault::EventFault;
 use crate::shape::{Shape, shape_of};
 
-/// Appends the row of the cells, or a part of it: the bitmap of those that are null, and the values of the others.
+/// Appends the row of the cells, or a part of it: the bitmap of the null cells, and the values of the others.
 pub(crate) fn write_row(
     types: &[ColumnType],
     cells: &[OwnedCell],
@@ -45,7 +45,7 @@ fn write_values(
     Ok(())
 }
 
-/// Appends the value of a cell, nothing where it is null, or a part of it.
+/// Appends the value of a cell, or a part of it; nothing if the cell is null.
 fn write_value(shape: Shape, cell: &OwnedCell, out: &mut Vec<u8>) -> Result<(), EventFault>
     requires readable { IsTrue (is_readable shape) }
     requires fits { IsTrue (value_fits shape (owned_value cell.now)) }
@@ -73,7 +73,7 @@ fn write_value(shape: Shape, cell: &OwnedCell, out: &mut Vec<u8>) -> Result<(), 
     }
 }
 
-/// Appends the bitmap of the cells that are null, or a part of it.
+/// Appends the bitmap of the null cells, or a part of it.
 fn write_bitmap(cells: &[OwnedCell], out: &mut Vec<u8>) -> Result<(), EventFault>
     ensures ok { OnOk result (out.new.items ≡ out.old.items ++ bitmap_bytes (map is_null (owned_values cells.now))) }
     ensures err { OnErr result (result ≡ Err (record { kind = Memory; at = 0 })) }
@@ -85,7 +85,7 @@ fn write_bitmap(cells: &[OwnedCell], out: &mut Vec<u8>) -> Result<(), EventFault
     Ok(())
 }
 
-/// Byte i of the bitmap of the cells that are null.
+/// Byte i of the bitmap of the null cells.
 fn null_byte(cells: &[OwnedCell], i: usize) -> u8
     requires { 8 * i ≤ length cells.now }
     ensures { result ≡ bitmap_byte (map is_null (owned_values cells.now)) i }
@@ -101,7 +101,7 @@ fn null_byte(cells: &[OwnedCell], i: usize) -> u8
     low + 16 * high
 }
 
-/// 1 where cell i is null, else 0.
+/// 1 if cell i is null, otherwise 0.
 fn null_bit(cells: &[OwnedCell], i: usize) -> u8
     ensures bit { result ≡ digit (slice_index_or (map is_null (owned_values cells.now)) i false) }
     ensures small { result ≤ 1 }

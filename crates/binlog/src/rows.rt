@@ -9,7 +9,7 @@ use crate::rows_event::{RowsEvent, RowsKind};
 use crate::table::TableDef;
 use std::marker::Model;
 
-/// What a rows event says of one row: it came, it went, or it changed.
+/// One row change: the row before it, the row after it, or both.
 #[derive(Debug, Drop)]
 pub enum RowPair<'a> {
     Insert { after: Row<'a> },
@@ -17,15 +17,15 @@ pub enum RowPair<'a> {
     Update { before: Row<'a>, after: Row<'a> },
 }
 
-/// The rows of an event, one pair after another, seen as the list of those that are left. The last item may be a
-/// fault.
+/// An iterator over the rows of an event. The last item may be a fault. It takes no memory. In contracts it is the list
+/// of the items that are still to come.
 #[derive(Debug, Drop)]
 pub struct Rows<'a> {
     kind: RowsKind,
     types: &'a [ColumnType],
-    /// The bytes of the rows that are left.
+    /// The bytes of the remaining rows.
     bytes: &'a [u8],
-    /// Where in the event they stand.
+    /// Their offset in the event.
     at: usize,
     ghost some_columns: { 1 ≤ length types.now },
     ghost in_event: { at + length bytes.now < 2 ^ 32 },
@@ -48,10 +48,11 @@ impl<'a> RowsEvent<'a> {
     ghost use Rattle.binlog.specs.Rows.{AreItems};
     ghost use Rattle.binlog.specs.RowsView.{rows_value};
 
-    /// The pairs of the event's rows, by its table.
+    /// The row changes of the event, whose columns are those of the table. It takes no memory.
     ///
-    /// Another number of columns than the event's is `Columns` where that number stands. A row that does not fit is
-    /// the last item: `Truncated` where its bitmap, or the length or the bytes of a value, stands.
+    /// `Columns` if the table has another number of columns than the event; its offset is that of the event's number of
+    /// columns. A row that does not fit ends the iteration: the last item is then `Truncated` at the row's bitmap, or
+    /// at the length or the bytes of a value.
     pub fn rows(&self, table: &'a TableDef) -> Result<Rows<'a>, EventFault>
         ensures columns { (result ≡ Err (record { kind = EventFaultKind.Columns; at = self.now.columns_at })) ↔ (length table.now.types.items ≢ self.now.columns) }
         ensures only { IfErr result (λ fault. fault ≡ record { kind = EventFaultKind.Columns; at = self.now.columns_at }) }
@@ -60,10 +61,11 @@ impl<'a> RowsEvent<'a> {
         self.rows_of(&table.types)
     }
 
-    /// The pairs of the event's rows, whose columns are of these types.
+    /// The row changes of the event, whose columns have these types.
     ///
-    /// Another number of types than the event's is `Columns` where that number stands. A row that does not fit is the
-    /// last item: `Truncated` where its bitmap, or the length or the bytes of a value, stands.
+    /// `Columns` if there is another number of types than the event has columns; its offset is that of the event's
+    /// number of columns. A row that does not fit ends the iteration: the last item is then `Truncated` at the row's
+    /// bitmap, or at the length or the bytes of a value.
     fn rows_of(&self, types: &'a [ColumnType]) -> Result<Rows<'a>, EventFault>
         ensures columns { (result ≡ Err (record { kind = EventFaultKind.Columns; at = self.now.columns_at })) ↔ (length types.now ≢ self.now.columns) }
         ensures only { IfErr result (λ fault. fault ≡ record { kind = EventFaultKind.Columns; at = self.now.columns_at }) }
@@ -84,7 +86,7 @@ impl<'a> Rows<'a> {
     ghost use Rattle.binlog.specs.Row.{kinds};
     ghost use Rattle.binlog.specs.Rows.{AreItemsAt};
 
-    /// The rows whose bytes stand at a place of an event.
+    /// The rows in these bytes, which are at an offset of an event.
     fn new(kind: RowsKind, types: &'a [ColumnType], bytes: &'a [u8], at: usize) -> Rows<'a>
         requires some_columns { 1 ≤ length types.now }
         requires in_event { at + length bytes.now < 2 ^ 32 }
@@ -133,8 +135,8 @@ impl<'a> RowPair<'a> {
     ghost use Rattle.binlog.specs.Rows.{pair_of, pair_end};
     ghost use Rattle.binlog.specs.RowsView.{pair_value};
 
-    /// Reads the pair at the front of the bytes: the pair, and how many bytes it takes. Where a part of it does not
-    /// fit, the answer is the place of that part.
+    /// Reads the pair at the front of the bytes: the pair, and how many bytes it takes. If a part of it does not fit,
+    /// the error is the offset of that part.
     fn read(
         kind: RowsKind,
         types: &'a [ColumnType],

@@ -2,7 +2,7 @@
 
 ghost use Rattle.std.specs.Prelude.{◌+◌, ◌<◌, ◌≤◌, ◌^◌, length};
 
-/// What a rows event does to the rows of its table.
+/// What a rows event does with the rows of its table.
 #[derive(Clone, Copy, Debug, PartialEq, Eq)]
 pub enum RowsKind {
     Write,
@@ -10,19 +10,19 @@ pub enum RowsKind {
     Delete,
 }
 
-/// A rows event. It borrows the bytes of its rows.
+/// A rows event. It borrows the bytes of its rows and takes no memory.
 #[derive(Clone, Copy, Debug)]
 pub struct RowsEvent<'a> {
-    /// The table's number.
+    /// The number that a table map gave to the table.
     pub id: u64,
     pub kind: RowsKind,
     /// The number of columns, from 1 to 4,096.
     pub columns: usize,
     /// The bytes of its rows.
     pub bytes: &'a [u8],
-    /// Where in the event the number of columns stands.
+    /// The offset in the event of the number of columns.
     pub columns_at: usize,
-    /// Where in the event the rows stand.
+    /// The offset in the event of the rows.
     pub bytes_at: usize,
     ghost some_columns: { 1 ≤ columns },
     ghost few_columns: { columns ≤ 4096 },

@@ -1,4 +1,4 @@
-//! Rows events as bytes. MySQL Source Documentation, "Binlog Event", the page `binary_log::Rows_event`.
+//! Rows events written as bytes. MySQL Source Documentation, "Binlog Event", the page `binary_log::Rows_event`.
 
 ghost use Rattle.std.specs.Prelude.{◌≡◌, ◌+◌, ◌≤◌, ◌-◌, ◌++◌, ◌∷◌, ◌↔◌, length, take, replicate, OnOk, OnErr, IfOk, IfSome, IsSome, Err, IsTrue};
 ghost use Rattle.byteorder.specs.Endian.{little_bytes};
@@ -14,8 +14,9 @@ use crate::full_bitmap::write_full_bitmap;
 use crate::rows_event::{RowsEvent, RowsKind};
 
 impl<'a> RowsEvent<'a> {
-    /// The rows event of these rows, without extra data and with the shortest count. `None` where no bytes are such an
-    /// event: the table's number is 2^48 or more, the columns are not 1 to 4,096, or the event is too large.
+    /// The rows event of these rows, without extra data and with the shortest encoding of the number of columns. `None`
+    /// if no event can hold them: the table's number is 2^48 or more, the columns are not 1 to 4,096, or the event is
+    /// too large.
     pub fn new(id: u64, kind: RowsKind, columns: usize, bytes: &'a [u8]) -> Option<RowsEvent<'a>>
         ensures in_range { IsSome result ↔ IsWritable (rows (plain_rows id kind columns bytes.now)) }
         ensures values { IfSome result (λ event. rows_value event ≡ plain_rows id kind columns bytes.now) }
@@ -53,7 +54,7 @@ fn count_width(count: usize) -> usize
     if count <= 250 { 1 } else { 3 }
 }
 
-/// Appends the body of a rows event that ends its statement, or a part of it: the event's type.
+/// Appends the body of a rows event that ends its statement, or a part of it, and returns the event's type.
 pub(crate) fn write_rows_event(rows: &RowsEvent<'_>, out: &mut Vec<u8>) -> Result<u8, EventFault>
     requires { HasRowsBody (rows_value rows.now) }
     ensures code { IfOk result (λ code. code ≡ rows_code rows.now.kind) }
@@ -73,7 +74,7 @@ pub(crate) fn write_rows_event(rows: &RowsEvent<'_>, out: &mut Vec<u8>) -> Resul
     }
 }
 
-/// Appends what stands before the number of columns, or a part of it. The extra data is zeros.
+/// Appends what comes before the number of columns, or a part of it. The extra data is zeros.
 fn write_head(rows: &RowsEvent<'_>, out: &mut Vec<u8>) -> Result<(), EventFault>
     requires { HasRowsBody (rows_value rows.now) }
     ensures ok { OnOk result (out.new.items ≡ out.old.items ++ rows_head (rows_value rows.now)) }
@@ -86,7 +87,7 @@ fn write_head(rows: &RowsEvent<'_>, out: &mut Vec<u8>) -> Result<(), EventFault>
     Ok(())
 }
 
-/// Appends a table's number, the flag that the event ends its statement, and the length of extra data.
+/// Appends a table's number, the flag that the event ends its statement, and the length of the extra data.
 fn write_front(id: u64, extra: usize, out: &mut Vec<u8>) -> Result<(), EventFault>
     requires { extra ≤ 65533 }
     ensures ok { OnOk result (out.new.items ≡ out.old.items ++ (little_bytes 6 id ++ 1 ∷ 0 ∷ little_bytes 2 (2 + extra))) }
@@ -99,7 +100,7 @@ fn write_front(id: u64, extra: usize, out: &mut Vec<u8>) -> Result<(), EventFaul
     Ok(())
 }
 
-/// Appends zeros, or some of them.
+/// Appends n zeros, or some of them.
 fn write_zeros(n: usize, out: &mut Vec<u8>) -> Result<(), EventFault>
     ensures ok { OnOk result (out.new.items ≡ out.old.items ++ replicate n 0) }
     ensures err { OnErr result (result ≡ Err (record { kind = Memory; at = 0 })) }
@@ -111,7 +112,7 @@ fn write_zeros(n: usize, out: &mut Vec<u8>) -> Result<(), EventFault>
     Ok(())
 }
 
-/// Appends a count in so many bytes.
+/// Appends a count in `width` bytes.
 fn write_padded_count(width: usize, count: usize, out: &mut Vec<u8>) -> Result<(), EventFault>
     requires small { count ≤ 4096 }
     requires fits { width ≡ 1 → count ≤ 250 }
@@ -129,7 +130,8 @@ fn write_padded_count(width: usize, count: usize, out: &mut Vec<u8>) -> Result<(
     Ok(())
 }
 
-/// Appends the bitmaps of present columns, or a part of them: two for an update, and all columns are present.
+/// Appends the bitmaps of present columns, or a part of them: two for an update, otherwise one, with all columns
+/// present.
 fn write_presents(kind: RowsKind, columns: usize, out: &mut Vec<u8>) -> Result<(), EventFault>
     requires { columns ≤ 4096 }
     ensures ok { OnOk result (out.new.items ≡ out.old.items ++ presents_bytes kind columns) }
@@ -159,8 +161,8 @@ pub(crate) fn presents_size(kind: RowsKind, columns: usize) -> usize
     }
 }
 
-/// Whether some bytes are the rows event: its number is below 2^48, it has 1 to 4,096 columns, and the places of their
-/// number and of the rows leave room for extra data and for a count.
+/// Whether a rows event can be written: its number is below 2^48, it has 1 to 4,096 columns, and its offsets of the
+/// number of columns and of the rows are possible, with some extra data and some encoding of the number of columns.
 pub(crate) fn rows_event_fits(rows: &RowsEvent<'_>) -> bool
     ensures { IsTrue result ↔ HasRowsBody (rows_value rows.now) }
 {

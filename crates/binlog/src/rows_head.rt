@@ -1,4 +1,4 @@
-//! What stands before the rows of a rows event. MySQL Source Documentation, "Binlog Event", the page
+//! The part of a rows event before its rows. MySQL Source Documentation, "Binlog Event", the page
 //! `binary_log::Rows_event`.
 
 ghost use Rattle.std.specs.Prelude.{◌≡◌, ◌+◌, ◌<◌, ◌≤◌, ◌^◌, length, drop, IfOk, IfErr, MatchResult, Some, None};
@@ -12,12 +12,12 @@ use crate::row::is_set;
 use crate::rows_event::{RowsEvent, RowsKind};
 use byteorder::{ByteOrder, LittleEndian};
 
-/// Reads a rows event of a kind. It takes a whole event whose header was read; the body begins at 19, and places of
-/// faults count from the event's first byte.
+/// Reads a rows event of a kind, from a whole event whose header was read. The body begins at offset 19, and the
+/// offsets of faults count from the event's first byte.
 ///
-/// Refused are, in this order: an extra length below 2 as `Size`, a number of columns that is none or outside 1 to
-/// 4,096 as `Columns`, a bitmap that leaves a column out as `Partial`, and each field that does not fit as `Truncated`
-/// where it stands.
+/// The first of these is reported: a length of extra data below 2 as `Size`; a number of columns that is malformed or
+/// not from 1 to 4,096 as `Columns`; a bitmap that leaves a column out as `Partial`. Each field that does not fit is
+/// `Truncated` at its first byte.
 #[tactic(auto, unfolding(crate::specs::Rows::rows_fault))]
 pub(crate) fn read_rows(kind: RowsKind, bytes: &[u8]) -> Result<RowsEvent<'_>, EventFault>
     requires { length bytes.now < 2 ^ 32 }
@@ -68,7 +68,7 @@ pub(crate) fn read_rows(kind: RowsKind, bytes: &[u8]) -> Result<RowsEvent<'_>, E
     })
 }
 
-/// Reads the bitmaps of present columns at a place: where they end.
+/// Reads the bitmaps of present columns at an offset, and returns where they end.
 fn read_presents(
     kind: RowsKind,
     bytes: &[u8],
@@ -91,7 +91,7 @@ fn read_presents(
     }
 }
 
-/// Reads a bitmap of present columns at a place: where it ends.
+/// Reads a bitmap of present columns at an offset, and returns where it ends.
 fn read_present(bytes: &[u8], at: usize, columns: usize) -> Result<usize, EventFault>
     requires place { at ≤ length bytes.now }
     requires within { length bytes.now < 2 ^ 32 }

@@ -1,4 +1,4 @@
-//! Rows as bytes. MySQL Source Documentation, "Binlog Event", the page `binary_log::Rows_event`.
+//! Rows written as bytes. MySQL Source Documentation, "Binlog Event", the page `binary_log::Rows_event`.
 
 ghost use Rattle.std.specs.Prelude.{◌≡◌, ◌<◌, ◌≤◌, ◌^◌, ◌++◌, ◌↔◌, length, take, nat_lt, IsTrue, OnOk, OnErr, Err};
 ghost use Rattle.binlog.specs.Cell.{owned_value, owned_values};
@@ -15,7 +15,7 @@ use crate::row_writing::write_row;
 use crate::rows_event::RowsKind;
 use crate::shape::{Shape, shape_of};
 
-/// What a rows event says of one row, with cells of its own.
+/// One row change that owns its cells: the row before it, the row after it, or both.
 #[derive(Debug, Drop)]
 pub enum OwnedPair {
     Insert {
@@ -30,8 +30,8 @@ pub enum OwnedPair {
     },
 }
 
-/// Whether some bytes are the rows of the pairs: each pair is of the event's kind, each row has a cell for each
-/// column, and each cell is null or of its column's size.
+/// Whether the pairs can be written: each pair is of the event's kind, each row has a cell for each column, and each
+/// cell is null or has the size of its column. It takes no memory.
 pub fn rows_fit(kind: RowsKind, types: &[ColumnType], pairs: &[OwnedPair]) -> bool
     ensures { IsTrue result ↔ HaveRows kind (kinds types.now) (owned_pairs pairs.now) }
 {
@@ -43,7 +43,7 @@ pub fn rows_fit(kind: RowsKind, types: &[ColumnType], pairs: &[OwnedPair]) -> bo
     true
 }
 
-/// Whether some bytes are the rows of the pair.
+/// Whether the pair can be written.
 fn pair_fits(kind: RowsKind, types: &[ColumnType], pair: &OwnedPair) -> bool
     ensures { result ≡ pair_fits kind (kinds types.now) (owned_pair pair.now) }
 {
@@ -64,7 +64,7 @@ fn pair_fits(kind: RowsKind, types: &[ColumnType], pair: &OwnedPair) -> bool
     }
 }
 
-/// Whether some bytes are the row of the cells.
+/// Whether the row of the cells can be written.
 fn row_fits(types: &[ColumnType], cells: &[OwnedCell]) -> bool
     ensures { result ≡ row_fits (kinds types.now) (owned_values cells.now) }
 {
@@ -103,7 +103,7 @@ fn value_fits(shape: Shape, cell: &OwnedCell) -> bool
     }
 }
 
-/// Whether a number can be written in so many bytes.
+/// Whether a number can be written in `size` bytes.
 fn is_below(value: u64, size: usize) -> bool
     requires low { 1 ≤ size }
     requires high { size ≤ 8 }
@@ -121,10 +121,10 @@ fn is_below(value: u64, size: usize) -> bool
     }
 }
 
-/// Appends the rows of the pairs, one after the other: of each row the bitmap of the cells that are null, lowest bit
-/// first, and the values of the others. Bits behind the last column are 0.
+/// Appends the rows of the pairs, one after the other: for each row the bitmap of its null cells, the lowest bit first,
+/// and the values of the others. The unused bits of a bitmap are 0.
 ///
-/// The only refusal is `Memory`, which leaves the vector as it was.
+/// The only error is `Memory`, which leaves the vector as it was.
 pub fn write_rows(
     kind: RowsKind,
     types: &[ColumnType],
@@ -145,7 +145,7 @@ pub fn write_rows(
     }
 }
 
-/// Appends the rows of the pairs, or a part of them.
+/// Appends the rows of the pairs. If it fails, a part of them may have been appended.
 fn write_pairs(
     kind: RowsKind,
     types: &[ColumnType],
@@ -163,7 +163,7 @@ fn write_pairs(
     Ok(())
 }
 
-/// Appends the rows of a pair, or a part of them.
+/// Appends the rows of a pair. If it fails, a part of them may have been appended.
 fn write_pair(
     kind: RowsKind,
     types: &[ColumnType],

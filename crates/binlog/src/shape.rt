@@ -1,4 +1,4 @@
-//! How values stand in a row.
+//! How values are stored in a row.
 
 ghost use Rattle.std.specs.Prelude.{◌≡◌, ◌≤◌, length, IfOk, IfErr, Ok, Err, IsTrue};
 ghost use Rattle.binlog.specs.Cell.{cell_value};
@@ -8,14 +8,14 @@ use crate::cell::Cell;
 use crate::column::{ColumnKind, ColumnType};
 use byteorder::{ByteOrder, LittleEndian};
 
-/// How the value of a column stands in a row.
+/// How the value of a column is stored in a row.
 #[derive(Clone, Copy, Debug, PartialEq, Eq)]
 pub(crate) enum Shape {
-    /// A number of so many bytes.
+    /// A number of `width` bytes.
     Number { width: u8 },
-    /// So many bytes.
+    /// `size` bytes.
     Fixed { size: usize },
-    /// A length of so many bytes, and that many bytes.
+    /// A length of `size` bytes, and then that many bytes.
     Prefixed { size: usize },
 }
 
@@ -63,14 +63,14 @@ pub(crate) fn shape_of(column: ColumnType) -> Shape
     }
 }
 
-/// The bytes of the length before a text of at most so many bytes.
+/// How many bytes the length takes in front of a text of at most `maximum` bytes.
 fn prefix_of(maximum: u16) -> usize
     ensures { result ≡ prefix_of maximum }
 {
     if maximum < 256 { 1 } else { 2 }
 }
 
-/// The bytes of so many decimal digits.
+/// How many bytes this many decimal digits take.
 fn digits_size(digits: u8) -> usize
     ensures { result ≡ digits_size digits }
 {
@@ -78,8 +78,8 @@ fn digits_size(digits: u8) -> usize
     4 * (digits / 9) + (digits % 9 + 1) / 2
 }
 
-/// Reads the value at the front of the bytes: its cell, and how many bytes it takes. Where its length or its bytes
-/// do not fit, the answer is where in the value that is.
+/// Reads the value at the front of the bytes: its cell, and how many bytes it takes. If its length or its bytes do not
+/// fit, the error is the offset of that part.
 #[inline]
 pub(crate) fn read_value(shape: Shape, bytes: &[u8]) -> Result<(Cell<'_>, usize), usize>
     requires { IsTrue (is_readable shape) }

@@ -9,10 +9,10 @@ use crate::column_types::ColumnTypes;
 use crate::fault::EventFault;
 use std::alloc::Global;
 
-/// A table map: which table the rows events behind it mean by a number. It borrows from the event's bytes.
+/// A table map: which table the following rows events mean by a number. It borrows from the event's bytes.
 #[derive(Debug, Drop)]
 pub struct TableMap<'a> {
-    /// The number by which rows events name the table.
+    /// The number that rows events use for the table.
     pub id: u64,
     pub schema: &'a [u8],
     pub table: &'a [u8],
@@ -28,7 +28,7 @@ pub struct TableDef {
 }
 
 impl TableDef {
-    /// The table of these names and columns.
+    /// A table with these names and columns.
     pub fn new(schema: Vec<u8>, table: Vec<u8>, types: Vec<ColumnType>) -> TableDef
         ensures { result ≡ record { schema = schema; table = table; types = types } }
     {
@@ -56,7 +56,7 @@ impl TableDef {
 }
 
 impl TableMap<'_> {
-    /// The table that the map names, which outlives the event. The only refusal is `Memory`.
+    /// Copies the names and the column types, so that they outlive the event. The only error is `Memory`.
     pub fn copy(&self, alloc: Global) -> Result<TableDef, EventFault>
         ensures ok { IfOk result (λ copied. (copied.schema.items ≡ self.now.schema.now) × (copied.table.items ≡ self.now.table.now) × (kinds copied.types.items ≡ self.now.columns)) }
         ensures err { OnErr result (result ≡ Err (record { kind = Memory; at = 0 })) }

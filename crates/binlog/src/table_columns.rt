@@ -11,13 +11,13 @@ use crate::column_types::ColumnTypes;
 use crate::count::read_count;
 use crate::fault::{EventFault, EventFaultKind};
 
-/// Reads the columns of a table, which stand in an event from a place on: their number, a type byte each, the length
-/// of all metadata, the metadata, and a bitmap of those that may be null, whose bits are not read.
+/// Reads the columns of a table map from an offset on: their number, a type code each, the length of all metadata, the
+/// metadata, and a bitmap of the columns that may be null, whose bits are not read.
 ///
-/// A field that does not fit is `Truncated`. Refused in their turn are a number that is none or not within 1 to 4,096
-/// as `Columns`, a type byte that is not read as `ColumnType`, another length of all metadata than the types have as
-/// `Metadata`, and, at the first byte of its metadata, a column whose metadata is out of range as `Metadata` or
-/// `ColumnType`.
+/// A field that does not fit is `Truncated`. Besides, in this order: a number that is malformed or not from 1 to 4,096
+/// is reported as `Columns`; a type that is not supported as `ColumnType`; a length of all metadata that is not the sum
+/// of the columns' as `Metadata`; and a column whose metadata is out of range as `Metadata` or `ColumnType`, at the
+/// first byte of that metadata.
 pub(crate) fn read_columns(bytes: &[u8], at: usize) -> Result<ColumnTypes<'_>, EventFault>
     requires { at ≤ length bytes.now }
     ensures found { IfOk result (λ columns. AreColumns columns (drop at bytes.now)) }
@@ -29,7 +29,7 @@ pub(crate) fn read_columns(bytes: &[u8], at: usize) -> Result<ColumnTypes<'_>, E
     Ok(ColumnTypes::encoded(codes, metadata))
 }
 
-/// Tests the columns that stand from a place on, and finds their type bytes, and the bytes from their metadata on.
+/// Checks the columns from an offset on, and finds their type codes, and the bytes from their metadata on.
 fn find_columns(bytes: &[u8], at: usize) -> Result<(&[u8], &[u8]), EventFault>
     requires { at ≤ length bytes.now }
     ensures codes { IfOk result (λ found. found.0.now ≡ codes_at bytes.now at) }
@@ -64,7 +64,7 @@ fn find_columns(bytes: &[u8], at: usize) -> Result<(&[u8], &[u8]), EventFault>
     Ok((codes, &bytes[start..]))
 }
 
-/// Reads the number of columns, which stands at a place, and how many bytes it takes.
+/// Reads the number of columns at an offset, and how many bytes it takes.
 fn read_number(bytes: &[u8], at: usize) -> Result<(usize, usize), EventFault>
     requires { at ≤ length bytes.now }
     ensures value { IfOk result (λ read. (read.0 ≡ count_at bytes.now at) × (read.1 ≡ count_width bytes.now at)) }
@@ -89,8 +89,8 @@ fn read_number(bytes: &[u8], at: usize) -> Result<(usize, usize), EventFault>
     Ok((columns as usize, width))
 }
 
-/// How many bytes of metadata the columns of these type bytes have, which stand from a place on. The first that is not
-/// read is refused as `ColumnType`.
+/// How many bytes of metadata the columns with these type codes have. The codes are at `place`; the first that is not
+/// supported is reported as `ColumnType`.
 fn sum_of_metadata(codes: &[u8], place: usize) -> Result<usize, EventFault>
     requires { place + length codes.now < 2 ^ 63 }
     ensures sum { IfOk result (λ sum. sum ≡ sum_by metadata_length codes.now) }
@@ -110,7 +110,7 @@ fn sum_of_metadata(codes: &[u8], place: usize) -> Result<usize, EventFault>
     Ok(sum)
 }
 
-/// Tests the metadata of columns of these type bytes, which stands from a place on.
+/// Checks the metadata, at `start`, of the columns with these type codes.
 fn check_metadata(codes: &[u8], bytes: &[u8], start: usize) -> Result<(), EventFault>
     requires read { types_fault 0 codes.now ≡ None }
     requires long { start + sum_by metadata_length codes.now ≤ length bytes.now }

@@ -1,4 +1,4 @@
-//! Worked values of the layouts: what a test says here no clause does, that these bytes are those of a source.
+//! Worked values of the layouts. They show what no clause says: that these bytes are those of a source.
 
 use crate::column::metadata_size;
 use crate::{Cell, ColumnKind, ColumnType, EventFault, EventFaultKind, Header, Row};
@@ -57,7 +57,7 @@ fn sizes(rt: HostRuntime) -> Result<(), Fail> {
     Ok(())
 }
 
-/// The length of a header that is cut short, and the place of what does not fit.
+/// The length of a header that is cut short, and the offset of the field that does not fit.
 const CUT_HEADERS: [(usize, usize); 10] = [
     (0, 0),
     (3, 0),
@@ -188,7 +188,7 @@ const CELLS: [Cell<'static>; 9] = [
     Cell::Null,
 ];
 
-/// The cells of the row at the front of the bytes; none where there is no row.
+/// The cells of the row at the front of the bytes; `None` if there is no row.
 fn cells_of<'a>(
     alloc: Global,
     types: &'a [ColumnType],
@@ -219,7 +219,7 @@ fn nine_cells(rt: HostRuntime) -> Result<(), Fail> {
     Ok(())
 }
 
-/// How many bytes of the row there are, and the place of what does not fit.
+/// How many bytes of the row there are, and the offset of what does not fit.
 const EARLY: [(usize, usize); 9] = [
     (0, 0),
     (1, 0),
@@ -254,7 +254,7 @@ fn types_of(alloc: Global, kinds: &[ColumnKind]) -> Result<Vec<ColumnType>, Fail
     Ok(types)
 }
 
-/// A row of an INT and a VARCHAR, and the same row with the bits behind its columns set.
+/// A row of an INT and a VARCHAR, and the same row with the unused bits of its bitmap set.
 #[test]
 fn bits_behind_the_columns(rt: HostRuntime) -> Result<(), Fail> {
     let kinds = [ColumnKind::Long, ColumnKind::Varchar { maximum: 20 }];
@@ -298,7 +298,7 @@ fn refused_types(rt: HostRuntime) {
     }
 }
 
-/// Where the row of one value ends, behind a byte of bitmap.
+/// Where the row of one value ends, after a bitmap of one byte.
 #[test]
 fn sizes_of_values(rt: HostRuntime) -> Result<(), Fail> {
     let cases: [(ColumnKind, usize); 14] = [

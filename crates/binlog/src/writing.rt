@@ -1,4 +1,4 @@
-//! Events as bytes. MySQL Source Documentation, "Binlog Event".
+//! Events written as bytes. MySQL Source Documentation, "Binlog Event".
 
 ghost use Rattle.std.specs.Prelude.{◌≡◌, ℕ, ◌+◌, ◌<◌, ◌≤◌, ◌^◌, ◌++◌, ◌↔◌, List, IsTrue, length, take, drop, OnOk, OnErr, IfOk, IfErr, Err};
 ghost use Rattle.binlog.specs.Event.{rotate, gtid, xid};
@@ -12,8 +12,8 @@ use crate::map_writing::{map_fits, write_table_map};
 use crate::rows_event_writing::{rows_event_fits, write_rows_event};
 use gtid::Gtid;
 
-/// The body of a format description: version 4, server 8.0.36, and the lengths of 35 types, of which those that are
-/// not read are 0.
+/// The body of a format description: version 4, server 8.0.36, and the post-header lengths of 35 types, which are 0 for
+/// types that are not supported.
 const FORMAT: &[u8] = &[
     4, 0, 56, 46, 48, 46, 51, 54, 0, 0, 0, 0, 0, 0, 0, 0, 0, 0, 0, 0, 0, 0, 0, 0, 0, 0, 0, 0, 0, 0,
     0, 0, 0, 0, 0, 0, 0, 0, 0, 0, 0, 0, 0, 0, 0, 0, 0, 0, 0, 0, 0, 0, 0, 0, 0, 0, 19, 0, 13, 0, 8,
@@ -21,12 +21,12 @@ const FORMAT: &[u8] = &[
     0, 0, 0, 0, 0,
 ];
 
-/// The bodies of queries: no thread, time, schema, error and status, and the text.
+/// The bodies of QUERY events: zero for thread, time, schema, error and status, and then the text.
 const BEGIN: &[u8] = b"\0\0\0\0\0\0\0\0\0\0\0\0\0\0BEGIN";
 
 const COMMIT: &[u8] = b"\0\0\0\0\0\0\0\0\0\0\0\0\0\0COMMIT";
 
-/// A header: no time, server 1, no next position and no flags.
+/// A header with time 0, server 1, next position 0 and no flags.
 pub(crate) fn header(code: u8, size: u32) -> [u8; 19]
     ensures { result ≡ header_bytes code size }
 {
@@ -34,7 +34,7 @@ pub(crate) fn header(code: u8, size: u32) -> [u8; 19]
     [0, 0, 0, 0, code, 1, 0, 0, 0, a, b, c, d, 0, 0, 0, 0, 0, 0]
 }
 
-/// Sets the header of an event of which all other bytes stand.
+/// Sets the header of an event whose other bytes are written.
 pub(crate) fn set_header(code: u8, event: &mut [u8])
     requires whole { 19 ≤ length event.old }
     requires size { length event.old < 2 ^ 32 }
@@ -45,7 +45,7 @@ pub(crate) fn set_header(code: u8, event: &mut [u8])
     front.copy_from_slice(&header(code, size));
 }
 
-/// Appends an event of this type whose body stands behind room for its header, from a place on.
+/// Writes the header of the event that begins at `start`: of this type, with its body after 19 bytes of room.
 pub(crate) fn frame(code: u8, start: usize, out: &mut Vec<u8>)
     requires whole { start + 19 ≤ length out.old.items }
     requires size { length out.old.items < start + 2 ^ 32 }
@@ -56,8 +56,8 @@ pub(crate) fn frame(code: u8, start: usize, out: &mut Vec<u8>)
 }
 
 impl Event<'_> {
-    /// Whether some bytes are the event, for a reader that follows all tables: its names, numbers and size fit their
-    /// fields. No bytes are a table map of a table that is not followed then. It takes no memory.
+    /// Whether the event can be written, for a reader that follows all tables: its names, numbers and size fit their
+    /// fields. [`Event::OtherMap`] cannot. It takes no memory.
     pub fn fits(&self) -> bool
         ensures { IsTrue result ↔ IsWritable (event_value self.now) }
     {
@@ -76,10 +76,10 @@ impl Event<'_> {
         }
     }
 
-    /// Appends bytes that are the event. What a reader takes no notice of is written in one way: no time, server 1, no
-    /// next position, no flags; a neutral event as one that may be ignored, without a body.
+    /// Appends the event. The fields that a reader ignores are fixed: time 0, server 1, next position 0 and no flags. A
+    /// neutral event is written as IGNORABLE without a body.
     ///
-    /// The only refusal is `Memory`, which leaves the vector as it was.
+    /// The only error is `Memory`, which leaves the vector as it was.
     pub fn write(&self, out: &mut Vec<u8>) -> Result<(), EventFault>
         requires { IsWritable (event_value self.now) }
         ensures ok { OnOk result (out.new.items ≡ out.old.items ++ event_bytes (event_value self.now)) }
@@ -96,28 +96,28 @@ impl Event<'_> {
     }
 }
 
-/// Whether some bytes are the rotation: its file's name is short enough.
+/// Whether a rotation can be written: the file's name is short enough.
 fn rotate_fits(position: u64, name: &[u8]) -> bool
     ensures { IsTrue result ↔ IsWritable (rotate position name.now) }
 {
     name.len() < (1 << 32) - 27
 }
 
-/// Whether some bytes are the identifier: all are.
+/// Whether a GTID can be written: every GTID can.
 fn gtid_fits(id: Gtid) -> bool
     ensures { IsTrue result ↔ IsWritable (gtid id.source id.number) }
 {
     true
 }
 
-/// Whether some bytes are the end of a transaction of this number: all are.
+/// Whether the end of a transaction can be written: every one can.
 fn xid_fits(number: u64) -> bool
     ensures { IsTrue result ↔ IsWritable (xid number) }
 {
     true
 }
 
-/// Appends an event, or a part of it.
+/// Appends an event. If it fails, a part of it may have been appended.
 fn write_event(event: &Event<'_>, out: &mut Vec<u8>) -> Result<(), EventFault>
     requires { IsWritable (event_value event.now) }
     ensures ok { OnOk result (out.new.items ≡ out.old.items ++ event_bytes (event_value event.now)) }
@@ -131,7 +131,7 @@ fn write_event(event: &Event<'_>, out: &mut Vec<u8>) -> Result<(), EventFault>
     Ok(())
 }
 
-/// Appends the body of an event, or a part of it: the event's type.
+/// Appends the body of an event, or a part of it, and returns the event's type.
 fn write_body(event: &Event<'_>, out: &mut Vec<u8>) -> Result<u8, EventFault>
     requires { IsWritable (event_value event.now) }
     ensures code { IfOk result (λ code. code ≡ event_code (event_value event.now)) }

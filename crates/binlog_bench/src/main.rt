@@ -2,8 +2,8 @@
 //!
 //!     binlog_bench FILE
 //!
-//! The file has packets, one behind the other, each of one payload: 0x00 and an event. `bench/events.rs` does the same
-//! in plain Rust. Both print how many rows there are, and a sum over their cells, so that the two can be compared.
+//! The file has packets, one after the other, each with one payload: 0x00 and an event. `bench/events.rs` does the same
+//! in plain Rust. Both print the number of rows and a sum over their cells, so that they can be compared.
 #![tactic(auto)]
 
 use binlog::{Cell, Event, EventFault, Row, RowPair, RowsEvent, TableDef, read_event};
@@ -11,7 +11,7 @@ use std::alloc::Global;
 use std::process::ExitCode;
 use std::{env, fs, io};
 
-/// What was found so far.
+/// What has been counted so far.
 #[derive(Drop)]
 struct Found {
     table: Option<TableDef>,

@@ -106,7 +106,7 @@ image_is_read (bytes_cell value) rest has =
 
 -- ---- Cells one after another.
 
--- any two amounts of steps that are enough give the same
+-- any two amounts of fuel that are enough give the same
 enough_behind : (m n : ℕ) (bytes : List ℕ) (found : Option (CellValue × ℕ)) → cell_front bytes ≡ found → ((size : ℕ) → 1 ≤ size → cells_of m (drop size bytes) ≡ cells_of n (drop size bytes)) →
     goes_on found (λ size. cells_of m (drop size bytes)) ≡ goes_on found (λ size. cells_of n (drop size bytes))
 enough_behind m n bytes None is others = refl

@@ -14,7 +14,7 @@ counted events = filter (λ e. not (is_neutral e)) events
 abbrev pub joined : List (List EventValue) → List EventValue
 joined blocks = flat_map (λ block. block) blocks
 
--- ---- One event more.
+-- ---- One more event.
 
 pub counts_no_more : (events : List EventValue) → counted (events ++ neutral ∷ []) ≡ counted events
 counts_no_more events = filter-append (λ e. not (is_neutral e)) events (neutral ∷ []) ∙ append-nil (counted events)
@@ -38,7 +38,7 @@ or_true false = refl
 pub format_more : (events : List EventValue) (e : EventValue) → has_format (events ++ e ∷ []) ≡ (has_format events || is_format e)
 format_more events e = list_any-append is_format events (e ∷ []) ∙ ap (λ b. has_format events || b) (or_false (is_format e))
 
--- an event that is no GTID keeps format descriptions first
+-- an event that is not a GTID keeps format descriptions first
 pub first_more : (events : List EventValue) (e : EventValue) → is_gtid e ≡ false → is_format_first events ≡ true → is_format_first (events ++ e ∷ []) ≡ true
 first_more [] format other first = refl
 first_more [] begin other first = refl
@@ -63,7 +63,7 @@ first_more ((other_map id) ∷ events) e other first = first_more events e other
 first_more ((rows r) ∷ events) e other first = first_more events e other first
 first_more ((xid number) ∷ events) e other first = first_more events e other first
 
--- and so does any event behind one
+-- and so does any event after one
 pub first_behind : (events : List EventValue) (e : EventValue) → has_format events ≡ true → is_format_first events ≡ true → is_format_first (events ++ e ∷ []) ≡ true
 first_behind [] e has first = absurd cc
 first_behind (format ∷ events) e has first = refl
@@ -131,7 +131,7 @@ skips block (e ∷ events) =
     skips (add_event block e) events ∙ sym (ap (fold add_event block) left))
     (cases_Bool (is_neutral e))
 
--- table maps and rows events go on with it
+-- table maps and rows events continue it
 added : (block : List EventValue) (before : List EventValue) (e : EventValue) (own : List ChangeValue) → AreChangesOf before e own → add_event block e ≡ block ++ e ∷ []
 added block before (table_map t) own of = refl
 added block before (other_map id) own of = refl

@@ -1,4 +1,4 @@
--- Images gone over cell by cell.
+-- Images written and read cell by cell.
 use Rattle.std.proofs.Common.{◌≡◌, ℕ, zero, suc, ◌+◌, ◌-◌, ◌*◌, ◌<◌, ◌≤◌, ◌^◌, Some, List, [], ◌∷◌, ◌++◌, length, drop, refl, sym, ap, subst, ◌∙◌, append_assoc, arith}
 use Rattle.std.specs.Prelude.{flat_map, slice_index_or}
 use Rattle.std.specs.List.{AllByRecursion}
@@ -50,7 +50,7 @@ number_has cell n width is has = subst (λ c. HasCellImage (cell_value c)) is ha
 pub first_size : (cells rest : List CellValue) (cell : CellValue) → cells ≡ cell ∷ rest → length (flat_map cell_image cells) ≡ length (cell_image cell) + length (flat_map cell_image rest)
 first_size cells rest cell is = ap (λ l. length (flat_map cell_image l)) is ∙ length-append (cell_image cell) (flat_map cell_image rest)
 
--- what is written, and then what is left, is all
+-- what has been written, and then what is left, is all
 pub next_written : (all now new : List ℕ) (cells rest : List CellValue) (cell : CellValue) → now ++ flat_map cell_image cells ≡ all → cells ≡ cell ∷ rest → new ≡ now ++ cell_image cell → new ++ flat_map cell_image rest ≡ all
 next_written all now new cells rest cell before is written =
     ap (λ l. l ++ flat_map cell_image rest) written

@@ -27,7 +27,7 @@ or_assoc : (x y z : Option (Option TableValue)) → option_or x (option_or y z) 
 or_assoc None y z = refl
 or_assoc (Some x) y z = refl
 
--- what the last map of one event more says
+-- what the last map says after one more event
 pub map_of_more : (body : List EventValue) (e : EventValue) (id : ℕ) → map_of (body ++ e ∷ []) id ≡ option_or (said_of id e) (map_of body id)
 map_of_more [] e id = sym (or_none (said_of id e))
 map_of_more (x ∷ body) e id = ap (λ m. option_or m (said_of id x)) (map_of_more body e id) ∙ sym (or_assoc (said_of id e) (map_of body id) (said_of id x))
@@ -65,7 +65,7 @@ maps_more m n id kept e body updates says before q =
 
 -- ---- Changes.
 
--- one event more, and its changes
+-- one more event, and its changes
 pub changes_more : (before body : List EventValue) (e : EventValue) (changes own : List ChangeValue) →
     AreChanges before body changes → AreChangesOf (before ++ body) e own → AreChanges before (body ++ e ∷ []) (changes ++ own)
 changes_more before [] e changes own none of =
@@ -79,7 +79,7 @@ pub no_changes : (before body : List EventValue) (e : EventValue) (changes : Lis
     AreChanges before body changes → AreChangesOf (before ++ body) e [] → AreChanges before (body ++ e ∷ []) changes
 no_changes before body e changes are of = subst (AreChanges before (body ++ e ∷ [])) (append-nil changes) (changes_more before body e changes [] are of)
 
--- no event of them ends a transaction
+-- none of the events ends a transaction
 pub no_end_of : (before : List EventValue) (e : EventValue) (own : List ChangeValue) → AreChangesOf before e own → is_end e ≡ false
 no_end_of before (table_map t) own of = refl
 no_end_of before (other_map id) own of = refl
@@ -103,7 +103,7 @@ no_end before (x ∷ body) changes (first, others, is, all, rest) =
 pub copied : (t : TableValue) (kept : Rc TableDef Global) (d : TableDef) → kept.value ≡ d → (d.schema.items ≡ t.schema) × (d.table.items ≡ t.table) × (kinds d.types.items ≡ t.columns) → t ≡ table_of t.id kept
 copied t kept d is parts = rw (is, parts.0, parts.1, parts.2) refl
 
--- what is kept of a rows event's number is what the last table map of it says
+-- what is kept of a rows event's number is what the last table map with it says
 pub told : (body : List EventValue) (begun : Begun) (id : ℕ) (kept : Option (Rc TableDef Global)) → Keeps body begun → get nat_cmp begun.maps id ≡ Some kept → map_of body id ≡ Some (said id kept)
 told body begun id kept keeps is = sym (keeps.maps id) ∙ ap (option_map (said id)) is
 

@@ -1,4 +1,4 @@
--- The next event of a lawful list, which was read: it is lawful or has a fault.
+-- The next event of a lawful list that was read: it is lawful or has a fault.
 use Rattle.std.proofs.Common.{◌≡◌, ◌⊎◌, ℕ, ◌+◌, ◌<◌, Bool, true, false, ◌||◌, List, [], ◌∷◌, ◌++◌, length, map, fold, Option, Some, None, refl, ap, sym, ◌∙◌, subst, ⊎_elim, inl, inr, true≢false}
 use Rattle.std.specs.List.{AllByRecursion, list_any}
 use Rattle.std.proofs.lemmas.List.Folds.{list_any-append}
@@ -104,7 +104,7 @@ closed events e k is o lawful =
 
 -- ---- A rows event.
 
--- it has changes or a fault, by what is said of its table
+-- it has changes or a fault, depending on what is known of its table
 abbrev pub RowsNext : List EventValue → RowsValue → Option (Option TableValue) → Type 0
 RowsNext body r m = ((own : List ChangeValue) × AreChangesOf body (rows r) own) ⊎ ((fault : GatherFault) × IsRowsFault m r fault)
 
@@ -172,9 +172,9 @@ some events (table_map t) read lawful = of_transaction events (table_map t) read
 some events (other_map id) read lawful = of_transaction events (other_map id) read lawful refl
 some events (rows r) read lawful = of_transaction events (rows r) read lawful refl
 
--- ---- A lawful event has come behind a format description, and stands in its place.
+-- ---- A lawful event comes after a format description, and is in its place.
 
--- format descriptions stand before GTIDs
+-- format descriptions come before GTIDs
 gtid_behind : (events : List EventValue) → list_any is_gtid events ≡ true → is_format_first events ≡ true → has_format events ≡ true
 gtid_behind [] has first = absurd cc
 gtid_behind (format ∷ events) has first = refl

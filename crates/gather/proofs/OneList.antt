@@ -16,7 +16,7 @@ use Rattle.gather.proofs.Shortening.{ended, Given, stays, gives, given, back}
 some_columns : (r : RowsValue) → IsRead (rows r) → 1 ≤ r.columns
 some_columns r is = is.is_event.has_body.1.columns.0
 
--- and so has the table that it is read by
+-- and so has the table that it belongs to
 pub many_columns : (t : TableValue) (r : RowsValue) → IsRead (rows r) → length t.columns ≡ r.columns → 1 ≤ length t.columns
 many_columns t r read columns = let some = some_columns r read in omega (arith, some, columns)
 

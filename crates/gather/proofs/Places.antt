@@ -1,4 +1,4 @@
--- Rows events behind a BEGIN.
+-- Rows events after a BEGIN.
 use Rattle.std.proofs.Common.{◌≡◌, ◌⊎◌, ℕ, true, not, List, [], ◌∷◌, Result, Ok, Err, IfErr, refl, ap, sym, ◌∙◌, subst, ⊎_elim, inl, inr}
 use Rattle.binlog.specs.Rows.{RowsValue}
 use Rattle.binlog.specs.Event.{EventValue, begin, gtid, rows}

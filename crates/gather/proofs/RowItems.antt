@@ -56,7 +56,7 @@ fault_all (pair ∷ pairs) = fault_all pairs
 
 -- ---- A walk over the items.
 
--- These items are left; the pairs before them have been added as changes.
+-- These items are left; the pairs before them have been appended as changes.
 pub record Walked (kept : Rc TableDef Global) (r : RowsValue) (left : List Item) (before after : List ChangeValue) : Type 0 where
   pub columns : length kept.value.types.items ≡ r.columns
   pub pairs : List PairValue

@@ -73,8 +73,8 @@ changes_less before (x ∷ body) e changes (head, others, of, all, are) =
 abbrev pub ended : (block : List EventValue) → IsOpen block → DeliveryValue
 ended block o = record { source = o.source; number = o.number; changes = o.changes }
 
--- What the last event of a lawful list does behind those before it, which are lawful: it is passed over, stands alone, is
--- a GTID, goes on with a transaction, or ends it.
+-- What the last event of a lawful list does after those before it, which are lawful: it is ignored, is a block of its
+-- own, is a GTID, continues a transaction, or ends it.
 pub data Back (events : List EventValue) (e : EventValue) (ds : List DeliveryValue) : Type 0 where
   passes : is_neutral e ≡ true → AreDeliveries events ds → Back events e ds
   marks : is_mark e ≡ true → AreDeliveries events ds → Back events e ds
@@ -104,7 +104,7 @@ begun events front before block cut are first is =
       are = record { blocks = front ++ block ∷ []; cut = cuts; each = subst (AreBlocks (front ++ block ∷ [])) (append-nil before) (blocks_more front before block [] are is); format_first = first };
     }
 
--- the cut before the last event, where the last block is known to end with an item
+-- the cut before the last event, if the last block ends with an item
 cut_before : (events : List EventValue) (e : EventValue) (front : List (List EventValue)) (block shorter : List EventValue) (last : EventValue) → counted events ++ e ∷ [] ≡ joined front ++ block → block ≡ shorter ++ last ∷ [] →
     (counted events ≡ joined front ++ shorter) × (e ≡ last)
 cut_before events e front block shorter last cut is =
@@ -177,7 +177,7 @@ back events e ds are =
     (λ counts. back_counts events e are.blocks ds (sym (counts_more events e counts) ∙ are.cut) are.each first)
     (cases_Bool (is_neutral e))
 
--- ---- Beginnings.
+-- ---- Prefixes.
 
 no_end_alone : (e : EventValue) → is_neutral e ≡ true → is_end e ≡ false
 no_end_alone neutral is = refl

@@ -1,4 +1,4 @@
--- One more event of a lawful list: what it brings.
+-- One more event of a lawful list: what it changes.
 use Rattle.std.proofs.Common.{◌≡◌, ◌⊎◌, ℕ, Bool, true, false, not, ◌&&◌, ◌||◌, List, [], ◌∷◌, ◌++◌, append-nil, append_assoc, fold, Option, Result, Ok, Err, IfOk, IfErr, refl, ap, sym, ◌∙◌, subst, ⊎_elim, inl, inr, true≢false}
 use Rattle.std.specs.List.{list_any}
 use Rattle.std.proofs.lemmas.List.Folds.{list_any-append}
@@ -50,7 +50,7 @@ begun_not_empty block begun none = ⊎_elim (λ a. let bad = sym a.block_is ∙ 
 begun_gives_none : (block : List EventValue) (own : List DeliveryValue) → IsBegun block → IsBlock block own → own ≡ []
 begun_gives_none block own begun is = ⊎_elim (λ plain. plain.1) (λ whole. absurd (begun_not_whole block whole.0 begun whole.1)) is
 
--- ---- One block more, and a longer last block.
+-- ---- One more block, and a longer last block.
 
 pub new_block : (events : List EventValue) (ds : List DeliveryValue) (e : EventValue) → AreDeliveries events ds → is_neutral e ≡ false → is_format_first (events ++ e ∷ []) ≡ true → IsBlock (e ∷ []) [] →
     AreDeliveries (events ++ e ∷ []) (ds ++ [])
@@ -218,6 +218,6 @@ true_or events = sym (or_true (has_format events))
 pub false_or : (formatted : Bool) (events : List EventValue) → formatted ≡ has_format events → formatted ≡ (has_format events || false)
 false_or formatted events is = is ∙ sym (or_false (has_format events))
 
--- a rotation or a stop is a mark, and no format description
+-- a rotation or a stop is a mark, and not a format description
 pub rotates_or_stops : (event : Event) → ((position : ℕ) × (name : Bor (List ℕ)) × (event ≡ Rotate position name)) ⊎ (event ≡ Stop) → (is_mark (event_value event) ≡ true) × (is_format (event_value event) ≡ false)
 rotates_or_stops event is = ⊎_elim (λ r. rw r.2 (refl, refl)) (λ s. rw s (refl, refl)) is

@@ -1,4 +1,4 @@
--- Images of lists of cells: bytes are one exactly where they are read as one.
+-- Images of lists of cells: bytes are an image exactly if they are read as one.
 use Rattle.std.proofs.Common.{◌≡◌, ℕ, zero, suc, ◌+◌, ◌≤◌, true, List, [], ◌∷◌, ◌++◌, length, drop, Option, Some, None, refl, sym, ap, subst, ◌∙◌, arith}
 use Rattle.std.specs.Prelude.{nat_le, flat_map}
 use Rattle.std.specs.List.{AllByRecursion}

@@ -15,11 +15,11 @@ use Rattle.gather.specs.Transaction.{ChangeValue, map_of, change_of, IsReadBy, A
 use Rattle.gather.specs.View.{change_values}
 use Rattle.gather.specs.declared.begun.Begun.{Begun}
 
--- a table of this number
+-- the table of a table map with this number
 abbrev pub table_of : ℕ → Rc TableDef Global → TableValue
 table_of id t = record { id = id; schema = t.value.schema.items; table = t.value.table.items; columns = kinds t.value.types.items }
 
--- what is kept of a table map of this number
+-- what is kept of a table map with this number
 abbrev pub said : ℕ → Option (Rc TableDef Global) → Option TableValue
 said id kept = option_map (table_of id) kept
 
@@ -29,13 +29,13 @@ HasImages (inserted after) = HasImage after
 HasImages (deleted before) = HasImage before
 HasImages (updated before after) = HasImage before × HasImage after
 
--- The changes are those of before, and behind them those of a rows event by its table.
+-- The changes are those from before, and then those of a rows event of the table.
 pub record Adds (t : TableValue) (r : RowsValue) (before after : List ChangeValue) : Type 0 where
   pub pairs : List PairValue
   pub read : IsReadBy t r pairs
   pub after_is : after ≡ before ++ map (change_of t) pairs
 
--- These events have come behind BEGIN.
+-- These events have come after BEGIN.
 pub record Keeps (body : List EventValue) (begun : Begun) : Type 0 where
   pub maps : (id : ℕ) → option_map (said id) (get nat_cmp begun.maps id) ≡ map_of body id
   pub changes : AreChanges [] body (change_values begun.changes.items)

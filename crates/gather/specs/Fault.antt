@@ -1,4 +1,4 @@
--- The first event that makes a list of events unlawful, and what is wrong with it.
+-- The first event that makes a list of events unlawful, and its fault.
 use Rattle.std.specs.Prelude.{◌≡◌, ℕ, ◌+◌, ◌<◌, ◌⊎◌, Bool, true, false, not, List, [], ◌∷◌, ◌++◌, length, fold, Option, Some, None, if◌then◌else◌, ◌≢◌}
 use Rattle.std.specs.List.{AllByRecursion, list_any}
 use Rattle.binlog.specs.Follow.{Names}
@@ -24,11 +24,11 @@ is_gtid _ = false
 abbrev pub has_format : List EventValue → Bool
 has_format events = list_any is_format events
 
--- a block and the next event, which goes on with it or begins another
+-- a block with the next event, which continues it or begins another one
 abbrev pub add_event : List EventValue → EventValue → List EventValue
 add_event block e = if is_neutral e then block else if is_mark e then e ∷ [] else if is_gtid e then e ∷ [] else block ++ e ∷ []
 
--- the last block: what came since the last GTID, format description, rotation or stop, neutral events left out
+-- the last block: what came since the last GTID, format description, rotation or stop, without neutral events
 abbrev pub last_block : List EventValue → List EventValue
 last_block events = fold add_event [] events
 
@@ -44,7 +44,7 @@ is_open _ = false
 
 -- ---- Places.
 
--- events of transactions, which stand behind a format description
+-- events of transactions, which must come after a format description
 abbrev pub is_of_transaction : EventValue → Bool
 is_of_transaction (gtid source number) = true
 is_of_transaction begin = true
@@ -55,7 +55,7 @@ is_of_transaction (rows r) = true
 is_of_transaction (xid number) = true
 is_of_transaction _ = false
 
--- whether an event may stand behind the block: BEGIN behind the GTID, table maps, rows events and the end behind BEGIN
+-- whether an event may follow the block: BEGIN after the GTID; table maps, rows events and the end after BEGIN
 abbrev pub is_in_place : List EventValue → EventValue → Bool
 is_in_place block begin = is_announced block
 is_in_place block commit = is_open block
@@ -77,8 +77,8 @@ type_of _ = 0
 
 -- ---- Faults.
 
--- What is wrong with a rows event, by what is said of its table's number: nothing is said; else it has another number of
--- columns than the table; else its rows end early. Of a table that is not followed nothing is looked at.
+-- What is wrong with a rows event, from what is known of its table's number: nothing; otherwise the event has another
+-- number of columns than the table; otherwise its rows end early. If the table is not followed, nothing is checked.
 abbrev pub IsRowsFault : Option (Option TableValue) → RowsValue → GatherFault → Type 0
 IsRowsFault None r fault = fault ≡ UnknownTable r.id
 IsRowsFault (Some None) r fault = ⊥
@@ -87,13 +87,13 @@ IsRowsFault (Some (Some t)) r fault =
     ⊎ ((length t.columns ≡ r.columns) × (pairs : List PairValue) × (place : ℕ) × EndsEarly r.kind t.columns pairs r.bytes place
     × (fault ≡ Event (record { kind = Truncated; at = r.bytes_at + place })))
 
--- Behind these events the next one has this fault.
+-- After these events the next one has this fault.
 pub data IsFault (events : List EventValue) (e : EventValue) (fault : GatherFault) : Type 0 where
-  -- it is of a transaction, and no format description has come
+  -- it belongs to a transaction, and no format description has come
   no_format : is_of_transaction e ≡ true → has_format events ≡ false → fault ≡ NoFormat → IsFault events e fault
-  -- else: it is not in its place
+  -- otherwise: it is out of place
   misplaced : has_format events ≡ true → is_in_place (last_block events) e ≡ false → fault ≡ Misplaced (type_of e) → IsFault events e fault
-  -- else: its rows cannot be read
+  -- otherwise: its rows cannot be read
   unread : (r : RowsValue) → e ≡ rows r → has_format events ≡ true → is_open (last_block events) ≡ true → IsRowsFault (map_of (last_block events) r.id) r fault → IsFault events e fault
 
 -- some fault

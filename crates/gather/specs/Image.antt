@@ -1,4 +1,4 @@
--- The stored image of a row's cells, a form of this project's own. All numbers stand with their lowest byte first.
+-- The stored image of a row's cells, this project's own format. All numbers are little-endian.
 use Rattle.std.specs.Prelude.{◌≡◌, ℕ, ◌<◌, ◌≤◌, ◌^◌, List, [], ◌∷◌, ◌++◌, length, flat_map, ⊤}
 use Rattle.std.specs.List.{AllByRecursion}
 use Rattle.byteorder.specs.Endian.{little_bytes}
@@ -14,7 +14,7 @@ cell_image (bytes_cell bytes) = 2 ∷ little_bytes 4 (length bytes) ++ bytes
 abbrev pub image : List CellValue → List ℕ
 image cells = little_bytes 2 (length cells) ++ flat_map cell_image cells
 
--- A number has 1 to 8 bytes, and bytes have a length of four.
+-- A number has 1 to 8 bytes, and the length of bytes fits four bytes.
 abbrev pub HasCellImage : CellValue → Type 0
 HasCellImage null_cell = ⊤
 HasCellImage (number_cell n width) = (1 ≤ width) × (width ≤ 8) × (n < 256 ^ width)

@@ -11,7 +11,7 @@ cell_values cells = map cell_value cells
 abbrev pub front_value : Cell × ℕ → CellValue × ℕ
 front_value front = (cell_value front.0, front.1)
 
--- the cell whose image begins the bytes behind their first, which says its kind, and how many bytes the image takes
+-- the cell at the front of the bytes, which begin after the byte that says its kind, and how many bytes its image takes
 abbrev pub number_front : List ℕ → Option (CellValue × ℕ)
 number_front [] = None
 number_front (width ∷ bytes) =
@@ -26,7 +26,7 @@ abbrev pub cell_front : List ℕ → Option (CellValue × ℕ)
 cell_front [] = None
 cell_front (kind ∷ bytes) = if kind == 0 then Some (null_cell, 1) else if kind == 1 then number_front bytes else if kind == 2 then bytes_front bytes else None
 
--- the cells whose images begin the bytes, at most so many
+-- the cells whose images are at the front of the bytes; at most as many as the fuel
 abbrev pub goes_on : Option (CellValue × ℕ) → (ℕ → List CellValue) → List CellValue
 goes_on None others = []
 goes_on (Some front) others = front.0 ∷ others front.1
@@ -45,7 +45,7 @@ abbrev pub holds_behind : Option (CellValue × ℕ) → (ℕ → Bool) → Bool
 holds_behind None others = false
 holds_behind (Some front) others = others front.1
 
--- whether the bytes are the images of so many cells, and nothing stands behind them
+-- whether the bytes are the images of this many cells, and nothing follows them
 abbrev pub are_images : ℕ → List ℕ → Bool
 are_images zero [] = true
 are_images zero (_ ∷ _) = false

@@ -1,4 +1,5 @@
--- Where in a transaction a block has brought a gatherer, and what the next event of a transaction does there.
+-- The place in a transaction that a block has brought a gatherer to, and what the next event of a transaction does
+-- there.
 use Rattle.std.specs.Prelude.{◌≡◌, ◌⊎◌, true, false, List, [], ◌∷◌, ◌++◌}
 use Rattle.binlog.specs.Rows.{RowsValue}
 use Rattle.binlog.specs.Event.{EventValue, begin, gtid, rows}
@@ -16,7 +17,8 @@ IsAt block Between = (is_announced block ≡ false) × (is_open block ≡ false)
 IsAt block (Announced id) = block ≡ gtid id.source id.number ∷ []
 IsAt block (Inside begun) = (body : List EventValue) × (block ≡ gtid begun.gtid.source begun.gtid.number ∷ begin ∷ body) × Keeps body begun
 
--- The event goes on with a block that has begun, ends these transactions, one or none, and brings the gatherer to a new place.
+-- The event continues a block that has begun, ends these transactions, one or none, and brings the gatherer to a new
+-- place.
 pub record Extends (block : List EventValue) (e : EventValue) (ds : List DeliveryValue) (after : Place) : Type 0 where
   pub begun : IsAnnounced block ⊎ IsOpen block
   pub is_block : IsBlock (block ++ e ∷ []) ds

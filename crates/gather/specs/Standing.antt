@@ -1,4 +1,4 @@
--- What a gatherer keeps of the events that it was given.
+-- What a gatherer keeps of the events that it has been given.
 use Rattle.std.specs.Prelude.{◌≡◌, Bool, true, false, List}
 use Rattle.binlog.specs.Event.{EventValue}
 use Rattle.gather.specs.Transaction.{DeliveryValue, AreDeliveries}
@@ -7,14 +7,15 @@ use Rattle.gather.specs.Place.{IsAt}
 use Rattle.gather.specs.declared.place.Place.{Place}
 use Rattle.gather.specs.declared.gatherer.Gatherer.{Gatherer}
 
--- The events are lawful, and these are their transactions; this says whether a format description has come, and the last
--- block has brought the gatherer to this place.
+-- The events are lawful, and these are their transactions; `formatted` says whether a format description has come, and
+-- the last block has brought the gatherer to this place.
 pub record Brings (events : List EventValue) (ds : List DeliveryValue) (formatted : Bool) (place : Place) : Type 0 where
   pub deliveries : AreDeliveries events ds
   pub has_format : formatted ≡ has_format events
   pub at : IsAt (last_block events) place
 
--- The gatherer was given these events, which are lawful, and has answered their transactions.
+-- The gatherer has been given these events, which are lawful, and has answered their transactions: this is its
+-- position.
 pub record Stands (events : List EventValue) (ds : List DeliveryValue) (g : Gatherer) : Type 0 where
   pub given : Brings events ds g.formatted g.place
   pub goes_on : g.ended ≡ false

@@ -21,12 +21,12 @@ pub record DeliveryValue : Type 0 where
 
 -- ---- Kinds of events.
 
--- those that count for nothing
+-- those that are ignored
 abbrev pub is_neutral : EventValue → Bool
 is_neutral neutral = true
 is_neutral _ = false
 
--- those that stand alone: format descriptions, rotations and stops
+-- those that are blocks of their own: format descriptions, rotations and stops
 abbrev pub is_mark : EventValue → Bool
 is_mark format = true
 is_mark (rotate position name) = true
@@ -41,13 +41,13 @@ is_end _ = false
 
 -- ---- Changes.
 
--- what an event says of a table's number, where it is a table map of it: the table, or (None) one that is not followed
+-- what an event says of a table's number, if it is a table map with it: the table, or (None) that it is not followed
 abbrev pub said_of : ℕ → EventValue → Option (Option TableValue)
 said_of id (table_map t) = if t.id == id then Some (Some t) else None
 said_of id (other_map other) = if other == id then Some None else None
 said_of id _ = None
 
--- what the last table map of a number says of it
+-- what the last table map of a number says
 abbrev pub map_of : List EventValue → ℕ → Option (Option TableValue)
 map_of [] id = None
 map_of (e ∷ events) id = option_or (map_of events id) (said_of id e)
@@ -57,30 +57,30 @@ change_of t (inserted cells) = insert t.schema t.table cells
 change_of t (deleted cells) = delete t.schema t.table cells
 change_of t (updated before after) = update t.schema t.table before after
 
--- The rows event is read by the table: it has as many columns, and its bytes are the rows of the pairs.
+-- The rows event is one of the table: it has as many columns, and its bytes are the rows of the pairs.
 pub record IsReadBy (t : TableValue) (r : RowsValue) (pairs : List PairValue) : Type 0 where
   pub columns : length t.columns ≡ r.columns
   pub rows_are : AreRows r.kind t.columns pairs r.bytes
 
--- The changes of a rows event: those of its rows, and none where its table is not followed.
+-- The changes of a rows event: those of its rows, or none if its table is not followed.
 abbrev pub AreRowChanges : Option TableValue → RowsValue → List ChangeValue → Type 0
 AreRowChanges None r changes = changes ≡ []
 AreRowChanges (Some t) r changes = (pairs : List PairValue) × IsReadBy t r pairs × (changes ≡ map (change_of t) pairs)
 
--- The changes of a table map, which has none, or of a rows event, by the last table map of its number before it.
+-- The changes of a table map, which has none, or of a rows event, by the last table map with its number before it.
 abbrev pub AreChangesOf : List EventValue → EventValue → List ChangeValue → Type 0
 AreChangesOf before (table_map t) changes = changes ≡ []
 AreChangesOf before (other_map id) changes = changes ≡ []
 AreChangesOf before (rows r) changes = (said : Option TableValue) × (map_of before r.id ≡ Some said) × AreRowChanges said r changes
 AreChangesOf before _ changes = ⊥
 
--- The changes of table maps and rows events in order, behind those before them in their transaction.
+-- The changes of table maps and rows events in order, after those before them in their transaction.
 abbrev pub AreChanges : List EventValue → List EventValue → List ChangeValue → Type 0
 AreChanges before [] changes = changes ≡ []
 AreChanges before (e ∷ events) changes =
     (first : List ChangeValue) × (others : List ChangeValue) × AreChangesOf before e first × (changes ≡ first ++ others) × AreChanges (before ++ e ∷ []) events others
 
--- ---- Blocks: what stands from a GTID, a format description, a rotation or a stop up to the next of these.
+-- ---- Blocks: what comes from a GTID, a format description, a rotation or a stop up to the next of these.
 
 -- The block is one format description, rotation or stop.
 pub record IsMark (block : List EventValue) : Type 0 where
@@ -111,7 +111,7 @@ pub record IsWhole (block : List EventValue) (d : DeliveryValue) : Type 0 where
   pub are_changes : AreChanges [] body d.changes
   pub ends : is_end last ≡ true
 
--- The block is lawful, and its transaction, where it is a whole one, is the list's.
+-- The block is lawful, and the list has its transaction, if it is a whole one.
 abbrev pub IsBlock : List EventValue → List DeliveryValue → Type 0
 IsBlock block ds =
     ((IsMark block ⊎ (IsAnnounced block ⊎ IsOpen block)) × (ds ≡ []))
@@ -131,7 +131,7 @@ is_format_first (format ∷ events) = true
 is_format_first (gtid source number ∷ events) = false
 is_format_first (_ ∷ events) = is_format_first events
 
--- The events are lawful, and these are their whole transactions in order: neutral events left out, they are lawful
+-- The events are lawful, and these are their whole transactions in order: without neutral events, they are lawful
 -- blocks, one after the other.
 pub record AreDeliveries (events : List EventValue) (ds : List DeliveryValue) : Type 0 where
   pub blocks : List (List EventValue)

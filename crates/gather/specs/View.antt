@@ -1,4 +1,4 @@
--- What the crate's values say, whatever memory holds them.
+-- What the crate's values mean, apart from the memory that holds them.
 use Rattle.std.specs.Prelude.{List, [], ◌∷◌, map, Option, Some, None}
 use Rattle.gather.specs.Transaction.{ChangeValue, insert, delete, update, DeliveryValue}
 use Rattle.gather.specs.declared.change.Change.{Change}

@@ -9,11 +9,11 @@ use std::alloc::Global;
 use std::collections::BTreeMap;
 use std::rc::Rc;
 
-/// A transaction behind its BEGIN.
+/// A transaction after its BEGIN.
 #[derive(Drop)]
 pub(crate) struct Begun {
     pub(crate) gtid: Gtid,
-    /// The last table map of each number: its table, and none where that is not followed.
+    /// For each table number its last table map: the table, or `None` if it is not followed.
     pub(crate) maps: BTreeMap<u64, Option<Rc<TableDef>>>,
     pub(crate) changes: Vec<Change>,
 }
@@ -27,7 +27,7 @@ impl Begun {
     ghost use Rattle.gather.specs.Fault.{IsRowsFault};
     ghost use Rattle.gather.specs.Begun.{Keeps};
 
-    /// A transaction behind whose BEGIN nothing came.
+    /// A transaction whose BEGIN has just come.
     pub(crate) fn new(alloc: Global, gtid: Gtid) -> Begun
         ensures gtid { result.gtid ≡ gtid }
         ensures keeps { Keeps [] result }
@@ -39,7 +39,7 @@ impl Begun {
         }
     }
 
-    /// Takes a table map. The only refusal is `Memory`.
+    /// Takes a table map. The only error is `Memory`.
     pub(crate) fn take_map(&mut self, alloc: Global, map: &TableMap<'_>) -> Result<(), GatherFault>
         ensures gtid { self.new.gtid ≡ self.old.gtid }
         ensures keeps { (body : List EventValue) → Keeps body self.old → OnOk result (Keeps (body ++ table_map (table_value map.now) ∷ []) self.new) }
@@ -53,7 +53,7 @@ impl Begun {
         Ok(())
     }
 
-    /// Takes a table map of a table that is not followed. The only refusal is `Memory`.
+    /// Takes a table map of a table that is not followed. The only error is `Memory`.
     pub(crate) fn take_other(&mut self, id: u64) -> Result<(), GatherFault>
         ensures gtid { self.new.gtid ≡ self.old.gtid }
         ensures keeps { (body : List EventValue) → Keeps body self.old → OnOk result (Keeps (body ++ other_map id ∷ []) self.new) }
@@ -63,7 +63,8 @@ impl Begun {
         Ok(())
     }
 
-    /// Takes a rows event: its changes, by the last table map of its number.
+    /// Takes a rows event: appends its changes, whose table is that of the last table map with its number. The faults
+    /// are `UnknownTable`, `Event` and `Memory`.
     pub(crate) fn take_rows(
         &mut self,
         alloc: Global,

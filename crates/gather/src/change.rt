@@ -5,7 +5,7 @@ use binlog::TableDef;
 use gtid::Gtid;
 use std::rc::Rc;
 
-/// What a transaction does to one row of a table. Changes that one table map names share their table.
+/// What a transaction does to one row of a table. Changes of the same table map share their table.
 #[derive(Debug, Drop)]
 pub enum Change {
     /// The row is added.
@@ -13,12 +13,12 @@ pub enum Change {
         table: Rc<TableDef>,
         after: Image,
     },
-    /// The row is taken away.
+    /// The row is removed.
     Delete {
         table: Rc<TableDef>,
         before: Image,
     },
-    /// The row before is taken away and the row after is added.
+    /// `before` is removed and `after` is added.
     Update {
         table: Rc<TableDef>,
         before: Image,

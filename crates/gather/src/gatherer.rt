@@ -1,4 +1,4 @@
-//! The events of a source, gathered into transactions.
+//! Events of a source gathered into transactions.
 
 use crate::change::Delivery;
 use crate::fault::GatherFault;
@@ -6,14 +6,14 @@ use crate::place::{Place, take_begin, take_end, take_map, take_other, take_rows}
 use binlog::Event;
 use std::alloc::Global;
 
-/// Gathers events into whole transactions. It keeps no more than the transaction at hand.
+/// Gathers events into whole transactions. It keeps only the current transaction.
 #[derive(Drop)]
 pub struct Gatherer {
     alloc: Global,
-    /// A format description has come.
+    /// Whether a format description has come.
     formatted: bool,
     place: Place,
-    /// A fault was answered.
+    /// Whether a fault was answered.
     ended: bool,
 }
 
@@ -26,7 +26,7 @@ impl Gatherer {
     ghost use Rattle.gather.specs.View.{delivered};
     ghost use Rattle.gather.specs.Standing.{Brings, Stands, HasEnded};
 
-    /// A gatherer that was given no event. It takes no memory.
+    /// A gatherer that has been given no events. It takes no memory.
     pub fn new(alloc: Global) -> Gatherer
         ensures { Stands [] [] result }
     {
@@ -38,10 +38,10 @@ impl Gatherer {
         }
     }
 
-    /// Takes the next event, and answers the transaction that it ends.
+    /// Takes the next event, and returns the transaction that it ends, if it ends one.
     ///
-    /// An event that may not stand behind those before it is `NoFormat`, `Misplaced`, `UnknownTable` or `Event`, in this
-    /// order; want of memory is `Memory`. After a fault each call answers `Ended`.
+    /// An event that may not follow those before it is reported as `NoFormat`, `Misplaced`, `UnknownTable` or `Event`,
+    /// whichever applies first in this order; `Memory` if memory runs out. After a fault each call answers `Ended`.
     pub fn event(&mut self, event: &Event<'_>) -> Result<Option<Delivery>, GatherFault>
         ensures taken { (events : List EventValue) (ds : List DeliveryValue) → Stands events ds self.old →
             IfOk result (λ delivery. Stands (events ++ event_value event.now ∷ []) (ds ++ delivered delivery) self.new) }
@@ -59,7 +59,7 @@ impl Gatherer {
         Ok(delivery)
     }
 
-    /// Takes an event, by where in a transaction it stands.
+    /// Takes an event, depending on the place in a transaction.
     fn take(&mut self, event: &Event<'_>) -> Result<Option<Delivery>, GatherFault>
         ensures taken { (events : List EventValue) (ds : List DeliveryValue) → Brings events ds self.old.formatted self.old.place →
             IfOk result (λ delivery. Brings (events ++ event_value event.now ∷ []) (ds ++ delivered delivery) self.new.formatted self.new.place) }
@@ -99,7 +99,7 @@ ghost use Rattle.std.specs.Prelude.{◌≡◌, ◌&&◌, not};
 ghost use Rattle.binlog.specs.EventView.{event_value};
 ghost use Rattle.gather.specs.Fault.{is_of_transaction};
 
-/// Whether the event is of a transaction, and no format description has come.
+/// Whether the event belongs to a transaction, and no format description has come.
 fn lacks_format(formatted: bool, event: &Event<'_>) -> bool
     ensures { result ≡ (not formatted && is_of_transaction (event_value event.now)) }
 {

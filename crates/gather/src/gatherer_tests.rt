@@ -1,4 +1,4 @@
-//! Lists of events, each event written as a letter.
+//! Lists of events, with each event written as a letter.
 
 use crate::{Change, Delivery, Follow, Gatherer, Image};
 use binlog::{Cell, Event, read_event_only};
@@ -22,15 +22,15 @@ const XID: &[u8] = b"\x01\0\0\0\0\0\0\0";
 
 const ROTATE: &[u8] = b"\x04\0\0\0\0\0\0\0log.2";
 
-/// Maps of 1: shop.items and shop.old, of LONG and VARCHAR(20), and shop.items of LONG alone.
+/// Table maps of the number 1: shop.items and shop.old, of LONG and VARCHAR(20), and shop.items of LONG alone.
 const ITEMS: &[u8] = b"\x01\0\0\0\0\0\0\0\x04shop\0\x05items\0\x02\x03\x0f\x02\x14\0\x03";
 
 const OLD: &[u8] = b"\x01\0\0\0\0\0\0\0\x04shop\0\x03old\0\x02\x03\x0f\x02\x14\0\x03";
 
 const NARROW: &[u8] = b"\x01\0\0\0\0\0\0\0\x04shop\0\x05items\0\x01\x03\0\x01";
 
-/// Rows of table 1: two of (7, "ab"); one that ends early behind one that is whole; (7, "ab") and then null and "cd";
-/// and one of table 2.
+/// Rows of table 1: two of (7, "ab"); a whole one and then one that ends early; (7, "ab") and then null and "cd"; and
+/// one of table 2.
 const ROWS: &[u8] = b"\x01\0\0\0\0\0\x01\0\x02\0\x02\x03\0\x07\0\0\0\x02ab\0\x07\0\0\0\x02ab";
 
 const EARLY: &[u8] = b"\x01\0\0\0\0\0\x01\0\x02\0\x02\x03\0\x07\0\0\0\x02ab\0\x07\0\0\0\x03ab";
@@ -127,7 +127,7 @@ fn answer(alloc: Global, gatherer: &mut Gatherer, event: &Event<'_>) -> Result<S
     }
 }
 
-/// What it answers to all events.
+/// What a gatherer answers to all events.
 fn gathered(alloc: Global, follow: &Follow, events: &[u8]) -> Result<String, Fail> {
     let mut gatherer = Gatherer::new(alloc);
     let mut text = String::new(alloc);
@@ -139,7 +139,7 @@ fn gathered(alloc: Global, follow: &Follow, events: &[u8]) -> Result<String, Fai
     Ok(text)
 }
 
-/// The transaction A:1 of the small stream, and the same of A:2.
+/// The transaction A:1 of the small stream, and the same transaction as A:2.
 const TWO: &str = "1: + 5 7/4 [97, 98] + 5 7/4 [97, 98];";
 
 const NEXT: &str = "2: + 5 7/4 [97, 98] + 5 7/4 [97, 98];";
@@ -157,13 +157,13 @@ const WHOLE: [(&[u8], &str); 16] = [
         b"f1bIdux",
         "1: - 5 7/4 [97, 98] - 5 7/4 [97, 98] 5 7/4 [97, 98] to null [99, 100];",
     ),
-    // The last map of a number holds.
+    // The last map of a number is used.
     (
         b"f1bIwOwx",
         "1: + 5 7/4 [97, 98] + 5 7/4 [97, 98] + 3 7/4 [97, 98] + 3 7/4 [97, 98];",
     ),
     (b"f1bNIwx", TWO),
-    // What is not whole is dropped.
+    // A transaction that is not whole is dropped.
     (b"f1bIwrf2bIwx", NEXT),
     (b"f1bIws2bIwx", NEXT),
     (b"f1bIwf2bIwx", NEXT),
@@ -237,7 +237,7 @@ fn faults(rt: HostRuntime) -> Result<(), Fail> {
     Ok(())
 }
 
-/// Where only shop.old is followed, events of shop.items give no changes and no fault of their rows.
+/// If only shop.old is followed, events of shop.items give no changes and no fault of their rows.
 const FOLLOWED: [(&[u8], &str); 8] = [
     (b"f1bIwx", "1:;"),
     (b"f1bNwx", "1:;"),
@@ -261,7 +261,7 @@ fn followed_tables(rt: HostRuntime) -> Result<(), Fail> {
     Ok(())
 }
 
-/// The delivery of the small stream: A:1, and two inserts whose images have fifteen bytes.
+/// The transaction of the small stream: A:1, and two inserts whose images have fifteen bytes.
 #[test]
 fn images_of_rows(rt: HostRuntime) -> Result<(), Fail> {
     let alloc = rt.alloc();

@@ -13,10 +13,11 @@ use binlog::{Cell, Row};
 use std::alloc::Global;
 use std::marker::Model;
 
-/// The stored image of a row: the number of its cells in two bytes, and of each cell 0 for null; 1, the width and the
-/// bytes of a number; or 2, the length in four bytes and the bytes. All numbers stand with their lowest byte first.
+/// The stored image of a row: the number of its cells in two bytes, and for each cell 0 for null; 1, the width in one
+/// byte and a number in that many bytes; or 2, the length in four bytes and the bytes. All numbers are little-endian.
 ///
-/// It is seen as the list of its cells, and is one allocation. Equal cells have equal images, and no others do.
+/// It is one allocation. Equal cells have equal images, and different cells have different ones. In contracts it is the
+/// list of its cells.
 #[derive(Debug, Drop)]
 pub struct Image {
     bytes: Vec<u8>,
@@ -37,8 +38,8 @@ impl Model for Image {
 }
 
 impl Image {
-    /// The image of the cells. There is none of more than 65,535 cells, of a number of no or more than 8 bytes or one
-    /// that its width does not hold, and of 4 GiB or more in one cell. The only refusal is `Memory`.
+    /// The image of the cells. `None` if there are more than 65,535 cells, a number has a width other than 1 to 8 bytes
+    /// or does not fit its width, or a cell has 4 GiB or more. The only error is `Memory`.
     pub fn new(alloc: Global, cells: &[Cell<'_>]) -> Result<Option<Image>, GatherFault>
         ensures found { IfOk result (λ found. MatchOption found
             (HasImage (cell_values cells.now) → ⊥)
@@ -53,7 +54,7 @@ impl Image {
         Ok(Some(Image { bytes }))
     }
 
-    /// The image that these bytes are, if they are one. The only refusal is `Memory`.
+    /// The image that these bytes are, or `None` if they are not one. The only error is `Memory`.
     pub fn read(alloc: Global, bytes: &[u8]) -> Result<Option<Image>, GatherFault>
         ensures found { IfOk result (λ found. MatchOption found
             ((cells : List CellValue) → IsImage cells bytes.now → ⊥)
@@ -67,8 +68,8 @@ impl Image {
         Ok(Some(Image { bytes }))
     }
 
-    /// The image of a row, whose cells are gone over twice: once to count its bytes, and once to write them. The only
-    /// refusal is `Memory`.
+    /// The image of a row. It iterates over the cells twice: once to count the bytes, and once to write them. The only
+    /// error is `Memory`.
     pub(crate) fn of(alloc: Global, row: &Row<'_>) -> Result<Image, GatherFault>
         requires { HasImage row.now }
         ensures ok { IfOk result (λ made. made ≡ row.now) }
@@ -80,7 +81,7 @@ impl Image {
         Ok(Image { bytes })
     }
 
-    /// The cells in order. It takes no memory.
+    /// An iterator over the cells, in order. It takes no memory.
     pub fn cells(&self) -> ImageCells<'_>
         ensures { result ≡ self.now }
     {

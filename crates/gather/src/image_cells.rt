@@ -10,7 +10,8 @@ use binlog::Cell;
 use byteorder::{ByteOrder, LittleEndian};
 use std::marker::Model;
 
-/// The cells of a stored image, one after another, seen as the list of those that are left. They borrow from its bytes.
+/// An iterator over the cells of a stored image, which borrow from its bytes. In contracts it is the list of those that
+/// are still to come.
 #[derive(Debug, Drop)]
 pub struct ImageCells<'a> {
     pub(crate) left: &'a [u8],
@@ -41,7 +42,8 @@ impl<'a> Iterator for ImageCells<'a> {
     }
 }
 
-/// The cell whose image begins the bytes, and how many bytes that takes, if they begin with one.
+/// The cell whose image is at the front of the bytes, and how many bytes the image takes; `None` if there is no such
+/// cell.
 pub(crate) fn cell_front(bytes: &[u8]) -> Option<(Cell<'_>, usize)>
     ensures front { option_map front_value result ≡ cell_front bytes.now }
     ensures within { IfSome result (λ front. (1 ≤ front.1) × (front.1 ≤ length bytes.now)) }
@@ -54,7 +56,7 @@ pub(crate) fn cell_front(bytes: &[u8]) -> Option<(Cell<'_>, usize)>
     }
 }
 
-/// The number whose image, behind the byte of its kind, begins the bytes, and how many bytes the image takes.
+/// The number whose image begins one byte before these bytes, and how many bytes the image takes.
 fn number_front(bytes: &[u8]) -> Option<(Cell<'_>, usize)>
     ensures front { option_map front_value result ≡ number_front bytes.now }
     ensures within { IfSome result (λ front. (1 ≤ front.1) × (front.1 ≤ 1 + length bytes.now)) }
@@ -77,7 +79,7 @@ fn number_front(bytes: &[u8]) -> Option<(Cell<'_>, usize)>
     Some((Cell::Number { value, width }, 2 + size))
 }
 
-/// The bytes whose image, behind the byte of its kind, begins the bytes, and how many bytes the image takes.
+/// The bytes whose image begins one byte before these bytes, and how many bytes the image takes.
 fn bytes_front(bytes: &[u8]) -> Option<(Cell<'_>, usize)>
     ensures front { option_map front_value result ≡ bytes_front bytes.now }
     ensures within { IfSome result (λ front. (1 ≤ front.1) × (front.1 ≤ 1 + length bytes.now)) }

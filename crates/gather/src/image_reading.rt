@@ -1,4 +1,4 @@
-//! Images by their bytes.
+//! Checks of stored images.
 
 ghost use Rattle.std.specs.Prelude.{◌≡◌};
 ghost use Rattle.gather.specs.ImageCells.{are_images, is_image};
@@ -16,7 +16,7 @@ pub(crate) fn is_image(bytes: &[u8]) -> bool
     are_images(LittleEndian::read_u16(bytes), &bytes[2..])
 }
 
-/// Whether the bytes are the images of so many cells, and nothing stands behind them.
+/// Whether the bytes are the images of `count` cells, and nothing follows them.
 fn are_images(count: u16, bytes: &[u8]) -> bool
     ensures { result ≡ are_images count bytes.now }
 {

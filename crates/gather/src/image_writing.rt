@@ -1,4 +1,4 @@
-//! Images as bytes.
+//! Images written as bytes.
 
 ghost use Rattle.std.specs.Prelude.{◌≡◌, ◌+◌, ◌≤◌, ◌<◌, ◌^◌, ◌++◌, ◌↔◌, length, nat_lt, IsTrue, OnOk, OnErr, Err, MatchOption};
 ghost use Rattle.binlog.specs.Cell.{cell_value};
@@ -56,7 +56,7 @@ pub(crate) fn write_cells(cells: &[Cell<'_>], out: &mut Vec<u8>) -> Result<(), G
     Ok(())
 }
 
-/// Appends the image of a row, which has so many cells, or a part of it.
+/// Appends the image of a row, which has `count` cells, or a part of it.
 pub(crate) fn write_row(row: &Row<'_>, count: u16, out: &mut Vec<u8>) -> Result<(), GatherFault>
     requires has { HasImage row.now }
     requires count { count ≡ length row.now }
@@ -81,7 +81,7 @@ fn has_image(cell: Cell<'_>) -> bool
     }
 }
 
-/// Whether a number has an image of so many bytes.
+/// Whether a number has an image of `width` bytes.
 fn fits(value: u64, width: u8) -> bool
     ensures { IsTrue result ↔ ((1 ≤ width) × (width ≤ 8) × (value < 256 ^ width)) }
 {

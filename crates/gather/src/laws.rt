@@ -1,4 +1,4 @@
-//! What callers rely on, as laws about the definitions.
+//! Laws about the definitions, for callers.
 //!
 //! A law is a function with an empty body: its clauses are proved of the definitions themselves.
 
@@ -11,25 +11,25 @@ ghost use Rattle.gather.specs.Transaction.{DeliveryValue, AreDeliveries, IsLawfu
 ghost use Rattle.gather.specs.Fault.{IsFault, HasFault, IsRead};
 ghost use Rattle.gather.specs.declared.fault.GatherFault.{GatherFault};
 
-/// Equal cells have equal images, and no others do.
+/// Equal cells have equal images, and different cells have different ones.
 pub fn one_image()
     ensures one { (a b : List CellValue) (bytes : List ℕ) → IsImage a bytes → IsImage b bytes → a ≡ b }
     ensures equal { (a b : List CellValue) (x y : List ℕ) → IsImage a x → IsImage b y → a ≡ b → x ≡ y }
 {}
 
-/// The next event of a lawful list that was read is lawful or has a fault, and not both, and it has one.
+/// The next event of a lawful list, both read from bytes, either is lawful or has one fault, and not both.
 pub fn next_event()
     ensures some { (events : List EventValue) (e : EventValue) → IsRead e → IsLawful events → IsLawful (events ++ e ∷ []) ⊎ HasFault events e }
     ensures not_both { (events : List EventValue) (e : EventValue) (fault : GatherFault) → IsRead e → IsLawful (events ++ e ∷ []) → IsFault events e fault → ⊥ }
     ensures one { (events : List EventValue) (e : EventValue) (a b : GatherFault) → IsRead e → IsFault events e a → IsFault events e b → a ≡ b }
 {}
 
-/// A beginning of a lawful list is lawful, and its transactions are the first of the list's.
+/// A prefix of a lawful list is lawful, and its transactions are the first of the list's.
 pub fn beginnings()
     ensures { (first others : List EventValue) (ds : List DeliveryValue) → AreDeliveries (first ++ others) ds → HasFirst first ds }
 {}
 
-/// The events of a list that were read have one list of transactions.
+/// A list of events that were read from bytes has one list of transactions.
 pub fn one_list_of_deliveries()
     ensures { (events : List EventValue) (x y : List DeliveryValue) → AllByRecursion IsRead events → AreDeliveries events x → AreDeliveries events y → x ≡ y }
 {}

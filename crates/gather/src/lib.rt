@@ -1,11 +1,11 @@
 //! Whole transactions, gathered from the events of the binary log.
 //!
-//! A [`Gatherer`] takes the events of a source one by one and answers a [`Delivery`] at the event that ends a
-//! transaction: its GTID and its [`Change`]s in order, each with its table and the [`Image`] of its row. A list of
-//! events that is no log ends with a [`GatherFault`].
+//! A [`Gatherer`] takes the events of a source one by one. At the event that ends a transaction it answers a
+//! [`Delivery`]: the transaction's GTID and its [`Change`]s in order, each with its table and the [`Image`] of its row.
+//! An invalid sequence of events ends with a [`GatherFault`].
 //!
-//! The order of events is that of the MySQL Source Documentation, "Binlog Event". `specs/` states over whole lists of
-//! events which are lawful and which transactions they hold, and [`laws`] what follows from that.
+//! The order of events is that of the MySQL Source Documentation, "Binlog Event". `specs/` defines which lists of
+//! events are lawful and which transactions they hold, and [`laws`] states what follows from that.
 #![tactic(auto)]
 
 mod begun;

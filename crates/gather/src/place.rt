@@ -1,4 +1,4 @@
-//! Where in a transaction a gatherer is.
+//! The place in a transaction that a gatherer has reached.
 
 ghost use Rattle.std.specs.Prelude.{◌≡◌, true, IfOk, IfErr};
 ghost use Rattle.binlog.specs.Event.{EventValue, begin, table_map, other_map, rows};
@@ -17,18 +17,18 @@ use gtid::Gtid;
 use std::alloc::Global;
 use std::mem;
 
-/// Where in a transaction a gatherer is.
+/// The place in a transaction that a gatherer has reached.
 #[derive(Drop)]
 pub(crate) enum Place {
-    /// In none.
+    /// Outside of any transaction.
     Between,
-    /// Behind its GTID.
+    /// Right after the GTID.
     Announced(Gtid),
-    /// Behind its BEGIN.
+    /// After BEGIN.
     Inside(Begun),
 }
 
-/// BEGIN stands next after the GTID.
+/// Takes BEGIN, which must come right after the GTID.
 pub(crate) fn take_begin(place: &mut Place, alloc: Global) -> Result<Option<Delivery>, GatherFault>
     ensures taken { IfOk result (λ delivery. GoesOn begin place.old place.new (delivered delivery)) }
     ensures fault { IfErr result (FaultsAt begin place.old) }
@@ -42,7 +42,7 @@ pub(crate) fn take_begin(place: &mut Place, alloc: Global) -> Result<Option<Deli
     }
 }
 
-/// A table map stands behind BEGIN.
+/// Takes a table map, which must come after BEGIN.
 pub(crate) fn take_map(
     place: &mut Place,
     alloc: Global,
@@ -60,7 +60,7 @@ pub(crate) fn take_map(
     }
 }
 
-/// So does one of a table that is not followed.
+/// Takes a table map of a table that is not followed, which must come after BEGIN.
 pub(crate) fn take_other(place: &mut Place, id: u64) -> Result<Option<Delivery>, GatherFault>
     ensures taken { IfOk result (λ delivery. GoesOn (other_map id) place.old place.new (delivered delivery)) }
     ensures fault { IfErr result (FaultsAt (other_map id) place.old) }
@@ -74,7 +74,7 @@ pub(crate) fn take_other(place: &mut Place, id: u64) -> Result<Option<Delivery>,
     }
 }
 
-/// A rows event stands behind BEGIN.
+/// Takes a rows event, which must come after BEGIN.
 pub(crate) fn take_rows(
     place: &mut Place,
     alloc: Global,
@@ -96,7 +96,7 @@ pub(crate) fn take_rows(
     }
 }
 
-/// An event of this type that ends a transaction stands behind BEGIN.
+/// Takes an event of this type that ends a transaction, which must come after BEGIN.
 pub(crate) fn take_end(place: &mut Place, code: u8) -> Result<Option<Delivery>, GatherFault>
     ensures taken { (e : EventValue) → is_end e ≡ true → IfOk result (λ delivery. GoesOn e place.old place.new (delivered delivery)) }
     ensures fault { (e : EventValue) → is_end e ≡ true → type_of e ≡ code → IfErr result (FaultsAt e place.old) }

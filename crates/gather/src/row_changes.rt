@@ -14,8 +14,8 @@ use binlog::{RowPair, RowsEvent, TableDef};
 use std::alloc::Global;
 use std::rc::Rc;
 
-/// Appends the changes of a rows event, by its table. A row that does not fit is a fault, and so is want of memory; the
-/// changes of the rows before it stay.
+/// Appends the changes of a rows event of this table. A row that does not fit is a fault, and so is running out of
+/// memory; the changes of the rows before it stay.
 pub(crate) fn push_changes(
     alloc: Global,
     table: &Rc<TableDef>,
@@ -32,7 +32,7 @@ pub(crate) fn push_changes(
     Ok(())
 }
 
-/// The change that a pair of rows says, with the images of its rows. The only refusal is `Memory`.
+/// The change of a pair of rows, with the images of its rows. The only error is `Memory`.
 fn change_of(alloc: Global, table: &Rc<TableDef>, pair: &RowPair<'_>) -> Result<Change, GatherFault>
     requires { HasImages (pair_value pair.now) }
     ensures ok { (id : ℕ) → IfOk result (λ change. change_value change ≡ change_of (table_of id table.now) (pair_value pair.now)) }

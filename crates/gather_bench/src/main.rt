@@ -2,9 +2,9 @@
 //!
 //!     gather_bench FILE
 //!
-//! The file has packets, one behind the other, each of one payload: 0x00 and an event. `bench/events.rs` does the same
-//! in plain Rust. Both print how many changes the transactions have, and how many bytes their images, so that the two
-//! can be compared.
+//! The file has packets, one after the other, each with one payload: 0x00 and an event. `bench/events.rs` does the same
+//! in plain Rust. Both print the number of changes of the transactions and the number of bytes of their images, so that
+//! they can be compared.
 #![tactic(auto)]
 
 use binlog::read_event;
@@ -13,14 +13,14 @@ use std::alloc::Global;
 use std::process::ExitCode;
 use std::{env, fs, io};
 
-/// What was found so far.
+/// What has been counted so far.
 #[derive(Clone, Copy)]
 struct Found {
     changes: u64,
     bytes: u64,
 }
 
-/// Takes the changes of a transaction.
+/// Counts the changes of a transaction.
 fn add(found: Found, delivery: &Delivery) -> Found {
     let mut changes = found.changes;
     let mut bytes = found.bytes;

@@ -1,4 +1,4 @@
--- Each payload is the message due or is refused.
+-- Each payload is the expected message or is refused.
 use Rattle.std.proofs.Common.{◌≡◌, ℕ, ◌+◌, ◌*◌, ◌-◌, ◌<◌, ◌≤◌, ◌^◌, ◌==◌, max, Bool, true, false, cond, List, [], ◌∷◌, ◌++◌, length, get_or, take, drop, Option, Some, None, bit_and, refl, sym, ap, subst, ◌∙◌, arith, inl, inr}
 use Rattle.std.specs.Prelude.{nat_lt, nat_le, not, ◌⊎◌}
 use Rattle.std.specs.Str.{bytes_eq}
@@ -15,12 +15,12 @@ use Rattle.greet.proofs.Replies.{is_switch, is_ok, is_eof, same_name}
 use Rattle.greet.proofs.Responses.{is_response, no_difference}
 use Rattle.greet.proofs.Dumps.{dump_of, is_dump}
 
--- a line that does not hold, where nothing is refused
+-- a line that does not hold, if nothing is refused
 passes : (b : Bool) (r : Refusal) (others : Option Refusal) → cond b (Some r) others ≡ None → (b ≡ false) × (others ≡ None)
 passes true r others is = absurd cc
 passes false r others is = (refl, is)
 
--- ---- Texts that a zero byte ends.
+-- ---- Texts that end with a zero byte.
 
 pub record IsSplit (bytes : List ℕ) : Type 0 where
   pub text : IsText (before_zero bytes)
@@ -45,7 +45,7 @@ split_at_zero (b ∷ bytes) is = elim (either (b == 0)) [
       }
 ]
 
--- where something stands behind a zero byte, there is one
+-- if there are bytes after a zero byte, there is a zero byte
 zero_before : (bytes : List ℕ) → 0 < length (behind_zero bytes) → has_zero bytes ≡ true
 zero_before [] some = absurd (omega (arith, some))
 zero_before (b ∷ bytes) some = elim (either (b == 0)) [

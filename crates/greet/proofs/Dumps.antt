@@ -1,4 +1,4 @@
--- Dump commands: what they say, and that they are refused where they are none.
+-- Dump commands: what they say, and that anything else is refused.
 use Rattle.std.proofs.Common.{◌≡◌, ◌≢◌, ℕ, ◌+◌, ◌<◌, ◌≤◌, ◌^◌, List, [], ◌∷◌, ◌++◌, length, take, drop, Some, None, Result, Ok, Err, refl, sym, ap, subst, ◌∙◌, arith}
 use Rattle.std.proofs.lemmas.Bool.{ne_eqb, eq-eqb}
 use Rattle.std.proofs.lemmas.List.{drop-drop, length-append, length-drop, length-take}
@@ -13,7 +13,7 @@ use Rattle.greet.specs.declared.fault.GreetFault.{GreetFault}
 use Rattle.greet.specs.declared.fault.GreetFault.TheVariants as faults
 use Rattle.greet.proofs.Cuts.{IsBytes, IsBytes-drop, number_at, cut, behind, right_7}
 
--- what a dump command says, by the bytes behind its first
+-- what a dump command says, from the bytes after its first
 abbrev pub dump_of : List ℕ → DumpValue
 dump_of body = record { flags = little_number 2 body; server_id = little_number 4 (drop 2 body); set = drop (22 + dump_name_size body) body }
 
@@ -90,7 +90,7 @@ not_refused d payload is =
     let t = told d payload is in
     rw (t.payload_is, eq-eqb _ _ t.whole) refl
 
--- and says one thing.
+-- and has one meaning.
 pub one_value : (a b : DumpValue) (payload : List ℕ) → IsDump a payload → IsDump b payload → a ≡ b
 one_value a b payload is_a is_b =
     let x = told a payload is_a in

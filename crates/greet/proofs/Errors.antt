@@ -1,4 +1,4 @@
--- Errors that a source answers: what they say, and that they are told in place of any message.
+-- ERR packets of a source: what they say, and that they are reported instead of any message.
 use Rattle.std.proofs.Common.{◌≡◌, ◌≢◌, ℕ, ◌<◌, ◌&&◌, Bool, true, false, List, [], ◌∷◌, ◌++◌, length, take, drop, Option, Some, None, refl, sym, ap, ◌∙◌, arith, inl, inr}
 use Rattle.std.specs.Prelude.{nat_le}
 use Rattle.std.proofs.lemmas.Bool.{le-leb, lt-leb, ne_eqb, le-ltb}
@@ -33,7 +33,7 @@ message_is (Some state) message text is = ap message_of is.1 ∙ rw (marked stat
 message_is None message text (is, inl short) = rw (bare text short) is
 message_is None message text (is, inr other) = rw (unmarked text other) is
 
--- an ERR, by the bytes behind its first
+-- an ERR, from the bytes after its first
 pub told : (code : ℕ) (state : Option (List ℕ)) (message payload : List ℕ) (is : IsErrPacket code state message payload) → error_of (little_bytes 2 code ++ is.text) ≡ server_error code state (take kept_message message)
 unfolding error_of
 told code state message payload is =
@@ -58,7 +58,7 @@ pub in_eof : (code : ℕ) (state : Option (List ℕ)) (message payload : List �
 unfolding eof_refusal
 in_eof code state message payload is = ap eof_refusal is.payload_is ∙ ap Some (told code state message payload is)
 
--- ---- An ERR says one thing.
+-- ---- An ERR has one meaning.
 
 code_of : (code : ℕ) (state : Option (List ℕ)) (message payload : List ℕ) → IsErrPacket code state message payload → little_number 2 (drop 1 payload) ≡ code
 code_of code state message payload is = ap (λ p. little_number 2 (drop 1 p)) is.payload_is ∙ little_number-reads_back 2 code is.text (omega (arith, is.a_code))

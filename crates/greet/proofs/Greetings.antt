@@ -1,4 +1,4 @@
--- Greetings: what they say, and that they are refused where they are none.
+-- Greetings: what they say, and that anything else is refused.
 use Rattle.std.proofs.Common.{◌≡◌, ℕ, zero, suc, ◌+◌, ◌*◌, ◌-◌, ◌<◌, ◌≤◌, ◌^◌, max, List, [], ◌∷◌, ◌++◌, length, get_or, take, drop, Some, None, bit_and, refl, sym, ap, ◌∙◌, arith}
 use Rattle.std.proofs.lemmas.Bool.{le-ltb, lt-ltb}
 use Rattle.std.proofs.lemmas.List.{drop-drop, length-append, length-drop, length-take, take_at, take-append-le, take-append-drop, get_or-drop}
@@ -141,7 +141,7 @@ not_refused g payload is =
     let t = told g payload is in
     rw (t.payload_is, behind_zero-text g.version t.fields is.a_version) t.lawful
 
--- and says one thing.
+-- and has one meaning.
 pub one_value : (a b : GreetingValue) (payload : List ℕ) → IsGreeting a payload → IsGreeting b payload → a ≡ b
 one_value a b payload is_a is_b =
     let x = told a payload is_a in

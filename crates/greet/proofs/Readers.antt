@@ -1,4 +1,4 @@
--- What every reader of a message keeps to.
+-- What every reader of a message has in common.
 use Rattle.std.proofs.Common.{◌≡◌, ℕ, List, Option, None, Result, Ok, Err, subst, refl}
 use Rattle.std.specs.Prelude.{⊤, IfOk, IfErr, MatchResult}
 use Rattle.greet.specs.Refusal.{Refusal}
@@ -6,7 +6,7 @@ use Rattle.greet.specs.View.{Refuses}
 use Rattle.greet.specs.declared.fault.GreetFault.{GreetFault}
 use Rattle.greet.specs.declared.fault.GreetFault.TheVariants as faults
 
--- where nothing is refused, memory alone can be wanting
+-- if nothing is refused, the only fault is that memory ran out
 pub memory_alone : (fault : GreetFault) → Refuses None fault → fault ≡ faults.Memory
 memory_alone (faults.ServerError code state message) is = absurd cc
 memory_alone (faults.Protocol byte) is = absurd cc
@@ -17,7 +17,7 @@ memory_alone faults.OldAuth is = absurd cc
 memory_alone (faults.Unexpected byte) is = absurd cc
 memory_alone faults.Memory is = refl
 
--- A message is answered, where it is not refused and says one thing.
+-- A message is answered, if it is not refused and has one meaning.
 pub answered : {X V : Type 0} (Is : V → List ℕ → Type 0) (value : X → V) (refusal : List ℕ → Option Refusal) (payload : List ℕ) →
     ((v : V) → Is v payload → refusal payload ≡ None) → ((a b : V) → Is a payload → Is b payload → a ≡ b) →
     (result : Result X GreetFault) → IfOk result (λ x. Is (value x) payload) → IfErr result (Refuses (refusal payload)) →

@@ -1,4 +1,4 @@
--- The source's replies: what they say, and that they are refused where they are none.
+-- The source's replies: what they say, and that anything else is refused.
 use Rattle.std.proofs.Common.{◌≡◌, ℕ, ◌<◌, ◌≤◌, ◌^◌, ◌==◌, ◌&&◌, Bool, true, false, cond, List, [], ◌∷◌, ◌++◌, length, get_or, take, drop, Option, Some, None, Result, Ok, Err, refl, sym, ap, subst, ◌∙◌, append_assoc, arith, inl, inr}
 use Rattle.std.specs.Prelude.{nat_le, ◌⊎◌, IfNone, OnOk, OnErr, IfErr}
 use Rattle.greet.specs.View.{Refuses}
@@ -207,7 +207,7 @@ unfolding eof_refusal
 eof_nothing [] few = refl
 eof_nothing (b ∷ payload) few = absurd (omega (arith, few))
 
--- what stands behind the first byte of an OK decides
+-- the bytes after the first of an OK decide
 pub counted_ok : {X F : Type 0} (body : List ℕ) (result : Result X F) → IsBytes body → OnOk result (has_insert_id (behind_int body) ≡ true) → OnOk result (IsOkPacket (0x00 ∷ body))
 counted_ok body (Ok x) fits is = is_ok body fits is
 counted_ok body (Err f) fits is = tt

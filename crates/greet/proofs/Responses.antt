@@ -1,4 +1,4 @@
--- Responses: what they say, and that they are refused where they are none.
+-- Responses: what they say, and that anything else is refused.
 use Rattle.std.proofs.Common.{◌≡◌, ◌≢◌, ℕ, suc, ◌+◌, ◌<◌, ◌≤◌, ◌==◌, Bool, true, false, List, [], ◌∷◌, ◌++◌, length, get_or, take, drop, Some, None, refl, sym, ap, ◌∙◌, arith, inl, inr}
 use Rattle.std.specs.Prelude.{◌⊎◌}
 use Rattle.std.proofs.Math.ListN.{drop_of_length-le}
@@ -109,7 +109,7 @@ not_refused r payload is =
     ∙ whole_name response_lead plugin_name [] (IsText-by plugin_name refl) refl refl
     ∙ itself response_lead
 
--- and says one thing.
+-- and has one meaning.
 pub one_value : (a b : ResponseValue) (payload : List ℕ) → IsResponse a payload → IsResponse b payload → a ≡ b
 one_value a b payload is_a is_b =
     let ta = length a.auth ∷ (a.auth ++ (plugin_name ++ 0 ∷ [])) in

@@ -16,7 +16,7 @@ IsText text = AllByRecursion (λ c. c ≢ 0) text
 
 -- ---- The greeting.
 
--- CLIENT_PROTOCOL_41, CLIENT_SECURE_CONNECTION and CLIENT_PLUGIN_AUTH, which a source has to have
+-- CLIENT_PROTOCOL_41, CLIENT_SECURE_CONNECTION and CLIENT_PLUGIN_AUTH, which a source must have
 abbrev pub needed : ℕ
 needed = 0x88200
 
@@ -28,8 +28,8 @@ pub record GreetingValue : Type 0 where
   pub charset : ℕ
   pub status : ℕ
 
--- A greeting with the needed capabilities. The filler, the reserved bytes and all behind the second part of the
--- scramble are left free.
+-- A greeting with the needed capability flags. The filler, the reserved bytes and everything after the second part of
+-- the scramble are left free.
 pub record IsGreeting (g : GreetingValue) (payload : List ℕ) : Type 0 where
   pub first : List ℕ
   pub filler : ℕ
@@ -54,17 +54,17 @@ abbrev pub greeting_bytes : GreetingValue → List ℕ
 greeting_bytes g = 10 ∷ g.version ++ 0 ∷ little_bytes 4 g.thread ++ take 8 g.scramble ++ 0 ∷ little_bytes 2 g.capabilities ++ g.charset ∷ little_bytes 2 g.status
     ++ little_bytes 2 (g.capabilities / 2 ^ 16) ++ 21 ∷ replicate 10 0 ++ drop 8 g.scramble ++ 0 ∷ plugin_name ++ 0 ∷ []
 
--- What can be written: the version has no zero byte, and the needed capabilities are there.
+-- What can be written: the version has no zero byte, and the needed capability flags are set.
 abbrev pub FitsGreeting : GreetingValue → Type 0
 FitsGreeting g = IsText g.version × (bit_and g.capabilities needed ≡ needed)
 
 -- ---- The response.
 
--- the three that are needed, CLIENT_LONG_PASSWORD, CLIENT_LONG_FLAG and CLIENT_TRANSACTIONS
+-- the three needed flags, CLIENT_LONG_PASSWORD, CLIENT_LONG_FLAG and CLIENT_TRANSACTIONS
 abbrev pub replica_capabilities : ℕ
 replica_capabilities = 0x8A205
 
--- the leading bytes of a response: capabilities, the largest packet, the character set and 23 zero bytes
+-- the leading bytes of a response: capability flags, the largest packet, the character set and 23 zero bytes
 abbrev pub response_lead : List ℕ
 response_lead = little_bytes 4 replica_capabilities ++ little_bytes 4 16777216 ++ 33 ∷ replicate 23 0
 
@@ -75,7 +75,7 @@ pub record ResponseValue : Type 0 where
 abbrev pub response : ResponseValue → List ℕ
 response r = response_lead ++ r.user ++ 0 ∷ length r.auth ∷ r.auth ++ plugin_name ++ 0 ∷ []
 
--- What can be written: the user's name has no zero byte, and the answer's length fits a byte.
+-- What can be written: the user name has no zero byte, and the length of the answer fits one byte.
 abbrev pub FitsResponse : ResponseValue → Type 0
 FitsResponse r = IsText r.user × (length r.auth < 256)
 
@@ -85,7 +85,7 @@ pub record IsResponse (r : ResponseValue) (payload : List ℕ) : Type 0 where
 
 -- ---- The source's replies.
 
--- A request to switch to native authentication with this scramble, the data's first 20 bytes.
+-- A request to switch to native authentication with this scramble: the first 20 bytes of the data.
 pub record IsSwitch (scramble payload : List ℕ) : Type 0 where
   pub ignored : List ℕ
   pub payload_is : payload ≡ 0xFE ∷ plugin_name ++ 0 ∷ scramble ++ ignored
@@ -112,12 +112,12 @@ pub record IsEofPacket (payload : List ℕ) : Type 0 where
   pub size : length counters ≡ 4
   pub short : length payload < 9
 
--- `#`, five bytes of state and the message; or the message alone, where no `#` stands or fewer than six bytes do
+-- `#`, five bytes of state and the message; or the message alone, if there is no `#` or there are fewer than six bytes
 abbrev pub IsErrorText : Option (List ℕ) → List ℕ → List ℕ → Type 0
 IsErrorText (Some state) message text = (length state ≡ 5) × (text ≡ 0x23 ∷ state ++ message)
 IsErrorText None message text = (text ≡ message) × ((length text < 6) ⊎ (take 1 text ≢ 0x23 ∷ []))
 
--- An ERR with its code, the SQL state, where it has one, and its whole message.
+-- An ERR with its code, the SQL state, if it has one, and its whole message.
 pub record IsErrPacket (code : ℕ) (state : Option (List ℕ)) (message payload : List ℕ) : Type 0 where
   pub text : List ℕ
   pub payload_is : payload ≡ 0xFF ∷ little_bytes 2 code ++ text

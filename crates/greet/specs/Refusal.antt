@@ -1,5 +1,5 @@
--- The one fault of a payload that is not the message due: the first line of the message's list that holds. None holds
--- of the message itself.
+-- The fault of a payload that is not the expected message: that of the first line of the message's list that holds. No
+-- line holds for the message itself.
 use Rattle.std.specs.Prelude.{ℕ, ◌+◌, ◌-◌, ◌*◌, ◌^◌, Bool, false, ◌&&◌, ◌||◌, not, max, List, [], ◌∷◌, length, take, drop, ◌==◌, nat_lt, nat_le, if◌then◌else◌, Option, Some, None, slice_index, bit_and}
 use Rattle.std.specs.Str.{bytes_eq}
 use Rattle.byteorder.specs.Endian.{little_number}
@@ -14,7 +14,7 @@ pub data Refusal : Type 0 where
   old_auth : Refusal
   unexpected : ℕ → Refusal
 
--- ---- Texts that a zero byte ends.
+-- ---- Texts that end with a zero byte.
 
 abbrev pub has_zero : List ℕ → Bool
 has_zero [] = false
@@ -25,7 +25,7 @@ abbrev pub before_zero : List ℕ → List ℕ
 before_zero [] = []
 before_zero (b ∷ bytes) = if b == 0 then [] else b ∷ before_zero bytes
 
--- the bytes behind the first zero byte
+-- the bytes after the first zero byte
 abbrev pub behind_zero : List ℕ → List ℕ
 behind_zero [] = []
 behind_zero (b ∷ bytes) = if b == 0 then bytes else behind_zero bytes
@@ -36,7 +36,7 @@ behind_zero (b ∷ bytes) = if b == 0 then bytes else behind_zero bytes
 abbrev pub kept_message : ℕ
 kept_message = 512
 
--- whether `#` and five bytes of state stand before a message
+-- whether `#` and five bytes of state come before a message
 abbrev pub has_state : List ℕ → Bool
 has_state text = nat_le 6 (length text) && (slice_index text 0 == 0x23)
 
@@ -46,7 +46,7 @@ state_of text = if has_state text then Some (take 5 (drop 1 text)) else None
 abbrev pub message_of : List ℕ → List ℕ
 message_of text = if has_state text then drop 6 text else text
 
--- what an ERR says, by the bytes behind its 0xFF
+-- what an ERR says, from the bytes after its 0xFF
 unfoldable pub error_of : List ℕ → Refusal
 error_of bytes =
     let text = drop 2 bytes in
@@ -55,7 +55,7 @@ error_of bytes =
 
 -- ---- The greeting.
 
--- behind the zero byte of the server's version
+-- after the zero byte of the server's version
 unfoldable pub fields_refusal : List ℕ → Option Refusal
 fields_refusal fields =
     let has = little_number 2 (drop 13 fields) + 2 ^ 16 * little_number 2 (drop 18 fields) in
@@ -74,12 +74,12 @@ greeting_refusal (first ∷ body) =
 
 -- ---- The response.
 
--- the first byte that is another than the layout's
+-- the first byte that differs from the layout's
 abbrev pub first_difference : List ℕ → List ℕ → Option Refusal
 first_difference (x ∷ xs) (y ∷ ys) = if x == y then first_difference xs ys else Some (protocol x)
 first_difference _ _ = None
 
--- behind the answer: the plugin's name with its zero byte, and nothing more; then the leading bytes
+-- after the answer: the plugin's name with its zero byte, and nothing more; then the leading bytes
 unfoldable pub end_refusal : List ℕ → List ℕ → Option Refusal
 end_refusal lead name =
     if not (has_zero name) then Some truncated
@@ -98,7 +98,7 @@ response_refusal payload =
 
 -- ---- The source's replies.
 
--- the bytes behind a length-encoded integer, where one stands at the front
+-- the bytes after a length-encoded integer, if there is one at the front
 abbrev pub behind_int : List ℕ → Option (List ℕ)
 behind_int [] = None
 behind_int (first ∷ bytes) =
@@ -117,7 +117,7 @@ abbrev pub has_insert_id : Option (List ℕ) → Bool
 has_insert_id None = false
 has_insert_id (Some bytes) = has_counters (behind_int bytes)
 
--- where an OK is due
+-- if an OK is expected
 unfoldable pub ok_refusal : List ℕ → Option Refusal
 ok_refusal [] = Some truncated
 ok_refusal (first ∷ body) =
@@ -126,7 +126,7 @@ ok_refusal (first ∷ body) =
     else if not (has_insert_id (behind_int body)) then Some truncated
     else None
 
--- behind the 0xFE of a switch
+-- after the 0xFE of a switch
 unfoldable pub switch_refusal : List ℕ → Option Refusal
 switch_refusal body =
     if length body == 0 then Some old_auth
@@ -135,12 +135,12 @@ switch_refusal body =
     else if nat_lt (length (behind_zero body)) 20 then Some truncated
     else None
 
--- where the reply to an authentication is due: an OK or a switch
+-- if the reply to an authentication is expected: an OK or a switch
 unfoldable pub reply_refusal : List ℕ → Option Refusal
 reply_refusal [] = Some truncated
 reply_refusal (first ∷ body) = if first == 0xFE then switch_refusal body else ok_refusal (first ∷ body)
 
--- where an EOF is due
+-- if an EOF is expected
 unfoldable pub eof_refusal : List ℕ → Option Refusal
 eof_refusal [] = Some truncated
 eof_refusal (first ∷ body) =
@@ -152,7 +152,7 @@ eof_refusal (first ∷ body) =
 
 -- ---- The dump command.
 
--- behind the first byte: two bytes of flags, four of server id, four of the name's length, the name, eight bytes of
+-- after the first byte: two bytes of flags, four of server id, four of the name's length, the name, eight bytes of
 -- position, four of the set's length, and the set
 abbrev pub dump_name_size : List ℕ → ℕ
 dump_name_size body = little_number 4 (drop 6 body)
@@ -160,7 +160,7 @@ dump_name_size body = little_number 4 (drop 6 body)
 abbrev pub dump_set_size : List ℕ → ℕ
 dump_set_size body = little_number 4 (drop (18 + dump_name_size body) body)
 
--- where a dump command is due: its parts have the lengths that it says, and nothing is left over
+-- if a dump command is expected: its parts have the lengths that it states, and nothing is left over
 unfoldable pub dump_refusal : List ℕ → Option Refusal
 dump_refusal [] = Some truncated
 dump_refusal (first ∷ body) =

@@ -1,4 +1,4 @@
--- What the crate's values say, whatever memory holds them.
+-- What the crate's values mean, apart from the memory that holds them.
 use Rattle.std.specs.Prelude.{◌≡◌, Option, Some}
 use Rattle.greet.specs.Message.{GreetingValue, ResponseValue, DumpValue}
 use Rattle.greet.specs.Refusal.{Refusal, server_error, protocol, truncated, capabilities, plugin, old_auth, unexpected}
@@ -17,7 +17,7 @@ response_value r = record { user = r.user.items; auth = r.auth.items }
 abbrev pub dump_value : Dump → DumpValue
 dump_value d = record { flags = d.flags; server_id = d.server_id; set = d.set.now }
 
--- The fault is the refusal, or want of memory.
+-- The fault is the refusal, or memory ran out.
 abbrev pub Refuses : Option Refusal → GreetFault → Type 0
 Refuses refusal (faults.ServerError code state message) = refusal ≡ Some (server_error code state message.items)
 Refuses refusal (faults.Protocol byte) = refusal ≡ Some (protocol byte)

@@ -15,10 +15,10 @@ const COM_QUERY: u8 = 0x03;
 
 const COM_BINLOG_DUMP_GTID: u8 = 0x1e;
 
-/// Where a binary log's events begin.
+/// The position of the first event in a binary log file.
 const FIRST_POSITION: u64 = 4;
 
-/// Appends the query of a text. The only refusal is `Memory`, which leaves the vector as it was.
+/// Appends a COM_QUERY with this text. The only error is `Memory`, which leaves the vector as it was.
 pub fn query(text: &[u8], out: &mut Vec<u8>) -> Result<(), GreetFault>
     ensures ok { OnOk result (out.new.items ≡ out.old.items ++ query_bytes text.now) }
     ensures err { OnErr result ((result ≡ Err GreetFault.Memory) × (out.new.items ≡ out.old.items)) }
@@ -26,14 +26,15 @@ pub fn query(text: &[u8], out: &mut Vec<u8>) -> Result<(), GreetFault>
     append(&[&[COM_QUERY], text], out)
 }
 
-/// A request for the transactions outside a set.
+/// COM_BINLOG_DUMP_GTID: asks the source for the transactions that are not in a set.
 #[derive(Clone, Copy, Debug)]
 pub struct Dump<'a> {
-    /// `BINLOG_THROUGH_GTID` (0x0004), and 0x0001 (`BINLOG_DUMP_NON_BLOCK`) where an EOF is to end the log.
+    /// `BINLOG_THROUGH_GTID` (0x0004), and `BINLOG_DUMP_NON_BLOCK` (0x0001) if the source is to send an EOF at the end
+    /// of its log instead of waiting there.
     pub flags: u16,
     /// The replica's server id.
     pub server_id: u32,
-    /// The set of GTIDs that the replica has, encoded.
+    /// The set of GTIDs that the replica has, encoded as this command carries it.
     pub set: &'a [u8],
 }
 
@@ -45,8 +46,8 @@ impl<'a> Dump<'a> {
         self.set.len() <= u32::MAX as usize
     }
 
-    /// Appends the command, with an empty name and position 4. The only refusal is `Memory`, which leaves the vector as
-    /// it was.
+    /// Appends the command, with an empty file name and position 4. The only error is `Memory`, which leaves the vector
+    /// as it was.
     pub fn write(&self, out: &mut Vec<u8>) -> Result<(), GreetFault>
         requires { FitsDump (dump_value self.now) }
         ensures ok { OnOk result (out.new.items ≡ out.old.items ++ dump_bytes (dump_value self.now) [] (little_bytes 8 4)) }
@@ -67,10 +68,10 @@ impl<'a> Dump<'a> {
         )
     }
 
-    /// The command that the payload is, whatever its name and position. Takes no memory.
+    /// Reads a dump command with any file name and position. Takes no memory.
     ///
-    /// Refused are another first byte as `Unexpected`, and an empty payload, a field that does not fit or bytes left over
-    /// as `Truncated`.
+    /// `Truncated` if the payload is empty, a field does not fit or bytes are left over; `Unexpected` if the first byte
+    /// is not that of the command.
     pub fn read(payload: &'a [u8]) -> Result<Dump<'a>, GreetFault>
         ensures found { IfOk result (λ dump. IsDump (dump_value dump) payload.now) }
         ensures only { (d : DumpValue) → IsDump d payload.now → MatchResult result (λ dump. dump_value dump ≡ d) (λ _. ⊥) }
@@ -84,7 +85,7 @@ impl<'a> Dump<'a> {
         }
     }
 
-    /// Reads the fields behind the first byte, where they have the lengths that they say.
+    /// Reads the fields after the first byte, if they have exactly the lengths that they state.
     fn read_fields(body: &'a [u8]) -> Result<Dump<'a>, GreetFault>
         ensures flags { IfOk result (λ dump. dump.flags ≡ little_number 2 body.now) }
         ensures server_id { IfOk result (λ dump. dump.server_id ≡ little_number 4 (drop 2 body.now)) }

@@ -1,4 +1,4 @@
-//! Errors that a source answers.
+//! ERR packets that a source sends.
 
 ghost use Rattle.std.specs.Prelude.{◌≡◌, Some};
 ghost use Rattle.greet.specs.Refusal.{error_of, state_of, message_of};
@@ -14,8 +14,8 @@ pub(crate) const ERR: u8 = 0xff;
 /// How many bytes of an ERR's message are kept.
 const KEPT: usize = 512;
 
+/// The fault of an ERR, from the bytes after its first.
 #[tactic(auto, unfolding(crate::specs::Refusal::error_of))]
-/// What an ERR says, by the bytes behind its first.
 pub(crate) fn server_error(alloc: Global, bytes: &[u8]) -> GreetFault
     ensures { Refuses (Some (error_of bytes.now)) result }
 {
@@ -36,7 +36,7 @@ pub(crate) fn server_error(alloc: Global, bytes: &[u8]) -> GreetFault
     }
 }
 
-/// The SQL state and the message.
+/// The SQL state, if the text has one, and the message.
 fn split_state(text: &[u8]) -> (Option<[u8; 5]>, &[u8])
     ensures state { result.0 ≡ state_of text.now }
     ensures message { result.1.now ≡ message_of text.now }

@@ -9,32 +9,32 @@ use thiserror::Error;
 /// Why a message could not be read or written.
 #[derive(Debug, Drop, Error)]
 pub enum GreetFault {
-    /// The source sent an ERR in place of the message.
+    /// The source sent an ERR instead of the message.
     #[error("the source answered error {code}")]
     ServerError {
         code: u16,
-        /// The SQL state, where the ERR has one.
+        /// The SQL state, if the ERR has one.
         state: Option<[u8; 5]>,
         /// The first 512 bytes of the message.
         message: Vec<u8>,
     },
-    /// A byte is another than the layout's: the protocol's version, or one of a response's leading bytes.
+    /// A byte differs from the layout's: the protocol version, or one of the leading 32 bytes of a response.
     #[error("unexpected protocol byte {0}")]
     Protocol(u8),
-    /// A field does not fit the payload, or bytes are left over where none may be.
-    #[error("the message has another length than its fields")]
+    /// A field does not fit the payload, or bytes are left over where none may follow.
+    #[error("a field of the message does not fit, or bytes are left over")]
     Truncated,
-    /// The source lacks these of the capabilities that are needed.
-    #[error("the source lacks the capabilities {0:#x}")]
+    /// The source lacks these of the needed capability flags.
+    #[error("the source lacks the capability flags {0:#x}")]
     Capabilities(u32),
     /// An authentication plugin other than `mysql_native_password`.
-    #[error("another authentication plugin than mysql_native_password")]
+    #[error("the authentication plugin is not mysql_native_password")]
     Plugin,
     /// The source asks for the authentication from before version 4.1.
-    #[error("the source asks for the old authentication")]
+    #[error("the source asks for the authentication from before MySQL 4.1")]
     OldAuth,
-    /// The payload begins with a byte that begins none of the messages due.
-    #[error("a payload that begins with {0} is not due")]
+    /// The payload begins with a byte that begins none of the expected messages.
+    #[error("a payload that begins with the byte {0} was not expected")]
     Unexpected(u8),
     /// An allocation was refused.
     #[error("out of memory")]

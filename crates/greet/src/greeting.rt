@@ -13,25 +13,25 @@ use crate::parts::{append, is_text, split_text};
 use byteorder::{ByteOrder, LittleEndian};
 use std::alloc::Global;
 
-/// The protocol's version.
+/// The version of the protocol.
 const VERSION: u8 = 10;
 
 /// CLIENT_PROTOCOL_41, CLIENT_SECURE_CONNECTION and CLIENT_PLUGIN_AUTH.
 const NEEDED: u32 = 0x0008_8200;
 
-/// From the thread id up to the reserved bytes.
+/// The length in bytes of the fields from the thread id to the end of the reserved bytes.
 const FIXED: usize = 31;
 
-/// The least length of the second part of the scramble.
+/// The least length in bytes of the second part of the scramble.
 const SECOND: usize = 13;
 
-/// The length of a greeting's authentication data: the scramble and a zero byte.
+/// The length of a written greeting's authentication data: the scramble and a zero byte.
 const AUTH_SIZE: u8 = 21;
 
-/// What a greeting ends in: the scramble's zero byte, and the plugin's name with its own.
+/// The end of a written greeting: the scramble's zero byte, and the plugin's name with its own.
 const END: &[u8] = b"\0mysql_native_password\0";
 
-/// What a source says of itself.
+/// The source's first message: what it says about itself, and the scramble.
 #[derive(Debug, Drop)]
 pub struct Greeting {
     /// The server's version, without a zero byte.
@@ -39,27 +39,28 @@ pub struct Greeting {
     /// The connection's thread id.
     pub thread: u32,
     pub scramble: [u8; 20],
-    /// The source's capabilities, both halves.
+    /// The source's capability flags, both halves.
     pub capabilities: u32,
     /// The server's character set.
     pub charset: u8,
-    /// The server's status.
+    /// The server's status flags.
     pub status: u16,
 }
 
 impl Greeting {
-    /// Whether the greeting can be written: its version has no zero byte, and the needed capabilities are there.
+    /// Whether the greeting can be written: its version has no zero byte, and it has the needed capability flags.
     pub fn fits(&self) -> bool
         ensures { IsTrue result ↔ FitsGreeting (greeting_value self.now) }
     {
         is_text(&self.version) && self.capabilities & NEEDED == NEEDED
     }
 
-    /// Reads the greeting that the payload is.
+    /// Reads a greeting.
     ///
-    /// Refused are, in this order: an empty payload as `Truncated`; an ERR as `ServerError`; another protocol as
-    /// `Protocol`; fields up to the reserved bytes that are not all there as `Truncated`; a source that lacks needed
-    /// capabilities as `Capabilities`; a short second part of the scramble as `Truncated`.
+    /// The first of these is reported: an empty payload as `Truncated`; an ERR as `ServerError`, or as `Truncated` if
+    /// it is shorter than three bytes; another protocol version as `Protocol`; a field up to the reserved bytes that is
+    /// not there as `Truncated`; needed capability flags that are missing as `Capabilities`; a second part of the
+    /// scramble that is too short as `Truncated`. `Memory` if an allocation was refused.
     pub fn read(alloc: Global, payload: &[u8]) -> Result<Greeting, GreetFault>
         ensures found { IfOk result (λ greeting. IsGreeting (greeting_value greeting) payload.now) }
         ensures only { (g : GreetingValue) → IsGreeting g payload.now → MatchResult result (λ greeting. greeting_value greeting ≡ g) (λ fault. fault ≡ GreetFault.Memory) }
@@ -73,7 +74,7 @@ impl Greeting {
         }
     }
 
-    /// Appends the greeting as a payload. The only refusal is `Memory`, which leaves the vector as it was.
+    /// Appends the greeting's payload. The only error is `Memory`, which leaves the vector as it was.
     pub fn write(&self, out: &mut Vec<u8>) -> Result<(), GreetFault>
         requires { FitsGreeting (greeting_value self.now) }
         ensures ok { OnOk result (out.new.items ≡ out.old.items ++ greeting_bytes (greeting_value self.now)) }
@@ -95,7 +96,7 @@ impl Greeting {
         )
     }
 
-    /// What stands between the two parts of the scramble.
+    /// The bytes between the two parts of the scramble.
     fn middle(&self) -> [u8; 19]
         ensures { result ≡ 0 ∷ little_bytes 2 self.now.capabilities ++ self.now.charset ∷ little_bytes 2 self.now.status ++ little_bytes 2 (self.now.capabilities / 2 ^ 16) ++ 21 ∷ replicate 10 0 }
     {
@@ -108,7 +109,7 @@ impl Greeting {
     }
 }
 
-/// Reads what stands behind the first byte.
+/// Reads the bytes after the first.
 fn read_body(alloc: Global, body: &[u8]) -> Result<Greeting, GreetFault>
     ensures found { IfOk result (λ greeting. IsGreeting (greeting_value greeting) (10 ∷ body.now)) }
     ensures fault { IfErr result (Refuses (fields_refusal (behind_zero body.now))) }
@@ -131,7 +132,7 @@ fn read_body(alloc: Global, body: &[u8]) -> Result<Greeting, GreetFault>
     })
 }
 
-/// The fields of a fixed length.
+/// The fields of fixed length.
 #[derive(Drop)]
 struct Fixed<'a> {
     thread: u32,
@@ -140,13 +141,13 @@ struct Fixed<'a> {
     capabilities: u32,
     charset: u8,
     status: u16,
-    /// The length of the authentication data, both parts of the scramble.
+    /// The length of the authentication data: both parts of the scramble.
     size: u8,
 }
 
 impl<'a> Fixed<'a> {
+    /// Reads the fields from the thread id to the end of the reserved bytes. The needed capability flags must be set.
     #[tactic(auto, unfolding(crate::specs::Refusal::fields_refusal))]
-    /// Reads the fields from the thread id up to the reserved bytes: the capabilities have to have those needed.
     fn read(fields: &'a [u8]) -> Result<Fixed<'a>, GreetFault>
         ensures long { IfOk result (λ _. 31 ≤ length fields.now) }
         ensures thread { IfOk result (λ fixed. fixed.thread ≡ little_number 4 fields.now) }
@@ -179,7 +180,7 @@ impl<'a> Fixed<'a> {
     }
 }
 
-/// A scramble of its two parts, the second without its end.
+/// The scramble from its two parts, of which only the first 12 bytes of the second count.
 fn join(first: &[u8], second: &[u8]) -> [u8; 20]
     requires first { length first.now ≡ 8 }
     requires second { 12 ≤ length second.now }

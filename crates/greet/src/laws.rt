@@ -1,8 +1,8 @@
-//! What callers rely on, as laws about the definitions.
+//! Laws about the definitions, for callers.
 //!
-//! A law is a function with an empty body: its clauses are proved of the definitions themselves. With the
-//! readers' clauses they say that what is written is read again: no bytes say two things, and none are a message
-//! and refused.
+//! A law is a function with an empty body: its clauses are proved of the definitions themselves. With the readers'
+//! clauses they say that what is written is read back: no bytes have two meanings, and none are both a message and
+//! refused.
 
 ghost use Rattle.std.specs.Prelude.{◌≡◌, ◌⊎◌, ℕ, ◌<◌, ◌^◌, [], List, length, take, Option, Some, None};
 ghost use Rattle.std.specs.List.{AllByRecursion};
@@ -11,7 +11,7 @@ ghost use Rattle.greet.specs.Message.{GreetingValue, IsGreeting, FitsGreeting, g
 ghost use Rattle.greet.specs.Complete.{HasGreeting, HasResponse, HasSwitch, HasDump};
 ghost use Rattle.greet.specs.Refusal.{server_error, kept_message, greeting_refusal, response_refusal, reply_refusal, ok_refusal, eof_refusal, dump_refusal};
 
-/// A greeting says one thing, is not refused, and is what is written of its value.
+/// A greeting has one meaning, is not refused, and is what is written of its value.
 pub fn greetings()
     ensures one { (a b : GreetingValue) (payload : List ℕ) → IsGreeting a payload → IsGreeting b payload → a ≡ b }
     ensures not_refused { (g : GreetingValue) (payload : List ℕ) → IsGreeting g payload → greeting_refusal payload ≡ None }
@@ -19,7 +19,7 @@ pub fn greetings()
     ensures written { (g : GreetingValue) → FitsGreeting g → length g.scramble ≡ 20 → g.thread < 2 ^ 32 → g.capabilities < 2 ^ 32 → g.status < 2 ^ 16 → IsGreeting g (greeting_bytes g) }
 {}
 
-/// A response says one thing, is not refused, and is what is written of its value.
+/// A response has one meaning, is not refused, and is what is written of its value.
 pub fn responses()
     ensures one { (a b : ResponseValue) (payload : List ℕ) → IsResponse a payload → IsResponse b payload → a ≡ b }
     ensures not_refused { (r : ResponseValue) (payload : List ℕ) → IsResponse r payload → response_refusal payload ≡ None }
@@ -27,7 +27,7 @@ pub fn responses()
     ensures written { (r : ResponseValue) → FitsResponse r → IsResponse r (response r) }
 {}
 
-/// A switch has one scramble, and no switch, OK or EOF is refused where it is due. No switch is an OK.
+/// A switch has one scramble, and no switch, OK or EOF is refused where it is expected. No switch is an OK.
 pub fn replies()
     ensures one { (a b payload : List ℕ) → IsSwitch a payload → IsSwitch b payload → a ≡ b }
     ensures a_switch { (scramble payload : List ℕ) → IsSwitch scramble payload → reply_refusal payload ≡ None }
@@ -40,8 +40,8 @@ pub fn replies()
     ensures apart { (scramble payload : List ℕ) → IsSwitch scramble payload → IsOkPacket payload → ⊥ }
 {}
 
-/// An ERR says one thing, and in place of any message of the source that is what is told, with the first 512 bytes of
-/// its message.
+/// An ERR has one meaning, and instead of any message of the source it is reported with its code, its state and the
+/// first 512 bytes of its message.
 pub fn errors()
     ensures one { (m n : ℕ) (s t : Option (List ℕ)) (a b payload : List ℕ) → IsErrPacket m s a payload → IsErrPacket n t b payload → (m ≡ n) × (s ≡ t) × (a ≡ b) }
     ensures greeting { (code : ℕ) (state : Option (List ℕ)) (message payload : List ℕ) → IsErrPacket code state message payload → greeting_refusal payload ≡ Some (server_error code state (take kept_message message)) }
@@ -50,7 +50,7 @@ pub fn errors()
     ensures eof { (code : ℕ) (state : Option (List ℕ)) (message payload : List ℕ) → IsErrPacket code state message payload → eof_refusal payload ≡ Some (server_error code state (take kept_message message)) }
 {}
 
-/// A dump command says one thing, is not refused, and is what is written of its value.
+/// A dump command has one meaning, is not refused, and is what is written of its value.
 pub fn dumps()
     ensures one { (a b : DumpValue) (payload : List ℕ) → IsDump a payload → IsDump b payload → a ≡ b }
     ensures not_refused { (d : DumpValue) (payload : List ℕ) → IsDump d payload → dump_refusal payload ≡ None }

@@ -1,4 +1,4 @@
-//! What the messages are made of.
+//! Parts of messages.
 
 ghost use Rattle.std.specs.Prelude.{◌≡◌, ◌++◌, ◌∷◌, true, false, take, drop, length, flat_map, IfSome, IfNone, IsTrue, ◌↔◌, OnOk, OnErr, Err};
 ghost use Rattle.greet.specs.Message.{IsText};
@@ -9,7 +9,7 @@ use crate::fault::GreetFault;
 /// The plugin that authenticates the replica.
 pub(crate) const PLUGIN_NAME: &[u8] = b"mysql_native_password";
 
-/// The text that the first zero byte ends, and the bytes behind it.
+/// The text before the first zero byte, and the bytes after that byte.
 pub(crate) fn split_text(bytes: &[u8]) -> Option<(&[u8], &[u8])>
     ensures text { IfSome result (λ split. IsText split.0.now) }
     ensures bytes { IfSome result (λ split. bytes.now ≡ split.0.now ++ 0 ∷ split.1.now) }
@@ -26,7 +26,7 @@ pub(crate) fn is_text(bytes: &[u8]) -> bool
     !bytes.contains(&0)
 }
 
-/// Appends the parts, one after the other. The only refusal is `Memory`, which leaves the vector as it was.
+/// Appends the parts, one after the other. The only error is `Memory`, which leaves the vector as it was.
 pub(crate) fn append(parts: &[&[u8]], out: &mut Vec<u8>) -> Result<(), GreetFault>
     ensures ok { OnOk result (out.new.items ≡ out.old.items ++ flat_map (λ part. part.now) parts.now) }
     ensures err { OnErr result ((result ≡ Err GreetFault.Memory) × (out.new.items ≡ out.old.items)) }

@@ -1,6 +1,5 @@
-//! The source's replies: OK, a request to switch the authentication, and EOF. MySQL Source Documentation,
-//! "Client/Server Protocol": the pages `OK_Packet`, `EOF_Packet`, `ERR_Packet` and
-//! `Protocol::AuthSwitchRequest`.
+//! The source's replies: OK, a request to switch the authentication method, and EOF. MySQL Source Documentation,
+//! "Client/Server Protocol": the pages `OK_Packet`, `EOF_Packet`, `ERR_Packet` and `Protocol::AuthSwitchRequest`.
 
 ghost use Rattle.std.specs.Prelude.{◌≡◌, ◌≢◌, ℕ, ◌++◌, ◌∷◌, List, true, false, IfOk, IfErr, IfSome, IfNone, MatchResult, ⊤, OnOk, OnErr, Ok, Err, Some, None};
 ghost use Rattle.greet.specs.Message.{IsOkPacket, IsSwitch, IsEofPacket};
@@ -16,27 +15,28 @@ use wire::read_int;
 /// The first byte of an OK.
 const OK: u8 = 0x00;
 
-/// The first byte of an EOF and of a request to switch the authentication.
+/// The first byte of an EOF and of a request to switch the authentication method.
 const EOF: u8 = 0xfe;
 
-/// An EOF is shorter than this.
+/// An EOF has fewer bytes than this.
 const EOF_END: usize = 9;
 
-/// The reply to a response.
+/// The reply to a [`Response`](crate::Response).
 #[derive(Clone, Copy, Debug, PartialEq, Eq)]
 pub enum AuthReply {
-    /// The replica is let in.
+    /// The replica is logged in.
     Ok,
     /// The source wants native authentication with another scramble.
     Switch { scramble: [u8; 20] },
 }
 
 impl AuthReply {
-    /// Reads the reply that the payload is.
+    /// Reads the reply.
     ///
-    /// Refused are an ERR as `ServerError`, an empty payload or an OK that ends early as `Truncated`, and another first
-    /// byte as `Unexpected`. Of a switch, in this order: one byte alone is `OldAuth`, a name without its zero byte
-    /// `Truncated`, another plugin `Plugin`, and a scramble of less than 20 bytes `Truncated`.
+    /// An empty payload, or an OK whose fields do not fit, is reported as `Truncated`, an ERR as `ServerError` (as
+    /// `Truncated` if it is shorter than three bytes), and another first byte as `Unexpected`. For a switch the first
+    /// of these is reported: one byte alone as `OldAuth`, a plugin name without its zero byte as `Truncated`, another
+    /// plugin as `Plugin`, and a scramble of fewer than 20 bytes as `Truncated`. `Memory` if an allocation was refused.
     pub fn read(alloc: Global, payload: &[u8]) -> Result<AuthReply, GreetFault>
         ensures ok { result ≡ Ok AuthReply.Ok → IsOkPacket payload.now }
         ensures switch { (scramble : List ℕ) → result ≡ Ok (AuthReply.Switch scramble) → IsSwitch scramble payload.now }
@@ -56,7 +56,7 @@ impl AuthReply {
     }
 }
 
-/// The scramble of a switch, by the bytes behind its first. Takes no memory.
+/// The scramble of a switch, from the bytes after its first. Takes no memory.
 fn read_switch(body: &[u8]) -> Result<[u8; 20], GreetFault>
     ensures found { IfOk result (λ scramble. IsSwitch scramble (0xFE ∷ body.now)) }
     ensures fault { IfErr result (Refuses (switch_refusal body.now)) }
@@ -79,10 +79,11 @@ fn read_switch(body: &[u8]) -> Result<[u8; 20], GreetFault>
     Ok(scramble)
 }
 
-/// Reads the OK that the payload is.
+/// Reads an OK.
 ///
-/// Refused are an ERR as `ServerError`, an empty payload or an OK that ends early as `Truncated`, and another first byte as
-/// `Unexpected`.
+/// An empty payload, or an OK whose fields do not fit, is reported as `Truncated`, an ERR as `ServerError` (as
+/// `Truncated` if it is shorter than three bytes), and another first byte as `Unexpected`. `Memory` if an allocation
+/// was refused.
 pub fn read_ok(alloc: Global, payload: &[u8]) -> Result<(), GreetFault>
     ensures ok { OnOk result (IsOkPacket payload.now) }
     ensures only { IsOkPacket payload.now → MatchResult result (λ _. ⊤) (λ fault. fault ≡ GreetFault.Memory) }
@@ -96,7 +97,7 @@ pub fn read_ok(alloc: Global, payload: &[u8]) -> Result<(), GreetFault>
     }
 }
 
-/// Reads what stands behind the first byte of an OK.
+/// Checks the bytes after the first of an OK: two length-encoded integers and four bytes.
 fn read_counters(body: &[u8]) -> Result<(), GreetFault>
     ensures ok { OnOk result (has_insert_id (behind_int body.now) ≡ true) }
     ensures err { OnErr result ((result ≡ Err GreetFault.Truncated) × (has_insert_id (behind_int body.now) ≡ false)) }
@@ -113,7 +114,7 @@ fn read_counters(body: &[u8]) -> Result<(), GreetFault>
     Ok(())
 }
 
-/// The bytes behind the length-encoded integer at the front.
+/// The bytes after the length-encoded integer at the front.
 fn behind_int(bytes: &[u8]) -> Option<&[u8]>
     ensures some { IfSome result (λ rest. behind_int bytes.now ≡ Some rest.now) }
     ensures none { IfNone result (behind_int bytes.now ≡ None) }
@@ -122,10 +123,11 @@ fn behind_int(bytes: &[u8]) -> Option<&[u8]>
     Some(&bytes[size..])
 }
 
-/// Reads the EOF that the payload is.
+/// Reads an EOF.
 ///
-/// Refused are an ERR as `ServerError`, an empty payload or an EOF that ends early as `Truncated`, and another first byte,
-/// or a payload of nine bytes or more, as `Unexpected`.
+/// An empty payload, or an EOF that is cut short, is reported as `Truncated`, an ERR as `ServerError` (as `Truncated`
+/// if it is shorter than three bytes), and another first byte, or a payload of nine bytes or more, as `Unexpected`.
+/// `Memory` if an allocation was refused.
 pub fn read_eof(alloc: Global, payload: &[u8]) -> Result<(), GreetFault>
     ensures ok { OnOk result (IsEofPacket payload.now) }
     ensures only { IsEofPacket payload.now → MatchResult result (λ _. ⊤) (λ fault. fault ≡ GreetFault.Memory) }

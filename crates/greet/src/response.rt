@@ -10,30 +10,30 @@ use crate::fault::GreetFault;
 use crate::parts::{PLUGIN_NAME, append, is_text, split_text};
 use std::alloc::Global;
 
-/// What a response begins with: the replica's capabilities, the largest packet that it takes (16 MiB), its character
-/// set (33, utf8mb3) and 23 zero bytes.
+/// The first 32 bytes of a response: the replica's capability flags, the largest packet that it takes (16 MiB), its
+/// character set (33, utf8mb3) and 23 zero bytes.
 const LEAD: [u8; 32] = [
     0x05, 0xa2, 0x08, 0x00, 0x00, 0x00, 0x00, 0x01, 0x21, 0, 0, 0, 0, 0, 0, 0, 0, 0, 0, 0, 0, 0, 0,
     0, 0, 0, 0, 0, 0, 0, 0, 0,
 ];
 
-/// A user's name and the answer to the scramble.
+/// The replica's answer to a greeting: a user name and the response to the scramble.
 #[derive(Debug, Drop)]
 pub struct Response {
     pub user: Vec<u8>,
-    /// No bytes for the empty password, else 20.
+    /// Empty for the empty password, otherwise the 20 bytes of [`native`](crate::native).
     pub auth: Vec<u8>,
 }
 
 impl Response {
-    /// Whether the response can be written: its user has no zero byte, and its answer fewer than 256 bytes.
+    /// Whether the response can be written: `user` has no zero byte, and `auth` fewer than 256 bytes.
     pub fn fits(&self) -> bool
         ensures { IsTrue result ↔ FitsResponse (response_value self.now) }
     {
         is_text(&self.user) && self.auth.len() < 256
     }
 
-    /// Appends the payload. The only refusal is `Memory`, which leaves the vector as it was.
+    /// Appends the payload. The only error is `Memory`, which leaves the vector as it was.
     pub fn write(&self, out: &mut Vec<u8>) -> Result<(), GreetFault>
         requires { FitsResponse (response_value self.now) }
         ensures ok { OnOk result (out.new.items ≡ out.old.items ++ response (response_value self.now)) }
@@ -46,10 +46,11 @@ impl Response {
         )
     }
 
-    /// Reads the response that the payload is, with a user and an answer of any length that fits.
+    /// Reads a response, with a `user` and an `auth` of any length that fits.
     ///
-    /// Refused are, in this order: a field that does not fit, or bytes left over, as `Truncated`; another plugin as
-    /// `Plugin`; the first of the leading 32 bytes that is another than what the replica sends, as `Protocol`.
+    /// The first of these is reported: a field that does not fit, or bytes left over, as `Truncated`; another plugin as
+    /// `Plugin`; the first of the leading 32 bytes that differs from what the replica sends as `Protocol`. `Memory` if
+    /// an allocation was refused.
     pub fn read(alloc: Global, payload: &[u8]) -> Result<Response, GreetFault>
         ensures found { IfOk result (λ read. IsResponse (response_value read) payload.now) }
         ensures only { (r : ResponseValue) → IsResponse r payload.now → MatchResult result (λ read. response_value read ≡ r) (λ fault. fault ≡ GreetFault.Memory) }
@@ -62,7 +63,7 @@ impl Response {
     }
 }
 
-/// The user's name and the answer. Takes no memory.
+/// The `user` and the `auth`. Takes no memory.
 fn read_parts(payload: &[u8]) -> Result<(&[u8], &[u8]), GreetFault>
     ensures found { IfOk result (λ parts. IsResponse (record { user = parts.0.now; auth = parts.1.now }) payload.now) }
     ensures fault { IfErr result (Refuses (response_refusal payload.now)) }
@@ -86,7 +87,7 @@ fn read_parts(payload: &[u8]) -> Result<(&[u8], &[u8]), GreetFault>
     Ok((user, auth))
 }
 
-/// Reads what stands behind the answer, and then the leading bytes.
+/// Reads the bytes after the `auth`, and then the leading bytes.
 #[tactic(auto, unfolding(crate::specs::Refusal::end_refusal))]
 fn read_end(lead: &[u8], rest: &[u8]) -> Result<(), GreetFault>
     requires { length lead.now ≡ 32 }
@@ -109,7 +110,7 @@ fn read_end(lead: &[u8], rest: &[u8]) -> Result<(), GreetFault>
     }
 }
 
-/// The first byte that is another than `LEAD`'s.
+/// The first byte that differs from that of `LEAD`.
 fn difference(lead: &[u8]) -> Option<u8>
     requires { length lead.now ≡ 32 }
     ensures some { IfSome result (λ byte. first_difference lead.now response_lead ≡ Some (protocol byte)) }

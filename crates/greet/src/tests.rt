@@ -1,4 +1,4 @@
-//! What no clause can say: that calls succeed with memory to spare, and worked values of the public layouts.
+//! What no clause says: calls succeed when there is enough memory. And worked values of the public layouts.
 
 use super::*;
 use std::alloc::Global;
@@ -22,7 +22,7 @@ const GREETING: &[u8] =
 
 const OK: &[u8] = &[0x00, 0x00, 0x00, 0x02, 0x00, 0x00, 0x00];
 
-/// A request to switch to the scramble 0x15 to 0x28, with a zero byte behind it.
+/// A request to switch to the scramble 0x15 to 0x28, with a zero byte after it.
 const SWITCH: &[u8] =
     b"\xfemysql_native_password\0\x15\x16\x17\x18\x19\x1a\x1b\x1c\x1d\x1e\x1f\x20\x21\x22\x23\x24\x25\x26\x27\x28\0";
 
@@ -32,7 +32,7 @@ const TOO_MANY: &[u8] = b"\xff\x10\x04Too many connections";
 const RESPONSE: &[u8] =
     b"\x05\xa2\x08\0\0\0\0\x01\x21\0\0\0\0\0\0\0\0\0\0\0\0\0\0\0\0\0\0\0\0\0\0\0repl\0\0mysql_native_password\0";
 
-/// A's numbers 1 to 3 and 5, encoded.
+/// The numbers 1 to 3 and 5 of one source, encoded.
 const SET: &[u8] =
     b"\x01\0\0\0\0\0\0\0\x3e\x11\xfa\x47\x71\xca\x11\xe1\x9e\x33\xc8\x0a\xa9\x42\x95\x62\x02\0\0\0\0\0\0\0\
     \x01\0\0\0\0\0\0\0\x04\0\0\0\0\0\0\0\x05\0\0\0\0\0\0\0\x06\0\0\0\0\0\0\0";
@@ -41,7 +41,7 @@ fn copy(alloc: Global, bytes: &[u8]) -> Result<Vec<u8>, Fail> {
     Ok(Vec::from_slice(alloc, bytes)?)
 }
 
-/// The bytes, with one of them changed.
+/// The bytes with one of them changed.
 fn changed(alloc: Global, bytes: &[u8], at: usize, byte: u8) -> Result<Vec<u8>, Fail> {
     let mut bytes = copy(alloc, bytes)?;
     let place = bytes.get_mut(at).ok_or("no such place")?;
@@ -49,12 +49,12 @@ fn changed(alloc: Global, bytes: &[u8], at: usize, byte: u8) -> Result<Vec<u8>, 
     Ok(bytes)
 }
 
-/// The first of the bytes.
+/// The first `len` bytes.
 fn front(bytes: &[u8], len: usize) -> Result<&[u8], Fail> {
     Ok(bytes.get(..len).ok_or("fewer bytes")?)
 }
 
-/// A fault by its name and its numbers.
+/// A fault as its name and its numbers.
 fn told(alloc: Global, fault: &GreetFault) -> Result<String, Fail> {
     Ok(match fault {
         GreetFault::ServerError {
@@ -102,7 +102,7 @@ fn greeting(rt: HostRuntime) -> Result<(), Fail> {
     let mut out = Vec::new(alloc);
     greeting.write(&mut out)?;
     assert_eq!(rt; out.as_slice(), GREETING);
-    // The zero byte of the plugin's name may be missing, and its name too; bytes behind it are ignored.
+    // The zero byte of the plugin's name may be missing; bytes after it are ignored.
     let short = Greeting::read(alloc, &GREETING[..GREETING.len() - 1])?;
     assert_eq!(rt; short.scramble, SCRAMBLE);
     let mut long = copy(alloc, GREETING)?;
@@ -122,7 +122,7 @@ fn refused_greetings(rt: HostRuntime) -> Result<(), Fail> {
         (&[0xff, 0x10], "Truncated"),
         (&[9, 0], "Protocol 9"),
         (&[10], "Truncated"),
-        // The version without its zero byte, the fields up to the reserved bytes, the second part of the scramble.
+        // In the version, in the fields up to the reserved bytes, in the second part of the scramble.
         (&GREETING[..7], "Truncated"),
         (&GREETING[..38], "Truncated"),
         (&GREETING[..51], "Truncated"),
@@ -134,12 +134,12 @@ fn refused_greetings(rt: HostRuntime) -> Result<(), Fail> {
             due
         );
     }
-    // Without the needed capabilities and with a short scramble: capabilities come first.
+    // Without the needed capability flags and with a short scramble: the flags are reported first.
     assert_eq!(rt;
         answer(alloc, Greeting::read(alloc, front(&no_high, 45)?))?.as_str(),
         "Capabilities 524288"
     );
-    // A longer second part of the scramble is due where the length says so.
+    // The second part of the scramble must be longer if the length says so.
     let longer = changed(alloc, GREETING, 28, 0x40)?;
     assert_eq!(rt;
         answer(alloc, Greeting::read(alloc, &longer))?.as_str(),
@@ -183,7 +183,7 @@ fn responses(rt: HostRuntime) -> Result<(), Fail> {
     Ok(())
 }
 
-/// The answer of the password `password`, by another program.
+/// The response for the password `password`, computed by another program.
 #[test]
 fn native_answer(rt: HostRuntime) {
     let due = [
@@ -223,7 +223,7 @@ fn replies(rt: HostRuntime) -> Result<(), Fail> {
             due
         );
     }
-    // The texts of both kinds of error.
+    // The messages of an ERR with a state and of one without.
     for (payload, due) in [
         (access.as_slice(), b"Access".as_slice()),
         (TOO_MANY, b"Too many connections"),
@@ -270,7 +270,7 @@ fn oks_and_eofs(rt: HostRuntime) -> Result<(), Fail> {
     for (payload, due) in eofs {
         assert_eq!(rt; answer(alloc, read_eof(alloc, payload))?.as_str(), due);
     }
-    // Of a longer message the first 512 bytes are kept.
+    // Only the first 512 bytes of a longer message are kept.
     let mut long = copy(alloc, b"\xff\x10\x04")?;
     for _ in 0..600 {
         long.push(b'a')?;
@@ -318,7 +318,7 @@ fn commands(rt: HostRuntime) -> Result<(), Fail> {
     assert_eq!(rt; out.get(23..).ok_or("a shorter command")?, SET);
     let read = Dump::read(&out)?;
     assert_eq!(rt; (read.flags, read.server_id, read.set), (5, 7, SET));
-    // A name and another position are read over.
+    // A file name and another position are ignored.
     let named = Dump::read(b"\x1e\x01\0\x02\0\0\0\x03\0\0\0abc\x09\0\0\0\0\0\0\0\x01\0\0\0z")?;
     assert_eq!(rt;
         (named.flags, named.server_id, named.set),

@@ -27,7 +27,7 @@ use Rattle.gtid.proofs.OneLeastList.{one_least_list}
 
 -- ---- The intervals of a source among the spans.
 
--- and what is below the source and the groups is below the first span, whatever intervals stand there
+-- and what is below the source and the groups is below the first span, whatever intervals there are
 record Stands (s : List ℕ) (intervals : List Interval) (groups : List Group) : Type 0 where
   among : Among s intervals groups
   under : (t : List ℕ) → IsBelow t (sources groups) → slice_cmp nat_cmp t s ≡ Less → (others : List Interval) → others ≢ [] → IsUnder t (among.front ++ (map (span s) others ++ among.behind))

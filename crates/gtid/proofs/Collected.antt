@@ -70,7 +70,7 @@ digits_second m n s (b ∷ bs) rest h =
 
 -- ---- Intervals.
 
--- An interval is at hand.
+-- An interval has been read, and not yet been ended.
 abbrev Pending : Part → ℕ × ℕ → Type 0
 Pending p i = ((p ≡ First (at_most i.0)) × (i.1 ≡ i.0)) ⊎ (p ≡ Second (at_most i.0) (at_most i.1))
 
@@ -92,11 +92,11 @@ close_end : (p : Part) (i : ℕ × ℕ) (s : List ℕ) → Pending p i → colle
 close_end p i s (inl (is, one)) = ap (λ (q : Part). collected q s []) is ∙ ap (λ (n : ℕ). (s, (at_most i.0, at_most n)) ∷ []) (sym one)
 close_end p i s (inr is) = ap (λ (q : Part). collected q s []) is
 
--- What stands behind an interval ends it, and gives these.
+-- What follows an interval ends it, and gives these.
 abbrev Closes : List ℕ → List ℕ → List Found → Type 0
 Closes s rest fs = (p : Part) (i : ℕ × ℕ) → Pending p i → collected p s rest ≡ saturated s i ∷ fs
 
--- the text of an interval behind its colon
+-- the text of an interval after its colon
 record Body (s first : List ℕ) (i : ℕ × ℕ) : Type 0 where
   pub body : List ℕ
   pub is : first ≡ 58 ∷ body
@@ -147,7 +147,7 @@ some_intervals s rest fs closes digits text (j ∷ js) some (first, others, e, o
     ∙ b.reads (others ++ rest)
     ∙ more_intervals s rest fs closes b.part j b.pending others js later
 
--- What stands behind an item: its end, or a comma and the next.
+-- What follows an item: the end of the text, or a comma and the next item.
 record Tail (s tail : List ℕ) (fs : List Found) : Type 0 where
   pub closes : Closes s tail fs
   pub behind : collected Behind s tail ≡ fs
@@ -182,7 +182,7 @@ read_item s text tail fs item long h t =
     ∙ read_source h.uuid item.source s (h.numbers ++ (h.behind ++ tail)) h.a_source h.a_uuid long
     ∙ some_intervals item.source (h.behind ++ tail) fs (closes_behind item.source tail fs t h.behind h.blanks.1) 32 h.numbers item.intervals h.some h.intervals
 
--- What is found in a text is what its items say.
+-- What is found in a text is what its items are.
 pub read_list : (items : List SidBlock) (text s : List ℕ) → length s ≡ 16 → IsList text items → collected (Source 0) s text ≡ flat_map found_in items
 read_list [] text s long h = ap (collected (Source 0) s) (sym (append-nil text)) ∙ blanks_before 0 s text [] h
 read_list (item ∷ []) text s long h = ap (collected (Source 0) s) (sym (append-nil text)) ∙ read_item s text [] [] item long h (tail_end item.source)
@@ -193,11 +193,11 @@ read_list (item ∷ next ∷ items) text s long (first, others, e, one, rest) =
 
 -- ---- The reading as a whole.
 
--- the bytes of no source
+-- sixteen zero bytes, before any source is read
 abbrev pub zeros : List ℕ
 zeros = 0 ∷ 0 ∷ 0 ∷ 0 ∷ 0 ∷ 0 ∷ 0 ∷ 0 ∷ 0 ∷ 0 ∷ 0 ∷ 0 ∷ 0 ∷ 0 ∷ 0 ∷ 0 ∷ []
 
--- The spans that the reading brings are those that the items say.
+-- The spans that the reading gives are those of the items.
 pub reads_list : (text s : List ℕ) (out : List Span) → length s ≡ 16 → judge [] (collected (Source 0) s text) ≡ Ok out → (items : List SidBlock) → IsList text items →
     (list_fault items ≡ None) × (out ≡ written_spans items)
 reads_list text s out long h items is_list =
@@ -205,7 +205,7 @@ reads_list text s out long h items is_list =
     let lawful : list_fault items ≡ None = sym (ap first_some (item_faults items)) ∙ both.0 in
     (lawful, both.1 ∙ item_spans items lawful)
 
--- The fault that the reading brings is that of the first interval at fault.
+-- The fault that the reading reports is that of the first interval at fault.
 pub faults_list : (text s : List ℕ) (fault : GtidFault) → length s ≡ 16 → judge [] (collected (Source 0) s text) ≡ Err fault → (items : List SidBlock) → IsList text items →
     list_fault items ≡ Some fault
 faults_list text s fault long h items is_list =

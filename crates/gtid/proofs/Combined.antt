@@ -16,7 +16,7 @@ pub before_more : (end place later : ℕ) (intervals : List Interval) → AreLea
 before_more end place later [] b le = omega arith
 before_more end place later (i ∷ intervals) b le = (b.0, b.1, b.2, before_more i.hi place later intervals b.3 le)
 
--- with one more, that begins behind them
+-- with one more interval, which begins after them
 pub before_push : (end lo hi place : ℕ) (intervals : List Interval) → AreLeastBefore end lo intervals → lo < hi → hi < 2 ^ 63 → hi < place →
     AreLeastBefore end place (intervals ++ record { lo = lo; hi = hi } ∷ [])
 before_push end lo hi place [] b some fits ends = (b, some, fits, ends)
@@ -59,7 +59,7 @@ pub record Joined (left right : List Interval) (m : Merged) (joined : List Inter
   pub from : IsFrom last.lo m
   pub same : (n : ℕ) → (has left n || has right n) ≡ (has joined n || (is_within n last || has_left m n))
 
--- the interval that is taken from what is left, and begins at a place or behind it
+-- the next of the remaining intervals, which begins at a place or after it
 pub record IsNext (m : Merged) (next : Interval) (m' : Merged) (place : ℕ) : Type 0 where
   pub behind : place ≤ next.lo
   pub some : next.lo < next.hi
@@ -137,7 +137,7 @@ cut_here n done lo p x rest others is gap some begins no_rest no_others = elim (
   ]
 ]
 
--- no cut does: what is left of the piece is kept
+-- no cut does: the rest of the piece is kept
 piece_here : (n done lo : ℕ) (p : Interval) (rest cuts : Bool) → lo ≡ max p.lo done → (n ≤ p.hi → rest ≡ false) → (n < p.hi → cuts ≡ false) →
     (nat_le done n && ((is_within n p || rest) && not cuts)) ≡ ((nat_le lo n && nat_lt n p.hi) || (nat_le done n && (rest && not cuts)))
 piece_here n done lo p rest cuts is no_rest no_cuts = elim (cases_lt n p.hi) [

@@ -111,7 +111,7 @@ pub on_err : {T E P Q : Type 0} (r : Result T E) → OnErr r P → (P → Q) →
 on_err (Ok x) p f = tt
 on_err (Err e) p f = f p
 
--- the same identifiers, where the source's group has the same numbers
+-- the same GTIDs, if the source's group has the same numbers
 pub listed_same : (groups : List Group) (k : ℕ) (old new : Group) (s : List ℕ) → k < length groups → ((d : Group) → slice_index_or groups k d ≡ old) → old.source ≡ s → new.source ≡ s →
     new.intervals.items ≡ old.intervals.items → (q : Id) → is_listed q (slice_set groups k new) ≡ is_listed q groups
 listed_same groups k old new s short at from to same q =

@@ -131,7 +131,7 @@ span_at_most s i e =
     let numbers = lawful_numbers i e in
     ap (λ (n : ℕ). span_of (s, (n, at_most i.1))) (at_most_number i.0 numbers.0) ∙ ap (λ (n : ℕ). span_of (s, (i.0, n))) (at_most_number i.1 numbers.1)
 
--- the intervals of an item, and those of the others behind them
+-- the intervals of an item, and then those of the items after it
 abbrev pub found_in : SidBlock → List Found
 found_in item = map (saturated item.source) item.intervals
 

@@ -25,7 +25,7 @@ no_higher Equal source (first ∷ groups) g cmp low some is =
     inr (ap (λ x. x.source) (sym is) ∙ sym (set.slice_cmp-IsAntisymmetric set.nat_cmp-IsAntisymmetric source g.source (sym cmp)))
 no_higher Greater source (first ∷ groups) g cmp low some is = absurd (low refl)
 
--- the same, of two that compare the other way round
+-- as above, for two that compare the other way round
 pub lower : (o : Ordering) (a b : List ℕ) → o ≡ slice_cmp nat_cmp a b → o ≡ Greater → slice_cmp nat_cmp b a ≡ Less
 lower o a b cmp greater = nat_list_cmp_total.antisymm b a ∙ ap ordering_reverse (sym cmp ∙ greater)
 

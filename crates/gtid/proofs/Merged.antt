@@ -62,7 +62,7 @@ pub sources_push : (groups : List Group) (g : Group) → sources (groups ++ g �
 sources_push [] g = refl
 sources_push (f ∷ groups) g = ap (λ ss. f.source ∷ ss) (sources_push groups g)
 
--- No group behind the source is the source's.
+-- No group after the source is the source's.
 pub none_above : (s : List ℕ) (groups : List Group) (q : Id) → IsBelow s (sources groups) → bytes_eq q.0 s ≡ true → is_listed q groups ≡ false
 none_above s [] q below same = refl
 none_above s (g ∷ groups) q below same = or_from (is_of q g) (is_listed q groups) (other (bytes_eq q.0 g.source) refl) (none_above s groups q below.1 same)
@@ -74,7 +74,7 @@ none_above s (g ∷ groups) q below same = or_from (is_of q g) (is_listed q grou
         let less : slice_cmp nat_cmp s s ≡ Less = ap (λ t. slice_cmp nat_cmp s t) one ∙ below.0 in
         absurd (not_below_itself s less)
 
--- what a list has of a source that none of its groups is below, and what is behind it
+-- what a list has of a source that none of its groups is below, and what follows it
 pub record Taken (out : List Group) (s : List ℕ) (groups : List Group) (intervals : List Interval) (rest : List Group) : Type 0 where
   pub listed : (q : Id) → is_listed q groups ≡ ((bytes_eq q.0 s && has intervals q.1) || is_listed q rest)
   pub above : IsBelow s (sources rest)
@@ -148,7 +148,7 @@ kept_alone Difference true true = refl
 kept_alone Difference true false = refl
 kept_alone Difference false b = refl
 
--- the source's numbers, and those behind it
+-- the source's numbers, and those after it
 kept : (c : Combination) (e a b l r : Bool) → (e ≡ true → l ≡ false) → (e ≡ true → r ≡ false) → keeps c ((e && a) || l) ((e && b) || r) ≡ ((e && keeps c a b) || keeps c l r)
 kept c true a b l r no_l no_r =
     let p = no_l refl in
@@ -167,7 +167,7 @@ or_nothing a false = refl
 pub listed_push : (q : Id) (done : List Group) (g : Group) → is_listed q (done ++ g ∷ []) ≡ (is_listed q done || is_of q g)
 listed_push q done g = list_any-append (is_of q) done (g ∷ []) ∙ or_nothing (is_listed q done) (is_of q g)
 
--- the same, of what both lists have of a source
+-- as above, for what both lists have of a source
 same_next : (c : Combination) (left right done : List Group) (s : List ℕ) (a b kept_of : List Interval) (l r : List Group) → Taken done s left a l → Taken done s right b r →
     ((n : ℕ) → has kept_of n ≡ keeps c (has a n) (has b n)) → (q : Id) →
     (is_listed q done || keeps c (is_listed q left) (is_listed q right)) ≡ ((is_listed q done || (bytes_eq q.0 s && has kept_of q.1)) || keeps c (is_listed q l) (is_listed q r))

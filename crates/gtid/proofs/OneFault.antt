@@ -18,7 +18,7 @@ too_short n x bytes short is = omega (arith, ap length is)
 at_source_bytes : (bytes : List ℕ) (a : GtidFault) (f : FaultsAtSource bytes a) → little_bytes 8 f.count ++ (flat_map block_bytes f.blocks ++ f.rest) ≡ bytes
 at_source_bytes bytes a f = sym (append_assoc (little_bytes 8 f.count) (flat_map block_bytes f.blocks) f.rest) ∙ sym f.bytes_are
 
--- the source at fault, and what is behind it
+-- the source at fault, and what follows it
 abbrev faulty_block : (bytes : List ℕ) (a : GtidFault) → FaultsAtInterval bytes a → List ℕ
 faulty_block bytes a f = f.source ++ (little_bytes 8 f.size ++ (flat_map interval_bytes f.intervals ++ f.rest))
 

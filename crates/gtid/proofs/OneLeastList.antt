@@ -15,11 +15,11 @@ use Rattle.gtid.specs.Span.{is_in, IsBefore, IsLeast, IsLeastList}
 use Rattle.gtid.specs.declared.span.Span.{Span}
 use Rattle.gtid.proofs.NotBelow.{not_below_itself}
 
--- the identifier is below the span
+-- the GTID is below the span
 abbrev pub Below : Id → Span → Type 0
 Below q b = (slice_cmp nat_cmp q.0 b.source ≡ Less) ⊎ ((q.0 ≡ b.source) × (q.1 < b.lo))
 
--- the identifier is below the first span
+-- the GTID is below the first span
 abbrev pub IsEarly : Id → List Span → Type 0
 IsEarly q [] = Unit {0}
 IsEarly q (b ∷ spans) = Below q b
@@ -60,7 +60,7 @@ pub inside : (q : Id) (b : Span) → q.0 ≡ b.source → b.lo ≤ q.1 → q.1 <
 inside q b same low high =
     (λ i. (bytes_eq-Decides q.0 b.source).1 same i && between_in q.1 b.lo b.hi low high i)
 
--- an identifier below a span is below the next one too
+-- a GTID below a span is below the next one too
 below_next : (q : Id) (b c : Span) → b.lo < b.hi → IsBefore b c → Below q b → Below q c
 below_next q b c some (inl next) (inl less) = inl (nat_list_cmp_total.trans q.0 b.source c.source less next)
 below_next q b c some (inr (same, gap)) (inl less) = inl (ap (λ t. slice_cmp nat_cmp q.0 t) (sym same) ∙ less)
@@ -76,7 +76,7 @@ none_early q [] least early = refl
 none_early q (b ∷ spans) least early =
     or_from (is_in q b) (list_any (is_in q) spans) (out_below q b early) (none_early q spans (tail_least b spans least) (early_next q b spans least early))
 
--- up to the end of a span, the source's identifiers are below what follows it
+-- up to the end of a span, the source's GTIDs are below what follows the span
 early_behind : (q : Id) (a : Span) (spans : List Span) → IsLeast (a ∷ spans) → q.0 ≡ a.source → q.1 ≤ a.hi → IsEarly q spans
 early_behind q a [] least of high = tt
 early_behind q a (b ∷ spans) (some, inl less, least) of high = inl (ap (λ s. slice_cmp nat_cmp s b.source) of ∙ less)

@@ -1,4 +1,4 @@
--- What a text says, it says alone.
+-- A text has only one meaning.
 use Rattle.std.proofs.Common.{◌≡◌, ℕ, List, [], ◌∷◌, map, refl, ap, sym, ◌∙◌, inl, inr, Some, None}
 use Rattle.std.proofs.lemmas.Bool.{cases_order}
 use Rattle.std.specs.FinSet as set
@@ -25,7 +25,7 @@ same_fault text i j is_i is_j =
     ∙ ap (λ fs. first_some (faults_of fs)) (sym (read_list i text zeros refl is_i) ∙ read_list j text zeros refl is_j)
     ∙ ap first_some (item_faults j)
 
--- and the same spans, where there is none
+-- and the same spans, if there is none
 same_spans : (text : List ℕ) (i j : List SidBlock) → IsList text i → IsList text j → list_fault i ≡ None → list_fault j ≡ None → written_spans i ≡ written_spans j
 same_spans text i j is_i is_j none_i none_j =
     sym (item_spans i none_i) ∙ ap (map span_of) (sym (read_list i text zeros refl is_i) ∙ read_list j text zeros refl is_j) ∙ item_spans j none_j

@@ -1,4 +1,4 @@
--- Where the scan stands, some text of the grammar goes on. Where it stops, none does.
+-- Some text of the grammar continues what the scan has read. None continues what it stops at.
 use Rattle.std.proofs.Common.{◌≡◌, ℕ, zero, suc, ◌+◌, ◌-◌, ◌<◌, ◌≤◌, ◌==◌, Bool, true, false, if◌then◌else◌, Some, None, List, [], ◌∷◌, ◌++◌, length, take, drop, get_or, refl, ap, sym, subst, ◌∙◌, arith, append-nil, length-append, true≢false, take-add, take_all}
 use Rattle.std.proofs.lemmas.Bool.Decides.{nat_tests}
 use Rattle.uuid.specs.Text.{is_hyphen_place, is_hex_digit}
@@ -107,7 +107,7 @@ passed_all : {s : State} (text left : List ℕ) → IsPassed Start text s left �
 passed_all {s} text [] p none = ap (run (Some Start)) (p.is ∙ append-nil p.front) ∙ p.ran
 passed_all text (b ∷ rest) p none = absurd (omega arith)
 
--- The text may not end where the scan stands.
+-- The text may not end in this state of the scan.
 pub outside_end : (text left : List ℕ) (s : State) → IsPassed Start text s left → IsPlaced s → length left < 1 → ends s ≡ false → IsOutsideFrom text (length text)
 outside_end text left s p placed none open_end =
     let here : run (Some Start) text ≡ Some s = passed_all text left p none in

@@ -60,7 +60,7 @@ dropped_above s (g ∷ groups) zero behind =
     (nat_list_cmp_total.antisymm s g.source ∙ ap ordering_reverse (behind 0 g (omega arith) (omega arith)), dropped_above s groups 0 (λ i d le lt. behind (suc i) d (omega arith) (omega (arith, lt))))
 dropped_above s (g ∷ groups) (suc k) behind = dropped_above s groups k (λ i d le lt. behind (suc i) d (omega (arith, le)) (omega (arith, lt)))
 
--- what a search by halving answers
+-- what a binary search answers
 pub found : (s : List ℕ) (groups : List Group) (r : Result ℕ ℕ) → IsSearchInRange r (length groups) → IsBinarySearchResult (compares s) groups r → IfOk r (IsAt s groups)
 found s groups (Ok at) bound position = (bound, λ d. set.slice_cmp-IsAntisymmetric set.nat_cmp-IsAntisymmetric (slice_index_or groups at d).source s (position d))
 found s groups (Err at) bound position = tt

@@ -27,7 +27,7 @@ one_more items x n is = length-append items (x ∷ []) ∙ ap (λ k. k + 1) is
 
 -- ---- Intervals.
 
--- where the last interval ended, behind one that ended there
+-- where the last interval ends, after one that ended at `after`
 abbrev pub last_end : ℕ → List Interval → ℕ
 last_end after [] = after
 last_end after (i ∷ intervals) = last_end i.hi intervals

@@ -15,19 +15,19 @@ use Rattle.gtid.proofs.Scanned.{run_none, no_state}
 
 -- ---- What may follow each state, as the pieces of the grammar.
 
--- one item or more
+-- at least one item
 record Listed (text : List ℕ) : Type 0 where
   pub first : SidBlock
   pub others : List SidBlock
   pub is_list : IsList text (first ∷ others)
 
--- a comma and one item or more
+-- a comma and at least one item
 record Next (text : List ℕ) : Type 0 where
   pub others : List ℕ
   pub text_is : text ≡ 44 ∷ others
   pub listed : Listed others
 
--- blanks behind an item, and what follows it
+-- blanks after an item, and what follows them
 record Trail (text : List ℕ) : Type 0 where
   pub blanks : List ℕ
   pub rest : List ℕ
@@ -35,7 +35,7 @@ record Trail (text : List ℕ) : Type 0 where
   pub are_blank : AllByRecursion IsBlank blanks
   pub next : (rest ≡ []) ⊎ Next rest
 
--- so many intervals or more, and what follows them
+-- at least this many intervals, and what follows them
 record Numbers (least : ℕ) (text : List ℕ) : Type 0 where
   pub numbers : List ℕ
   pub intervals : List (ℕ × ℕ)
@@ -45,7 +45,7 @@ record Numbers (least : ℕ) (text : List ℕ) : Type 0 where
   pub some : least ≤ length intervals
   pub trail : Trail rest
 
--- so many digits or more, and what follows them
+-- at least this many digits, and what follows them
 record Digits (least : ℕ) (P : List ℕ → Type 0) (text : List ℕ) : Type 0 where
   pub digits : List ℕ
   pub rest : List ℕ

@@ -64,14 +64,14 @@ run_first = run_digits First Lo (λ b is. tested (is_digit b) Lo _ is) (λ b is.
 run_second : (digits : List ℕ) (n : ℕ) → IsNumeral digits n → run (Some Second) digits ≡ Some Hi
 run_second = run_digits Second Hi (λ b is. tested (is_digit b) Hi _ is) (λ b is. tested (is_digit b) Hi _ is)
 
--- The scan stands behind an item, or behind the blanks behind it.
+-- The scan is after an item, or after the blanks that follow it.
 record Closed (o : Option State) : Type 0 where
   pub state : State
   pub is : o ≡ Some state
   pub end : ends state ≡ true
   pub comma : step state 44 ≡ Some Item
 
--- The scan stands behind an interval.
+-- The scan is after an interval.
 record Numbered (o : Option State) : Type 0 where
   pub closed : Closed o
   pub colon : step closed.state 58 ≡ Some First
@@ -108,7 +108,7 @@ some_intervals text (i ∷ is) some (first, others, e, one, rest) =
 
 -- ---- Items.
 
--- An item may begin where the scan stands.
+-- An item may begin in this state of the scan.
 record Opening (s : State) : Type 0 where
   pub blank : (b : ℕ) → IsBlank b → step s b ≡ Some s
   pub hex : (b : ℕ) → is_hex_digit b ≡ true → step s b ≡ Some (Source 1)
@@ -157,7 +157,7 @@ run_item s open_here text item h =
 
 -- ---- Texts.
 
--- The text may end where the scan stands.
+-- The text may end in this state of the scan.
 pub record Ended (o : Option State) : Type 0 where
   pub state : State
   pub is : o ≡ Some state
@@ -183,7 +183,7 @@ run_list text (item ∷ items) h = run_items Start opening_start text item items
 pub no_state : (o : Option State) (s : State) → o ≡ None → o ≡ Some s → ⊥
 no_state o s none some = Prim.cc
 
--- What the scan stops at begins no text.
+-- No text begins with what the scan stops at.
 pub begins_none : (front : List ℕ) → run (Some Start) front ≡ None → BeginsText front → ⊥
 begins_none front none (rest, items, is_list) =
     let ended = run_list (front ++ rest) items is_list in

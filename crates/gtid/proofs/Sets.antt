@@ -37,7 +37,7 @@ id_cmp-same a b e =
     let both = then_equal (slice_cmp nat_cmp a.0 b.0) (nat_cmp a.1 b.1) e in
     λ i. (set.slice_cmp-IsAntisymmetric set.nat_cmp-IsAntisymmetric a.0 b.0 both.0 i, set.nat_cmp-IsAntisymmetric a.1 b.1 both.1 i)
 
--- whether two identifiers are one, by source and number
+-- whether two GTIDs are the same, by source and number
 pub tied : (a b : Id) → eq_by_cmp id_cmp a b ≡ (bytes_eq a.0 b.0 && nat_eq a.1 b.1)
 tied a b =
     sym (tied_then (slice_cmp nat_cmp a.0 b.0) (nat_cmp a.1 b.1))
@@ -61,7 +61,7 @@ listed_in_range q source lo (suc count) =
     (λ i. tied q (source, lo) i || listed_in_range q source (lo + 1) count i)
     ∙ both (bytes_eq q.0 source) (nat_eq q.1 lo) (nat_le (lo + 1) q.1 && nat_lt q.1 (lo + 1 + count)) (nat_le lo q.1 && nat_lt q.1 (lo + suc count)) (range_more q.1 lo count)
 
--- up to an end that may stand below the beginning
+-- up to an end that may be below the beginning
 same_end : (lo hi n : ℕ) → (nat_le lo n && nat_lt n (lo + (hi - lo))) ≡ (nat_le lo n && nat_lt n hi)
 same_end lo hi n = grind (arith, common_steps, nat_tests)
 
@@ -82,7 +82,7 @@ listed_in_groups q (g ∷ groups) =
     list_any-append (eq_by_cmp id_cmp q) (ids_of_group g) (flat_map ids_of_group groups)
     ∙ (λ k. listed_in_intervals q g.source g.intervals.items k || listed_in_groups q groups k)
 
--- The set has an identifier where the groups list it.
+-- The set has a GTID exactly if the groups list it.
 pub contains_listed : (groups : List Group) (q : Id) → set.contains (ids_of groups) q ≡ is_listed q groups
 unfolding ids_of
 contains_listed groups q = set.contains-from_list id_cmp_total (flat_map ids_of_group groups) q ∙ listed_in_groups q groups

@@ -20,24 +20,24 @@ use Rattle.gtid.proofs.LeastList.{Leads, least_cons}
 use Rattle.gtid.proofs.OneLeastList.{Below, IsEarly, some_first, tail_least}
 use Rattle.gtid.proofs.Sets.{id_cmp_total, tied}
 
--- an identifier as a span
+-- a GTID as a span
 abbrev alone : Id → Span
 alone q = record { source = q.0; lo = q.1; hi = q.1 + 1 }
 
--- a span from an identifier on
+-- a span that begins at a GTID
 abbrev extended : Id → Span → Span
 extended q s = record { source = s.source; lo = q.1; hi = s.hi }
 
--- whether the identifier is the one before the span
+-- whether the GTID is just before the span
 abbrev touches : Id → Span → Bool
 touches q s = bytes_eq q.0 s.source && nat_eq (q.1 + 1) s.lo
 
--- spans with one identifier more in front
+-- spans with one more GTID in front
 abbrev join_span : Id → List Span → List Span
 join_span q [] = alone q ∷ []
 join_span q (s ∷ spans) = if touches q s then extended q s ∷ spans else alone q ∷ s ∷ spans
 
--- the identifiers of a set, in order
+-- the GTIDs of a set, in order
 abbrev Listing : Type 0
 Listing = List (Id × Unit {0})
 
@@ -45,7 +45,7 @@ abbrev cover : Listing → List Span
 cover [] = []
 cover (e ∷ es) = join_span e.0 (cover es)
 
--- ---- One identifier more.
+-- ---- One more GTID.
 
 extended_leads : (q : Id) (s : Span) (spans : List Span) → IsLeast (s ∷ spans) → Leads (extended q s) spans
 extended_leads q s [] least = tt
@@ -115,7 +115,7 @@ less_cases Equal Less e = inr (refl, refl)
 less_cases Equal Equal e = absurd (Prim.cc)
 less_cases Equal Greater e = absurd (Prim.cc)
 
--- the identifier, and what is below it
+-- the GTID, and what is below it
 joined_early : (p q : Id) (spans : List Span) → (slice_cmp nat_cmp p.0 q.0 ≡ Less) ⊎ ((p.0 ≡ q.0) × (p.1 < q.1)) → IsEarly p (join_span q spans)
 joined_early p q [] less = less
 joined_early p q (s ∷ spans) less = by (touches q s) refl less
@@ -139,7 +139,7 @@ first_holds : (a b c : Bool) → T ((a && b) && c) → a ≡ true
 first_holds true b c h = refl
 first_holds false b c h = absurd h
 
--- of a listing in order, the identifiers but the first are in order too, and the first is below them
+-- in an ordered listing, the GTIDs after the first are in order too, and the first is below them
 tail_sorted : (e : Id × Unit {0}) (es : Listing) → T (is_sorted id_cmp (e ∷ es)) → T (is_sorted id_cmp es)
 tail_sorted e es h = second_holds _ _ h
 
@@ -157,7 +157,7 @@ cover_has x (e ∷ es) h =
     let t = tail_sorted e es h in
     (λ i. tied x e.0 i || cover_has x es t i) ∙ sym (joined_has x e.0 (cover es) (cover_least es t))
 
--- ---- The identifiers of a set.
+-- ---- The GTIDs of a set.
 
 abbrev in_order : List Id → Listing
 in_order [] = []

@@ -40,7 +40,7 @@ listed_in_spans q (s ∷ spans) =
 pub covers_set : (spans : List Span) → Covers spans (set_of spans)
 covers_set spans q = set.contains-from_list id_cmp_total (flat_map ids_of_span spans) q ∙ listed_in_spans q spans
 
--- ---- Where the scan may stand.
+-- ---- The states of the scan.
 
 placed_begin : (s : State) (b : ℕ) → IsPlaced s → (t : State) → begin s b ≡ Some t → IsPlaced t
 placed_begin s b placed =

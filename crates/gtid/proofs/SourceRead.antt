@@ -14,7 +14,7 @@ use Rattle.gtid.specs.Reading.{collected}
 use Rattle.gtid.specs.Reading.Part.{Source}
 use Rattle.gtid.proofs.SourceText.{source_length}
 
--- The bytes hold so many of the source's digits.
+-- The bytes hold the first `digits` of the source's digits.
 record Held (source : List ℕ) (digits : ℕ) (bytes : List ℕ) : Type 0 where
   pub long : length bytes ≡ 16
   pub whole : (k : ℕ) → k < digits / 2 → get_or bytes k 0 ≡ get_or source k 0
@@ -117,7 +117,7 @@ collect_digit digits c bytes rest few hex =
 
 -- ---- The whole text.
 
--- what stands at a place, in lower case
+-- the byte at a place, in lower case
 abbrev lowered : List ℕ → ℕ → ℕ
 lowered source place = if is_hyphen_place place then 45 else hex_digit lower (nibble source (digit_place place))
 
@@ -176,7 +176,7 @@ read_from source long small (c ∷ cs) place end is bytes rest h =
         ∙ subst (λ e. collected (Source e) (set bytes (digits_before place / 2) (get_or bytes (digits_before place / 2) 0 % 16 * 16 + value_of c)) (cs ++ rest) ≡ collected (Source 32) source rest) same
         (next (set bytes (digits_before place / 2) (get_or bytes (digits_before place / 2) 0 % 16 * 16 + value_of c)) (subst (λ e. Held source e (set bytes (digits_before place / 2) (get_or bytes (digits_before place / 2) 0 % 16 * 16 + value_of c))) (sym same) more))
 
--- Over the text of a source the source is read.
+-- After the text of a source, the source has been read.
 pub read_source : (text source bytes rest : List ℕ) → IsSource source → str_to_ascii_lowercase text ≡ hyphenated_text lower source → length bytes ≡ 16 →
     collected (Source 0) bytes (text ++ rest) ≡ collected (Source 32) source rest
 read_source text source bytes rest is e long =

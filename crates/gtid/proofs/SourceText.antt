@@ -10,7 +10,7 @@ use Rattle.uuid.proofs.TextLemmas.{by_index_at, by_index_length, by_index_same, 
 use Rattle.gtid.specs.Identifier.{IsSource}
 use Rattle.gtid.specs.Scan.{stands_at}
 
--- The bytes may stand at the places of a UUID from this one on.
+-- The bytes may be at the places of a UUID from this one on.
 abbrev pub StandFrom : ℕ → List ℕ → Type 0
 StandFrom place [] = Unit {0}
 StandFrom place (b ∷ bs) = (stands_at place b ≡ true) × StandFrom (place + 1) bs
@@ -56,7 +56,7 @@ source_stands text source e = stand_by_place text 0 (λ i short.
 
 -- ---- From the bytes to a source.
 
--- the source that the bytes spell
+-- the source that the bytes encode
 pub record Spells (text : List ℕ) : Type 0 where
   pub source : List ℕ
   pub is_source : IsSource source

@@ -17,9 +17,9 @@ use Rattle.gtid.specs.Text.{interval_text, block_text, IsText, is_number, IsNume
 use Rattle.gtid.proofs.OneLeastList.{some_first, tail_least, inside}
 use Rattle.gtid.proofs.Decoded.{span_of, spans_of_block, ungrouped}
 
--- ---- The spans of a set of identifiers of transactions.
+-- ---- The spans of a set of GTIDs.
 
--- A lawful source, and numbers in range of which there is one or more.
+-- A lawful source, and numbers in range, at least one.
 abbrev IsLawful : Span → Type 0
 IsLawful s = IsSource s.source × (1 ≤ s.lo) × (s.lo < s.hi) × (s.hi < 2 ^ 63)
 
@@ -33,7 +33,7 @@ lawful_spans (s ∷ spans) least gtids =
       lawful_spans spans (tail_least s spans least) (λ q one. gtids q (or_right (is_in q s) (list_any (is_in q) spans) one)),
     )
 
--- ---- The same of their blocks.
+-- ---- The blocks of such spans.
 
 abbrev IsLawfulInterval : ℕ × ℕ → Type 0
 IsLawfulInterval i = (1 ≤ i.0) × (i.0 < i.1) × (i.1 < 2 ^ 63)

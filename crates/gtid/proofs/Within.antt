@@ -38,7 +38,7 @@ is_in n i h k = grind (arith, nat_tests)
 none : {a b : Bool} → a ≡ false → b ≡ false → (a || b) ≡ false
 none p q = cc (p, q)
 
--- no number up to the end of what is before
+-- no number up to the end of what comes before
 below_least : (end : ℕ) (intervals : List Interval) (n : ℕ) → AreLeast end intervals → n ≤ end → has intervals n ≡ false
 below_least end [] n least le = refl
 below_least end (i ∷ intervals) n (gap, some, small, least) le = rw (is_below n i (omega arith)) (below_least i.hi intervals n least (omega arith))
@@ -142,7 +142,7 @@ added-by number old new xs ys zs old_is new_is least front now fresh adds = reco
 only_one : (n number : ℕ) → is_within n (record { lo = number; hi = number + 1 }) ≡ nat_eq n number
 only_one n number = grind (arith, nat_tests)
 
--- one number more in front, and behind
+-- one number more in front, and one more at the end
 one_before : (n number : ℕ) (x : Interval) → x.lo ≡ number + 1 → number < x.hi → is_within n (record { lo = number; hi = x.hi }) ≡ (nat_eq n number || is_within n x)
 one_before n number x touch some = grind (arith, nat_tests)
 
@@ -153,7 +153,7 @@ one_between : (n number : ℕ) (x y : Interval) → x.hi ≡ number → x.lo ≤
     is_within n (record { lo = x.lo; hi = y.hi }) ≡ (nat_eq n number || (is_within n x || is_within n y))
 one_between n number x y touch some next more = grind (arith, nat_tests)
 
--- what begins behind a gap
+-- what begins after a gap
 behind_gap : (end gap : ℕ) (intervals : List Interval) (at : ℕ) → at ≤ length intervals → AreLeast end intervals → ((d : Interval) → at < length intervals → gap < (get_or intervals at d).lo) → AreLeast gap (drop at intervals)
 behind_gap end gap [] zero le least later = least
 behind_gap end gap [] (suc at) le least later = absurd (omega arith)
@@ -241,7 +241,7 @@ pub added_between : (intervals : List Interval) (at number : ℕ) (x y : Interva
 added_between intervals at number x y least within is next touch touch_next =
     subst (λ m. Added number intervals (set (remove intervals m) at (record { lo = x.lo; hi = y.hi }))) (sym (add-one at)) (between-by intervals at number x y least (omega arith) is (rw (add-one at) at next) touch touch_next)
 
--- no number between the intervals in front and those behind
+-- no number between the intervals in front and those after them
 nowhere : (intervals : List Interval) (at n : ℕ) → AreLeast 0 intervals → at ≤ length intervals → AllWithin (λ i. i.hi ≤ n) intervals 0 at → ((d : Interval) → at < length intervals → n < (get_or intervals at d).lo) → has intervals n ≡ false
 nowhere intervals at n least within front gap =
     ap (λ l. has l n) (sym (take-append-drop at intervals))
@@ -279,7 +279,7 @@ ends_later of at x least front past some all =
 insert_end : (intervals : List Interval) (at : ℕ) (i : Interval) → length intervals ≤ at → intervals ++ i ∷ [] ≡ insert intervals at i
 insert_end intervals at i end = λ k. sym (take_all at intervals end) k ++ i ∷ sym (drop_of_length-le intervals end) k
 
--- behind all the others
+-- after all the others
 pub added_last : (intervals new : List Interval) (number : ℕ) → AreLeast 0 intervals → 1 ≤ number → number ≤ 2 ^ 63 - 2 → AllWithin (λ i. i.hi < number) intervals 0 (length intervals) →
     new ≡ intervals ++ record { lo = number; hi = number + 1 } ∷ [] → Added number intervals new
 added_last intervals new number least low high before is =

@@ -1,4 +1,4 @@
--- Bytes behind bytes.
+-- Bytes appended to bytes.
 use Rattle.std.proofs.Common.{◌≡◌, ℕ, List, ◌++◌, map, flat_map, drop, ap, ◌∙◌, append_assoc}
 use Rattle.gtid.specs.Blocks.{Grows}
 

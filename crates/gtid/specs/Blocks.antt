@@ -17,12 +17,12 @@ of_group g = block g.source g.intervals.items
 abbrev pub blocks : List Group → List SidBlock
 blocks groups = map of_group groups
 
--- More bytes stand behind the old ones.
+-- The new bytes are the old ones and more after them.
 pub record Grows (old new : List ℕ) : Type 0 where
   pub more : List ℕ
   pub grown : new ≡ old ++ more
 
--- More ASCII bytes stand behind the old ones.
+-- The new bytes are the old ones and more ASCII bytes after them.
 pub record GrowsByAscii (old new : List ℕ) : Type 0 where
   pub more : List ℕ
   pub grown : new ≡ old ++ more

@@ -1,10 +1,10 @@
--- Where the bytes of a set's parts are at fault.
+-- Faults in the bytes of a set's parts.
 use Rattle.std.specs.Prelude.{◌≡◌, ℕ, ◌<◌, ◌^◌, ◌⊎◌, true, List, ◌++◌, length, Option, Some, flat_map}
 use Rattle.byteorder.specs.Endian.{little_bytes}
 use Rattle.gtid.specs.Encoding.{interval_bytes, interval_fault, is_above, source_fault, end_of, AreIntervals}
 use Rattle.gtid.specs.declared.fault.GtidFault.{GtidFault}
 
--- Behind some lawful intervals, fewer than there are to be, the next one is at fault.
+-- After some lawful intervals, fewer than announced, the next one is at fault.
 pub record FaultsInIntervals (size : ℕ) (bytes : List ℕ) (fault : GtidFault) : Type 0 where
   pub intervals : List (ℕ × ℕ)
   pub rest : List ℕ
@@ -13,7 +13,7 @@ pub record FaultsInIntervals (size : ℕ) (bytes : List ℕ) (fault : GtidFault)
   pub bytes_are : bytes ≡ flat_map interval_bytes intervals ++ rest
   pub faulty : interval_fault (end_of intervals) rest ≡ Some fault
 
--- The intervals of a source that is not at fault are.
+-- The source is not at fault, but its intervals are.
 pub record FaultsInBlock (before : Option (List ℕ)) (bytes : List ℕ) (fault : GtidFault) : Type 0 where
   pub source : List ℕ
   pub size : ℕ

@@ -1,5 +1,5 @@
--- A set of identifiers as bytes. MySQL Source Documentation, Replication Protocol, COM_BINLOG_DUMP_GTID (the field
--- `data`). Numbers are eight bytes each, the lowest byte first; intervals end one past their last number.
+-- A set of GTIDs as bytes. MySQL Source Documentation, Replication Protocol, COM_BINLOG_DUMP_GTID (the field `data`).
+-- Numbers are eight bytes each, the lowest byte first; intervals end one past their last number.
 use Rattle.std.specs.Prelude.{◌≡◌, ℕ, ◌-◌, ◌<◌, ◌^◌, Bool, true, ◌||◌, not, List, [], ◌∷◌, ◌++◌, length, take, drop, map, nat_lt, nat_le, ◌==◌, if◌then◌else◌, Option, Some, None, option_map, find, flat_map}
 use Rattle.std.specs.List.{last_or}
 use Rattle.std.specs.Str.{bytes_eq}
@@ -23,7 +23,7 @@ join_block s (block ∷ blocks) =
     if bytes_eq s.source block.source then record { source = block.source; intervals = (s.lo, s.hi) ∷ block.intervals } ∷ blocks
     else record { source = s.source; intervals = (s.lo, s.hi) ∷ [] } ∷ (block ∷ blocks)
 
--- the spans, neighbours of one source together
+-- the spans, with consecutive ones of one source together
 abbrev pub grouped : List Span → List SidBlock
 grouped [] = []
 grouped (s ∷ spans) = join_block s (grouped spans)
@@ -31,21 +31,21 @@ grouped (s ∷ spans) = join_block s (grouped spans)
 abbrev pub interval_bytes : ℕ × ℕ → List ℕ
 interval_bytes i = little_bytes 8 i.0 ++ little_bytes 8 i.1
 
--- a source's 16 bytes, the number of its intervals, and these
+-- a source's 16 bytes, the number of its intervals, and the intervals
 abbrev pub block_bytes : SidBlock → List ℕ
 block_bytes block = block.source ++ little_bytes 8 (length block.intervals) ++ flat_map interval_bytes block.intervals
 
--- the number of sources, and these
+-- the number of sources, and the sources
 abbrev pub blocks_bytes : List SidBlock → List ℕ
 blocks_bytes blocks = little_bytes 8 (length blocks) ++ flat_map block_bytes blocks
 
--- ---- The first fault of bytes that begin with no encoding, from left to right.
+-- ---- The first fault of bytes that do not begin with an encoding, from left to right.
 
 -- the first line of a table of tests that holds
 abbrev pub first_fault : List (Bool × GtidFault) → Option GtidFault
 first_fault table = option_map (λ line. line.1) (find (λ line. line.0) table)
 
--- what can be wrong with an interval behind one that ended at `after` (0 before the first)
+-- what can be wrong with an interval after one that ended at `after` (0 before the first)
 abbrev pub interval_fault : ℕ → List ℕ → Option GtidFault
 interval_fault after bytes =
     let lo = little_number 8 bytes in
@@ -57,7 +57,7 @@ interval_fault after bytes =
     ∷ (nat_le lo after, Order)
     ∷ [])
 
--- the bytes are above those of the source before, where there is one
+-- the bytes are above those of the source before, if there is one
 abbrev pub is_above : Option (List ℕ) → List ℕ → Bool
 is_above None source = true
 is_above (Some before) source = is_lt (slice_cmp nat_cmp before source)
@@ -72,7 +72,7 @@ source_fault before bytes =
     ∷ (little_number 8 (drop 16 bytes) == 0, Interval)
     ∷ [])
 
--- where the last interval ended
+-- where the last interval ends
 abbrev pub end_of : List (ℕ × ℕ) → ℕ
 end_of [] = 0
 end_of (i ∷ []) = i.1
@@ -86,15 +86,15 @@ abbrev pub AreIntervals : ℕ → List (ℕ × ℕ) → Type 0
 AreIntervals after [] = Unit {0}
 AreIntervals after (i ∷ intervals) = (after < i.0) × (i.0 < i.1) × (i.1 < 2 ^ 63) × AreIntervals i.1 intervals
 
--- lawful blocks: ascending sources of 16 bytes, each with one interval or more
+-- lawful blocks: ascending sources of 16 bytes, each with at least one interval
 abbrev pub AreBlocks : Option (List ℕ) → List SidBlock → Type 0
 AreBlocks before [] = Unit {0}
 AreBlocks before (block ∷ blocks) =
     (length block.source ≡ 16) × (is_above before block.source ≡ true) × (0 < length block.intervals) × (length block.intervals < 2 ^ 64)
     × AreIntervals 0 block.intervals × AreBlocks (Some block.source) blocks
 
--- The bytes encode the set: they are its least intervals, these are lawful, and the number of sources fits in its
--- eight bytes.
+-- The bytes encode the set: they are its least intervals, which are lawful, and the number of sources fits in eight
+-- bytes.
 pub record IsEncoding (ids : Ids) (bytes : List ℕ) : Type 0 where
   pub spans : List Span
   pub least : IsLeastList spans ids
@@ -110,13 +110,13 @@ pub record BeginsWithEncoding (bytes : List ℕ) : Type 0 where
   pub encodes : IsEncoding ids encoding
   pub bytes_are : bytes ≡ encoding ++ rest
 
--- An encoding of the set stands behind the old bytes.
+-- The new bytes are the old ones and then an encoding of the set.
 pub record AppendsEncoding (ids : Ids) (old new : List ℕ) : Type 0 where
   pub bytes : List ℕ
   pub encodes : IsEncoding ids bytes
   pub appended : new ≡ old ++ bytes
 
--- Behind some lawful sources, fewer than the first number says, the next one is at fault.
+-- After some lawful sources, fewer than the first number says, the next one is at fault.
 pub record FaultsAtSource (bytes : List ℕ) (fault : GtidFault) : Type 0 where
   pub count : ℕ
   pub blocks : List SidBlock
@@ -126,7 +126,8 @@ pub record FaultsAtSource (bytes : List ℕ) (fault : GtidFault) : Type 0 where
   pub bytes_are : bytes ≡ little_bytes 8 count ++ flat_map block_bytes blocks ++ rest
   pub faulty : source_fault (last_source blocks) rest ≡ Some fault
 
--- The same, and in a source that is not at fault, behind some lawful intervals, the next interval is.
+-- After some lawful sources comes one that is not at fault, but after some of its intervals, which are lawful, the next
+-- one is.
 pub record FaultsAtInterval (bytes : List ℕ) (fault : GtidFault) : Type 0 where
   pub count : ℕ
   pub blocks : List SidBlock

@@ -1,4 +1,4 @@
--- Spans in the order in which they begin.
+-- Spans in the order of their beginnings.
 use Rattle.std.specs.Prelude.{◌≡◌, ℕ, ◌≤◌, ◌⊎◌, List, [], ◌∷◌, map}
 use Rattle.std.specs.List.{AllByRecursion}
 use Rattle.std.specs.Ordering.{nat_cmp}
@@ -9,11 +9,11 @@ use Rattle.gtid.specs.Group.{IsBelow}
 use Rattle.gtid.specs.declared.interval.Interval.{Interval}
 use Rattle.gtid.specs.declared.span.Span.{Span}
 
--- the identifier that a span begins with
+-- the GTID that a span begins with
 abbrev pub start : Span → Id
 start s = (s.source, s.lo)
 
--- The span is of a higher source, or of the same and begins no earlier.
+-- The span is of a higher source, or of the same source and begins no earlier.
 abbrev pub Follows : List ℕ → ℕ → Span → Type 0
 Follows source lo s = (slice_cmp nat_cmp source s.source ≡ Less) ⊎ ((s.source ≡ source) × (lo ≤ s.lo))
 
@@ -32,7 +32,7 @@ AreAbove source spans = IsBelow source (span_sources spans)
 abbrev pub interval_of : Span → Interval
 interval_of s = record { lo = s.lo; hi = s.hi }
 
--- The first span is the source's, with this interval and the rest behind it.
+-- The first span is the source's, with this interval, and the rest are the spans after it.
 abbrev pub IsTaken : List ℕ → List Span → Interval → List Span → Type 0
 IsTaken source [] interval rest = ⊥
 IsTaken source (s ∷ spans) interval rest = (s.source ≡ source) × (interval ≡ interval_of s) × (rest ≡ spans)

@@ -1,4 +1,4 @@
--- A set of identifiers as the intervals of each source.
+-- A set of GTIDs as the intervals of each source.
 use Rattle.std.specs.Prelude.{◌≡◌, ℕ, ◌-◌, ◌<◌, ◌≤◌, length, take, drop, slice_index_or, ◌&&◌, ◌⊎◌, Bool, List, [], ◌∷◌, map, flat_map}
 use Rattle.std.specs.List.{list_any, range_with_len, AllByRecursion}
 use Rattle.std.specs.List.Sorted.{IsStrictlySortedBy}
@@ -12,11 +12,11 @@ use Rattle.gtid.specs.Interval.{has}
 use Rattle.gtid.specs.declared.interval.Interval.{Interval}
 use Rattle.gtid.specs.declared.group.Group.{Group}
 
--- whether an identifier is one of the group's
+-- whether a GTID is in the group
 abbrev pub is_of : Id → Group → Bool
 is_of id g = bytes_eq id.0 g.source && has g.intervals.items id.1
 
--- whether it is one of the groups'
+-- whether a GTID is in one of the groups
 abbrev pub is_listed : Id → List Group → Bool
 is_listed id groups = list_any (is_of id) groups
 
@@ -47,7 +47,8 @@ abbrev pub IsNoHigher : List ℕ → List Group → Type 0
 IsNoHigher source [] = Unit {0}
 IsNoHigher source (g ∷ groups) = (slice_cmp nat_cmp source g.source ≡ Less) ⊎ (g.source ≡ source)
 
--- The first group is the source's, with these intervals and the rest behind it; or it isn't, and there are no intervals.
+-- The first group is the source's, with these intervals and the rest after it; or it is not, and there are no
+-- intervals.
 abbrev pub Splits : List Group → List ℕ → List Interval → List Group → Type 0
 Splits [] source intervals rest = (intervals ≡ []) × (rest ≡ [])
 Splits (g ∷ groups) source intervals rest =
@@ -61,10 +62,10 @@ IsBelow s ss = AllByRecursion (λ t. slice_cmp nat_cmp s t ≡ Less) ss
 abbrev pub AreBelow : List (List ℕ) → List (List ℕ) → Type 0
 AreBelow ss ts = AllByRecursion (λ s. IsBelow s ts) ss
 
--- the source's group stands there
+-- the source's group is at this index
 abbrev pub IsAt : List ℕ → List Group → ℕ → Type 0
 IsAt source groups at = (at < length groups) × ((d : Group) → (slice_index_or groups at d).source ≡ source)
 
--- the source has no group, and there it would go
+-- the source has no group, and its group would be inserted at this index
 abbrev pub IsGap : List ℕ → List Group → ℕ → Type 0
 IsGap source groups at = (at ≤ length groups) × AreBelow (sources (take at groups)) (source ∷ []) × IsBelow source (sources (drop at groups))

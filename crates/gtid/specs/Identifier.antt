@@ -13,11 +13,11 @@ use Rattle.gtid.specs.declared.identifier.Gtid.{Gtid}
 abbrev pub Id : Type 0
 Id = List ℕ × ℕ
 
--- identifiers by source bytes, and then by number
+-- GTIDs by source bytes, and then by number
 abbrev pub id_cmp : Id → Id → Ordering
 id_cmp a b = ordering_then (slice_cmp nat_cmp a.0 b.0) (nat_cmp a.1 b.1)
 
--- a plain set of identifiers
+-- a plain set of GTIDs
 abbrev pub Ids : Type 0
 Ids = set.FinSet id_cmp
 
@@ -29,17 +29,17 @@ IsSource bytes = (length bytes ≡ 16) × AllByRecursion (λ b. b < 256) bytes
 abbrev pub IsGtid : Id → Type 0
 IsGtid q = IsSource q.0 × (1 ≤ q.1) × (q.1 ≤ 2 ^ 63 - 2)
 
--- What the set has are identifiers of transactions.
+-- The members of the set are GTIDs of transactions.
 abbrev pub AreGtids : Ids → Type 0
 AreGtids ids = (q : Id) → set.contains ids q ≡ true → IsGtid q
 
 abbrev pub ids_code : Coded Ids
 ids_code = set.code (coded× (coded_list coded_ℕ) coded_ℕ)
 
--- the identifier that a value of `Gtid` stands for
+-- what a value of `Gtid` stands for
 abbrev pub id : Gtid → Id
 id g = (g.source, g.number)
 
--- whether two identifiers are one
+-- whether two GTIDs are the same
 abbrev pub is_one : Id → Id → Bool
 is_one a b = bytes_eq a.0 b.0 && nat_eq a.1 b.1

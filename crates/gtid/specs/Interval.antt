@@ -13,12 +13,13 @@ is_within n i = nat_le i.lo n && nat_lt n i.hi
 abbrev pub has : List Interval → ℕ → Bool
 has intervals n = list_any (is_within n) intervals
 
--- The intervals ascend, with a gap before each, and none is empty. What is before the first ends here. No number is above 2^63 - 2.
+-- The intervals ascend, with a gap before each, and none is empty. What comes before the first ends at `end`. No number
+-- is above 2^63 - 2.
 abbrev pub AreLeast : ℕ → List Interval → Type 0
 AreLeast end [] = Unit {0}
 AreLeast end (i ∷ intervals) = (end < i.lo) × (i.lo < i.hi) × (i.hi < 2 ^ 63) × AreLeast i.hi intervals
 
--- The last interval ends at the number or behind it.
+-- The last interval's hi is the number or above.
 abbrev pub Reaches : List Interval → ℕ → Type 0
 Reaches intervals number = (1 ≤ length intervals) × ((d : Interval) → number ≤ (slice_index_or intervals (length intervals - 1) d).hi)
 

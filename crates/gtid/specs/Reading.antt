@@ -1,4 +1,5 @@
--- How the intervals of a text are read, byte after byte. The steps of `read_spans` are said in these words, and `read_spans` itself in those of the grammar alone.
+-- How the intervals of a text are read, byte after byte. The clauses of the steps of `read_spans` use these
+-- definitions; those of `read_spans` itself use the grammar alone.
 use Rattle.std.specs.Prelude.{ℕ, ◌+◌, ◌-◌, ◌*◌, ◌/◌, ◌%◌, ◌<◌, ◌≤◌, ◌^◌, ◌==◌, ◌||◌, nat_lt, Option, Some, None, Result, Ok, Err, if◌then◌else◌, List, [], ◌∷◌, ◌++◌, slice_index, set}
 use Rattle.uuid.specs.Text.{is_hex_digit, value_of}
 use Rattle.gtid.specs.Scan.{is_digit}
@@ -6,51 +7,51 @@ use Rattle.gtid.specs.Text.{written_fault}
 use Rattle.gtid.specs.declared.fault.GtidFault.{GtidFault}
 use Rattle.gtid.specs.declared.span.Span.{Span}
 
--- A span that has a number, and none outside 1 to 2 ^ 63 - 2.
+-- A span with at least one number, and none outside 1 to 2 ^ 63 - 2.
 abbrev pub IsLawfulSpan : Span → Type 0
 IsLawfulSpan s = (1 ≤ s.lo) × (s.lo < s.hi) × (s.hi < 2 ^ 63)
 
--- Where in an item the reading stands.
+-- Where in an item the reading is.
 pub data Part : Type 0 where
-  -- before so many of its UUID's digits
+  -- after this many digits of its UUID
   Source : ℕ → Part
-  -- in the first number of an interval, which is so much by now
+  -- in the first number of an interval, with its value so far
   First : ℕ → Part
-  -- in the second number, behind the first
+  -- in the second number, after the first one
   Second : ℕ → ℕ → Part
-  -- behind the intervals
+  -- after the intervals
   Behind : Part
 
 -- the number, or the greatest that eight bytes hold
 abbrev pub at_most : ℕ → ℕ
 at_most n = if nat_lt n (2 ^ 64) then n else 2 ^ 64 - 1
 
--- a digit behind a number
+-- a number with one more digit at its end
 abbrev pub appended : ℕ → ℕ → ℕ
 appended n digit = at_most (at_most (n * 10) + (digit - 48))
 
--- behind a number, at no digit
+-- after a number, at a byte that is not a digit
 abbrev pub behind_number : ℕ → Part
 behind_number b = if b == 58 then First 0 else if b == 44 then Source 0 else Behind
 
--- how many digits of a UUID there are with a byte, up to what one byte holds
+-- how many digits of a UUID have been read after one more byte, up to what one byte holds
 abbrev pub more_digits : ℕ → ℕ → ℕ
 more_digits digits b = if is_hex_digit b then (if nat_lt (digits + 1) 256 then digits + 1 else 255) else digits
 
--- where a byte leads
+-- the part after a byte
 abbrev pub advance : Part → ℕ → Part
 advance (Source digits) b = if b == 58 then First 0 else Source (more_digits digits b)
 advance (First lo) b = if is_digit b then First (appended lo b) else if b == 45 then Second lo 0 else behind_number b
 advance (Second lo hi) b = if is_digit b then Second lo (appended hi b) else behind_number b
 advance Behind b = if b == 44 then Source 0 else Behind
 
--- the source, with a digit of the UUID at its place
+-- the source, with a digit of the UUID in its place
 abbrev pub put : List ℕ → ℕ → ℕ → List ℕ
 put source digits b =
     if is_hex_digit b then (if nat_lt (digits / 2) 16 then set source (digits / 2) (slice_index source (digits / 2) % 16 * 16 + value_of b) else source)
     else source
 
--- the source behind a byte
+-- the source after a byte
 abbrev pub source_after : List ℕ → Part → ℕ → List ℕ
 source_after source (Source digits) b = put source digits b
 source_after source (First lo) b = source
@@ -92,7 +93,7 @@ abbrev pub collected : Part → List ℕ → List ℕ → List Found
 collected part source [] = ended part 44 source
 collected part source (b ∷ bs) = ended part b source ++ collected (advance part b) (source_after source part b) bs
 
--- what is found behind an interval
+-- what is found after an interval
 abbrev pub behind_interval : List ℕ → List ℕ → List Found
 behind_interval source [] = []
 behind_interval source (b ∷ bs) = collected (behind_number b) source bs

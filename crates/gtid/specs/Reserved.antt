@@ -1,4 +1,4 @@
--- Room for one more identifier.
+-- Room for one more GTID.
 use Rattle.std.specs.Prelude.{◌≡◌, ℕ, ◌<◌, nat_eq, length, List, slice_index_or, vec_len, vec_capacity}
 use Rattle.gtid.specs.Interval.{has}
 use Rattle.gtid.specs.Group.{IsAt, IsGap}
@@ -7,19 +7,19 @@ use Rattle.gtid.specs.declared.group.Group.{Group}
 use Rattle.gtid.specs.declared.groups.Place.{Place}
 use Rattle.gtid.specs.declared.groups.Place.TheVariants.{Within, Before}
 
--- The group of the identifier's source stands there, and one more interval of it needs no memory.
+-- The group of the GTID's source is at this index, and one more interval in it needs no memory.
 pub record FitsWithin (gtid : Gtid) (groups : List Group) (at : ℕ) : Type 0 where
   pub there : IsAt gtid.source groups at
   pub room : (d : Group) → vec_len (slice_index_or groups at d).intervals < vec_capacity (slice_index_or groups at d).intervals
 
--- The source has no group, the identifier alone is this one, and one more group needs no memory.
+-- The source has no group, `group` is that of the GTID alone, and one more group needs no memory.
 pub record FitsBefore (gtid : Gtid) (groups : List Group) (capacity at : ℕ) (group : Group) : Type 0 where
   pub gap : IsGap gtid.source groups at
   pub room : length groups < capacity
   pub source : group.source ≡ gtid.source
   pub numbers : (n : ℕ) → has group.intervals.items n ≡ nat_eq n gtid.number
 
--- Adding the identifier there needs no memory.
+-- Adding the GTID there needs no memory.
 abbrev pub HasRoom : Gtid → List Group → ℕ → Place → Type 0
 HasRoom gtid groups capacity (Within at) = FitsWithin gtid groups at
 HasRoom gtid groups capacity (Before at group) = FitsBefore gtid groups capacity at group

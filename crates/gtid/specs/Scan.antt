@@ -1,4 +1,5 @@
--- How a text is scanned: what was read last, and what may stand next. The steps of `scan` are said in these words, and `scan` itself in those of the grammar alone.
+-- How a text is scanned: what was read last, and what may come next. The clauses of the steps of `scan` use these
+-- definitions; those of `scan` itself use the grammar alone.
 use Rattle.std.specs.Prelude.{◌≡◌, ℕ, ◌+◌, ◌<◌, ◌≤◌, ◌==◌, ◌||◌, ◌&&◌, Bool, true, false, nat_le, Option, Some, None, List, [], ◌∷◌, ◌++◌, if◌then◌else◌}
 use Rattle.uuid.specs.Text.{is_hex_digit, is_hyphen_place}
 use Rattle.gtid.specs.declared.grammar.State.{State}
@@ -10,7 +11,7 @@ is_blank b = (b == 0x20) || (b == 0x0A) || (b == 0x0D)
 abbrev pub is_digit : ℕ → Bool
 is_digit b = nat_le 48 b && nat_le b 57
 
--- whether a byte may stand at a place of a hyphenated UUID
+-- whether a byte may be at a place of a hyphenated UUID
 abbrev pub stands_at : ℕ → ℕ → Bool
 stands_at place b = if is_hyphen_place place then b == 45 else is_hex_digit b
 
@@ -18,11 +19,11 @@ stands_at place b = if is_hyphen_place place then b == 45 else is_hex_digit b
 abbrev pub begin : State → ℕ → Option State
 begin state b = if is_hex_digit b then Some (Source 1) else if is_blank b then Some state else None
 
--- behind a number that may be an item's last, at no digit
+-- after a number that may be an item's last, at a byte that is not a digit
 abbrev pub end_number : ℕ → Option State
 end_number b = if b == 58 then Some First else if is_blank b then Some Behind else if b == 44 then Some Item else None
 
--- where a byte leads, if it may stand next
+-- the state after a byte, if the byte may come next
 abbrev pub step : State → ℕ → Option State
 step Start b = begin Start b
 step Item b = begin Item b
@@ -47,7 +48,7 @@ ends Second = false
 ends Hi = true
 ends Behind = true
 
--- No more of a UUID than it has was read.
+-- At most the 36 bytes of a UUID were read.
 abbrev pub IsPlaced : State → Type 0
 IsPlaced Start = Unit {0}
 IsPlaced Item = Unit {0}
@@ -58,28 +59,28 @@ IsPlaced Second = Unit {0}
 IsPlaced Hi = Unit {0}
 IsPlaced Behind = Unit {0}
 
--- where a byte leads, if those before it led on
+-- the state after a byte, if there was one before it
 abbrev pub stepped : Option State → ℕ → Option State
 stepped None b = None
 stepped (Some s) b = step s b
 
--- where the bytes lead
+-- the state after the bytes
 abbrev pub run : Option State → List ℕ → Option State
 run o [] = o
 run o (b ∷ bs) = run (stepped o b) bs
 
--- From the one state to the other a front of the text leads, and this is left.
+-- A front of the text leads from the one state to the other, and this is left.
 pub record IsPassed (from : State) (text : List ℕ) (to : State) (left : List ℕ) : Type 0 where
   pub front : List ℕ
   pub is : text ≡ front ++ left
   pub ran : run (Some from) front ≡ Some to
 
--- The first byte, if there is one, is no digit.
+-- The first byte, if there is one, is not a digit.
 abbrev pub BeginsWithNoDigit : List ℕ → Type 0
 BeginsWithNoDigit [] = Unit {0}
 BeginsWithNoDigit (b ∷ bs) = is_digit b ≡ false
 
--- The first byte, if there is one, may not stand at this place of a UUID.
+-- The first byte, if there is one, may not be at this place of a UUID.
 abbrev pub EndsAt : ℕ → List ℕ → Type 0
 EndsAt place [] = Unit {0}
 EndsAt place (b ∷ bs) = place < 36 → stands_at place b ≡ false

@@ -1,4 +1,4 @@
--- Sets of identifiers as intervals. MySQL Reference Manual, "GTID Format and Storage" (GTID sets); MySQL Source
+-- Sets of GTIDs as intervals. MySQL Reference Manual, "GTID Format and Storage" (GTID sets); MySQL Source
 -- Documentation, Replication Protocol, COM_BINLOG_DUMP_GTID, whose intervals end one past their last number.
 use Rattle.std.specs.Prelude.{◌≡◌, ◌<◌, ◌⊎◌, ◌&&◌, Bool, List, [], ◌∷◌, nat_le, nat_lt}
 use Rattle.std.specs.List.{list_any}
@@ -10,15 +10,15 @@ use Rattle.std.specs.FinSet as set
 use Rattle.gtid.specs.Identifier.{Id, Ids}
 use Rattle.gtid.specs.declared.span.Span.{Span}
 
--- whether the identifier is in the span
+-- whether the GTID is in the span
 abbrev pub is_in : Id → Span → Bool
 is_in id span = bytes_eq id.0 span.source && (nat_le span.lo id.1 && nat_lt id.1 span.hi)
 
--- The set has what lies in some span of the list, and nothing else.
+-- The set has what is in some span of the list, and nothing else.
 abbrev pub Covers : List Span → Ids → Type 0
 Covers spans ids = (id : Id) → set.contains ids id ≡ list_any (is_in id) spans
 
--- a lower source, or the same source with a gap between
+-- a lower source, or the same source with a gap between the spans
 abbrev pub IsBefore : Span → Span → Type 0
 IsBefore a b = (slice_cmp nat_cmp a.source b.source ≡ Less) ⊎ ((a.source ≡ b.source) × (a.hi < b.lo))
 

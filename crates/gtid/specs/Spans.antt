@@ -14,6 +14,6 @@ spans_of_group g = map (span g.source) g.intervals.items
 abbrev pub spans_of : List Group → List Span
 spans_of groups = flat_map spans_of_group groups
 
--- some intervals of a source, and the groups behind them
+-- some intervals of a source, and then the groups after it
 abbrev pub spans_left : List ℕ → List Interval → List Group → List Span
 spans_left source intervals groups = map (span source) intervals ++ spans_of groups

@@ -1,4 +1,4 @@
--- A set of identifiers as text. MySQL Reference Manual, "GTID Format and Storage": the syntax of a GTID set.
+-- A set of GTIDs as text. MySQL Reference Manual, "GTID Format and Storage": the syntax of a GTID set.
 use Rattle.std.specs.Prelude.{◌≡◌, ℕ, ◌+◌, ◌*◌, ◌-◌, ◌<◌, ◌≤◌, ◌^◌, ◌⊎◌, ◌&&◌, not, List, [], ◌∷◌, ◌++◌, length, take, ◌==◌, nat_lt, nat_le, if◌then◌else◌, Bool, Option, Some, None, fold, flat_map, decimal, codes, map}
 use Rattle.std.specs.List.{join_by, AllByRecursion}
 use Rattle.std.specs.Str.{str_to_ascii_lowercase, byte}
@@ -22,14 +22,14 @@ interval_text i =
 abbrev pub block_text : SidBlock → List ℕ
 block_text block = hyphenated_text lower block.source ++ flat_map interval_text block.intervals
 
--- The set is one of identifiers of transactions, and the text is its printed form.
+-- The members of the set are GTIDs of transactions, and the text is its printed form.
 pub record IsText (ids : Ids) (text : List ℕ) : Type 0 where
   pub lawful : AreGtids ids
   pub spans : List Span
   pub least : IsLeastList spans ids
   pub printed : text ≡ join_by block_text (codes ",") (grouped spans)
 
--- The printed form stands behind what was there.
+-- The new text is the old one and then the printed form of the set.
 pub record AppendsText (ids : Ids) (old new : List ℕ) : Type 0 where
   pub text : List ℕ
   pub is_text : IsText ids text
@@ -41,7 +41,7 @@ pub record AppendsText (ids : Ids) (old new : List ℕ) : Type 0 where
 abbrev pub is_number : ℕ → Bool
 is_number n = nat_le 1 n && nat_lt n (2 ^ 63 - 1)
 
--- the digits, of which there is one or more, are this number
+-- the digits, at least one, are this number
 abbrev pub IsNumeral : List ℕ → ℕ → Type 0
 IsNumeral digits n = (0 < length digits) × AllByRecursion IsAsciiDigit digits × (n ≡ fold (λ so_far digit. so_far * 10 + (digit - byte "0")) 0 digits)
 
@@ -59,7 +59,7 @@ AreIntervalTexts text (i ∷ intervals) = (first : List ℕ) × (others : List �
 abbrev pub IsBlank : ℕ → Type 0
 IsBlank c = (c ≡ 0x20) ⊎ ((c ≡ 0x0A) ⊎ (c ≡ 0x0D))
 
--- a hyphenated UUID in either case and one interval or more, with blanks before and behind
+-- a hyphenated UUID in either case and at least one interval, with blanks before and after
 pub record IsItem (text : List ℕ) (item : SidBlock) : Type 0 where
   pub before : List ℕ
   pub uuid : List ℕ
@@ -72,7 +72,7 @@ pub record IsItem (text : List ℕ) (item : SidBlock) : Type 0 where
   pub some : 0 < length item.intervals
   pub intervals : AreIntervalTexts numbers item.intervals
 
--- The text is the items, joined by commas. With no item it is empty or blanks alone.
+-- The text is the items, separated by commas. Without items it is empty or only blanks.
 abbrev pub IsList : List ℕ → List SidBlock → Type 0
 IsList text [] = AllByRecursion IsBlank text
 IsList text (item ∷ []) = IsItem text item
@@ -121,11 +121,11 @@ pub record IsWrittenFault (text : List ℕ) (fault : GtidFault) : Type 0 where
   pub is_list : IsList text items
   pub faulty : list_fault items ≡ Some fault
 
--- some text of the grammar begins so
+-- some text of the grammar begins like this
 abbrev pub BeginsText : List ℕ → Type 0
 BeginsText front = (rest : List ℕ) × (items : List SidBlock) × IsList (front ++ rest) items
 
--- The text is outside the grammar, and its longest beginning that begins some text of the grammar has this length.
+-- The text is outside the grammar, and its longest prefix that begins some text of the grammar has this length.
 pub record IsOutsideFrom (text : List ℕ) (offset : ℕ) : Type 0 where
   pub outside : (items : List SidBlock) → IsList text items → ⊥
   pub within : offset ≤ length text

@@ -1,4 +1,4 @@
-//! The spans that a number touches.
+//! The spans next to a number.
 
 ghost use Rattle.std.specs.Prelude.{◌≡◌};
 ghost use Rattle.std.specs.Option.{option_map};
@@ -10,17 +10,18 @@ use crate::identifier::Gtid;
 use crate::interval::Interval;
 use crate::span::Span;
 
-/// The spans of a set that a number touches which is not in it.
+/// The neighbours of a GTID that is not in the set: the spans of its source that touch it. For a GTID in the set there
+/// are none.
 #[derive(Clone, Copy, Debug, PartialEq, Eq)]
 pub struct Beside {
-    /// The span that ends at the number.
+    /// The span that ends just before the number: its `hi` is the number.
     pub below: Option<Span>,
-    /// The span that begins behind it.
+    /// The span that begins just after the number: its `lo` is the number + 1.
     pub above: Option<Span>,
 }
 
 impl Beside {
-    /// The spans of these intervals of the source.
+    /// The neighbours as spans of the source.
     pub(crate) fn of(source: [u8; 16], below: Option<Interval>, above: Option<Interval>) -> Beside
         ensures below { result.below ≡ option_map (span source) below }
         ensures above { result.above ≡ option_map (span source) above }
@@ -31,7 +32,7 @@ impl Beside {
         }
     }
 
-    /// The span that the number and the spans beside it make.
+    /// The one span that the number and its neighbours make together.
     pub fn joined(&self, gtid: Gtid) -> Span
         ensures { result ≡ joined (id gtid) self.now.below self.now.above }
     {

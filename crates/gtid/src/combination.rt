@@ -1,4 +1,4 @@
-//! Two lists of intervals as one.
+//! Two lists of intervals combined into one.
 
 ghost use Rattle.std.specs.Prelude.{◌≡◌, ℕ, ◌+◌, ◌≤◌, ◌<◌, ◌^◌, ◌||◌, ◌&&◌, not, length, [], IfOk, OnOk, IfErr, IfNone, IfSome, nat_le, nat_lt};
 ghost use Rattle.gtid.specs.Interval.{is_within, has, AreLeast};
@@ -18,7 +18,7 @@ pub(crate) enum Combination {
     Difference,
 }
 
-/// The intervals of two lists in the order in which they begin.
+/// The intervals of two lists in the order of their beginnings.
 #[derive(Drop)]
 struct Merged<'a> {
     left: &'a [Interval],
@@ -26,7 +26,7 @@ struct Merged<'a> {
 }
 
 impl Merged<'_> {
-    /// The interval that begins first of those that are left.
+    /// Takes the interval that begins first.
     fn next(&mut self) -> Option<Interval>
         ensures none { IfNone result ((self.old.left.now ≡ []) × (self.old.right.now ≡ [])) }
         ensures same { IfSome result (λ first. (n : ℕ) → has_left self.old n ≡ (is_within n first || has_left self.new n)) }
@@ -77,7 +77,7 @@ fn union(alloc: Global, left: &[Interval], right: &[Interval]) -> Result<Vec<Int
     Ok(joined)
 }
 
-/// Appends an interval, where it has a number.
+/// Appends the interval from `lo` to `hi`, unless it is empty.
 fn push_some(intervals: &mut Vec<Interval>, lo: u64, hi: u64) -> Result<(), GtidFault>
     requires { hi < 2 ^ 63 }
     ensures least { OnOk result ((before after : ℕ) → before ≤ lo → before ≤ after → (lo < hi → hi < after) → AreLeastBefore 0 before intervals.old.items → AreLeastBefore 0 after intervals.new.items) }

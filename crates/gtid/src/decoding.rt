@@ -14,7 +14,7 @@ use crate::interval::Interval;
 use byteorder::{ByteOrder, LittleEndian};
 use std::alloc::Global;
 
-/// A source and the number of its intervals, and the bytes behind them.
+/// A source, the number of its intervals, and the bytes after them.
 #[derive(Drop)]
 struct Heading<'a> {
     source: [u8; 16],
@@ -22,7 +22,7 @@ struct Heading<'a> {
     rest: &'a [u8],
 }
 
-/// The number in the first eight bytes, the lowest first, and the bytes behind it.
+/// The number in the first eight bytes, the lowest first, and the bytes after it.
 fn read_number(bytes: &[u8]) -> Option<(u64, &[u8])>
     ensures enough { IfSome result (λ read. 8 ≤ length bytes.now) }
     ensures number { IfSome result (λ read. read.0 ≡ little_number 8 bytes.now) }
@@ -46,7 +46,7 @@ fn source_of(bytes: &[u8]) -> [u8; 16]
     source
 }
 
-/// Whether a source is above the one before, where there is one.
+/// Whether a source is above the one before it, if there is one.
 fn ascends(before: Option<[u8; 16]>, source: &[u8; 16]) -> bool
     ensures { result ≡ is_above before source.now }
 {
@@ -56,7 +56,8 @@ fn ascends(before: Option<[u8; 16]>, source: &[u8; 16]) -> bool
     }
 }
 
-/// The interval at the front of the bytes, behind one that ended at `after`, and the bytes behind it.
+/// The interval at the front of the bytes, and the bytes after it. The interval before it ended at `after`, 0 if there
+/// is none.
 fn read_interval(after: u64, bytes: &[u8]) -> Result<(Interval, &[u8]), GtidFault>
     ensures above { IfOk result (λ read. after < read.0.lo) }
     ensures some { IfOk result (λ read. read.0.lo < read.0.hi) }
@@ -82,7 +83,8 @@ fn read_interval(after: u64, bytes: &[u8]) -> Result<(Interval, &[u8]), GtidFaul
     Ok((Interval { lo, hi }, rest))
 }
 
-/// The source at the front of the bytes, behind another where there is one, and the number of its intervals.
+/// The source at the front of the bytes and the number of its intervals. `before` is the source before it, if there is
+/// one.
 fn read_source(before: Option<[u8; 16]>, bytes: &[u8]) -> Result<Heading<'_>, GtidFault>
     ensures long { IfOk result (λ heading. length heading.source ≡ 16) }
     ensures above { IfOk result (λ heading. is_above before heading.source ≡ true) }
@@ -106,7 +108,7 @@ fn read_source(before: Option<[u8; 16]>, bytes: &[u8]) -> Result<Heading<'_>, Gt
     Ok(Heading { source, size, rest })
 }
 
-/// The intervals at the front of the bytes, as many as said, and the bytes behind them.
+/// The `size` intervals at the front of the bytes, and the bytes after them.
 fn read_intervals(
     alloc: Global,
     size: u64,
@@ -129,7 +131,7 @@ fn read_intervals(
     Ok((intervals, rest))
 }
 
-/// The group at the front of the bytes, behind another source where there is one, and the bytes behind it.
+/// The group at the front of the bytes, and the bytes after it. `before` is the source before it, if there is one.
 fn read_group(
     alloc: Global,
     before: Option<[u8; 16]>,
@@ -145,7 +147,7 @@ fn read_group(
     Ok((Group { source, intervals }, rest))
 }
 
-/// The groups of the set at the front of the bytes, and the bytes behind it.
+/// The groups of the set at the front of the bytes, and the bytes after the set.
 pub(crate) fn read_groups(alloc: Global, bytes: &[u8]) -> Result<(Vec<Group>, &[u8]), GtidFault>
     ensures lawful { IfOk result (λ read. AreBlocks None (blocks read.0.items)) }
     ensures split { IfOk result (λ read. bytes.now ≡ blocks_bytes (blocks read.0.items) ++ read.1.now) }

@@ -21,7 +21,7 @@ pub(crate) fn write_groups(groups: &[Group], out: &mut Vec<u8>) -> Result<(), Gt
     Ok(())
 }
 
-/// Appends a source, the number of its intervals, and these.
+/// Appends a source, the number of its intervals, and the intervals.
 fn write_group(group: &Group, out: &mut Vec<u8>) -> Result<(), GtidFault>
     ensures ok { OnOk result (out.new.items ≡ out.old.items ++ block_bytes (of_group group.now)) }
     ensures err { OnErr result (result ≡ Err GtidFault.Memory) }
@@ -35,7 +35,7 @@ fn write_group(group: &Group, out: &mut Vec<u8>) -> Result<(), GtidFault>
     Ok(())
 }
 
-/// Appends where an interval begins, and where it ends.
+/// Appends the first number of an interval, and one past its last number.
 fn write_interval(interval: Interval, out: &mut Vec<u8>) -> Result<(), GtidFault>
     ensures ok { OnOk result (out.new.items ≡ out.old.items ++ interval_bytes (pair interval)) }
     ensures err { OnErr result (result ≡ Err GtidFault.Memory) }

@@ -9,19 +9,20 @@ use thiserror::Error;
 /// Why a set could not be read or changed.
 #[derive(Clone, Copy, Debug, PartialEq, Eq, Error)]
 pub enum GtidFault {
-    /// The text is no text of a set. Its longest beginning that begins one has this many bytes.
-    #[error("no GTID set: the text is wrong at byte {0}")]
+    /// The text is not a GTID set. The value is the length in bytes of the longest prefix that begins some valid text:
+    /// the place of the first wrong byte, or the length of the text if it ends too early.
+    #[error("not a GTID set: the text is wrong at byte {0}")]
     Text(usize),
-    /// A number is outside 1 to 2^63 - 2.
-    #[error("a number is outside its range")]
+    /// A transaction number is outside 1 to 2^63 - 2.
+    #[error("a transaction number is outside 1 to 9223372036854775806")]
     Number,
-    /// An interval has no number.
+    /// An interval is empty, or an encoded source has no interval.
     #[error("an interval is empty")]
     Interval,
     /// The bytes end early.
     #[error("the bytes end early")]
     Truncated,
-    /// Sources or intervals do not ascend, or intervals of a source touch.
+    /// The sources or the intervals of a source are not in ascending order, or two intervals touch.
     #[error("the sources or intervals do not ascend")]
     Order,
     /// An allocation was refused.

@@ -15,9 +15,9 @@ use crate::span::Span;
 use std::alloc::Global;
 use std::cmp::Ordering;
 
-/// The groups of the identifiers that are in some span.
+/// The groups of the GTIDs that are in at least one span.
 ///
-/// The sort takes linear time where the spans ascend already, as those of a printed text do.
+/// The sort takes linear time if the spans ascend already, as those of a printed text do.
 pub(crate) fn gather(alloc: Global, spans: Vec<Span>) -> Result<Vec<Group>, GtidFault>
     requires { AllByRecursion IsLawfulSpan spans.items }
     ensures ascend { IfOk result (λ groups. Ascend (sources groups.items)) }
@@ -29,7 +29,7 @@ pub(crate) fn gather(alloc: Global, spans: Vec<Span>) -> Result<Vec<Group>, Gtid
     gather_rising(alloc, &spans)
 }
 
-/// How two spans compare by where they begin.
+/// Compares two spans by where they begin.
 fn order(a: &Span, b: &Span) -> Ordering
     ensures { result ≡ id_cmp (start a.now) (start b.now) }
 {
@@ -39,7 +39,7 @@ fn order(a: &Span, b: &Span) -> Ordering
     a.source.cmp(&b.source)
 }
 
-/// The groups of the identifiers that are in some span, where the spans stand in the order in which they begin.
+/// The groups of the GTIDs that are in at least one span, for spans in the order of their beginnings.
 fn gather_rising(alloc: Global, spans: &[Span]) -> Result<Vec<Group>, GtidFault>
     requires lawful { AllByRecursion IsLawfulSpan spans.now }
     requires rise { Rise spans.now }
@@ -57,7 +57,7 @@ fn gather_rising(alloc: Global, spans: &[Span]) -> Result<Vec<Group>, GtidFault>
     Ok(groups)
 }
 
-/// The group of a source, by its first span and those behind it, and the spans behind the source's.
+/// The group of the first span's source, and the spans after that source. `behind` are the spans after the first.
 fn join<'a>(
     alloc: Global,
     first: Span,
@@ -97,7 +97,7 @@ fn join<'a>(
     Ok((group, left))
 }
 
-/// The interval of the first span, and the spans behind it, where it is the source's.
+/// The interval of the first span and the spans after it, if the first span is the source's.
 fn take_one<'a>(source: &[u8; 16], spans: &'a [Span]) -> Option<(Interval, &'a [Span])>
     ensures some { IfSome result (λ taken. IsTaken source.now spans.now taken.0 taken.1.now) }
     ensures none { IfNone result (IsOther source.now spans.now) }

@@ -6,14 +6,14 @@ ghost use Rattle.gtid.specs.Scan;
 ghost use Rattle.gtid.specs.Scan.{IsPlaced, IsPassed, is_digit, BeginsWithNoDigit, EndsAt};
 ghost use Rattle.gtid.specs.declared.grammar.State.TheVariants.{Source, Lo, Hi};
 
-/// What was read last, and so what may stand next.
+/// What was read last, which decides what may come next.
 #[derive(Clone, Copy)]
 enum State {
     /// Nothing but blanks.
     Start,
-    /// A comma, and blanks behind it.
+    /// A comma, and any blanks after it.
     Item,
-    /// So many of the 36 bytes of a UUID, one at least.
+    /// This many of the 36 bytes of a UUID, at least one.
     Source(u8),
     /// The colon of an interval.
     First,
@@ -23,11 +23,11 @@ enum State {
     Second,
     /// A digit of an interval's second number.
     Hi,
-    /// A blank behind an item.
+    /// A blank after an item.
     Behind,
 }
 
-/// Whether the bytes are the text of a set; else the length of their longest beginning that begins one.
+/// Whether the bytes are the text of a set; otherwise the length of the longest prefix that begins some text of a set.
 pub(crate) fn scan(text: &[u8]) -> Result<(), usize>
     ensures ok { OnOk result (IsInGrammar text.now) }
     ensures err { IfErr result (IsOutsideFrom text.now) }
@@ -45,7 +45,7 @@ pub(crate) fn scan(text: &[u8]) -> Result<(), usize>
     if ends(state) { Ok(()) } else { Err(text.len()) }
 }
 
-/// Passes over more digits of a number, or more of a UUID, without a look at the state for each byte.
+/// Skips more digits of a number, or more bytes of a UUID, without matching the state for each byte.
 fn pass(state: State, text: &[u8]) -> (State, &[u8])
     requires { IsPlaced state }
     ensures passed { IsPassed state text.now result.0 result.1.now }
@@ -62,7 +62,7 @@ fn pass(state: State, text: &[u8]) -> (State, &[u8])
     }
 }
 
-/// What is behind the digits at the front.
+/// What follows the digits at the front.
 fn pass_digits(text: &[u8]) -> &[u8]
     ensures lo { IsPassed Lo text.now Lo result.now }
     ensures hi { IsPassed Hi text.now Hi result.now }
@@ -76,7 +76,7 @@ fn pass_digits(text: &[u8]) -> &[u8]
     left
 }
 
-/// The digit at the front, and what is behind it.
+/// The digit at the front, and what follows it.
 pub(crate) fn take_digit(text: &[u8]) -> Option<(u8, &[u8])>
     ensures some { IfSome result (λ taken. (text.now ≡ taken.0 ∷ taken.1.now) × (is_digit taken.0 ≡ true)) }
     ensures none { IfNone result (BeginsWithNoDigit text.now) }
@@ -87,7 +87,7 @@ pub(crate) fn take_digit(text: &[u8]) -> Option<(u8, &[u8])>
     }
 }
 
-/// How much of a UUID there is with the bytes at the front that may go on with it, and what is behind them.
+/// How many bytes of a UUID have been read after those at the front that continue it, and what follows them.
 fn pass_source(place: u8, text: &[u8]) -> (u8, &[u8])
     requires { place ≤ 36 }
     ensures passed { IsPassed (Source place) text.now (Source result.0) result.1.now }
@@ -107,7 +107,7 @@ fn pass_source(place: u8, text: &[u8]) -> (u8, &[u8])
     (place, left)
 }
 
-/// Whether a byte may stand at a place of a UUID. At its end none may.
+/// Whether a byte may be at this place of a UUID. None may be at place 36, its end.
 fn stands_at(place: u8, byte: u8) -> bool
     requires { place ≤ 36 }
     ensures within { IsTrue result → place < 36 }
@@ -121,7 +121,7 @@ fn stands_at(place: u8, byte: u8) -> bool
     }
 }
 
-/// Where a byte leads, if it may stand next.
+/// The state after a byte, if the byte may come next.
 fn step(state: State, byte: u8) -> Option<State>
     requires { IsPlaced state }
     ensures step { result ≡ Scan.step state byte }
@@ -155,7 +155,7 @@ fn step(state: State, byte: u8) -> Option<State>
     }
 }
 
-/// Where a byte leads from before an item: a blank back there, a hex digit into its UUID.
+/// The state after a byte that comes before an item: a blank keeps the state, a hex digit begins the UUID.
 fn begin(state: State, byte: u8) -> Option<State>
     ensures { result ≡ Scan.begin state byte }
 {
@@ -166,7 +166,7 @@ fn begin(state: State, byte: u8) -> Option<State>
     }
 }
 
-/// Where a byte leads from a place of a UUID, or from its end.
+/// The state after a byte that comes in a UUID, or right after it.
 fn continue_source(place: u8, byte: u8) -> Option<State>
     requires { place ≤ 36 }
     ensures { result ≡ Scan.step (Source place) byte }
@@ -177,7 +177,7 @@ fn continue_source(place: u8, byte: u8) -> Option<State>
     }
 }
 
-/// Where a byte that is no digit leads from a number that may be an item's last.
+/// The state after a byte that is not a digit and comes after a number, if it may end the number there.
 fn end_number(byte: u8) -> Option<State>
     ensures { result ≡ Scan.end_number byte }
 {
@@ -189,7 +189,7 @@ fn end_number(byte: u8) -> Option<State>
     }
 }
 
-/// Whether the text may end there.
+/// Whether the text may end in this state.
 fn ends(state: State) -> bool
     ensures { result ≡ Scan.ends state }
 {

@@ -1,4 +1,4 @@
-//! The identifiers of one source.
+//! The GTIDs of one source.
 
 ghost use Rattle.std.specs.Prelude.{◌≡◌, ◌≢◌, ℕ, length, ◌≤◌, ◌<◌, ◌-◌, ◌^◌, ◌||◌, true, false, not, nat_eq, [], vec_len, vec_capacity, IsOk, IfOk, IfErr, OnOk, OnErr, Ok, Err};
 ghost use Rattle.gtid.specs.Interval.{has, AreLeast, AreLeast-prop};
@@ -9,7 +9,7 @@ use crate::interval;
 use crate::interval::Interval;
 use std::alloc::Global;
 
-/// The numbers of one source, of which there is one or more.
+/// The numbers of one source, at least one.
 #[derive(Debug, Drop)]
 pub(crate) struct Group {
     pub(crate) source: [u8; 16],
@@ -20,7 +20,7 @@ pub(crate) struct Group {
 }
 
 impl Group {
-    /// The group of one identifier. The only refusal is `Memory`.
+    /// The group of one GTID. The only error is `Memory`.
     pub(crate) fn of(alloc: Global, gtid: Gtid) -> Result<Group, GtidFault>
         ensures source { IfOk result (λ group. group.source ≡ gtid.source) }
         ensures numbers { IfOk result (λ group. (n : ℕ) → has group.intervals.items n ≡ nat_eq n gtid.number) }
@@ -32,7 +32,7 @@ impl Group {
         Ok(Group { source, intervals })
     }
 
-    /// Adds a number, and says whether it is new. The only refusal is `Memory`, where it is.
+    /// Adds a number, and returns whether it is new. The only error is `Memory`, and only for a new number.
     pub(crate) fn insert(&mut self, number: u64) -> Result<bool, GtidFault>
         requires { (1 ≤ number) × (number ≤ 2 ^ 63 - 2) }
         ensures source { self.new.source ≡ self.old.source }
@@ -45,7 +45,7 @@ impl Group {
         interval::insert(&mut self.intervals, number)
     }
 
-    /// Takes the room that one more interval wants. The only refusal is `Memory`.
+    /// Makes room for one more interval. The only error is `Memory`.
     pub(crate) fn reserve(&mut self) -> Result<(), GtidFault>
         ensures source { self.new.source ≡ self.old.source }
         ensures same { self.new.intervals.items ≡ self.old.intervals.items }

@@ -1,4 +1,4 @@
-//! The groups of a set, in the order of their sources' bytes.
+//! The groups of a set, in the order of the bytes of their sources.
 
 ghost use Rattle.std.specs.Prelude.{◌≡◌, ℕ, ◌≤◌, ◌⊎◌, ◌↔◌, ◌||◌, [], ◌∷◌, true, false, not, length, take, drop, IsTrue, OnOk, OnErr, Ok, Err, IfOk, IfErr, IfSome, IfNone, vec_capacity};
 ghost use Rattle.gtid.specs.Identifier.{Id, id, is_one};
@@ -31,7 +31,7 @@ fn lowest(left: &[Group], right: &[Group]) -> Option<[u8; 16]>
     }
 }
 
-/// The intervals of a source that none of the groups is below, and the groups behind it.
+/// The intervals of a source, and the groups after it. No group may be of a lower source.
 fn split<'a>(groups: &'a [Group], source: &[u8; 16]) -> (&'a [Interval], &'a [Group])
     ensures { Splits groups.now source.now result.0.now result.1.now }
 {
@@ -41,7 +41,8 @@ fn split<'a>(groups: &'a [Group], source: &[u8; 16]) -> (&'a [Interval], &'a [Gr
     }
 }
 
-/// Where the group of a source is, or where it would go. The last is looked at first: a set mostly has one source.
+/// The index of a source's group, or the index where it would be inserted. The last group is looked at first, since
+/// most sets have one source.
 fn find(groups: &[Group], source: &[u8; 16]) -> Result<usize, usize>
     requires { Ascend (sources groups.now) }
     ensures found { IfOk result (IsAt source.now groups.now) }
@@ -53,7 +54,7 @@ fn find(groups: &[Group], source: &[u8; 16]) -> Result<usize, usize>
     }
 }
 
-/// The same, by halving. A call, so that what is done without it stays short.
+/// Does the work of `find` by binary search. Not inlined, so that the code without it stays short.
 #[inline(never)]
 fn search(groups: &[Group], source: &[u8; 16]) -> Result<usize, usize>
     requires { Ascend (sources groups.now) }
@@ -63,7 +64,7 @@ fn search(groups: &[Group], source: &[u8; 16]) -> Result<usize, usize>
     groups.binary_search_by(|group| group.source.cmp(source))
 }
 
-/// The intervals of a source, none where it has no group.
+/// The intervals of a source, none if it has no group.
 pub(crate) fn intervals_of<'a>(groups: &'a [Group], source: &[u8; 16]) -> &'a [Interval]
     requires { Ascend (sources groups.now) }
     ensures least { AreLeast 0 result.now }
@@ -76,7 +77,7 @@ pub(crate) fn intervals_of<'a>(groups: &'a [Group], source: &[u8; 16]) -> &'a [I
     }
 }
 
-/// Whether each identifier of the first is one of the second.
+/// Whether each GTID of the first groups is in the second ones.
 pub(crate) fn are_subset(groups: &[Group], of: &[Group]) -> bool
     requires groups { Ascend (sources groups.now) }
     requires of { Ascend (sources of.now) }
@@ -90,7 +91,7 @@ pub(crate) fn are_subset(groups: &[Group], of: &[Group]) -> bool
     true
 }
 
-/// Adds an identifier, and says whether it is new. The only refusal is `Memory`, where it is.
+/// Adds a GTID, and returns whether it is new. The only error is `Memory`, and only for a new GTID.
 pub(crate) fn insert(groups: &mut Vec<Group>, gtid: Gtid) -> Result<bool, GtidFault>
     requires ascend { Ascend (sources groups.old.items) }
     ensures ascend { Ascend (sources groups.new.items) }
@@ -109,14 +110,14 @@ pub(crate) fn insert(groups: &mut Vec<Group>, gtid: Gtid) -> Result<bool, GtidFa
     }
 }
 
-/// Where an identifier goes: into a group, or as a group of its own before the one at a place.
+/// Where a GTID goes: into the group at an index, or as a group of its own before the one at an index.
 #[derive(Debug, Drop)]
 pub(crate) enum Place {
     Within(usize),
     Before(usize, Group),
 }
 
-/// Takes the room that an identifier wants. The only refusal is `Memory`.
+/// Makes room for a GTID. The only error is `Memory`.
 pub(crate) fn reserve(groups: &mut Vec<Group>, gtid: Gtid) -> Result<Place, GtidFault>
     requires ascend { Ascend (sources groups.old.items) }
     ensures ascend { Ascend (sources groups.new.items) }
@@ -137,7 +138,7 @@ pub(crate) fn reserve(groups: &mut Vec<Group>, gtid: Gtid) -> Result<Place, Gtid
     }
 }
 
-/// Adds an identifier that has room.
+/// Adds a GTID for which room was made.
 pub(crate) fn insert_reserved(groups: &mut Vec<Group>, gtid: Gtid, place: Place)
     requires ascend { Ascend (sources groups.old.items) }
     requires room { HasRoom gtid groups.old.items (vec_capacity groups.old) place }
@@ -154,7 +155,7 @@ pub(crate) fn insert_reserved(groups: &mut Vec<Group>, gtid: Gtid, place: Place)
     }
 }
 
-/// The groups of the identifiers that are kept, in one pass over both lists.
+/// The groups of the GTIDs that are kept, in one pass over both lists.
 pub(crate) fn combine_groups(
     alloc: Global,
     combination: Combination,

@@ -1,4 +1,4 @@
-//! The numbers of one source, as intervals.
+//! The transaction numbers of one source, as intervals.
 
 ghost use Rattle.std.specs.Prelude.{◌≡◌, ◌≢◌, ℕ, ◌≤◌, ◌<◌, ◌-◌, ◌^◌, ◌||◌, ◌↔◌, true, false, not, nat_eq, length, slice_index_or, vec_len, vec_capacity, None, IsTrue, IsOk, IfSome, IfNone, IfOk, OnOk, OnErr, Ok, Err};
 ghost use Rattle.std.specs.List.{AllWithin};
@@ -8,7 +8,7 @@ ghost use Rattle.gtid.specs.declared.interval.Interval.{Interval};
 
 use crate::fault::GtidFault;
 
-/// The numbers from `lo` up to, but without, `hi`.
+/// The numbers from `lo` up to but not including `hi`.
 #[derive(Clone, Copy, Debug, PartialEq, Eq)]
 pub(crate) struct Interval {
     pub(crate) lo: u64,
@@ -54,8 +54,8 @@ fn lies_in(interval: Interval, of: &[Interval]) -> bool
     }
 }
 
-/// The intervals that a number touches which is in none: the one that ends at it, and the one that begins behind it.
-/// For a number that is in one there are none.
+/// The neighbours of a number that is in none of the intervals: the interval that ends just before it, and the one that
+/// begins just after it. For a number that is in an interval there are none.
 pub(crate) fn beside(intervals: &[Interval], number: u64) -> (Option<Interval>, Option<Interval>)
     requires least { AreLeast 0 intervals.now }
     requires number { (1 ≤ number) × (number ≤ 2 ^ 63 - 2) }
@@ -75,7 +75,7 @@ pub(crate) fn beside(intervals: &[Interval], number: u64) -> (Option<Interval>, 
     (None, None)
 }
 
-/// The interval at a place, where it begins at the number.
+/// The interval at an index, if it begins at the number.
 fn begins_at(intervals: &[Interval], at: usize, number: u64) -> Option<Interval>
     ensures some { IfSome result (λ i. (at < length intervals.now) × (i.lo ≡ number) × ((d : Interval) → i ≡ slice_index_or intervals.now at d)) }
     ensures none { IfNone result ((d : Interval) → at < length intervals.now → (slice_index_or intervals.now at d).lo ≢ number) }
@@ -89,9 +89,9 @@ fn begins_at(intervals: &[Interval], at: usize, number: u64) -> Option<Interval>
     Some(first)
 }
 
-/// Adds a number, and says whether it is new. The only refusal is `Memory`, where it is.
+/// Adds a number, and returns whether it is new. The only error is `Memory`, and only for a new number.
 ///
-/// Numbers mostly come in order, so the end is looked at first.
+/// Numbers mostly come in order, so the last interval is looked at first.
 pub(crate) fn insert(intervals: &mut Vec<Interval>, number: u64) -> Result<bool, GtidFault>
     requires least { AreLeast 0 intervals.old.items }
     requires number { (1 ≤ number) × (number ≤ 2 ^ 63 - 2) }
@@ -113,7 +113,7 @@ pub(crate) fn insert(intervals: &mut Vec<Interval>, number: u64) -> Result<bool,
     Ok(true)
 }
 
-/// Whether some interval ends at the number or behind it.
+/// Whether some interval's `hi` is the number or above.
 fn reaches(intervals: &[Interval], number: u64) -> bool
     requires { AreLeast 0 intervals.now }
     ensures ends { IsTrue result → Reaches intervals.now number }
@@ -125,8 +125,8 @@ fn reaches(intervals: &[Interval], number: u64) -> bool
     }
 }
 
-/// The same as `insert`, where some interval ends at the number or behind it. A call, so that what is done without
-/// it stays short.
+/// Does the work of `insert` if some interval's `hi` is the number or above. Not inlined, so that the code without it
+/// stays short.
 #[inline(never)]
 fn insert_within(intervals: &mut Vec<Interval>, number: u64) -> Result<bool, GtidFault>
     requires least { AreLeast 0 intervals.old.items }
@@ -160,7 +160,7 @@ fn insert_within(intervals: &mut Vec<Interval>, number: u64) -> Result<bool, Gti
     Ok(true)
 }
 
-/// How many intervals end before the number, where not all do. The last is looked at first.
+/// How many intervals have a `hi` below the number, if not all do. The last is looked at first.
 fn place(intervals: &[Interval], number: u64) -> usize
     requires least { AreLeast 0 intervals.now }
     requires reaches { Reaches intervals.now number }
@@ -175,7 +175,7 @@ fn place(intervals: &[Interval], number: u64) -> usize
     intervals.partition_point(|interval| interval.hi < number)
 }
 
-/// Adds the number that an interval ends before, and joins the interval with the next where they now touch.
+/// Adds the number at which an interval's `hi` is, and joins the interval with the next one if they now touch.
 fn extend(intervals: &mut Vec<Interval>, at: usize, number: u64)
     requires least { AreLeast 0 intervals.old.items }
     requires number { number ≤ 2 ^ 63 - 2 }

@@ -1,4 +1,4 @@
-//! What callers rely on, as laws about the definitions.
+//! Laws about the definitions, for callers.
 //!
 //! A law is a function with an empty body: its clauses are proved of the definitions themselves.
 
@@ -11,7 +11,7 @@ ghost use Rattle.gtid.specs.Text.{IsText, IsRead, HasReading, IsParseFault, HasP
 ghost use Rattle.gtid.specs.declared.fault.GtidFault.{GtidFault};
 ghost use Rattle.gtid.specs.declared.span.Span.{Span};
 
-/// Each set has one list of least intervals.
+/// Each set has exactly one list of least intervals.
 pub fn one_least_list()
     ensures some { (ids : Ids) → HasLeastList ids }
     ensures one { (ids : Ids) (a b : List Span) → IsLeastList a ids → IsLeastList b ids → a ≡ b }
@@ -22,17 +22,17 @@ pub fn one_encoding()
     ensures { (ids : Ids) (a b : List ℕ) → IsEncoding ids a → IsEncoding ids b → a ≡ b }
 {}
 
-/// No set has two texts that are printed.
+/// No set has two printed texts.
 pub fn one_text()
     ensures { (ids : Ids) (a b : List ℕ) → IsText ids a → IsText ids b → a ≡ b }
 {}
 
-/// What is printed is read, and stands for the set that was printed.
+/// A printed text is read back as the set that was printed.
 pub fn text_is_read()
     ensures { (ids : Ids) (text : List ℕ) → IsText ids text → IsRead text ids }
 {}
 
-/// Each text is read or has a fault, and not both. What is read stands for one set, and else there is one fault.
+/// Each text either is read as one set or has one fault, and not both.
 pub fn one_reading_of_a_text()
     ensures some { (text : List ℕ) → HasReading text ⊎ HasParseFault text }
     ensures one_set { (text : List ℕ) (a b : Ids) → IsRead text a → IsRead text b → a ≡ b }
@@ -40,8 +40,7 @@ pub fn one_reading_of_a_text()
     ensures one_fault { (text : List ℕ) (a b : GtidFault) → IsParseFault text a → IsParseFault text b → a ≡ b }
 {}
 
-/// Bytes begin with an encoding or have a fault, and not both. What they begin with is one encoding, of one set, and
-/// else there is one fault.
+/// Bytes either begin with the encoding of one set, in one way, or have one fault, and not both.
 pub fn one_reading_of_bytes()
     ensures some { (bytes : List ℕ) → AllByRecursion (λ b. b < 256) bytes → BeginsWithEncoding bytes ⊎ HasDecodeFault bytes }
     ensures one_set { (a b : Ids) (bytes others x y : List ℕ) → IsEncoding a bytes → IsEncoding b others → bytes ++ x ≡ others ++ y → (a ≡ b) × (bytes ≡ others) }

@@ -1,9 +1,12 @@
 //! Global transaction identifiers (GTIDs) of MySQL, and sets of them.
 //!
-//! A [`Gtid`] is a source's sixteen bytes and the number of one of its transactions. A [`GtidSet`] keeps, for
-//! each source, the least intervals of its numbers.
+//! A [`Gtid`] is the sixteen bytes of a source's UUID and the number of one of its transactions. A [`GtidSet`] keeps
+//! the least intervals of each source's numbers: the fewest intervals, in ascending order, so that none is empty and no
+//! two touch. [`Span`] is such an interval with its source, from `lo` up to but not including `hi`. Sets are read from
+//! text and from the data of COM_BINLOG_DUMP_GTID, and written as both.
 //!
-//! The terms are those of the MySQL Reference Manual, "GTID Format and Storage".
+//! The terms are those of the MySQL Reference Manual, "GTID Format and Storage". `specs/` defines a set as a plain
+//! finite set of sources' bytes and numbers, and [`laws`] states what follows from the definitions.
 #![tactic(auto)]
 
 mod beside;

@@ -1,4 +1,4 @@
-//! The intervals that a text of the grammar says.
+//! The intervals in a text of the grammar.
 
 ghost use Rattle.std.specs.Prelude.{◌≡◌, ℕ, ◌⊎◌, ◌<◌, ◌≤◌, List, [], ◌∷◌, length, Some, None, Ok, Err, IfOk, IfErr, IfSome, IfNone};
 ghost use Rattle.std.specs.List.{AllByRecursion};
@@ -31,7 +31,7 @@ pub(crate) fn read_spans(alloc: Global, text: &[u8]) -> Result<Vec<Span>, GtidFa
     Ok(spans)
 }
 
-/// Reads a source up to its colon, and answers what is behind that.
+/// Reads a source up to its colon, and returns what follows the colon.
 fn read_source<'a>(text: &'a [u8], source: &mut [u8; 16]) -> Option<&'a [u8]>
     ensures some { IfSome result (λ behind. collected (Source 0) source.old text.now ≡ collected (First 0) source.new behind.now) }
     ensures none { IfNone result (collected (Source 0) source.old text.now ≡ []) }
@@ -50,7 +50,8 @@ fn read_source<'a>(text: &'a [u8], source: &mut [u8; 16]) -> Option<&'a [u8]>
     None
 }
 
-/// Appends the intervals of a source, the first of which begins here behind its colon, and answers the items behind.
+/// Appends the intervals of a source and returns the items after it. The text begins after the colon of the first
+/// interval.
 fn read_intervals<'a>(
     text: &'a [u8],
     source: [u8; 16],
@@ -67,7 +68,7 @@ fn read_intervals<'a>(
     Ok(behind_comma(behind))
 }
 
-/// Appends the interval that begins here behind its colon, and answers what is behind it.
+/// Appends an interval and returns what follows it. The text begins after the interval's colon.
 fn push_interval<'a>(
     text: &'a [u8],
     source: [u8; 16],
@@ -86,8 +87,8 @@ fn push_interval<'a>(
     Ok(behind)
 }
 
-/// The two numbers of an interval that begins here behind its colon, and what is behind it. A single number stands for
-/// both.
+/// The two numbers of an interval, and what follows it. The text begins after the interval's colon. A single number
+/// stands for both.
 fn read_interval(text: &[u8]) -> (u64, u64, &[u8])
     ensures found { (source : List ℕ) → collected (First 0) source text.now ≡ (source, (result.0, result.1)) ∷ behind_interval source result.2.now }
     ensures shorter { length result.2.now ≤ length text.now }
@@ -102,7 +103,7 @@ fn read_interval(text: &[u8]) -> (u64, u64, &[u8])
     }
 }
 
-/// The number at the front, and what is behind it.
+/// The number at the front, and what follows it.
 fn read_number(text: &[u8]) -> (u64, &[u8])
     ensures first { (source : List ℕ) → collected (First 0) source text.now ≡ collected (First result.0) source result.1.now }
     ensures second { (lo : ℕ) (source : List ℕ) → collected (Second lo 0) source text.now ≡ collected (Second lo result.0) source result.1.now }
@@ -118,7 +119,7 @@ fn read_number(text: &[u8]) -> (u64, &[u8])
     (number, left)
 }
 
-/// What is behind the next comma.
+/// What follows the next comma.
 fn behind_comma(text: &[u8]) -> &[u8]
     ensures items { (source : List ℕ) → collected Behind source text.now ≡ collected (Source 0) source result.now }
     ensures shorter { length result.now ≤ length text.now }
@@ -150,7 +151,7 @@ fn is_number(number: u64) -> bool
     1 <= number && number < i64::MAX as u64
 }
 
-/// Puts a digit of the UUID at its place.
+/// Puts a digit of the UUID into its place.
 fn put(source: &mut [u8; 16], digits: u8, byte: u8)
     ensures { source.new ≡ Reading.put source.old digits byte }
 {
@@ -163,7 +164,7 @@ fn put(source: &mut [u8; 16], digits: u8, byte: u8)
     }
 }
 
-/// How many digits of the UUID there are with a byte.
+/// How many digits of the UUID have been read after one more byte.
 fn more_digits(digits: u8, byte: u8) -> u8
     ensures { result ≡ Reading.more_digits digits byte }
 {
@@ -186,7 +187,7 @@ fn hex_value(byte: u8) -> Option<u8>
     }
 }
 
-/// A number with a digit behind it, or the greatest number.
+/// A number with one more digit at its end, or the greatest number that fits.
 fn appended(number: u64, digit: u8) -> u64
     ensures { result ≡ Reading.appended number digit }
 {

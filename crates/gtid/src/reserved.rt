@@ -1,4 +1,4 @@
-//! Room for one more identifier.
+//! Room for one more GTID.
 
 ghost use Rattle.std.specs.Prelude.{◌≡◌};
 ghost use Rattle.std.specs.FinSet as set;
@@ -9,9 +9,9 @@ use crate::identifier::Gtid;
 use crate::set::GtidSet;
 use std::marker::Model;
 
-/// A set with room for one more identifier, so that adding it takes no memory.
+/// A set with room for one more GTID, so that adding it takes no memory and cannot fail. `GtidSet::reserve` makes it.
 ///
-/// It is seen as the set, and the identifier that has room.
+/// In contracts it is the pair of the set and the GTID.
 #[derive(Debug, Drop)]
 pub struct Reserved {
     pub(crate) groups: Vec<Group>,
@@ -36,7 +36,7 @@ impl Model for Reserved {
 }
 
 impl Reserved {
-    /// The set with the identifier in it.
+    /// The set with the GTID added.
     pub fn insert(self) -> GtidSet
         ensures { result ≡ set.insert self.0 self.1 }
     {
@@ -49,7 +49,7 @@ impl Reserved {
         GtidSet { groups }
     }
 
-    /// The set as it was.
+    /// The set without the GTID, as it was.
     pub fn release(self) -> GtidSet
         ensures { result ≡ self.0 }
     {

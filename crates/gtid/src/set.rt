@@ -1,4 +1,4 @@
-//! Sets of identifiers.
+//! Sets of GTIDs.
 
 ghost use Rattle.std.specs.Prelude.{◌≡◌, ℕ, ◌≤◌, ◌⊎◌, true, false, not, length, take, string_bytes, MatchResult, IfOk, OnOk, IfErr, OnErr, Ok, Err, List, None};
 ghost use Rattle.std.specs.FinSet as set;
@@ -30,9 +30,9 @@ use crate::text::print_groups;
 use std::alloc::Global;
 use std::marker::Model;
 
-/// A set of identifiers.
+/// A set of GTIDs.
 ///
-/// It keeps the least intervals of each source, the sources in the order of their bytes.
+/// It keeps the least intervals of each source, with the sources in the order of their bytes.
 #[derive(Debug, Drop)]
 pub struct GtidSet {
     pub(crate) groups: Vec<Group>,
@@ -62,22 +62,22 @@ impl GtidSet {
         }
     }
 
-    /// Whether an identifier is in the set.
+    /// Whether a GTID is in the set.
     pub fn contains(&self, gtid: Gtid) -> bool
         ensures { result ≡ set.contains self.now (id gtid) }
     {
         interval::contains(intervals_of(&self.groups, &gtid.source), gtid.number)
     }
 
-    /// Whether each identifier of the set is in the other.
+    /// Whether each GTID of this set is in the other.
     pub fn is_subset(&self, other: &GtidSet) -> bool
         ensures { result ≡ set.is_subset self.now other.now }
     {
         are_subset(&self.groups, &other.groups)
     }
 
-    /// Adds an identifier, and says whether it is new. The only refusal is `Memory`, where it is; it leaves the
-    /// set as it was.
+    /// Adds a GTID, and returns whether it is new. The only error is `Memory`, which comes only for a new GTID and
+    /// leaves the set as it was.
     pub fn insert(&mut self, gtid: Gtid) -> Result<bool, GtidFault>
         ensures ok { IfOk result (λ new. (new ≡ not (set.contains self.old (id gtid))) × (self.new ≡ set.insert self.old (id gtid))) }
         ensures there { set.contains self.old (id gtid) ≡ true → result ≡ Ok false }
@@ -86,8 +86,8 @@ impl GtidSet {
         insert(&mut self.groups, gtid)
     }
 
-    /// Takes the room that one more identifier wants, so that adding it cannot fail. Where an allocation is refused it
-    /// hands back the set as it was.
+    /// Makes room for one more GTID, so that adding it cannot fail. If an allocation is refused it returns the set as
+    /// it was.
     pub fn reserve(self, gtid: Gtid) -> Result<Reserved, GtidSet>
         ensures ok { IfOk result (λ reserved. reserved ≡ (self, id gtid)) }
         ensures err { IfErr result (λ kept. kept ≡ self) }
@@ -103,7 +103,7 @@ impl GtidSet {
         }
     }
 
-    /// Adds what is in the other set. The only refusal is `Memory`, which leaves the set as it was.
+    /// Adds the GTIDs of the other set. The only error is `Memory`, which leaves the set as it was.
     pub fn union(&mut self, other: &GtidSet) -> Result<(), GtidFault>
         ensures ok { OnOk result (self.new ≡ set.union self.old other.now) }
         ensures err { OnErr result ((result ≡ Err GtidFault.Memory) × (self.new ≡ self.old)) }
@@ -113,7 +113,7 @@ impl GtidSet {
         Ok(())
     }
 
-    /// Takes away what is in the other set. The only refusal is `Memory`, which leaves the set as it was.
+    /// Removes the GTIDs of the other set. The only error is `Memory`, which leaves the set as it was.
     pub fn subtract(&mut self, other: &GtidSet) -> Result<(), GtidFault>
         ensures ok { OnOk result (self.new ≡ set.difference self.old other.now) }
         ensures err { OnErr result ((result ≡ Err GtidFault.Memory) × (self.new ≡ self.old)) }
@@ -123,7 +123,7 @@ impl GtidSet {
         Ok(())
     }
 
-    /// The same set again. The only refusal is `Memory`.
+    /// A copy of the set. The only error is `Memory`.
     pub fn copy(&self) -> Result<GtidSet, GtidFault>
         ensures ok { IfOk result (λ copied. copied ≡ self.now) }
         ensures err { IfErr result (λ fault. fault ≡ GtidFault.Memory) }
@@ -133,15 +133,15 @@ impl GtidSet {
         Ok(GtidSet { groups })
     }
 
-    /// The least intervals of the set, in order.
+    /// The least intervals of the set: by the source's bytes, then by number, in ascending order. It takes no memory.
     pub fn spans(&self) -> Spans<'_>
         ensures { IsLeastList result self.now }
     {
         Spans::new(&self.groups)
     }
 
-    /// The spans that a number touches which is not in the set: the one that ends at it, and the one that begins
-    /// behind it. Adding the number joins them. For a number that is in the set there are none. It takes no memory.
+    /// The neighbours of a GTID that is not in the set: the span of its source that ends just before it, and the one
+    /// that begins just after it. Adding the GTID joins them. For a GTID in the set there are none. It takes no memory.
     pub fn beside(&self, gtid: Gtid) -> Beside
         ensures joins { set.contains self.now (id gtid) ≡ false → (spans : List Span) → IsLeastList spans self.now → Joins self.now (id gtid) result spans }
         ensures there { set.contains self.now (id gtid) ≡ true → (result.below ≡ None) × (result.above ≡ None) }
@@ -152,7 +152,7 @@ impl GtidSet {
     }
 
     /// Appends the set as the data of COM_BINLOG_DUMP_GTID: the number of sources, and for each its 16 bytes, the
-    /// number of its intervals, and these. The only refusal is `Memory`, which leaves the vector as it was.
+    /// number of its intervals, and the intervals. The only error is `Memory`, which leaves the vector as it was.
     pub fn encode(&self, out: &mut Vec<u8>) -> Result<(), GtidFault>
         ensures ok { OnOk result (AppendsEncoding self.now out.old.items out.new.items) }
         ensures err { OnErr result ((result ≡ Err GtidFault.Memory) × (out.new.items ≡ out.old.items)) }
@@ -165,17 +165,17 @@ impl GtidSet {
         written
     }
 
-    /// The set at the front of the bytes, and the number of bytes that it takes.
+    /// Reads the encoded set at the front of the bytes, and returns it with the number of bytes that it takes.
     ///
-    /// The faults, of which it tells the first from left to right:
-    /// - `Truncated` where the bytes end early.
-    /// - `Order` where a source is not above the one before, or an interval does not begin above the end of the
-    ///   one before.
-    /// - `Interval` where a source has no interval, or an interval no number.
-    /// - `Number` where an interval begins at 0 or ends above 2^63 - 1.
-    /// - `Memory` where an allocation was refused.
+    /// The first fault from left to right is reported:
+    /// - `Truncated` if the bytes end early.
+    /// - `Order` if a source is not above the one before it, or an interval does not begin above the `hi` of the one
+    ///   before it.
+    /// - `Interval` if a source has no interval, or an interval is empty.
+    /// - `Number` if an interval begins at 0 or its `hi` is above 2^63 - 1.
+    /// - `Memory` if an allocation was refused.
     ///
-    /// Of one interval it tells `Number` before `Interval`, and that before `Order`.
+    /// For one interval `Number` is reported before `Interval`, and `Interval` before `Order`.
     pub fn decode(alloc: Global, bytes: &[u8]) -> Result<(GtidSet, usize), GtidFault>
         ensures length { IfOk result (λ found. found.1 ≤ length bytes.now) }
         ensures found { IfOk result (λ found. IsEncoding found.0 (take found.1 bytes.now)) }
@@ -187,15 +187,15 @@ impl GtidSet {
         Ok((GtidSet { groups }, used))
     }
 
-    /// The set that a text stands for: empty or blanks alone, or items with commas between, each a hyphenated UUID in
-    /// either case and one interval or more, `:n` or `:n-m`, with spaces, line feeds and carriage returns before and
-    /// behind it. Items may come in any order, and intervals may overlap.
+    /// Reads the text of a set: empty or only blanks, or items separated by commas. Each item is a hyphenated UUID in
+    /// either case and at least one interval, `:n` or `:n-m`, with any spaces, line feeds and carriage returns before
+    /// and after it. Items may come in any order, and intervals may overlap.
     ///
-    /// The faults, of which it tells the first:
-    /// - `Text` where the text is no such text, with the length of its longest beginning that begins one.
-    /// - `Number` or `Interval` where the first interval that is wrong has a number outside 1 to 2^63 - 2, or else a
+    /// The first of these faults is reported:
+    /// - `Text` if the text is not of this form, with the length of its longest prefix that begins such a text.
+    /// - `Number` or `Interval` for the first interval that is wrong: a number outside 1 to 2^63 - 2, or otherwise a
     ///   second number below the first.
-    /// - `Memory` where an allocation was refused.
+    /// - `Memory` if an allocation was refused.
     pub fn parse(alloc: Global, text: &str) -> Result<GtidSet, GtidFault>
         ensures found { IfOk result (IsRead text.now) }
         ensures fault { IfErr result (λ fault. (fault ≡ GtidFault.Memory) ⊎ IsParseFault text.now fault) }
@@ -210,8 +210,8 @@ impl GtidSet {
         Ok(GtidSet { groups })
     }
 
-    /// The set of what is in some span. The spans may come in any order, overlap and touch; those that ascend take
-    /// linear time. The only refusal is `Memory`.
+    /// The set of all GTIDs that are in at least one span. The spans may come in any order, overlap and touch; if they
+    /// ascend it takes linear time. The only error is `Memory`.
     pub fn of_spans(alloc: Global, spans: Vec<Span>) -> Result<GtidSet, GtidFault>
         requires { AllByRecursion IsLawfulSpan spans.items }
         ensures ok { IfOk result (Covers spans.items) }
@@ -221,8 +221,9 @@ impl GtidSet {
         Ok(GtidSet { groups: merged })
     }
 
-    /// Appends the text of the set: sources in lower case, ascending by their bytes, each with its least intervals, a
-    /// single number as `n`, and commas between. The only refusal is `Memory`, which leaves the text as it was.
+    /// Appends the text of the set: the sources in lower case and in the order of their bytes, separated by commas,
+    /// each with its least intervals, `:n` for one number and `:n-m` for more. The only error is `Memory`, which leaves
+    /// the text as it was.
     pub fn print(&self, out: &mut String) -> Result<(), GtidFault>
         ensures ok { OnOk result (AppendsText self.now (string_bytes out.old) (string_bytes out.new)) }
         ensures err { OnErr result ((result ≡ Err GtidFault.Memory) × (string_bytes out.new ≡ string_bytes out.old)) }

@@ -1,6 +1,6 @@
-//! The intervals of a set, as its callers see them.
+//! The intervals of a set, as callers see them.
 
-/// The numbers of a source from `lo` up to, but without, `hi`.
+/// The transaction numbers of a source from `lo` up to but not including `hi`: `hi` is one past the last number.
 #[derive(Clone, Copy, Debug, PartialEq, Eq)]
 pub struct Span {
     /// The sixteen bytes of the source's UUID.

@@ -1,4 +1,4 @@
-//! The intervals of a set, one after another.
+//! Iteration over the intervals of a set.
 
 ghost use Rattle.std.specs.Prelude.{◌≡◌};
 ghost use Rattle.std.specs.Iterator.{YieldsFirst, item_count};
@@ -9,7 +9,8 @@ use crate::interval::Interval;
 use crate::span::Span;
 use std::marker::Model;
 
-/// The least intervals of a set, in order, seen as the list of those that are left.
+/// An iterator over the least intervals of a set, in order. In contracts it is the list of those that are still to
+/// come.
 #[derive(Debug, Drop)]
 pub struct Spans<'a> {
     source: [u8; 16],

@@ -1,4 +1,4 @@
-//! What no clause can say: that calls succeed with memory to spare, and worked values of the public formats.
+//! What no clause says: calls succeed when there is enough memory. And worked values of the public formats.
 
 use super::*;
 use std::test::Fail;
@@ -53,7 +53,7 @@ fn gtids(rt: HostRuntime) {
     }
 }
 
-/// Numbers of one source, in the order in which they come, and the least intervals of them.
+/// Numbers of one source, in the order in which they are added, and their least intervals.
 #[test]
 fn least_intervals(rt: HostRuntime) -> Result<(), Fail> {
     let cases: [(&[u64], &[(u64, u64)], &str); 8] = [
@@ -130,7 +130,7 @@ fn sets_of_spans(rt: HostRuntime) -> Result<(), Fail> {
     Ok(())
 }
 
-/// Whether a number is new, and which are there.
+/// Whether a number is new, and which numbers are in the set.
 #[test]
 fn members(rt: HostRuntime) -> Result<(), Fail> {
     let mut set = set(&rt, &[1, 2, 3, 5])?;
@@ -156,7 +156,7 @@ fn some_span(source: [u8; 16], interval: Option<(u64, u64)>) -> Option<Span> {
     Some(Span { source, lo, hi })
 }
 
-/// The spans beside a number, and the span that it makes with them.
+/// The neighbours of a number, and the span that it makes with them.
 #[test]
 fn touched(rt: HostRuntime) -> Result<(), Fail> {
     let some = set(&rt, &[1, 2, 3, 5, 9])?;
@@ -215,7 +215,7 @@ fn operations(rt: HostRuntime) -> Result<(), Fail> {
     Ok(())
 }
 
-/// Sources stand in the order of their bytes, in whatever order they came.
+/// Sources are in the order of their bytes, in whatever order they came.
 #[test]
 fn sources(rt: HostRuntime) -> Result<(), Fail> {
     let mut both = set(&rt, &[1])?;
@@ -233,7 +233,7 @@ fn sources(rt: HostRuntime) -> Result<(), Fail> {
     Ok(())
 }
 
-/// The data of the dump command, behind what was there.
+/// The data of the dump command, appended after what was there.
 #[test]
 fn encoded(rt: HostRuntime) -> Result<(), Fail> {
     let mut set = set(&rt, &[1, 2, 3, 5])?;
@@ -264,7 +264,7 @@ fn encoded(rt: HostRuntime) -> Result<(), Fail> {
     Ok(())
 }
 
-/// The data of the dump command with the set A:1-3:5, whose 64 bytes are the set's.
+/// The encoded set A:1-3:5, 64 bytes, and one more byte.
 const ENCODED: [u8; 65] = [
     1, 0, 0, 0, 0, 0, 0, 0, 0x3e, 0x11, 0xfa, 0x47, 0x71, 0xca, 0x11, 0xe1, 0x9e, 0x33, 0xc8, 0x0a,
     0xa9, 0x42, 0x95, 0x62, 2, 0, 0, 0, 0, 0, 0, 0, 1, 0, 0, 0, 0, 0, 0, 0, 4, 0, 0, 0, 0, 0, 0, 0,
@@ -283,7 +283,7 @@ fn decoded(rt: HostRuntime) -> Result<(), Fail> {
     Ok(())
 }
 
-/// A byte of the encoding, what is put in its place, and the fault.
+/// The index of a byte in the encoding, its replacement, and the fault.
 const REFUSED: [(usize, u8, GtidFault); 7] = [
     (48, 4, GtidFault::Order),
     (48, 3, GtidFault::Order),
@@ -315,7 +315,7 @@ fn decode_faults(rt: HostRuntime) -> Result<(), Fail> {
     Ok(())
 }
 
-/// What stands behind A's text, and what is printed of it.
+/// What follows A's text, and what is printed of the whole.
 #[test]
 fn parsed(rt: HostRuntime) -> Result<(), Fail> {
     let cases = [
@@ -352,7 +352,7 @@ fn parsed(rt: HostRuntime) -> Result<(), Fail> {
     Ok(())
 }
 
-/// What stands behind A's text, and the fault.
+/// What follows A's text, and the fault.
 #[test]
 fn parse_faults(rt: HostRuntime) -> Result<(), Fail> {
     let cases = [
@@ -399,7 +399,7 @@ fn parse_faults(rt: HostRuntime) -> Result<(), Fail> {
     Ok(())
 }
 
-/// A number may have any count of digits.
+/// A number may have any number of digits.
 #[test]
 fn long_numbers(rt: HostRuntime) -> Result<(), Fail> {
     let mut nines = of_a(&rt, ":")?;
@@ -418,7 +418,7 @@ fn long_numbers(rt: HostRuntime) -> Result<(), Fail> {
     Ok(())
 }
 
-/// What has room is added without a refusal, and what is given up leaves the set as it was.
+/// A GTID with room is added without an error, and releasing it leaves the set as it was.
 #[test]
 fn reserved(rt: HostRuntime) -> Result<(), Fail> {
     let a = [7; 16];

@@ -61,7 +61,7 @@ fn print_source(source: &[u8; 16], out: &mut String) -> Result<(), GtidFault>
     Ok(())
 }
 
-/// Appends an interval by its first number and, where it has more than one, its last.
+/// Appends an interval: its first number and, if it has more than one, its last.
 fn print_interval(interval: Interval, out: &mut String) -> Result<(), GtidFault>
     requires { interval.lo < interval.hi }
     ensures ok { OnOk result (string_bytes out.new ≡ string_bytes out.old ++ interval_text (pair interval)) }

@@ -2,7 +2,7 @@
 //!
 //!     gtid_bench OPERATION
 //!
-//! `bench/gtid.rs` does the same in plain Rust. Both print what they found, so that the two can be compared.
+//! `bench/gtid.rs` does the same in plain Rust. Both print what they counted, so that they can be compared.
 #![tactic(auto)]
 
 use gtid::{Gtid, GtidFault, GtidSet};
@@ -23,7 +23,7 @@ const SOURCE: [u8; 16] = [
     0x3e, 0x11, 0xfa, 0x47, 0x71, 0xca, 0x11, 0xe1, 0x9e, 0x33, 0xc8, 0x0a, 0xa9, 0x42, 0x95, 0x62,
 ];
 
-/// The next of numbers that look like any (Knuth's linear congruence modulo 2^64).
+/// The next of a sequence of pseudo-random numbers (Knuth's linear congruence modulo 2^64).
 fn next(seed: &mut u64) -> u64 {
     *seed = seed
         .wrapping_mul(6_364_136_223_846_793_005)
@@ -31,7 +31,7 @@ fn next(seed: &mut u64) -> u64 {
     *seed >> 33
 }
 
-/// Adds a number, which is made one that may be.
+/// Adds a number. One that is not a transaction number is ignored.
 fn insert(set: &mut GtidSet, number: u64) -> Result<bool, GtidFault> {
     match Gtid::new(SOURCE, number) {
         Some(gtid) => set.insert(gtid),
@@ -143,7 +143,7 @@ fn read(alloc: Global, text: &str) -> Result<u64, GtidFault> {
     Ok(found)
 }
 
-/// The text of a set is read five times.
+/// Reads the text of a set five times.
 fn parse(alloc: Global) -> Result<u64, GtidFault> {
     let mut seed = 1;
     let set = intervals(alloc, &mut seed)?;
@@ -152,7 +152,7 @@ fn parse(alloc: Global) -> Result<u64, GtidFault> {
     read(alloc, &text)
 }
 
-/// A text of 10 MB with an item for each interval, of sixteen sources, at any places, is read five times.
+/// Reads five times a text of 10 MB with one interval in each item, of sixteen sources, in any order.
 fn parse_scattered(alloc: Global) -> Result<u64, GtidFault> {
     let mut seed = 1;
     let mut text = String::new(alloc);

@@ -1,4 +1,4 @@
--- A listing as more bytes come.
+-- A listing to which more bytes come.
 use Rattle.std.proofs.Common.{◌≡◌, ◌≢◌, ℕ, Bool, true, false, ◌+◌, ◌≤◌, ◌<◌, ◌^◌, List, [], ◌∷◌, ◌++◌, length, take, drop, refl, ap, sym, subst, ◌∙◌, append_assoc, arith, length-append, length-take, inl, Option, Some, None, IfNone, IfSome, MatchOption}
 use Rattle.std.proofs.Math.ListN.{get_or-append}
 use Rattle.std.proofs.lemmas.List.{append-nil, take-append-drop}
@@ -11,7 +11,7 @@ use Rattle.mrep.specs.declared.listing.Entry.{Entry}
 use Rattle.mrep.specs.declared.listing.Listing.{Listing}
 use Rattle.mrep.specs.Listing.{Lists, held_of, first_id, IsNoPayload, Stands, IsWrong, Faults}
 
--- bytes behind are part of the rest
+-- bytes after the rest are part of the rest
 lists-more : (offset : ℕ) (bytes more : List ℕ) (entries : List Entry) (rest : List ℕ) → Lists offset bytes entries rest → Lists offset (bytes ++ more) entries (rest ++ more)
 lists-more offset bytes more [] rest same = ap (λ b. b ++ more) same
 lists-more offset bytes more (e ∷ entries) rest (packing, others, payload, next, is, whole, at, long, behind) = (
@@ -26,7 +26,7 @@ lists-more offset bytes more (e ∷ entries) rest (packing, others, payload, nex
   lists-more (offset + length packing) others more entries rest behind,
 )
 
--- and where they complete a payload, there is one more entry, and no rest
+-- and if they complete a payload, there is one more entry, and no rest
 lists-push : (offset : ℕ) (bytes more : List ℕ) (entries : List Entry) (rest : List ℕ) (entry : Entry) (payload : List ℕ) (next : ℕ) → Lists offset bytes entries rest →
     IsWholePayload entry.sequence LARGEST_PAYLOAD (rest ++ more) payload next → entry.offset + length rest ≡ offset + length bytes → entry.payload.items ≡ payload →
     Lists offset (bytes ++ more) (entries ++ entry ∷ []) []
@@ -44,7 +44,7 @@ lists-push offset bytes more (e ∷ entries) rest entry payload next (packing, o
   lists-push (offset + length packing) others more entries rest entry payload next behind whole (omega (arith, at, ap length is, length-append packing others)) long,
 )
 
--- what was taken of a piece, and that the listing stands at it
+-- what was taken of a piece, and the listing's position
 pub record Listed (old new : Listing) (piece rest : List ℕ) (listed entries : List Entry) : Type 0 where
   pub taken : List ℕ
   pub cut : piece ≡ taken ++ rest
@@ -109,7 +109,7 @@ pub listed_all : {old new : Listing} {piece rest : List ℕ} {listed entries : L
 listed_all {new = new} {entries = entries} l none stream before short at =
     subst (λ t. Stands new (stream ++ t) (before ++ entries)) (sym (l.cut ∙ ap (λ r. l.taken ++ r) none ∙ append-nil l.taken)) (l.stands stream before short at)
 
--- what the clauses of a step say of its fault
+-- what the clauses of a step say about its fault
 pub wrong_from : {due room : ℕ} (bytes : List ℕ) (fault : WireFault) → due ≡ first_id bytes → room ≡ LARGEST_PAYLOAD → (fault ≢ Ended) →
     ((want got : ℕ) → fault ≡ Sequence want got → IsOutOfSequence due room bytes want got) → (fault ≡ TooLarge → IsTooLarge due room bytes) → IsWrong bytes fault
 wrong_from bytes (Sequence want got) due room is sequence too_large = subst (λ t. t) (λ i. IsOutOfSequence (due i) (room i) bytes want got) (sequence want got refl)
@@ -132,7 +132,7 @@ IsWrong-more bytes more TooLarge long wrong = subst (λ id. IsTooLarge id LARGES
 IsWrong-more bytes more Memory long wrong = tt
 IsWrong-more bytes more Ended long wrong = wrong
 
--- a fault, behind what was listed
+-- a fault, after what was listed
 pub listed_fault : {old mid : Listing} {piece rest : List ℕ} {listed entries : List Entry} (new : Listing) (fault : WireFault) → Listed old mid piece rest listed entries →
     new.begin ≡ mid.begin → (mid.assembler.ended ≡ false → IsWrong (held_of mid ++ rest) fault) →
     (stream : List ℕ) (before : List Entry) → length stream + length piece < 2 ^ 64 → Stands old stream (before ++ listed) → Faults new (stream ++ piece) (before ++ entries) fault
@@ -146,7 +146,7 @@ listed_fault {old} {mid} {piece} {rest} {listed} {entries} new fault l begin wro
       wrong = wrong m.goes_on;
     }
 
--- what two clauses say of a step's payload, and a third where there is none
+-- what two clauses say about a step's payload, and a third if there is none
 pub by_payload : {X : Type 0} (o : Option X) {P N : Type 0} {Q R S : X → Type 0} → IfNone o N → IfSome o R → IfSome o S → (N → P) → ((x : X) → R x → S x → Q x) → MatchOption o P Q
 by_payload None n r s none some = none n
 by_payload (Some x) n r s none some = some x r s

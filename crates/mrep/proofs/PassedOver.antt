@@ -1,4 +1,4 @@
--- Changes of tables that are not followed are passed over.
+-- Changes of tables that are not followed are skipped.
 use Rattle.std.proofs.Common.{◌≡◌, Bool, true, false, List, [], ◌∷◌, ◌++◌, map, flat_map, if◌then◌else◌, refl, sym, subst, ◌∙◌, MatchBool}
 use Rattle.std.specs.FinSet as set
 use Rattle.binlog.specs.Follow.{Names, follows}
@@ -11,7 +11,7 @@ use Rattle.store.specs.Take.{IsMade, is_followed, AreDone, Takes, done}
 use Rattle.mrep.specs.Script.{PartValue, ScriptValue}
 use Rattle.mrep.specs.Resume.{part_changes, transaction}
 
--- a replica with no list follows all tables
+-- a replica without a list follows all tables
 pub all_changes : (part : PartValue) → part_changes set.empty part ≡ map (change_of part.table) part.pairs
 all_changes part = rw (all_follow part.table.schema part.table.table) refl
 

@@ -33,7 +33,8 @@ use Rattle.mrep.proofs.Transactions.{all_one, halves, at_most, each_new, due_pas
 
 -- ---- What the replica holds, and what is left of the history.
 
--- the transactions that are left lead to the last content, each of them new, and their scripts are those outside the set
+-- the remaining transactions lead to the last content, each of them new, and their scripts are those that are not in
+-- the set
 pub record Left (names : Names) (history : List ScriptValue) (j : ℕ) (held last : Content) : Type 0 where
   pub takes : TakesAll names held (transactions names (drop j history)) (length (transactions names (drop j history))) last
   pub due_are : due held.executed history ≡ drop j history
@@ -66,7 +67,7 @@ left_of names history j held last within reached all =
       due_are = ap (due held.executed) (sym (take-append-drop j history)) ∙ due_past names held (take j history) (drop j history) first.behind later.not_before;
     }
 
--- some of the transactions that are left, and no other in between
+-- some of the remaining transactions, without a gap
 pub reaches_on : (names : Names) (history : List ScriptValue) (j : ℕ) (held last : Content) (ds others : List DeliveryValue) (applied : ℕ) (new : Content) → Reaches names history j held → Left names history j held last
     → transactions names (drop j history) ≡ ds ++ others → TakesAll names held ds applied new → Reaches names history (j + length ds) new
 reaches_on names history j held last ds others applied new reached left parts takes =
@@ -87,7 +88,7 @@ reaches_on names history j held last ds others applied new reached left parts ta
 
 -- ---- What the source sends.
 
--- the answer is that to the content's set
+-- the answer is that for the content's set
 pub record Sends (limit : ℕ) (names : Names) (history : List ScriptValue) (j : ℕ) (once : Bool) (greeting login query : Payload) (answer : List ℕ) : Type 0 where
   pub can : AllByRecursion CanSend (drop j history)
   pub last : ℕ

@@ -1,4 +1,4 @@
--- The events of scripts, as a replica reads them that follows some tables, and their transactions.
+-- The events of scripts, as a replica reads them that follows some tables, and the transactions in them.
 use Rattle.std.proofs.Common.{◌≡◌, ℕ, Bool, true, false, not, List, [], ◌∷◌, ◌++◌, map, filter, flat_map, if◌then◌else◌, refl, sym, ap, subst, ◌∙◌, inl, inr, Option, Some, None}
 use Rattle.std.proofs.lemmas.Bool.{eq-eqb}
 use Rattle.std.proofs.lemmas.List.{map-append}

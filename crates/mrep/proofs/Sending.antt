@@ -1,4 +1,4 @@
--- Packings, one after the other, and what is sent in its order.
+-- Packings one after the other, and what is sent in their order.
 use Rattle.std.proofs.Common.{◌≡◌, ℕ, suc, ◌+◌, ◌-◌, ◌^◌, ◌<◌, ◌≤◌, ◌⊎◌, Bool, true, false, List, [], ◌∷◌, ◌++◌, length, get_or, drop, flat_map, refl, sym, ap, subst, ◌∙◌, append_assoc, append-nil, inl, inr, arith, MatchBool, Result, Ok, Err, IfOk, OnOk}
 use Rattle.std.proofs.Math.ListN.{drop_of_length-le}
 use Rattle.std.proofs.Math.Seq.{drop-cons}
@@ -44,7 +44,7 @@ appends_more id ps qs old mid new m n a b = record {
   appended = b.appended ∙ ap (λ (l : List ℕ). l ++ b.bytes) a.appended ∙ append_assoc old a.bytes b.bytes;
 }
 
--- ---- A rows event that is no event is too long.
+-- ---- A rows event that cannot be written is too long.
 
 size_small : (n : ℕ) → n ≤ 4096 → bitmap_size n ≤ 512
 size_small n h = omega (arith, h)
@@ -93,7 +93,7 @@ on_ok (Err e) p = tt
 
 -- ---- The parts of a script.
 
--- The parts that are left are to be sent, the others were: what comes of these goes on to all.
+-- The remaining parts are still to be sent, the others have been: what holds of the remaining ones holds of all.
 pub record Sending (id now : ℕ) (old out : List ℕ) (at : ℕ) (all left : List PartValue) : Type 0 where
   pub sent : (new : List ℕ) (last : ℕ) → AppendsPackings now (payloads_of (flat_map part_events left)) out new last → AppendsPackings id (payloads_of (flat_map part_events all)) old new last
   pub can : AllByRecursion CanSendPart left → AllByRecursion CanSendPart all
@@ -155,9 +155,9 @@ script_sent r id m n script old a b new x y z =
     subst (λ (l : List Payload). IfOk r (λ next. AppendsPackings id (head ++ l) old new next)) (sym (map-append payload_of parts (end ∷ [])))
     (if_appends_behind r id head (payloads_of parts) (payloads_of (end ∷ [])) old a b new m n x y z)
 
--- ---- The scripts outside a set.
+-- ---- The scripts that are not in a set.
 
--- The scripts that are left are to be sent or passed over, the others were.
+-- The remaining scripts are still to be sent or skipped, the others have been.
 pub record Going (executed : Ids) (id now : ℕ) (old out : List ℕ) (all : List ScriptValue) (at : ℕ) (left : List ScriptValue) : Type 0 where
   pub sent : (new : List ℕ) (last : ℕ) → AppendsPackings now (payloads_of (flat_map script_events (due executed left))) out new last
       → AppendsPackings id (payloads_of (flat_map script_events (due executed all))) old new last

@@ -1,4 +1,4 @@
--- A connection in the midst of being read.
+-- A connection while it is being read.
 use Rattle.std.proofs.Common.{◌≡◌, ℕ, ◌+◌, Bool, List, [], ◌++◌, true, Option, None, Some, is_some, option_map, MatchOption, unwrap_or, refl, sym, ap, ◌∙◌, subst, append_assoc}
 use Rattle.std.specs.Io.KnownBytes.{Consumes, Keeps}
 use Rattle.std.proofs.KnownBytes.{Consumes-trans, Consumes-kept}
@@ -33,7 +33,7 @@ Keeps-from_none (Some x) None p = absurd p
 Keeps-from_none (Some x) (Some y) p = sym p
 
 module _ {S : Type 0} (g : Ghosts S) where
-  -- these bytes were taken from the reader, and the session and its store stand at them
+  -- these bytes were taken from the reader, and this is the position of the session and its store
   pub record IsTaking (limit : ℕ) (first : List ℕ) (entry : Store S g) (session : Session) (store : Store S g) (left left' : Option (List ℕ)) : Type 0 where
     pub read : List ℕ
     pub consumes : Consumes left left' read
@@ -58,7 +58,7 @@ module _ {S : Type 0} (g : Ghosts S) where
         (leads h (state g entry.conn).now.schema was old (first ++ t.read) [] (t.stands (clean h) was old holds));
   }
 
-  -- what was read so far
+  -- what has been read so far
   pub taken : (limit : ℕ) (first : List ℕ) (entry : Store S g) (session : Session) (store : Store S g) (left left' left'' : Option (List ℕ)) (was : Bool) (old : Content) (end : Ended)
       → IsTaking limit first entry session store left left' → Keeps left' left'' → end ≡ end_of session → HasCleanDisk (state g store.conn) → HoldsAs g was old entry
       → HasReadOf g limit entry store was old first left left'' end
@@ -68,7 +68,7 @@ module _ {S : Type 0} (g : Ghosts S) where
     has_read = read_all g session entry store limit was old (first ++ t.read) [] end t.limit_is t.following end_is (t.stands clean was old holds);
   }
 
--- a session that has ended has not met the end of the input
+-- a session that has ended was not ended by the end of the input
 still_some : {A B : Type 0} (f : A → B) (o : Option A) → is_some (option_map f o) ≡ is_some o
 still_some f None = refl
 still_some f (Some x) = refl

@@ -33,7 +33,7 @@ map_read names t bytes false is w = record {
   has_body = (w.has_body.0, record { schema = t.schema; table = t.table; rest = w.has_body.1.rest; named = w.has_body.1.named; other = is });
 }
 
--- what is written of an event is read, by whoever follows these tables
+-- what is written of an event is read back, whichever tables the reader follows
 pub is_read : (names : Names) (e : EventValue) → IsWritable e → IsEvent names (seen names e) (event_bytes e)
 is_read names format is = let w = written format is in record { code = w.code; may_ignore = w.may_ignore; body = w.body; framed = w.framed; has_body = w.has_body }
 is_read names begin is = let w = written begin is in record { code = w.code; may_ignore = w.may_ignore; body = w.body; framed = w.framed; has_body = w.has_body }
@@ -169,7 +169,7 @@ pub record Begins (fs es : List EventValue) : Type 0 where
   pub others : List EventValue
   pub events_are : es ≡ fs ++ others
 
--- no payload that is due stands at the front of the bytes
+-- the bytes do not begin with a payload that is expected
 abbrev pub IsBlocked : ℕ → Names → Due → ℕ → List ℕ → Type 0
 IsBlocked limit names due id r = (p : Payload) (packing left : List ℕ) (behind : ℕ) (first : List EventValue) → r ≡ packing ++ left → IsWholePayload id limit packing p behind → Answers names due p first → ⊥
 
@@ -197,7 +197,7 @@ beginning limit names due id (p ∷ ps) x es m r (q ∷ qs) y fs n s a b h block
       events_are = joined es a.2 a.3 fs b.2 b.3 t.others a.6 b.6 firsts t.events_are;
     }
 
--- ---- Nothing more behind the events.
+-- ---- Nothing more after the events.
 
 no_bytes : (id : ℕ) (p packing left : List ℕ) (behind : ℕ) → [] ≡ packing ++ left → IsPacking id p packing behind → ⊥
 no_bytes id p packing left behind is packs =

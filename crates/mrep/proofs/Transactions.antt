@@ -1,4 +1,4 @@
--- Transactions that are taken in order: what comes of them, and which of them a set has.
+-- Transactions that are taken in order: their outcome, and which of them a set has.
 use Rattle.std.proofs.Common.{◌≡◌, ◌≢◌, ℕ, zero, suc, ◌+◌, ◌≤◌, Bool, true, false, not, ◌||◌, List, [], ◌∷◌, ◌++◌, length, take, drop, map, refl, sym, ap, subst, ◌∙◌, inl, inr, arith, MatchBool}
 use Rattle.std.proofs.lemmas.Bool.{cases_lt, false≢true}
 use Rattle.std.proofs.lemmas.List.Elements.{filter-append}
@@ -146,7 +146,7 @@ each_new names old (d ∷ ds) n new all (inl t) =
     record { not_before = (t.2.0, all_not old t.0 ds grows h.not_before); behind = (h.stays d own, h.behind); stays = λ x is. h.stays x (grows x is) }
 each_new names old (d ∷ ds) n new all (inr t) = let h = at_most names old ds n new t.1 in absurd (omega (arith, all, h))
 
--- ---- The scripts outside the set.
+-- ---- The scripts that are not in the set.
 
 none_due : (names : Names) (content : Content) (scripts : List ScriptValue) → AllByRecursion (HasIt content) (transactions names scripts) → due content.executed scripts ≡ []
 none_due names content [] h = refl

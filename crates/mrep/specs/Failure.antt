@@ -10,11 +10,11 @@ use Rattle.store.specs.declared.fault.StoreFault.{StoreFault}
 use Rattle.store.specs.declared.fault.StoreFault.TheVariants as store
 use Rattle.mrep.specs.declared.failure.Failure.TheVariants.{Words, Set, Gtid, Table, Number, User, File, Host, Database, Output, Memory}
 
--- 4 for want of memory, else 3
+-- 4 if memory ran out, otherwise 3
 abbrev pub IsFileStatus : Error → ℕ → Type 0
 IsFileStatus cause status = (error_kind cause ≡ io_kind.OutOfMemory → status ≡ 4) × (error_kind cause ≢ io_kind.OutOfMemory → status ≡ 3)
 
--- 4 for want of memory, else 3: also of a database that is damaged, of another layout or for other tables
+-- 4 if memory ran out, otherwise 3: also for a database that is damaged, has another layout or is for other tables
 abbrev pub database_status : StoreFault → ℕ
 database_status store.Memory = 4
 database_status (store.NoSuchRow at) = 3
@@ -25,8 +25,8 @@ database_status (store.Layout n) = 3
 database_status store.Broken = 3
 database_status store.Follows = 3
 
--- 2 for a mistake in the words, as a text that is no set, no GTID, no table, no number or no user's name; 3 for a file, a
--- host, a database or the output; 4 for want of memory
+-- 2 for a mistake in the arguments, such as a text that is not a set, a GTID, a table, a number or a user name; 3 for a
+-- file, a host, a database or the output; 4 if memory ran out
 abbrev pub IsStatus : Failure → ℕ → Type 0
 IsStatus (Words error) status = (kind_of error ≡ clap_kind.OutOfMemory → status ≡ 4) × (kind_of error ≢ clap_kind.OutOfMemory → status ≡ 2)
 IsStatus (Set word cause) status = status ≡ 2

@@ -1,5 +1,5 @@
--- What a scripted source sends, and what it takes. MySQL Source Documentation, Client/Server Protocol: "MySQL Packets",
--- Protocol::HandshakeV10, OK_Packet and EOF_Packet; Replication Protocol: COM_BINLOG_DUMP_GTID.
+-- What a scripted source sends, and what it accepts. MySQL Source Documentation, Client/Server Protocol: "MySQL
+-- Packets", Protocol::HandshakeV10, OK_Packet and EOF_Packet; Replication Protocol: COM_BINLOG_DUMP_GTID.
 use Rattle.std.specs.Prelude.{◌≡◌, ℕ, suc, ◌%◌, ◌≤◌, ◌⊎◌, Bool, not, ◌==◌, List, [], ◌∷◌, ◌++◌, length, codes, map, filter, flat_map, if◌then◌else◌, MatchBool}
 use Rattle.std.specs.List.{AllByRecursion}
 use Rattle.std.specs.FinSet as set
@@ -46,7 +46,7 @@ abbrev pub greeting_payload : List ℕ → Payload
 greeting_payload scramble = greeting_bytes (record { version = codes "8.0.36"; thread = 8; scramble = scramble; capabilities = 0x8A205; charset = 0x21; status = 2 })
 
 -- The bytes are the packings of the payloads, one after the other, the first from this sequence id and each later one
--- from the id behind the one before; `last` is the id behind them all.
+-- from the id after the one before it; `last` is the id after all of them.
 abbrev pub ArePackings : ℕ → List Payload → List ℕ → ℕ → Type 0
 ArePackings id [] bytes last = (bytes ≡ []) × (last ≡ id)
 ArePackings id (p ∷ ps) bytes last = (first : List ℕ) × (others : List ℕ) × (next : ℕ) × (bytes ≡ first ++ others) × IsPacking id p first next × ArePackings next ps others last
@@ -82,7 +82,7 @@ pub record IsOpening (scramble : List ℕ) (bytes : List ℕ) : Type 0 where
 
 -- ---- The request.
 
--- The payload is a dump command, and its set these identifiers.
+-- The payload is a dump command, and its set has these GTIDs.
 pub record Asks (request : Payload) (dump : DumpValue) (executed : Ids) : Type 0 where
   pub is_dump : IsDump dump request
   pub encodes : IsEncoding executed dump.set
@@ -93,11 +93,11 @@ pub record HasRequest (request : Payload) : Type 0 where
   pub executed : Ids
   pub asks : Asks request dump executed
 
--- whether the flags ask for an EOF at the log's end: BINLOG_DUMP_NON_BLOCK, the lowest bit
+-- whether the flags ask for an EOF at the end of the log: BINLOG_DUMP_NON_BLOCK, the lowest bit
 abbrev pub is_once : ℕ → Bool
 is_once flags = flags % 2 == 1
 
--- The payload is a dump command for these identifiers, with an EOF at the log's end or without.
+-- The payload is a dump command with these GTIDs, with an EOF at the end of the log or without.
 pub record AsksFor (request : Payload) (once : Bool) (executed : Ids) : Type 0 where
   pub dump : DumpValue
   pub asks : Asks request dump executed
@@ -109,18 +109,18 @@ pub record AsksFor (request : Payload) (once : Bool) (executed : Ids) : Type 0 w
 abbrev pub is_in : Ids → ScriptValue → Bool
 is_in executed script = set.contains executed (script.source, script.number)
 
--- the scripts outside the set
+-- the scripts that are not in the set
 abbrev pub due : Ids → List ScriptValue → List ScriptValue
 due executed history = filter (λ script. not (is_in executed script)) history
 
--- the events of scripts, behind a format description
+-- the events of scripts, after a format description
 abbrev pub events_of : List ScriptValue → List EventValue
 events_of scripts = format ∷ flat_map script_events scripts
 
 abbrev pub end_payloads : Bool → List Payload
 end_payloads once = if once then eof_payload ∷ [] else []
 
--- the payloads of a dump: the events of the scripts, and an EOF where one is asked for
+-- the payloads of a dump: the events of the scripts, and an EOF if one is asked for
 abbrev pub sent_payloads : Bool → List ScriptValue → List Payload
 sent_payloads once scripts = payloads_of (events_of scripts) ++ end_payloads once
 
@@ -128,12 +128,12 @@ sent_payloads once scripts = payloads_of (events_of scripts) ++ end_payloads onc
 abbrev pub IsShort : Payload → Type 0
 IsShort p = length p ≤ LARGEST_PAYLOAD
 
--- Some bytes are the part's table map, and some the rows of its pairs.
+-- The part's table map and the rows of its pairs can be written.
 pub record FitsPart (part : PartValue) : Type 0 where
   pub map : IsWritable (table_map part.table)
   pub rows : HaveRows part.kind part.table.columns part.pairs
 
--- The part can be sent: some bytes are each of its two events, and these are few enough for a payload.
+-- The part can be sent: each of its two events can be written, and is short enough for a payload.
 pub record CanSendPart (part : PartValue) : Type 0 where
   pub fits : FitsPart part
   pub events : AllByRecursion IsWritable (part_events part)
@@ -145,8 +145,8 @@ pub record CanSend (script : ScriptValue) : Type 0 where
   pub parts : AllByRecursion CanSendPart script.parts
   pub end : IsWritable (end_event script.ending script.number)
 
--- The bytes answer the request: each script outside its set can be sent, in the order of the history, and the bytes are
--- the packings of the payloads of the dump, from 1.
+-- The bytes answer the request: each script that is not in its set can be sent, and the bytes are the packings, from
+-- the id 1, of the payloads of the dump in the order of the history.
 pub record IsAnswer (history : List ScriptValue) (request : Payload) (bytes : List ℕ) : Type 0 where
   pub dump : DumpValue
   pub executed : Ids
@@ -157,7 +157,7 @@ pub record IsAnswer (history : List ScriptValue) (request : Payload) (bytes : Li
 
 -- ---- What cannot be sent.
 
--- Why a part of the script at this place cannot be sent: it does not fit, or an event of it is too long.
+-- Why a part of the script with this index cannot be sent: it does not fit, or an event of it is too long.
 abbrev pub IsPartFault : ℕ → PartValue → ForgeFault → Type 0
 IsPartFault at part Request = ⊥
 IsPartFault at part (Unfit script) = (script ≡ at) × (FitsPart part → ⊥)
@@ -169,7 +169,7 @@ abbrev pub IsPartsFault : ℕ → List PartValue → ForgeFault → Type 0
 IsPartsFault at [] fault = ⊥
 IsPartsFault at (part ∷ parts) fault = IsPartFault at part fault ⊎ (CanSendPart part × IsPartsFault at parts fault)
 
--- The fault of the first script outside the set that cannot be sent, where they stand in the history from this place on.
+-- The fault of the first script that is not in the set and cannot be sent, in the history from this index on.
 abbrev pub IsScriptsFault : Ids → ℕ → List ScriptValue → ForgeFault → Type 0
 IsScriptsFault executed at [] fault = ⊥
 IsScriptsFault executed at (script ∷ scripts) fault =
@@ -177,26 +177,26 @@ IsScriptsFault executed at (script ∷ scripts) fault =
     (IsScriptsFault executed (suc at) scripts fault)
     (IsPartsFault at script.parts fault ⊎ (CanSend script × IsScriptsFault executed (suc at) scripts fault))
 
--- A script outside the request's set cannot be sent.
+-- A script that is not in the request's set cannot be sent.
 pub record IsUnsendable (history : List ScriptValue) (request : Payload) (fault : ForgeFault) : Type 0 where
   pub dump : DumpValue
   pub executed : Ids
   pub asks : Asks request dump executed
   pub is_fault : IsScriptsFault executed 0 history fault
 
--- Why a request is not answered: it is no dump command for a set, or else a script cannot be sent.
+-- Why a request is not answered: it is not a dump command with a set, or otherwise a script cannot be sent.
 abbrev pub IsAnswerFault : List ScriptValue → Payload → ForgeFault → Type 0
 IsAnswerFault history request Request = HasRequest request → ⊥
 IsAnswerFault history request (Unfit at) = IsUnsendable history request (Unfit at)
 IsAnswerFault history request TooLarge = IsUnsendable history request TooLarge
 IsAnswerFault history request Memory = Unit {0}
 
--- what a set that is none, or want of memory, is told as
+-- the fault for a set that cannot be read, or that memory ran out
 abbrev pub told_of_set : GtidFault → ForgeFault
 told_of_set gtid_fault.Memory = Memory
 told_of_set _ = Request
 
--- what bytes that are no packets, or want of memory, are told as
+-- the fault for bytes that are not packets, or that memory ran out
 abbrev pub told_of_packets : WireFault → ForgeFault
 told_of_packets wire_fault.Memory = Memory
 told_of_packets _ = Request
@@ -207,27 +207,27 @@ told_of_packets _ = Request
 abbrev pub checksum_query : Payload
 checksum_query = query_bytes (codes "SET @master_binlog_checksum='NONE'")
 
--- The bytes begin with the packets of this payload, from this sequence id, and the rest stands behind them.
+-- The bytes begin with the packets of this payload, from this sequence id, and the rest follows them.
 pub record TakesPayload (id : ℕ) (bytes : List ℕ) (payload rest : List ℕ) : Type 0 where
   pub packing : List ℕ
   pub next : ℕ
   pub whole : IsWholePayload id LARGEST_PAYLOAD packing payload next
   pub bytes_are : bytes ≡ packing ++ rest
 
--- The bytes are the packets of the dump command for these identifiers, and nothing else.
+-- The bytes are the packets of the dump command with these GTIDs, and nothing else.
 pub record IsLastSent (bytes : List ℕ) (executed : Ids) : Type 0 where
   pub command : Payload
   pub taken : TakesPayload 0 bytes command []
   pub dump : DumpValue
   pub asks : Asks command dump executed
 
--- The bytes are the packets of the query and of the dump command for these identifiers, and nothing else.
+-- The bytes are the packets of the query and of the dump command with these GTIDs, and nothing else.
 pub record AreLastSent (bytes : List ℕ) (executed : Ids) : Type 0 where
   pub rest : List ℕ
   pub taken : TakesPayload 0 bytes checksum_query rest
   pub others : IsLastSent rest executed
 
--- The bytes are the packets of a response, of the query and of the dump command for these identifiers, and nothing else.
+-- The bytes are the packets of a response, of the query and of the dump command with these GTIDs, and nothing else.
 pub record AreSent (bytes : List ℕ) (executed : Ids) : Type 0 where
   pub login : Payload
   pub rest : List ℕ

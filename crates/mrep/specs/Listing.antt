@@ -8,28 +8,28 @@ use Rattle.wire.specs.declared.fault.WireFault.TheVariants.{Sequence, TooLarge, 
 use Rattle.mrep.specs.declared.listing.Entry.{Entry}
 use Rattle.mrep.specs.declared.listing.Listing.{Listing}
 
--- The bytes are the packings of payloads, one behind the other, and then the rest. Each entry has the place of the
--- first byte of one of them, the sequence id of its first packet, and the payload's bytes. The first stands at this
--- offset.
+-- The bytes are the packings of payloads, one after the other, and then the rest. Each entry has the offset of the
+-- first byte of one of them, the sequence id of its first packet, and the payload's bytes. The first has this offset.
 abbrev pub Lists : ℕ → List ℕ → List Entry → List ℕ → Type 0
 Lists offset bytes [] rest = bytes ≡ rest
 Lists offset bytes (entry ∷ entries) rest =
     (packing : List ℕ) × (others : List ℕ) × (payload : List ℕ) × (next : ℕ) × (bytes ≡ packing ++ others) × IsWholePayload entry.sequence LARGEST_PAYLOAD packing payload next
     × (entry.offset ≡ offset) × (entry.payload.items ≡ payload) × Lists (offset + length packing) others entries rest
 
--- what has come of the payload at hand
+-- the bytes of the current payload that have come
 abbrev pub held_of : Listing → List ℕ
 held_of l = l.assembler.held ++ l.header.items
 
--- the sequence id in the header that the bytes begin with
+-- the sequence id in the header at the front of the bytes
 abbrev pub first_id : List ℕ → ℕ
 first_id bytes = get_or bytes 3 0
 
--- the bytes are no payload yet: fewer than a header, or an unfinished payload
+-- the bytes are not a payload yet: fewer than a header, or an unfinished payload
 abbrev pub IsNoPayload : List ℕ → Type 0
 IsNoPayload bytes = (length bytes < 4) ⊎ IsUnfinished (first_id bytes) LARGEST_PAYLOAD bytes
 
--- The stream so far is these entries and what is held, which is no payload, and nothing was wrong with it.
+-- The position of a listing: the stream so far is these entries and the bytes held, which are not a payload yet, and
+-- nothing was wrong with it.
 pub record Stands (l : Listing) (stream : List ℕ) (entries : List Entry) : Type 0 where
   pub lists : Lists 0 stream entries (held_of l)
   pub begin : l.begin + length (held_of l) ≡ length stream
@@ -37,7 +37,7 @@ pub record Stands (l : Listing) (stream : List ℕ) (entries : List Entry) : Typ
   pub no_payload : IsNoPayload (held_of l)
   pub goes_on : l.assembler.ended ≡ false
 
--- So much was taken of the bytes, which are held now, or complete this payload.
+-- This many of the bytes were taken, and are held now or complete this payload.
 pub record Takes (old new : Listing) (bytes : List ℕ) (step : Step) : Type 0 where
   pub in_range : step.used ≤ length bytes
   pub progress : 0 < step.used
@@ -47,20 +47,20 @@ pub record Takes (old new : Listing) (bytes : List ℕ) (step : Step) : Type 0 w
   pub taken : MatchOption step.payload ((held_of new ≡ held_of old ++ take step.used bytes) × IsNoPayload (held_of new))
       (λ payload. (next : ℕ) × IsWholePayload new.sequence LARGEST_PAYLOAD (held_of old ++ take step.used bytes) payload.items next × (held_of new ≡ []))
 
--- what is wrong with the bytes of the payload at hand; want of memory says nothing of them
+-- what is wrong with the bytes of the current payload; running out of memory says nothing about them
 abbrev pub IsWrong : List ℕ → WireFault → Type 0
 IsWrong bytes (Sequence want got) = IsOutOfSequence (first_id bytes) LARGEST_PAYLOAD bytes want got
 IsWrong bytes TooLarge = IsTooLarge (first_id bytes) LARGEST_PAYLOAD bytes
 IsWrong bytes Memory = Unit {0}
 IsWrong bytes Ended = ⊥
 
--- This is wrong with the bytes behind those that were held, unless the reader was ended before.
+-- This is wrong with the bytes after those held, unless the reader had ended before.
 pub record Refuses (old new : Listing) (bytes : List ℕ) (fault : WireFault) : Type 0 where
   pub begin : new.begin ≡ old.begin
   pub seen : new.seen ≡ old.seen
   pub wrong : old.assembler.ended ≡ false → IsWrong (held_of old ++ bytes) fault
 
--- The stream is these entries, and what stands behind them, from the listing's `begin` on, has this fault.
+-- The stream is these entries, and what follows them, from the listing's `begin` on, has this fault.
 pub record Faults (l : Listing) (stream : List ℕ) (entries : List Entry) (fault : WireFault) : Type 0 where
   pub rest : List ℕ
   pub lists : Lists 0 stream entries rest

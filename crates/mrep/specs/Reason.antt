@@ -4,8 +4,8 @@ use Rattle.replica.specs.declared.end.Reason.{Reason}
 use Rattle.replica.specs.declared.end.Reason.TheVariants.{EndOfInput, SourceEof, SourceError, Wire, Greet, Event, Gather, Refused, Database, Memory, ReadFailed, WriteFailed}
 use Rattle.replica.specs.declared.end.Ended.{Ended}
 
--- 0 where the input or the source's log has ended, 1 for a refusal by the source or of its data, 3 for a file, a socket
--- or the database, 4 for want of memory
+-- 0 if the input or the source's log has ended, 1 for a refusal by the source or because of what its data says, 3 for a
+-- file, a socket or the database, 4 if memory ran out
 abbrev pub status_of : Reason → ℕ
 status_of EndOfInput = 0
 status_of SourceEof = 0
@@ -20,7 +20,7 @@ status_of Memory = 4
 status_of ReadFailed = 3
 status_of WriteFailed = 3
 
--- the first status that is not 0, and 0 where there is none
+-- the first status that is not 0, or 0 if there is none
 unfoldable pub first_status : List Ended → ℕ
 first_status [] = 0
 first_status (end ∷ ends) = if status_of end.reason == 0 then first_status ends else status_of end.reason

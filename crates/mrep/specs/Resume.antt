@@ -17,9 +17,9 @@ use Rattle.replica.specs.Conn.{TakesAll, Conn}
 use Rattle.mrep.specs.Script.{PartValue, ScriptValue}
 use Rattle.mrep.specs.Forge.{Payload, Asks, IsAnswer, is_once, sent_payloads, due}
 
--- ---- What a history says to a replica that follows these tables.
+-- ---- What a history means to a replica that follows these tables.
 
--- the changes of a part: none, where its table is not followed
+-- the changes of a part: none if its table is not followed
 abbrev pub part_changes : Names → PartValue → List ChangeValue
 part_changes names part = if follows names part.table.schema part.table.table then map (change_of part.table) part.pairs else []
 
@@ -29,12 +29,12 @@ transaction names script = record { source = script.source; number = script.numb
 abbrev pub transactions : Names → List ScriptValue → List DeliveryValue
 transactions names history = map (transaction names) history
 
--- nothing is executed, and there is no row
+-- the empty executed set, and no rows
 abbrev pub empty_content : Content
 empty_content = record { executed = set.empty; rows = λ row. 0 }
 
--- The first so many transactions are each new and can be taken, in their order from the empty content, and lead to this
--- one.
+-- The first transactions, this many, are each new and can be taken, in their order from the empty content, and lead to
+-- this content.
 abbrev pub Reaches : Names → List ScriptValue → ℕ → Content → Type 0
 Reaches names history count content = TakesAll names empty_content (transactions names (take count history)) count content
 
@@ -60,8 +60,8 @@ pub record Opens (greeting login query : Payload) (bytes : List ℕ) : Type 0 wh
 -- ---- The law.
 
 -- A source with this history is asked by a replica that holds the content after its first j transactions, all of which
--- can be taken, and that follows these tables and takes payloads up to this limit: what the source sends before the dump
--- and in it.
+-- can be taken, and that follows these tables and takes payloads up to this limit. These are what the source sends
+-- before the dump, and what it sends in it.
 pub record Resumes (limit : ℕ) (names : Names) (history : List ScriptValue) (j : ℕ) (held last : Content) (request : Payload) (opening answer : List ℕ) : Type 0 where
   pub reached : Reaches names history j held
   pub all_taken : Reaches names history (length history) last
@@ -79,7 +79,7 @@ pub record Resumes (limit : ℕ) (names : Names) (history : List ScriptValue) (j
 abbrev pub end_of : Bool → Reason
 end_of once = if once then SourceEof else EndOfInput
 
--- The connection of these bytes leads from one content to the other by these transactions, in this order, and no others,
+-- The connection with these bytes leads from one content to the other by exactly these transactions, in this order,
 -- each of them new; it ends with the bytes, for this reason.
 pub record Leads (limit : ℕ) (names : Names) (held last : Content) (bytes : List ℕ) (ds : List DeliveryValue) (reason : Reason) : Type 0 where
   pub end : Ended

@@ -1,4 +1,4 @@
--- Transactions that are to be sent, whatever memory holds them, and their events. MySQL Source Documentation, Binlog
+-- Transactions to be sent, apart from the memory that holds them, and their events. MySQL Source Documentation, Binlog
 -- Event: binary_log::Gtid_event, Query_event (BEGIN and COMMIT), Table_map_event, Rows_event and Xid_event.
 use Rattle.std.specs.Prelude.{ℕ, List, [], ◌∷◌, ◌++◌, length, map, flat_map}
 use Rattle.binlog.specs.Row.{kinds}
@@ -14,7 +14,7 @@ use Rattle.mrep.specs.declared.forge.script.Ending.TheVariants.{Xid, Commit}
 use Rattle.mrep.specs.declared.forge.script.Part.{Part}
 use Rattle.mrep.specs.declared.forge.script.Script.{Script}
 
--- a table, and what is done to its rows
+-- a table, and the changes of its rows
 pub record PartValue : Type 0 where
   pub table : TableValue
   pub kind : RowsKind
@@ -26,7 +26,7 @@ pub record ScriptValue : Type 0 where
   pub parts : List PartValue
   pub ending : Ending
 
--- what a part says
+-- the value of a part
 abbrev pub part_value : Part → PartValue
 part_value part = record {
   table = record { id = part.id; schema = part.table.schema.items; table = part.table.table.items; columns = kinds part.table.types.items };
@@ -37,7 +37,7 @@ part_value part = record {
 abbrev pub part_values : List Part → List PartValue
 part_values parts = map part_value parts
 
--- what a script says
+-- the value of a script
 abbrev pub script_value : Script → ScriptValue
 script_value script = record { source = script.gtid.source; number = script.gtid.number; parts = part_values script.parts.items; ending = script.ending }
 

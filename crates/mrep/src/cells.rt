@@ -1,4 +1,4 @@
-//! Rows as they are printed.
+//! The cells of rows as they are printed.
 
 use binlog::Cell;
 use gather::Image;
@@ -22,7 +22,7 @@ fn write_bytes<W: Write>(bytes: &[u8], out: &mut W) -> io::Result<()> {
     Ok(())
 }
 
-/// Writes a cell, behind a comma where it is not the first.
+/// Writes a cell, after a comma if it is not the first.
 fn write_next<W: Write>(cell: Cell<'_>, first: bool, out: &mut W) -> io::Result<()> {
     if !first {
         write!(out, ",")?;
@@ -30,7 +30,7 @@ fn write_next<W: Write>(cell: Cell<'_>, first: bool, out: &mut W) -> io::Result<
     write_cell(cell, out)
 }
 
-/// Writes the cells of a row, with commas between.
+/// Writes the cells of a row, separated by commas.
 pub fn write_cells<W: Write>(row: &Image, out: &mut W) -> io::Result<()> {
     let mut first = true;
     for cell in row.cells() {

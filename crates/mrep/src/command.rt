@@ -1,4 +1,4 @@
-//! The commands, by the words of a command line.
+//! Runs the command that the arguments name.
 
 ghost use Rattle.std.specs.Prelude.{◌≤◌, IfOk, IfSome};
 
@@ -16,12 +16,12 @@ use clap::error::ErrorKind;
 use std::convert::AsStr;
 use std::io::Write;
 
-/// The word that was given by this name. The words with these names are required.
+/// The argument with this name. Arguments with these names are required.
 fn word<'a>(given: &ArgMatches<'a>, name: &str) -> &'a str {
     given.get_str(name).unwrap_or("")
 }
 
-/// Runs a command without a database, where the name is that of one.
+/// Runs a command that does not use a database, if the name is that of one.
 fn run_plain<'a, W: Write>(
     rt: &HostRuntime,
     name: &str,
@@ -39,7 +39,7 @@ fn run_plain<'a, W: Write>(
     Ok(Some(status))
 }
 
-/// Runs a command that reads a database, where the name is that of one.
+/// Runs a command that reads a database, if the name is that of one.
 fn run_reading<'a, W: Write>(
     rt: &HostRuntime,
     name: &str,
@@ -78,7 +78,7 @@ fn run_replay<'a, W: Write, E: Write>(
     )
 }
 
-/// What the words of `mrep follow` say.
+/// The arguments of `mrep follow`.
 fn source<'a>(given: &ArgMatches<'a>) -> Words<'a> {
     Words {
         host: word(given, "host"),
@@ -139,14 +139,14 @@ fn run<'a, S: AsStr, O: Write, E: Write>(
         None => None,
     };
     let Some(status) = done else {
-        let error = command.error(ErrorKind::MissingSubcommand, "a command is needed")?;
+        let error = command.error(ErrorKind::MissingSubcommand, "a command is required")?;
         return Err(Failure::Words(error));
     };
     flushed(status, out, err)
 }
 
-/// Flushes the output of a command that ends with this status. Where that fails, a command that is done has failed, and
-/// any other keeps its status.
+/// Flushes the output of a command that ends with this status. If that fails, a command with status 0 fails, and any
+/// other keeps its status.
 fn flushed<'a, O: Write, E: Write>(status: u8, out: &mut O, err: &mut E) -> Result<u8, Failure<'a>>
     ensures { status ≤ MEMORY → IfOk result (λ s. s ≤ MEMORY) }
 {
@@ -160,11 +160,11 @@ fn flushed<'a, O: Write, E: Write>(status: u8, out: &mut O, err: &mut E) -> Resu
     }
 }
 
-/// Runs the command that the words name, the first of which is the program's own name, and answers its
-/// exit status: 0 done, 1 refused by the source or by what the data says, 2 a mistake in the words, 3 a file,
-/// the database or the output, 4 want of memory.
+/// Runs the command that the arguments name; the first argument is the program's own name. Returns the exit status: 0
+/// done, 1 refused by the source or because of what the data says, 2 a mistake in the arguments, 3 a file, a socket,
+/// the database or the output, 4 out of memory.
 ///
-/// The lines of a command, help and the version go to `out`, which is flushed; all else goes to `err`.
+/// The lines of a command, help and the version go to `out`, which is flushed; everything else goes to `err`.
 pub fn command<S: AsStr, O: Write, E: Write>(
     rt: &HostRuntime,
     words: &[S],

@@ -1,15 +1,15 @@
-//! A database file, opened and closed.
+//! Opening and closing a database file.
 
 use crate::failure::Failure;
 use binlog::Follow;
 use sqlite::{Connection, File, FileStore};
 use store::{Store, StoreFault};
 
-/// The store in a database file.
+/// A store in a database file.
 pub type FileOf = FileStore<File>;
 
-/// Opens the store in a file, which is made where there is none. With a list of tables, the database is made for them
-/// or has to have been; without one, it is as it was made.
+/// Opens the store in a file, which is made if it does not exist. With a list of tables, the database is made for them
+/// or must have been; without one, its own list holds.
 pub fn open<'a>(
     rt: &HostRuntime,
     name: &'a str,

@@ -7,11 +7,11 @@ use std::io;
 use std::io::Write;
 use uuid::Uuid;
 
-/// The first byte of a payload that carries an event.
+/// The first byte of a payload that has an event.
 const EVENT: u8 = 0;
 
-/// Writes the line of a payload that is to carry an event: its place, its sequence id, and the event's type, size and
-/// kind. Else it writes what is wrong with it. It answers whether nothing is.
+/// Writes the line of a payload: its offset, its sequence id, and the event's type, size and kind. If it does not have
+/// a valid event, the line says what is wrong. Returns whether it does.
 pub fn write_event<W: Write>(
     offset: u64,
     sequence: u8,
@@ -46,7 +46,7 @@ fn read(bytes: &[u8]) -> Result<(Header, Event<'_>), EventFault> {
     Ok((header, event))
 }
 
-/// Writes what an event says.
+/// Writes the kind of an event.
 fn write_kind<W: Write>(event: &Event<'_>, out: &mut W) -> io::Result<()> {
     match event {
         Event::Format => write!(out, "Format"),

@@ -1,4 +1,4 @@
-//! Why a command stopped, other than by what it found in its data.
+//! Why a command failed, apart from what its data says.
 
 ghost use Rattle.std.specs.Prelude.{◌≡◌, ◌≤◌};
 ghost use Rattle.mrep.specs.Failure.{IsFileStatus, IsStatus, database_status};
@@ -16,27 +16,27 @@ use store::StoreFault;
 pub const DONE: u8 = 0;
 /// Refused by what the data says.
 pub const REFUSED: u8 = 1;
-/// A mistake in the words.
+/// A mistake in the arguments.
 pub const USAGE: u8 = 2;
-/// A file or the output.
+/// A file, a socket, the database or the output.
 pub const FILES: u8 = 3;
-/// Want of memory.
+/// Out of memory.
 pub const MEMORY: u8 = 4;
 
-/// Why a command stopped.
+/// Why a command failed.
 #[derive(Debug, Drop)]
 pub enum Failure<'a> {
-    /// The words are no command.
+    /// The arguments are not those of a command.
     Words(clap::Error),
-    /// The word of this name is not the text of a GTID set.
+    /// The argument with this name is not the text of a GTID set.
     Set { word: &'a str, cause: GtidFault },
-    /// The word of this name is no GTID.
+    /// The argument with this name is not a GTID.
     Gtid { word: &'a str },
-    /// This word is no table.
+    /// This argument is not the name of a table.
     Table { word: &'a str },
-    /// This word is no number from 1 to the largest.
+    /// This argument is not a number from 1 to the largest.
     Number { word: &'a str, largest: u32 },
-    /// This word is no user's name.
+    /// This argument is not a user name.
     User { word: &'a str, cause: ConfigFault },
     /// The file of this name could not be opened or read.
     File { name: &'a str, cause: io::Error },
@@ -61,7 +61,7 @@ fn status_of(cause: &io::Error) -> u8
     }
 }
 
-/// The status of what the store answered in place of an open or of its rows.
+/// The status of a fault of opening the store or of reading its rows.
 fn database_status(cause: StoreFault) -> u8
     ensures status { result ≡ database_status cause }
     ensures range { result ≤ MEMORY }
@@ -99,21 +99,21 @@ impl Failure<'_> {
         }
     }
 
-    /// Writes its text.
+    /// Writes the message.
     pub fn write<E: Write>(&self, err: &mut E) -> io::Result<()> {
         match self {
             Failure::Words(error) => write!(err, "{error}"),
             Failure::Set { word, cause } => writeln!(err, "mrep: {word}: {cause}"),
             Failure::Gtid { word } => writeln!(
                 err,
-                "mrep: {word}: no GTID: a hyphenated UUID, `:` and a number from 1 to 2^63 - 2"
+                "mrep: {word}: not a GTID: expected a hyphenated UUID, `:` and a number from 1 to 9223372036854775806"
             ),
             Failure::Table { word } => writeln!(
                 err,
-                "mrep: {word}: no table: SCHEMA.TABLE, where `%` stands before two hexadecimal digits"
+                "mrep: {word}: not a table: expected SCHEMA.TABLE, with `%` only before two hexadecimal digits"
             ),
             Failure::Number { word, largest } => {
-                writeln!(err, "mrep: {word}: no number from 1 to {largest}")
+                writeln!(err, "mrep: {word}: not a number from 1 to {largest}")
             }
             Failure::User { word, cause } => writeln!(err, "mrep: {word}: {cause}"),
             Failure::File { name, cause } | Failure::Host { name, cause } => {

@@ -14,28 +14,29 @@ use std::net::TcpStream;
 use store::Store;
 use wire::LARGEST_PAYLOAD;
 
-/// What the words say.
+/// The arguments.
 #[derive(Clone, Copy)]
 pub struct Words<'a> {
-    /// A host's name or its address.
+    /// The source's host name or address.
     pub host: &'a str,
     pub port: &'a str,
     pub user: &'a str,
-    /// The file that has the password.
+    /// The file with the password.
     pub password_file: &'a str,
     pub server_id: &'a str,
     /// The database file.
     pub db: &'a str,
-    /// Whether the source is to tell the log's end in place of waiting there.
+    /// Whether the source is to send an EOF at the end of its log instead of waiting there.
     pub once: bool,
-    /// Whether to tell how much has come.
+    /// Whether to report how many bytes have been received.
     pub progress: bool,
 }
 
-/// Follows a source into a database to the end of the connection, and prints how it ended. With a list of tables the
-/// database keeps the rows of these. The answer is the end's status.
+/// Follows a source into a database until the connection ends, prints how it ended, and returns the exit status. With a
+/// list of tables the database keeps only their rows.
 ///
-/// Faults are looked for in the words, the password's file, the user's name, the database and the socket, in this order.
+/// Faults are looked for in the arguments, the password file, the user name, the database and the socket, in this
+/// order.
 pub fn follow_source<'a, W: Write, E: Write>(
     rt: &HostRuntime,
     words: Words<'a>,
@@ -69,7 +70,7 @@ fn number<'a>(word: &'a str, largest: u32) -> Result<u32, Failure<'a>>
     }
 }
 
-/// The password: the bytes of its file without one last line feed.
+/// The settings, with the password from its file: the bytes of the file without one line feed at the end.
 fn settings<'a>(rt: &HostRuntime, words: Words<'a>, server_id: u32) -> Result<Config, Failure<'a>> {
     let name = words.password_file;
     let bytes = fs::read(rt, name).map_err(|cause| Failure::File { name, cause })?;
@@ -127,7 +128,7 @@ fn follow_into<'a, W: Write, E: Write>(
     Ok(())
 }
 
-/// How the connection ended, and what the last failure of the stream was, if there was one.
+/// How the connection ended, and the cause of the last failure of the stream, if there was one.
 fn follow_over<T: Duplex + Drop>(
     rt: &HostRuntime,
     stream: T,

@@ -1,8 +1,8 @@
-//! A scripted source: what a server sends to a replica, for a history of transactions that is written down.
+//! A scripted source: what a server sends to a replica for a given history of transactions.
 //!
-//! [`opening`] is what it sends up to the dump command, [`answer`] what it sends for one, and [`check`] reads what a
-//! replica sent to it. Nothing is read from a socket here and nothing is written to one. [`laws`] says what a replica
-//! that stopped anywhere and asks again is led to.
+//! [`opening`] is what it sends before the dump command, [`answer`] what it sends in reply to one, and [`check`] reads
+//! what a replica sent to it. None of these reads from a socket or writes to one. [`laws`] says what a replica is led
+//! to that stops anywhere and asks again.
 //!
 //! The layouts are those of the MySQL Source Documentation, "Client/Server Protocol", "Replication Protocol" and
 //! "Binlog Event".

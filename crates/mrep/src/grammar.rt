@@ -1,9 +1,12 @@
-//! What the words of a command line may be.
+//! The arguments of the command line.
 
 use clap::{Arg, ArgAction, Command};
 use std::alloc::{AllocError, Global};
 
-/// A word that has to be there.
+/// The version that `mrep --version` prints.
+const VERSION: &str = "0.1.0";
+
+/// A required argument.
 fn needed<'a>(alloc: Global, name: &'a str, help: &'a str) -> Arg<'a> {
     Arg::new(alloc, name)
         .required(true)
@@ -11,21 +14,21 @@ fn needed<'a>(alloc: Global, name: &'a str, help: &'a str) -> Arg<'a> {
         .help(help)
 }
 
-/// A command over a database file.
+/// A command that uses a database file.
 fn over<'a>(alloc: Global, name: &'a str, about: &'a str) -> Result<Command<'a>, AllocError> {
     let db = needed(
         alloc,
         "db",
-        "The database file, which is made where there is none",
+        "The database file; a new one is made if it does not exist",
     )
     .long("db")
     .value_name("F");
     Command::new(alloc, name).about(about).arg(db)
 }
 
-/// The commands without a database.
+/// The commands that do not use a database.
 fn plain<'a>(alloc: Global, command: Command<'a>) -> Result<Command<'a>, AllocError> {
-    let file = "A stream of packets, as a file";
+    let file = "A file with a stream of packets";
     let packets = Command::new(alloc, "packets")
         .about("List the payloads of a stream of packets: offset, sequence id, length")
         .arg(needed(alloc, "FILE", file))?;
@@ -33,50 +36,45 @@ fn plain<'a>(alloc: Global, command: Command<'a>) -> Result<Command<'a>, AllocEr
         .about("List the events of a stream of packets: offset, sequence id, type, size, kind")
         .arg(needed(alloc, "FILE", file))?;
     let minus = Command::new(alloc, "minus")
-        .about("Print a GTID set without another")
+        .about("Print a GTID set without the members of another")
         .arg(needed(alloc, "X", "A GTID set"))?
-        .arg(needed(alloc, "Y", "The GTID set that is taken away"))?;
+        .arg(needed(alloc, "Y", "The GTID set to subtract"))?;
     command
         .subcommand(packets)?
         .subcommand(events)?
         .subcommand(minus)
 }
 
-/// The tables whose rows are kept.
+/// The option for the tables whose rows are kept.
 fn only<'a>(alloc: Global) -> Arg<'a> {
     Arg::new(alloc, "only")
         .long("only")
         .value_name("SCHEMA.TABLE")
         .action(ArgAction::Append)
         .help(
-            "A table whose rows are kept; without any, those of the tables that the database was made for",
+            "Keep only the rows of this table; may be repeated. Without it: of the tables that the database was made for, or of all tables for a new database",
         )
 }
 
-/// An option that has to be there.
+/// A required option.
 fn option<'a>(alloc: Global, name: &'a str, value: &'a str, help: &'a str) -> Arg<'a> {
     needed(alloc, name, help).long(name).value_name(value)
 }
 
-/// Where a source is, and who follows it.
+/// The options for the source and the account.
 fn who<'a>(alloc: Global, command: Command<'a>) -> Result<Command<'a>, AllocError> {
-    let port = "Its port, from 1 to 65535";
-    let password = "The file with the password, of which one last line feed is left out";
+    let port = "The source's port, from 1 to 65535";
+    let password = "The file with the password; one line feed at its end is ignored";
     let server_id = "The server id of the replica, from 1 to 4294967295";
     command
-        .arg(option(
-            alloc,
-            "host",
-            "H",
-            "The source's host, by its name or its address",
-        ))?
+        .arg(option(alloc, "host", "H", "The source's host name or address"))?
         .arg(option(alloc, "port", "P", port))?
-        .arg(option(alloc, "user", "U", "The name of a replication account"))?
+        .arg(option(alloc, "user", "U", "The name of the replication account"))?
         .arg(option(alloc, "password-file", "W", password))?
         .arg(option(alloc, "server-id", "I", server_id))
 }
 
-/// A word that may be there.
+/// An optional flag.
 fn flag<'a>(alloc: Global, name: &'a str, help: &'a str) -> Arg<'a> {
     Arg::new(alloc, name)
         .long(name)
@@ -86,9 +84,11 @@ fn flag<'a>(alloc: Global, name: &'a str, help: &'a str) -> Arg<'a> {
 
 /// `mrep follow`.
 fn follow<'a>(alloc: Global) -> Result<Command<'a>, AllocError> {
-    let about = "Follow a source into a database over a socket, and print how the connection ended";
-    let once = "End where the source's log ends, in place of waiting for more";
-    let progress = "Tell on standard error how many bytes have come, at most once a second";
+    let about =
+        "Follow a source over a socket, apply its transactions to a database, and print how the connection ended";
+    let once = "End at the end of the source's log instead of waiting for more events";
+    let progress =
+        "Report on standard error how many bytes have been received, at most once a second";
     who(alloc, over(alloc, "follow", about)?)?
         .arg(flag(alloc, "once", once))?
         .arg(flag(alloc, "progress", progress))?
@@ -101,17 +101,17 @@ fn replay<'a>(alloc: Global) -> Result<Command<'a>, AllocError> {
         .required(true)
         .num_args(1..)
         .action(ArgAction::Append)
-        .help("What a source has sent on one connection, as a file");
+        .help("A file with the bytes that a source sent on one connection");
     over(
         alloc,
         "replay",
-        "Read streams into a database, each as one connection, and print how each ended",
+        "Read streams, each as one connection, apply their transactions to a database, and print how each ended",
     )?
     .arg(only(alloc))?
     .arg(streams)
 }
 
-/// The commands over a database, but `replay`.
+/// The commands that use a database, except `replay` and `follow`.
 fn reading<'a>(alloc: Global, command: Command<'a>) -> Result<Command<'a>, AllocError> {
     let show = over(
         alloc,
@@ -122,13 +122,13 @@ fn reading<'a>(alloc: Global, command: Command<'a>) -> Result<Command<'a>, Alloc
     let missing = over(
         alloc,
         "missing",
-        "Print a GTID set without the executed one of a database",
+        "Print the part of a GTID set that is not in the executed set of a database",
     )?
     .arg(needed(alloc, "SET", "A GTID set"))?;
     let skip = over(
         alloc,
         "skip",
-        "Record a GTID as executed without changes, and print whether it was not yet: Done or Repeat",
+        "Record a GTID as executed without changes, and print Done, or Repeat if it was executed already",
     )?
     .arg(needed(alloc, "G", "A GTID: a hyphenated UUID, `:` and a number"))?;
     command
@@ -138,11 +138,11 @@ fn reading<'a>(alloc: Global, command: Command<'a>) -> Result<Command<'a>, Alloc
         .subcommand(skip)
 }
 
-/// What the words may be.
+/// All commands and their arguments.
 pub fn grammar<'a>(alloc: Global) -> Result<Command<'a>, AllocError> {
     let command = Command::new(alloc, "mrep")
-        .version("0.1.0")
-        .about("A follower of MySQL")
+        .version(VERSION)
+        .about("A MySQL replication follower")
         .subcommand_required(true);
     let command = plain(alloc, command)?
         .subcommand(replay(alloc)?)?

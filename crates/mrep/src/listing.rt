@@ -10,7 +10,7 @@ use wire::{Assembler, LARGEST_PAYLOAD, Step, WireFault};
 /// The length of a packet's header, whose last byte is the sequence id.
 const HEADER: usize = 4;
 
-/// A payload of a stream: where its first packet begins, that packet's sequence id, and its bytes.
+/// A payload of a stream: the offset of its first packet, that packet's sequence id, and its bytes.
 #[derive(Debug, PartialEq, Eq, Drop)]
 pub struct Entry {
     pub offset: u64,
@@ -18,16 +18,16 @@ pub struct Entry {
     pub payload: Vec<u8>,
 }
 
-/// A reader of a stream that comes in any pieces. The first packet of each payload may have any sequence
-/// id, so its header is gathered before the assembler gets it.
+/// A reader of a stream that comes in pieces of any size. The first packet of each payload may have any sequence id, so
+/// its header is collected before the assembler gets it.
 #[derive(Drop)]
 pub struct Listing {
     pub(crate) assembler: Assembler,
-    /// What has come of the header of a payload's first packet, until it is whole.
+    /// The part of the header of a payload's first packet that has come, until it is complete.
     pub(crate) header: ArrayVec<u8, HEADER>,
-    /// The sequence id of the first packet of the payload at hand.
+    /// The sequence id of the first packet of the current payload.
     pub(crate) sequence: u8,
-    /// Where the payload at hand begins in the stream, and how much of the stream has come.
+    /// The offset of the current payload in the stream, and how many bytes of the stream have come.
     pub(crate) begin: u64,
     pub(crate) seen: u64,
     ghost open_header: { length header.items < 4 },
@@ -41,7 +41,7 @@ impl Listing {
     ghost use Rattle.std.specs.Prelude.{◌≡◌, ◌≢◌, ℕ, ◌+◌, ◌^◌, ◌≤◌, ◌<◌, ◌++◌, [], List, false, length, IfOk, IfErr, MatchResult};
     ghost use Rattle.mrep.specs.declared.listing.Entry.{Entry};
 
-    /// At the beginning of a stream.
+    /// A reader at the beginning of a stream.
     pub fn new(alloc: Global) -> Listing
         ensures { Stands result [] [] }
     {
@@ -54,7 +54,7 @@ impl Listing {
         }
     }
 
-    /// Takes bytes of the header that is gathered, and gives it to the assembler once it is whole.
+    /// Takes bytes of the header that is being collected, and gives the header to the assembler once it is complete.
     fn gather(&mut self, bytes: &[u8]) -> Result<Step, WireFault>
         requires between { (self.old.assembler.held ≡ []) × (self.old.assembler.ended ≡ false) }
         requires some { 0 < length bytes.now }
@@ -77,7 +77,7 @@ impl Listing {
         Ok(Step { used, payload })
     }
 
-    /// Begins a payload with bytes that have its first header whole.
+    /// Begins a payload with bytes that have its whole first header.
     fn start(&mut self, bytes: &[u8]) -> Result<Step, WireFault>
         requires between { (self.old.assembler.held ≡ []) × (self.old.assembler.ended ≡ false) }
         requires fresh { self.old.header.items ≡ [] }
@@ -91,7 +91,7 @@ impl Listing {
         Ok(step)
     }
 
-    /// Takes bytes up to the end of the payload at hand, or some of them.
+    /// Takes bytes up to the end of the current payload, or some of them.
     fn take(&mut self, bytes: &[u8]) -> Result<Step, WireFault>
         requires { 0 < length bytes.now }
         ensures takes { IfOk result (λ step. Takes self.old self.new bytes.now step) }
@@ -107,9 +107,9 @@ impl Listing {
         }
     }
 
-    /// Takes a piece of the stream, and appends the payloads that are whole now.
+    /// Takes a piece of the stream, and appends the payloads that are complete now.
     ///
-    /// After a fault the entries of the payloads before it are there, and the listing is over.
+    /// After a fault the entries of the payloads before it have been appended, and the listing has ended.
     pub fn feed(&mut self, piece: &[u8], entries: &mut Vec<Entry>) -> Result<(), WireFault>
         ensures stands { (stream : List ℕ) (before : List Entry) → length stream + length piece.now < 2 ^ 64 → Stands self.old stream (before ++ entries.old.items) →
             MatchResult result
@@ -133,7 +133,7 @@ impl Listing {
         Ok(())
     }
 
-    /// How much of the payload at hand has come.
+    /// How many bytes of the current payload have come.
     pub fn rest(&self) -> u64
         ensures { (stream : List ℕ) (entries : List Entry) → Stands self.now stream entries → result ≡ length (held_of self.now) }
     {

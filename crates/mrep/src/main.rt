@@ -1,7 +1,7 @@
-//! `mrep`, a follower of MySQL: its commands, one of which runs at a time.
+//! `mrep`, a MySQL replication follower, with one command for each run.
 //!
-//! `command` does the work, over the words, the output and the errors that it is given; `main` gives it
-//! those of the process.
+//! `command` does the work, with the arguments and the two output streams that it is given; `main` gives it those of
+//! the process.
 #![tactic(auto)]
 
 mod cells;
@@ -32,7 +32,7 @@ use std::io::BufWriter;
 use std::process::ExitCode;
 use std::{env, io};
 
-/// Runs the command with a buffered output. It fails only where the words are no text, or for memory.
+/// Runs the command with buffered output. It fails only if an argument is not UTF-8 or memory runs out.
 fn run(rt: &HostRuntime) -> io::Result<u8> {
     let words: Vec<String> = env::args(rt)?.collect(rt.alloc())?;
     let mut out = BufWriter::new(rt.alloc(), rt.stdout())?;
@@ -43,7 +43,7 @@ fn main(rt: HostRuntime) -> ExitCode {
     let status = match run(&rt) {
         Ok(status) => status,
         Err(cause) if cause.kind() == io::ErrorKind::InvalidData => {
-            let _ = eprintln!(rt; "mrep: a word is not UTF-8");
+            let _ = eprintln!(rt; "mrep: an argument is not UTF-8");
             USAGE
         }
         Err(_) => {

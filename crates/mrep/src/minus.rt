@@ -1,4 +1,4 @@
-//! `mrep minus`: a GTID set without another.
+//! `mrep minus`: a GTID set without the members of another.
 
 ghost use Rattle.std.specs.Prelude.{◌≡◌, ◌≤◌, [], string_bytes, IfOk};
 ghost use Rattle.std.specs.FinSet as set;
@@ -10,7 +10,7 @@ use gtid::{GtidFault, GtidSet};
 use std::alloc::Global;
 use std::io::Write;
 
-/// Prints a set without another, both given as texts.
+/// Prints a set without the members of another. Both are given as texts.
 pub fn minus<'a, R: AllocGlobal, W: Write>(
     rt: &R,
     left: &str,
@@ -24,7 +24,7 @@ pub fn minus<'a, R: AllocGlobal, W: Write>(
     Ok(DONE)
 }
 
-/// The text of a set without another.
+/// The text of a set without the members of another.
 fn difference<'a>(alloc: Global, left: &str, right: &str) -> Result<String, Failure<'a>>
     ensures { IfOk result (λ text. (x y : Ids) → IsRead left.now x → IsRead right.now y → AppendsText (set.difference x y) [] (string_bytes text)) }
 {
@@ -40,7 +40,7 @@ fn difference<'a>(alloc: Global, left: &str, right: &str) -> Result<String, Fail
     Ok(text)
 }
 
-/// The set that the text in a word stands for.
+/// The set whose text this argument is.
 pub fn read<'a>(alloc: Global, word: &'a str, text: &str) -> Result<GtidSet, Failure<'a>>
     ensures { IfOk result (λ read. (ids : Ids) → IsRead text.now ids → read ≡ ids) }
 {

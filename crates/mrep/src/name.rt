@@ -1,10 +1,10 @@
-//! Names of schemas and tables, as they are printed and as a word gives them.
+//! Names of schemas and tables, as they are printed and as an argument gives them.
 
 use std::alloc::{AllocError, Global};
 use std::io;
 use std::io::Write;
 
-/// What begins a byte that is written by its two digits.
+/// The character that begins a byte written as two digits.
 const MARK: u8 = b'%';
 
 /// Writes a name: digits, letters, `_` and `$` as they are, every other byte as `%` and two hexadecimal digits.
@@ -20,7 +20,7 @@ pub fn write_name<W: Write>(name: &[u8], out: &mut W) -> io::Result<()> {
     Ok(())
 }
 
-/// Writes the name of a table behind that of its schema.
+/// Writes the name of a table after that of its schema.
 pub fn write_table<W: Write>(schema: &[u8], table: &[u8], out: &mut W) -> io::Result<()> {
     write_name(schema, out)?;
     write!(out, ".")?;
@@ -42,8 +42,8 @@ fn byte_of(high: u8, low: u8) -> Option<u8> {
     Some(digit(high)? << 4 | digit(low)?)
 }
 
-/// The bytes of a name that is written as `write_name` does, where any other byte may stand for itself too. None where
-/// two digits do not follow a `%`.
+/// The bytes of a name that is written as by `write_name`, in which any other byte may be written as itself too. `None`
+/// if a `%` is not followed by two digits.
 fn read_name(alloc: Global, text: &[u8]) -> Result<Option<Vec<u8>>, AllocError> {
     let mut name = Vec::new(alloc);
     let mut rest = text;
@@ -67,8 +67,8 @@ fn read_name(alloc: Global, text: &[u8]) -> Result<Option<Vec<u8>>, AllocError> 
     Ok(Some(name))
 }
 
-/// The schema and the table that `SCHEMA.TABLE` names. None where the text has not exactly one `.`, or a `%` that two
-/// digits do not follow.
+/// The schema and the table of `SCHEMA.TABLE`. `None` unless the text has exactly one `.`, and two digits after each
+/// `%`.
 pub fn read_table(alloc: Global, text: &str) -> Result<Option<(Vec<u8>, Vec<u8>)>, AllocError> {
     let mut parts = text.as_bytes().split(|byte| *byte == b'.');
     let (Some(schema), Some(table), None) = (parts.next(), parts.next(), parts.next()) else {

@@ -1,4 +1,4 @@
-//! A stream that tells how much has come.
+//! A stream that reports how many bytes have been read.
 
 ghost use Rattle.std.specs.Prelude.{◌≡◌};
 ghost use Rattle.std.specs.Io.{ReadsAtMost, WritesAtMost};
@@ -9,20 +9,20 @@ use std::io;
 use std::io::{Read, Write};
 use std::time::{Duration, Instant};
 
-/// A stream that writes a line on how many bytes have come, at most once a second. It is that stream else: what it reads,
-/// writes and fails in are the same.
+/// A stream that writes a line with the number of bytes read, at most once a second. Otherwise it behaves like the
+/// inner stream.
 #[derive(Drop)]
 pub struct Progress<'a, T, E> {
     stream: T,
     clock: &'a HostRuntime,
     err: &'a mut E,
-    /// How many bytes have come, and when the last line was written.
+    /// How many bytes have been read, and when the last line was written.
     count: u64,
     told: Option<Instant>,
 }
 
 impl<'a, T, E: Write> Progress<'a, T, E> {
-    /// The stream, of which nothing has come.
+    /// The stream, before any read.
     pub fn new(stream: T, clock: &'a HostRuntime, err: &'a mut E) -> Progress<'a, T, E> {
         let told = Instant::now(clock).ok();
         Progress {
@@ -34,7 +34,7 @@ impl<'a, T, E: Write> Progress<'a, T, E> {
         }
     }
 
-    /// So many bytes have come. A clock or a line that fails changes nothing.
+    /// Counts the bytes of a read. If the clock or the writing of a line fails, the stream is not affected.
     fn tell(&mut self, count: usize)
         ensures { self.new.stream ≡ self.old.stream }
     {
@@ -48,7 +48,7 @@ impl<'a, T, E: Write> Progress<'a, T, E> {
             return;
         }
         self.told = Some(now);
-        let _ = writeln!(self.err, "mrep: {} bytes", self.count);
+        let _ = writeln!(self.err, "mrep: {} bytes received", self.count);
     }
 }
 

@@ -17,7 +17,7 @@ use std::io;
 use std::io::Read;
 use store::Store;
 
-/// Reads some bytes, and tries again where a signal came between.
+/// Reads some bytes, and tries again if a signal interrupted the read.
 pub fn read_some<R: Read>(reader: &mut R, piece: &mut [u8]) -> io::Result<usize>
     ensures bound { ReadsAtMost result piece.new }
     ensures bytes { ReadConsumes (R.remaining reader.old) (R.remaining reader.new) result piece.new }
@@ -32,8 +32,9 @@ pub fn read_some<R: Read>(reader: &mut R, piece: &mut [u8]) -> io::Result<usize>
     Err(io::Error::from(io::ErrorKind::Interrupted))
 }
 
-/// Reads one connection to its end: its first bytes, and those that the reader gives, a piece at a time. It reads no
-/// further than the piece in which the connection ends. An error of the reader leaves what was read before it.
+/// Reads one connection to its end: its first bytes, and then those that the reader gives, a piece at a time. It reads
+/// no further than the piece in which the connection ends. After an error of the reader, the store keeps what was
+/// applied before it.
 pub fn read_stream<R: Read, S: Alter>(
     config: Config,
     store: &mut Store<S>,
@@ -42,10 +43,10 @@ pub fn read_stream<R: Read, S: Alter>(
     piece: &mut [u8],
 ) -> io::Result<Ended>
     requires { 0 < length piece.old }
-    // The end and what the store holds are those of exactly the bytes that were read.
+    // The end and the content of the store are those of exactly the bytes that were read.
     ensures read { IfOk result (λ end. HasCleanDisk (database S.Store store.new) → (was : Bool) (old : Content) → HoldsAs S.Store was old store.old
         → HasReadOf S.Store config.limit store.old store.new was old first.now (R.remaining reader.old) (R.remaining reader.new) end) }
-    // Where the input has ended, nothing is left unread.
+    // If the input has ended, nothing is left unread.
     ensures all { IfOk result (λ end. HasCleanDisk (database S.Store store.new) → (was : Bool) (old : Content) → HoldsAs S.Store was old store.old
         → end.reason ≡ EndOfInput → IsAtEnd (R.remaining reader.new)) }
     ensures failed { IfErr result (λ _. HasCleanDisk (database S.Store store.new) → (was : Bool) (old : Content) → HoldsAs S.Store was old store.old

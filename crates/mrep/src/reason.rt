@@ -1,4 +1,4 @@
-//! The printed names of what ends a stream or a connection, and the exit statuses that they mean.
+//! The printed names of the reasons for which a stream or a connection ends, and their exit statuses.
 
 ghost use Rattle.std.specs.Prelude.{◌≡◌, ◌≤◌};
 ghost use Rattle.mrep.specs.Reason.{status_of, first_status};
@@ -12,7 +12,7 @@ use std::io;
 use std::io::Write;
 use wire::WireFault;
 
-/// The name of a fault of packets.
+/// The name of a packet fault.
 pub fn wire_reason(fault: WireFault) -> &'static str {
     match fault {
         WireFault::Sequence { .. } => "Wire.Sequence",
@@ -22,7 +22,7 @@ pub fn wire_reason(fault: WireFault) -> &'static str {
     }
 }
 
-/// The name of a fault of an event.
+/// The name of an event fault.
 pub fn event_reason(fault: EventFaultKind) -> &'static str {
     match fault {
         EventFaultKind::Truncated => "Event.Truncated",
@@ -43,7 +43,7 @@ pub fn event_reason(fault: EventFaultKind) -> &'static str {
     }
 }
 
-/// The name of a fault of a message.
+/// The name of a message fault.
 fn greet_reason(fault: &GreetFault) -> &'static str {
     match fault {
         GreetFault::ServerError { .. } => "Greet.ServerError",
@@ -57,7 +57,7 @@ fn greet_reason(fault: &GreetFault) -> &'static str {
     }
 }
 
-/// The name of a fault of a list of events, but of the fault of an event in it.
+/// The name of a fault of the order of events. That of an event in it is printed by `write_reason`.
 fn gather_reason(fault: &GatherFault) -> &'static str {
     match fault {
         GatherFault::NoFormat => "Gather.NoFormat",
@@ -69,7 +69,7 @@ fn gather_reason(fault: &GatherFault) -> &'static str {
     }
 }
 
-/// The name of a reason, but of what a number stands in.
+/// The name of a reason without a number in it.
 fn plain_reason(reason: &Reason) -> &'static str {
     match reason {
         Reason::EndOfInput => "EndOfInput",
@@ -106,7 +106,8 @@ pub fn write_end<W: Write>(number: usize, end: &Ended, out: &mut W) -> io::Resul
     writeln!(out, " at {} applied {}", end.at, end.applied)
 }
 
-/// Writes what a line of an end leaves out of its reason, if anything: the stream or the database file and the cause.
+/// Writes the cause to standard error if the line of an end leaves it out: the stream or the database file, and the
+/// cause.
 pub fn write_cause<W: Write>(
     stream: &str,
     file: &str,
@@ -125,7 +126,7 @@ pub fn write_cause<W: Write>(
         Reason::Refused(Refusal::CountFull(at)) => {
             writeln!(
                 out,
-                "mrep: {stream}: change {at}: the row is there as often as can be"
+                "mrep: {stream}: change {at}: the count of the row is at its maximum"
             )
         }
         Reason::Database(fault) => writeln!(out, "mrep: {file}: {fault}"),
@@ -133,7 +134,8 @@ pub fn write_cause<W: Write>(
     }
 }
 
-/// Writes the message of a source, of which only printable ASCII but the backslash stands for itself.
+/// Writes the message of a source. Printable ASCII except the backslash is written as it is, any other byte as `\x` and
+/// two hexadecimal digits.
 fn write_message<W: Write>(stream: &str, message: &[u8], out: &mut W) -> io::Result<()> {
     write!(out, "mrep: {stream}: the source says: ")?;
     for byte in message {
@@ -163,7 +165,7 @@ fn status_of(reason: &Reason) -> u8
     }
 }
 
-/// The exit status of connections in order: that of the first whose own is not 0.
+/// The exit status of connections in order: that of the first that is not 0, or 0.
 pub fn first_status(ends: &[Ended]) -> u8
     ensures status { result ≡ first_status ends.now }
     ensures range { result ≤ MEMORY }

@@ -18,20 +18,20 @@ use std::io::Write;
 use store::Store;
 use wire::LARGEST_PAYLOAD;
 
-/// How many bytes are read at once.
+/// How many bytes are read at once, at most.
 const PIECE: usize = 65_536;
 
-/// The server id of the replica. No source reads what a replay would send.
+/// The server id of the replica. It is never sent: a replay sends nothing.
 const SERVER_ID: u32 = 1;
 
-/// How a connection ends that cannot be begun, as one of `run` does.
+/// The end of a connection that could not be begun, the same as that of `run`.
 const NO_MEMORY: Ended = Ended {
     reason: Reason::Memory,
     at: 0,
     applied: 0,
 };
 
-/// A stream that is open, with its first byte, if it has one.
+/// An open stream with its first byte, if it has one.
 #[derive(Drop)]
 struct Stream<'a> {
     name: &'a str,
@@ -39,10 +39,10 @@ struct Stream<'a> {
     first: Option<u8>,
 }
 
-/// Reads streams into a database, each as one connection, and prints how each ended. The answer is the first status of
-/// theirs that is not 0.
+/// Reads streams into a database, each as one connection, and prints how each ended. Returns the first of their
+/// statuses that is not 0, or 0.
 ///
-/// The streams are opened and their first bytes read before the database is opened.
+/// All streams are opened and their first bytes are read before the database is opened.
 pub fn replay<'a, W: Write, E: Write>(
     rt: &HostRuntime,
     file: &'a str,
@@ -65,7 +65,7 @@ pub fn replay<'a, W: Write, E: Write>(
     status_of(&ends, read.and(closed), err)
 }
 
-/// The first status of connections that is not 0, or else that of what failed beside them.
+/// The first status of the connections that is not 0, otherwise that of any other failure.
 pub fn status_of<'a, E: Write>(
     ends: &[Ended],
     done: Result<(), Failure<'a>>,
@@ -85,7 +85,7 @@ pub fn status_of<'a, E: Write>(
     }
 }
 
-/// The list of the tables that are named.
+/// The list of the tables that the arguments name.
 pub fn tables<'a>(alloc: Global, words: &[&'a str]) -> Result<Follow, Failure<'a>> {
     let mut names = Vec::with_capacity(alloc, words.len())?;
     for word in words {

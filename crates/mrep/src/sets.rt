@@ -1,4 +1,4 @@
-//! `mrep gtids` and `mrep missing`: the executed set of a database, and what it lacks of another set.
+//! `mrep gtids` and `mrep missing`: the executed set of a database, and the part of another set that it lacks.
 
 ghost use Rattle.std.specs.Prelude.{◌≡◌, [], Bool, string_bytes, IfOk};
 ghost use Rattle.std.specs.FinSet as set;
@@ -29,7 +29,7 @@ pub fn gtids<'a, W: Write>(rt: &HostRuntime, file: &'a str, out: &mut W) -> Resu
     Ok(DONE)
 }
 
-/// Prints what a database lacks of a set, which is given as a text.
+/// Prints the part of a set that is not in the executed set of a database. The set is given as a text.
 pub fn missing<'a, W: Write>(
     rt: &HostRuntime,
     file: &'a str,
@@ -66,7 +66,7 @@ fn executed_text<'a, S: Alter>(alloc: Global, store: &Store<S>) -> Result<String
     text_of(alloc, store.executed())
 }
 
-/// The text of a set without the executed one.
+/// The text of a set without the members of the executed set.
 fn missing_text<'a, S: Alter>(
     alloc: Global,
     mut asked: GtidSet,

@@ -11,7 +11,7 @@ use std::io;
 use std::io::Write;
 use store::{List, Listed, Store};
 
-/// Prints the rows of a database, each once, with how often it is there.
+/// Prints the rows of a database, each once, with the number of its copies.
 pub fn show<'a, W: Write>(rt: &HostRuntime, file: &'a str, out: &mut W) -> Result<u8, Failure<'a>>
     ensures { IfOk result (λ status. status ≡ DONE) }
 {
@@ -49,7 +49,7 @@ fn next_row<'a>(name: &'a str, rows: &mut List) -> Result<Option<Listed>, Failur
     }
 }
 
-/// Writes the line of a row: its table, how often it is there, and its cells.
+/// Writes the line of a row: its table, the number of its copies, and its cells.
 fn write_row<W: Write>(row: &Listed, out: &mut W) -> io::Result<()> {
     write_table(&row.schema, &row.table, out)?;
     write!(out, " {} ", row.count)?;

@@ -12,10 +12,10 @@ use std::io::Write;
 use store::{Applied, Store};
 use uuid::Uuid;
 
-/// How many bytes the text of a source takes, with its hyphens.
+/// The length in bytes of the text of a source, with its hyphens.
 const SOURCE: usize = 36;
 
-/// Has a database record a GTID as executed, with no changes, and prints whether it was not yet.
+/// Records a GTID as executed in a database, without changes, and prints whether it is new.
 pub fn skip<'a, W: Write>(
     rt: &HostRuntime,
     file: &'a str,
@@ -57,7 +57,7 @@ fn record<'a, S: Alter>(
     }
 }
 
-/// The GTID of a text: a source as a hyphenated UUID in either case, `:`, and a number in decimal digits.
+/// The GTID in a text: a source as a hyphenated UUID in either case, `:`, and a number in decimal digits.
 fn read_gtid(text: &str) -> Option<Gtid> {
     let bytes = text.as_bytes();
     let source = bytes.get(..SOURCE)?;
@@ -70,7 +70,7 @@ fn read_gtid(text: &str) -> Option<Gtid> {
     Gtid::new(source.into_bytes(), number(digits)?)
 }
 
-/// The number of one decimal digit or more.
+/// The number in at least one decimal digit.
 fn number(digits: &[u8]) -> Option<u64> {
     if digits.is_empty() {
         return None;

@@ -1,4 +1,4 @@
-//! `mrep packets` and `mrep events`: the payloads of a stream, one a line.
+//! `mrep packets` and `mrep events`: the payloads of a stream, one per line.
 
 ghost use Rattle.std.specs.Prelude.{◌≤◌, IfOk};
 
@@ -11,20 +11,20 @@ use std::rt::Files;
 use std::{fs, io};
 use wire::WireFault;
 
-/// How many bytes are read at once.
+/// How many bytes are read at once, at most.
 const PIECE: usize = 65_536;
 
-/// What is said of a payload.
+/// What is printed of a payload.
 #[derive(Clone, Copy, Debug, PartialEq, Eq)]
 pub enum Lines {
-    /// How long it is.
+    /// Its length.
     Packets,
-    /// Which event it carries.
+    /// Its event.
     Events,
 }
 
-/// Lists the payloads of a file, and answers the status: 0 where the file ends with a payload, 1 where it ends inside
-/// one or a fault stands in it.
+/// Lists the payloads of a file, and returns the status: 0 if the file ends with a payload, 1 if it ends inside one or
+/// has a fault.
 pub fn list<'a, R: Files + AllocGlobal, W: Write>(
     rt: &R,
     name: &'a str,
@@ -63,7 +63,7 @@ pub fn list<'a, R: Files + AllocGlobal, W: Write>(
     Ok(if rest == 0 { DONE } else { REFUSED })
 }
 
-/// Writes a line for each payload, up to one with a fault, and answers whether there was none.
+/// Writes a line for each payload, up to one with a fault, and returns whether there was none.
 fn write_entries<W: Write>(lines: Lines, entries: &[Entry], out: &mut W) -> io::Result<bool> {
     for entry in entries {
         if !write_entry(lines, entry, out)? {
@@ -73,7 +73,7 @@ fn write_entries<W: Write>(lines: Lines, entries: &[Entry], out: &mut W) -> io::
     Ok(true)
 }
 
-/// Writes the line of a payload, and answers whether it is without a fault.
+/// Writes the line of a payload, and returns whether it is without a fault.
 fn write_entry<W: Write>(lines: Lines, entry: &Entry, out: &mut W) -> io::Result<bool> {
     let Entry {
         offset,

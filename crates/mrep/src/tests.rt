@@ -1,4 +1,4 @@
-//! What the commands print and answer, over real files.
+//! What the commands print and return, with real files.
 
 mod follows;
 mod forge;
@@ -16,7 +16,7 @@ use std::{fs, io};
 use streams::{DUMP, ONE_TRANSACTION};
 use wire::WireFault;
 
-/// The status of a command, and what it printed to the output and to the errors.
+/// The status of a command, and what it wrote to standard output and to standard error.
 fn run(rt: &HostRuntime, words: &[&str]) -> Result<(u8, String, String), Fail> {
     let mut out = Vec::new(rt.alloc());
     let mut err = Vec::new(rt.alloc());
@@ -26,12 +26,12 @@ fn run(rt: &HostRuntime, words: &[&str]) -> Result<(u8, String, String), Fail> {
     Ok((status, out, err))
 }
 
-/// What `mrep packets` answers for a file of these bytes.
+/// What `mrep packets` gives for a file with these bytes.
 fn packets(rt: &HostRuntime, bytes: &[u8]) -> Result<(u8, String), Fail> {
     listed(rt, "packets", bytes)
 }
 
-/// What a command answers for a file of these bytes.
+/// What a command gives for a file with these bytes.
 fn listed(rt: &HostRuntime, command: &str, bytes: &[u8]) -> Result<(u8, String), Fail> {
     fs::write(rt, "stream", bytes)?;
     let (status, out, err) = run(rt, &["mrep", command, "stream"])?;
@@ -79,7 +79,7 @@ const EVENTS: &str = "0 1 15 116 Format\n\
 317 6 16 27 Xid\n\
 rest 0\n";
 
-/// The events of one transaction, which begin at 100.
+/// The events of one transaction, which begin at offset 100.
 fn events(alloc: Global) -> Result<Vec<u8>, Fail> {
     Ok(Vec::from_slice(alloc, &ONE_TRANSACTION[100..])?)
 }
@@ -115,7 +115,7 @@ fn lists_events(rt: HostRuntime) -> Result<(), Fail> {
     Ok(())
 }
 
-/// One byte of the stream changed, and the line that ends the list.
+/// One byte of the stream that is changed, and the last line of the list.
 #[test]
 fn refused_events(rt: HostRuntime) -> Result<(), Fail> {
     let cases: [(usize, u8, &str); 20] = [
@@ -150,7 +150,7 @@ fn refused_events(rt: HostRuntime) -> Result<(), Fail> {
     Ok(())
 }
 
-/// The list does not depend on the pieces that the stream comes in.
+/// The list does not depend on the pieces in which the stream comes.
 #[test]
 fn pieces(rt: HostRuntime) -> Result<(), Fail> {
     let mut whole = Vec::new(rt.alloc());
@@ -172,7 +172,7 @@ fn pieces(rt: HostRuntime) -> Result<(), Fail> {
     Ok(())
 }
 
-/// A full packet needs another one behind it, with the next id.
+/// A full packet must be followed by another one, with the next id.
 #[test]
 fn full_packets(rt: HostRuntime) -> Result<(), Fail> {
     let cases: [([u8; 4], u8, &str); 3] = [
@@ -204,12 +204,12 @@ fn reasons(rt: HostRuntime) {
     }
 }
 
-/// Words, the status, and how the text that is printed begins: help and the version to the output, mistakes
-/// to the errors, with nothing on the other.
+/// Arguments, the status, and the beginning of the text: help and the version go to standard output, mistakes to
+/// standard error, and nothing to the other one.
 #[test]
 fn words(rt: HostRuntime) -> Result<(), Fail> {
     let cases: [(&[&str], u8, &str); 13] = [
-        (&["mrep", "--help"], 0, "A follower of MySQL"),
+        (&["mrep", "--help"], 0, "A MySQL replication follower"),
         (&["mrep", "--version"], 0, "mrep 0.1.0\n"),
         (&["mrep", "packets", "--help"], 0, "List the payloads"),
         (&["mrep"], 2, "error: "),
@@ -235,7 +235,7 @@ fn words(rt: HostRuntime) -> Result<(), Fail> {
 
 const A: &str = "3e11fa47-71ca-11e1-9e33-c80aa9429562";
 
-/// Intervals of A, those that are taken away, and what is left, or the text of what is wrong.
+/// Intervals of A, those to subtract, and the rest, or the message of the fault.
 #[test]
 fn minus(rt: HostRuntime) -> Result<(), Fail> {
     let cases = [
@@ -254,14 +254,14 @@ fn minus(rt: HostRuntime) -> Result<(), Fail> {
             ":0",
             2,
             "",
-            "mrep: Y: a number is outside its range\n",
+            "mrep: Y: a transaction number is outside 1 to 9223372036854775806\n",
         ),
         (
             ":1",
             ":1,",
             2,
             "",
-            "mrep: Y: no GTID set: the text is wrong at byte 39\n",
+            "mrep: Y: not a GTID set: the text is wrong at byte 39\n",
         ),
     ];
     for (left, right, want, printed, failed) in cases {
@@ -297,7 +297,7 @@ fn files(rt: HostRuntime) -> Result<(), Fail> {
     Ok(())
 }
 
-/// A writer with room for so many bytes.
+/// A writer with room for this many bytes.
 #[derive(Drop)]
 struct Full(usize);
 

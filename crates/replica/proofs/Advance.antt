@@ -37,7 +37,7 @@ module _ (settings : Settings) (a : ReaderState) (gatherer : Gatherer) (phase : 
     store = g.store;
   }
 
-  -- there was no memory
+  -- memory ran out
   ended-memory : HasEnded settings names was is old now (b ++ more) all (record { reason = Memory; at = at; applied = applied })
   ended-memory = record {
     conn = record { reading = extended settings.limit names b more g.reading; took = g.took; why = g.at_is; kept = g.kept };

@@ -104,7 +104,7 @@ module _ (settings : Settings) (assembly : ReaderState) (gatherer : Gatherer) (w
         store = h.store;
       }
 
-  -- its payload is not the message due
+  -- its payload is not the expected message
   pub denied_ends : (reason : Reason) → at + length h.reading.rest < 2 ^ 64 → Denies names InDump h.reading.events p reason
       → Rattle.replica.specs.End.EndsWith settings.limit names (due_behind h.reading.payloads) h.reading.events (length h.reading.front) h.reading.id h.reading.rest reason
   denied_ends reason within denied = record {

@@ -21,7 +21,7 @@ use Rattle.replica.specs.Crash.{IsOneMore, IsLeft}
 pub front-append : (b x rest more : List ℕ) → b ≡ x ++ rest → b ++ more ≡ x ++ (rest ++ more)
 front-append b x rest more h = ap (λ (l : List ℕ). l ++ more) h ∙ append_assoc x rest more
 
--- the same reading of more bytes
+-- the same reading, of more bytes
 abbrev pub extended : (limit : ℕ) (names : Names) (b more : List ℕ) → Reading limit names b → Reading limit names (b ++ more)
 extended limit names b more r = record {
   payloads = r.payloads;
@@ -100,7 +100,7 @@ module _ (limit : ℕ) (names : Names) (due : Due) (es : List EventValue) (taken
     why-append was old new at ReadFailed h w = w
     why-append was old new at WriteFailed h w = elim w [ inl e ↦ inl e | inr f ↦ inr (log-append at f) ]
 
--- a connection that has ended ends so whatever follows
+-- a connection that has ended has this end whatever follows
 pub conn-append : (limit : ℕ) (names : Names) (was : Bool) (old : Content) (b more : List ℕ) (new : Content) (end : Ended) → end.reason ≢ EndOfInput → Conn limit names was old b new end → Conn limit names was old (b ++ more) new end
 conn-append limit names was old b more new end h c =
     let r = c.reading in

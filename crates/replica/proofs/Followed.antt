@@ -70,7 +70,7 @@ not_of_stream Memory n h = h
 not_of_stream ReadFailed n h = n
 not_of_stream WriteFailed n h = n
 
--- such an end leaves the store broken or whole as it was
+-- such an end leaves the store failed or not, as it was
 as_it_was : (reason : Reason) (was is : Bool) → IsInFull reason → BreaksStore reason was is → is ≡ was
 as_it_was EndOfInput was is full h = h
 as_it_was SourceEof was is full h = h
@@ -85,7 +85,7 @@ as_it_was Memory was is full h = absurd full
 as_it_was ReadFailed was is full h = h
 as_it_was WriteFailed was is full h = h
 
--- want of memory, or a failure of the stream
+-- running out of memory, or a failure of the stream
 abbrev pub IsLate : Reason → Type 0
 IsLate Memory = Unit {0}
 IsLate reason = IsOfStream reason
@@ -108,7 +108,7 @@ module _ (limit : ℕ) (names : Names) (due : Due) (es : List EventValue) (ds : 
   abbrev pub why : Reason → Type 0
   why reason = Why limit names due es ds taken id rest was old new at reason
 
-  -- what ended a connection may be told as a failed write
+  -- the reason of an ended connection may be replaced by a failed write
   pub why_write_failed : (reason : Reason) → IsInFull reason → why reason → why WriteFailed
   why_write_failed EndOfInput h w = inl w.0
   why_write_failed SourceEof h w = inr w
@@ -123,7 +123,7 @@ module _ (limit : ℕ) (names : Names) (due : Due) (es : List EventValue) (ds : 
   why_write_failed ReadFailed h w = absurd h
   why_write_failed WriteFailed h w = absurd h
 
-  -- and an end of the input as a failed read
+  -- and an end of the input by a failed read
   pub why_read_failed : (reason : Reason) → reason ≡ EndOfInput → why reason → why ReadFailed
   why_read_failed reason h w = (subst (λ (v : Reason). why v) h w).0
 
@@ -162,7 +162,7 @@ module _ {S : Type 0} (g : Ghosts S) where
     };
   }
 
-  -- what waited to be sent was handed out
+  -- the pending output was handed out
   pub over-out : (session after : Session) (store : Store S g) (schema : Schema) (was : Bool) (old : Content) (b o out : List ℕ) → HandsOut session after out
       → StandsOver g session store schema was old b o → StandsOver g after store schema was old b (o ++ out)
   over-out session after store schema was old b o out h s = record {
@@ -186,7 +186,7 @@ module _ {S : Type 0} (g : Ghosts S) where
     owes : SentFor session.config before.following old.executed f.read end.at (f.sent ++ session.out.items)
     owes = subst (λ n. SentFor session.config n old.executed f.read end.at (f.sent ++ session.out.items)) names (sent_of session store.following was f.stands.is old f.stands.now f.read f.sent f.stands.stands)
 
-    -- nothing can be read for want of memory
+    -- nothing can be read, since memory ran out
     pub follows-memory : end.reason ≡ EndOfInput → Follows g session.config before store was old left0 left written0 written (told_as Memory end)
     unfolding retold has_read
     follows-memory e =
@@ -261,7 +261,7 @@ module _ {S : Type 0} (g : Ghosts S) where
         sent' : SentFor session.config before.following old.executed f.read end.at ((f.sent ++ y) ++ [])
         sent' = subst (λ (l : List ℕ). SentFor session.config before.following old.executed f.read end.at ((f.sent ++ y) ++ l)) all owes'
 
-        -- all is sent, and the session has ended or all is read
+        -- everything has been sent, and the session has ended or everything has been read
         pub follows-ended : IsNoStreamFailure end.reason → (end.reason ≡ EndOfInput → IsAtEnd left') → Follows g session.config before store was old left0 left' written0 written' end
         follows-ended n read = record {
           read = f.read;
@@ -300,7 +300,7 @@ module _ {S : Type 0} (g : Ghosts S) where
               all_sent = inr refl;
             }
 
-        -- all is sent
+        -- everything has been sent
         pub following-sent : IsFollowing g after before store was old left0 left' written0 written'
         following-sent = record {
           read = f.read;
@@ -322,7 +322,7 @@ module _ {S : Type 0} (g : Ghosts S) where
       ap (λ (v : Option Ended). unwrap_or v not_yet) going ∙ sym (ap (λ (v : Option Ended). told_as EndOfInput (unwrap_or v not_yet)) going) in
       subst (λ (e : Ended). Conn session.config.limit before.following was old b s.now e) told conn
 
-  -- nothing was read and sent
+  -- nothing has been read or sent
   pub following-begins : ((h : Held S) (db : Trees) → IsTrue (state g h).is_open → (state g h).may_leave db → db ≡ (state g h).committed.trees)
       → (session : Session) (store : Store S g) (was : Bool) (content : Content) (left written : Option (List ℕ)) → session.ended ≡ None → HoldsAs g was content store → Stands session store.following was was content content [] []
       → IsFollowing g session store store was content left left written written
@@ -367,7 +367,7 @@ module _ {S : Type 0} (g : Ghosts S) where
     });
   }
 
-  -- the same for settings and an end that are alike
+  -- as above, for settings and an end that are equal
   pub follows-same : (settings settings' : Settings) (before store : Store S g) (was : Bool) (old : Content) (left left' written written' : Option (List ℕ)) (end end' : Ended) → settings ≡ settings' → end ≡ end'
       → Follows g settings before store was old left left' written written' end → Follows g settings' before store was old left left' written written' end'
   follows-same settings settings' before store was old left left' written written' end end' s e f =
@@ -385,7 +385,7 @@ none_behind (Some e) h = cc
 pub same_turns : (before after : Session) → after.ended ≡ before.ended → room_of after ≡ room_of before → turns_left after ≡ turns_left before
 same_turns before after e r = ap (λ (v : Option Ended). while_going v (room_of after + 1)) e ∙ ap (λ (n : ℕ). while_going before.ended (n + 1)) r
 
--- a session that has ended has not ended by the end of the input
+-- a session that has ended was not ended by the end of the input
 pub ended_early : (session : Session) (names : Names) (was is : Bool) (old now : Content) (b o : List ℕ) → is_some session.ended ≡ true → Stands session names was is old now b o → (end_of session).reason ≢ EndOfInput
 unfolding Stands
 ended_early session names was is old now b o h s = elim session.ended as (λ v. is_some v ≡ true

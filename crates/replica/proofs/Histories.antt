@@ -60,7 +60,7 @@ stays limit names was old bs mid new ends b end left same l = elim l [
   | inr m ↦ inr (later limit names was old bs ends left b end m)
 ]
 
--- nothing was read for want of memory
+-- nothing was read, since memory ran out
 pub conn-unread : (limit : ℕ) (names : Names) (was : Bool) (content : Content) (b : List ℕ) → Conn limit names was content b content (record { reason = Memory; at = 0; applied = 0 })
 conn-unread limit names was content b = record {
   reading = unread limit names b;

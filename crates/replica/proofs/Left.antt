@@ -1,4 +1,4 @@
--- What a crash leaves is what the first so many transactions make.
+-- What a crash leaves is what the first transactions of a connection make, some number of them.
 use Rattle.std.proofs.Common.{ℕ, ◌+◌, ◌^◌, ◌<◌, Bool, List, [], ◌∷◌, ◌++◌, length, inl, inr, refl, sym, ap, subst, ◌∙◌, append_assoc}
 use Rattle.std.proofs.lemmas.List.{length-append}
 use Rattle.binlog.specs.Follow.{Names}

@@ -83,7 +83,7 @@ one_answer names InDump p es fs a b = a.2 ∙ ap (λ e. e ∷ []) (carries_same 
 first_of : (x y : ℕ) (xs ys : List ℕ) → x ∷ xs ≡ y ∷ ys → x ≡ y
 first_of x y xs ys h = cc
 
--- an event is no end of the log
+-- an event is not an end of the log
 no_eof : (names : Names) (p body : List ℕ) → p ≡ 0x00 ∷ body → IsEofPacket p → ⊥
 no_eof names p body is eof =
     let first = first_of 0x00 0xFE body (eof.counters ++ eof.ignored) (sym is ∙ eof.payload_is) in
@@ -92,7 +92,7 @@ no_eof names p body is eof =
 begins : (p body : List ℕ) → p ≡ 0x00 ∷ body → IsNoEvent InDump p → ⊥
 begins p body is none = absurd (both (subst (λ l. IsNoEvent InDump l) is none))
 
--- the message due is not refused
+-- the expected message is not refused
 answered : (names : Names) (due : Due) (p : Payload) (es : List EventValue) → Answers names due p es → IsNoEvent due p → refusal_of due p ≡ None
 answered names Hello p es a none = not_refused a.0.value p a.0.is
 answered names Reply p es a none = elim a.0 [ inl ok ↦ ok_reply_not_refused p ok | inr s ↦ switch_not_refused s.scramble p s.is ]
@@ -119,7 +119,7 @@ in_dump names InDump p es h a = a
 
 -- ---- Two readings of the same bytes.
 
--- Behind this beginning x with these events, the other reading y goes on with a payload.
+-- After this prefix x with these events, the other reading y goes on with a payload.
 pub record Further (limit : ℕ) (names : Names) (due : Due) (id : ℕ) (x : List ℕ) (es : List EventValue) (r y : List ℕ) (fs : List EventValue) : Type 0 where
   pub payload : Payload
   pub packing : List ℕ
@@ -233,7 +233,7 @@ compare limit names due id (p ∷ ps) x es m r (q ∷ qs) y fs n s a b h =
     ]
 
 -- ---- What stops a reading, and a payload that would go on.
--- bytes that begin with a whole payload are not unfinished, and no header of them is wrong
+-- bytes that begin with a whole payload are not unfinished, and none of their headers is wrong
 not_unfinished : (id limit : ℕ) (r packing left : List ℕ) (p : Payload) (behind : ℕ) → IsUnfinished id limit r → IsWholePayload id limit packing p behind → r ≡ packing ++ left → ⊥
 not_unfinished id limit r packing left p behind u w e =
     u.not_whole (length packing) p behind (subst (λ l. IsWholePayload id limit l p behind) (sym (ap (λ l. take (length packing) l) e ∙ take-append_seam packing left)) w)
@@ -288,7 +288,7 @@ eof_denied names due es p ReadFailed h eof d = d
 eof_denied names due es p WriteFailed h eof d = d
 
 module _ (limit : ℕ) (names : Names) (due : Due) (es : List EventValue) (taken id : ℕ) (r : List ℕ) where
-  -- an end behind which nothing goes on: what the payload is told as
+  -- an end after which nothing goes on: what the payload reports
   denied : (reason : Reason) (p : Payload) (first others fs : List EventValue) (ds : List DeliveryValue) → AllByRecursion (λ b. b < 256) p → Answers names due p first → fs ≡ es ++ (first ++ others) → AreDeliveries fs ds → Denies names due es p reason → ⊥
   denied EndOfInput p first others fs ds fits a split are d = d
   denied SourceEof p first others fs ds fits a split are d = d
@@ -342,7 +342,7 @@ module _ (limit : ℕ) (names : Names) (due : Due) (es : List EventValue) (taken
     blocked at ReadFailed s = s
     blocked at WriteFailed s = s
 
-  -- an end of the log is no other end
+  -- an end of the log is not an end of another kind
   ends_so : (reason : Reason) (other : ℕ) → EndsLog limit names due es taken id r other → EndsWith limit names due es taken id r reason → ⊥
   ends_so reason other l w =
       let k = same_next id limit r l.stops.next.packing l.stops.next.more l.payload w.payload l.stops.next.behind w.stops.next l.stops.next.whole l.stops.next.bytes in
@@ -425,7 +425,7 @@ module _ (limit : ℕ) (names : Names) (b : List ℕ) (bytes : AllByRecursion (�
         | inr o ↦ elim o [ inl a ↦ absurd (no_further x y at r e.stops a.further) | inr a ↦ absurd (no_further y x other s f.stops a.further) ]
       ]
 
-  -- no reading goes past an end
+  -- no reading goes on after an end
   pub longest : (r : Reason) (at : ℕ) (e : End limit names b r at) (q : Reading limit names b) → length q.payloads ≤ length e.reading.payloads
   longest r at e q = elim (both_read e.reading q) [
     | inl same ↦ (let k : length e.reading.payloads ≡ length q.payloads = ap length same.payloads in omega arith)
@@ -449,7 +449,7 @@ abbrev in_dump_heard : Names → Payload → Heard
 in_dump_heard names [] = of_refusal (refusal_of InDump [])
 in_dump_heard names (byte ∷ body) = if byte == 0x00 then of_event (event_fault names body) else of_refusal (refusal_of InDump (byte ∷ body))
 
--- what a payload says by itself, where this message is due
+-- what a payload means by itself, where this message is expected
 abbrev heard : Names → Due → Payload → Heard
 heard names Hello p = of_refusal (refusal_of Hello p)
 heard names Reply p = of_refusal (refusal_of Reply p)

@@ -15,7 +15,7 @@ use Rattle.replica.specs.Conn.{TakesAll, IsDumpTooLong}
 use Rattle.replica.specs.Sent.{Owes, OwesFrom}
 use Rattle.replica.specs.Standing.{due_of, first_id_of}
 
--- ---- what is due
+-- ---- the expected message
 pub due_push : (d : Due) (ps : List Payload) (p : Payload) → due_from d (ps ++ p ∷ []) ≡ next_due (due_from d ps) p
 due_push d [] p = refl
 due_push d (q ∷ ps) p = due_push (next_due d q) ps p
@@ -101,7 +101,7 @@ module _ (limit : ℕ) (names : Names) where
   no_events QueryReply id (p ∷ ps) x es last t n = t.6 ∙ ap (λ (l : List EventValue). l ++ t.3) t.8.1 ∙ no_events (next_due QueryReply p) (next_id QueryReply p t.4) ps t.1 t.3 last t.9 n
   no_events InDump id (p ∷ ps) x es last t n = absurd (n (stays_in_dump ps))
 
--- ---- no events have no transactions
+-- ---- the empty list of events has no transactions
 cons-nil : {A : Type 0} (x : A) (xs : List A) → [] ≡ x ∷ xs → ⊥
 cons-nil x xs e = cc
 
@@ -127,7 +127,7 @@ pub no_deliveries : (es : List EventValue) (ds : List DeliveryValue) → es ≡ 
 no_deliveries [] ds e d = no_blocks d.blocks ds (sym d.cut) d.each
 no_deliveries (x ∷ es) ds e d = absurd (cons-nil x es (sym e))
 
--- ---- what is owed
+-- ---- the bytes due in reply
 pub owes_push : (settings : Settings) (executed : Ids) (d : Due) (ps : List Payload) (o : List ℕ) (p : Payload) (y : List ℕ) → OwesFrom settings executed d ps o → Owes settings executed (due_from d ps) p y
     → OwesFrom settings executed d (ps ++ p ∷ []) (o ++ y)
 owes_push settings executed d [] o p y h w = (y, [], ap (λ (l : List ℕ). l ++ y) h ∙ sym (append-nil y), w, refl)

@@ -150,7 +150,7 @@ module _ {S : Type 0} (g : Ghosts S) where
     };
   }
 
-  -- the same for the connections of a run
+  -- as above, for the connections of a run
   pub taken_next : (limit : ℕ) (before store : Store S g) (schema : Schema) (was : Bool) (old : Content) (connections : List (Vec (Vec ℕ Global) Global)) (i : ℕ) (pieces : Vec (Vec ℕ Global) Global) (ends : List Ended) (end : Ended)
       → (before.broken ≡ true → store ≡ before) → take (i + 1) connections ≡ take i connections ++ pieces ∷ []
       → (t : HasTaken g limit before schema was old (streams_of (take i connections)) ends) → HasRead g limit before store t.is t.new (stream_of pieces.items) end → HasTaken g limit store schema was old (streams_of (take (i + 1) connections)) (ends ++ end ∷ [])

@@ -1,4 +1,4 @@
--- What follows from where a session stands.
+-- What follows from a session's position.
 use Rattle.std.proofs.Common.{◌≡◌, ℕ, Bool, true, false, List, [], ◌++◌, refl, sym, ap, ◌∙◌, inl, Some, None, is_some, MatchOption, unwrap_or, append-nil, subst, Vec, Global, Option, arith}
 use Rattle.binlog.specs.Follow.{Names}
 use Rattle.wire.specs.Payload.{ReaderState, IsUnfinished}

@@ -1,4 +1,4 @@
--- What an end tells.
+-- What an end reports.
 use Rattle.std.proofs.Common.{◌≡◌, ◌↔◌, ◌⊎◌, ap, ℕ, Bool, List, ◌++◌, length, refl, inl, inr, Some, None, MatchOption, unwrap_or}
 use Rattle.wire.specs.declared.fault.WireFault.TheVariants as wire
 use Rattle.binlog.specs.Follow.{Names}

@@ -47,7 +47,7 @@ room_left s new end n at held was end_is within =
     let z : length s.assembler.held ≡ 0 = ap length was in
     omega (arith, a, z, at, end_is, within)
 
--- what is due before the dump
+-- the message expected before the dump
 pub not_dump : (phase : Phase) → phase ≢ phases.Dump → IsInDump (due_of phase) → ⊥
 not_dump phases.Greeting n i = i
 not_dump phases.Reply n i = i
@@ -70,7 +70,7 @@ module _ (settings : Settings) (assembly : ReaderState) (gatherer : Gatherer) (w
   pub sent_for : (o : List ℕ) → Sent settings old.executed h.reading.payloads o → SentFor settings names old.executed b at o
   sent_for o s = record { payloads = h.reading.payloads; taken = record { reading = h.reading; payloads_are = refl; at_is = inl h.at_is }; sent = s }
 
-  -- it ends here, behind the payloads taken
+  -- it ends here, after the payloads taken
   pub ended : (reason : Reason) (broken : Bool) → reason ≢ EndOfInput
       → Why settings.limit names (due_behind h.reading.payloads) h.reading.events h.reading.deliveries (length h.reading.front) h.reading.id h.reading.rest was old now at reason
       → BreaksStore reason was broken → HasEnded settings names was broken old now b all (record { reason = reason; at = at; applied = applied })

@@ -23,14 +23,14 @@ use Rattle.replica.specs.End.{StopsAt, EndsLog, StopsFor}
 
 -- ---- Transactions in order.
 
--- Taking the transactions in order refuses none, leads from old to new, and makes so many of them new.
+-- Taking the transactions in order refuses none, leads from old to new, and `applied` of them are new.
 abbrev pub TakesAll : Names → Content → List DeliveryValue → ℕ → Content → Type 0
 TakesAll names old [] applied new = (applied ≡ 0) × (new ≡ old)
 TakesAll names old (d ∷ ds) applied new =
     ((mid : Content) × (more : ℕ) × Takes names old d (done mid) × (applied ≡ more + 1) × TakesAll names mid ds more new)
     ⊎ (Takes names old d repeat × TakesAll names old ds applied new)
 
--- The transaction is refused so.
+-- The transaction is refused for this reason.
 abbrev pub IsRefusedBy : Names → Content → DeliveryValue → Refusal → Type 0
 IsRefusedBy names content d (NoSuchRow at) = Takes names content d (refused at why.NoSuchRow)
 IsRefusedBy names content d (CountFull at) = Takes names content d (refused at why.CountFull)
@@ -43,25 +43,25 @@ pub record IsDumpTooLong (executed : Ids) : Type 0 where
   pub encodes : IsEncoding executed set
   pub long : 1073741824 < 23 + length set
 
--- Where the dump has been asked for, the command was short enough.
+-- If the dump has been asked for, the command was short enough.
 abbrev pub CouldAsk : Due → Ids → Type 0
 CouldAsk due executed = IsInDump due → IsDumpTooLong executed → ⊥
 
--- The transactions that were taken, where this is due behind them.
+-- The transactions that were taken, if this message is expected after them.
 pub record Took (names : Names) (old : Content) (ds : List DeliveryValue) (due : Due) (applied : ℕ) (new : Content) : Type 0 where
   pub takes : TakesAll names old ds applied new
   pub asked : CouldAsk due old.executed
 
 -- ---- A connection.
 
--- The database failed, of a store that was whole, in a transaction that is not executed; or a failure had broken the
--- store before.
+-- The database failed, for a store that had not failed before, in a transaction that was not executed; or the store had
+-- failed before.
 abbrev pub FailsFor : Bool → Bool → StoreFault → Type 0
 FailsFor was_broken executed cause =
     ((e : Error) × (cause ≡ fault.Database e) × (was_broken ≡ false) × (executed ≡ false)) ⊎ ((cause ≡ fault.Broken) × (was_broken ≡ true))
 
 module _ (limit : ℕ) (names : Names) (due : Due) (es : List EventValue) (ds : List DeliveryValue) (taken id : ℕ) (rest : List ℕ) where
-  -- The next payload carries an event that ends the transaction.
+  -- The next payload has an event that ends the transaction.
   pub record NextEnds (d : DeliveryValue) : Type 0 where
     pub payload : Payload
     pub stops : StopsAt limit names due es taken id rest payload
@@ -83,13 +83,13 @@ module _ (limit : ℕ) (names : Names) (due : Due) (es : List EventValue) (ds : 
     pub ends : NextEnds delivery
     pub refused : IsRefusedBy names new delivery refusal
 
-  -- The next payload ends a transaction in which the database failed, or which met a broken store.
+  -- The next payload ends a transaction in which the database failed, or for which the store had failed before.
   pub record FailsNext (was_broken : Bool) (new : Content) (cause : StoreFault) : Type 0 where
     pub delivery : DeliveryValue
     pub ends : NextEnds delivery
     pub fails : FailsFor was_broken (is_executed new delivery) cause
 
-  -- Why a connection ends at this place, over a store that a failure had broken before or not.
+  -- Why a connection ends at this offset, for a store that had failed before or not.
   abbrev pub Why : Bool → Content → Content → ℕ → Reason → Type 0
   Why was old new at EndOfInput = StopsFor limit names due es taken id rest at EndOfInput
   Why was old new at SourceEof = StopsFor limit names due es taken id rest at SourceEof
@@ -104,32 +104,32 @@ module _ (limit : ℕ) (names : Names) (due : Due) (es : List EventValue) (ds : 
   Why was old new at (Database cause) = (at ≡ taken) × FailsNext was new cause
   Why was old new at Memory = at ≡ taken
   Why was old new at ReadFailed = at ≡ taken
-  -- what is owed may be sent behind the end of the log
+  -- the pending output may be sent after the end of the log
   Why was old new at WriteFailed = (at ≡ taken) ⊎ EndsLog limit names due es taken id rest at
 
--- A connection of the bytes, over a store that a failure had broken before or not, leads from old to new and ends so: a
--- beginning of its bytes is a conversation, whose transactions are taken in order and none refused. Over a broken store
--- nothing changes.
+-- A connection with these bytes, for a store that had failed before or not, leads from old to new and has this end: a
+-- prefix of its bytes is a conversation, whose transactions are taken in order and none refused. If the store had
+-- failed, nothing changes.
 pub record Conn (limit : ℕ) (names : Names) (was_broken : Bool) (old : Content) (b : List ℕ) (new : Content) (end : Ended) : Type 0 where
   pub reading : Reading limit names b
   pub took : Took names old reading.deliveries (due_behind reading.payloads) end.applied new
   pub why : Why limit names (due_behind reading.payloads) reading.events reading.deliveries (length reading.front) reading.id reading.rest was_broken old new end.at end.reason
   pub kept : was_broken ≡ true → new ≡ old
 
--- Taking the first so many transactions of the bytes refuses none, and leads from old to new.
+-- Taking the first `count` transactions of the bytes refuses none, and leads from old to new.
 pub record Begun (limit : ℕ) (names : Names) (old : Content) (b : List ℕ) (count applied : ℕ) (new : Content) : Type 0 where
   pub reading : Reading limit names b
   pub counted : length reading.deliveries ≡ count
   pub took : Took names old reading.deliveries (due_behind reading.payloads) applied new
 
--- Whether a failure has broken the store behind a connection with this end: one of the database has, want of memory may,
--- and no other end does.
+-- Whether the store has failed after a connection with this end: after an end by the database it has, after running out
+-- of memory it may have, and no other end changes it.
 abbrev pub BreaksStore : Reason → Bool → Bool → Type 0
 BreaksStore (Database cause) was is = is ≡ true
 BreaksStore Memory was is = was ≡ true → is ≡ true
 BreaksStore _ was is = is ≡ was
 
--- The connections in order, each from what the one before left.
+-- The connections in order, each beginning with what the one before it left.
 abbrev pub History : ℕ → Names → Bool → Content → List (List ℕ) → Bool → Content → List Ended → Type 0
 History limit names was old [] is new [] = (is ≡ was) × (new ≡ old)
 History limit names was old (b ∷ bs) is new (end ∷ ends) =
@@ -137,7 +137,7 @@ History limit names was old (b ∷ bs) is new (end ∷ ends) =
 History limit names was old [] is new (end ∷ ends) = ⊥
 History limit names was old (b ∷ bs) is new [] = ⊥
 
--- The bytes of the connection end it, and neither a refused transaction nor a failure.
+-- The end is caused by the bytes of the connection, and not by a refused transaction or a failure.
 abbrev pub IsOfBytes : Reason → Type 0
 IsOfBytes (Refused refusal) = ⊥
 IsOfBytes (Database cause) = ⊥

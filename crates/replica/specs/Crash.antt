@@ -11,7 +11,7 @@ use Rattle.replica.specs.declared.end.Ended.{Ended}
 use Rattle.replica.specs.Stream.{Reading, due_behind}
 use Rattle.replica.specs.Conn.{Took, NextEnds, Conn, Begun, History}
 
--- The database failed in the transaction that the next payload ends, and what is left has this one more.
+-- The database failed in the transaction that the next payload ends, and what is left has this transaction too.
 pub record IsOneMore (limit : ℕ) (names : Names) (old : Content) (b : List ℕ) (new : Content) (end : Ended) (left : Content) : Type 0 where
   pub cause : Error
   pub failed : end.reason ≡ Database (fault.Database cause)
@@ -22,18 +22,19 @@ pub record IsOneMore (limit : ℕ) (names : Names) (old : Content) (b : List ℕ
   pub ends : NextEnds limit names (due_behind reading.payloads) reading.events reading.deliveries (length reading.front) reading.id reading.rest next
   pub takes : Takes names new next (done left)
 
--- What a crash leaves of a connection: the transactions that were taken, or one more where the database failed.
+-- What a crash leaves of a connection: the transactions that were taken, or one more if the database failed.
 abbrev pub IsLeft : ℕ → Names → Content → List ℕ → Content → Ended → Content → Type 0
 IsLeft limit names old b new end left = (left ≡ new) ⊎ IsOneMore limit names old b new end left
 
--- The connection took the first so many transactions of its bytes, and what is left is the content after these; or, where
--- the database failed, after one transaction more, which is new.
+-- The connection took the first transactions of its bytes, some number of them, and what is left is the content after
+-- these; or, if the database failed, after one more transaction, which is new.
 pub record LeavesBegun (limit : ℕ) (names : Names) (old : Content) (b : List ℕ) (new : Content) (end : Ended) (left : Content) : Type 0 where
   pub count : ℕ
   pub begun : Begun limit names old b count end.applied new
   pub left_is : (left ≡ new) ⊎ ((cause : Error) × (end.reason ≡ Database (fault.Database cause)) × Begun limit names old b (count + 1) (end.applied + 1) left)
 
--- The same of a list of connections: the one more is of the first connection in which the database failed.
+-- As IsOneMore, for a list of connections: the additional transaction is of the first connection in which the database
+-- failed.
 pub record IsOneMoreIn (limit : ℕ) (names : Names) (was : Bool) (old : Content) (bs : List (List ℕ)) (ends : List Ended) (left : Content) : Type 0 where
   pub before : List (List ℕ)
   pub b : List ℕ
@@ -45,7 +46,7 @@ pub record IsOneMoreIn (limit : ℕ) (names : Names) (was : Bool) (old : Content
   pub new : Content
   pub connections : bs ≡ before ++ b ∷ after
   pub ends_are : ends ≡ ends_before ++ end ∷ ends_after
-  -- no failure has broken the store before
+  -- the store has not failed before
   pub history : History limit names was old before false mid ends_before
   pub conn : Conn limit names false mid b new end
   pub more : IsOneMore limit names mid b new end left

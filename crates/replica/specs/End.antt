@@ -1,4 +1,4 @@
--- Where the reading of a connection stops, and why.
+-- Where the reading of a connection stops, and for which reason.
 use Rattle.std.specs.Prelude.{◌≡◌, ℕ, ◌+◌, ◌^◌, ◌<◌, ◌≤◌, ◌⊎◌, List, ◌∷◌, ◌++◌, length, Some}
 use Rattle.wire.specs.Payload.{IsWholePayload, IsUnfinished, IsOutOfSequence, IsTooLarge}
 use Rattle.wire.specs.declared.fault.WireFault.{WireFault}
@@ -22,8 +22,8 @@ pub record HasNext (limit id : ℕ) (rest : List ℕ) (p : Payload) : Type 0 whe
   pub whole : IsWholePayload id limit packing p behind
   pub bytes : rest ≡ packing ++ more
 
--- What a payload in the place of the message that is due ends the connection with. These are faults of its bytes, or of
--- its event behind those before.
+-- The reason for which a payload that is not the expected message ends the connection. It is a fault of the payload's
+-- bytes, or of its event after those before it.
 abbrev pub Denies : Names → Due → List EventValue → Payload → Reason → Type 0
 Denies names due es p (SourceError code state message) = IsNoEvent due p × (refusal_of due p ≡ Some (server_error code state message.items))
 Denies names due es p (Greet fault) = IsNoEvent due p × IsOfMessage fault × Refuses (refusal_of due p) fault
@@ -31,28 +31,28 @@ Denies names due es p (Event fault) = IsInDump due × (body : List ℕ) × (p �
 Denies names due es p (Gather fault) = IsInDump due × (e : EventValue) × Carries names p e × IsFault es e fault
 Denies names due es p _ = ⊥
 
--- what a wrong header of a packet is told as
+-- the fault of a wrong header of a packet
 abbrev pub IsWrong : ℕ → ℕ → List ℕ → WireFault → Type 0
 IsWrong id limit rest (wire.Sequence want got) = IsOutOfSequence id limit rest want got
 IsWrong id limit rest wire.TooLarge = IsTooLarge id limit rest
 IsWrong id limit rest wire.Memory = ⊥
 IsWrong id limit rest wire.Ended = ⊥
 
--- Behind so many bytes of a conversation, where this message is due and its packing has this id, stands the rest of the
--- connection's bytes.
+-- After `taken` bytes of a conversation, where this message is expected and its packing has this id, the rest of the
+-- connection's bytes follow.
 module _ (limit : ℕ) (names : Names) (due : Due) (es : List EventValue) (taken id : ℕ) (rest : List ℕ) where
   -- The next payload is whole, and ends within 2 ^ 64 - 1 bytes.
   pub record StopsAt (p : Payload) : Type 0 where
     pub next : HasNext limit id rest p
     pub within : taken + length next.packing < 2 ^ 64
 
-  -- The next payload is whole, and ends past them.
+  -- The next payload is whole, and ends after that many bytes.
   pub record PassesEnd : Type 0 where
     pub payload : Payload
     pub next : HasNext limit id rest payload
     pub beyond : 2 ^ 64 ≤ taken + length next.packing
 
-  -- The next payload is an end of the log, and its packing is taken.
+  -- The next payload is an EOF at the end of the log, and its packing is taken.
   pub record EndsLog (at : ℕ) : Type 0 where
     pub payload : Payload
     pub stops : StopsAt payload
@@ -60,14 +60,15 @@ module _ (limit : ℕ) (names : Names) (due : Due) (es : List EventValue) (taken
     pub is_eof : IsEofPacket payload
     pub at_is : at ≡ taken + length stops.next.packing
 
-  -- The next payload is not the message due.
+  -- The next payload is not the expected message.
   pub record EndsWith (reason : Reason) : Type 0 where
     pub payload : Payload
     pub stops : StopsAt payload
     pub denied : Denies names due es payload reason
 
-  -- The reading stops at this place, for this reason: no payload is whole; the log ends; a payload is not the message
-  -- due; a header is wrong, or the payload ends past 2 ^ 64 - 1 bytes. The other reasons are not those of bytes.
+  -- The reading stops at this offset, for this reason: no payload is whole; the log ends; a payload is not the expected
+  -- message; a header is wrong, or the payload ends after 2 ^ 64 - 1 bytes. The other reasons are not caused by the
+  -- bytes.
   abbrev pub StopsFor : ℕ → Reason → Type 0
   StopsFor at EndOfInput = (at ≡ taken) × IsUnfinished id limit rest
   StopsFor at SourceEof = EndsLog at
@@ -82,11 +83,11 @@ module _ (limit : ℕ) (names : Names) (due : Due) (es : List EventValue) (taken
   StopsFor at ReadFailed = ⊥
   StopsFor at WriteFailed = ⊥
 
--- the reading of these bytes stops at this place, for this reason
+-- the reading of these bytes stops at this offset, for this reason
 abbrev pub Stops : (limit : ℕ) (names : Names) (b : List ℕ) → Reading limit names b → ℕ → Reason → Type 0
 Stops limit names b r at reason = StopsFor limit names (due_behind r.payloads) r.events (length r.front) r.id r.rest at reason
 
--- The end of a connection by its bytes.
+-- The end of a connection that its bytes cause.
 pub record End (limit : ℕ) (names : Names) (b : List ℕ) (reason : Reason) (at : ℕ) : Type 0 where
   pub reading : Reading limit names b
   pub stops : Stops limit names b reading at reason

@@ -1,4 +1,4 @@
--- What a store makes of a payload of the dump.
+-- What a store does with a payload of the dump.
 use Rattle.std.specs.Prelude.{◌≡◌, ◌⊎◌, Bool, true, false, if◌then◌else◌, List, [], ◌∷◌, ◌++◌, Result, Ok, Err}
 use Rattle.sqlite_trees.specs.declared.store.Store.{Ghosts}
 use Rattle.sqlite_trees.specs.Tree.{Trees}
@@ -33,7 +33,7 @@ module _ {S : Type 0} (g : Ghosts S) (is : Bool) (now : Content) (es : List Even
     pub carries : Carries (names_of g old) p event
     pub delivers : AreDeliveries (es ++ event ∷ []) (ds ++ d ∷ [])
 
-  -- The store is as it was, but that a failure may have broken it.
+  -- The store is as it was, except that it may have failed.
   pub record Rests (broken : Bool) : Type 0 where
     pub holds : HoldsAs g broken now new
     pub schema : broken ≡ false → (database g new).now.schema ≡ (database g old).now.schema
@@ -45,8 +45,8 @@ module _ {S : Type 0} (g : Ghosts S) (is : Bool) (now : Content) (es : List Even
     pub leaves : is ≡ false → (trees : Trees) → (database g new).may_leave trees
         → (left : Content) × AreOf (database g old).now.schema (names_of g old) left trees × ((left ≡ now) ⊎ Takes (names_of g old) now d (done left))
 
-  -- The connection ends: by the payload or for want of memory, by a transaction that is refused, or by a failure of the
-  -- database.
+  -- The connection ends: because of the payload, since memory ran out, because a transaction is refused, or since the
+  -- database failed.
   abbrev pub EndsSo : Reason → Type 0
   EndsSo (Refused refusal) = (d : DeliveryValue) × EndsOne d × IsRefusedBy (names_of g old) now d refusal × Rests is
   EndsSo (Database cause) = (d : DeliveryValue) × EndsOne d × Fails cause d

@@ -1,4 +1,4 @@
--- What following a stream comes to.
+-- The outcome of following a stream.
 use Rattle.std.specs.Prelude.{◌≡◌, ◌≤◌, ℕ, ◌+◌, ◌⊎◌, Bool, true, false, List, [], ◌++◌, length, Option, Some, None}
 use Rattle.std.specs.Io.KnownBytes.{Appends, Consumes, IsAtEnd}
 use Rattle.sqlite_trees.specs.declared.store.Store.{Ghosts}
@@ -18,18 +18,18 @@ use Rattle.replica.specs.Sent.{SentFor}
 use Rattle.replica.specs.Standing.{Stands, end_of, room_of}
 use Rattle.replica.specs.Over.{StandsOver, HasRead}
 
--- the bytes of the connection end it, or a refused transaction does
+-- the end is caused by the bytes of the connection, or by a refused transaction
 abbrev pub IsInFull : Reason → Type 0
 IsInFull (Refused refusal) = Unit {0}
 IsInFull reason = IsOfBytes reason
 
--- memory or the database has ended the connection
+-- the connection was ended by running out of memory or by the database
 abbrev pub gave_up_with : Reason → Bool
 gave_up_with Memory = true
 gave_up_with (Database cause) = true
 gave_up_with _ = false
 
--- some of what is owed may stay unsent
+-- some pending output may stay unsent
 abbrev pub MayOwe : Reason → Type 0
 MayOwe Memory = Unit {0}
 MayOwe (Database cause) = Unit {0}
@@ -42,11 +42,11 @@ IsOfStream ReadFailed = Unit {0}
 IsOfStream WriteFailed = Unit {0}
 IsOfStream _ = ⊥
 
--- the same end, told for another reason
+-- the end with another reason
 abbrev pub told_as : Reason → Ended → Ended
 told_as reason end = record { reason = reason; at = end.at; applied = end.applied }
 
--- The content, the place and the count are in full those of the bytes.
+-- The content, the offset and the count are exactly those of the bytes.
 abbrev pub EndsInFull : ℕ → Names → Bool → Content → List ℕ → Content → Ended → Type 0
 EndsInFull limit names was old b new end = (reason : Reason) × IsInFull reason × Conn limit names was old b new (told_as reason end)
 
@@ -61,10 +61,10 @@ pub record EndsInLast (limit : ℕ) (names : Names) (was : Bool) (old : Content)
   pub unended : Conn limit names was old front now (told_as EndOfInput end)
 
 module _ {S : Type 0} (g : Ghosts S) where
-  -- A store that held this content, and which a failure had broken or not, has followed a stream, of which these bytes
-  -- were left and which had written these, before and after; and that ended so.
+  -- A store that held this content, and had failed or not, has followed a stream to this end. The stream had these
+  -- bytes left to read, and these bytes written, before and after.
   pub record Follows (settings : Settings) (before after : Store S g) (was : Bool) (old : Content) (left left' written written' : Option (List ℕ)) (end : Ended) : Type 0 where
-    -- the bytes read, the bytes sent, and those that are owed still
+    -- the bytes read, the bytes sent, and the pending output that was not sent
     pub read : List ℕ
     pub sent : List ℕ
     pub owed : List ℕ
@@ -73,13 +73,14 @@ module _ {S : Type 0} (g : Ghosts S) where
     pub has_read : HasRead g settings.limit before after was old read end
     pub last : EndsInLast settings.limit (names_of g before) was old read
     pub in_full : IsOfStream end.reason → EndsInFull settings.limit (names_of g before) was old read has_read.new end
-    -- a read fails where the bytes read do not end the connection
+    -- a read fails only if the bytes read do not end the connection
     pub unended : end.reason ≡ ReadFailed → Conn settings.limit (names_of g before) was old read has_read.new (told_as EndOfInput end)
     pub all_read : end.reason ≡ EndOfInput → IsAtEnd left'
     pub owes : SentFor settings (names_of g before) old.executed read end.at (sent ++ owed)
     pub all_sent : MayOwe end.reason ⊎ (owed ≡ [])
 
-  -- In the midst of following a stream these bytes were read and these sent, and the session and its store stand there.
+  -- While a stream is followed these bytes have been read and these sent, and this is the position of the session and
+  -- its store.
   pub record IsFollowing (session : Session) (before store : Store S g) (was : Bool) (old : Content) (left left' written written' : Option (List ℕ)) : Type 0 where
     pub read : List ℕ
     pub sent : List ℕ
@@ -97,8 +98,8 @@ while_going (Some end) n = 0
 abbrev pub turns_left : Session → ℕ
 turns_left session = while_going session.ended (room_of session + 1)
 
--- The session hands out these bytes: it stands where it stood, and with them all is sent that is owed for the payloads
--- taken.
+-- The session hands out these bytes: its position is the same with them sent, and everything due in reply to the
+-- payloads taken has been sent.
 pub record HandsOut (before after : Session) (out : List ℕ) : Type 0 where
   pub stands : (names : Names) (was is : Bool) (old now : Content) (b o : List ℕ) → Stands before names was is old now b o → Stands after names was is old now b (o ++ out)
   pub sent : (names : Names) (was is : Bool) (old now : Content) (b o : List ℕ) → Stands before names was is old now b o → SentFor before.config names old.executed b (end_of before).at (o ++ out)

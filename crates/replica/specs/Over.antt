@@ -1,4 +1,4 @@
--- A session over a store, and a list of connections over a store.
+-- A session with its store, and a list of connections with a store.
 use Rattle.std.specs.Prelude.{◌≡◌, ℕ, Bool, false, List}
 use Rattle.sqlite_trees.specs.declared.store.Store.{Ghosts}
 use Rattle.sqlite_trees.specs.Tree.{Trees}
@@ -17,8 +17,8 @@ module _ {S : Type 0} (g : Ghosts S) where
   pub record LeavesOnly (schema : Schema) (store : Store S g) (left : Content → Type 0) : Type 0 where
     pub each : (trees : Trees) → (database g store).may_leave trees → (content : Content) × AreOf schema (names_of g store) content trees × left content
 
-  -- A session that was begun over a store, which held this content under this schema and which a failure had broken or
-  -- not, has read the bytes b and handed out the bytes o.
+  -- The position of a session and its store: the session was begun when the store held this content under this schema
+  -- and had failed or not, and it has read the bytes b and handed out the bytes o.
   pub record StandsOver (session : Session) (store : Store S g) (schema : Schema) (was : Bool) (old : Content) (b o : List ℕ) : Type 0 where
     pub is : Bool
     pub now : Content
@@ -27,7 +27,7 @@ module _ {S : Type 0} (g : Ghosts S) where
     pub schema_is : is ≡ false → (database g store).now.schema ≡ schema
     pub leaves : was ≡ false → LeavesOnly schema store (IsLeft session.config.limit (names_of g store) old b now (end_of session))
 
-  -- The same where a payload has come and is to be taken.
+  -- As StandsOver, with a payload that has come and is still to be taken.
   pub record MeetsOver (session : Session) (store : Store S g) (schema : Schema) (was : Bool) (old : Content) (b o p : List ℕ) : Type 0 where
     pub is : Bool
     pub now : Content
@@ -36,7 +36,7 @@ module _ {S : Type 0} (g : Ghosts S) where
     pub schema_is : is ≡ false → (database g store).now.schema ≡ schema
     pub leaves : was ≡ false → LeavesOnly schema store (λ left. left ≡ now)
 
-  -- A store that held this content, and which a failure had broken or not, has read one connection, which ended so.
+  -- A store that held this content, and had failed or not, has read one connection with this end.
   pub record HasRead (limit : ℕ) (before after : Store S g) (was : Bool) (old : Content) (b : List ℕ) (end : Ended) : Type 0 where
     pub is : Bool
     pub new : Content
@@ -47,8 +47,8 @@ module _ {S : Type 0} (g : Ghosts S) where
     pub schema_is : is ≡ false → (database g after).now.schema ≡ (database g before).now.schema
     pub leaves : was ≡ false → LeavesOnly (database g before).now.schema after (IsLeft limit (names_of g before) old b new end)
 
-  -- A store that held this content under this schema, and which a failure had broken or not, has taken these connections,
-  -- which ended so.
+  -- A store that held this content under this schema, and had failed or not, has taken these connections with these
+  -- ends.
   pub record HasTaken (limit : ℕ) (store : Store S g) (schema : Schema) (was : Bool) (old : Content) (bs : List (List ℕ)) (ends : List Ended) : Type 0 where
     pub is : Bool
     pub new : Content

@@ -1,4 +1,4 @@
--- What a replica owes its source for the payloads that it has taken. MySQL Source Documentation, Client/Server Protocol,
+-- The bytes due in reply to the payloads that a replica has taken. MySQL Source Documentation, Client/Server Protocol,
 -- "Connection Phase", "Native Authentication" and COM_QUERY; Replication Protocol: COM_BINLOG_DUMP_GTID.
 use Rattle.std.specs.Prelude.{◌≡◌, ℕ, ◌⊎◌, Bool, if◌then◌else◌, List, [], ◌∷◌, ◌++◌, codes, length}
 use Rattle.byteorder.specs.Endian.{little_bytes}
@@ -12,16 +12,16 @@ use Rattle.replica.specs.Settings.{Settings}
 use Rattle.replica.specs.Stream.{Payload, Due, Hello, Reply, SecondReply, QueryReply, InDump, next_due, Reading, due_behind}
 use Rattle.replica.specs.End.{EndsLog}
 
--- the answer to a scramble: no bytes for the empty password
+-- the response to a scramble: empty for the empty password
 abbrev pub auth_bytes : List ℕ → List ℕ → List ℕ
 auth_bytes [] scramble = []
 auth_bytes (byte ∷ bytes) scramble = native_answer (byte ∷ bytes) scramble
 
--- the query by which a source sends its events without checksums
+-- the query that makes a source send its events without checksums
 abbrev pub checksum_query : List ℕ
 checksum_query = query_bytes (codes "SET @master_binlog_checksum='NONE'")
 
--- the flags of the dump command: that a set of GTIDs is given, and with `once` that the log's end is to be told
+-- the flags of the dump command: it has a set of GTIDs, and with `once` the source sends an EOF at the end of its log
 abbrev pub flags_of : Bool → ℕ
 flags_of once = if once then 5 else 4
 
@@ -36,13 +36,13 @@ module _ (settings : Settings) (executed : Ids) where
     pub greets : IsGreeting greeting hello
     pub packs : IsPacked 1 (response (record { user = settings.user; auth = auth_bytes settings.password greeting.scramble })) y
 
-  -- The answer to the scramble of a switch.
+  -- The response to the scramble of a switch.
   pub record LogsInAgain (reply : Payload) (y : List ℕ) : Type 0 where
     pub scramble : List ℕ
     pub switch : IsSwitch scramble reply
     pub packs : IsPacked 3 (auth_bytes settings.password scramble) y
 
-  -- The query, once the replica is let in.
+  -- The query, once the replica is logged in.
   pub record Queries (reply : Payload) (y : List ℕ) : Type 0 where
     pub ok : IsOkPacket reply
     pub packs : IsPacked 0 checksum_query y
@@ -54,7 +54,7 @@ module _ (settings : Settings) (executed : Ids) where
     pub encodes : IsEncoding executed set
     pub packs : IsPacked 0 (dump_bytes (record { flags = flags_of settings.once; server_id = settings.server_id; set = set }) [] (little_bytes 8 4)) y
 
-  -- What is owed for a payload that was due.
+  -- The bytes due in reply to a payload that was expected.
   abbrev pub Owes : Due → Payload → List ℕ → Type 0
   Owes Hello p y = LogsIn p y
   Owes Reply p y = LogsInAgain p y ⊎ Queries p y
@@ -62,22 +62,23 @@ module _ (settings : Settings) (executed : Ids) where
   Owes QueryReply p y = Asks p y
   Owes InDump p y = y ≡ []
 
-  -- What is owed for these payloads, one after the other.
+  -- The bytes due in reply to these payloads, one after the other.
   abbrev pub OwesFrom : Due → List Payload → List ℕ → Type 0
   OwesFrom due [] o = o ≡ []
   OwesFrom due (p ∷ ps) o = (y : List ℕ) × (z : List ℕ) × (o ≡ y ++ z) × Owes due p y × OwesFrom (next_due due p) ps z
 
-  -- The bytes owed for the payloads of a conversation.
+  -- The bytes due in reply to the payloads of a conversation.
   abbrev pub Sent : List Payload → List ℕ → Type 0
   Sent ps o = OwesFrom Hello ps o
 
--- The payloads that a connection has taken which is read up to this place.
+-- The payloads that have been taken from a connection that is read up to this offset.
 pub record Taken (limit : ℕ) (names : Names) (b : List ℕ) (at : ℕ) (payloads : List Payload) : Type 0 where
   pub reading : Reading limit names b
   pub payloads_are : payloads ≡ reading.payloads
   pub at_is : (at ≡ length reading.front) ⊎ EndsLog limit names (due_behind reading.payloads) reading.events (length reading.front) reading.id reading.rest at
 
--- The bytes are what a replica with these settings owes for the payloads that the connection has taken.
+-- The bytes are those that a replica with these settings must send in reply to the payloads that the connection has
+-- taken.
 pub record SentFor (settings : Settings) (names : Names) (executed : Ids) (b : List ℕ) (at : ℕ) (o : List ℕ) : Type 0 where
   pub payloads : List Payload
   pub taken : Taken settings.limit names b at payloads

@@ -1,9 +1,9 @@
--- Who follows a source, and how.
+-- The settings of a replica.
 use Rattle.std.specs.Prelude.{ℕ, ◌≤◌, Bool, List, length}
 use Rattle.greet.specs.Message.{IsText}
 
--- `once` asks the source for an end of the log in place of waiting; `limit` is the longest payload that is taken, in
--- bytes.
+-- With `once` the source sends an EOF at the end of its log instead of waiting there; `limit` is the length in bytes of
+-- the longest payload that is taken.
 pub record Settings : Type 0 where
   pub user : List ℕ
   pub password : List ℕ

@@ -1,4 +1,4 @@
--- A session in the midst of a connection.
+-- The position of a session in a connection.
 use Rattle.std.specs.Prelude.{◌≡◌, ◌≢◌, ℕ, ◌+◌, ◌-◌, ◌^◌, Bool, true, false, List, [], ◌++◌, length, Option, Some, None, MatchOption, unwrap_or, take}
 use Rattle.wire.specs.Payload.{ReaderState, IsUnfinished, IsWholePayload}
 use Rattle.binlog.specs.Follow.{Names}
@@ -16,7 +16,7 @@ use Rattle.replica.specs.Stream.{Payload, Due, Hello, Reply, SecondReply, QueryR
 use Rattle.replica.specs.Conn.{Took, Conn, BreaksStore}
 use Rattle.replica.specs.Sent.{Sent, SentFor}
 
--- what a session waits for
+-- the message that a session expects
 abbrev pub due_of : Phase → Due
 due_of phase.Greeting = Hello
 due_of phase.Reply = Reply
@@ -28,8 +28,8 @@ due_of phase.Dump = InDump
 abbrev pub end_of : Session → Ended
 end_of session = unwrap_or session.ended (record { reason = EndOfInput; at = session.at; applied = session.applied })
 
--- The connection goes on. `all` is what was sent and what waits to be sent. (Over the parts of a session, so that a
--- change of another part keeps it.)
+-- The connection goes on. `all` is what was sent and the pending output. (It is a relation on the parts of a session,
+-- so that it stays true if another part changes.)
 pub record GoesOn (settings : Settings) (assembly : ReaderState) (gatherer : Gatherer) (waits : Phase) (at applied : ℕ) (names : Names) (was is : Bool) (old now : Content) (b all : List ℕ) : Type 0 where
   pub reading : Reading settings.limit names b
   pub held : reading.rest ≡ assembly.held
@@ -52,15 +52,15 @@ pub record HasEnded (settings : Settings) (names : Names) (was is : Bool) (old n
   pub sent : SentFor settings names old.executed b end.at all
   pub store : BreaksStore end.reason was is
 
--- A session that was begun over this content has read the bytes b and handed out the bytes o. The store holds `now`, and
--- a failure had broken it and has broken it or not.
+-- The position of a session: it was begun with this content, has read the bytes b and handed out the bytes o. The store
+-- holds `now`; `was` and `is` say whether it had failed then and has failed now.
 unfoldable pub Stands : Session → Names → Bool → Bool → Content → Content → List ℕ → List ℕ → Type 0
 Stands session names was is old now b o =
     MatchOption session.ended
     (GoesOn session.config session.assembler session.gatherer session.phase session.at session.applied names was is old now b (o ++ session.out.items))
     (λ end. HasEnded session.config names was is old now b (o ++ session.out.items) end)
 
--- A payload has come behind the payloads taken, and is to be taken.
+-- A payload has come after those taken, and is still to be taken.
 pub record HasPayload (settings : Settings) (assembly : ReaderState) (gatherer : Gatherer) (waits : Phase) (at applied : ℕ) (names : Names) (was is : Bool) (old now : Content) (b all : List ℕ) (p : Payload) : Type 0 where
   pub reading : Reading settings.limit names b
   pub whole : IsWholePayload reading.id settings.limit reading.rest p assembly.due
@@ -79,7 +79,7 @@ abbrev pub Meets : Session → Names → Bool → Bool → Content → Content �
 Meets session names was is old now b o p =
     HasPayload session.config session.assembler session.gatherer session.phase session.at session.applied names was is old now b (o ++ session.out.items) p
 
--- what is due at the first packet of the message that is waited for, where no payload of the dump has come
+-- the sequence id of the first packet of the expected message, before any payload of the dump has come
 abbrev pub first_id_of : Phase → ℕ
 first_id_of phase.Greeting = 0
 first_id_of phase.Reply = 2
@@ -88,21 +88,21 @@ first_id_of phase.QueryReply = 1
 first_id_of phase.Dump = 1
 
 -- how many more bytes a session may take in before it ends: a connection ends within 2 ^ 64 - 1 bytes and the packing
--- of a payload behind them
+-- of one payload after them
 abbrev pub room_of : Session → ℕ
 room_of session = (2 ^ 64 - session.at) + (2 ^ 31 - length session.assembler.held)
 
--- what was taken of the bytes: so many of them, or all
+-- what was taken of the bytes: this many of them, or all
 abbrev pub taken_of : Option ℕ → List ℕ → List ℕ
 taken_of None bytes = bytes
 taken_of (Some n) bytes = take n bytes
 
--- where a connection ends: at the place of the payloads taken, and behind an end of the log
+-- where a connection ends: after the payloads taken, of which an EOF at the end of the log is one
 abbrev pub place_of : Reason → ℕ → ℕ → ℕ
 place_of SourceEof at end = end
 place_of _ at end = at
 
--- The session has gone on to this place, with so many transactions applied.
+-- The session has gone on to this offset, with this many transactions applied.
 pub record MovesOn (old new : Session) (at applied : ℕ) : Type 0 where
   pub config : new.config ≡ old.config
   pub assembler : new.assembler ≡ old.assembler

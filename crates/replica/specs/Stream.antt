@@ -11,8 +11,8 @@ use Rattle.gather.specs.Transaction.{DeliveryValue, AreDeliveries}
 abbrev pub Payload : Type 0
 Payload = List ℕ
 
--- Which message is due: the greeting, the reply to the login, the reply to the login after a switch, the reply to the
--- query, or a payload of the dump.
+-- The message that is expected: the greeting, the reply to the login, the reply to the login after a switch, the reply
+-- to the query, or a payload of the dump.
 pub data Due : Type 0 where
   Hello : Due
   Reply : Due
@@ -25,7 +25,7 @@ abbrev pub begins_switch : Payload → Bool
 begins_switch [] = false
 begins_switch (byte ∷ bytes) = byte == 0xFE
 
--- what is due behind this message
+-- the message that is expected after this one
 abbrev pub next_due : Due → Payload → Due
 next_due Hello p = Reply
 next_due Reply p = if begins_switch p then SecondReply else QueryReply
@@ -33,9 +33,9 @@ next_due SecondReply p = QueryReply
 next_due QueryReply p = InDump
 next_due InDump p = InDump
 
--- The sequence id of the first packet of what is due behind this message, where the message's packets end before this
--- id: 2 for the reply to the login and 4 for that after a switch, since each answer has one packet; 1 for what follows
--- a command; and in the dump without a break.
+-- The sequence id of the first packet of the message expected after this one, whose packets end before `id`: 2 for the
+-- reply to the login and 4 for that after a switch, since each response has one packet; 1 after a command; and in the
+-- dump without a break.
 abbrev pub next_id : Due → Payload → ℕ → ℕ
 next_id Hello p id = 2
 next_id Reply p id = if begins_switch p then 4 else 1
@@ -47,7 +47,7 @@ abbrev pub due_from : Due → List Payload → Due
 due_from due [] = due
 due_from due (p ∷ ps) = due_from (next_due due p) ps
 
--- what is due behind these payloads
+-- the message that is expected after these payloads
 abbrev pub due_behind : List Payload → Due
 due_behind ps = due_from Hello ps
 
@@ -64,8 +64,8 @@ pub record Carries (names : Names) (p : Payload) (e : EventValue) : Type 0 where
   pub payload_is : p ≡ 0x00 ∷ body
   pub is_event : IsEvent names e body
 
--- The payload is the message due, and carries these events: one in the dump, and else none. A greeting has the needed
--- capabilities, and a switch names the authentication that the replica has.
+-- The payload is the expected message, and has these events: one in the dump, otherwise none. A greeting has the needed
+-- capability flags, and a switch names the authentication method of the replica.
 abbrev pub Answers : Names → Due → Payload → List EventValue → Type 0
 Answers names Hello p es = HasGreeting p × (es ≡ [])
 Answers names Reply p es = (IsOkPacket p ⊎ HasSwitch p) × (es ≡ [])
@@ -73,8 +73,9 @@ Answers names SecondReply p es = IsOkPacket p × (es ≡ [])
 Answers names QueryReply p es = IsOkPacket p × (es ≡ [])
 Answers names InDump p es = (e : EventValue) × Carries names p e × (es ≡ e ∷ [])
 
--- From what is due on, its packing from this sequence id: x is the packings of the payloads, one after the other, each
--- of at most `limit` bytes and the message due; they carry these events, and the next payload's packing has the last id.
+-- From the expected message on, whose packing has this sequence id: x is the packings of the payloads, one after the
+-- other, each of at most `limit` bytes and the expected message; they have these events, and the next payload's packing
+-- has the last id.
 abbrev pub Talks : ℕ → Names → Due → ℕ → List Payload → List ℕ → List EventValue → ℕ → Type 0
 Talks limit names due id [] x es last = (x ≡ []) × (es ≡ []) × (last ≡ id)
 Talks limit names due id (p ∷ ps) x es last =
@@ -82,14 +83,14 @@ Talks limit names due id (p ∷ ps) x es last =
     × (x ≡ y ++ z) × (es ≡ first ++ others) × IsWholePayload id limit y p behind × Answers names due p first
     × Talks limit names (next_due due p) (next_id due p behind) ps z others last
 
--- x is a beginning of a conversation, of fewer than 2 ^ 64 bytes, with these payloads. They carry these events, which
--- are lawful and have these transactions.
+-- x is a prefix of a conversation, of fewer than 2 ^ 64 bytes, with these payloads. They have these events, which are
+-- lawful and have these transactions.
 pub record Conversation (limit : ℕ) (names : Names) (ps : List Payload) (x : List ℕ) (es : List EventValue) (ds : List DeliveryValue) (id : ℕ) : Type 0 where
   pub talks : Talks limit names Hello 0 ps x es id
   pub within : length x < 2 ^ 64
   pub delivers : AreDeliveries es ds
 
--- The bytes begin with a beginning of a conversation, and the rest stands behind it.
+-- The bytes begin with a prefix of a conversation, and the rest follows it.
 pub record Reading (limit : ℕ) (names : Names) (b : List ℕ) : Type 0 where
   pub payloads : List Payload
   pub front : List ℕ

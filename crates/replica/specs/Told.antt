@@ -1,4 +1,4 @@
--- What the end of a connection by its bytes tells, whatever memory holds it.
+-- What the end of a connection reports of its bytes, apart from the memory that holds it.
 use Rattle.wire.specs.declared.fault.WireFault.{WireFault}
 use Rattle.greet.specs.Refusal.{Refusal, server_error, protocol, truncated, capabilities, plugin, old_auth, unexpected}
 use Rattle.greet.specs.declared.fault.GreetFault.{GreetFault}
@@ -8,21 +8,21 @@ use Rattle.gather.specs.declared.fault.GatherFault.{GatherFault}
 use Rattle.replica.specs.declared.end.Reason.{Reason}
 use Rattle.replica.specs.declared.end.Reason.TheVariants.{EndOfInput, SourceEof, SourceError, Wire, Greet, Event, Gather, Refused, Database, Memory, ReadFailed, WriteFailed}
 
--- What a payload says that ends the connection: it ends the log; it is refused in the place of the message due; its
--- event has a fault, or may not stand behind those before.
+-- What a payload that ends the connection means: the log ends; the payload is not the expected message; its event has a
+-- fault, or may not follow those before it.
 pub data Verdict : Type 0 where
   EndsLog : Verdict
   IsRefused : Refusal → Verdict
   HasFault : EventFault → Verdict
   IsOutOfPlace : GatherFault → Verdict
 
--- No payload is whole; a header is wrong, or the payload ends too far; or the next payload says so.
+-- No payload is whole; a header is wrong, or the payload ends too far on; or this is what the next payload means.
 pub data Told : Type 0 where
   Nothing : Told
   IsWrongHeader : WireFault → Told
   Says : Verdict → Told
 
--- what a fault of a message is told for; the last two are none of its bytes
+-- the refusal of a message with this fault; the last two faults are not caused by its bytes
 abbrev pub refusal_told : GreetFault → Refusal
 refusal_told (greet.Protocol byte) = protocol byte
 refusal_told greet.Truncated = truncated
@@ -33,7 +33,7 @@ refusal_told (greet.Unexpected byte) = unexpected byte
 refusal_told (greet.ServerError code state message) = server_error code state message.items
 refusal_told greet.Memory = truncated
 
--- what a reason tells of the bytes; the last five are none of theirs
+-- what a reason reports of the bytes; the last five are not caused by them
 abbrev pub told_of : Reason → Told
 told_of EndOfInput = Nothing
 told_of SourceEof = Says EndsLog

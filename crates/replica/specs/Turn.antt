@@ -1,4 +1,4 @@
--- What a session makes of one payload.
+-- What a session does with one payload.
 use Rattle.std.specs.Prelude.{◌≡◌, ℕ, Bool, true, false, List, [], ◌∷◌, ◌++◌, Option, Some, Result, Ok, Err}
 use Rattle.greet.specs.Refusal.{Refusal, server_error}
 use Rattle.greet.specs.View.{Refuses}
@@ -35,21 +35,21 @@ pub record Sends (id : ℕ) (p : Payload) (old new : List ℕ) : Type 0 where
   pub packed : IsPacked id p bytes
   pub appended : new ≡ old ++ bytes
 
--- What is owed for the message was appended.
+-- The bytes due in reply to the message were appended.
 pub record Replies (settings : Settings) (executed : Ids) (due : Due) (p : Payload) (old new : List ℕ) : Type 0 where
   pub bytes : List ℕ
   pub owes : Owes settings executed due p bytes
   pub appended : new ≡ old ++ bytes
 
--- The message before the dump is the one due, and what is owed for it was appended.
+-- The message before the dump is the expected one, and the bytes due in reply to it were appended.
 pub record IsAnswered (settings : Settings) (names : Names) (executed : Ids) (due : Due) (p : Payload) (old new : List ℕ) : Type 0 where
   pub answers : Answers names due p []
   pub replies : Replies settings executed due p old new
   -- the dump was asked for, so its command was short enough
   pub short : due ≡ QueryReply → IsDumpTooLong executed → ⊥
 
--- Why the connection ends at a payload before the dump: memory, what the payload is, or the length of the command that
--- is owed for it.
+-- Why the connection ends at a payload before the dump: memory ran out, the payload is not the expected message, or the
+-- command due in reply would be too long.
 abbrev pub EndsAt : Names → Ids → Due → Payload → Reason → Type 0
 EndsAt names executed due p Memory = Unit {0}
 EndsAt names executed due p (Wire f) = (f ≡ wire.TooLarge) × (due ≡ QueryReply) × IsOkPacket p × IsDumpTooLong executed
@@ -70,15 +70,15 @@ pub record AsksFor (settings : Settings) (executed : Ids) (old new : List ℕ) :
   pub encodes : IsEncoding executed set
   pub sends : Sends 0 (dump_bytes (record { flags = flags_of settings.once; server_id = settings.server_id; set = set }) [] (little_bytes 8 4)) old new
 
--- What a refusal of a message is told as, or want of memory.
+-- The reason for a refusal of a message, or that memory ran out.
 abbrev pub IsToldOf : Option Refusal → Reason → Type 0
 IsToldOf refusal Memory = Unit {0}
 IsToldOf refusal (SourceError code state message) = refusal ≡ Some (server_error code state message.items)
 IsToldOf refusal (Greet f) = IsOfMessage f × Refuses refusal f
 IsToldOf refusal _ = ⊥
 
--- Why the connection ends at a payload of the dump that ends no transaction: memory, the end of the log, or what the
--- payload is.
+-- Why the connection ends at a payload of the dump that does not end a transaction: memory ran out, the log ends, or
+-- what is wrong with the payload.
 abbrev pub EndsDump : Names → List EventValue → Payload → Reason → Type 0
 EndsDump names es p Memory = Unit {0}
 EndsDump names es p SourceEof = IsEofPacket p
@@ -93,13 +93,13 @@ EndsDump names es p (Database cause) = ⊥
 EndsDump names es p ReadFailed = ⊥
 EndsDump names es p WriteFailed = ⊥
 
--- The payload carries an event that ends these transactions, one or none, and the gatherer was given it.
+-- The payload has an event that ends these transactions, one or none, and the gatherer was given it.
 pub record GathersMore (names : Names) (es : List EventValue) (ds : List DeliveryValue) (p : Payload) (more : List DeliveryValue) (gatherer : Gatherer) : Type 0 where
   pub event : EventValue
   pub carries : Carries names p event
   pub gathers : Gathers (es ++ event ∷ []) (ds ++ more) gatherer
 
--- what the store's answer is told as: whether the transaction was applied, or why the connection ends
+-- maps the store's answer: whether the transaction was applied, or why the connection ends
 abbrev pub outcome_of : Result Applied StoreFault → Result Bool Reason
 outcome_of (Ok applied.Done) = Ok true
 outcome_of (Ok applied.Repeat) = Ok false
@@ -108,12 +108,12 @@ outcome_of (Err (fault.CountFull at)) = Err (Refused (CountFull at))
 outcome_of (Err fault.Memory) = Err Memory
 outcome_of (Err cause) = Err (Database cause)
 
--- what a fault of the packets is told as
+-- the reason for a fault of the packets
 abbrev pub reason_of : WireFault → Reason
 reason_of wire.Memory = Memory
 reason_of fault = Wire fault
 
--- what a fault of the events is told as
+-- the reason for a fault of the events
 abbrev pub reason_of_events : GatherFault → Reason
 reason_of_events gather.Memory = Memory
 reason_of_events f = Gather f

@@ -1,4 +1,4 @@
-//! Who follows a source, and how.
+//! The settings of a replica.
 
 ghost use Rattle.std.specs.Prelude.{◌≡◌, ◌≢◌, ◌↔◌, IfOk, Err};
 ghost use Rattle.replica.specs.Settings.{IsUserName, IsLimit};
@@ -8,21 +8,21 @@ use std::marker::Model;
 use thiserror::Error;
 use wire::LARGEST_PAYLOAD;
 
-/// Why there are no such settings.
+/// Why settings are refused.
 #[derive(Clone, Copy, Debug, PartialEq, Eq, Error)]
 pub enum ConfigFault {
-    /// The user's name is longer than 255 bytes or has a zero byte.
+    /// The user name is longer than 255 bytes or has a zero byte.
     #[error("the user name is longer than 255 bytes or has a zero byte")]
     User,
-    /// The limit of a payload is 0 or above 1 GiB.
-    #[error("the limit of a payload is not from 1 to 1073741824 bytes")]
+    /// The limit on a payload is not from 1 to 1,073,741,824 bytes (1 GiB).
+    #[error("the limit on a payload is not from 1 to 1073741824 bytes")]
     Limit,
     /// An allocation was refused.
     #[error("out of memory")]
     Memory,
 }
 
-/// Who follows a source, and how.
+/// The settings of a replica: how it logs in, and what it asks for.
 #[derive(Drop)]
 pub struct Config {
     pub(crate) user: Vec<u8>,
@@ -43,10 +43,12 @@ impl Model for Config {
 }
 
 impl Config {
-    /// Settings of a user's name, its password, the replica's server id, whether the source is to tell the log's end in
-    /// place of waiting there, and the length of the longest payload that is taken, in bytes.
+    /// Settings with a user name, its password, the replica's server id, `once`, and `limit`. With `once` the source
+    /// sends an EOF at the end of its log instead of waiting there. `limit` is the length in bytes of the longest
+    /// payload that is taken.
     ///
-    /// Refused are, in this order, a name of more than 255 bytes or with a zero byte, and a limit outside 1 to 1 GiB.
+    /// `User` if the name has more than 255 bytes or a zero byte; otherwise `Limit` if the limit is not from 1 to 1
+    /// GiB; `Memory` if an allocation was refused.
     pub fn new(
         alloc: Global,
         user: &[u8],
@@ -88,7 +90,7 @@ impl Config {
         *self.user.allocator()
     }
 
-    /// The same settings once more.
+    /// A copy of the settings.
     pub(crate) fn copy(&self) -> Result<Config, AllocError>
         ensures { IfOk result (λ c. c ≡ self.now) }
     {

@@ -1,4 +1,4 @@
-//! Streams of two directions, and a count of what failed on them.
+//! Streams of two directions, and counts of what failed on them.
 
 ghost use Rattle.std.specs.Prelude.{◌≡◌, ◌<◌, ◌≤◌, ◌+◌, ◌-◌, ◌^◌, min, length, is_err, is_ok, if◌then◌else◌, OnErr, Ok, None};
 ghost use Rattle.std.specs.Io.{ReadsAtMost, WritesAtMost};
@@ -9,7 +9,8 @@ use std::io;
 use std::io::{Read, Write};
 use std::net::TcpStream;
 
-/// A stream whose two directions are apart: reading leaves what was written as it is, and writing what is left to read.
+/// A stream whose two directions are independent: reading leaves what was written as it is, and writing leaves what is
+/// still to be read.
 pub trait Duplex: Read + Write {
     /// Reads as `read` does.
     fn receive(&mut self, buf: &mut [u8]) -> io::Result<usize>
@@ -24,7 +25,7 @@ pub trait Duplex: Read + Write {
         ensures apart { Keeps (Self.Read.remaining self.old) (Self.Read.remaining self.new) };
 }
 
-// A socket tells nothing of its bytes.
+// Nothing is specified about the bytes of a socket.
 impl Duplex for TcpStream {
     fn receive(&mut self, buf: &mut [u8]) -> io::Result<usize> {
         self.read(buf)
@@ -35,19 +36,19 @@ impl Duplex for TcpStream {
     }
 }
 
-/// A stream with the counts of its failed reads and of its failed writes. A write of some bytes that takes none has
-/// failed. A call with an empty slice is not passed on and counts nothing.
+/// A stream with the counts of its failed reads and failed writes. A write that takes nothing of a non-empty slice
+/// counts as failed. A call with an empty slice is not passed on to the stream and changes no count.
 #[derive(Drop)]
 pub struct Counted<T> {
     stream: T,
     failed_reads: u64,
     failed_writes: u64,
-    /// What the last failure was.
+    /// The cause of the last failure.
     failure: Option<io::ErrorKind>,
 }
 
 impl<T> Counted<T> {
-    /// A stream on which nothing has failed.
+    /// A stream with both counts 0.
     pub fn new(stream: T) -> Counted<T>
         ensures { result ≡ record { stream = stream; failed_reads = 0; failed_writes = 0; failure = None } }
     {
@@ -73,14 +74,14 @@ impl<T> Counted<T> {
         self.failed_writes
     }
 
-    /// What the last failed call met; of a write of some bytes that takes none, `WriteZero`.
+    /// The cause of the last failure; `WriteZero` if it was a write that took nothing of a non-empty slice.
     pub fn failure(&self) -> Option<io::ErrorKind>
         ensures { result ≡ self.now.failure }
     {
         self.failure
     }
 
-    /// The stream itself.
+    /// Returns the stream.
     pub fn into_inner(self) -> T
         ensures { result ≡ self.stream }
     {
@@ -90,7 +91,7 @@ impl<T> Counted<T> {
 }
 
 impl<T: Duplex> Counted<T> {
-    /// Reads some bytes, or none at the end of the input.
+    /// Reads some bytes; none at the end of the input.
     pub fn receive(&mut self, buf: &mut [u8]) -> io::Result<usize>
         requires { self.old.failed_reads < 2 ^ 64 - 1 }
         ensures bound { ReadsAtMost result buf.new }
@@ -111,7 +112,7 @@ impl<T: Duplex> Counted<T> {
         result
     }
 
-    /// Writes some bytes. Where it takes none of some, the write has failed.
+    /// Writes some bytes. A write that takes nothing of a non-empty slice counts as failed.
     pub fn send(&mut self, buf: &[u8]) -> io::Result<usize>
         requires { self.old.failed_writes < 2 ^ 64 - 1 }
         ensures bound { WritesAtMost result buf.now }

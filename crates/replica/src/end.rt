@@ -6,48 +6,48 @@ use greet::GreetFault;
 use store::StoreFault;
 use wire::WireFault;
 
-/// Which change of a transaction is refused, by its place from 0, and why.
+/// Which change of a transaction is refused, by its index from 0, and why.
 #[derive(Clone, Copy, Debug, PartialEq, Eq)]
 pub enum Refusal {
-    /// It takes a row that is not there.
+    /// It removes a row that is not there.
     NoSuchRow(usize),
-    /// It adds a row that is there 2^63 - 1 times.
+    /// It adds a row of which there are 2^63 - 1 copies.
     CountFull(usize),
 }
 
 /// Why a connection ends.
 #[derive(Debug, Drop)]
 pub enum Reason {
-    /// No more comes.
+    /// No more bytes come.
     EndOfInput,
-    /// The source tells the end of its log.
+    /// The source sent an EOF at the end of its log.
     SourceEof,
-    /// The source sends an error.
+    /// The source sent an error.
     SourceError {
         code: u16,
-        /// The SQL state, where the error has one.
+        /// The SQL state, if the error has one.
         state: Option<[u8; 5]>,
         /// The first 512 bytes of its message.
         message: Vec<u8>,
     },
-    /// A packet's header is wrong, or the connection's payloads end past 2^64 - 1 bytes, or the dump command would be
-    /// longer than a payload may be.
+    /// A packet's header is wrong; or the packets of the payloads take more than 2^64 - 1 bytes, or the dump command
+    /// would be longer than a payload may be (both `TooLarge`).
     Wire(WireFault),
-    /// A payload is not the message due.
+    /// A payload is not the expected message.
     Greet(GreetFault),
-    /// A payload's event cannot be read.
+    /// The event in a payload cannot be read.
     Event(EventFault),
-    /// An event may not stand behind those before.
+    /// An event may not follow those before it.
     Gather(GatherFault),
-    /// A transaction is refused.
+    /// The store refused a transaction.
     Refused(Refusal),
-    /// The database failed, or a failure had broken the store before.
+    /// The database failed, or the store had failed before.
     Database(StoreFault),
     /// An allocation was refused.
     Memory,
-    /// A read failed.
+    /// A read of the stream failed.
     ReadFailed,
-    /// A write failed.
+    /// A write to the stream failed.
     WriteFailed,
 }
 
@@ -55,8 +55,8 @@ pub enum Reason {
 #[derive(Debug, Drop)]
 pub struct Ended {
     pub reason: Reason,
-    /// How many of its bytes belong to payloads that were taken.
+    /// How many of the connection's bytes belong to payloads that were taken.
     pub at: u64,
-    /// How many transactions were applied.
+    /// How many transactions were applied. Those that had been executed before do not count.
     pub applied: u64,
 }

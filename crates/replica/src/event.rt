@@ -1,4 +1,4 @@
-//! The payloads of the dump.
+//! Payloads of the dump: events, and the EOF at the end of the log.
 
 ghost use Rattle.std.specs.Prelude.{◌≡◌, ◌⊎◌, Bool, List, ◌++◌, ◌∷◌, [], IfOk, IfErr, IfSome, IfNone, true, false, MatchResult, Ok, Err};
 ghost use Rattle.sqlite.specs.State.{HasCleanDisk};
@@ -26,7 +26,7 @@ use sqlite::Alter;
 use std::alloc::Global;
 use store::{Applied, Store, StoreFault};
 
-/// What a payload is told as that carries no event.
+/// The reason for a payload that does not carry an event.
 fn no_event(alloc: Global, payload: &[u8]) -> Reason
     requires { begins_event payload.now ≡ false }
     ensures ends { (names : Names) (es : List EventValue) → EndsDump names es payload.now result }
@@ -38,7 +38,7 @@ fn no_event(alloc: Global, payload: &[u8]) -> Reason
     }
 }
 
-/// What a fault of the events is told as.
+/// Maps a gather fault to a reason.
 fn reason_for(fault: GatherFault) -> Reason
     ensures { result ≡ reason_of_events fault }
 {
@@ -48,7 +48,7 @@ fn reason_for(fault: GatherFault) -> Reason
     }
 }
 
-/// Reads the event of a payload and gathers it, and answers the transaction that it ends.
+/// Reads and gathers the event of a payload, and returns the transaction that it ends, if it ends one.
 fn gather(
     alloc: Global,
     gatherer: &mut Gatherer,
@@ -72,7 +72,7 @@ fn gather(
     }
 }
 
-/// What the store's answer is told as: whether the transaction was applied, or why the connection ends.
+/// Maps the store's answer: whether the transaction was applied, or the reason why the connection ends.
 fn outcome(answer: Result<Applied, StoreFault>) -> Result<bool, Reason>
     ensures { result ≡ outcome_of answer }
 {
@@ -86,8 +86,8 @@ fn outcome(answer: Result<Applied, StoreFault>) -> Result<bool, Reason>
     }
 }
 
-/// Takes a payload of the dump: reads its event, and where that ends a transaction has the store take it. Answers
-/// whether one was applied.
+/// Takes a payload of the dump: reads its event and, if that ends a transaction, applies the transaction to the store.
+/// Returns whether one was applied.
 pub(crate) fn take_event<S: Alter>(
     alloc: Global,
     gatherer: &mut Gatherer,

@@ -1,4 +1,4 @@
-//! A session over a store.
+//! Reading a connection.
 
 ghost use Rattle.std.specs.Prelude.{◌≡◌, ◌↔◌, ℕ, ◌+◌, ◌<◌, ◌≤◌, ◌++◌, [], List, length, Bool, true, false, IsErr, IsSome, IfSome, option_map, None};
 ghost use Rattle.sqlite.specs.State.{HasCleanDisk};
@@ -24,12 +24,12 @@ use store::Store;
 use thiserror::Error;
 use wire::{Assembler, Step, WireFault};
 
-/// The session has ended, and reads no more.
+/// The session has ended and reads no more.
 #[derive(Clone, Copy, Debug, PartialEq, Eq, Error)]
 #[error("the session has ended")]
 pub struct Stopped;
 
-/// What a fault of the packets is told as.
+/// The reason for a fault of the packets.
 fn reason_for(fault: WireFault) -> Reason
     ensures { result ≡ reason_of fault }
 {
@@ -42,7 +42,8 @@ fn reason_for(fault: WireFault) -> Reason
 impl Session {
     /// A session that has read nothing. It takes no memory.
     pub fn new(config: Config) -> Session
-        // Over any store it stands at nothing read and nothing sent.
+        // Over any store it starts with nothing read or sent. (`Stands` relates a session to the bytes that it has read
+        // and sent.)
         ensures stands { (names : Names) (broken : Bool) (content : Content) → Stands result names broken broken content content [] [] }
         ensures config { result.config ≡ config }
         ensures ended { result.ended ≡ None }
@@ -61,21 +62,24 @@ impl Session {
         }
     }
 
-    /// Reads the next bytes of the connection. The call that meets its end answers Ok. After the end nothing is read, and
-    /// the answer is `Stopped`.
+    /// Reads the next bytes of the connection, in pieces of any size. Transactions that they complete are applied to
+    /// the store, and replies that they require are added to the pending output.
+    ///
+    /// The call that reaches the end of the connection returns `Ok`. After the end nothing is read, and the answer is
+    /// `Stopped`.
     pub fn feed<S: Alter>(&mut self, store: &mut Store<S>, bytes: &[u8]) -> Result<(), Stopped>
-        // A session and a store that stand at b and o stand at b and these bytes, and at o.
+        // If the session and its store had read b and sent o, they have now read b and these bytes, and sent o.
         ensures stands { HasCleanDisk (database S.Store store.new) → (schema : Schema) (was : Bool) (old : Content) (b o : List ℕ)
             → StandsOver S.Store self.old store.old schema was old b o → StandsOver S.Store self.new store.new schema was old (b ++ bytes.now) o }
         ensures following { names_of S.Store store.new ≡ names_of S.Store store.old }
-        // A store that a failure has broken stays as it is.
+        // A store that has failed stays as it is.
         ensures broken { IsBroken S.Store store.old → store.new ≡ store.old }
         ensures clean { HasCleanDisk (database S.Store store.new) → HasCleanDisk (database S.Store store.old) }
         ensures config { self.new.config ≡ self.old.config }
         ensures neither { IsNoStreamFailure (end_of self.old).reason → IsNoStreamFailure (end_of self.new).reason }
         ensures stopped { IsErr result ↔ IsSome self.old.ended }
         ensures after { IsSome self.old.ended → (self.new ≡ self.old) × (store.new ≡ store.old) }
-        // While it goes on it takes in all bytes, and there is room for so many fewer.
+        // Until the connection ends, all bytes are taken in, and there is room for that many fewer.
         ensures room { self.new.ended ≡ None → room_of self.new + length bytes.now ≤ room_of self.old }
     {
         if self.ended.is_some() {
@@ -88,7 +92,8 @@ impl Session {
         Ok(())
     }
 
-    /// Reads up to the end of the next payload and takes it, and tells how many bytes these are; or reads all bytes.
+    /// Reads up to the end of the next payload, takes it, and returns how many bytes these are; or reads all bytes and
+    /// returns `None`.
     fn advance<S: Alter>(&mut self, store: &mut Store<S>, bytes: &[u8]) -> Option<usize>
         ensures stands { HasCleanDisk (database S.Store store.new) → (schema : Schema) (was : Bool) (old : Content) (b o : List ℕ)
             → StandsOver S.Store self.old store.old schema was old b o → StandsOver S.Store self.new store.new schema was old (b ++ taken_of result bytes.now) o }
@@ -116,10 +121,10 @@ impl Session {
         Some(used)
     }
 
-    /// Hands over the bytes that are to be sent since the last call. It takes no memory.
+    /// Returns the pending output: the bytes that are to be sent since the last call. It takes no memory.
     pub fn take_out(&mut self) -> Vec<u8>
         ensures stands { (names : Names) (was is : Bool) (old now : Content) (b o : List ℕ) → Stands self.old names was is old now b o → Stands self.new names was is old now b (o ++ result.items) }
-        // With them all is sent that is owed for the payloads taken.
+        // With it, everything due in reply to the payloads taken has been sent.
         ensures sent { (names : Names) (was is : Bool) (old now : Content) (b o : List ℕ) → Stands self.old names was is old now b o → SentFor self.old.config names old.executed b (end_of self.old).at (o ++ result.items) }
         ensures config { self.new.config ≡ self.old.config }
         ensures end { end_of self.new ≡ end_of self.old }
@@ -130,14 +135,14 @@ impl Session {
         mem::replace(&mut self.out, Vec::new(alloc))
     }
 
-    /// How the connection ended, or None while it goes on. It takes no memory.
+    /// How the connection ended, or `None` as long as it has not. It takes no memory.
     pub fn ended(&self) -> Option<&Ended>
         ensures { option_map (λ e. e.now) result ≡ self.now.ended }
     {
         self.ended.as_ref()
     }
 
-    /// How the connection ends, where no more comes. It takes no memory.
+    /// How the connection ends if no more bytes come. It takes no memory.
     pub fn finish(self) -> Ended
         ensures end { result ≡ end_of self }
         ensures conn { (names : Names) (was is : Bool) (old now : Content) (b o : List ℕ) → Stands self names was is old now b o → Conn self.config.limit names was old b now result }

@@ -1,4 +1,4 @@
-//! A source followed over a stream.
+//! Following a source over a stream.
 
 ghost use Rattle.std.specs.Prelude.{◌≡◌, ◌≢◌, ◌<◌, ◌≤◌, ◌+◌, ◌-◌, ◌^◌, ◌++◌, ◌↔◌, ℕ, List, [], Bool, true, length, take, if◌then◌else◌, None};
 ghost use Rattle.std.specs.Io.KnownBytes.{Appends, Consumes, Keeps, IsAtEnd};
@@ -19,10 +19,10 @@ use sqlite::Alter;
 use std::alloc::Global;
 use store::Store;
 
-/// How many bytes are read at once.
+/// How many bytes a read asks for: 64 KiB.
 const PIECE: usize = 65_536;
 
-/// Whether want of memory or the database has ended the connection, so that nothing more is sent.
+/// Whether the connection was ended by the database or by running out of memory. Then nothing more is sent.
 fn gave_up(session: &Session) -> bool
     ensures { result ≡ gave_up_with (end_of session.now).reason }
 {
@@ -32,7 +32,7 @@ fn gave_up(session: &Session) -> bool
     }
 }
 
-/// Sends the bytes, and tells whether no write has failed.
+/// Sends the bytes, and returns whether no write has failed.
 fn send_all<T: Duplex>(stream: &mut Counted<T>, bytes: &[u8]) -> bool
     requires { stream.old.failed_writes < 2 ^ 64 - 1 }
     ensures sent { (n : ℕ) × (n ≤ length bytes.now) × Appends (T.Write.contents stream.old.stream) (T.Write.contents stream.new.stream) (take n bytes.now)
@@ -51,7 +51,7 @@ fn send_all<T: Duplex>(stream: &mut Counted<T>, bytes: &[u8]) -> bool
     true
 }
 
-/// Sends what the session has to send, and tells whether no write has failed.
+/// Sends the session's pending output, and returns whether no write has failed.
 fn send_owed<T: Duplex>(session: &mut Session, stream: &mut Counted<T>) -> bool
     requires { stream.old.failed_writes < 2 ^ 64 - 1 }
     // What was sent, and what could not be sent.
@@ -65,7 +65,7 @@ fn send_owed<T: Duplex>(session: &mut Session, stream: &mut Counted<T>) -> bool
     send_all(stream, out.as_slice())
 }
 
-/// What came of a read.
+/// The outcome of a read.
 #[derive(Clone, Copy, Debug, PartialEq, Eq)]
 enum Turn {
     Read,
@@ -108,7 +108,7 @@ fn read_some<T: Duplex, S: Alter>(
     }
 }
 
-/// The same end, told for another reason.
+/// The end of the session, with another reason.
 fn retold(session: Session, reason: Reason) -> Ended
     ensures { result ≡ record { reason = reason; at = (end_of session).at; applied = (end_of session).applied } }
 {
@@ -120,11 +120,11 @@ fn retold(session: Session, reason: Reason) -> Ended
     }
 }
 
-/// Follows a source over a stream to the end of the connection. All that is owed is sent before the next read; each read
-/// asks for 64 KiB. Every error of the stream is a failure, and so is a write that takes nothing of some bytes; a read of
-/// no bytes is the end of the input.
+/// Follows a source over a stream until the connection ends. All pending output is sent before each read, and each read
+/// asks for 64 KiB.
 ///
-/// After want of memory or a failure of the database nothing more is sent.
+/// Every error of the stream is a failure, and so is a write that takes nothing of a non-empty slice; a read of no
+/// bytes is the end of the input. After a failure of the database, or when memory runs out, nothing more is sent.
 pub fn follow<T: Duplex, S: Alter>(
     alloc: Global,
     stream: &mut Counted<T>,
@@ -133,16 +133,17 @@ pub fn follow<T: Duplex, S: Alter>(
 ) -> Ended
     requires reads { stream.old.failed_reads < 2 ^ 64 - 1 }
     requires writes { stream.old.failed_writes < 2 ^ 64 - 1 }
-    // What the store holds afterwards and the end are those of the bytes read, and the bytes sent are owed for them.
+    // The content of the store afterwards and the end are those of the bytes read, and the bytes sent are due in reply
+    // to them.
     ensures follows { HasCleanDisk (database S.Store store.new) → (was : Bool) (old : Content) → HoldsAs S.Store was old store.old
         → Follows S.Store config store.old store.new was old (T.Read.remaining stream.old.stream) (T.Read.remaining stream.new.stream) (T.Write.contents stream.old.stream) (T.Write.contents stream.new.stream) result }
-    // A failure of the stream is told exactly where there was one.
+    // A failure of the stream is reported exactly if there was one.
     ensures read_failed { (result.reason ≡ Reason.ReadFailed) ↔ (stream.old.failed_reads < stream.new.failed_reads) }
     ensures write_failed { (result.reason ≡ Reason.WriteFailed) ↔ (stream.old.failed_writes < stream.new.failed_writes) }
-    // It is the last call: none is made again.
+    // The call that fails is the last one: none is made after it.
     ensures once { (stream.new.failed_reads ≤ stream.old.failed_reads + 1) × (stream.new.failed_writes ≤ stream.old.failed_writes + 1) }
     ensures following { names_of S.Store store.new ≡ names_of S.Store store.old }
-    // A store that a failure has broken stays as it is.
+    // A store that has failed stays as it is.
     ensures broken { IsBroken S.Store store.old → store.new ≡ store.old }
     ensures clean { HasCleanDisk (database S.Store store.new) → HasCleanDisk (database S.Store store.old) }
 {

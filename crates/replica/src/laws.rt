@@ -1,4 +1,4 @@
-//! What callers rely on, as laws about the definitions.
+//! Laws about the definitions, for callers.
 //!
 //! A law is a function with an empty body: its clauses are proved of the definitions themselves.
 
@@ -27,46 +27,47 @@ use crate::session::Session;
 use sqlite::Alter;
 use store::Store;
 
-/// A session that has read nothing stands over any store with the content that the store holds.
+/// A session that has read nothing begins at any store, with the content that the store holds.
 pub fn begins<S: Alter>(_session: &Session, _store: &Store<S>)
     ensures { (was : Bool) (content : Content) → HoldsAs S.Store was content _store.now → Stands _session.now (names_of S.Store _store.now) was was content content [] []
         → StandsOver S.Store _session.now _store.now (database S.Store _store.now).now.schema was content [] [] }
 {}
 
-/// What a session hands out (`Session::take_out`) is sent over a store too.
+/// What a session hands out (`Session::take_out`) counts as sent, also together with a store.
 pub fn handed_out<S: Alter>(_before: &Session, _after: &Session, _store: &Store<S>)
     ensures { (schema : Schema) (was : Bool) (old : Content) (b o out : List ℕ) → HandsOut _before.now _after.now out → StandsOver S.Store _before.now _store.now schema was old b o → StandsOver S.Store _after.now _store.now schema was old b (o ++ out) }
 {}
 
-/// What a session stands at tells how its connection ends if no more comes, what the store holds, and what was sent.
+/// A session's position determines how its connection ends if no more bytes come, what the store holds, and what was
+/// sent.
 pub fn stood(_session: &Session)
     ensures conn { (names : Names) (was is : Bool) (old now : Content) (b o : List ℕ) → Stands _session.now names was is old now b o → Conn _session.now.config.limit names was old b now (end_of _session.now) }
     ensures sent { (names : Names) (was is : Bool) (old now : Content) (b o : List ℕ) → Stands _session.now names was is old now b o
         → SentFor _session.now.config names old.executed b (end_of _session.now).at (o ++ _session.now.out.items) }
-    // The store holds what the first so many transactions of the bytes make of what it held.
+    // The store holds what the first transactions of the bytes, some number of them, make of what it held.
     ensures state { (names : Names) (was is : Bool) (old now : Content) (b o : List ℕ) → Stands _session.now names was is old now b o
         → (count : ℕ) × Begun _session.now.config.limit names old b count (end_of _session.now).applied now }
-    // An end by the bytes is theirs, but for a dump command that would be too long.
+    // An end caused by the bytes is the end of these bytes, except for a dump command that would be too long.
     ensures reason { (names : Names) (was is : Bool) (old now : Content) (b o : List ℕ) → Stands _session.now names was is old now b o → IsOfBytes (end_of _session.now).reason
         → End _session.now.config.limit names b (end_of _session.now).reason (end_of _session.now).at ⊎ (((end_of _session.now).reason ≡ Wire wire.TooLarge) × IsDumpTooLong old.executed) }
     ensures store { (names : Names) (was is : Bool) (old now : Content) (b o : List ℕ) → Stands _session.now names was is old now b o → BreaksStore (end_of _session.now).reason was is }
     ensures ended { (names : Names) (was is : Bool) (old now : Content) (b o : List ℕ) → Stands _session.now names was is old now b o → (_session.now.ended ≡ None) ↔ ((end_of _session.now).reason ≡ EndOfInput) }
 {}
 
-/// What a crash leaves of a connection is what the first so many of its transactions make of what the store held: all that
-/// were taken are among them, and at most one is more, where the database failed.
+/// What a crash leaves of a connection is what the first of its transactions, some number of them, make of what the
+/// store held: all those that were taken, and at most one more, if the database failed.
 pub fn left_begun()
     ensures { (limit : ℕ) (names : Names) (was : Bool) (old : Content) (b : List ℕ) (new : Content) (end : Ended) (left : Content) → Conn limit names was old b new end
         → IsLeft limit names old b new end left → LeavesBegun limit names old b new end left }
 {}
 
-/// Where a connection ends by its bytes, and what that tells, is determined by them.
+/// Where a connection ends because of its bytes, and what that end reports, is determined by the bytes.
 pub fn one_end()
     ensures told { (limit : ℕ) (names : Names) (b : List ℕ) (r s : Reason) (at other : ℕ) → AllByRecursion (λ byte. byte < 256) b → End limit names b r at → End limit names b s other → told_of r ≡ told_of s }
     ensures at { (limit : ℕ) (names : Names) (b : List ℕ) (r s : Reason) (at other : ℕ) → AllByRecursion (λ byte. byte < 256) b → End limit names b r at → End limit names b s other → at ≡ other }
 {}
 
-/// No reading of a connection's bytes has more payloads than that of their end.
+/// No reading of a connection's bytes has more payloads than the reading up to their end.
 pub fn longest()
     ensures { (limit : ℕ) (names : Names) (b : List ℕ) (r : Reason) (at : ℕ) → AllByRecursion (λ byte. byte < 256) b → (e : End limit names b r at) → (q : Reading limit names b) → length q.payloads ≤ length e.reading.payloads }
 {}

@@ -1,4 +1,22 @@
-//! A replica: what it says to a source and makes of the source's answers.
+//! A replica of a MySQL source: it logs in, asks for the binary log by GTID, and applies what comes to a
+//! [`Store`](store::Store).
+//!
+//! A [`Config`] has the user, the password, the server id and the limits of one replica. [`Session`] is one connection,
+//! without any input or output of its own: [`Session::feed`] takes the next bytes of the source, in pieces of any size,
+//! and applies each transaction as soon as it is complete; [`Session::take_out`] returns the pending output, which the
+//! caller must send. [`Session::ended`] says whether the connection has ended, and [`Session::finish`] returns how, as
+//! [`Ended`] with its [`Reason`]. A session that has ended reads no more.
+//!
+//! [`run`] reads a list of connections that are in memory, one after the other. [`follow`] follows a source over a
+//! stream of two directions, such as a socket, wrapped in [`Counted`]: it sends all pending output before each read,
+//! until the connection ends.
+//!
+//! All of them borrow the store, so that it can be used for the next connection. After an end with `Reason::Database`
+//! the store has failed and must be opened again; after `Reason::Memory` it may have. A connection that is cut short
+//! drops its unfinished transaction. The next one asks for all that the store does not have.
+//!
+//! `specs/` defines a conversation with a source (`Stream.antt`), what a connection does to the content of a store and
+//! how it ends (`Conn.antt`, `End.antt`), and the bytes due in reply (`Sent.antt`). [`laws`] states what follows.
 #![tactic(auto)]
 
 mod config;

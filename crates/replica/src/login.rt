@@ -1,4 +1,4 @@
-//! What a replica sends.
+//! Messages that a replica sends.
 
 ghost use Rattle.std.specs.Prelude.{◌≡◌, ◌≢◌, ◌++◌, ◌⊎◌, ◌+◌, ◌≤◌, length, [], IfOk, OnOk, OnErr, IfErr, Err, Ok};
 ghost use Rattle.byteorder.specs.Endian.{little_bytes};
@@ -17,19 +17,19 @@ use gtid::GtidSet;
 use std::alloc::{AllocError, Global};
 use wire::{LARGEST_PAYLOAD, WireFault, write_payload};
 
-/// The query by which a source sends its events without checksums.
+/// The query that makes a source send its events without checksums.
 const CHECKSUM_QUERY: &[u8] = b"SET @master_binlog_checksum='NONE'";
 
-/// BINLOG_THROUGH_GTID: a set of GTIDs is given.
+/// BINLOG_THROUGH_GTID: the command has a set of GTIDs.
 const THROUGH_GTID: u16 = 0x0004;
 
-/// BINLOG_DUMP_NON_BLOCK: the log's end is told by an EOF.
+/// BINLOG_DUMP_NON_BLOCK: the source sends an EOF at the end of its log.
 const NON_BLOCK: u16 = 0x0001;
 
-/// How much of a dump command stands before its set, in bytes.
+/// The length in bytes of a dump command without its set.
 const DUMP_LEAD: usize = 23;
 
-/// The answer to a scramble: none for the empty password.
+/// The response to a scramble: empty for the empty password.
 fn auth(alloc: Global, password: &[u8], scramble: &[u8; 20]) -> Result<Vec<u8>, AllocError>
     ensures bytes { IfOk result (λ bytes. bytes.items ≡ auth_bytes password.now scramble.now) }
     ensures short { IfOk result (λ bytes. length bytes.items ≤ 20) }
@@ -40,7 +40,7 @@ fn auth(alloc: Global, password: &[u8], scramble: &[u8; 20]) -> Result<Vec<u8>, 
     native(password, scramble).to_vec(alloc)
 }
 
-/// Appends the packing of a payload. The only refusal is `Memory`.
+/// Appends the packing of a payload. The only error is `Memory`.
 fn send(sequence: u8, payload: &[u8], out: &mut Vec<u8>) -> Result<(), Reason>
     ensures ok { OnOk result (Sends sequence payload.now out.old.items out.new.items) }
     ensures err { OnErr result (result ≡ Err Memory) }
@@ -83,7 +83,7 @@ pub(crate) fn log_in(config: &Config, scramble: &[u8; 20], out: &mut Vec<u8>) ->
     }
 }
 
-/// Appends the answer to the scramble of a switch.
+/// Appends the response to the scramble of a switch.
 pub(crate) fn log_in_again(
     config: &Config,
     scramble: &[u8; 20],
@@ -123,7 +123,7 @@ fn flags(once: bool) -> u16
     }
 }
 
-/// The executed set as the dump command has it. `TooLarge` where the command would be longer than a payload may be.
+/// The executed set as encoded for the dump command. `TooLarge` if the command would be longer than a payload may be.
 fn encoded(alloc: Global, executed: &GtidSet) -> Result<Vec<u8>, Reason>
     ensures ok { IfOk result (λ set. IsEncoding executed.now set.items × (23 + length set.items ≤ LARGEST_PAYLOAD)) }
     ensures err { IfErr result (λ reason. (reason ≡ Memory) ⊎ ((reason ≡ Wire wire.TooLarge) × IsDumpTooLong executed.now)) }
@@ -154,7 +154,7 @@ fn dump_with(config: &Config, set: &[u8]) -> Result<Vec<u8>, Reason>
     }
 }
 
-/// Appends the dump command with the executed set. `TooLarge` where it would be longer than a payload may be.
+/// Appends the dump command with the executed set. `TooLarge` if it would be longer than a payload may be.
 pub(crate) fn ask(config: &Config, executed: &GtidSet, out: &mut Vec<u8>) -> Result<(), Reason>
     ensures ok { OnOk result (AsksFor config.now executed.now out.old.items out.new.items) }
     ensures short { OnOk result (IsDumpTooLong executed.now → ⊥) }

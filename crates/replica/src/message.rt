@@ -1,4 +1,4 @@
-//! The messages of a source before the dump.
+//! Messages of a source before the dump.
 
 ghost use Rattle.std.specs.Prelude.{◌≡◌, [], OnOk, OnErr, IfOk, IfErr, Option};
 ghost use Rattle.binlog.specs.Follow.{Names};
@@ -17,7 +17,7 @@ use crate::phase::Phase;
 use greet::{AuthReply, GreetFault, Greeting, read_ok};
 use gtid::GtidSet;
 
-/// What a fault of a message is told as.
+/// Maps a greet fault to a reason.
 pub(crate) fn told(fault: GreetFault) -> Reason
     ensures told { (refusal : Option Refusal) → Refuses refusal fault → IsToldOf refusal result }
     ensures neither { IsNoStreamFailure result }
@@ -37,7 +37,7 @@ pub(crate) fn told(fault: GreetFault) -> Reason
     }
 }
 
-/// Takes the greeting, and tells what is due behind it.
+/// Takes the greeting, and returns the phase after it.
 fn take_greeting(config: &Config, payload: &[u8], out: &mut Vec<u8>) -> Result<Phase, Reason>
     ensures ok { (names : Names) (executed : Ids) → OnOk result (IsAnswered config.now names executed Hello payload.now out.old.items out.new.items) }
     ensures due { IfOk result (λ phase. due_of phase ≡ Reply) }
@@ -54,7 +54,7 @@ fn take_greeting(config: &Config, payload: &[u8], out: &mut Vec<u8>) -> Result<P
     }
 }
 
-/// Takes the reply to the login, and tells what is due behind it.
+/// Takes the reply to the login, and returns the phase after it.
 fn take_reply(config: &Config, payload: &[u8], out: &mut Vec<u8>) -> Result<Phase, Reason>
     ensures ok { (names : Names) (executed : Ids) → OnOk result (IsAnswered config.now names executed Reply payload.now out.old.items out.new.items) }
     ensures due { IfOk result (λ phase. due_of phase ≡ next_due Reply payload.now) }
@@ -75,7 +75,7 @@ fn take_reply(config: &Config, payload: &[u8], out: &mut Vec<u8>) -> Result<Phas
     }
 }
 
-/// Takes the reply to the login after a switch, and tells what is due behind it.
+/// Takes the reply to the login after a switch, and returns the phase after it.
 fn take_second_reply(config: &Config, payload: &[u8], out: &mut Vec<u8>) -> Result<Phase, Reason>
     ensures ok { (names : Names) (executed : Ids) → OnOk result (IsAnswered config.now names executed SecondReply payload.now out.old.items out.new.items) }
     ensures due { IfOk result (λ phase. due_of phase ≡ QueryReply) }
@@ -92,7 +92,7 @@ fn take_second_reply(config: &Config, payload: &[u8], out: &mut Vec<u8>) -> Resu
     }
 }
 
-/// Takes the reply to the query, and tells what is due behind it.
+/// Takes the reply to the query, and returns the phase after it.
 fn take_query_reply(
     config: &Config,
     executed: &GtidSet,
@@ -114,7 +114,7 @@ fn take_query_reply(
     }
 }
 
-/// Takes a message before the dump, and tells what is due behind it.
+/// Takes a message before the dump, and returns the phase after it.
 pub(crate) fn answer(
     phase: Phase,
     config: &Config,

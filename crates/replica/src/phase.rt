@@ -1,6 +1,6 @@
-//! What a session waits for.
+//! Phases of a connection.
 
-/// What a session waits for.
+/// The message that a session expects next.
 #[derive(Clone, Copy, Debug, PartialEq, Eq)]
 pub(crate) enum Phase {
     Greeting,

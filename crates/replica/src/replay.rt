@@ -1,4 +1,4 @@
-//! Connections in order.
+//! Connections read in order.
 
 ghost use Rattle.std.specs.Prelude.{◌≡◌, Bool, true, List, IsErr, IfOk, All};
 ghost use Rattle.sqlite.specs.State.{HasCleanDisk};
@@ -17,7 +17,7 @@ use std::alloc::Global;
 use store::Store;
 use thiserror::Error;
 
-/// There was no room for the answers, and nothing was done.
+/// The room for the ends could not be allocated, and nothing was done.
 #[derive(Clone, Copy, Debug, PartialEq, Eq, Error)]
 #[error("out of memory")]
 pub struct NoMemory;
@@ -37,7 +37,7 @@ fn read_pieces<S: Alter>(config: Config, store: &mut Store<S>, pieces: &[Vec<u8>
     session.finish()
 }
 
-/// The same with settings that are kept, of which a copy is made.
+/// Reads one connection with a copy of the settings.
 fn read_connection<S: Alter>(config: &Config, store: &mut Store<S>, pieces: &[Vec<u8>]) -> Ended
     ensures read { HasCleanDisk (database S.Store store.new) → (was : Bool) (old : Content) → HoldsAs S.Store was old store.old → HasRead S.Store config.now.limit store.old store.new was old (stream_of pieces.now) result }
     ensures following { names_of S.Store store.new ≡ names_of S.Store store.old }
@@ -55,20 +55,20 @@ fn read_connection<S: Alter>(config: &Config, store: &mut Store<S>, pieces: &[Ve
     }
 }
 
-/// Reads connections in order, each a list of pieces of its bytes, and answers how each ended. The room for the answers
-/// is taken first, so that after `NoMemory` nothing was done.
+/// Reads connections in order, each a list of pieces of its bytes, and returns how each ended. The room for the ends is
+/// allocated first, so that after `NoMemory` nothing was done.
 pub fn run<S: Alter>(
     alloc: Global,
     config: &Config,
     store: &mut Store<S>,
     connections: &[Vec<Vec<u8>>],
 ) -> Result<Vec<Ended>, NoMemory>
-    // What the store holds afterwards, and the ends, are those of taking each connection in order, however it was cut into
-    // pieces; and a crash leaves that, or one transaction more where the database failed.
+    // The content of the store afterwards and the ends are those of taking each connection in order, however it was cut
+    // into pieces. A crash leaves that content, or that with one more transaction if the database failed.
     ensures history { IfOk result (λ ends. HasCleanDisk (database S.Store store.new) → (was : Bool) (old : Content) → HoldsAs S.Store was old store.old
         → HasTaken S.Store config.now.limit store.new (database S.Store store.old).now.schema was old (streams_of connections.now) ends.items) }
     ensures following { names_of S.Store store.new ≡ names_of S.Store store.old }
-    // A store that a failure has broken stays as it is.
+    // A store that has failed stays as it is.
     ensures broken { IsBroken S.Store store.old → store.new ≡ store.old }
     ensures neither { IfOk result (λ ends. All (λ end. IsNoStreamFailure end.reason) ends.items) }
     ensures untouched { IsErr result → store.new ≡ store.old }

@@ -1,4 +1,4 @@
-//! A session.
+//! The state of a connection.
 
 ghost use Rattle.std.specs.Prelude.{◌≤◌};
 
@@ -8,16 +8,16 @@ use crate::phase::Phase;
 use gather::Gatherer;
 use wire::Assembler;
 
-/// One connection to a source, as far as its bytes were read.
+/// One connection to a source: what is kept of the bytes read so far, and the pending output.
 #[derive(Drop)]
 pub struct Session {
     pub(crate) config: Config,
     pub(crate) assembler: Assembler,
     pub(crate) gatherer: Gatherer,
     pub(crate) phase: Phase,
-    /// What is to be sent.
+    /// The pending output.
     pub(crate) out: Vec<u8>,
-    /// How many bytes belong to the payloads taken.
+    /// How many of the bytes read belong to payloads that were taken.
     pub(crate) at: u64,
     /// How many transactions were applied.
     pub(crate) applied: u64,

@@ -67,7 +67,7 @@ fn gather_name(fault: &GatherFault) -> &'static str {
     }
 }
 
-/// A short name of a reason; an event's fault has the name of its kind alone.
+/// A short name of a reason; for an event's fault, the name of its kind.
 fn name(reason: &Reason) -> &'static str {
     match reason {
         Reason::EndOfInput => "EndOfInput",
@@ -140,7 +140,7 @@ fn read(
     Ok(run(alloc, &config, store, &connections)?)
 }
 
-/// What is executed, without the source, and how often (7, "ab") is in shop.items.
+/// The executed set, without the source, and the number of copies of (7, "ab") in shop.items.
 fn held<S: Alter>(alloc: Global, store: &mut Store<S>) -> Result<(String, u64), Fail> {
     let mut text = String::new(alloc);
     store.executed().print(&mut text)?;
@@ -161,7 +161,7 @@ fn compare(rt: &impl Abort, ends: &[Ended], want: &[End]) {
     }
 }
 
-/// Reads connections into a store, and looks at the ends and at what the store holds then.
+/// Reads connections into a store, and checks the ends and what the store holds then.
 fn reads_into(
     rt: &impl Abort,
     alloc: Global,
@@ -178,7 +178,7 @@ fn reads_into(
     Ok(())
 }
 
-/// The same from a new database.
+/// As `reads_into`, with a new database.
 fn reads(
     rt: &impl Abort,
     alloc: Global,
@@ -248,7 +248,7 @@ fn refuses_a_transaction(rt: HostRuntime) -> Result<(), Fail> {
     reads(&rt, rt.alloc(), &streams, false, &ends, ("1-2", 1))
 }
 
-/// Reads the beginning of a stream into a store; of the place where the reading ends the least is known.
+/// Reads the beginning of a stream into a store. Of the place where the reading ends, a lower bound is given.
 fn reads_part_into(
     rt: &impl Abort,
     alloc: Global,
@@ -268,7 +268,7 @@ fn reads_part_into(
     Ok(())
 }
 
-/// The same from a new database.
+/// As `reads_part_into`, with a new database.
 fn reads_part(
     rt: &impl Abort,
     alloc: Global,
@@ -301,7 +301,7 @@ fn takes_a_history_at_every_cut(rt: HostRuntime) -> Result<(), Fail> {
     Ok(())
 }
 
-/// The stream with another byte at this place.
+/// The stream with another byte at this offset.
 fn changed(alloc: Global, at: usize, byte: u8) -> Result<Vec<u8>, Fail> {
     let mut stream = Vec::from_slice(alloc, &ONE_TRANSACTION)?;
     if let Some(place) = stream.get_mut(at) {
@@ -470,7 +470,7 @@ fn keeps_to_its_limit(rt: HostRuntime) -> Result<(), Fail> {
     Ok(())
 }
 
-/// What a session hands out that is fed a stream byte by byte, each time what is there.
+/// What a session hands out if it is fed a stream byte by byte, and its end.
 fn handed_out(
     alloc: Global,
     store: &mut Store<MemStore>,

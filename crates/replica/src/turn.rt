@@ -1,4 +1,4 @@
-//! A payload taken by a session.
+//! What a session does with a payload.
 
 ghost use Rattle.std.specs.Prelude.{◌≡◌, ◌≤◌, ◌<◌, ◌+◌, ◌^◌, Bool, List, ℕ, Some, None, true, false, length, ◌≢◌, [], if◌then◌else◌};
 ghost use Rattle.sqlite.specs.State.{HasCleanDisk};
@@ -24,7 +24,7 @@ use sqlite::Alter;
 use store::Store;
 use wire::{WireFault, packing_length};
 
-/// The sequence id of the first packet that is due, where no payload of the dump has come.
+/// The sequence id that the next packet must have, before any payload of the dump has come.
 fn first_id(phase: Phase) -> u8
     ensures { result ≡ first_id_of phase }
 {
@@ -37,7 +37,7 @@ fn first_id(phase: Phase) -> u8
 }
 
 impl Session {
-    /// Ends the connection behind the payloads taken.
+    /// Ends the connection after the payloads taken.
     pub(crate) fn end(&mut self, reason: Reason)
         ensures { self.new ≡ record self.old { ended = Some (record { reason = reason; at = self.old.at; applied = self.old.applied }) } }
     {
@@ -48,7 +48,7 @@ impl Session {
         });
     }
 
-    /// The payload that ends at this place is taken, and with it a transaction or none.
+    /// Counts the payload that ends at `end` as taken, and whether a transaction was applied.
     fn go_on(&mut self, end: u64, applied: bool)
         requires { self.old.at < end }
         ensures { MovesOn self.old self.new end (self.old.applied + (if applied then 1 else 0)) }
@@ -59,7 +59,8 @@ impl Session {
         }
     }
 
-    /// Ends the connection behind the payloads taken, and with it the end of the log that ends at this place.
+    /// Ends the connection after the payloads taken. The EOF at the end of the log, which ends at `end`, is one of
+    /// them.
     fn end_behind(&mut self, reason: Reason, end: u64)
         requires { self.old.at < end }
         ensures config { self.new.config ≡ self.old.config }
@@ -72,7 +73,7 @@ impl Session {
         self.end(reason);
     }
 
-    /// Takes a message before the dump that ends at this place.
+    /// Takes a message before the dump, which ends at the offset `end`.
     fn take_message(&mut self, executed: &GtidSet, payload: &[u8], end: u64)
         requires going { self.old.ended ≡ None }
         requires before_dump { self.old.phase ≢ Dump }
@@ -94,7 +95,7 @@ impl Session {
         }
     }
 
-    /// Takes a payload of the dump that ends at this place.
+    /// Takes a payload of the dump, which ends at the offset `end`.
     fn take_dump<S: Alter>(&mut self, store: &mut Store<S>, payload: &[u8], end: u64)
         requires going { self.old.ended ≡ None }
         requires in_dump { self.old.phase ≡ Dump }

@@ -122,7 +122,7 @@ module _ (schema table : List ℕ) (cells : List CellValue) (bytes : List ℕ) (
       missing None none h = absurd h
       missing (Some why) none h = (at_row (count (held_rows old.now)) ∙ none, h)
 
--- ---- the same where a call may fail
+-- ---- the same for calls that may fail
 
 pub added_if : {X : Type 0} (schema table : List ℕ) (cells : List CellValue) (bytes : List ℕ) → IsImage cells bytes → (old new : State) (r : Result (Option Refusal) X)
     → IfOk r (Counted old new (added (key_of schema table bytes) (count (held_rows old.now)))) → IfOk r (Makes (insert schema table cells) old new)

@@ -17,7 +17,7 @@ use Rattle.store.specs.Inside.{GoesOn, Goes, DoesAll, Shows, Records}
 use Rattle.store.specs.Apply.{Fills}
 use Rattle.store.proofs.Made.{goes_then}
 
--- one identifier more of a transaction
+-- one more GTID
 gtids_more : (ids : Ids) (x : Id) → AreGtids ids → IsGtid x → AreGtids (set.insert ids x)
 gtids_more ids x all is q has =
     let either : ((bytes_eq q.0 x.0 && nat_eq q.1 x.1) || set.contains ids q) ≡ true = ap (λ b. b || set.contains ids q) (sym (tied q x)) ∙ sym (set.contains-insert id_cmp_total ids x q) ∙ has in

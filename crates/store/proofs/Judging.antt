@@ -1,4 +1,4 @@
--- What the judges of rows tell.
+-- What the checks of rows report.
 use Rattle.std.proofs.Common.{◌≡◌, ◌⊎◌, ◌<◌, ◌+◌, pos, Result, Ok, Err, IfOk, MatchBool, inl, inr, IsTrue, ◌<ℤ◌, ◌≤◌, ℕ, ℤ, suc, zero, Bool, true, false, List, [], ◌∷◌, drop, length, Option, Some, refl, sym, ap, subst, ◌∙◌, arith}
 use Rattle.std.specs.List.{AllByRecursion, IsDistinct}
 use Rattle.std.specs.Ordering.{is_eq}
@@ -23,7 +23,7 @@ rise_end last [] (suc n) long = tt
 rise_end last (row ∷ rows) zero long = absurd (omega arith)
 rise_end last (row ∷ rows) (suc n) long = rise_end last rows n (omega arith)
 
--- a rowid above another is not the same
+-- a rowid above another one is a different one
 apart : (a b : ℤ) → a <ℤ b → is_eq (value_cmp (Int a) (Int b)) ≡ false
 apart a b less = ap is_eq (value_cmp-Int a b ∙ sym (int_cmp_is a b Less less))
 

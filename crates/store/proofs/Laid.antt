@@ -1,4 +1,4 @@
--- The layout that the rows of meta say.
+-- The layout that the rows of meta state.
 use Rattle.std.proofs.Common.{ℤ, List, codes, Option, None, Some, Ok, Err, Result, IfOk, OnOk, MatchOption, subst}
 use Rattle.std.specs.List.Sorted.{IsPermutation}
 use Rattle.std.proofs.lemmas.List.Sorted.{IsPermutation-map, IsPermutation-sym}

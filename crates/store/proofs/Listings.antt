@@ -1,4 +1,4 @@
--- The rows of held in order, and what is handed out of them.
+-- The rows of held in order, and the rows that a list hands out.
 use Rattle.std.proofs.Common.{◌≡◌, ◌⊎◌, inl, inr, ℕ, suc, ◌+◌, ◌<◌, ◌≤◌, pos, true, false, List, [], ◌∷◌, ◌++◌, map, drop, length, get_or, codes, Option, Some, None, Err, refl, sym, ap, subst, ◌∙◌, arith}
 use Rattle.std.specs.List.{AllByRecursion, sum_by}
 use Rattle.std.specs.List.Sorted.{IsPermutation, IsStrictlySortedBy}
@@ -104,7 +104,7 @@ given_entry row e key n cells a b has counts is a_is b_is same lawful =
     let n_e : n ≡ e.1 = ap number_in (sym counts ∙ s.1) in
     λ i. (record { schema = a_e i; table = b_e i; cells = c_e i }, n_e i)
 
--- ---- A row that has no key.
+-- ---- A row that does not have a key.
 
 pub no_key_at : (last : Option Key) (rows : List Row) (i : ℕ) (row : Row) → i < length rows → row ≡ get_or rows i row → ((key : Key) → ¬ HasKey key row) → ¬ KeysRise last (drop i rows)
 no_key_at last rows i row less is none rise =
@@ -124,7 +124,7 @@ module _ (l : Listing) where
   pub none_left : (entries : List Entry) → length l.rows.items ≤ l.at → IsToCome l entries → (entries ≡ []) × IsToCome l []
   none_left entries past come = (no_entry entries (come.rows ∙ at_drop_all without_rowids l.rows.items l.at past), ended l.at past)
 
-  -- The entry that stands in a row, and those behind it.
+  -- The entry in a row, and those after it.
   pub record IsFirst (entries : List Entry) (row : Row) : Type 0 where
     pub entry : Entry
     pub rest : List Entry
@@ -224,7 +224,7 @@ at_same key other row has at =
 no_share : (key : Key) (row : Row) → is_at key row ≡ false → share key row ≡ 0
 no_share key row off = rw off refl
 
--- A key below or above the row's has no share in it.
+-- A key below or above the row's has no share in the row.
 below_row : (key other : Key) (row : Row) → HasKey other row → key_cmp key other ≡ Less → share key row ≡ 0
 below_row key other row has less = no_share key row (false_from_ne_true _ (λ at. not_below key other (sym (at_same key other row has at)) less))
 

@@ -1,4 +1,4 @@
--- What is left over a crash, whatever may be committed.
+-- What is left after a crash, whatever may be committed.
 use Rattle.sqlite_trees.specs.Tree.{Trees}
 use Rattle.sqlite.specs.State.{State, Survives, HasCleanDisk}
 use Rattle.sqlite.proofs.StateLemmas.{survives_then, survives_weaker}

@@ -45,7 +45,7 @@ no_longer at [] (v ∷ vs) h = absurd (cc)
 no_longer at (c ∷ cs) [] h = omega arith
 no_longer at (c ∷ cs) (v ∷ vs) h = let more = no_longer (at + 1) cs vs (and_right _ _ h) in omega arith
 
--- and none fewer, where the last column is never NULL
+-- and not fewer, if the last column is never NULL
 not_past : (row : Row) (at : ℕ) → not (is_null (column row at)) ≡ true → at < length row
 not_past [] at h = absurd (cc)
 not_past (v ∷ row) zero h = omega arith
@@ -100,7 +100,7 @@ nothing_given true x = refl
 nothing_given false x = refl
 
 module _ (sql : List ℕ) (tree : ℕ) (old new : State) (asks : AsksAll old.now.schema sql tree) where
-  -- the rows of the table are as long as its columns say
+  -- the rows of the table have as many values as there are columns
   lengths : IsDatabase old.now → AllByRecursion (λ row. length row ≡ suc (length asks.table.columns)) (old.now.trees asks.table.tree)
   lengths sound = go (old.now.trees asks.table.tree)
       (all_has _ old.now.schema.tables asks.table (sound.obeys.rules Datatype) asks.there) (all_has _ old.now.schema.tables asks.table (sound.obeys.rules NotNull) asks.there)

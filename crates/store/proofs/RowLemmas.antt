@@ -148,7 +148,7 @@ left_is p id r (x ∷ rows) up found is = elim (cases_Bool (p x)) [
       rw (apart, off, left_is p id r rows up.1 one is) refl)
 ]
 
--- a row that is put in stands somewhere among the others
+-- an inserted row is somewhere among the others
 pub put_among : (new : Row) (rows : List Row) → is_taken rows new ≡ false → IsPermutation (new ∷ rows) (put_row new rows)
 put_among new [] free = IsPermutation-refl (new ∷ [])
 put_among new (r ∷ rows) free =

@@ -1,4 +1,4 @@
--- A set has the same least intervals in each list of them.
+-- A set has the same least intervals in every list of them.
 use Rattle.std.proofs.Common.{◌≡◌, ◌⊎◌, inl, inr, ℕ, ◌-◌, ◌<◌, ◌≤◌, nat_lt, List, [], ◌∷◌, true, refl, sym, ap, subst, ◌∙◌, arith}
 use Rattle.std.specs.List.{list_any}
 use Rattle.std.proofs.lemmas.Bool.{cases_Bool, and_parts, and_from, leb-true, ltb-true, le-leb, lt-ltb, ltb-false}
@@ -11,7 +11,7 @@ use Rattle.gtid.specs.declared.span.Span.{Span}
 use Rattle.store.specs.Rows.{AreLeast}
 use Rattle.store.proofs.SpanLists.{IsSome, IsClear, removed}
 
--- the span that an identifier lies in
+-- the span that a GTID is in
 pub record Lies (q : Id) (spans : List Span) : Type 0 where
   pub t : Span
   pub has : Has spans t
@@ -39,7 +39,7 @@ lies_in q (x ∷ spans) t (inr has) source low high = elim (cases_Bool (is_in q 
   | inr not_here ↦ rw not_here (lies_in q spans t has source low high)
 ]
 
--- Two spans of one list and one source are one, or there is a gap between them.
+-- Two spans of one list and one source are the same, or there is a gap between them.
 pub one_or_clear : (spans : List Span) (ids : Ids) → AreLeast spans ids → (s t : Span) → Has spans s → Has spans t → s.source ≡ t.source → (t ≡ s) ⊎ ((t.hi < s.lo) ⊎ (s.hi < t.lo))
 one_or_clear spans ids least s t has_s has_t same =
     let out = removed spans s has_s least.some least.apart in
@@ -58,7 +58,7 @@ crosses ids a b least_a least_b source n s has is low high = across ids a b leas
 
 module _ (ids : Ids) (a b : List Span) (least_a : AreLeast a ids) (least_b : AreLeast b ids) (s t : Span) (has_s : Has a s) (has_t : Has b t) (source : s.source ≡ t.source)
     (long_s : s.lo < s.hi) (long_t : t.lo < t.hi) (low : t.lo ≤ s.lo) (high : s.lo < t.hi) where
-  -- no span of the first list lies before s and meets a span of the other that meets s
+  -- no span of the first list is before s and meets a span of the other list that meets s
   none_before : t.lo < s.lo → ⊥
   none_before less =
       let m = crosses ids b a least_b least_a s.source (s.lo - 1) t has_t source (omega (arith, less)) (omega (arith, high)) in
@@ -101,7 +101,7 @@ module _ (ids : Ids) (a b : List Span) (least_a : AreLeast a ids) (least_b : Are
   one_span : s ≡ t
   one_span = λ i. record { source = source i; lo = one_lo i; hi = one_hi i }
 
--- what is a least interval in the one list is one in the other
+-- a least interval of the one list is one of the other
 pub same_spans : (ids : Ids) (a b : List Span) → AreLeast a ids → AreLeast b ids → (s : Span) → Has a s → Has b s
 same_spans ids a b least_a least_b s has =
     let long = all_has IsSome a s least_a.some has in

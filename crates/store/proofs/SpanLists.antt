@@ -1,4 +1,4 @@
--- Lists of spans of which none touch.
+-- Lists of spans, no two of which touch.
 use Rattle.std.proofs.Common.{◌≡◌, ◌≢◌, ◌⊎◌, inl, inr, ℕ, ◌+◌, ◌<◌, ◌≤◌, nat_le, nat_lt, nat_eq, List, [], ◌∷◌, Bool, true, false, ◌&&◌, ◌||◌, bytes_eq, refl, sym, ap, ap₂, ◌∙◌, arith}
 use Rattle.std.specs.List.{AllByRecursion, IsDistinct, list_any}
 use Rattle.std.specs.List.Sorted.{IsPermutation}
@@ -66,7 +66,7 @@ all_apart b (t ∷ rest) all = (apart_from b t all.0, all_apart b rest all.1)
 
 -- ---- one span is taken out
 
--- What is left besides this part of the spans' numbers.
+-- What is left apart from this part of the spans' numbers.
 pub record Split (source : List ℕ) (lo hi : ℕ) (before after : List Span) : Type 1 where
   pub some : AllByRecursion IsSome after
   pub apart : IsDistinct touches after
@@ -138,7 +138,7 @@ untouched source n spans some apart clear = record {
   still = λ x has. inr has;
 }
 
--- ---- a number that is in none
+-- ---- a number that is in none of the spans
 
 out_of : (q : Id) (spans : List Span) → list_any (is_in q) spans ≡ false → AllByRecursion (λ t. is_in q t ≡ false) spans
 out_of q [] none = tt

@@ -1,4 +1,4 @@
--- The spans beside a number and the number become one span.
+-- The spans next to a number and the number become one span.
 use Rattle.std.proofs.Common.{get_or, suc, ◌≡◌, ◌≢◌, inl, inr, ℕ, ◌+◌, ◌<◌, ◌≤◌, pos, List, [], ◌∷◌, map, Bool, true, false, Some, None, Option, Ok, Err, Result, OnOk, sym, ap, ◌∙◌, arith}
 use Rattle.std.specs.Option.{unwrap_or, is_some}
 use Rattle.std.specs.List.{AllByRecursion, IsDistinct}
@@ -48,7 +48,7 @@ begins_apart source lo hi (t ∷ rest) long some clear = (
   begins_apart source lo hi rest long some.1 clear.1,
 )
 
--- One span, or none, is taken out of what is stored.
+-- One stored span, or none, is removed.
 pub record Step (source : List ℕ) (lo hi at : ℕ) (there : Bool) (spans : List Span) : Type 1 where
   pub rest : List Span
   pub leaves : (rows : List Row) → IsPermutation (map stored_span spans) rows → Leaves source (pos at) there rows (map stored_span rest)
@@ -90,7 +90,7 @@ step_before source n ids (Some lo) spans least out has =
     let long : lo < n = all_has IsSome spans (span source lo n) least.some has in
     record { low = omega (arith, long); step = one_out source lo n spans has least.some least.apart }
 
--- where the span ends, and what is left without the one behind the number
+-- where the span ends, and what is left without the one after the number
 pub record Behind (source : List ℕ) (n : ℕ) (o : Option ℕ) (spans : List Span) : Type 1 where
   pub high : n + 1 ≤ unwrap_or o (n + 1)
   pub step : Step source (n + 1) (unwrap_or o (n + 1)) (n + 1) (is_some o) spans

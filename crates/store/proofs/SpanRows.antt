@@ -24,7 +24,7 @@ use Rattle.store.specs.Judge.{span_of_id, apart_from}
 use Rattle.store.specs.Load.{Judges}
 use Rattle.store.proofs.SortedSpans.{all_distinct}
 
--- ---- Spans in order, of which no neighbours touch.
+-- ---- Spans in order, of which no two consecutive ones touch.
 
 and_false : (b c : Bool) → b ≡ true → (b && c) ≡ false → c ≡ false
 and_false true c is h = h

@@ -1,4 +1,4 @@
--- The set in memory beside a transaction.
+-- The executed set in memory during a transaction.
 use Rattle.std.proofs.Common.{◌≡◌, ◌⊎◌, inl, inr, ℕ, List, true, false, IsTrue, Ok, Err, Result, refl, sym, ap, subst, subst₂, ◌∙◌}
 use Rattle.std.specs.FinSet as set
 use Rattle.sqlite_value.specs.Order.{Row}
@@ -43,7 +43,7 @@ unfolding IsNotRun
 told_failed sql params at reason old new e (inl h) is_open = (h.1.0.was_open, λ settled. (h.1.0.now_is, h.1.0.committed_is))
 told_failed sql params at reason old new e (inr h) is_open = (h.3.was_open is_open, λ settled. let u = h.3.undone is_open in (u.0 ∙ sym settled, u.1))
 
--- ---- the spans beside the number
+-- ---- the spans next to the number
 pub beside_known : (spans : List Span) (executed ids : Ids) (gtid : Gtid) (beside : Beside) → executed ≡ ids → AreLeast spans ids
     → (AreLeast spans executed → LiesBeside spans gtid beside) → LiesBeside spans gtid beside
 beside_known spans executed ids gtid beside same least lies = lies (subst (AreLeast spans) (sym same) least)

@@ -1,4 +1,4 @@
--- What the texts mean, as the compiler of the crate sqlite says.
+-- What the statements mean, according to the compiler of the `sqlite` crate.
 use Rattle.std.proofs.Common.{◌≡◌, List, codes, Ok, refl, false, [], ◌∷◌}
 use Rattle.sqlite_resolve.specs.Compile.{table_defined_by}
 use Rattle.sqlite_tied.specs.Compute.{everything}

@@ -40,7 +40,7 @@ has_split [] more b t has = has
 has_split (f ∷ front) more b t (inl is) = inr (inl is)
 has_split (f ∷ front) more b t (inr has) = elim (has_split front more b t has) [ inl is ↦ inl is | inr there ↦ inr (inr there) ]
 
--- a span behind the first, and a span before the one that it is first of
+-- a span after the first, and a span before the one that is the first of the rest
 clear_behind : (f b : Span) (more : List Span) → IsLeast (f ∷ more) → Has more b → IsClear f.source f.lo f.hi b
 clear_behind f b more least has = clear_of f b (apart_before f b (all_has (IsBefore f) more b (all_before f more least) has))
 

@@ -1,4 +1,4 @@
--- A transaction of the source in one transaction of the database.
+-- A transaction of the source as one transaction of the database.
 use Rattle.std.specs.Prelude.{◌≡◌, ℕ, IsTrue, List, Option, Some, None, Result, Ok, Err}
 use Rattle.sqlite_schema.specs.declared.schema.Schema.{Schema}
 use Rattle.sqlite_trees.specs.Tree.{Trees}
@@ -20,7 +20,7 @@ use Rattle.store.specs.Take.{Takes, done, refused}
 use Rattle.store.specs.Rows.{StandsFor, HasRowids, held_rows, span_rows}
 use Rattle.store.specs.Inside.{GoesOn, EndsBefore, BeginsBehind}
 
--- These are the ends of the spans that touch the transaction's number.
+-- These are the ends of the spans next to the transaction's number.
 pub record LiesBeside (spans : List Span) (gtid : Gtid) (beside : Beside) : Type 0 where
   pub before : EndsBefore gtid.source gtid.number spans beside.before
   pub behind : BeginsBehind gtid.source gtid.number spans beside.after
@@ -31,7 +31,7 @@ pub record IsTaken (names : Names) (content : Content) (d : DeliveryValue) (sche
   pub takes : Takes names content d (done after)
   pub stands : StandsFor (record { schema = schema; trees = trees }) names after
 
--- Inside the transaction of the database.
+-- what making the changes and recording the GTID does inside the database's transaction
 abbrev pub Fills : Names → Content → DeliveryValue → State → State → Option (ℕ × Refusal) → Type 0
 Fills names content d old new None = GoesOn old new × IsTaken names content d new.now.schema new.now.trees
 Fills names content d old new (Some why) = Takes names content d (refused why.0 why.1)
@@ -44,7 +44,7 @@ pub record IsAtRest (s : State) (names : Names) (content : Content) : Type 0 whe
   pub spans_apart : HasRowids (span_rows s.now)
   pub stands : StandsFor s.now names content
 
--- Nothing has changed, where the connection is still open.
+-- Nothing has changed, if the connection is still open.
 abbrev pub Rests : State → State → Type 0
 Rests old new = IsTrue new.is_open → (new.now ≡ old.now) × (new.committed ≡ old.committed)
 
@@ -59,26 +59,26 @@ Runs names content d old new (Ok None) = HasTaken names content d new × (new.no
 Runs names content d old new (Ok (Some why)) = Takes names content d (refused why.0 why.1) × Rests old new
 Runs names content d old new (Err e) = Rests old new
 
--- What may be committed: what the transaction makes of the content, and nothing where it is refused.
+-- What may be committed: what the transaction makes of the content, or nothing if it is refused.
 abbrev pub MayCommit : {E : Type 0} → Names → Content → DeliveryValue → State → Result (Option (ℕ × Refusal)) E → Trees → Type 0
 MayCommit names content d old (Ok None) trees = IsTaken names content d old.now.schema trees
 MayCommit names content d old (Ok (Some why)) trees = ⊥
 MayCommit names content d old (Err e) trees = IsTaken names content d old.now.schema trees
 
--- ---- The set in memory beside the connection.
+-- ---- The executed set in memory, besides the connection.
 
--- The connection is at rest with what the transaction makes of the content, and the set is its.
+-- The connection is at rest with what the transaction makes of the content, and the set is that of the new content.
 pub record HasMoved (names : Names) (content : Content) (d : DeliveryValue) (old new : State) (executed : Ids) : Type 0 where
   pub taken : HasTaken names content d new
   pub schema : new.now.schema ≡ old.now.schema
   pub set : executed ≡ taken.after.executed
 
--- Nothing has changed, and the change at this place is refused.
+-- Nothing has changed, and the change with this index is refused.
 abbrev pub IsGivenUp : Names → Content → DeliveryValue → State → State → Ids → ℕ → Refusal → Type 0
 IsGivenUp names content d old new executed at reason =
     Takes names content d (refused at reason) × IsAtRest new names content × (executed ≡ content.executed) × (new.now.schema ≡ old.now.schema)
 
--- What a transaction that is not executed comes to.
+-- The outcome of a transaction that is not in the executed set.
 abbrev pub Comes : Names → Content → DeliveryValue → State → State → Ids → Result Applied StoreFault → Type 0
 Comes names content d old new executed (Ok Done) = HasMoved names content d old new executed
 Comes names content d old new executed (Ok Repeat) = ⊥
@@ -88,13 +88,13 @@ Comes names content d old new executed (Err (Database e)) = Rests old new × (ex
 Comes names content d old new executed (Err Memory) = Rests old new × (executed ≡ content.executed)
 Comes names content d old new executed (Err _) = ⊥
 
--- What it may commit.
+-- What such a transaction may commit.
 abbrev pub MayMove : Names → Content → DeliveryValue → State → Result Applied StoreFault → Trees → Type 0
 MayMove names content d old (Ok Done) trees = IsTaken names content d old.now.schema trees
 MayMove names content d old (Err (Database e)) trees = IsTaken names content d old.now.schema trees
 MayMove names content d old _ trees = ⊥
 
--- A refusal is told, of a connection that is as it was, or else a failure of the database.
+-- A refused change is reported and the connection is as it was, or a failure of the database is reported.
 abbrev pub IsTold : ℕ → Refusal → State → State → StoreFault → Type 0
 IsTold at reason old new (NoSuchRow n) = (n ≡ at) × (reason ≡ why.NoSuchRow) × IsUnchanged old new
 IsTold at reason old new (CountFull n) = (n ≡ at) × (reason ≡ why.CountFull) × IsUnchanged old new

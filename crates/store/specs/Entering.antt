@@ -1,4 +1,4 @@
--- What opening a database comes to.
+-- The outcome of opening a database.
 use Rattle.std.specs.Prelude.{◌≡◌, ◌≢◌, ◌⊎◌, ℕ, ℤ, pos, Bool, true, false, ◌&&◌, ◌||◌, is_some, IsTrue, List, codes}
 use Rattle.sqlite_schema.specs.declared.schema.Schema.{Schema}
 use Rattle.sqlite_schema.specs.Names.{table_named}
@@ -31,7 +31,7 @@ tables_of schema = record {
   follow = has_table schema (codes "follow");
 }
 
--- all tables of layout 1, or of layout 2, beside meta
+-- all tables of layout 1, or of layout 2, besides meta
 abbrev pub has_first : Tables → Bool
 has_first t = t.executed && t.held
 
@@ -41,7 +41,7 @@ has_second t = t.held && (t.spans && t.follow)
 abbrev pub has_any : Tables → Bool
 has_any t = t.meta || (t.executed || (t.held || (t.spans || t.follow)))
 
--- The tables are those of a layout as they were made, or not all are there.
+-- The tables are those of a layout as they were made, or not all of them are there.
 pub data IsKnown (schema : Schema) : Type 0 where
   blank : schema ≡ no_schema → IsKnown schema
   first : schema ≡ first_layout → IsKnown schema
@@ -59,7 +59,7 @@ pub record IsReady (s : State) : Type 0 where
 abbrev pub IsStored : Names → Database → Content → Type 0
 IsStored names db content = StandsFor db names content ⊎ ((names ≡ all) × StandsForFirst db content)
 
--- A database with none of the tables stands for nothing, and is made for these names.
+-- A database without any of the tables stands for the empty content, and is made for these names.
 abbrev pub IsOf : Names → Names → Database → Content → Type 0
 IsOf only names db content = (((db.schema ≡ no_schema) × (content ≡ nothing)) × (names ≡ only)) ⊎ IsStored names db content
 
@@ -77,8 +77,8 @@ pub data IsDamaged (db : Database) : Type 0 where
 abbrev pub IsWanted : Bool → Names → Names → Type 0
 IsWanted any only names = any ≡ false → names ≡ only
 
--- The database is of another layout, damaged, or made for other names. For a failure and for want of memory there is no
--- cause in the database.
+-- The database has another layout, is damaged, or was made for other names. A failure of the database and running out
+-- of memory have no cause in what the database stands for.
 abbrev pub IsWhy : Bool → Names → Database → StoreFault → Type 0
 IsWhy any only db Damaged = IsDamaged db
 IsWhy any only db (Layout n) = SaysLayout n (first_meta_rows db) × (n ≢ pos 1) × (n ≢ pos 2)
@@ -87,9 +87,9 @@ IsWhy any only db (Db e) = Unit {0}
 IsWhy any only db Memory = Unit {0}
 IsWhy any only db _ = ⊥
 
--- ---- What opening comes to.
+-- ---- The outcome.
 
--- The connection is at rest with what its database stood for, and the set in memory is its.
+-- The connection is at rest with what its database stood for, and the set in memory is that of the content.
 pub record IsEntered (any : Bool) (only : Names) (old new : State) (executed : Ids) (names : Names) : Type 0 where
   pub content : Content
   pub of : IsOf only names old.now content
@@ -101,7 +101,7 @@ pub record IsEntered (any : Bool) (only : Names) (old new : State) (executed : I
 abbrev pub IsTurned : Bool → Names → State → State → StoreFault → Type 0
 IsTurned any only old new fault = IsWhy any only old.now fault × Rests old new
 
--- What may be committed stands for what the database stood for.
+-- What may be committed stands for the same content as the database did.
 pub record MayEnter (only : Names) (old : State) (trees : Trees) : Type 0 where
   pub names : Names
   pub content : Content

@@ -1,4 +1,4 @@
--- What a call inside a transaction of the database does.
+-- The effect of a call inside a transaction of the database.
 use Rattle.std.specs.Prelude.{◌≡◌, nat_lt, ℕ, true, false, IsTrue, if◌then◌else◌, List, ◌∷◌, Option, Some, None, Result, Ok, Err, IsPermutation, ◌≢◌, ◌+◌, ℤ, Bool, map}
 use Rattle.std.specs.List.{AllByRecursion}
 use Rattle.sqlite_value.specs.Order.{Row}
@@ -37,31 +37,31 @@ pub record Holds (old new : State) (counts : Counts) : Type 0 where
   pub spans : span_rows new.now ≡ span_rows old.now
   pub counts_are : count (held_rows new.now) ≡ counts
 
--- Only the spans have changed: this is what is stored of them now, in some order.
+-- Only the spans have changed: these rows are stored now, in some order.
 pub record Moves (old new : State) (after : List Row) : Type 0 where
   pub on : GoesOn old new
   pub held : held_rows new.now ≡ held_rows old.now
   pub stored : IsPermutation after (shown_spans (span_rows new.now))
 
--- Of what is stored of spans one begins there, and these are the others.
+-- Of the stored spans this one begins there, and these are the others.
 pub record Begins (source : List ℕ) (lo : ℤ) (rows : List Row) (span : Row) (others : List Row) : Type 0 where
   pub begins : begins_at source lo span ≡ true
   pub apart : AllByRecursion (λ r. begins_at source lo r ≡ false) others
   pub all : IsPermutation (span ∷ others) rows
 
--- The same where there is one, and else all are left.
+-- As Begins, if there is such a span; otherwise all spans are left.
 abbrev pub Leaves : List ℕ → ℤ → Bool → List Row → List Row → Type 0
 Leaves source lo true rows rest = (span : Row) × Begins source lo rows span rest
 Leaves source lo false rows rest = IsPermutation rest rows
 
 -- ---- Recording a transaction.
 
--- Where the span begins that ends before the number, if there is one.
+-- Where the span begins that ends just before the number, if there is one.
 abbrev pub EndsBefore : List ℕ → ℕ → List Span → Option ℕ → Type 0
 EndsBefore source n spans None = AllByRecursion (λ t. source ≡ t.source → t.hi ≢ n) spans
 EndsBefore source n spans (Some lo) = Has spans (span source lo n)
 
--- Where the span ends that begins behind the number, if there is one.
+-- Where the span ends that begins just after the number, if there is one.
 abbrev pub BeginsBehind : List ℕ → ℕ → List Span → Option ℕ → Type 0
 BeginsBehind source n spans None = AllByRecursion (λ t. source ≡ t.source → t.lo ≢ n + 1) spans
 BeginsBehind source n spans (Some hi) = Has spans (span source (n + 1) hi)
@@ -106,12 +106,12 @@ abbrev pub Makes : ChangeValue → State → State → Option Refusal → Type 0
 Makes change old new None = Goes old new × IsMade change (bag_of (count (held_rows old.now))) (bag_of (count (held_rows new.now)))
 Makes change old new (Some why) = IsRefused change (bag_of (count (held_rows old.now))) why
 
--- The same, and a change of a table that is not followed is passed over.
+-- As Makes, and a change of a table that is not followed is skipped.
 abbrev pub Does : Names → ChangeValue → State → State → Option Refusal → Type 0
 Does names change old new None = Goes old new × IsDone names change (bag_of (count (held_rows old.now))) (bag_of (count (held_rows new.now)))
 Does names change old new (Some why) = (is_followed names change ≡ true) × IsRefused change (bag_of (count (held_rows old.now))) why
 
--- The changes are done, or the one at this place is refused.
+-- The changes are done, or the one with this index is refused.
 abbrev pub DoesAll : Names → List ChangeValue → State → State → Option (ℕ × Refusal) → Type 0
 DoesAll names changes old new None = Goes old new × AreDone names changes (bag_of (count (held_rows old.now))) (bag_of (count (held_rows new.now)))
 DoesAll names changes old new (Some refused) = IsRefusedAt names changes (bag_of (count (held_rows old.now))) refused.0 refused.1

@@ -1,4 +1,4 @@
--- What is told of rows one after the other.
+-- Facts about rows that are read one after the other.
 use Rattle.std.specs.Prelude.{◌≡◌, ◌+◌, ◌<ℤ◌, Bool, true, false, not, ◌&&◌, ℤ, List, [], ◌∷◌, map, filter, codes, Option, None, Some}
 use Rattle.sqlite_value.specs.declared.value.Value.{Value}
 use Rattle.sqlite_value.specs.declared.value.Value.TheVariants.{Int}
@@ -10,11 +10,11 @@ use Rattle.store.specs.declared.fault.StoreFault.{StoreFault}
 use Rattle.store.specs.declared.fault.StoreFault.TheVariants.{Database, Memory}
 use Rattle.store.specs.Rows.{span, is_text, touches}
 
--- the span of one identifier
+-- the span of one GTID
 abbrev pub span_of_id : Id → Span
 span_of_id q = span q.0 q.1 (q.1 + 1)
 
--- The rowid is above the last one, where there is one.
+-- The rowid is above the last one, if there is one.
 abbrev pub IsBehind : Option ℤ → ℤ → Type 0
 IsBehind None id = Unit {0}
 IsBehind (Some last) id = last <ℤ id
@@ -30,26 +30,26 @@ IsCause (Database e) = Unit {0}
 IsCause Memory = Unit {0}
 IsCause _ = ⊥
 
--- the numbers of the key `layout`
+-- the values with the key `layout`
 abbrev pub layouts : List Row → List Value
 layouts rows = map (λ row. column row 2) (filter (λ row. is_text (codes "layout") (column row 1)) rows)
 
--- the one value is this number, or there is no such
+-- the only value is this number, or there is no such number
 abbrev pub IsOnly : List Value → Option ℤ → Type 0
 IsOnly values None = (n : ℤ) → ¬ (values ≡ Int n ∷ [])
 IsOnly values (Some n) = values ≡ Int n ∷ []
 
--- what was found so far
+-- what has been found so far
 abbrev pub found_values : Option ℤ → List Value
 found_values None = []
 found_values (Some n) = Int n ∷ []
 
--- whether the span touches or overlaps the last one, where there is one
+-- whether the span touches or overlaps the last one, if there is one
 abbrev pub touches_last : Option Span → Span → Bool
 touches_last None s = false
 touches_last (Some last) s = touches last s
 
--- whether no two neighbours touch or overlap
+-- whether no two consecutive spans touch or overlap
 abbrev pub apart_from : Option Span → List Span → Bool
 apart_from last [] = true
 apart_from last (s ∷ spans) = not (touches_last last s) && apart_from (Some s) spans

@@ -77,7 +77,8 @@ follow = keyed (codes "follow") (required (codes "schema_name") Any ∷ required
 abbrev pub executed : Table
 executed = keyed (codes "executed") (required (codes "source") Any ∷ required (codes "number") Integer ∷ []) (1 ∷ 2 ∷ []) []
 
--- How the tables came about: they were made as they are, or those of layout 1 were migrated, which has its own trees.
+-- How the tables came about: they were made as layout 2, or migrated from layout 1 and then have other trees of the
+-- file.
 pub data Origin : Type 0 where
   made : Origin
   migrated : Origin
@@ -111,7 +112,7 @@ spans_at o = record spans { tree = spans_tree o }
 abbrev pub follow_at : Origin → Table
 follow_at o = record follow { tree = follow_tree o }
 
--- the tables of the store, and others behind them
+-- the tables of the store, and others after them
 abbrev pub layout : Origin → List Table → List Index → List View → Schema
 layout o others indexes views = record {
   tables = meta_at o ∷ held_at o ∷ spans_at o ∷ follow_at o ∷ others;
@@ -140,7 +141,7 @@ no_schema = record { tables = []; indexes = []; views = [] }
 abbrev pub first_layout : Schema
 first_layout = created (created (created no_schema meta) executed) held
 
--- the tree of the table at a place in the list
+-- the tree of the table with this index in the list
 abbrev pub tree_at : Schema → ℕ → ℕ
 tree_at schema at = unwrap_or (option_map (λ t. t.tree) (slice_get schema.tables at)) 0
 

@@ -59,7 +59,7 @@ pub record IsToCome (listing : Listing) (entries : List Entry) : Type 0 where
   pub rows : map shown_entry entries ≡ without_rowids (drop listing.at listing.rows.items)
   pub images : AllByRecursion (λ (e : Entry). HasImage e.0.cells) entries
 
--- A row is this entry, or memory is refused.
+-- A row is this entry, or an allocation was refused.
 abbrev pub Gives : Entry → Result Listed StoreFault → Type 0
 Gives e (Ok listed) = entry_of listed ≡ e
 Gives e (Err Memory) = Unit {0}
@@ -81,7 +81,7 @@ listed_text = codes "SELECT rowid, schema_name, table_name, image, n FROM held O
 abbrev pub HasKey : Key → Row → Type 0
 HasKey key row = (column row 1 ≡ Blob key.schema) × (column row 2 ≡ Blob key.table) × (column row 3 ≡ Blob key.image)
 
--- The key is above the last one, where there is one.
+-- The key is above the last one, if there is one.
 abbrev pub IsAbove : Option Key → Key → Type 0
 IsAbove None key = Unit {0}
 IsAbove (Some last) key = key_cmp last key ≡ Less
@@ -98,8 +98,8 @@ key_found (Some key) = Some (key_in key)
 -- ---- What a store lists.
 
 module _ {S : Type 0} (g : Ghosts S) where
-  -- The rows of the content are to come, and the store holds the same. So it does after a failure, where the connection
-  -- is still open.
+  -- The rows of the content are still to come, and the store holds the same content; after a failure too, if the
+  -- connection is still open.
   abbrev pub Lists : Content → Store S g → Result Listing StoreFault → Type 0
   Lists content new (Ok listing) = (entries : List Entry) × AreRows content.rows entries × IsToCome listing entries × Holds g new content
   Lists content new (Err (Database e)) = IsTrue (database g new).is_open → Holds g new content

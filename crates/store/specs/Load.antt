@@ -49,7 +49,7 @@ abbrev pub columns_from : ℕ → ℕ → List Term
 columns_from at zero = []
 columns_from at (suc n) = col 1 at ∷ columns_from (suc at) n
 
--- so many columns of all rows of a tree
+-- the first columns of all rows of a tree, this many
 abbrev pub whole : ℕ → ℕ → List (Term × Key) → Query
 whole tree width order = record {
   from = inner tree end;
@@ -91,17 +91,17 @@ pub record IsMetaFirst (schema : Schema) : Type 0 where
 
 -- ---- A call that reads.
 
--- This holds where the fault is that the rows are damaged.
+-- This holds if the fault is that the rows are damaged.
 abbrev pub OnDamaged : StoreFault → Type 0 → Type 0
 OnDamaged Damaged P = P
 OnDamaged _ P = Unit {0}
 
--- This holds where the call answers, or finds the rows damaged.
+-- This holds if the call answers, or reports that the rows are damaged.
 abbrev pub OnSeen : {X : Type 0} → Result X StoreFault → Type 0 → Type 0
 OnSeen (Ok x) P = P
 OnSeen (Err fault) P = OnDamaged fault P
 
--- The answer is lawful. Where it is that the rows are damaged, they break the rules.
+-- The answer is lawful. If the rows are reported as damaged, they break the rules.
 abbrev pub Judges : {X : Type 0} → Result X StoreFault → (X → Type 0) → Type 0 → Type 0
 Judges (Ok x) Lawful rules = Lawful x
 Judges (Err fault) Lawful rules = OnDamaged fault (¬ rules)
@@ -113,20 +113,20 @@ IsLoadFault Memory = Unit {0}
 IsLoadFault Damaged = Unit {0}
 IsLoadFault _ = ⊥
 
--- Nothing is committed, and where nothing was to be, nothing has changed where the connection is still open.
+-- Nothing is committed, and if there was nothing to commit, nothing has changed if the connection is still open.
 pub record Rested (old new : State) : Type 0 where
   pub commit : KeepsCommit old new
   pub rests : old.now ≡ old.committed → Rests old new
 
 -- ---- What the rows stand for.
 
--- The connection is at rest with a content of these executed transactions.
+-- The connection is at rest with a content of this executed set.
 pub record IsLoaded (s : State) (executed : Ids) (names : Names) : Type 0 where
   pub content : Content
   pub rest : IsAtRest s names content
   pub executed_is : executed ≡ content.executed
 
--- The same of layout 1.
+-- As IsLoaded, for layout 1.
 pub record IsFirstLoaded (s : State) (executed : Ids) : Type 0 where
   pub content : Content
   pub rest : IsFirstAtRest s content

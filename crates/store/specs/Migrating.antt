@@ -1,4 +1,4 @@
--- From layout 1 to layout 2.
+-- Migration from layout 1 to layout 2.
 use Rattle.std.specs.Prelude.{◌≡◌, ℕ, ℤ, true, codes, pos, List, [], ◌∷◌, ◌++◌, map, IsTrue, IsPermutation}
 use Rattle.std.specs.List.{AllByRecursion}
 use Rattle.sqlite_value.specs.declared.value.Value.TheVariants.{Int, Text}
@@ -67,7 +67,7 @@ pub record IsMigrating (schema : Schema) (layout : ℤ) (bare : List ℕ) (conte
   pub rows : content.rows ≡ bag_of (count (s.now.trees 4))
   pub lawful : AreGtids content.executed
 
--- Of these spans some are stored beside the others, and the rest is left.
+-- Some of these spans are stored in addition to the earlier rows, and the rest are left.
 pub record HasLeft (old new : State) (spans rest : List Span) : Type 0 where
   pub on : GoesOn old new
   pub held : held_rows new.now ≡ held_rows old.now

@@ -1,4 +1,4 @@
--- What opening a database finds and makes.
+-- Databases before they are opened.
 use Rattle.std.specs.Prelude.{◌≡◌, IsTrue}
 use Rattle.std.specs.FinSet as set
 use Rattle.sqlite_trees.specs.Tree.{Trees}
@@ -24,7 +24,8 @@ pub record IsBlank (s : State) : Type 0 where
   pub settled : s.now ≡ s.committed
   pub schema : s.now.schema ≡ no_schema
 
--- The same, and its database is of layout 1 and stands for this content.
+-- The connection is open and in no transaction that has changed anything, and its database has layout 1 and stands for
+-- this content.
 pub record IsFirstAtRest (s : State) (content : Content) : Type 0 where
   pub is_open : IsTrue s.is_open
   pub settled : s.now ≡ s.committed
@@ -38,6 +39,6 @@ pub record MayStandFor (names : Names) (content : Content) (trees : Trees) : Typ
   pub trees_are : trees ≡ db.trees
   pub stands : StandsFor db names content
 
--- Where they were of layout 1 and at rest, and this was their executed set, the trees stand for the same content.
+-- If the database had layout 1, was at rest and had this executed set, the trees stand for the same content.
 abbrev pub MayMigrate : State → Ids → Trees → Type 0
 MayMigrate old executed trees = (content : Content) → IsFirstAtRest old content → executed ≡ content.executed → MayStandFor all content trees

@@ -70,7 +70,7 @@ blob_in (Blob b) = b
 
 -- ---- held
 
--- what a row of held is found by: the names of schema and table, and the stored image
+-- the key of a row of held: the names of schema and table, and the stored image
 pub record Key : Type 0 where
   pub schema : List ℕ
   pub table : List ℕ
@@ -120,16 +120,16 @@ IsHeldRow row = (id : ℤ) × (key : Key) × (n : ℕ) × (row ≡ Int id ∷ Bl
 abbrev pub key_for : TableRow → Key
 key_for r = key_of r.schema r.table (image r.cells)
 
--- the rows that the counts stand for: of cells that have an image, as many as its count
+-- the rows that the counts stand for: of cells that have an image, the count of their key
 abbrev pub bag_of : Counts → Bag
 bag_of counts r = if has_image r.cells then counts (key_for r) else 0
 
--- What a look-up by key found: no row, or the one row and its count.
+-- The outcome of a look-up by key: no row, or the one row and its count.
 abbrev pub Finds : Key → List Row → Option ℕ → Type 0
 Finds key rows None = filter (is_at key) rows ≡ []
 Finds key rows (Some n) = (row : Row) × (filter (is_at key) rows ≡ row ∷ []) × (column row 4 ≡ Int (pos n))
 
--- the one column of at most one row
+-- the one column of one row, or no row
 abbrev pub IsCount : List Row → Option ℕ → Type 0
 IsCount rows None = rows ≡ []
 IsCount rows (Some n) = (row : Row) × (rows ≡ row ∷ []) × (column row 0 ≡ Int (pos n))
@@ -147,7 +147,7 @@ stored_span s = Blob s.source ∷ Int (pos s.lo) ∷ Int (pos s.hi) ∷ []
 abbrev pub shown_spans : List Row → List Row
 shown_spans rows = map shown_span rows
 
--- whether what is stored of a span begins there
+-- whether a stored span begins there
 abbrev pub begins_at : List ℕ → ℤ → Row → Bool
 begins_at source lo shown = is_blob source (column shown 0) && is_eq (value_cmp (column shown 1) (Int lo))
 
@@ -164,7 +164,7 @@ pub record AreLeast (spans : List Span) (ids : Ids) : Type 0 where
   pub apart : IsDistinct touches spans
   pub covers : Covers spans ids
 
--- The rows are the least intervals of the set, which has identifiers of transactions alone.
+-- The rows are the least intervals of the set, whose members are GTIDs of transactions.
 pub record AreSpans (rows : List Row) (ids : Ids) : Type 0 where
   pub spans : List Span
   pub least : AreLeast spans ids
@@ -197,7 +197,7 @@ is_text t (Blob b) = false
 abbrev pub IsMetaRow : Row → Type 0
 IsMetaRow row = (id : ℤ) × (key : List ℕ) × (n : ℤ) × (row ≡ Int id ∷ Text key ∷ Int n ∷ [])
 
--- The one row of the key `layout` has this number.
+-- The only row with the key `layout` has this number.
 abbrev pub SaysLayout : ℤ → List Row → Type 0
 SaysLayout n rows = map (λ row. column row 2) (filter (λ row. is_text (codes "layout") (column row 1)) rows) ≡ Int n ∷ []
 

@@ -13,7 +13,7 @@ pub record TableRow : Type 0 where
 abbrev pub row_of : List ℕ → List ℕ → List CellValue → TableRow
 row_of schema table cells = record { schema = schema; table = table; cells = cells }
 
--- how often each row is there
+-- the number of copies of each row
 abbrev pub Bag : Type 0
 Bag = TableRow → ℕ
 

@@ -1,4 +1,4 @@
--- What a store holds, and what taking a transaction makes of it.
+-- What a store holds, and the outcome of applying a transaction.
 use Rattle.std.specs.Prelude.{◌≡◌, ◌⊎◌, ℕ, Bool, true, false, IsTrue, MatchBool, Result, Ok, Err}
 use Rattle.sqlite_trees.specs.declared.store.Store.{Ghosts}
 use Rattle.sqlite_trees.specs.Tree.{Trees}
@@ -31,7 +31,7 @@ module _ {S : Type 0} (g : Ghosts S) where
   abbrev pub names_of : Store S g → Names
   names_of store = store.following
 
-  -- whether a failure has broken it
+  -- whether the store has failed
   abbrev pub IsBroken : Store S g → Type 0
   IsBroken store = store.broken ≡ true
 
@@ -44,14 +44,14 @@ module _ {S : Type 0} (g : Ghosts S) where
     pub executed : store.executed ≡ content.executed
     pub rest : IsAtRest (database store) store.following content
 
-  -- A failure has broken the store: its set in memory stands for this content, and so do its tables where the connection
-  -- is still open.
+  -- The store has failed: its set in memory stands for this content, and so do its tables if the connection is still
+  -- open.
   pub record HasFailed (store : Store S g) (content : Content) : Type 0 where
     pub broken : IsBroken store
     pub executed : store.executed ≡ content.executed
     pub rest : IsTrue (database store).is_open → IsAtRest (database store) store.following content
 
-  -- The store holds this content, and a failure has broken it or not.
+  -- The store holds this content, and has failed or not.
   abbrev pub HoldsAs : Bool → Content → Store S g → Type 0
   HoldsAs broken content store = MatchBool broken (HasFailed store content) (Holds store content)
 
@@ -61,7 +61,7 @@ module _ {S : Type 0} (g : Ghosts S) where
     pub takes : Takes names content d (done after)
     pub holds : Holds new after
 
-  -- What a transaction comes to, taken by a store that holds this content.
+  -- The outcome of applying a transaction to a store that holds this content.
   abbrev pub Applies : Content → DeliveryValue → Store S g → Store S g → Result Applied StoreFault → Type 0
   Applies content d old new (Ok Done) = HoldsTaken old.following content d new
   Applies content d old new (Ok Repeat) = Takes old.following content d repeat × (new ≡ old)
@@ -71,7 +71,7 @@ module _ {S : Type 0} (g : Ghosts S) where
   Applies content d old new (Err Memory) = (is_executed content d ≡ false) × HasFailed new content × (connection new ≡ connection old)
   Applies content d old new (Err _) = ⊥
 
-  -- The number of copies of a row is answered, and the store holds the same. So it does after a failure, where the
+  -- The number of copies of a row is answered, and the store holds the same content; after a failure too, if the
   -- connection is still open.
   abbrev pub Counts : Content → TableRow → Store S g → Result ℕ StoreFault → Type 0
   Counts content row new (Ok n) = (n ≡ content.rows row) × Holds new content
@@ -89,7 +89,7 @@ module _ {S : Type 0} (g : Ghosts S) where
 abbrev pub AreOf : Schema → Names → Content → Trees → Type 0
 AreOf schema names content trees = StandsFor (record { schema = schema; trees = trees }) names content
 
--- What a crash leaves of a transaction that a whole store has taken.
+-- What a crash leaves of a transaction that a store has applied.
 abbrev pub Leaves : Schema → Names → Content → DeliveryValue → Result Applied StoreFault → Trees → Type 0
 Leaves schema names content d (Ok Done) trees = IsTaken names content d schema trees
 Leaves schema names content d (Err (Database e)) trees = AreOf schema names content trees ⊎ IsTaken names content d schema trees

@@ -7,7 +7,7 @@ use Rattle.store.specs.declared.change.Refusal.{Refusal}
 use Rattle.store.specs.declared.change.Refusal.TheVariants.{NoSuchRow, CountFull}
 use Rattle.store.specs.State.{TableRow, row_of, Bag, Content}
 
--- the most that a count can be: 2 ^ 63 - 1
+-- the greatest count: 2 ^ 63 - 1
 abbrev pub most : ℕ
 most = 9223372036854775807
 
@@ -24,7 +24,7 @@ pub record IsTaken (row : TableRow) (old new : Bag) : Type 0 where
   pub one_less : old row ≡ new row + 1
   pub others : (r : TableRow) → r ≢ row → new r ≡ old r
 
--- The change is made. An update takes the row before and then adds the row after.
+-- The change is made. An update removes the row before and then adds the row after.
 abbrev pub IsMade : ChangeValue → Bag → Bag → Type 0
 IsMade (insert schema table after) old new = IsAdded (row_of schema table after) old new
 IsMade (delete schema table before) old new = IsTaken (row_of schema table before) old new
@@ -52,7 +52,7 @@ is_followed names (insert schema table after) = follows names schema table
 is_followed names (delete schema table before) = follows names schema table
 is_followed names (update schema table before after) = follows names schema table
 
--- A change of a table that is not followed is passed over.
+-- A change of a table that is not followed is skipped.
 abbrev pub IsDone : Names → ChangeValue → Bag → Bag → Type 0
 IsDone names change old new = MatchBool (is_followed names change) (IsMade change old new) (new ≡ old)
 
@@ -60,7 +60,7 @@ abbrev pub AreDone : Names → List ChangeValue → Bag → Bag → Type 0
 AreDone names [] old new = new ≡ old
 AreDone names (change ∷ changes) old new = (mid : Bag) × IsDone names change old mid × AreDone names changes mid new
 
--- The changes before this place are done, and the one there cannot be made. Places count all changes, from 0.
+-- The changes before this index are done, and the one there cannot be made. The index counts all changes, from 0.
 pub record IsRefusedAt (names : Names) (changes : List ChangeValue) (old : Bag) (at : ℕ) (why : Refusal) : Type 0 where
   pub change : ChangeValue
   pub mid : Bag
@@ -80,8 +80,8 @@ pub data Outcome : Type 0 where
 abbrev pub is_executed : Content → DeliveryValue → Bool
 is_executed content d = set.contains content.executed (d.source, d.number)
 
--- A transaction of the set changes nothing. Of another one the changes are done in order and it enters the set, or one
--- of them, at this place, is refused.
+-- A transaction in the set changes nothing. For any other, its changes are done in order and it enters the set, or one
+-- change, with this index, is refused.
 abbrev pub Takes : Names → Content → DeliveryValue → Outcome → Type 0
 Takes names old d (done new) =
     (is_executed old d ≡ false) × AreDone names d.changes old.rows new.rows × (new.executed ≡ set.insert old.executed (d.source, d.number))

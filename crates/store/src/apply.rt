@@ -1,4 +1,4 @@
-//! A transaction of the source in one transaction of the database.
+//! A transaction of the source as one transaction of the database.
 
 ghost use Rattle.std.specs.Prelude.{◌≡◌, false, IfOk};
 ghost use Rattle.sqlite.specs.State.{HasCleanDisk, Survives, KeepsCommit};
@@ -16,7 +16,7 @@ use binlog::Follow;
 use gather::Delivery;
 use sqlite::{Alter, Connection, Error, Transaction};
 
-/// Makes the changes and records the transaction, or says which change is refused and why.
+/// Makes the changes and records the GTID, or returns which change is refused and why.
 fn fill<S: Alter>(
     tx: &mut Transaction<'_, S>,
     follow: &Follow,
@@ -36,7 +36,7 @@ fn fill<S: Alter>(
     Ok(None)
 }
 
-/// The same in a transaction of its own, which is given up where a change is refused or a statement fails.
+/// Runs `fill` in a transaction of its own, which is rolled back if a change is refused or a statement fails.
 pub(crate) fn run<S: Alter>(
     conn: &mut Connection<S>,
     follow: &Follow,

@@ -1,4 +1,4 @@
-//! The spans of a set that touch a number.
+//! The neighbours of a number in the executed set.
 
 ghost use Rattle.std.specs.Prelude.{◌≡◌, false, List};
 ghost use Rattle.std.specs.Option.{option_map};
@@ -11,7 +11,7 @@ ghost use Rattle.store.specs.Apply.{LiesBeside};
 use crate::spans::Beside;
 use gtid::{Gtid, GtidSet, Span};
 
-/// Where the span begins, if there is one.
+/// The first number of the span, if there is one.
 fn start_of(span: Option<Span>) -> Option<u64>
     ensures { result ≡ option_map (λ s. s.lo) span }
 {
@@ -19,7 +19,7 @@ fn start_of(span: Option<Span>) -> Option<u64>
     Some(span.lo)
 }
 
-/// Where the span ends, if there is one.
+/// The end of the span, one past its last number, if there is one.
 fn end_of(span: Option<Span>) -> Option<u64>
     ensures { result ≡ option_map (λ s. s.hi) span }
 {
@@ -27,7 +27,7 @@ fn end_of(span: Option<Span>) -> Option<u64>
     Some(span.hi)
 }
 
-/// The spans of a set that touch a number which is not in it.
+/// The neighbours of a GTID that is not in the executed set.
 pub(crate) fn around(executed: &GtidSet, gtid: Gtid) -> Beside
     ensures { (spans : List Span) → AreLeast spans executed.now → set.contains executed.now (id gtid) ≡ false → LiesBeside spans gtid result }
 {

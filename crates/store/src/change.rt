@@ -1,4 +1,4 @@
-//! Changes of rows, inside a transaction.
+//! Row changes, inside a transaction.
 
 ghost use Rattle.std.specs.Prelude.{◌≡◌, IfOk};
 ghost use Rattle.sqlite.specs.State.{HasCleanDisk, Survives, KeepsCommit};
@@ -17,15 +17,15 @@ use sqlite::{Alter, Error, Transaction};
 /// Why a change is refused.
 #[derive(Clone, Copy, Debug, PartialEq, Eq)]
 pub enum Refusal {
-    /// The row that is to go is not there.
+    /// The row to be removed is not there.
     NoSuchRow,
-    /// The row is there as often as it can be.
+    /// The row is to be added, and its count is at the maximum, 2^63 - 1.
     CountFull,
 }
 
 const MOST: u64 = 9_223_372_036_854_775_807;
 
-/// Adds one of a row.
+/// Adds one copy of a row.
 pub(crate) fn add<S: Alter>(
     tx: &mut Transaction<'_, S>,
     row: &RowKey<'_>,
@@ -46,7 +46,7 @@ pub(crate) fn add<S: Alter>(
     Ok(None)
 }
 
-/// Takes one of a row.
+/// Removes one copy of a row.
 pub(crate) fn take<S: Alter>(
     tx: &mut Transaction<'_, S>,
     row: &RowKey<'_>,
@@ -70,7 +70,7 @@ pub(crate) fn take<S: Alter>(
     Ok(None)
 }
 
-/// Adds one of a table's row.
+/// Adds one copy of a row of a table.
 fn add_row<S: Alter>(
     tx: &mut Transaction<'_, S>,
     table: &TableDef,
@@ -89,7 +89,7 @@ fn add_row<S: Alter>(
     add(tx, &row)
 }
 
-/// Takes one of a table's row.
+/// Removes one copy of a row of a table.
 fn take_row<S: Alter>(
     tx: &mut Transaction<'_, S>,
     table: &TableDef,
@@ -108,7 +108,7 @@ fn take_row<S: Alter>(
     take(tx, &row)
 }
 
-/// Makes one change, or says why it is refused.
+/// Makes one change, or returns why it is refused.
 fn make<S: Alter>(tx: &mut Transaction<'_, S>, change: &Change) -> Result<Option<Refusal>, Error>
     ensures same_reference { tx.new.conn.ghost_name ≡ tx.old.conn.ghost_name }
     ensures makes { HasCleanDisk (state S.Store tx.new.conn.now) → IsWorking (state S.Store tx.old.conn.now) → IfOk result (Makes (change_value change.now) (state S.Store tx.old.conn.now) (state S.Store tx.new.conn.now)) }
@@ -131,7 +131,7 @@ fn make<S: Alter>(tx: &mut Transaction<'_, S>, change: &Change) -> Result<Option
     }
 }
 
-/// Whether a change is one of a table that is followed.
+/// Whether the table of a change is followed.
 fn is_followed(follow: &Follow, change: &Change) -> bool
     ensures { result ≡ is_followed follow.now (change_value change.now) }
 {
@@ -142,7 +142,7 @@ fn is_followed(follow: &Follow, change: &Change) -> bool
     }
 }
 
-/// Makes one change of a table that is followed, and passes over another one.
+/// Makes one change of a table that is followed, and skips any other.
 fn step<S: Alter>(
     tx: &mut Transaction<'_, S>,
     follow: &Follow,
@@ -159,7 +159,7 @@ fn step<S: Alter>(
     make(tx, change)
 }
 
-/// Makes the changes in order, or says which is refused and why.
+/// Makes the changes in order, or returns the index of the one that is refused, and why.
 pub(crate) fn make_all<S: Alter>(
     tx: &mut Transaction<'_, S>,
     follow: &Follow,

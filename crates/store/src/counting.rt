@@ -1,4 +1,4 @@
-//! How often a row is there.
+//! The number of copies of a row.
 
 ghost use Rattle.std.specs.Prelude.{◌≡◌, true, false, Err, IfOk, OnOk, IsPermutation, map, filter, [], ◌∷◌};
 ghost use Rattle.sqlite.specs.State.{HasCleanDisk, Survives, IsUnchanged};
@@ -18,7 +18,7 @@ use gather::Image;
 use sqlite::types::ValueRef;
 use sqlite::{Alter, Connection, Error, Row};
 
-/// The counts that are stored for a row.
+/// The rows with the count of a key: one, or none.
 fn find<S: Alter>(conn: &mut Connection<S>, row: &RowKey<'_>) -> Result<Vec<Row>, Error>
     requires { conn.old.in_transaction ≡ false }
     ensures autocommit { conn.new.in_transaction ≡ false }
@@ -37,7 +37,7 @@ fn find<S: Alter>(conn: &mut Connection<S>, row: &RowKey<'_>) -> Result<Vec<Row>
     )
 }
 
-/// How often a row is stored.
+/// The number of copies of a row that is stored; 0 if it is not there.
 fn count<S: Alter>(conn: &mut Connection<S>, row: &RowKey<'_>) -> Result<u64, Error>
     requires { conn.old.in_transaction ≡ false }
     ensures autocommit { conn.new.in_transaction ≡ false }
@@ -52,10 +52,10 @@ fn count<S: Alter>(conn: &mut Connection<S>, row: &RowKey<'_>) -> Result<u64, Er
 }
 
 impl<S: Alter> Store<S> {
-    /// How often a row of a schema's table is there. Nothing changes, and the store can be used further after each fault
-    /// but `Broken`.
+    /// The number of copies of a row in a table; 0 if it is not there. Nothing changes, and the store can be used
+    /// further.
     ///
-    /// The faults: `Database` where the database failed, `Broken` after an earlier failure of `apply`.
+    /// The faults: `Database` if the database failed, and `Broken` after an earlier failure of `apply`.
     pub fn count(&mut self, schema: &[u8], table: &[u8], image: &Image) -> Result<u64, StoreFault>
         ensures counts { HasCleanDisk (database S.Store self.new) → (content : Content) → Holds S.Store self.old content → Counts S.Store content (row_of schema.now table.now image.now) self.new result }
         ensures broken { IsBroken S.Store self.old → (result ≡ Err Broken) × (self.new ≡ self.old) }

@@ -1,4 +1,4 @@
-//! Transactions given to a store in memory, one after the other.
+//! Transactions applied to a store in memory, one after the other.
 
 use crate::fixtures::{batch, counts, executed, open, shown, take};
 use crate::{Applied, Store, StoreFault};
@@ -7,7 +7,7 @@ use std::alloc::Global;
 use std::process::Abort;
 use std::test::Fail;
 
-/// A transaction, what is answered, and what is executed and stored then.
+/// A transaction, the expected answer, and the executed set and the counts afterwards.
 type Step = (
     u64,
     &'static str,
@@ -24,7 +24,7 @@ fn no_row(at: usize) -> Result<Applied, StoreFault> {
     Err(StoreFault::NoSuchRow(at))
 }
 
-/// Takes one step.
+/// Does one step.
 fn step(
     rt: &impl Abort,
     alloc: Global,
@@ -42,7 +42,7 @@ fn step(
     Ok(())
 }
 
-/// Takes the steps in order.
+/// Does the steps in order.
 fn steps(
     rt: &impl Abort,
     alloc: Global,
@@ -55,7 +55,7 @@ fn steps(
     Ok(())
 }
 
-/// Takes the steps in order, and gives the connection back.
+/// Does the steps in order, and returns the connection.
 fn steps_on(
     rt: &impl Abort,
     alloc: Global,
@@ -69,7 +69,7 @@ fn steps_on(
     Ok(conn)
 }
 
-/// The same on a new database.
+/// As `steps_on`, on a new database.
 fn steps_from_new(
     rt: &impl Abort,
     alloc: Global,
@@ -113,7 +113,7 @@ fn a_refused_transaction_changes_nothing(rt: HostRuntime) -> Result<(), Fail> {
     Ok(())
 }
 
-/// A delete before its insert is refused, and taken behind it. Its row is not kept with a count of 0.
+/// A delete before its insert is refused, and is applied after it. Its row is not kept with a count of 0.
 #[test]
 fn a_delete_waits_for_its_insert(rt: HostRuntime) -> Result<(), Fail> {
     let mut conn = steps_from_new(
@@ -150,7 +150,7 @@ fn full(at: usize) -> Result<Applied, StoreFault> {
 
 const MOST: u64 = 9_223_372_036_854_775_807;
 
-/// A row that is there as often as can be is not added once more.
+/// A row whose count is at the maximum is not added once more.
 #[test]
 fn a_count_is_full(rt: HostRuntime) -> Result<(), Fail> {
     let steps = [(1, "p+", DONE, "1", [1, 1, 0])];
@@ -174,7 +174,7 @@ fn a_count_is_full(rt: HostRuntime) -> Result<(), Fail> {
     Ok(())
 }
 
-/// Takes transactions without changes, and shows the rows of `spans`.
+/// Applies transactions without changes, and shows the rows of `spans`.
 fn spans(alloc: Global, numbers: &[u64]) -> Result<String, Fail> {
     let mut store = open(alloc, Connection::open_in_memory(alloc)?)?;
     let taken = take_all(alloc, &mut store, numbers);
@@ -183,7 +183,7 @@ fn spans(alloc: Global, numbers: &[u64]) -> Result<String, Fail> {
     shown(alloc, &mut conn, "SELECT lo, hi FROM spans ORDER BY lo")
 }
 
-/// Takes transactions without changes.
+/// Applies transactions without changes.
 fn take_all(alloc: Global, store: &mut Store<MemStore>, numbers: &[u64]) -> Result<(), Fail> {
     for number in numbers {
         take(alloc, store, *number, "")??;

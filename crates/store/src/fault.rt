@@ -1,4 +1,4 @@
-//! What the store answers.
+//! Answers of the store.
 
 ghost use Rattle.std.specs.Prelude.{◌≡◌};
 ghost use Rattle.store.specs.declared.fault.StoreFault.TheVariants.{Memory, Database};
@@ -6,41 +6,41 @@ ghost use Rattle.store.specs.declared.fault.StoreFault.TheVariants.{Memory, Data
 use sqlite::Error;
 use std::alloc::{AllocError, AllocFailed};
 
-/// What became of a transaction that was not refused.
+/// What a transaction that was not refused did.
 #[derive(Clone, Copy, Debug, PartialEq, Eq)]
 pub enum Applied {
-    /// Its changes are made and it is executed.
+    /// Its changes were made, and its GTID is now in the executed set.
     Done,
-    /// It was executed before, and nothing has changed.
+    /// Its GTID was in the executed set before, and nothing has changed.
     Repeat,
 }
 
-/// Why a call of the store is refused.
+/// Why a call of the store failed.
 #[derive(Clone, Copy, Debug, PartialEq, Eq, thiserror::Error)]
 pub enum StoreFault {
-    /// The change at this place of the transaction, from 0, takes a row that is not there.
+    /// The change with this index in the transaction, from 0, removes a row that is not there.
     #[error("change {0}: the row is not there")]
     NoSuchRow(usize),
-    /// The change at this place, from 0, adds a row that is there 2^63 - 1 times.
-    #[error("change {0}: the row is there as often as can be")]
+    /// The change with this index, from 0, adds a row of which there are 2^63 - 1 copies.
+    #[error("change {0}: the count of the row is at its maximum")]
     CountFull(usize),
-    /// The database failed, for this cause.
+    /// The database failed with this error.
     #[error("{0}")]
     Database(Error),
     /// An allocation was refused.
     #[error("out of memory")]
     Memory,
-    /// The tables break the rules of their layout.
+    /// A table is missing, or the rows break the rules of their layout.
     #[error("the tables are damaged")]
     Damaged,
-    /// The tables are of this layout, which is not taken.
-    #[error("the tables are of layout {0}")]
+    /// The tables have this layout, which is not supported.
+    #[error("the tables have layout {0}, which is not supported")]
     Layout(i64),
-    /// An earlier failure has left the store unusable until it is opened again.
-    #[error("the store has to be opened again after a failure")]
+    /// An earlier failure has made the store unusable. The database must be opened again.
+    #[error("the store must be opened again after a failure")]
     Broken,
-    /// The database was made for other tables than those asked for.
-    #[error("the database follows other tables")]
+    /// The database was made for other tables than the given ones.
+    #[error("the database was made for other tables")]
     Follows,
 }
 

@@ -42,8 +42,8 @@ fn table(alloc: Global, letter: u8) -> Result<Rc<TableDef>, Fail> {
     Ok(Rc::new(alloc, def)?)
 }
 
-/// A change, written as a letter: `+` adds (7, "ab") to shop.items, `-` takes it away and `=` puts it in its own place;
-/// `p` and `m` do the first two for (8, "cd"); `o` and `x` for (7, "ab") in shop.other.
+/// A change, written as a letter: `+` adds (7, "ab") to shop.items, `-` removes it and `=` replaces it by itself; `p`
+/// and `m` do the first two for (8, "cd"); `o` and `x` for (7, "ab") in shop.other.
 fn change(alloc: Global, letter: u8) -> Result<Change, Fail> {
     let pair = item(alloc, 7, b"ab")?;
     let items = table(alloc, b'i')?;
@@ -90,7 +90,7 @@ pub(crate) fn delivery(alloc: Global, number: u64, letters: &str) -> Result<Deli
     Ok(Delivery { gtid, changes })
 }
 
-/// Gives a transaction to a store.
+/// Applies a transaction to a store.
 pub(crate) fn take<S: Alter>(
     alloc: Global,
     store: &mut Store<S>,
@@ -101,7 +101,7 @@ pub(crate) fn take<S: Alter>(
     Ok(store.apply(&delivery))
 }
 
-/// The executed transactions, without the source where it is A.
+/// The executed set, without the source if it is A.
 pub(crate) fn executed<S: Alter>(alloc: Global, store: &Store<S>) -> Result<String, Fail> {
     let mut text = String::new(alloc);
     store.executed().print(&mut text)?;
@@ -111,7 +111,7 @@ pub(crate) fn executed<S: Alter>(alloc: Global, store: &Store<S>) -> Result<Stri
     }
 }
 
-/// How often a row of the schema `shop` is there.
+/// The number of copies of a row in the schema `shop`.
 pub(crate) fn count_of<S: Alter>(
     store: &mut Store<S>,
     letter: u8,
@@ -120,7 +120,7 @@ pub(crate) fn count_of<S: Alter>(
     store.count(b"shop", name(letter), image)
 }
 
-/// How often (7, "ab") and (8, "cd") are in shop.items, and (7, "ab") is in shop.other.
+/// The numbers of copies of (7, "ab") and (8, "cd") in shop.items, and of (7, "ab") in shop.other.
 pub(crate) fn counts<S: Alter>(alloc: Global, store: &mut Store<S>) -> Result<[u64; 3], Fail> {
     let pair = item(alloc, 7, b"ab")?;
     let other = item(alloc, 8, b"cd")?;
@@ -142,7 +142,7 @@ pub(crate) fn open<S: Alter + Drop>(alloc: Global, conn: Connection<S>) -> Resul
     }
 }
 
-/// The list of these tables of the schema `shop`, each by its letter.
+/// The list of these tables of the schema `shop`, each given by its letter.
 pub(crate) fn list(alloc: Global, letters: &str) -> Result<Follow, Fail> {
     let mut names = Vec::new(alloc);
     for letter in letters.as_bytes() {
@@ -157,7 +157,7 @@ pub(crate) fn batch<S: Alter>(conn: &mut Connection<S>, sql: &str) -> Result<(),
     conn.execute_batch(sql)
 }
 
-/// Appends the values of a row, each behind a space.
+/// Appends the values of a row, each after a space.
 fn push_row(alloc: Global, text: &mut String, row: &Row) -> Result<(), Fail> {
     for at in 0..row.column_count() {
         let value = match row.get_ref(at)? {
@@ -181,7 +181,7 @@ fn push_rows(alloc: Global, text: &mut String, rows: &[Row]) -> Result<(), Fail>
     Ok(())
 }
 
-/// What a query shows, each row behind the other.
+/// The rows of a query, one after the other.
 pub(crate) fn shown<S: Alter>(
     alloc: Global,
     conn: &mut Connection<S>,
@@ -193,7 +193,7 @@ pub(crate) fn shown<S: Alter>(
     Ok(text)
 }
 
-/// Opens a database, of these tables alone where a list is given.
+/// Opens a database, with a list of tables if one is given.
 pub(crate) fn attempt<S: Alter + Drop>(
     alloc: Global,
     conn: Connection<S>,
@@ -211,7 +211,7 @@ pub(crate) fn attempt<S: Alter + Drop>(
     }
 }
 
-/// Opens a database and closes it, and answers the fault, if there was one.
+/// Opens a database and closes it, and returns the fault, if there was one.
 pub(crate) fn try_open<S: Alter + Drop>(
     alloc: Global,
     conn: Connection<S>,

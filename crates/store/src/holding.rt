@@ -1,4 +1,4 @@
-//! What a store shows of itself, and its end.
+//! The executed set, the list of tables, and closing.
 
 ghost use Rattle.std.specs.Prelude.{◌≡◌, Bool, false};
 ghost use Rattle.store.specs.State.{Content};
@@ -10,21 +10,22 @@ use gtid::GtidSet;
 use sqlite::{Alter, Connection};
 
 impl<S: Alter> Store<S> {
-    /// The executed transactions. It takes no memory, and a broken store answers it too.
+    /// The executed set. It takes no memory. A store that has failed answers it too.
     pub fn executed(&self) -> &GtidSet
         ensures { (broken : Bool) (content : Content) → HoldsAs S.Store broken content self.now → result.now ≡ content.executed }
     {
         &self.executed
     }
 
-    /// The tables whose rows are kept. It takes no memory, and a broken store answers it too.
+    /// The tables whose rows are kept; the empty list means all tables. It takes no memory. A store that has failed
+    /// answers it too.
     pub fn following(&self) -> &Follow
         ensures { result.now ≡ (names_of S.Store self.now) }
     {
         &self.following
     }
 
-    /// Gives back the connection, whose database is as it was.
+    /// Ends the store and returns its connection. The database is not changed.
     pub fn close(self) -> Connection<S>
         ensures same { result ≡ connection S.Store self }
         ensures autocommit { result.in_transaction ≡ false }

@@ -1,4 +1,4 @@
-//! Whether rows keep the rules of their tables, and what they say.
+//! Whether rows keep the rules of their tables, and what they stand for.
 
 ghost use Rattle.std.specs.Prelude.{◌≡◌, true, map, ◌<◌, ◌≤◌, ◌^◌, pos, ℕ, IfOk, OnOk, IfErr, IfSome, IfNone, MatchBool, MatchOption};
 ghost use Rattle.std.specs.List.{AllByRecursion};
@@ -22,7 +22,7 @@ use std::alloc::Global;
 
 // ---- meta
 
-/// Whether a row is one of `meta`.
+/// Whether a row is a lawful row of `meta`.
 fn is_meta(row: &Row) -> Result<bool, Error>
     ensures { IfOk result (λ b. MatchBool b (IsMetaRow row.now) (¬ IsMetaRow row.now)) }
 {
@@ -41,7 +41,7 @@ fn is_meta(row: &Row) -> Result<bool, Error>
     Ok(true)
 }
 
-/// Whether the rows are rows of `meta`.
+/// Whether all rows are lawful rows of `meta`.
 pub(crate) fn are_meta(rows: &[Row]) -> Result<bool, Error>
     ensures { IfOk result (λ b. MatchBool b (AllByRecursion IsMetaRow rows.now) (¬ AllByRecursion IsMetaRow rows.now)) }
 {
@@ -57,7 +57,7 @@ pub(crate) fn are_meta(rows: &[Row]) -> Result<bool, Error>
 
 const MOST: u64 = 9_223_372_036_854_775_807;
 
-/// The number in a column, where it is one from 1 to 2^63 - 1.
+/// The number in a column, if it is from 1 to 2^63 - 1.
 fn number_at(row: &Row, at: usize) -> Result<Option<u64>, Error>
     ensures { IfOk result (λ o. MatchOption o ((k : ℕ) → column row.now at ≡ Int (pos k) → 1 ≤ k → k ≤ most → ⊥) (λ k. (column row.now at ≡ Int (pos k)) × (1 ≤ k) × (k ≤ most))) }
 {
@@ -77,7 +77,7 @@ fn number_at(row: &Row, at: usize) -> Result<Option<u64>, Error>
     Ok(Some(number))
 }
 
-/// Whether a row is one of `held`.
+/// Whether a row is a lawful row of `held`.
 fn is_held(alloc: Global, row: &Row) -> Result<bool, StoreFault>
     ensures judged { IfOk result (λ b. MatchBool b (IsHeldRow row.now) (¬ IsHeldRow row.now)) }
     ensures fault { IfErr result IsCause }
@@ -114,7 +114,7 @@ fn is_image(alloc: Global, bytes: &[u8]) -> Result<bool, StoreFault>
     }
 }
 
-/// Whether the rows are rows of `held`.
+/// Whether all rows are lawful rows of `held`.
 pub(crate) fn are_held(alloc: Global, rows: &[Row]) -> Result<bool, StoreFault>
     ensures judged { IfOk result (λ b. MatchBool b (AllByRecursion IsHeldRow rows.now) (¬ AllByRecursion IsHeldRow rows.now)) }
     ensures fault { IfErr result IsCause }
@@ -129,7 +129,7 @@ pub(crate) fn are_held(alloc: Global, rows: &[Row]) -> Result<bool, StoreFault>
 
 // ---- rowids
 
-/// Whether a rowid is above the last one, where there is one.
+/// Whether a rowid is above the last one, if there is one.
 fn is_behind(last: Option<i64>, id: i64) -> bool
     ensures { result ≡ true → IsBehind last id }
 {
@@ -156,7 +156,7 @@ pub(crate) fn ascend(rows: &[Row]) -> Result<bool, Error>
     Ok(true)
 }
 
-/// The rowids are integers and ascend. No file that the crate opens breaks this.
+/// Checks that the rowids are integers and ascend. No file that the `sqlite` crate opens breaks this.
 pub(crate) fn check_rowids(rows: &[Row]) -> Result<(), Error>
     ensures { OnOk result (HasRowids rows.now) }
 {
@@ -181,7 +181,7 @@ fn is_layout(row: &Row) -> Result<bool, Error>
     Ok(key == LAYOUT)
 }
 
-/// The number of the one row of the key `layout`.
+/// The number in the one row with the key `layout`.
 pub(crate) fn layout_in(rows: &[Row]) -> Result<Option<i64>, Error>
     ensures { IfOk result (IsOnly (layouts rows.now)) }
 {
@@ -203,7 +203,7 @@ pub(crate) fn layout_in(rows: &[Row]) -> Result<Option<i64>, Error>
 
 // ---- spans
 
-/// The source that the bytes are, where they are sixteen.
+/// The source with these bytes, if there are sixteen.
 fn source_of(bytes: &[u8]) -> Option<[u8; 16]>
     ensures some { IfSome result (λ source. (source ≡ bytes.now) × IsSource bytes.now) }
     ensures none { IfNone result (¬ IsSource bytes.now) }
@@ -215,7 +215,7 @@ fn source_of(bytes: &[u8]) -> Option<[u8; 16]>
     Some(source)
 }
 
-/// The span of a row, where it is one of `spans`.
+/// The span of a row, if it is a lawful row of `spans`.
 fn span_of(row: &Row) -> Result<Option<Span>, Error>
     ensures { IfOk result (λ o. MatchOption o (¬ IsSpanRow row.now) (λ s. IsSpanRow row.now × (s ≡ span_in row.now))) }
 {
@@ -243,7 +243,7 @@ fn span_of(row: &Row) -> Result<Option<Span>, Error>
     Ok(Some(Span { source, lo, hi }))
 }
 
-/// The spans of the rows, where each is one of `spans`.
+/// The spans of the rows, if all are lawful rows of `spans`.
 pub(crate) fn spans_of(alloc: Global, rows: &[Row]) -> Result<Option<Vec<Span>>, StoreFault>
     ensures judged { IfOk result (λ o. MatchOption o (¬ AllByRecursion IsSpanRow rows.now) (λ spans. AllByRecursion IsSpanRow rows.now × (spans.items ≡ map span_in rows.now))) }
     ensures fault { IfErr result IsCause }
@@ -260,7 +260,7 @@ pub(crate) fn spans_of(alloc: Global, rows: &[Row]) -> Result<Option<Vec<Span>>,
 
 // ---- executed
 
-/// The span of a row's one identifier, where it is one of `executed`.
+/// The GTID of a row as a span, if it is a lawful row of `executed`.
 fn id_of(row: &Row) -> Result<Option<Span>, Error>
     ensures { IfOk result (λ o. MatchOption o (¬ IsExecutedRow row.now) (λ s. IsExecutedRow row.now × (s ≡ span_of_id (id_in row.now)))) }
 {
@@ -289,7 +289,7 @@ fn id_of(row: &Row) -> Result<Option<Span>, Error>
     }))
 }
 
-/// The spans of the rows' identifiers, where each is one of `executed`.
+/// The GTIDs of the rows as spans, if all are lawful rows of `executed`.
 pub(crate) fn ids_of(alloc: Global, rows: &[Row]) -> Result<Option<Vec<Span>>, StoreFault>
     ensures judged { IfOk result (λ o. MatchOption o (¬ AllByRecursion IsExecutedRow rows.now) (λ spans. AllByRecursion IsExecutedRow rows.now × (spans.items ≡ map (λ r. span_of_id (id_in r)) rows.now))) }
     ensures fault { IfErr result IsCause }
@@ -306,7 +306,7 @@ pub(crate) fn ids_of(alloc: Global, rows: &[Row]) -> Result<Option<Vec<Span>>, S
 
 // ---- follow
 
-/// The name of a row, where it is one of `follow`.
+/// The name of a table in a row, if it is a lawful row of `follow`.
 fn name_of(alloc: Global, row: &Row) -> Result<Option<(Vec<u8>, Vec<u8>)>, StoreFault>
     ensures judged { IfOk result (λ o. MatchOption o (¬ IsFollowRow row.now) (λ name. IsFollowRow row.now × ((name.0.items, name.1.items) ≡ name_in row.now))) }
     ensures fault { IfErr result IsCause }
@@ -329,7 +329,7 @@ fn name_of(alloc: Global, row: &Row) -> Result<Option<(Vec<u8>, Vec<u8>)>, Store
     )))
 }
 
-/// The names of the rows, where each is one of `follow`.
+/// The names of tables in the rows, if all are lawful rows of `follow`.
 pub(crate) fn names_in(
     alloc: Global,
     rows: &[Row],

@@ -1,4 +1,4 @@
-//! The tables of the layouts.
+//! The tables of the two layouts.
 
 /// Which tables of the two layouts a database has.
 #[derive(Clone, Copy, Debug)]

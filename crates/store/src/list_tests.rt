@@ -1,4 +1,4 @@
-//! What no clause can say: that rows are listed where nothing fails.
+//! What no clause says: that rows are listed if nothing fails.
 
 ghost use Rattle.std.specs.Prelude.{◌≡◌, false};
 
@@ -43,7 +43,7 @@ fn counts(
     Ok(counts)
 }
 
-/// Rows that were put in in another order.
+/// Rows that were inserted in another order.
 #[test]
 fn lists(rt: HostRuntime) -> Result<(), Fail> {
     let alloc = rt.alloc();

@@ -1,4 +1,4 @@
-//! The rows that a store holds, in order.
+//! Listing the rows of a store in order.
 
 ghost use Rattle.std.specs.Prelude.{◌≡◌, ℕ, pos, true, false, None, Err, IfOk, OnOk, MatchBool, MatchOption, IsPermutation, drop, List as Sequence};
 ghost use Rattle.sqlite.specs.State.{HasCleanDisk, Survives, IsUnchanged};
@@ -24,17 +24,18 @@ use sqlite::{Alter, Connection, Error, ErrorCode, Row};
 use std::alloc::Global;
 use std::cmp::Ordering;
 
-/// A row that a store holds, and how often.
+/// A row that a store holds, with the number of its copies.
 #[derive(Debug, Drop)]
 pub struct Listed {
     pub schema: Vec<u8>,
     pub table: Vec<u8>,
     pub image: Image,
-    /// From 1 to 2^63 - 1.
+    /// The number of copies, from 1 to 2^63 - 1.
     pub count: u64,
 }
 
-/// The rows that a store holds, each once, in ascending order of the bytes of schema, table and image.
+/// The rows that a store holds, each once, in ascending order of the bytes of schema, table and image. It keeps them in
+/// memory.
 #[derive(Debug, Drop)]
 pub struct List {
     pub(crate) rows: Vec<Row>,
@@ -42,7 +43,7 @@ pub struct List {
     pub(crate) alloc: Global,
 }
 
-/// What a row of `held` is found by.
+/// The key of a row of `held`.
 fn key_at(row: &Row) -> Option<RowKey<'_>>
     ensures { MatchOption result ((key : Key) → ¬ HasKey key row.now) (λ key. HasKey (key_in key) row.now) }
 {
@@ -62,7 +63,7 @@ fn key_at(row: &Row) -> Option<RowKey<'_>>
     })
 }
 
-/// How two keys compare.
+/// Compares two keys.
 fn compare(a: &RowKey<'_>, b: &RowKey<'_>) -> Ordering
     ensures { result ≡ key_cmp (key_in a.now) (key_in b.now) }
 {
@@ -75,7 +76,7 @@ fn compare(a: &RowKey<'_>, b: &RowKey<'_>) -> Ordering
     }
 }
 
-/// Whether a key is above the last one, where there is one.
+/// Whether a key is above the last one, if there is one.
 fn is_above(last: &Option<RowKey<'_>>, key: &RowKey<'_>) -> bool
     ensures { MatchBool result (IsAbove (key_found last.now) (key_in key.now)) (¬ IsAbove (key_found last.now) (key_in key.now)) }
 {
@@ -102,7 +103,8 @@ fn ascend(rows: &[Row]) -> bool
     true
 }
 
-/// The rows of `held` in the order of their keys. No file that the crate opens has them in another.
+/// The rows of `held` in the order of their keys. In no file that the `sqlite` crate opens do they come in another
+/// order.
 fn rows_in_order<S: Alter>(conn: &mut Connection<S>) -> Result<Vec<Row>, Error>
     requires { conn.old.in_transaction ≡ false }
     ensures autocommit { conn.new.in_transaction ≡ false }
@@ -136,7 +138,7 @@ fn count_at(row: &Row) -> Option<u64>
     }
 }
 
-/// What a row of `held` says. The only refusal of such a row is `Memory`.
+/// The row that a row of `held` stores. The only error for such a row is `Memory`.
 fn listed_in(alloc: Global, row: &Row) -> Result<Listed, StoreFault>
     ensures { (entry : Entry) → shown_entry entry ≡ drop 1 row.now → HasImage entry.0.cells → Gives entry result }
 {
@@ -161,7 +163,7 @@ fn listed_in(alloc: Global, row: &Row) -> Result<Listed, StoreFault>
 }
 
 impl List {
-    /// The next row, or none behind the last. The only fault is `Memory`, which ends the list.
+    /// The next row, or `None` after the last one. The only error is `Memory`, which ends the list.
     pub fn next(&mut self) -> Result<Option<Listed>, StoreFault>
         ensures { (entries : Sequence Entry) → IsToCome self.old entries → Hands entries self.new result }
     {
@@ -182,11 +184,11 @@ impl List {
 }
 
 impl<S: Alter> Store<S> {
-    /// The rows, each once with the number of its copies, in ascending order of the bytes of schema, table and image.
-    /// Nothing changes, and the store can be used further after each fault but `Broken`.
+    /// All rows, each once with the number of its copies, in ascending order of the bytes of schema, table and image.
+    /// Nothing changes, and the store can be used further.
     ///
-    /// The faults: `Database` where the database failed, `Broken` after an earlier failure of `apply`. The list holds
-    /// the table's rows in memory.
+    /// The faults: `Database` if the database failed, and `Broken` after an earlier failure of `apply`. The list keeps
+    /// the rows in memory.
     pub fn list(&mut self) -> Result<List, StoreFault>
         ensures lists { HasCleanDisk (database S.Store self.new) → (content : Content) → Holds S.Store self.old content → Lists S.Store content self.new result }
         ensures broken { IsBroken S.Store self.old → (result ≡ Err Broken) × (self.new ≡ self.old) }

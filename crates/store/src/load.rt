@@ -1,4 +1,4 @@
-//! Reading the tables when a database is opened.
+//! Reading the tables of a database that is opened.
 
 ghost use Rattle.std.specs.Prelude.{◌≡◌, ℕ, ℤ, false, pos, map, IfOk, IfErr, OnOk, MatchOption, IsPermutation};
 ghost use Rattle.std.specs.List.{AllByRecursion, IsDistinct};
@@ -17,14 +17,14 @@ use gtid::GtidSet;
 use sqlite::{Alter, Connection, Error, Row};
 use std::alloc::Global;
 
-/// What the rows of a database of layout 2 stand for, in memory.
+/// What the rows of a database of layout 2 stand for.
 #[derive(Debug, Drop)]
 pub(crate) struct Loaded {
     pub(crate) executed: GtidSet,
     pub(crate) following: Follow,
 }
 
-/// All rows of a table, by a text that asks for them.
+/// All rows of a table, read by this statement.
 pub(crate) fn read_all<S: Alter>(conn: &mut Connection<S>, sql: &str) -> Result<Vec<Row>, Error>
     requires { conn.old.in_transaction ≡ false }
     ensures autocommit { conn.new.in_transaction ≡ false }
@@ -33,12 +33,12 @@ pub(crate) fn read_all<S: Alter>(conn: &mut Connection<S>, sql: &str) -> Result<
     ensures rested { HasCleanDisk (state S.Store conn.new) → (tree : ℕ) → AsksAll (state S.Store conn.old).now.schema sql.now tree → Rested (state S.Store conn.old) (state S.Store conn.new) }
     ensures crash { Survives (state S.Store conn.old) (state S.Store conn.new) (λ _. (tree : ℕ) → ¬ AsksAll (state S.Store conn.old).now.schema sql.now tree) }
 {
+    // For the prover: it names the schema in the proof. The call does nothing at run time.
     conn.schema();
     conn.query_all(sql, &[])
 }
 
-/// The layout that `meta` says. None where it has not exactly one row of the key `layout`, or another value there
-/// than a whole number.
+/// The layout number in `meta`. `None` unless exactly one row has the key `layout`, with a whole number.
 pub(crate) fn layout_of<S: Alter>(conn: &mut Connection<S>) -> Result<Option<i64>, Error>
     requires { conn.old.in_transaction ≡ false }
     ensures autocommit { conn.new.in_transaction ≡ false }
@@ -51,7 +51,7 @@ pub(crate) fn layout_of<S: Alter>(conn: &mut Connection<S>) -> Result<Option<i64
     layout_in(&rows)
 }
 
-/// Judges the rows of `meta`.
+/// Checks the rows of `meta`.
 fn load_meta<S: Alter>(conn: &mut Connection<S>) -> Result<(), StoreFault>
     requires { conn.old.in_transaction ≡ false }
     ensures autocommit { conn.new.in_transaction ≡ false }
@@ -65,7 +65,7 @@ fn load_meta<S: Alter>(conn: &mut Connection<S>) -> Result<(), StoreFault>
     judge_meta(&rows)
 }
 
-/// Judges the rows of `held`.
+/// Checks the rows of `held`.
 fn load_held<S: Alter>(alloc: Global, conn: &mut Connection<S>) -> Result<(), StoreFault>
     requires { conn.old.in_transaction ≡ false }
     ensures autocommit { conn.new.in_transaction ≡ false }
@@ -133,7 +133,7 @@ fn load_executed<S: Alter>(alloc: Global, conn: &mut Connection<S>) -> Result<Gt
     executed_from(alloc, &rows)
 }
 
-/// What the rows of a database of layout 2 stand for. `Damaged` says that they break its rules; the other refusals are
+/// What the rows of a database of layout 2 stand for. `Damaged` if they break its rules; the other errors are
 /// `Database` and `Memory`.
 pub(crate) fn load<S: Alter>(alloc: Global, conn: &mut Connection<S>) -> Result<Loaded, StoreFault>
     requires { conn.old.in_transaction ≡ false }
@@ -155,7 +155,7 @@ pub(crate) fn load<S: Alter>(alloc: Global, conn: &mut Connection<S>) -> Result<
     })
 }
 
-/// The same of layout 1, whose executed transactions it answers.
+/// As `load`, for layout 1: the executed set.
 pub(crate) fn load_first<S: Alter>(
     alloc: Global,
     conn: &mut Connection<S>,

@@ -77,7 +77,7 @@ fn make_tables<S: Alter>(tx: &mut Transaction<'_, S>) -> Result<(), Error>
     Ok(())
 }
 
-/// Says that the tables are of layout 2.
+/// Records that the tables have layout 2.
 fn set_layout<S: Alter>(tx: &mut Transaction<'_, S>) -> Result<usize, Error>
     ensures same_reference { tx.new.conn.ghost_name ≡ tx.old.conn.ghost_name }
     ensures made { HasCleanDisk (state S.Store tx.new.conn.now) → IsMaking new_layout (state S.Store tx.old.conn.now) → OnOk result (IsNaming set.empty (state S.Store tx.new.conn.now)) }
@@ -87,7 +87,7 @@ fn set_layout<S: Alter>(tx: &mut Transaction<'_, S>) -> Result<usize, Error>
     tx.execute("INSERT INTO meta VALUES ('layout', 2)", &[])
 }
 
-/// Puts in the name of a table that is followed.
+/// Inserts the name of a table that is followed.
 fn add_name<S: Alter>(
     tx: &mut Transaction<'_, S>,
     schema: &[u8],
@@ -104,7 +104,7 @@ fn add_name<S: Alter>(
     )
 }
 
-/// Puts in the names of the tables that are followed.
+/// Inserts the names of the tables that are followed.
 fn add_names<S: Alter>(
     tx: &mut Transaction<'_, S>,
     names: &[(Vec<u8>, Vec<u8>)],

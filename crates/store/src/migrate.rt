@@ -1,4 +1,4 @@
-//! From layout 1 to layout 2.
+//! Migration from layout 1 to layout 2.
 
 ghost use Rattle.std.specs.Prelude.{◌≡◌, false, pos, [], ◌∷◌, OnOk, OnErr};
 ghost use Rattle.sqlite.specs.State.{HasCleanDisk, Survives, KeepsCommit};
@@ -49,7 +49,7 @@ fn make_follow<S: Alter>(tx: &mut Transaction<'_, S>) -> Result<usize, Error>
     )
 }
 
-/// Says that the tables are of layout 2. Other rows of `meta` stay.
+/// Records that the tables have layout 2. Other rows of `meta` stay.
 fn raise_layout<S: Alter>(tx: &mut Transaction<'_, S>) -> Result<usize, Error>
     ensures same_reference { tx.new.conn.ghost_name ≡ tx.old.conn.ghost_name }
     ensures migrated { HasCleanDisk (state S.Store tx.new.conn.now) → (content : Content) → IsMigrating migrated_layout (pos 1) (6 ∷ 8 ∷ []) content (state S.Store tx.old.conn.now) → OnOk result (IsMigrating migrated_layout (pos 2) (6 ∷ 8 ∷ []) content (state S.Store tx.new.conn.now)) }
@@ -59,7 +59,7 @@ fn raise_layout<S: Alter>(tx: &mut Transaction<'_, S>) -> Result<usize, Error>
     tx.execute("UPDATE meta SET v = 2 WHERE k = 'layout'", &[])
 }
 
-/// Makes the tables those of layout 2, with no spans yet.
+/// Changes the tables to those of layout 2, without spans.
 fn change_tables<S: Alter>(tx: &mut Transaction<'_, S>) -> Result<(), Error>
     ensures same_reference { tx.new.conn.ghost_name ≡ tx.old.conn.ghost_name }
     ensures migrated { HasCleanDisk (state S.Store tx.new.conn.now) → (content : Content) → IsMigrating first_layout (pos 1) [] content (state S.Store tx.old.conn.now) → OnOk result (IsMigrating migrated_layout (pos 2) (6 ∷ 8 ∷ []) content (state S.Store tx.new.conn.now)) }
@@ -75,7 +75,7 @@ fn change_tables<S: Alter>(tx: &mut Transaction<'_, S>) -> Result<(), Error>
 
 const END: u64 = 9_223_372_036_854_775_808;
 
-/// Puts in a span. One that the column cannot hold is refused.
+/// Inserts a span. One that the columns cannot hold is refused.
 fn add<S: Alter>(tx: &mut Transaction<'_, S>, span: Span) -> Result<usize, Error>
     ensures same_reference { tx.new.conn.ghost_name ≡ tx.old.conn.ghost_name }
     ensures moves { HasCleanDisk (state S.Store tx.new.conn.now) → IsWorking (state S.Store tx.old.conn.now) → OnOk result (Moves (state S.Store tx.old.conn.now) (state S.Store tx.new.conn.now) (stored_span span ∷ shown_spans (span_rows (state S.Store tx.old.conn.now).now))) }
@@ -91,7 +91,7 @@ fn add<S: Alter>(tx: &mut Transaction<'_, S>, span: Span) -> Result<usize, Error
     add_span(tx, &span.source, span.lo as i64, span.hi as i64)
 }
 
-/// Puts in the spans.
+/// Inserts the spans.
 fn add_all<S: Alter>(tx: &mut Transaction<'_, S>, spans: Spans<'_>) -> Result<(), Error>
     ensures same_reference { tx.new.conn.ghost_name ≡ tx.old.conn.ghost_name }
     ensures moves { HasCleanDisk (state S.Store tx.new.conn.now) → IsWorking (state S.Store tx.old.conn.now) → OnOk result (HasLeft (state S.Store tx.old.conn.now) (state S.Store tx.new.conn.now) spans.entry []) }
@@ -104,7 +104,7 @@ fn add_all<S: Alter>(tx: &mut Transaction<'_, S>, spans: Spans<'_>) -> Result<()
     Ok(())
 }
 
-/// Makes the tables those of layout 2, with the spans of the set.
+/// Changes the tables to those of layout 2, with the spans of the set.
 fn convert<S: Alter>(tx: &mut Transaction<'_, S>, executed: &GtidSet) -> Result<(), Error>
     ensures same_reference { tx.new.conn.ghost_name ≡ tx.old.conn.ghost_name }
     ensures made { HasCleanDisk (state S.Store tx.new.conn.now) → (content : Content) → IsFirstInside content (state S.Store tx.old.conn.now) → executed.now ≡ content.executed → OnOk result (HasMade (state S.Store tx.new.conn.now) all content) }
@@ -116,7 +116,7 @@ fn convert<S: Alter>(tx: &mut Transaction<'_, S>, executed: &GtidSet) -> Result<
     add_all(tx, executed.spans())
 }
 
-/// Makes a database of layout 1, whose executed transactions are the set, one of layout 2, or leaves it as it is.
+/// Migrates a database of layout 1, whose executed set is given, to layout 2; or leaves it as it is.
 pub(crate) fn migrate<S: Alter>(conn: &mut Connection<S>, executed: &GtidSet) -> Result<(), Error>
     requires { conn.old.in_transaction ≡ false }
     ensures autocommit { conn.new.in_transaction ≡ false }

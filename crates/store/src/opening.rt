@@ -22,7 +22,7 @@ use sqlite::{Alter, Connection};
 use sqlite_schema::schema::Schema;
 use std::alloc::Global;
 
-/// Looks which tables are there.
+/// Which tables of the layouts the schema has.
 fn tables_of(schema: &Schema) -> Tables
     ensures { result ≡ tables_of schema.now }
 {
@@ -46,7 +46,7 @@ fn copy(alloc: Global, follow: &Follow) -> Result<Follow, StoreFault>
     }
 }
 
-/// Whether these names are not those that are asked for.
+/// Whether these names differ from `only`. If `any`, all names will do.
 fn differs(following: &Follow, any: bool, only: &Follow) -> bool
     ensures other { IsTrue result → (any ≡ false) × (following.now ≢ only.now) }
     ensures wanted { result ≡ false → IsWanted any only.now following.now }
@@ -127,14 +127,14 @@ fn enter_second<S: Alter>(
     Ok(loaded)
 }
 
-/// Whether all of layout 1 are there, beside `meta`.
+/// Whether all tables of layout 1 are there, besides `meta`.
 fn has_first(tables: Tables) -> bool
     ensures { result ≡ has_first tables }
 {
     tables.executed && tables.held
 }
 
-/// Whether all of layout 2 are there, beside `meta`.
+/// Whether all tables of layout 2 are there, besides `meta`.
 fn has_second(tables: Tables) -> bool
     ensures { result ≡ has_second tables }
 {
@@ -173,7 +173,8 @@ fn enter_old<S: Alter>(
     }
 }
 
-/// Opens a database, and answers what its rows stand for.
+/// Opens a database, and returns what its rows stand for. `any` accepts any list of tables, otherwise it must be
+/// `only`.
 fn enter<S: Alter>(
     alloc: Global,
     conn: &mut Connection<S>,
@@ -204,7 +205,7 @@ fn has_any(tables: Tables) -> bool
     tables.meta || (tables.executed || (tables.held || (tables.spans || tables.follow)))
 }
 
-/// The same, with a store that owns the connection.
+/// Like `enter`, with a store that owns the connection.
 fn open_with<S: Alter>(
     alloc: Global,
     mut conn: Connection<S>,
@@ -238,15 +239,16 @@ fn open_with<S: Alter>(
 }
 
 impl<S: Alter> Store<S> {
-    /// Opens a database, with the list of tables that it was made for. A new database, which has none of the tables, gets
-    /// them in one transaction, and is made for all tables. One of layout 1 is migrated in one transaction.
+    /// Opens a database with the list of tables that it was made for. A new database, which has none of the store's
+    /// tables, gets them in one transaction, and is made for all tables. A database of layout 1 is migrated in one
+    /// transaction.
     ///
-    /// The faults, which hand the connection back and change nothing:
-    /// - `Damaged` where a table is missing, or the rows break the rules of their layout.
-    /// - `Layout` where the tables are of another layout than 1 and 2.
-    /// - `Database` where the database failed, and `Memory` where an allocation was refused.
+    /// Each fault comes with the connection. If that is still open, the database is as it was.
+    /// - `Damaged` if a table is missing, or the rows break the rules of their layout.
+    /// - `Layout` if the tables have another layout than 1 and 2.
+    /// - `Database` if the database failed, and `Memory` if an allocation was refused.
     ///
-    /// The connection is in no transaction: `is_autocommit` tells.
+    /// The connection must be in autocommit mode (see `is_autocommit`).
     pub fn open(alloc: Global, conn: Connection<S>) -> Result<Store<S>, (StoreFault, Connection<S>)>
         requires { conn.in_transaction ≡ false }
         ensures opens { IfOk result (λ store. HasCleanDisk (database S.Store store) → IsReady (state S.Store conn) → Opens S.Store true all (state S.Store conn) store) }
@@ -260,8 +262,9 @@ impl<S: Alter> Store<S> {
         open_with(alloc, conn, true, &only)
     }
 
-    /// The same for a list of tables. A new database is made for these. Another one has to be made for the same list,
-    /// where layout 1 counts as all tables; else the fault is `Follows`, which is told behind `Damaged` and `Layout`.
+    /// Like [`Store::open`], with a list of tables, for which a new database is made. An existing database must have
+    /// been made for the same list, which for layout 1 is all tables; otherwise the fault is `Follows`. `Damaged` and
+    /// `Layout` are reported before `Follows`.
     pub fn open_only(
         alloc: Global,
         conn: Connection<S>,

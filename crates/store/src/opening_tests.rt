@@ -44,7 +44,7 @@ fn other(alloc: Global) -> Result<Store<MemStore>, Fail> {
     }
 }
 
-/// Takes transactions whose changes of shop.items are passed over.
+/// Applies transactions whose changes of shop.items are skipped.
 fn pass_over(rt: &impl Abort, alloc: Global, store: &mut Store<MemStore>) -> Result<(), Fail> {
     let done = Ok(Applied::Done);
     for (number, letters, want, rows) in [
@@ -79,7 +79,7 @@ fn is_following(alloc: Global, store: &Store<MemStore>, letters: &str) -> Result
     Ok(store.following().is_same(&names))
 }
 
-/// Opens a database by `open`, and tells whether it follows these tables.
+/// Opens a database with `open`, and returns whether it follows these tables.
 fn keeps(
     alloc: Global,
     conn: Connection<MemStore>,
@@ -127,7 +127,7 @@ fn all_tables_are_the_empty_list(rt: HostRuntime) -> Result<(), Fail> {
 
 // ---- damage
 
-/// Takes the transactions of `second`.
+/// Applies the transactions of `second`.
 fn begin(alloc: Global, store: &mut Store<MemStore>) -> Result<(), Fail> {
     take(alloc, store, 1, "+po")??;
     take(alloc, store, 3, "+")??;
@@ -253,7 +253,7 @@ fn held_is_judged(rt: HostRuntime) -> Result<(), Fail> {
     Ok(())
 }
 
-/// The table `spans`, whose rows are (A, 1, 2) and (A, 3, 4) before.
+/// The table `spans`, whose rows are (A, 1, 2) and (A, 3, 4) at first.
 #[test]
 fn spans_are_judged(rt: HostRuntime) -> Result<(), Fail> {
     for (sql, want) in [
@@ -361,7 +361,7 @@ fn executed_is_judged(rt: HostRuntime) -> Result<(), Fail> {
     Ok(())
 }
 
-/// A table of a layout where `meta` is missing.
+/// A table of a layout, without `meta`.
 #[test]
 fn tables_need_meta(rt: HostRuntime) -> Result<(), Fail> {
     let alloc = rt.alloc();
@@ -379,7 +379,7 @@ fn tables_need_meta(rt: HostRuntime) -> Result<(), Fail> {
     Ok(())
 }
 
-/// Another list is told behind damage and behind another layout.
+/// Another list is reported only if there is no damage and no other layout.
 #[test]
 fn damage_is_told_before_another_list(rt: HostRuntime) -> Result<(), Fail> {
     let alloc = rt.alloc();
@@ -438,7 +438,7 @@ fn layout_1_is_migrated(rt: HostRuntime) -> Result<(), Fail> {
     checked
 }
 
-/// Layout 1 follows all tables, and another list stops its migration.
+/// Layout 1 follows all tables, and another list prevents its migration.
 #[test]
 fn layout_1_follows_all(rt: HostRuntime) -> Result<(), Fail> {
     let alloc = rt.alloc();

@@ -1,4 +1,4 @@
-//! One row of `held` at a time, inside a transaction.
+//! Statements on single rows of the table `held`, inside a transaction.
 
 ghost use Rattle.std.specs.Prelude.{◌≡◌, ◌+◌, ◌<◌, ◌≤◌, ◌^◌, pos, ℕ, IfOk, IfSome, OnOk, IsPermutation, map, filter, [], ◌∷◌, Some};
 ghost use Rattle.sqlite.specs.State.{HasCleanDisk, Survives, KeepsCommit, IsUnchanged};
@@ -11,7 +11,7 @@ ghost use Rattle.store.specs.Inside.{IsWorking, Holds};
 use sqlite::types::ValueRef;
 use sqlite::{Alter, Error, Row, Transaction};
 
-/// What a row of `held` is found by: the names of schema and table, and the stored image.
+/// The key of a row of `held`: the names of schema and table, and the stored image.
 #[derive(Clone, Copy)]
 pub(crate) struct RowKey<'a> {
     pub(crate) schema: &'a [u8],
@@ -19,7 +19,7 @@ pub(crate) struct RowKey<'a> {
     pub(crate) image: &'a [u8],
 }
 
-/// The counts that are stored for a row.
+/// The rows with the count of a key: one, or none.
 fn look_up<S: Alter>(tx: &mut Transaction<'_, S>, row: &RowKey<'_>) -> Result<Vec<Row>, Error>
     ensures same_reference { tx.new.conn.ghost_name ≡ tx.old.conn.ghost_name }
     ensures shown { HasCleanDisk (state S.Store tx.new.conn.now) → IsWorking (state S.Store tx.old.conn.now) → IfOk result (λ rows. IsPermutation (map (λ r. column r 4 ∷ []) (filter (is_at (key_in row.now)) (held_rows (state S.Store tx.old.conn.now).now))) rows.items) }
@@ -37,7 +37,7 @@ fn look_up<S: Alter>(tx: &mut Transaction<'_, S>, row: &RowKey<'_>) -> Result<Ve
     )
 }
 
-/// The one count among the rows of an answer.
+/// The count in the rows of an answer, of which there is at most one.
 pub(crate) fn one_count(rows: &[Row]) -> Result<Option<u64>, Error>
     ensures is { IfOk result (IsCount rows.now) }
     ensures fits { IfOk result (λ found. IfSome found (λ n. n < 2 ^ 63)) }
@@ -55,7 +55,7 @@ pub(crate) fn one_count(rows: &[Row]) -> Result<Option<u64>, Error>
     }
 }
 
-/// The count that is stored for a row.
+/// The count of a row, if it is there.
 pub(crate) fn read<S: Alter>(
     tx: &mut Transaction<'_, S>,
     row: &RowKey<'_>,
@@ -71,7 +71,7 @@ pub(crate) fn read<S: Alter>(
     one_count(rows.as_slice())
 }
 
-/// Puts in a row that is there once.
+/// Inserts a row with the count 1.
 pub(crate) fn insert<S: Alter>(
     tx: &mut Transaction<'_, S>,
     row: &RowKey<'_>,
@@ -91,7 +91,7 @@ pub(crate) fn insert<S: Alter>(
     )
 }
 
-/// Sets the count of a row that is there.
+/// Sets the count of a row.
 pub(crate) fn update<S: Alter>(
     tx: &mut Transaction<'_, S>,
     row: &RowKey<'_>,
@@ -114,7 +114,7 @@ pub(crate) fn update<S: Alter>(
     )
 }
 
-/// Takes out a row that is there once.
+/// Deletes a row whose count is 1.
 pub(crate) fn delete<S: Alter>(
     tx: &mut Transaction<'_, S>,
     row: &RowKey<'_>,

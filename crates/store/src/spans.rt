@@ -1,4 +1,4 @@
-//! One row of `spans` at a time, inside a transaction.
+//! Statements on single rows of the table `spans`, inside a transaction.
 
 ghost use Rattle.std.specs.Prelude.{◌≡◌, ◌<◌, ◌^◌, false, pos, List, OnOk, IsPermutation, [], ◌∷◌};
 ghost use Rattle.sqlite.specs.State.{HasCleanDisk, Survives, KeepsCommit};
@@ -16,7 +16,7 @@ use gtid::Gtid;
 use sqlite::types::ValueRef;
 use sqlite::{Alter, Error, Transaction};
 
-/// Puts in a span that ends before `hi`.
+/// Inserts the span from `lo` up to but not including `hi`.
 pub(crate) fn add_span<S: Alter>(
     tx: &mut Transaction<'_, S>,
     source: &[u8],
@@ -34,7 +34,7 @@ pub(crate) fn add_span<S: Alter>(
     )
 }
 
-/// Takes out the span that begins with `lo`.
+/// Deletes the span that begins at `lo`.
 pub(crate) fn drop_span<S: Alter>(
     tx: &mut Transaction<'_, S>,
     source: &[u8],
@@ -52,7 +52,7 @@ pub(crate) fn drop_span<S: Alter>(
     )
 }
 
-/// Takes out the span that begins with `lo`, where there is one.
+/// Deletes the span that begins at `lo`, if there is one.
 fn drop_if<S: Alter>(
     tx: &mut Transaction<'_, S>,
     source: &[u8],
@@ -72,7 +72,8 @@ fn drop_if<S: Alter>(
     Ok(())
 }
 
-/// Puts in a span, in place of the one that begins with it and the one that begins at `next`, where they are there.
+/// Inserts the span from `lo` up to but not including `hi`. It replaces the span that begins at `lo`, if `before`, and
+/// the one that begins at `next`, if `after`.
 fn put_span<S: Alter>(
     tx: &mut Transaction<'_, S>,
     source: &[u8],
@@ -96,7 +97,8 @@ fn put_span<S: Alter>(
     add_span(tx, source, lo as i64, hi as i64)
 }
 
-/// The spans of a source that touch a number: where the one before it begins, and where the one behind it ends.
+/// The neighbours of a number: where the span begins that ends just before it, and where the span ends that begins just
+/// after it.
 #[derive(Clone, Copy, Debug)]
 pub(crate) struct Beside {
     pub(crate) before: Option<u64>,
@@ -105,21 +107,21 @@ pub(crate) struct Beside {
 
 const END: u64 = 9_223_372_036_854_775_808;
 
-/// What the type of a source says.
+/// For the prover: a source has sixteen bytes, each below 256. It does nothing at run time.
 pub(crate) fn is_source(source: [u8; 16])
     ensures { IsSource source }
 {
     are_bytes(&source);
 }
 
-/// What the type of bytes says.
+/// For the prover: each item of a byte slice is below 256. It does nothing at run time.
 fn are_bytes(bytes: &[u8])
     ensures { AllByRecursion (λ b. b < 256) bytes.now }
 {
     let _len = bytes.len();
 }
 
-/// Records a transaction: the spans beside it and its number become one span.
+/// Records a GTID: its number and the spans next to it become one span.
 pub(crate) fn record<S: Alter>(
     tx: &mut Transaction<'_, S>,
     gtid: Gtid,

@@ -1,4 +1,5 @@
-//! Stops: each call of a disk in turn is the first that fails, then the disks crash and are opened again.
+//! Failures: each call of a disk in turn is the first that fails, then the disks crash and the database is opened
+//! again.
 
 use crate::fixtures::{attempt, batch, count_of, counts, dump, executed, item, open, take};
 use crate::{Applied, Store, StoreFault};
@@ -18,7 +19,7 @@ const OPTIONS: Options = Options {
     seed: 1,
 };
 
-/// What is stopped: a transaction of three changes, making a database with a list, or a migration.
+/// What is interrupted: a transaction of three changes, making a database with a list, or a migration.
 #[derive(Clone, Copy)]
 enum Job {
     Take,
@@ -56,7 +57,7 @@ fn connect<D: Disk + Drop>(
     }
 }
 
-/// Takes one transaction on a new database.
+/// Applies one transaction to a new database.
 fn begin(
     alloc: Global,
     conn: Connection<FileStore<Memory>>,
@@ -84,7 +85,7 @@ fn before(alloc: Global, job: Job) -> Result<Files<Memory>, Fail> {
     }
 }
 
-/// The files of a connection that ends.
+/// The files of a connection, which is ended.
 fn finished(conn: Connection<FileStore<Memory>>) -> Result<Files<Memory>, Fail> {
     match conn.close_files() {
         Ok(files) => Ok(files),
@@ -100,7 +101,7 @@ fn only(job: Job) -> Option<&'static str> {
     }
 }
 
-/// Whether a store takes nothing more, and still tells what was executed.
+/// Whether a store has failed, and still answers its executed set.
 fn is_broken(alloc: Global, store: &mut Store<FileStore<Fused>>) -> Result<bool, Fail> {
     let again = take(alloc, store, 1, "")?;
     let held = count_of(store, b'i', &item(alloc, 7, b"ab")?);
@@ -108,7 +109,7 @@ fn is_broken(alloc: Global, store: &mut Store<FileStore<Fused>>) -> Result<bool,
     Ok(again == Err(StoreFault::Broken) && held == Err(StoreFault::Broken) && set.as_str() == "2")
 }
 
-/// Gives the transaction to a store. A failure leaves it broken.
+/// Applies the transaction to a store. If that fails, the store has failed.
 fn give(alloc: Global, store: &mut Store<FileStore<Fused>>) -> Result<bool, Fail> {
     if take(alloc, store, 1, "p-=")? == Ok(Applied::Done) {
         return Ok(true);
@@ -119,7 +120,7 @@ fn give(alloc: Global, store: &mut Store<FileStore<Fused>>) -> Result<bool, Fail
     Ok(false)
 }
 
-/// Does what is left of the job on an open store, and tells whether it was done.
+/// Does the rest of the job on an open store, and returns whether it was done.
 fn finish(alloc: Global, job: Job, store: &mut Store<FileStore<Fused>>) -> Result<bool, Fail> {
     match job {
         Job::Take => give(alloc, store),
@@ -127,7 +128,7 @@ fn finish(alloc: Global, job: Job, store: &mut Store<FileStore<Fused>>) -> Resul
     }
 }
 
-/// Does the job, and gives the files back with no further call.
+/// Does the job, and returns the files without any further call.
 fn run(
     alloc: Global,
     job: Job,
@@ -144,7 +145,7 @@ fn run(
     }
 }
 
-/// Does the job on disks of which one stops after so many calls, and then lets both crash.
+/// Does the job on disks of which one fails after this many calls, and then lets both crash.
 fn stop(
     alloc: Global,
     job: Job,
@@ -183,7 +184,7 @@ fn told(alloc: Global, store: &mut Store<FileStore<Fused>>) -> Result<(String, [
     Ok((set, counts(alloc, store)?))
 }
 
-/// Opens a database as the job does, and answers what the store shows, and the tables behind it.
+/// Opens a database as the job does, and returns what the store and then its tables show.
 fn reopen(
     alloc: Global,
     job: Job,
@@ -201,8 +202,8 @@ fn reopen(
     }
 }
 
-/// Stops the job after so many calls of one disk, and tells whether it was done. The tables are those before it or those
-/// after it. A list and a migration are made once the database is opened again.
+/// Interrupts the job after this many calls of one disk, and returns whether it was done. The tables are those before
+/// it or those after it. A database with a list, and a migration, are complete once the database is opened again.
 fn stop_at(
     rt: &impl Abort,
     alloc: Global,
@@ -236,7 +237,7 @@ fn both(alloc: Global, job: Job) -> Result<(String, String), Fail> {
     Ok((old, new))
 }
 
-/// Stops the job at each call of one disk, until it ends without a stop.
+/// Interrupts the job at each call of one disk, until it ends without a failure.
 fn stops(rt: &impl Abort, alloc: Global, job: Job, on_log: bool) -> Result<(), Fail> {
     let (old, new) = both(alloc, job)?;
     assert!(rt; old.as_str() != new.as_str());

@@ -22,7 +22,7 @@ use sqlite::Row;
 use std::alloc::Global;
 use std::cmp::Ordering;
 
-/// Whether rows are those of `meta`.
+/// Checks rows of `meta`.
 pub(crate) fn judge_meta(rows: &[Row]) -> Result<(), StoreFault>
     ensures judged { Judges result (λ _. AllByRecursion IsMetaRow rows.now × HasRowids rows.now) (AllByRecursion IsMetaRow rows.now) }
     ensures fault { IfErr result IsLoadFault }
@@ -34,7 +34,7 @@ pub(crate) fn judge_meta(rows: &[Row]) -> Result<(), StoreFault>
     Ok(())
 }
 
-/// Whether rows are those of `held`.
+/// Checks rows of `held`.
 pub(crate) fn judge_held(alloc: Global, rows: &[Row]) -> Result<(), StoreFault>
     ensures judged { Judges result (λ _. AllByRecursion IsHeldRow rows.now × HasRowids rows.now) (AllByRecursion IsHeldRow rows.now) }
     ensures fault { IfErr result IsLoadFault }
@@ -46,7 +46,7 @@ pub(crate) fn judge_held(alloc: Global, rows: &[Row]) -> Result<(), StoreFault>
     Ok(())
 }
 
-/// The names of the rows of `follow`.
+/// The list of tables in the rows of `follow`.
 pub(crate) fn follow_from(alloc: Global, rows: &[Row]) -> Result<Follow, StoreFault>
     ensures judged { Judges result (AreNames rows.now) (AllByRecursion IsFollowRow rows.now) }
     ensures fault { IfErr result IsLoadFault }
@@ -60,7 +60,7 @@ pub(crate) fn follow_from(alloc: Global, rows: &[Row]) -> Result<Follow, StoreFa
     }
 }
 
-/// How two spans compare by where they begin.
+/// Compares two spans by where they begin.
 fn order(a: &Span, b: &Span) -> Ordering
     ensures { result ≡ id_cmp (start a.now) (start b.now) }
 {
@@ -70,7 +70,7 @@ fn order(a: &Span, b: &Span) -> Ordering
     a.source.cmp(&b.source)
 }
 
-/// The spans in the order in which they begin.
+/// Sorts the spans by where they begin.
 fn in_order(spans: Vec<Span>) -> Vec<Span>
     ensures same { IsPermutation spans.items result.items }
     ensures rise { Rise result.items }
@@ -80,7 +80,7 @@ fn in_order(spans: Vec<Span>) -> Vec<Span>
     spans
 }
 
-/// Whether a span touches or overlaps the last one, where there is one.
+/// Whether a span touches or overlaps the last one, if there is one.
 fn touches_last(last: Option<Span>, span: &Span) -> bool
     ensures { result ≡ touches_last last span.now }
 {
@@ -90,7 +90,7 @@ fn touches_last(last: Option<Span>, span: &Span) -> bool
     }
 }
 
-/// Whether no two neighbours touch or overlap.
+/// Whether no two consecutive spans touch or overlap.
 fn are_apart(spans: &[Span]) -> bool
     ensures { result ≡ apart_from None spans.now }
 {
@@ -104,7 +104,7 @@ fn are_apart(spans: &[Span]) -> bool
     true
 }
 
-/// The set of the spans, where no two overlap or touch.
+/// The set of the spans. `Damaged` if two overlap or touch.
 fn set_of(alloc: Global, spans: Vec<Span>) -> Result<GtidSet, StoreFault>
     requires { AllByRecursion IsLawfulSpan spans.items }
     ensures judged { Judges result (Covers spans.items) (IsDistinct touches spans.items) }
@@ -118,7 +118,7 @@ fn set_of(alloc: Global, spans: Vec<Span>) -> Result<GtidSet, StoreFault>
     union_of(alloc, spans)
 }
 
-/// The set of the spans. The only refusal is `Memory`.
+/// The set of the spans. The only error is `Memory`.
 fn union_of(alloc: Global, spans: Vec<Span>) -> Result<GtidSet, StoreFault>
     requires { AllByRecursion IsLawfulSpan spans.items }
     ensures ok { IfOk result (Covers spans.items) }

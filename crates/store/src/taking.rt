@@ -1,4 +1,4 @@
-//! A transaction of the source taken by the store.
+//! Applying a transaction of the source.
 
 ghost use Rattle.std.specs.Prelude.{◌≡◌, ◌≢◌, true, false, Err, IsTrue};
 ghost use Rattle.std.specs.FinSet as set;
@@ -23,7 +23,7 @@ use gtid::GtidSet;
 use sqlite::{Alter, Connection};
 use std::mem;
 
-/// Tells a refusal, unless giving the transaction up has shut the connection.
+/// Reports a refused change, or the database error if rolling back closed the connection.
 fn refuse<S: Alter>(conn: &mut Connection<S>, at: usize, why: Refusal) -> StoreFault
     requires { conn.old.in_transaction ≡ false }
     ensures autocommit { conn.new.in_transaction ≡ false }
@@ -40,7 +40,7 @@ fn refuse<S: Alter>(conn: &mut Connection<S>, at: usize, why: Refusal) -> StoreF
     }
 }
 
-/// Takes a transaction that is not executed, and answers the set of those that are.
+/// Applies a transaction that is not in the executed set, and returns the set as it is then.
 fn take<S: Alter>(
     conn: &mut Connection<S>,
     follow: &Follow,
@@ -78,17 +78,18 @@ fn breaks(answer: &Result<Applied, StoreFault>) -> bool
 }
 
 impl<S: Alter> Store<S> {
-    /// Takes a transaction of the source: its changes in order and its GTID, all of it or nothing. Changes of tables
-    /// that are not followed are passed over.
+    /// Applies a transaction of the source: makes its changes in order and adds its GTID to the executed set, all or
+    /// nothing. Changes of tables that are not followed are skipped.
     ///
-    /// - `Done`: the changes are made and the transaction is executed.
-    /// - `Repeat`: it was executed before. No statement was run, and no memory was taken.
+    /// - `Done`: the changes were made, and the GTID was added.
+    /// - `Repeat`: the GTID was in the set already. No statement was run, and no memory was taken.
     ///
     /// The faults:
-    /// - `NoSuchRow` and `CountFull` name the first change that cannot be made. Nothing has changed, and the store can be
-    ///   used further.
-    /// - `Database` where the database failed, and `Memory` where an allocation was refused. The database is as before,
-    ///   and this call, `count` and `list` answer `Broken` from now on.
+    /// - `NoSuchRow` and `CountFull` have the index of the first change that cannot be made. Nothing has changed, and
+    ///   the store can be used further.
+    /// - `Database` if the database failed, and `Memory` if an allocation was refused. The executed set is as before,
+    ///   and so is the database if the connection is still open. From now on this call, `count` and `list` answer
+    ///   `Broken`. After `Database` a crash may leave the database with the transaction or without it.
     /// - `Broken` after one of these two.
     pub fn apply(&mut self, delivery: &Delivery) -> Result<Applied, StoreFault>
         ensures applies { HasCleanDisk (database S.Store self.new) → (content : Content) → Holds S.Store self.old content → Applies S.Store content (delivery_value delivery.now) self.old self.new result }

@@ -4,10 +4,10 @@
 //!     store_bench again ROWS FILE
 //!     store_bench open FILE
 //!
-//! `add` gives a new file transactions that insert so many rows each, no two of them alike. `again` gives a new file rows,
-//! a thousand in a transaction, takes all of them out in one transaction and puts them in again in one. `open` opens a
-//! file. Each prints the executed set. `bench/store.py` does the same with the C library, so that the two can be
-//! compared.
+//! `add` gives a new file transactions that insert this many rows each, all of them different. `again` gives a new file
+//! rows, a thousand in a transaction, then removes all of them in one transaction and inserts them again in another.
+//! `open` opens a file. Each prints the executed set. `bench/store.py` does the same with the C library, so that they
+//! can be compared.
 #![tactic(auto)]
 
 use binlog::{Cell, TableDef};
@@ -25,7 +25,7 @@ const SOURCE: [u8; 16] = *b"\x3e\x11\xfa\x47\x71\xca\x11\xe1\x9e\x33\xc8\x0a\xa9
 
 const TEXT: &[u8] = b"sixteen bytes...";
 
-/// How many rows a transaction of `again` puts in at first.
+/// How many rows a transaction of `again` inserts at first.
 const MANY: u64 = 1000;
 
 /// The table shop.items.
@@ -46,7 +46,7 @@ fn row(alloc: Global, value: u64) -> Result<Image, StoreFault> {
     }
 }
 
-/// Inserts of so many rows, from this number on.
+/// Inserts of this many rows, from this number on.
 fn inserts(
     alloc: Global,
     table: &Rc<TableDef>,
@@ -63,7 +63,7 @@ fn inserts(
     Ok(changes)
 }
 
-/// Deletes of so many rows, from 0 on.
+/// Deletes of this many rows, from 0 on.
 fn deletes(alloc: Global, table: &Rc<TableDef>, count: u64) -> Result<Vec<Change>, StoreFault> {
     let mut changes = Vec::new(alloc);
     for n in 0..count {
@@ -75,7 +75,7 @@ fn deletes(alloc: Global, table: &Rc<TableDef>, count: u64) -> Result<Vec<Change
     Ok(changes)
 }
 
-/// Gives the store the transaction of this number.
+/// Applies the transaction with this number to the store.
 fn give<S: Alter>(
     store: &mut Store<S>,
     number: u64,
@@ -88,7 +88,7 @@ fn give<S: Alter>(
     Ok(())
 }
 
-/// Gives the store so many transactions of so many inserts each.
+/// Applies this many transactions, of this many inserts each, to the store.
 fn add<S: Alter>(
     alloc: Global,
     store: &mut Store<S>,
@@ -108,7 +108,7 @@ fn add<S: Alter>(
     Ok(())
 }
 
-/// Gives the store rows, takes them out in one transaction, and puts them in again in one.
+/// Applies transactions to the store that insert rows, remove them all in one, and insert them again in another.
 fn again<S: Alter>(alloc: Global, store: &mut Store<S>, rows: u64) -> Result<(), StoreFault> {
     add(alloc, store, rows / MANY, MANY)?;
     let table = items(alloc)?;
@@ -122,7 +122,7 @@ fn again<S: Alter>(alloc: Global, store: &mut Store<S>, rows: u64) -> Result<(),
     )
 }
 
-/// What the words ask for.
+/// The arguments.
 #[derive(Clone, Copy)]
 enum Job<'a> {
     Add {
@@ -147,7 +147,7 @@ fn number(text: &str) -> Option<u64> {
     }
 }
 
-/// Reads the words.
+/// Reads the arguments.
 fn job_of(words: &[String]) -> Option<Job<'_>> {
     match words {
         [_, word, transactions, changes, file] if word.as_str() == "add" => Some(Job::Add {
@@ -197,7 +197,7 @@ fn text_of<S: Alter>(alloc: Global, store: &Store<S>) -> Result<String, StoreFau
     }
 }
 
-/// Does a job, and answers the text of the executed set.
+/// Does a job, and returns the text of the executed set.
 fn run(rt: &HostRuntime, job: &Job<'_>) -> Result<String, StoreFault> {
     let conn = Connection::open(rt, file_of(job))?;
     if !conn.is_autocommit() {
@@ -215,7 +215,7 @@ fn run(rt: &HostRuntime, job: &Job<'_>) -> Result<String, StoreFault> {
     text
 }
 
-/// Does what the words ask for, and tells whether that went well.
+/// Does what the arguments ask for, and returns whether that went well.
 fn run_words(rt: &HostRuntime) -> std::io::Result<bool> {
     let words: Vec<String> = env::args(rt)?.collect(rt.alloc())?;
     let Some(job) = job_of(words.as_slice()) else {

@@ -1,4 +1,4 @@
--- Full packets at the front of bytes, and what stands behind them.
+-- Full packets at the front of bytes, and what follows them.
 use Rattle.std.proofs.Common.{◌≡◌, ℕ, zero, suc, ◌+◌, ◌*◌, ◌/◌, ◌%◌, ◌<◌, ◌≤◌, ◌^◌, ◌⊎◌, List, [], ◌∷◌, ◌++◌, length, get_or, drop, refl, ap, sym, subst, ◌∙◌, append_assoc, arith, length-append, inl, inr}
 use Rattle.std.proofs.Math.Seq.{drop-append_seam}
 use Rattle.std.proofs.lemmas.List.{take-append-drop}
@@ -18,12 +18,12 @@ chain_of id [] rest full = refl
 chain_of id (p ∷ chunks) rest full =
     (p, packets (suc id) chunks ++ rest, append_assoc (packet id p) (packets (suc id) chunks) rest, full.0, chain_of (suc id) chunks rest full.1)
 
--- equal bytes that begin with packets of equal length go on equally
+-- equal bytes that begin with packets of equal length are equal after them
 same_others : (id : ℕ) (p q x y : List ℕ) → length p ≡ length q → packet id p ++ x ≡ packet id q ++ y → x ≡ y
 same_others id p q x y long same =
     sym (drop-append_seam (packet id p) x) ∙ (λ i. drop (suc (suc (suc (suc (long i))))) (same i)) ∙ drop-append_seam (packet id q) y
 
--- where n full packets stand, n + m of them are these and m behind them
+-- if n full packets are at the front, n + m of them are these and m after them
 pub chain_split : (id n m k j : ℕ) (bytes rest others : List ℕ) → Chain id n bytes rest → k ≡ n + m → j ≡ id + n → Chain id k bytes others → Chain j m rest others
 chain_split id zero m k j bytes rest others a is_k is_j b =
     let e : k ≡ m = omega arith in
@@ -48,7 +48,7 @@ peel id chunk others size got more fits sized same =
     let t = three_bytes (length chunk) fits in
     (omega (arith, a, b, c, s, t), sym (ap (λ l. get_or l 3 0) same), sym (ap (drop 4) same))
 
--- less than a packet: less than a header, or a header that is right and fewer bytes than it says
+-- less than a packet: less than a header, or a right header and fewer bytes than it announces
 abbrev pub IsOpen : ℕ → ℕ → List ℕ → Type 0
 IsOpen id room rest = (length rest < 4) ⊎ ((size : ℕ) × (body : List ℕ) × (rest ≡ little_bytes 3 size ++ id ∷ body) × (size ≤ room) × (size < 2 ^ 24) × (length body < size))
 
@@ -75,7 +75,7 @@ pub full_fits : (chunk : List ℕ) → IsFullChunk chunk → length chunk < 2 ^ 
 unfolding full_chunk
 full_fits chunk full = omega (arith, full)
 
--- the header stands where the open rest does, or before it
+-- the header is where the open rest is, or before it
 at_or_before : (due limit n room id : ℕ) (rest : List ℕ) → n * full_chunk + room ≡ limit → id ≡ (due + n) % 256 → IsOpen id room rest →
     (m size got : ℕ) (front more : List ℕ) → front ≡ little_bytes 3 size ++ got ∷ more → size < 2 ^ 24 →
     (d : ℕ) → n ≡ m + d → Chain (due + m) d front rest → IsRight due limit m size got more
@@ -91,7 +91,7 @@ at_or_before due limit n room id rest room_is id_is is_open m size got front mor
     let f : n * full_chunk ≡ (m + suc d) * full_chunk = ap (λ x. x * full_chunk) at in
     (e.1, omega (arith, e.0, full, f), inl (e.0 ∙ full))
 
--- no header stands behind the open rest
+-- no header is after the open rest
 none_behind : (id j room : ℕ) (rest front : List ℕ) (d : ℕ) → IsOpen id room rest → Chain j (suc d) rest front → ⊥
 none_behind id j room rest front d (inl short) (p, o, rest_is, full, behind) = omega (arith, ap length rest_is, short)
 none_behind id j room rest front d (inr (size, body, header, fits, sized, short)) (p, o, rest_is, full, behind) =
@@ -106,7 +106,7 @@ front_is_right due limit n room id bytes rest chain room_is id_is is_open m size
   | inr h ↦ absurd (none_behind id (due + n) room rest front h.0 is_open (chain_split due n (suc h.0) m (due + n) bytes rest front chain h.1 refl other))
 ]
 
--- full packets are behind, and the rest is ahead
+-- full packets have been read, and the rest is still to be read
 pub record Scanned (due limit : ℕ) (bytes rest : List ℕ) (full room id : ℕ) : Type 0 where
   pub chain : Chain due full bytes rest
   pub room_is : full * full_chunk + room ≡ limit

@@ -20,7 +20,7 @@ pub length-full_chunks : (n : ℕ) (xs : List ℕ) → length (full_chunks n xs)
 length-full_chunks zero xs = refl
 length-full_chunks (suc n) xs = ap suc (length-full_chunks n (drop full_chunk xs))
 
--- with the rest they are all
+-- full chunks and the rest after them are all the bytes
 pub concat-full_chunks : (n : ℕ) (xs : List ℕ) → concat (full_chunks n xs) ++ drop (n * full_chunk) xs ≡ xs
 concat-full_chunks zero xs = ap (λ k. drop k xs) (none full_chunk)
 concat-full_chunks (suc n) xs =
@@ -30,7 +30,7 @@ concat-full_chunks (suc n) xs =
     ∙ ap (λ r. take full_chunk xs ++ r) (concat-full_chunks n (drop full_chunk xs))
     ∙ take-append-drop full_chunk xs
 
--- bytes behind them change nothing
+-- bytes after them change nothing
 pub full_chunks-append : (n : ℕ) (xs ys : List ℕ) → n * full_chunk ≤ length xs → full_chunks n (xs ++ ys) ≡ full_chunks n xs
 full_chunks-append zero xs ys h = refl
 full_chunks-append (suc n) xs ys h =

@@ -1,4 +1,4 @@
--- A payload has one packing, and the packings of two payloads do not begin one another.
+-- A payload has one packing, and the packings of two payloads are not prefixes of one another.
 use Rattle.std.proofs.Common.{◌≡◌, ℕ, suc, ◌+◌, ◌*◌, ◌/◌, ◌%◌, ◌<◌, ◌≤◌, ◌^◌, List, [], ◌∷◌, ◌++◌, length, get_or, take, drop, refl, ap, sym, ◌∙◌, append_assoc, arith, length-append, length-drop, length-take}
 use Rattle.std.proofs.Math.Seq.{drop-append_seam, take-append_seam}
 use Rattle.std.specs.List.{concat, AllByRecursion}
@@ -17,7 +17,7 @@ same_packet id p q x y p_fits q_fits same =
       sym (drop-append_seam p x) ∙ (λ i. drop (sym e.0 i) (sym e.2 i)) ∙ drop-append_seam q y,
     )
 
--- full chunks and a shorter last one, in packets, are read in one way
+-- full chunks and a shorter last one, in packets, are read in only one way
 same_chunks : (id : ℕ) (ps qs : List (List ℕ)) (l m x y : List ℕ) → AllByRecursion IsFullChunk ps → AllByRecursion IsFullChunk qs →
     length l < full_chunk → length m < full_chunk → packets id (ps ++ l ∷ []) ++ x ≡ packets id (qs ++ m ∷ []) ++ y → (ps ≡ qs) × (l ≡ m) × (x ≡ y)
 same_chunks id [] [] l m x y fp fq sl sm same =
@@ -37,7 +37,7 @@ same_chunks id (p ∷ ps) (q ∷ qs) l m x y fp fq sl sm same =
     let r = same_chunks (suc id) ps qs l m x y fp.1 fq.1 sl sm e.1 in
     ((λ i. e.0 i ∷ r.0 i), r.1, r.2)
 
--- packets depend on the id's lowest byte alone
+-- packets depend only on the id's lowest byte
 packets-mod : (i j : ℕ) (ps : List (List ℕ)) → i % 256 ≡ j % 256 → packets i ps ≡ packets j ps
 packets-mod i j [] same = refl
 packets-mod i j (p ∷ ps) same = λ k. (little_bytes 3 (length p) ++ same k ∷ p) ++ packets-mod (suc i) (suc j) ps (omega (arith, same)) k
@@ -50,7 +50,7 @@ first_id id (p ∷ ps) l x = refl
 later_id : (i j k : ℕ) → i % 256 ≡ j % 256 → (i + k + 1) % 256 ≡ (j + k + 1) % 256
 later_id i j k e = omega (arith, e)
 
--- no packing begins another
+-- no packing is a proper prefix of another
 pub none_begins : {i j : ℕ} {p q a b : List ℕ} (x y : List ℕ) {m n : ℕ} → IsPacking i p a m → IsPacking j q b n → a ++ x ≡ b ++ y → (p ≡ q) × (a ≡ b) × (x ≡ y) × (m ≡ n)
 none_begins {i} {j} {p} {q} {a} {b} x y {m} {n} f g same =
     let both : packets i (f.chunks ++ f.last ∷ []) ++ x ≡ packets j (g.chunks ++ g.last ∷ []) ++ y = (λ k. sym f.packed k ++ x) ∙ same ∙ (λ k. g.packed k ++ y) in
@@ -63,7 +63,7 @@ none_begins {i} {j} {p} {q} {a} {b} x y {m} {n} f g same =
       f.follows ∙ ap (λ ps. (i + length ps + 1) % 256) e.0 ∙ later_id i j (length g.chunks) id ∙ sym g.follows,
     )
 
--- a payload is cut in one way
+-- a payload is cut in only one way
 same_cut : (ps qs : List (List ℕ)) (l m : List ℕ) → AllByRecursion IsFullChunk ps → AllByRecursion IsFullChunk qs →
     length l < full_chunk → length m < full_chunk → concat ps ++ l ≡ concat qs ++ m → (ps ≡ qs) × (l ≡ m)
 same_cut [] [] l m fp fq sl sm same = (refl, same)
@@ -77,7 +77,7 @@ same_cut (p ∷ ps) (q ∷ qs) l m fp fq sl sm same =
     let r = same_cut ps qs l m fp.1 fq.1 sl sm back in
     ((λ i. front i ∷ r.0 i), r.1)
 
--- a payload and a first id have one packing
+-- a payload and a first id have only one packing
 pub one_packing : {id : ℕ} {p a b : List ℕ} {m n : ℕ} → IsPacking id p a m → IsPacking id p b n → (a ≡ b) × (m ≡ n)
 one_packing {id} f g =
     let e = same_cut f.chunks g.chunks f.last g.last f.full g.full f.short g.short (sym f.cut ∙ g.cut) in
@@ -110,7 +110,7 @@ length_packing {id} {p} {bytes} f =
     let counts = ap length f.packed ∙ ap length (packets-push id f.chunks f.last) ∙ length-append (packets id f.chunks) (packet (id + length f.chunks) f.last) in
     omega (arith, counts, packets_length id f.chunks f.full, ap length f.cut ∙ length-append (concat f.chunks) f.last, concat_length f.chunks f.full, f.short)
 
--- the same where the bytes are those that were held and some of those that came
+-- as above, where the bytes are those that were held and some of those that came
 pub length_packing-held : {id : ℕ} {p : List ℕ} {next : ℕ} (old held new bytes : List ℕ) (used : ℕ) → old ≡ held → new ≡ old ++ take used bytes → used ≤ length bytes →
     IsPacking id p new next → length held + used ≡ packing_length (length p)
 length_packing-held old held new bytes used same taken within f =

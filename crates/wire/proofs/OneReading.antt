@@ -1,4 +1,4 @@
--- A stream has one reading, in whatever pieces it is taken.
+-- A stream has only one reading, in whatever pieces it is read.
 use Rattle.std.proofs.Common.{◌≡◌, ℕ, zero, suc, ◌+◌, ◌*◌, ◌%◌, ◌<◌, ◌≤◌, ◌^◌, ◌⊎◌, List, [], ◌∷◌, ◌++◌, length, refl, ap, sym, subst, ◌∙◌, append_assoc, arith, length-append, length-take, inl, inr}
 use Rattle.std.proofs.lemmas.List.{append-nil}
 use Rattle.std.proofs.Math.Seq.{take-append_seam}
@@ -11,13 +11,13 @@ use Rattle.wire.proofs.Packets.{packets-push}
 use Rattle.wire.proofs.Chain.{Chain, chain_of, chain_split, order, peel, full_fits, short_fits, size_fits, same_header, header_chain, concat_length}
 use Rattle.wire.proofs.OnePacking.{none_begins, length_packing}
 
--- A header stands behind so many full packets of the bytes.
+-- A header follows `before` full packets of the bytes.
 record Stands (due : ℕ) (bytes : List ℕ) (before size id : ℕ) : Type 0 where
   more : List ℕ
   chain : Chain due before bytes (little_bytes 3 size ++ id ∷ more)
   fits : size < 2 ^ 24
 
--- two headers of one stream are one, or the first of them is right and full
+-- two headers of one stream are the same one, or the earlier of them is right and full
 abbrev Agree : ℕ → ℕ → ℕ → ℕ → ℕ → ℕ → ℕ → Type 0
 Agree due m size id n size' id' =
     ((m ≡ n) × (size ≡ size') × (id ≡ id'))
@@ -105,7 +105,7 @@ unfinished_or_whole : {due limit : ℕ} {bytes payload : List ℕ} {next : ℕ} 
 unfinished_or_whole {due} {limit} {bytes} {payload} {next} rest u w =
     u.not_whole (length bytes) payload next (subst (λ b. IsWholePayload due limit b payload next) (sym (take-append_seam bytes rest)) w)
 
--- a stream does not end where a payload stands
+-- a stream does not end where a payload begins
 ends_or_whole : {due limit : ℕ} {stream payload : List ℕ} {next : ℕ} (bytes rest : List ℕ) (ending : Ending) → IsEnding due limit stream ending → stream ≡ bytes ++ rest →
     IsWholePayload due limit bytes payload next → ⊥
 ends_or_whole {due} {limit} bytes rest (Held d held) e is w = unfinished_or_whole rest (subst (IsUnfinished due limit) is e.2) w
@@ -133,7 +133,7 @@ one_reading due limit stream (p ∷ ps) (q ∷ qs) e f (bytes, rest, next, is, w
     let r = one_reading next limit rest ps qs e f behind (subst (λ n. IsStream n limit rest qs f) (sym s.3) (subst (λ b. IsStream next' limit b qs f) (sym s.2) behind')) in
     ((λ i. s.0 i ∷ r.0 i), r.1)
 
--- a header stays where it is as more bytes come
+-- a header stays as it is when more bytes come
 more_header : {due limit : ℕ} {bytes : List ℕ} {before size id : ℕ} (more : List ℕ) → HasHeader due limit bytes before size id → HasHeader due limit (bytes ++ more) before size id
 more_header {due} {limit} {bytes} {before} {size} {id} more h = record {
   chunks = h.chunks;
@@ -152,7 +152,7 @@ more_wrong more a = record { before = a.before; size = a.size; header = more_hea
 pub more_large : {due limit : ℕ} {bytes : List ℕ} (more : List ℕ) → IsTooLarge due limit bytes → IsTooLarge due limit (bytes ++ more)
 more_large more a = record { before = a.before; size = a.size; header = more_header more a.header; above = a.above }
 
--- no bytes are no payload, and nothing is wrong with them
+-- the empty list of bytes is not a payload, and nothing is wrong with it
 pub nothing_yet : (due limit : ℕ) → IsUnfinished due limit []
 nothing_yet due limit = record {
   in_sequence = λ want got a. no_header a.header;

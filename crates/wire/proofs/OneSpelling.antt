@@ -1,4 +1,4 @@
--- A length-encoded integer is read in one way.
+-- A length-encoded integer is read in only one way.
 use Rattle.std.proofs.Common.{◌≡◌, ℕ, suc, ◌<◌, ◌≤◌, ◌^◌, List, [], ◌∷◌, ◌++◌, length, refl, ap, sym, ◌∙◌, arith, inl, inr, take}
 use Rattle.std.proofs.Math.Seq.{take-append_seam}
 use Rattle.std.proofs.lemmas.Bool.{le-leb, lt-leb, cases_lt}
@@ -26,7 +26,7 @@ front_of-spelling n a x (inr (inr (inl (fits, is)))) =
 front_of-spelling n a x (inr (inr (inr (fits, is)))) =
     (λ i. front_of (is i ++ x)) ∙ ap (λ v. (v, 9)) (little_number-reads_back 8 n x fits) ∙ ap (λ k. (n, k)) (sym (ap length is))
 
--- fronts of equal length of equal lists are equal
+-- prefixes of equal length of equal lists are equal
 pub same_front : (a b x y : List ℕ) → length a ≡ length b → a ++ x ≡ b ++ y → a ≡ b
 same_front a b x y long same = sym (take-append_seam a x) ∙ (λ i. take (long i) (same i)) ∙ take-append_seam b y
 
@@ -35,7 +35,7 @@ one_spelling m n a b x y p q same =
     let e : (m, length a) ≡ (n, length b) = sym (front_of-spelling m a x p) ∙ ap front_of same ∙ front_of-spelling n b y q in
     (ap (λ r. r.0) e, same_front a b x y (ap (λ r. r.1) e) same)
 
--- the shortest spelling, by the size of the number
+-- the shortest encoding, by the size of the number
 one_byte : (n : ℕ) → n ≤ 250 → length_encoded n ≡ n ∷ []
 one_byte n h = rw (le-leb n 250 h) refl
 

@@ -1,10 +1,11 @@
--- A reader in the midst of a stream that comes in pieces.
+-- A reader in the middle of a stream that comes in pieces.
 use Rattle.std.proofs.Common.{◌≡◌, ℕ, List, [], ◌∷◌, ◌++◌, take, drop, ap, sym, subst, ◌∙◌, append_assoc}
 use Rattle.std.proofs.lemmas.List.{take-append-drop, append-nil}
 use Rattle.wire.specs.Payload.{IsWholePayload, IsUnfinished}
 use Rattle.wire.specs.Stream.{Ending, Held, Runs, stopped, held_all, handed_out}
 
--- These payloads were handed out of the pieces, and whatever the reader makes of those that are left goes on from there.
+-- These payloads were handed out of the pieces, and whatever the reader makes of the remaining pieces goes on from
+-- there.
 pub record GoesOn (limit : ℕ) (pieces payloads : List (List ℕ)) (due : ℕ) (held : List ℕ) (left : List (List ℕ)) : Type 0 where
   pub run : (more : List (List ℕ)) (ending : Ending) → Runs due limit held left more ending → Runs 0 limit [] pieces (payloads ++ more) ending
 

@@ -29,7 +29,7 @@ equal_or_not m n = elim (cases_lt m n) [
   | inr above ↦ elim (cases_lt n m) [ inl below ↦ inr (λ e. omega (arith, e, below)) | inr both ↦ inl (omega (arith, above, both)) ]
 ]
 
--- a payload stands at the front, or an ending
+-- a payload is at the front, or an ending
 abbrev pub Front : ℕ → ℕ → List ℕ → Type 0
 Front due limit bytes =
     ((front : List ℕ) × (rest : List ℕ) × (payload : List ℕ) × (next : ℕ) × (bytes ≡ front ++ rest) × IsWholePayload due limit front payload next × (length rest < length bytes))
@@ -58,7 +58,7 @@ header_bytes a b c d x y z w =
 suc_times : (n m : ℕ) → suc n * m ≡ m + n * m
 suc_times n m = omega arith
 
--- behind full packets, the next header decides
+-- after full packets, the next header decides
 scan : (fuel due limit : ℕ) (bytes : List ℕ) (chunks : List (List ℕ)) (rest : List ℕ) → AllByRecursion IsFullChunk chunks → bytes ≡ packets due chunks ++ rest →
     length chunks * full_chunk ≤ limit → AllByRecursion IsByte rest → length rest < fuel → Front due limit bytes
 scan zero due limit bytes chunks rest full is within all enough = absurd (omega (arith, enough))

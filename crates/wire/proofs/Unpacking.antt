@@ -47,14 +47,14 @@ held_of-chunk old new some enough d f h k p =
     ∙ ap (λ x. P ++ x) (sym (append_assoc T D some))
     ∙ sym (append_assoc P (T ++ D) some)
 
--- a whole header and what stands behind it
+-- a whole header and what follows it
 header_and : (due full size filled : ℕ) (header chunk : List ℕ) (n : ℕ) → filled ≡ 4 → IsHeader size ((due + full) % 256) header → length chunk ≡ size → n ≡ full →
     take filled header ++ chunk ≡ packet (due + n) chunk
 header_and due full size filled header chunk n whole is long same =
     (λ i. take (whole i) (is.bytes_are i) ++ chunk)
     ∙ (λ i. little_bytes 3 (sym long i) ++ (due + sym same i) % 256 ∷ chunk)
 
--- a full chunk that is whole
+-- a full chunk that is complete
 pub held_of-full : (old new : Unpacker) (size : ℕ) → old.filled ≡ 4 → IsHeader size ((old.due + old.full) % 256) old.header → size ≡ full_chunk →
     length old.payload.items ≡ (old.full + 1) * full_chunk →
     new.due ≡ old.due → new.full ≡ old.full + 1 → new.filled ≡ 0 → new.payload.items ≡ old.payload.items → held_of new ≡ held_of old
@@ -73,7 +73,7 @@ held_of-full old new size whole is is_full long d f k p =
     ∙ ap (λ x. packets old.due ps ++ x)
     (sym (header_and old.due old.full size old.filled old.header last (length ps) whole is (sized ∙ sym is_full) (length-full_chunks old.full xs)))
 
--- a last chunk that is whole
+-- a last chunk that is complete
 pub whole_payload : (u : Unpacker) → IsInChunk u → IsComplete u → IsWholePayload u.due u.limit (held_of u) u.payload.items ((u.due + u.full + 1) % 256)
 unfolding held_of
 whole_payload u in_chunk complete =
@@ -96,7 +96,7 @@ whole_payload u in_chunk complete =
       within = omega (arith, in_chunk.within);
     }
 
--- the full packets stand before the packet at hand
+-- the full packets come before the current packet
 chain_held : (u : Unpacker) → u.full * full_chunk ≤ length u.payload.items → Chain u.due u.full (held_of u) (at_hand u)
 unfolding held_of
 chain_held u enough =
@@ -134,7 +134,7 @@ held_unfinished u (inr h) open_end =
       omega (arith, length-drop (u.full * full_chunk) u.payload.items, h.sum, some_left),
     ))
 
--- the header that is whole now, with what follows it
+-- the header that is complete now, with what follows it
 pub header_held : (u : Unpacker) (size got : ℕ) (more : List ℕ) → length u.payload.items ≡ u.full * full_chunk → length u.payload.items ≤ u.limit →
     u.filled ≡ 4 → IsHeader size got u.header → HasHeader u.due u.limit (held_of u ++ more) u.full size got
 unfolding held_of
@@ -205,7 +205,7 @@ unfolding full_chunk
 short_held u (inl h) limit = omega (arith, length-held_of u (inl h), h.whole_chunks, h.within)
 short_held u (inr h) limit = omega (arith, length-held_of u (inr h), h.sum, h.left, h.within)
 
--- nothing is held where no byte has come, and only there
+-- nothing is held exactly if no byte has come
 pub held_of-empty : (u : Unpacker) → IsUnpacking u → u.filled ≡ 0 → length u.payload.items ≡ 0 → held_of u ≡ []
 unfolding held_of full_chunk
 held_of-empty u (inl h) filled empty =
@@ -224,7 +224,7 @@ nothing_held u (inl h) is =
     (omega (arith, sum, counts, h.sized, h.open_header), omega (arith, sum, counts, sized, chunks, h.whole_chunks))
 nothing_held u (inr h) is = absurd (omega (arith, ap length is, counted u, ap length h.header.bytes_are, h.whole_header))
 
--- which of the two it is
+-- which of the two states it is
 pub in_header : (u : Unpacker) → IsUnpacking u → u.filled < 4 → IsInHeader u
 in_header u (inl h) open_header = h
 in_header u (inr h) open_header = absurd (omega (arith, h.whole_header, open_header))

@@ -13,7 +13,7 @@ full_chunk = 16777215
 abbrev pub packet : ℕ → List ℕ → List ℕ
 packet id chunk = little_bytes 3 (length chunk) ++ id % 256 ∷ chunk
 
--- the chunks' packets one after the other, the first with this id, each later one with the next
+-- the packets of the chunks one after the other, the first with this id, each later one with the next
 abbrev pub packets : ℕ → List (List ℕ) → List ℕ
 packets id [] = []
 packets id (chunk ∷ chunks) = packet id chunk ++ packets (suc id) chunks
@@ -21,8 +21,8 @@ packets id (chunk ∷ chunks) = packet id chunk ++ packets (suc id) chunks
 abbrev pub IsFullChunk : List ℕ → Type 0
 IsFullChunk chunk = length chunk ≡ full_chunk
 
--- The bytes are the packing of the payload from the sequence id: the payload is cut into full chunks and one
--- last shorter chunk, perhaps empty, and each chunk stands in a packet. `next` is the id that is due after it.
+-- The bytes are the packing of the payload from the sequence id: the payload is cut into full chunks and one last
+-- shorter chunk, which may be empty, and each chunk is in a packet. `next` is the expected id after it.
 pub record IsPacking (id : ℕ) (payload bytes : List ℕ) (next : ℕ) : Type 0 where
   pub chunks : List (List ℕ)
   pub last : List ℕ
@@ -32,7 +32,7 @@ pub record IsPacking (id : ℕ) (payload bytes : List ℕ) (next : ℕ) : Type 0
   pub packed : bytes ≡ packets id (chunks ++ last ∷ [])
   pub follows : next ≡ (id + length chunks + 1) % 256
 
--- how long the packing of a payload of this length is: four bytes more for each packet
+-- the length of the packing of a payload of this length: four bytes more for each packet
 abbrev pub packing_length : ℕ → ℕ
 packing_length n = n + 4 * (n / full_chunk + 1)
 

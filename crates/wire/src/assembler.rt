@@ -1,4 +1,4 @@
-//! Payloads read from a stream of packets, in whatever pieces its bytes come.
+//! Payloads read from a stream of packets, whose bytes come in pieces of any size.
 
 ghost use Rattle.std.specs.Prelude.{◌≡◌, ℕ, ◌+◌, ◌^◌, ◌≤◌, ◌<◌, ◌++◌, ◌↔◌, [], length, take, true, false, IsTrue, IfOk, IfSome, IfNone, OnOk, OnErr};
 ghost use Rattle.wire.specs.Packet.{packing_length};
@@ -10,21 +10,21 @@ use crate::unpacker::Unpacker;
 use std::alloc::Global;
 use std::marker::Model;
 
-/// What a step took of the bytes that it was given, and the payload that they completed.
+/// What one call of [`Assembler::step`] took of its bytes, and the payload that they completed.
 #[derive(Debug, Drop)]
 pub struct Step {
-    /// How many of the bytes belong to the payload at hand. Where it is whole now they end with its
-    /// packets' last byte, and else they are all.
+    /// How many of the bytes belong to the current payload: those up to the end of its last packet if it
+    /// is complete now, otherwise all of them.
     pub used: usize,
-    /// The payload, if it is whole now.
+    /// The payload, if it is complete now.
     pub payload: Option<Vec<u8>>,
 }
 
-/// A reader of payloads from the packets of a stream, whose bytes come in any pieces.
+/// Reads payloads from the packets of a stream, whose bytes come in pieces of any size.
 ///
-/// It keeps what has come of the payload at hand, each byte copied from its piece once. The sequence id
-/// of a packet has to be the one due: 0 at first, then one more than the packet before had, and 0 after
-/// 255. `expect` sets it anew, as at the start of a command.
+/// It keeps what has come of the current payload, and copies each byte once. The packets must come in
+/// sequence: the first with the sequence id 0, each later one with the id after that of the packet
+/// before it, and 0 after 255. `expect` sets another id, as at the start of a command.
 #[derive(Drop)]
 pub struct Assembler {
     unpacker: Unpacker,
@@ -46,7 +46,7 @@ impl Model for Assembler {
 }
 
 impl Assembler {
-    /// A reader that takes payloads of at most this many bytes. The sequence id due is 0.
+    /// A reader of payloads of at most `limit` bytes. The first expected sequence id is 0.
     pub fn new(alloc: Global, limit: usize) -> Assembler
         requires { limit ≤ LARGEST_PAYLOAD }
         ensures { result ≡ record { limit = limit; due = 0; held = []; ended = false } }
@@ -57,14 +57,14 @@ impl Assembler {
         }
     }
 
-    /// Whether nothing of the next payload has come, and no fault.
+    /// Whether nothing of the next payload has come and no fault has occurred.
     pub fn between(&self) -> bool
         ensures { IsTrue result ↔ ((self.now.held ≡ []) × (self.now.ended ≡ false)) }
     {
         !self.ended && self.unpacker.is_empty()
     }
 
-    /// Sets the sequence id that is due next.
+    /// Sets the sequence id that the next packet must have.
     pub fn expect(&mut self, sequence: u8)
         requires { (self.old.held ≡ []) × (self.old.ended ≡ false) }
         ensures { self.new ≡ record self.old { due = sequence } }
@@ -72,12 +72,12 @@ impl Assembler {
         self.unpacker.due = sequence;
     }
 
-    /// Takes bytes up to the end of the payload at hand, or all of them.
+    /// Takes bytes up to the end of the current payload, or all of them.
     ///
-    /// `Sequence` and `TooLarge` come as soon as the four bytes of the header that is wrong have come,
-    /// `Sequence` where it is wrong in both ways, and `Memory` where room for the bytes that a right
-    /// header announces was refused. After any of them each later step answers `Ended`, and nothing more
-    /// is promised of the reader.
+    /// `Sequence` and `TooLarge` are reported as soon as the four bytes of the wrong header have come,
+    /// `Sequence` if the header is wrong in both ways. `Memory` is reported if the room for the bytes
+    /// that a right header announces cannot be allocated. After any of them every later step answers
+    /// `Ended`, and nothing more is promised of the reader.
     pub fn step(&mut self, bytes: &[u8]) -> Result<Step, WireFault>
         // A payload: the bytes held and those used are its packets, and the reader holds nothing.
         ensures used { IfOk result (λ step. step.used ≤ length bytes.now) }

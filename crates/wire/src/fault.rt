@@ -9,10 +9,10 @@ use thiserror::Error;
 /// Why packets could not be read or written.
 #[derive(Clone, Copy, Debug, PartialEq, Eq, Error)]
 pub enum WireFault {
-    /// A packet has the sequence id `got`, and `want` is due.
-    #[error("a packet with sequence id {got} came where {want} is due")]
+    /// A packet has the sequence id `got` instead of the expected `want`.
+    #[error("a packet with sequence id {got} came where {want} was expected")]
     Sequence { want: u8, got: u8 },
-    /// A payload that comes is longer than the reader's limit, or one that is written is longer than
+    /// A payload that is read is longer than the reader's limit, or one to be written is longer than
     /// [`LARGEST_PAYLOAD`](crate::LARGEST_PAYLOAD).
     #[error("a payload is longer than the limit")]
     TooLarge,

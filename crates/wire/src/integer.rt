@@ -7,9 +7,10 @@ use crate::fault::WireFault;
 use byteorder::{ByteOrder, LittleEndian};
 
 /// Reads the length-encoded integer at the front of the bytes: its value, and the 1, 3, 4 or 9 bytes
-/// that it takes. It is read in any width that the value fits, and bytes may follow it.
+/// that it takes. The encoding need not be the shortest, and bytes may follow it.
 ///
-/// `None` where no front of the bytes is such an integer: it is cut short, or begins with 0xFB or 0xFF.
+/// `None` if the bytes do not begin with such an integer: it is cut short, or the first byte is 0xFB or
+/// 0xFF.
 pub fn read_int(bytes: &[u8]) -> Option<(u64, usize)>
     ensures length { IfSome result (λ found. found.1 ≤ length bytes.now) }
     ensures found { IfSome result (λ found. IsLengthEncoded found.0 (take found.1 bytes.now)) }
@@ -26,8 +27,8 @@ pub fn read_int(bytes: &[u8]) -> Option<(u64, usize)>
 
 /// Appends the shortest length-encoded integer of the value.
 ///
-/// The only refusal is `Memory`, where the vector has no room for it and can get none. It leaves the
-/// vector as it was.
+/// The only error is `Memory`: the vector lacks the room and cannot grow. It leaves the vector as it
+/// was.
 pub fn write_int(value: u64, out: &mut Vec<u8>) -> Result<(), WireFault>
     ensures ok { OnOk result (out.new.items ≡ out.old.items ++ length_encoded value) }
     ensures err { OnErr result ((result ≡ Err WireFault.Memory) × (out.new.items ≡ out.old.items)) }

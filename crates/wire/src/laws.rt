@@ -1,4 +1,4 @@
-//! What readers of this crate's definitions rely on, as laws about byte lists.
+//! Laws about byte lists, for readers of this crate's definitions.
 //!
 //! A law is a function with an empty body: its clauses are proved of the definitions themselves.
 
@@ -9,19 +9,20 @@ ghost use Rattle.wire.specs.Packet.{IsPacking, packing_length};
 ghost use Rattle.wire.specs.Payload.{IsWholePayload, IsUnfinished, IsOutOfSequence, IsTooLarge};
 ghost use Rattle.wire.specs.Stream.{Ending, IsStream, Runs};
 
-/// No spelling of a length-encoded integer begins another one, and each spells one value.
+/// No encoding of a length-encoded integer is a proper prefix of another one, and each encodes one
+/// value.
 pub fn one_spelling()
     ensures { (m n : ℕ) (a b x y : List ℕ) → IsLengthEncoded m a → IsLengthEncoded n b → a ++ x ≡ b ++ y → (m ≡ n) × (a ≡ b) }
 {}
 
-/// What is written is a spelling, and no spelling of the value is shorter.
+/// What is written is an encoding of the value, and no encoding of it is shorter.
 pub fn shortest_spelling()
     ensures spells { (n : ℕ) → n < 2 ^ 64 → IsLengthEncoded n (length_encoded n) }
     ensures shortest { (n : ℕ) (a : List ℕ) → IsLengthEncoded n a → length (length_encoded n) ≤ length a }
 {}
 
-/// Each payload has one packing from each sequence id, with four bytes more for each packet. No packing
-/// begins another one, from whichever ids.
+/// Each payload has exactly one packing from each sequence id, four bytes longer for each packet. No
+/// packing is a proper prefix of another one, from whichever ids.
 pub fn one_packing()
     ensures some { (id : ℕ) (payload : List ℕ) → (bytes : List ℕ) × (next : ℕ) × IsPacking id payload bytes next }
     ensures one { (id m n : ℕ) (payload a b : List ℕ) → IsPacking id payload a m → IsPacking id payload b n → (a ≡ b) × (m ≡ n) }
@@ -29,7 +30,7 @@ pub fn one_packing()
     ensures none_begins { (i j m n : ℕ) (p q a b x y : List ℕ) → IsPacking i p a m → IsPacking j q b n → a ++ x ≡ b ++ y → (p ≡ q) × (a ≡ b) × (x ≡ y) × (m ≡ n) }
 {}
 
-/// Bytes have one wrong header at most, with one fault, and then no payload stands at their front.
+/// Bytes have at most one first wrong header, with one fault, and then they do not begin with a payload.
 pub fn one_answer()
     ensures one_wrong_id { (due limit want got want' got' : ℕ) (bytes : List ℕ) →
         IsOutOfSequence due limit bytes want got → IsOutOfSequence due limit bytes want' got' → (want ≡ want') × (got ≡ got') }
@@ -46,13 +47,13 @@ pub fn faults_stay()
     ensures too_large { (due limit : ℕ) (bytes more : List ℕ) → IsTooLarge due limit bytes → IsTooLarge due limit (bytes ++ more) }
 {}
 
-/// No bytes are neither a payload nor wrong.
+/// The empty list of bytes is neither a payload nor wrong.
 pub fn nothing_yet()
     ensures { (due limit : ℕ) → IsUnfinished due limit [] }
 {}
 
-/// Each stream of bytes has a reading, and only one: its payloads, and a fault or the bytes of an
-/// unfinished payload behind them.
+/// Each stream of bytes has exactly one reading: its payloads, and then a fault or the bytes of an
+/// unfinished payload.
 pub fn one_reading()
     ensures some { (due limit : ℕ) (stream : List ℕ) → AllByRecursion (λ b. b < 256) stream →
         (payloads : List (List ℕ)) × (ending : Ending) × IsStream due limit stream payloads ending }
@@ -60,8 +61,8 @@ pub fn one_reading()
         IsStream due limit stream a e → IsStream due limit stream b f → (a ≡ b) × (e ≡ f) }
 {}
 
-/// However a stream is cut into pieces, a reader makes the one reading of it: the same payloads, and the
-/// same ending. (The ids go on without a break: who sets one by `expect` begins a stream anew.)
+/// However a stream is cut into pieces, a reader makes the one reading of it: the same payloads and the
+/// same ending. (The sequence ids go on without a break: a call of `expect` begins a new stream.)
 pub fn any_pieces()
     ensures reads { (due limit : ℕ) (pieces payloads : List (List ℕ)) (ending : Ending) →
         Runs due limit [] pieces payloads ending → IsStream due limit (concat pieces) payloads ending }

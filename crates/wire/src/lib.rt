@@ -1,13 +1,13 @@
 //! Packets and integers of the MySQL client/server protocol, the lowest layer of a connection.
 //!
 //! A payload travels in chunks of at most 16,777,215 bytes, each in a packet with its length and a
-//! sequence id. [`Assembler`] takes the bytes of a stream in whatever pieces they come and hands out its
-//! payloads; [`write_payload`] is the other direction. [`read_int`] and [`write_int`] are the
-//! length-encoded integers that payloads are made of.
+//! sequence id. [`Assembler`] takes the bytes of a stream in pieces of any size and hands out its
+//! payloads; [`write_payload`] is the other direction. [`read_int`] and [`write_int`] read and write the
+//! length-encoded integers inside payloads.
 //!
-//! The layouts are those of the MySQL Source Documentation, "Client/Server Protocol": the pages
-//! "MySQL Packets" and "Integer Types". `specs/` states them as relations on whole byte lists, and
-//! [`laws`] what follows from them.
+//! The layouts are those of the MySQL Source Documentation, "Client/Server Protocol": the pages "MySQL
+//! Packets" and "Integer Types". `specs/` defines them as relations on whole byte lists, and [`laws`]
+//! states what follows from them.
 #![tactic(auto)]
 
 mod assembler;

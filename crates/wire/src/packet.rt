@@ -1,4 +1,4 @@
-//! Payloads as packets.
+//! Payloads written as packets.
 
 ghost use Rattle.std.specs.Prelude.{◌≡◌, ◌+◌, ◌*◌, ◌/◌, ◌^◌, ◌≤◌, ◌<◌, ◌++◌, ◌⊎◌, ◌↔◌, length, IfOk, IfErr, OnErr, vec_len, vec_capacity};
 ghost use Rattle.wire.specs.Packet as spec;
@@ -6,17 +6,17 @@ ghost use Rattle.wire.specs.Packet.{packet, AppendsPacking};
 
 use crate::fault::WireFault;
 
-/// The longest payload that is written, and the highest limit that a reader may have: 1 GiB, the
-/// highest `max_allowed_packet` of a server.
+/// The longest payload that is written, in bytes, and the highest limit that a reader may have: 1 GiB,
+/// the highest `max_allowed_packet` of a server.
 pub const LARGEST_PAYLOAD: usize = 1_073_741_824;
 
-/// The length of the chunk in a packet that another packet of the payload follows: 2^24 - 1.
+/// The length in bytes of a full chunk, which another packet of the same payload follows: 2^24 - 1.
 pub(crate) const FULL_CHUNK: usize = 16_777_215;
 
-/// The length of a packet's header: three bytes of length and the sequence id.
+/// The length in bytes of a packet's header: three bytes of length and the sequence id.
 pub(crate) const HEADER: usize = 4;
 
-/// How many bytes the packets of a payload of this length have: four more for each packet.
+/// How many bytes the packets of a payload of `payload` bytes take: four more for each packet.
 #[tactic(auto, unfolding(crate::specs::Packet::full_chunk))]
 pub fn packing_length(payload: usize) -> usize
     requires { payload < 2 ^ 63 }
@@ -55,11 +55,11 @@ fn push_packets(sequence: u8, payload: &[u8], out: &mut Vec<u8>) -> u8
     id.wrapping_add(1)
 }
 
-/// Appends the packets of the payload, the first with this sequence id, and gives the id that is due
-/// next.
+/// Appends the packets of the payload, the first with the given sequence id, and returns the id that the
+/// next packet must have.
 ///
-/// `TooLarge` where the payload is longer than [`LARGEST_PAYLOAD`], and `Memory` where the vector has no
-/// room for the packets and can get none; either leaves the vector as it was.
+/// `TooLarge` if the payload is longer than [`LARGEST_PAYLOAD`]; `Memory` if the vector lacks the room
+/// for the packets and cannot grow. Either leaves the vector as it was.
 pub fn write_payload(sequence: u8, payload: &[u8], out: &mut Vec<u8>) -> Result<u8, WireFault>
     ensures ok { IfOk result (λ next. AppendsPacking sequence payload.now out.old.items out.new.items next) }
     ensures too_large { (result ≡ Err WireFault.TooLarge) ↔ (LARGEST_PAYLOAD < length payload.now) }

@@ -1,5 +1,5 @@
-//! Worked values of the public standard's layouts, and calls that no clause can promise: with memory to
-//! spare each call succeeds, and a long stream in small pieces is read in a short time.
+//! Worked values of the public standard's layouts, and what no clause promises: each call succeeds when
+//! there is enough memory, and a long stream in small pieces is read in a short time.
 
 ghost use Rattle.std.specs.Prelude.{ℕ, [], List, map, IfOk};
 ghost use Rattle.wire.specs.Stream.{Held, Runs};
@@ -51,7 +51,8 @@ fn integers(rt: HostRuntime) -> Result<(), Fail> {
     Ok(())
 }
 
-/// The length of a payload, its first id, the length of its packing, its last header and the id due next.
+/// The length of a payload, its first id, the length of its packing, its last header and the next
+/// expected id.
 const PACKINGS: [(usize, u8, usize, [u8; 4], u8); 7] = [
     (0, 0, 4, [0, 0, 0, 0], 1),
     (1, 0, 5, [1, 0, 0, 0], 1),
@@ -94,8 +95,8 @@ fn packings(rt: HostRuntime) -> Result<(), Fail> {
     Ok(())
 }
 
-/// The payloads of a stream that comes in these pieces, from the id 0 on: a caller that proves of `step`,
-/// by its clauses alone, that they are those of the stream's one reading.
+/// The payloads of a stream that comes in these pieces, from the id 0 on. It proves, from the clauses of
+/// `step` alone, that they are those of the stream's one reading.
 fn payloads(alloc: Global, pieces: &[&[u8]]) -> Result<Vec<Vec<u8>>, WireFault>
     ensures { IfOk result (λ found. (id : ℕ) × (held : List ℕ) ×
         Runs 0 LARGEST_PAYLOAD [] (map (λ piece. piece.now) pieces.now) (map (λ payload. payload.items) found.items) (Held id held)) }
@@ -159,7 +160,7 @@ fn bytes(rt: HostRuntime) -> Result<(), Fail> {
     Ok(())
 }
 
-/// A limit, the id due, the bytes of a header, and the fault that comes with its fourth byte.
+/// A limit, the expected id, the bytes of a header, and the fault that its fourth byte brings.
 const FAULTS: [(usize, u8, [u8; 4], Option<WireFault>); 6] = [
     (
         100,
@@ -211,7 +212,8 @@ fn faults(rt: HostRuntime) -> Result<(), Fail> {
     Ok(())
 }
 
-/// The second packet of a payload is held to the limit with the first, and to the id after it.
+/// The limit is on the second packet of a payload together with the first, and its id must follow the
+/// first's.
 #[test]
 fn second_packet(rt: HostRuntime) -> Result<(), Fail> {
     let mut stream = vec![in rt.alloc(); 0xff, 0xff, 0xff, 0]?;

@@ -1,4 +1,4 @@
-//! The payload at hand, taken out of its packets while their bytes come.
+//! The current payload, taken out of its packets as their bytes come.
 
 ghost use Rattle.std.specs.Prelude.{◌≡◌, ◌≢◌, ℕ, ◌+◌, ◌%◌, ◌≤◌, ◌<◌, ◌++◌, ◌∷◌, [], ◌↔◌, ◌⊎◌, length, take, IfOk, IfErr, IsTrue};
 ghost use Rattle.wire.specs.Header.{IsHeader};
@@ -9,25 +9,25 @@ use byteorder::{ByteOrder, LittleEndian};
 use std::alloc::Global;
 use std::mem;
 
-/// The payload at hand, of which only some bytes have come.
+/// The current payload, as far as its bytes have come.
 #[derive(Drop)]
 pub(crate) struct Unpacker {
-    /// The longest payload that is taken.
+    /// The longest payload that is taken, in bytes.
     pub(crate) limit: usize,
     /// The sequence id of the payload's first packet.
     pub(crate) due: u8,
-    /// How many full packets of it have come.
+    /// How many full packets of the payload have come.
     pub(crate) full: u8,
-    /// The header of the packet at hand, of which the first `filled` bytes have come.
+    /// The header of the current packet, of which the first `filled` bytes have come.
     pub(crate) header: [u8; HEADER],
     pub(crate) filled: usize,
-    /// How many bytes of the chunk at hand are still to come, once its header is whole.
+    /// How many bytes of the current chunk are still to come, once its header is complete.
     pub(crate) left: usize,
     /// The chunks so far, without their headers.
     pub(crate) payload: Vec<u8>,
 }
 
-/// Copies bytes to what is missing of a header, and gives how many.
+/// Copies bytes into the missing part of a header, and returns how many.
 fn fill(header: &mut [u8], filled: usize, bytes: &[u8]) -> usize
     requires { filled ≤ length header.old }
     ensures used { result ≤ length bytes.now }
@@ -42,7 +42,7 @@ fn fill(header: &mut [u8], filled: usize, bytes: &[u8]) -> usize
     count
 }
 
-/// The length in a header, which has to have this sequence id and a length within the room.
+/// The length in a header, which must have this sequence id and a length of at most `room`.
 fn read_header(header: &[u8], id: u8, room: usize) -> Result<usize, WireFault>
     requires { length header.now ≡ HEADER }
     ensures ok { IfOk result (λ size. IsHeader size id header.now × (size ≤ room)) }
@@ -66,7 +66,7 @@ impl Unpacker {
     ghost use Rattle.wire.specs.Payload.{IsOutOfSequence, IsTooLarge, IsWholePayload, NeedsRoom};
     ghost use Rattle.wire.specs.Held.{held_of, IsInHeader, IsInChunk, IsUnpacking, IsComplete, Takes};
 
-    /// Between payloads, with this sequence id due.
+    /// Between payloads: the next packet must have the sequence id `due`.
     pub(crate) fn new(alloc: Global, limit: usize, due: u8) -> Unpacker
         ensures limit { result.limit ≡ limit }
         ensures due { result.due ≡ due }
@@ -99,7 +99,8 @@ impl Unpacker {
         self.filled == HEADER && self.left == 0
     }
 
-    /// Takes bytes of the header at hand. Once it is whole it is judged, and room is made for its chunk.
+    /// Takes bytes of the current header. Once it is complete it is checked, and room is made for its
+    /// chunk.
     fn take_header(&mut self, bytes: &[u8]) -> Result<usize, WireFault>
         requires header { IsInHeader self.old }
         requires limit { self.old.limit ≤ LARGEST_PAYLOAD }
@@ -122,7 +123,7 @@ impl Unpacker {
         Ok(used)
     }
 
-    /// Takes bytes of the chunk at hand, for which there is room.
+    /// Takes bytes of the current chunk, for which there is room.
     fn take_chunk(&mut self, bytes: &[u8]) -> usize
         requires chunk { IsInChunk self.old }
         requires open { 0 < self.old.left }
@@ -140,7 +141,7 @@ impl Unpacker {
         used
     }
 
-    /// Takes bytes up to the end of the payload, or all of them, and gives how many.
+    /// Takes bytes up to the end of the payload, or all of them, and returns how many.
     pub(crate) fn advance(&mut self, bytes: &[u8]) -> Result<usize, WireFault>
         requires stands { IsUnpacking self.old }
         requires open { IsComplete self.old → ⊥ }
@@ -166,7 +167,7 @@ impl Unpacker {
         Ok(used)
     }
 
-    /// Hands out the payload, and stands between payloads.
+    /// Hands out the payload, and is between payloads again.
     pub(crate) fn hand_out(&mut self) -> Vec<u8>
         requires chunk { IsInChunk self.old }
         requires complete { IsComplete self.old }

@@ -19,7 +19,7 @@ use greet::Dump;
 use gtid::{GtidFault, GtidSet};
 use std::alloc::Global;
 
-/// What a set that is none, or want of memory, is told as.
+/// Maps a fault of reading the set: any is `Request`, except `Memory`.
 fn told_of_set(fault: GtidFault) -> ForgeFault
     ensures { result ≡ told_of_set fault }
 {
@@ -29,7 +29,7 @@ fn told_of_set(fault: GtidFault) -> ForgeFault
     }
 }
 
-/// The set that all the bytes encode.
+/// The set that all of the bytes encode.
 fn read_set(alloc: Global, bytes: &[u8]) -> Result<GtidSet, ForgeFault>
     ensures found { IfOk result (λ set. IsEncoding set bytes.now) }
     ensures only { (ids : Ids) → IsEncoding ids bytes.now → MatchResult result (λ set. set ≡ ids) (λ fault. fault ≡ Memory) }
@@ -46,8 +46,8 @@ fn read_set(alloc: Global, bytes: &[u8]) -> Result<GtidSet, ForgeFault>
     }
 }
 
-/// Whether a dump command asks for an EOF at the log's end, and its set. `Request` where the payload is no such command,
-/// or its set none; else the only refusal is `Memory`.
+/// Whether a dump command asks for an EOF at the end of the log, and its set. `Request` if the payload is not such a
+/// command, or its set is not an encoded set; otherwise the only error is `Memory`.
 pub(crate) fn read_request(alloc: Global, payload: &[u8]) -> Result<(bool, GtidSet), ForgeFault>
     ensures found { IfOk result (λ request. AsksFor payload.now request.0 request.1) }
     ensures only { (dump : DumpValue) (ids : Ids) → Asks payload.now dump ids → MatchResult result (λ request. request.1 ≡ ids) (λ fault. fault ≡ Memory) }
@@ -61,7 +61,7 @@ pub(crate) fn read_request(alloc: Global, payload: &[u8]) -> Result<(bool, GtidS
     Ok((dump.flags % 2 == 1, set))
 }
 
-/// Appends the packets of the scripts outside the set, in their order.
+/// Appends the packets of the scripts that are not in the set, in their order.
 fn send_due(
     alloc: Global,
     history: &[Script],
@@ -84,7 +84,7 @@ fn send_due(
     Ok(next)
 }
 
-/// Appends the packet of an EOF, where one is asked for. The only refusal is `Memory`.
+/// Appends the packet of an EOF, if one is asked for. The only error is `Memory`.
 fn send_last(once: bool, sequence: u8, out: &mut Vec<u8>) -> Result<u8, ForgeFault>
     ensures ok { IfOk result (λ next. AppendsPackings sequence (end_payloads once) out.old.items out.new.items next) }
     ensures err { OnErr result (result ≡ Err Memory) }
@@ -96,14 +96,14 @@ fn send_last(once: bool, sequence: u8, out: &mut Vec<u8>) -> Result<u8, ForgeFau
     }
 }
 
-/// What a source with this history sends for a dump command, which is the payload `request`: a format description, then
-/// each script whose GTID is not in the command's set, in the order of the history, and then an EOF, where the command
+/// What a source with this history sends in reply to a dump command, the payload `request`: a format description, then
+/// each script whose GTID is not in the command's set, in the order of the history, and then an EOF, if the command
 /// asks for one. The first packet has the sequence id 1.
 ///
-/// `Request` where the payload is no dump command or its set none. Else the first script that would be sent and cannot be
-/// is told: as `Unfit` with its place, where a part of it has cells that are not of its table's types, or a table that no
-/// bytes are; as `TooLarge`, where an event of it is longer than a payload may be. `Memory` where an allocation was
-/// refused.
+/// `Request` if the payload is not a dump command or its set is not an encoded set. Otherwise the first script that
+/// would be sent and cannot be is reported: as `Unfit` with its index, if a part of it has cells that are not of its
+/// table's types, or a table that cannot be encoded; as `TooLarge`, if an event of it is longer than a payload may be.
+/// `Memory` if an allocation was refused.
 pub fn answer(alloc: Global, history: &[Script], request: &[u8]) -> Result<Vec<u8>, ForgeFault>
     ensures ok { IfOk result (λ bytes. IsAnswer (script_values history.now) request.now bytes.items) }
     ensures err { IfErr result (IsAnswerFault (script_values history.now) request.now) }

@@ -1,5 +1,5 @@
-//! What a replica sent to a source. MySQL Source Documentation, "Client/Server Protocol", the pages "Connection Phase" and
-//! `COM_QUERY`, and "Replication Protocol", the page `COM_BINLOG_DUMP_GTID`.
+//! What a replica sends to a source. MySQL Source Documentation, "Client/Server Protocol", the pages "Connection Phase"
+//! and `COM_QUERY`, and "Replication Protocol", the page `COM_BINLOG_DUMP_GTID`.
 
 ghost use Rattle.std.specs.Prelude.{◌≡◌, ◌⊎◌, ◌↔◌, List, ℕ, MatchResult, IfOk, IfErr, IsTrue, OnOk, OnErr, Err, ⊤};
 ghost use Rattle.greet.specs.Complete.{HasResponse};
@@ -17,7 +17,7 @@ use wire::{Assembler, LARGEST_PAYLOAD, Step, WireFault};
 /// The payload of the query by which a replica asks for events without checksums.
 const CHECKSUM_QUERY: &[u8] = b"\x03SET @master_binlog_checksum='NONE'";
 
-/// What bytes that are no packets, or want of memory, are told as.
+/// Maps a fault of reading packets: any is `Request`, except `Memory`.
 fn told_of_packets(fault: WireFault) -> ForgeFault
     ensures { result ≡ told_of_packets fault }
 {
@@ -27,7 +27,8 @@ fn told_of_packets(fault: WireFault) -> ForgeFault
     }
 }
 
-/// The payload at the front of the bytes, the first packet with this sequence id, and the bytes behind its packets.
+/// The payload at the front of the bytes, whose first packet must have this sequence id, and the bytes after its
+/// packets.
 fn take(alloc: Global, sequence: u8, bytes: &[u8]) -> Result<(Vec<u8>, &[u8]), ForgeFault>
     ensures found { IfOk result (λ taken. TakesPayload sequence bytes.now taken.0.items taken.1.now) }
     ensures only { (payload rest : List ℕ) → TakesPayload sequence bytes.now payload rest → MatchResult result (λ taken. (taken.0.items ≡ payload) × (taken.1.now ≡ rest)) (λ fault. fault ≡ Memory) }
@@ -47,7 +48,7 @@ fn take(alloc: Global, sequence: u8, bytes: &[u8]) -> Result<(Vec<u8>, &[u8]), F
     }
 }
 
-/// Whether the payload is a response, whatever it says. The only refusal is `Memory`.
+/// Whether the payload is a response, with any content. The only error is `Memory`.
 fn is_response(alloc: Global, payload: &[u8]) -> Result<bool, ForgeFault>
     ensures ok { IfOk result (λ is. IsTrue is ↔ HasResponse payload.now) }
     ensures err { OnErr result (result ≡ Err Memory) }
@@ -66,7 +67,7 @@ fn is_query(payload: &[u8]) -> bool
     payload == CHECKSUM_QUERY
 }
 
-/// The set of the dump command whose packets the bytes are.
+/// The set of the dump command whose packets these bytes are.
 fn check_dump(alloc: Global, bytes: &[u8]) -> Result<GtidSet, ForgeFault>
     ensures found { IfOk result (IsLastSent bytes.now) }
     ensures only { (executed : Ids) → IsLastSent bytes.now executed → MatchResult result (λ found. found ≡ executed) (λ fault. fault ≡ Memory) }
@@ -80,7 +81,7 @@ fn check_dump(alloc: Global, bytes: &[u8]) -> Result<GtidSet, ForgeFault>
     Ok(executed)
 }
 
-/// The set of the dump command whose packets stand in the bytes behind those of the query.
+/// The set of the dump command, from the packets of the query and then those of the command.
 fn check_commands(alloc: Global, bytes: &[u8]) -> Result<GtidSet, ForgeFault>
     ensures found { IfOk result (AreLastSent bytes.now) }
     ensures only { (executed : Ids) → AreLastSent bytes.now executed → MatchResult result (λ found. found ≡ executed) (λ fault. fault ≡ Memory) }
@@ -94,9 +95,9 @@ fn check_commands(alloc: Global, bytes: &[u8]) -> Result<GtidSet, ForgeFault>
 }
 
 /// The set of the dump command in what a replica sent: the packets of a response, of the query for events without
-/// checksums, and of the command, with nothing behind them. The user and the answer to the scramble are not looked at.
+/// checksums, and of the command, with nothing after them. The user and the answer to the scramble are not checked.
 ///
-/// `Request` where the bytes are no such packets; else the only refusal is `Memory`.
+/// `Request` if the bytes are not such packets; otherwise the only error is `Memory`.
 pub fn check(alloc: Global, bytes: &[u8]) -> Result<GtidSet, ForgeFault>
     ensures found { IfOk result (AreSent bytes.now) }
     ensures only { (executed : Ids) → AreSent bytes.now executed → MatchResult result (λ found. found ≡ executed) (λ fault. fault ≡ Memory) }

@@ -1,4 +1,4 @@
-//! Why a scripted source sends nothing, or does not take what it was sent.
+//! Why a scripted source sends nothing, or refuses what it was sent.
 
 ghost use Rattle.std.specs.Prelude.{◌≡◌};
 ghost use Rattle.mrep.specs.declared.forge.fault.ForgeFault.TheVariants.{Memory};
@@ -6,16 +6,16 @@ ghost use Rattle.mrep.specs.declared.forge.fault.ForgeFault.TheVariants.{Memory}
 use std::alloc::{AllocError, AllocFailed};
 use thiserror::Error;
 
-/// Why a scripted source sends nothing, or does not take what it was sent.
+/// Why a scripted source sends nothing, or refuses what it was sent.
 #[derive(Clone, Copy, Debug, PartialEq, Eq, Error)]
 pub enum ForgeFault {
-    /// The bytes are not those of the messages due.
+    /// The bytes are not the expected messages.
     #[error("not the messages of a replica")]
     Request,
-    /// The script at this place of the history, from 0, has a part that no bytes are.
+    /// The script with this index in the history, from 0, has a part that cannot be encoded.
     #[error("script {0} does not fit its tables")]
     Unfit(usize),
-    /// An event has more bytes than a payload may have.
+    /// An event is longer than a payload may be.
     #[error("a payload is too large")]
     TooLarge,
     /// An allocation was refused.

@@ -1,4 +1,4 @@
-//! What a replica is led to that asks a scripted source, as laws about the definitions.
+//! What a scripted source leads a replica to that asks it, as laws about the definitions.
 
 ghost use Rattle.std.specs.Prelude.{◌≡◌, ◌↔◌, ◌⊎◌, ℕ, ◌+◌, ◌++◌, Bool, List, drop, map};
 ghost use Rattle.std.specs.FinSet as set;
@@ -14,14 +14,14 @@ ghost use Rattle.mrep.specs.Forge.{is_once, greeting_payload, ok_payload, IsOpen
 ghost use Rattle.mrep.specs.declared.forge.fault.ForgeFault.{ForgeFault};
 ghost use Rattle.mrep.specs.Resume.{Opens, Resumes, Leads, Reaches, part_changes, transaction, transactions, end_of};
 
-/// What [`crate::forge::opening`] gives opens a connection.
+/// What [`crate::forge::opening`] returns opens a connection.
 pub fn opens(_scramble: &[u8; 20])
     ensures { (bytes : List ℕ) → IsOpening _scramble.now bytes → Opens (greeting_payload _scramble.now) ok_payload ok_payload bytes }
 {
     greet::laws::greetings();
 }
 
-/// A request is answered by one list of bytes, or a script that would be sent cannot be, for one reason, and not both.
+/// A request either is answered by one list of bytes, or has one reason why a script cannot be sent, and not both.
 pub fn one_answer()
     ensures one { (history : List ScriptValue) (request a b : List ℕ) → IsAnswer history request a → IsAnswer history request b → a ≡ b }
     ensures not_both { (history : List ScriptValue) (request bytes : List ℕ) (fault : ForgeFault) → IsAnswer history request bytes → IsUnsendable history request fault → ⊥ }
@@ -30,10 +30,10 @@ pub fn one_answer()
     greet::laws::dumps();
 }
 
-/// A replica that holds the content after the first j transactions of a history, and asks with its executed set, is led
-/// by what the source sends before the dump and in its answer to the content after the whole history: the connection's
-/// transactions are those after the j-th, in order and no others. Where the connection is cut, wherever, it is led to
-/// the content after some of them, and none is skipped.
+/// A replica holds the content after the first j transactions of a history, and asks with its executed set. What the
+/// source sends before the dump and in its answer leads it to the content after the whole history: the connection's
+/// transactions are those after the j-th, in order and no others. If the connection is cut, at any byte, it is led to
+/// the content after some of them, and none is left out in between.
 pub fn resuming(_opening: &[u8], _answer: &[u8])
     ensures leads { (limit : ℕ) (names : Names) (history : List ScriptValue) (j : ℕ) (held last : Content) (request : List ℕ) → (r : Resumes limit names history j held last request _opening.now _answer.now)
         → Leads limit names held last (_opening.now ++ _answer.now) (transactions names (drop j history)) (end_of (is_once r.dump.flags)) }
@@ -43,9 +43,9 @@ pub fn resuming(_opening: &[u8], _answer: &[u8])
     greet::laws::dumps();
 }
 
-/// Whatever beginning of that connection a replica has followed, and wherever it is stopped: what it took, and what a crash
-/// leaves, are the content after the first so many transactions of the history. None that it had is lost, and at most one
-/// is more.
+/// Whatever prefix of that connection a replica has followed, and wherever it is stopped: what it took, and what a
+/// crash leaves, is the content after the first transactions of the history, some number of them. None that it had is
+/// lost, and at most one more is there.
 pub fn stopped_anywhere(_opening: &[u8], _answer: &[u8])
     ensures { (limit : ℕ) (names : Names) (history : List ScriptValue) (j : ℕ) (held last : Content) (request : List ℕ) → (r : Resumes limit names history j held last request _opening.now _answer.now)
         → (part more : List ℕ) (was : Bool) (new : Content) (end : Ended) (left : Content) → _opening.now ++ _answer.now ≡ part ++ more → Conn limit names was held part new end → IsLeft limit names held part new end left
@@ -55,8 +55,9 @@ pub fn stopped_anywhere(_opening: &[u8], _answer: &[u8])
     replica::laws::left_begun();
 }
 
-/// The transactions of a history that a connection is said to have are without the changes of tables that are not
-/// followed: with no list they have all, and a replica takes one without them exactly where it takes it whole.
+/// The transactions of a history, as a connection has them, leave out the changes of tables that are not followed; with
+/// no list they have all changes. A replica takes a transaction without these changes exactly if it takes the whole
+/// one.
 pub fn passes_over()
     ensures all { (part : PartValue) → part_changes set.empty part ≡ map (change_of part.table) part.pairs }
     ensures taken { (names : Names) (script : ScriptValue) (old new : Content) →

@@ -12,7 +12,7 @@ use greet::Greeting;
 use std::alloc::Global;
 use wire::write_payload;
 
-/// The version of the server that a scripted source is.
+/// The server version of a scripted source.
 const VERSION: &[u8] = b"8.0.36";
 
 /// CLIENT_LONG_PASSWORD, CLIENT_LONG_FLAG, CLIENT_PROTOCOL_41, CLIENT_TRANSACTIONS, CLIENT_SECURE_CONNECTION and
@@ -22,8 +22,8 @@ const CAPABILITIES: u32 = 0x0008_a205;
 /// An OK without rows, insert id and warnings, in autocommit.
 const OK: &[u8] = &[0, 0, 0, 2, 0, 0, 0];
 
-/// A greeting with this scramble, the OK to the login and the OK to the query: what a source sends up to the dump
-/// command. The only refusal is `Memory`.
+/// A greeting with this scramble, the OK to the login and the OK to the query: what a source sends before the dump
+/// command. The only error is `Memory`.
 pub fn opening(alloc: Global, scramble: &[u8; 20]) -> Result<Vec<u8>, ForgeFault>
     ensures ok { IfOk result (λ bytes. IsOpening scramble.now bytes.items) }
     ensures err { OnErr result (result ≡ Err Memory) }
@@ -56,7 +56,7 @@ fn greeting(alloc: Global, scramble: &[u8; 20]) -> Result<Vec<u8>, ForgeFault>
     }
 }
 
-/// Appends the packets of a short payload. The only refusal is `Memory`.
+/// Appends the packets of a short payload. The only error is `Memory`.
 fn send(sequence: u8, payload: &[u8], out: &mut Vec<u8>) -> Result<(), ForgeFault>
     ensures ok { OnOk result (AppendsPayload sequence payload.now out.old.items out.new.items) }
     ensures err { OnErr result (result ≡ Err Memory) }

@@ -1,28 +1,28 @@
-//! Transactions that are to be sent.
+//! Transactions to be sent.
 
 use binlog::{OwnedPair, RowsKind, TableDef};
 use gtid::Gtid;
 
-/// What a transaction ends with.
+/// How a transaction ends.
 #[derive(Clone, Copy, Debug, PartialEq, Eq)]
 pub enum Ending {
-    /// The event XID, with the number of the GTID.
+    /// An XID event, with the number of the GTID.
     Xid,
-    /// The query COMMIT.
+    /// A QUERY event with the text COMMIT.
     Commit,
 }
 
 /// A table map, and a rows event of its table.
 #[derive(Debug, Drop)]
 pub struct Part {
-    /// The table's number.
+    /// The number that the table map gives to the table.
     pub id: u64,
     pub table: TableDef,
     pub kind: RowsKind,
     pub pairs: Vec<OwnedPair>,
 }
 
-/// A transaction that is to be sent.
+/// A transaction to be sent.
 #[derive(Debug, Drop)]
 pub struct Script {
     pub gtid: Gtid,

@@ -35,7 +35,7 @@ fn send(sequence: u8, payload: &[u8], out: &mut Vec<u8>) -> Result<u8, ForgeFaul
     }
 }
 
-/// Appends the packet of an EOF. The only refusal is `Memory`.
+/// Appends the packet of an EOF. The only error is `Memory`.
 pub(crate) fn send_eof(sequence: u8, out: &mut Vec<u8>) -> Result<u8, ForgeFault>
     ensures ok { IfOk result (λ next. AppendsPackings sequence (eof_payload ∷ []) out.old.items out.new.items next) }
     ensures err { OnErr result (result ≡ Err Memory) }
@@ -46,7 +46,7 @@ pub(crate) fn send_eof(sequence: u8, out: &mut Vec<u8>) -> Result<u8, ForgeFault
     }
 }
 
-/// The payload of an event. The only refusal is `Memory`.
+/// The payload of an event. The only error is `Memory`.
 fn payload_of(alloc: Global, event: &Event<'_>) -> Result<Vec<u8>, ForgeFault>
     requires { IsWritable (event_value event.now) }
     ensures ok { IfOk result (λ payload. payload.items ≡ payload_of (event_value event.now)) }
@@ -76,7 +76,7 @@ fn send_event(
     send(sequence, &payload, out)
 }
 
-/// Appends the packets of an event that is short. The only refusal is `Memory`.
+/// Appends the packets of a short event. The only error is `Memory`.
 pub(crate) fn send_short(
     alloc: Global,
     event: &Event<'_>,
@@ -94,14 +94,14 @@ pub(crate) fn send_short(
     }
 }
 
-/// Whether some bytes are the part's table map, and some the rows of its pairs.
+/// Whether the part's table map and the rows of its pairs can be written.
 fn fits(part: &Part) -> bool
     ensures { IsTrue result ↔ FitsPart (part_value part.now) }
 {
     map_fits(part) && rows_fit(part.kind, &part.table.types, &part.pairs)
 }
 
-/// Whether some bytes are the part's table map.
+/// Whether the part's table map can be written.
 fn map_fits(part: &Part) -> bool
     ensures { IsTrue result ↔ IsWritable (table_map (part_value part.now).table) }
 {
@@ -123,7 +123,7 @@ fn send_map(alloc: Global, part: &Part, sequence: u8, out: &mut Vec<u8>) -> Resu
     )
 }
 
-/// The bytes of a part's rows. The only refusal is `Memory`.
+/// The bytes of a part's rows. The only error is `Memory`.
 fn rows_of(alloc: Global, part: &Part) -> Result<Vec<u8>, ForgeFault>
     requires { FitsPart (part_value part.now) }
     ensures ok { IfOk result (λ bytes. bytes.items ≡ rows_bytes (part_value part.now).table.columns (part_value part.now).pairs) }
@@ -151,7 +151,7 @@ fn send_rows(alloc: Global, part: &Part, sequence: u8, out: &mut Vec<u8>) -> Res
     }
 }
 
-/// Appends the packets of a part of the script at this place.
+/// Appends the packets of a part of the script with this index.
 fn send_part(
     alloc: Global,
     at: usize,
@@ -170,7 +170,7 @@ fn send_part(
     send_rows(alloc, part, next, out)
 }
 
-/// Appends the packets of the parts of the script at this place.
+/// Appends the packets of the parts of the script with this index.
 fn send_parts(
     alloc: Global,
     at: usize,
@@ -189,7 +189,7 @@ fn send_parts(
     Ok(next)
 }
 
-/// Appends the packets of a transaction's beginning. The only refusal is `Memory`.
+/// Appends the packets of a transaction's beginning. The only error is `Memory`.
 fn announce(alloc: Global, id: Gtid, sequence: u8, out: &mut Vec<u8>) -> Result<u8, ForgeFault>
     ensures ok { IfOk result (λ next. AppendsPackings sequence (payloads_of (gtid id.source id.number ∷ begin ∷ [])) out.old.items out.new.items next) }
     ensures event { OnOk result (IsWritable (gtid id.source id.number)) }
@@ -199,7 +199,7 @@ fn announce(alloc: Global, id: Gtid, sequence: u8, out: &mut Vec<u8>) -> Result<
     send_short(alloc, &Event::Begin, next, out)
 }
 
-/// Appends the packets of a transaction's end. The only refusal is `Memory`.
+/// Appends the packets of a transaction's end. The only error is `Memory`.
 fn send_end(
     alloc: Global,
     ending: Ending,
@@ -217,7 +217,7 @@ fn send_end(
     }
 }
 
-/// Appends the packets of the script at this place.
+/// Appends the packets of the script with this index.
 pub(crate) fn send_script(
     alloc: Global,
     at: usize,

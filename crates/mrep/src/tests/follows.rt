@@ -1,4 +1,4 @@
-//! Sources that are followed: over loopback, and a history that is asked for again after every cut.
+//! Sources that are followed: over the loopback interface, and a history that is asked for again after every cut.
 
 use super::forge::{request, row, three};
 use super::replays::fresh;
@@ -24,7 +24,7 @@ const SCRAMBLE: [u8; 20] = [
 
 const A: &str = "3e11fa47-71ca-11e1-9e33-c80aa9429562:";
 
-/// A store in memory, of all tables, or of shop.other alone.
+/// A store in memory, for all tables or for shop.other alone.
 fn store(alloc: Global, all: bool) -> Result<Store<MemStore>, Fail> {
     let conn = Connection::open_in_memory(alloc)?;
     if !conn.is_autocommit() {
@@ -58,7 +58,7 @@ fn read_one(alloc: Global, store: &mut Store<MemStore>, stream: &[u8]) -> Result
     }
 }
 
-/// The dump command for what a store has executed.
+/// The dump command with the executed set of a store.
 fn ask(alloc: Global, store: &Store<MemStore>) -> Result<Vec<u8>, Fail> {
     let mut set = Vec::new(alloc);
     store.executed().encode(&mut set)?;
@@ -90,7 +90,7 @@ fn count(
     Ok(store.count(b"shop", b"items", &image)?)
 }
 
-/// How often (7, "ab"), (8, "cd") and (9, "ef") are there.
+/// The numbers of copies of (7, "ab"), (8, "cd") and (9, "ef").
 fn counts(alloc: Global, store: &mut Store<MemStore>) -> Result<[u64; 3], Fail> {
     let first = count(alloc, store, 7, b"ab")?;
     let second = count(alloc, store, 8, b"cd")?;
@@ -104,7 +104,7 @@ fn has_executed(alloc: Global, store: &Store<MemStore>, numbers: &str) -> Result
     Ok(text.strip_prefix(A).unwrap_or("") == numbers)
 }
 
-/// What a replica holds after so many bytes of the history, and how long the answer is that it gets then.
+/// What a replica holds after this many bytes of the history, and the length of the answer that it gets then.
 #[derive(Clone, Copy)]
 struct Cut {
     up_to: usize,
@@ -120,7 +120,7 @@ fn whole(alloc: Global, history: &[Script]) -> Result<Vec<u8>, Fail> {
     Ok(stream)
 }
 
-/// Reads a beginning of the stream, asks again, and reads the answer.
+/// Reads a prefix of the stream, asks again, and reads the answer.
 fn resumes(
     rt: &impl Abort,
     alloc: Global,
@@ -144,7 +144,7 @@ fn resumes(
     Ok(())
 }
 
-/// The same on a new database.
+/// As above, with a new database.
 fn resumes_from_new(
     rt: &impl Abort,
     alloc: Global,
@@ -158,8 +158,8 @@ fn resumes_from_new(
     done
 }
 
-/// A history, whether the rows of its table are kept, how often each is there in the end, and whether it is cut at every
-/// length or at the ends of each part alone.
+/// A history, whether the rows of its table are kept, the final number of copies of each row, and whether the stream is
+/// cut at every length or only at the ends of its parts.
 #[derive(Clone, Copy)]
 struct Given<'a> {
     history: &'a [Script],
@@ -168,7 +168,7 @@ struct Given<'a> {
     everywhere: bool,
 }
 
-/// Cuts the stream, each time on a new database.
+/// Cuts the stream, each time with a new database.
 fn resumes_behind_each_cut(
     rt: &impl Abort,
     alloc: Global,
@@ -190,8 +190,7 @@ fn resumes_behind_each_cut(
     Ok(())
 }
 
-/// The cuts of the history, where each transaction ends so many bytes later than with an XID, and its rows are kept or
-/// not.
+/// The cuts of the history: each transaction ends this many bytes later than with an XID, and its rows are kept or not.
 fn cuts(more: usize, kept: u64) -> [Cut; 4] {
     let next = |left: usize, bytes: usize| bytes.saturating_add(more.saturating_mul(left).min(100));
     [
@@ -261,7 +260,7 @@ fn resumes_without_a_table(rt: HostRuntime) -> Result<(), Fail> {
     resumes_behind_each_cut(&rt, rt.alloc(), &given, &cuts(0, 0))
 }
 
-/// A source at an end of a connection, and a replica at the other.
+/// A source at one end of a connection, and a replica at the other.
 fn follows(
     rt: &HostRuntime,
     store: &mut Store<MemStore>,
@@ -279,7 +278,7 @@ fn follows(
     Ok((end, sent))
 }
 
-/// Follows a source that ends its log, twice.
+/// Follows a source that sends an EOF at the end of its log, twice.
 fn follows_twice(
     rt: &HostRuntime,
     abort: &impl Abort,
@@ -312,7 +311,7 @@ fn follows_over_loopback(rt: HostRuntime) -> Result<(), Fail> {
     done
 }
 
-/// What `mrep follow` answers.
+/// What `mrep follow` gives.
 fn follow_words(
     rt: &HostRuntime,
     host: &str,
@@ -357,7 +356,7 @@ const LONG: &str = "aaaaaaaaaaaaaaaaaaaaaaaaaaaaaaaaaaaaaaaaaaaaaaaaaaaaaaaaaaaa
     aaaaaaaaaaaaaaaaaaaaaaaaaaaaaaaaaaaaaaaaaaaaaaaaaaaaaaaaaaaaaaaa\
     aaaaaaaaaaaaaaaaaaaaaaaaaaaaaaaaaaaaaaaaaaaaaaaaaaaaaaaaaaaaaaaa";
 
-/// Faults of the words come first, then the password's file, the user's name and the database.
+/// Faults of the arguments come first, then those of the password file, the user name and the database.
 #[test]
 fn follow_looks_for_faults_in_order(rt: HostRuntime) -> Result<(), Fail> {
     fs::write(&rt, "password", b"secret\n")?;

@@ -40,7 +40,7 @@ pub fn row(alloc: Global, number: u64, text: &[u8]) -> Result<Vec<OwnedCell>, Fa
     Ok(cells)
 }
 
-/// A transaction of one part over a table of id 1.
+/// A transaction of one part, for a table with the number 1.
 pub fn script(
     alloc: Global,
     number: u64,
@@ -90,7 +90,7 @@ fn opens(rt: HostRuntime) -> Result<(), Fail> {
     Ok(())
 }
 
-/// One transaction, and an EOF where one is asked for.
+/// One transaction, and an EOF if it is asked for.
 #[test]
 fn answers(rt: HostRuntime) -> Result<(), Fail> {
     let alloc = rt.alloc();
@@ -106,7 +106,7 @@ fn answers(rt: HostRuntime) -> Result<(), Fail> {
     Ok(())
 }
 
-/// The packet of the query COMMIT in place of XID.
+/// The packet of the query COMMIT instead of XID.
 #[rattlefmt::skip]
 const COMMIT: [u8; 44] = [
     0x28, 0x00, 0x00, 0x06, 0x00, 0x00, 0x00, 0x00, 0x00, 0x02, 0x01, 0x00, 0x00, 0x00, 0x27, 0x00,
@@ -126,7 +126,7 @@ fn ends_with_commit(rt: HostRuntime) -> Result<(), Fail> {
     Ok(())
 }
 
-/// Numbers 1 and 3 insert a row each, and 2 updates the first.
+/// The numbers 1 and 3 insert a row each, and 2 updates the first row.
 pub fn three(alloc: Global) -> Result<Vec<Script>, Fail> {
     let mut history = Vec::new(alloc);
     let mut first = Vec::new(alloc);
@@ -165,7 +165,7 @@ pub fn request(alloc: Global, numbers: &[u64]) -> Result<Vec<u8>, Fail> {
     Ok(payload)
 }
 
-/// How long the answers are, by what the replica has.
+/// The lengths of the answers, for what the replica has.
 #[test]
 fn answers_what_is_due(rt: HostRuntime) -> Result<(), Fail> {
     let alloc = rt.alloc();
@@ -186,7 +186,7 @@ fn answers_what_is_due(rt: HostRuntime) -> Result<(), Fail> {
     Ok(())
 }
 
-/// The answer for three transactions to a replica that has none.
+/// The answer with three transactions, for a replica that has none.
 #[rattlefmt::skip]
 const HISTORY: [u8; 790] = [
     0x75, 0x00, 0x00, 0x01, 0x00, 0x00, 0x00, 0x00, 0x00, 0x0f, 0x01, 0x00, 0x00, 0x00, 0x74, 0x00,
@@ -241,7 +241,7 @@ const HISTORY: [u8; 790] = [
     0x00, 0x00, 0x00, 0x00, 0x00, 0x00,
 ];
 
-/// Which fault comes first: of the request, and of the scripts that would be sent.
+/// Which fault comes first: that of the request, then those of the scripts that would be sent.
 #[test]
 fn refuses(rt: HostRuntime) -> Result<(), Fail> {
     let alloc = rt.alloc();
@@ -309,7 +309,7 @@ fn checks(rt: HostRuntime) -> Result<(), Fail> {
     Ok(())
 }
 
-/// A table of one column whose values have four bytes for their length.
+/// A table of one column whose values have a length of four bytes.
 fn blobs(alloc: Global) -> Result<TableDef, Fail> {
     let mut types = Vec::new(alloc);
     let kind = ColumnKind::Blob { prefix: 4 };

@@ -1,4 +1,4 @@
-//! `replay` and the commands over a database.
+//! `replay` and the commands that use a database.
 
 use super::script::{OPENING, agrees, script};
 use super::streams::ONE_TRANSACTION;
@@ -10,7 +10,7 @@ use std::test::Fail;
 /// The row that the streams write.
 const ROW: &str = "7/4,x6162";
 
-/// A command with these words answers this status and prints these lines.
+/// A command with these arguments returns this status and prints these lines.
 fn says(rt: &HostRuntime, words: &[&str], want: u8, lines: &str) -> Result<(), Fail> {
     let (status, out, err) = run(rt, words)?;
     if status == want && out.as_str() == lines {
@@ -30,7 +30,7 @@ pub fn fresh(rt: &HostRuntime, db: &str) -> Result<(), Fail> {
     Ok(())
 }
 
-/// The executed set, without the source, and how often the row is there.
+/// The executed set, without the source, and the number of copies of the row.
 fn holds(rt: &HostRuntime, db: &str, set: &str, count: u64) -> Result<(), Fail> {
     let alloc = rt.alloc();
     let source = if set.is_empty() { "" } else { A };
@@ -44,7 +44,8 @@ fn holds(rt: &HostRuntime, db: &str, set: &str, count: u64) -> Result<(), Fail> 
     says(rt, &["mrep", "show", "--db", db], 0, rows.as_str())
 }
 
-/// A stream taken by a new database answers this status and line, and leaves this set and so many rows.
+/// For a stream read into a new database, the status and the line are these, and so are the set and the number of rows
+/// afterwards.
 fn takes(
     rt: &HostRuntime,
     stream: &[u8],
@@ -64,7 +65,7 @@ fn takes(
     Ok(())
 }
 
-/// A transaction is taken once, however often its stream comes, and not at all where its end is cut off.
+/// A transaction is applied once, however often its stream comes, and not at all if its end is cut off.
 #[test]
 fn takes_once(rt: HostRuntime) -> Result<(), Fail> {
     fresh(&rt, "once.db")?;
@@ -85,7 +86,7 @@ fn takes_once(rt: HostRuntime) -> Result<(), Fail> {
     Ok(())
 }
 
-/// The names of the streams of one transaction cut to each length from 417 on, and the lines that they give.
+/// The names of the streams of one transaction, cut to each length from 417 on, and their lines.
 fn cuts(rt: &HostRuntime, lines: &mut String) -> Result<Vec<String>, Fail> {
     let mut names = Vec::new(rt.alloc());
     for length in 417..449usize {
@@ -99,7 +100,7 @@ fn cuts(rt: &HostRuntime, lines: &mut String) -> Result<Vec<String>, Fail> {
     Ok(names)
 }
 
-/// Wherever its last packet is cut, a transaction is not taken, and its whole stream is taken then.
+/// Wherever its last packet is cut, a transaction is not applied; from its whole stream it is.
 #[test]
 fn cut_anywhere(rt: HostRuntime) -> Result<(), Fail> {
     fresh(&rt, "cuts.db")?;
@@ -126,7 +127,7 @@ fn cut_anywhere(rt: HostRuntime) -> Result<(), Fail> {
     Ok(())
 }
 
-/// Streams of events, each into a new database: the status, the line, and what is there afterwards.
+/// Streams of events, each read into a new database: the status, the line, and the content afterwards.
 #[test]
 fn events_in_order(rt: HostRuntime) -> Result<(), Fail> {
     assert!(rt; agrees(rt.alloc())?);
@@ -159,7 +160,7 @@ fn events_in_order(rt: HostRuntime) -> Result<(), Fail> {
     Ok(())
 }
 
-/// An event that is refused ends the connection, and the transaction before it stands.
+/// An event that is refused ends the connection, and the transaction before it stays.
 #[test]
 fn refused_behind(rt: HostRuntime) -> Result<(), Fail> {
     let cases = [
@@ -187,7 +188,7 @@ fn changed(rt: &HostRuntime, at: usize, new: u8) -> Result<Vec<u8>, Fail> {
     Ok(stream)
 }
 
-/// Bytes of one transaction up to a place, and then these.
+/// The bytes of one transaction up to an offset, and then these.
 fn with(rt: &HostRuntime, until: usize, behind: &[u8]) -> Result<Vec<u8>, Fail> {
     let front = ONE_TRANSACTION.get(..until).ok_or("a shorter stream")?;
     let mut stream = Vec::from_slice(rt.alloc(), front)?;
@@ -203,7 +204,7 @@ const EOF: &[u8] = b"\x05\0\0\x07\xfe\0\0\x02\0";
 
 const OLD: &[u8] = b"\x01\0\0\x02\xfe";
 
-/// A switch of the authentication with this id.
+/// A switch of the authentication method with this sequence id.
 fn switch(rt: &HostRuntime, id: u8) -> Result<Vec<u8>, Fail> {
     let mut packet = Vec::from_slice(rt.alloc(), &[0x2c, 0, 0, id, 0xfe])?;
     packet.extend_from_slice(b"mysql_native_password\0")?;
@@ -212,7 +213,7 @@ fn switch(rt: &HostRuntime, id: u8) -> Result<Vec<u8>, Fail> {
     Ok(packet)
 }
 
-/// What a source says before the first event, and at its end.
+/// What a source sends before the first event, and at its end.
 #[test]
 fn messages(rt: HostRuntime) -> Result<(), Fail> {
     let lacking = changed(&rt, 30, 0)?;
@@ -237,7 +238,7 @@ fn messages(rt: HostRuntime) -> Result<(), Fail> {
     takes(&rt, &twice, 1, "Greet.Unexpected at 126 applied 0", "", 0)
 }
 
-/// A stream taken by a new database for one table.
+/// A stream read into a new database for one table.
 fn takes_only(
     rt: &HostRuntime,
     stream: &[u8],
@@ -254,7 +255,7 @@ fn takes_only(
     holds(rt, "only.db", set, count)
 }
 
-/// A transaction that was refused is taken where it comes again in its place.
+/// A transaction that was refused is applied when it comes again in its place.
 #[test]
 fn refused_then_taken(rt: HostRuntime) -> Result<(), Fail> {
     fresh(&rt, "again.db")?;
@@ -310,7 +311,7 @@ fn only_tables(rt: HostRuntime) -> Result<(), Fail> {
     Ok(())
 }
 
-/// A GTID that is recorded without changes is not taken from a stream.
+/// A GTID that was recorded without changes is not applied from a stream.
 #[test]
 fn skips(rt: HostRuntime) -> Result<(), Fail> {
     fresh(&rt, "skips.db")?;
@@ -337,7 +338,7 @@ fn skips(rt: HostRuntime) -> Result<(), Fail> {
     Ok(())
 }
 
-/// Words with a mistake in them, before any file is looked for.
+/// Mistakes in the arguments, which are found before any file is looked for.
 #[test]
 fn mistakes(rt: HostRuntime) -> Result<(), Fail> {
     for item in ["shop", "shop.a.b", "shop.%4", "shop.%g0", "%.a", ""] {
@@ -422,7 +423,7 @@ fn what_a_source_says(rt: HostRuntime) -> Result<(), Fail> {
     fresh(&rt, "denied.db")
 }
 
-/// The first status that is not 0 is answered, and a file that is no database is status 3.
+/// The first status that is not 0 is returned, and a file that is not a database is status 3.
 #[test]
 fn statuses(rt: HostRuntime) -> Result<(), Fail> {
     fresh(&rt, "statuses.db")?;

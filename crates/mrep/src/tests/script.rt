@@ -1,4 +1,4 @@
-//! Streams made of events, by a letter for each.
+//! Streams of events, each event written as a letter.
 
 use super::streams::ONE_TRANSACTION;
 use std::alloc::Global;
@@ -12,13 +12,13 @@ const FORMAT: usize = 221;
 /// 3e11fa47-71ca-11e1-9e33-c80aa9429562.
 const SOURCE: &[u8] = b"\x3e\x11\xfa\x47\x71\xca\x11\xe1\x9e\x33\xc8\x0a\xa9\x42\x95\x62";
 
-/// What stands before the text of a query without a schema and without a status.
+/// What comes before the text of a query without a schema and without a status.
 const QUERY: &[u8] = b"\0\0\0\0\0\0\0\0\0\0\0\0\0\0";
 
-/// The map of shop.items with the number 1: LONG, VARCHAR(20).
+/// The table map of shop.items with the number 1: LONG, VARCHAR(20).
 const MAP: &[u8] = b"\x01\0\0\0\0\0\0\0\x04shop\0\x05items\0\x02\x03\x0f\x02\x14\0\x03";
 
-/// The same with the type 253 in place of VARCHAR.
+/// The same table map with the type 253 instead of VARCHAR.
 const VAR_STRING: &[u8] = b"\x01\0\0\0\0\0\0\0\x04shop\0\x05items\0\x02\x03\xfd\x02\x14\0\x03";
 
 /// Rows of the table 1 with (7, "ab"): one, two, and one before and after an update.
@@ -28,7 +28,7 @@ const TWO: &[u8] = b"\x01\0\0\0\0\0\x01\0\x02\0\x02\x03\0\x07\0\0\0\x02ab\0\x07\
 
 const PAIR: &[u8] = b"\x01\0\0\0\0\0\x01\0\x02\0\x02\x03\x03\0\x07\0\0\0\x02ab\0\x07\0\0\0\x02ab";
 
-/// A row of the table 2, and one of the table 1 without its second column.
+/// A row of table 2, and one of table 1 without its second column.
 const OF_TWO: &[u8] = b"\x02\0\0\0\0\0\x01\0\x02\0\x02\x03\0\x07\0\0\0\x02ab";
 
 const PART: &[u8] = b"\x01\0\0\0\0\0\x01\0\x02\0\x02\x01\0\x07\0\0\0";
@@ -60,7 +60,7 @@ fn format(alloc: Global, algorithm: u8) -> Result<Vec<u8>, Fail> {
     Ok(body)
 }
 
-/// The type and the body of the event of a letter, where it has no body of its own here.
+/// The type and the body of the event of a letter whose body is fixed.
 fn plain(letter: u8) -> (u8, &'static [u8]) {
     match letter {
         b'x' => (16, FIRST),
@@ -78,7 +78,7 @@ fn plain(letter: u8) -> (u8, &'static [u8]) {
     }
 }
 
-/// The type and the body of the event of a letter: a digit is a GTID of this number.
+/// The type and the body of the event of a letter; a digit is a GTID with this number.
 fn event(alloc: Global, letter: u8) -> Result<(u8, Vec<u8>), Fail> {
     match letter {
         b'0'..=b'9' => Ok((33, gtid(alloc, u64::from(letter - b'0').to_le_bytes())?)),

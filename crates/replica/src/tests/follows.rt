@@ -11,7 +11,7 @@ use std::process::Abort;
 use std::test::Fail;
 use store::Store;
 
-/// What is asked of a stream: the most bytes that a read gives, or 0 for a packet, and that a write takes; after how
+/// Properties of a stream: the most bytes that a read gives, or 0 for one packet, and that a write takes; after how
 /// many bytes its reads and writes fail.
 #[derive(Clone, Copy)]
 struct Given {
@@ -39,7 +39,7 @@ const BY_PACKETS: Given = Given {
     ..AT_ONCE
 };
 
-/// What came of following: the end, what was sent, how many bytes were left, and how many reads and writes had failed.
+/// The outcome of following: the end, what was sent, how many bytes were left, and how many reads and writes failed.
 type Followed = (End, Vec<u8>, usize, (u64, u64));
 
 /// Follows a stream into a store.
@@ -62,8 +62,8 @@ fn follow_into(
     (end, stream.into_written(), left, failed)
 }
 
-/// What is expected: the end, what was sent, how many bytes are left, how many reads and writes have failed, and what the
-/// store holds.
+/// The expected outcome: the end, what was sent, how many bytes are left, how many reads and writes failed, and what
+/// the store holds.
 #[derive(Clone, Copy)]
 struct Want<'a> {
     end: End,
@@ -73,7 +73,7 @@ struct Want<'a> {
     then: (&'a str, u64),
 }
 
-/// Follows a stream into a store, and looks at what came of it.
+/// Follows a stream into a store, and checks the outcome.
 fn follows_into(
     rt: &impl Abort,
     alloc: Global,
@@ -92,7 +92,7 @@ fn follows_into(
     Ok(())
 }
 
-/// The same from a new database.
+/// As `follows_into`, with a new database.
 fn follows(
     rt: &impl Abort,
     alloc: Global,
@@ -149,7 +149,7 @@ fn follows_to_an_end_in_the_bytes(rt: HostRuntime) -> Result<(), Fail> {
     follows(&rt, rt.alloc(), &large, BY_BYTES, &want)
 }
 
-/// Where the last packet ends that was read whole.
+/// Where the last packet ends that was read completely, after this many bytes.
 fn packets_end(read: usize) -> u64 {
     let mut at = 0;
     for end in PACKET_ENDS {
@@ -160,7 +160,7 @@ fn packets_end(read: usize) -> u64 {
     at
 }
 
-/// How many bytes are owed for so many bytes read.
+/// How many bytes are due in reply to this many bytes read.
 fn owed(read: usize) -> usize {
     match read {
         0..78 => 0,
@@ -216,7 +216,7 @@ fn tells_each_failed_write(rt: HostRuntime) -> Result<(), Fail> {
     Ok(())
 }
 
-/// A write that takes nothing has failed, though it is no error; and what was read before is in full there.
+/// A write that takes nothing has failed, though it returns no error; what was read before is applied completely.
 #[test]
 fn tells_a_write_that_takes_nothing(rt: HostRuntime) -> Result<(), Fail> {
     let given = Given {
@@ -236,8 +236,8 @@ fn tells_a_write_that_takes_nothing(rt: HostRuntime) -> Result<(), Fail> {
     follows(&rt, rt.alloc(), &eof, given, &want)
 }
 
-/// The bytes of the authentication behind the response's header and user, which `SHA1(password) xor SHA1(scramble,
-/// SHA1(SHA1(password)))` of another program gave.
+/// The bytes of the authentication after the response's header and user. They were computed by another program as
+/// `SHA1(password) xor SHA1(scramble, SHA1(SHA1(password)))`.
 fn logs_in_with(
     rt: &impl Abort,
     alloc: Global,
@@ -282,7 +282,7 @@ fn logs_in_with_a_password(rt: HostRuntime) -> Result<(), Fail> {
     done
 }
 
-/// What the last failure of a stream was that is followed into a store.
+/// The cause of the last failure of a stream that is followed into a store.
 fn failure(
     alloc: Global,
     store: &mut Store<MemStore>,

@@ -6,24 +6,24 @@ use std::alloc::Global;
 use std::process::Abort;
 use std::test::Fail;
 
-/// What a payload of the dump is.
+/// The kinds of payloads of the dump.
 #[derive(Clone, Copy)]
 enum Sent {
     Format,
     Gtid(u8),
     Begin,
     Map,
-    /// (7, "ab") put in once, or twice.
+    /// (7, "ab") inserted once, or twice.
     One,
     Two,
-    /// (7, "ab") put in the place of itself.
+    /// (7, "ab") replaced by itself.
     Same,
     Rotate,
     Heartbeat,
     Xid,
-    /// The number 2^63 - 1, which no GTID has.
+    /// The number 2^63 - 1, which is not a transaction number.
     TooLarge,
-    /// A type that no event has.
+    /// A type that does not exist.
     Unknown,
     /// A schema change, and a savepoint.
     Create,
@@ -58,7 +58,7 @@ fn payload(sent: Sent) -> &'static [u8] {
     }
 }
 
-/// Where a GTID's number stands in its payload.
+/// The offset of a GTID's number in its payload.
 const NUMBER: usize = 37;
 
 /// The opening, and these payloads, each in a packet.
@@ -157,7 +157,7 @@ fn takes_a_transaction_without_rows(rt: HostRuntime) -> Result<(), Fail> {
 fn needs_a_format_and_a_map(rt: HostRuntime) -> Result<(), Fail> {
     use Sent::{Begin, Format, Gtid, Map, Two, Xid};
     let unformatted = [Gtid(1), Begin, Map, Two, Xid];
-    // All behind the opening is left.
+    // Nothing after the opening is taken.
     let none = ("Gather.NoFormat", 49 + 43 + 52 + 52 + 32, 0);
     reads_both(&rt, rt.alloc(), &unformatted, none, ("", 0))?;
     let unmapped = [Format, Gtid(1), Begin, Two, Xid];
@@ -175,7 +175,7 @@ fn names_events_that_it_does_not_take(rt: HostRuntime) -> Result<(), Fail> {
         (Savepoint, "Statement", 49),
     ];
     for (last, name, behind) in cases {
-        // The transaction before it stands.
+        // The transaction before it stays.
         let dump = [Format, Gtid(1), Begin, Map, Two, Xid, last];
         reads_both(&rt, rt.alloc(), &dump, (name, behind, 1), ("1", 2))?;
     }

@@ -1,4 +1,5 @@
-//! Stops of the database: each call of a disk in turn is the first that fails, then the disks crash and are opened again.
+//! Failures of the database: each call of a disk in turn is the first that fails, then the disks crash and the database
+//! is opened again.
 
 use super::streams::{HISTORY, ONE_TRANSACTION};
 use super::{End, LIMIT, changed, compare, config, held, name, read, whole};
@@ -20,7 +21,7 @@ const OPTIONS: Options = Options {
     seed: 1,
 };
 
-/// Reads the history twice over one store.
+/// Reads the history twice into one store.
 fn read_twice(alloc: Global, store: &mut Store<FileStore<Fused>>) -> Result<Vec<Ended>, Fail> {
     let mut connections = Vec::new(alloc);
     connections.push(whole(alloc, &HISTORY)?)?;
@@ -29,8 +30,8 @@ fn read_twice(alloc: Global, store: &mut Store<FileStore<Fused>>) -> Result<Vec<
     Ok(run(alloc, &config, store, &connections)?)
 }
 
-/// What came of the two connections over a database, and its files with no further call. No connection is read where the
-/// database is not opened.
+/// The ends of two connections into a database, and its files without any further call. No connection is read if the
+/// database cannot be opened.
 fn read_on(
     alloc: Global,
     conn: Connection<FileStore<Fused>>,
@@ -49,7 +50,7 @@ fn read_on(
     }
 }
 
-/// The same on new disks, of which one stops after so many calls, and then both crash.
+/// As `read_on`, on new disks, one of which fails after this many calls; then both crash.
 fn stop(alloc: Global, log_calls: u64, db_calls: u64) -> Result<(Vec<Ended>, Files<Fused>), Fail> {
     let log = Fuse::new(Memory::new(alloc), log_calls);
     let db = Fuse::new(Memory::new(alloc), db_calls);
@@ -66,7 +67,7 @@ fn stop(alloc: Global, log_calls: u64, db_calls: u64) -> Result<(Vec<Ended>, Fil
     Ok((ends, files))
 }
 
-/// What a replica holds after so many transactions of the history.
+/// What a replica holds after this many transactions of the history.
 const STATES: [(u64, (&str, u64)); 4] = [
     (0, ("", 0)),
     (1, ("1", 1)),
@@ -85,7 +86,7 @@ fn taken(alloc: Global, store: &mut Store<FileStore<Fused>>) -> Result<u64, Fail
     Err("no state of the history".into())
 }
 
-/// Reads the history over an open store, and tells how many transactions it held before.
+/// Reads the history into an open store, and returns how many transactions it held before.
 fn go_on(rt: &impl Abort, alloc: Global, store: &mut Store<FileStore<Fused>>) -> Result<u64, Fail> {
     let before = taken(alloc, store)?;
     let ends = read_twice(alloc, store)?;
@@ -96,7 +97,7 @@ fn go_on(rt: &impl Abort, alloc: Global, store: &mut Store<FileStore<Fused>>) ->
     Ok(before)
 }
 
-/// The same on a database that is opened again.
+/// As `go_on`, with a database that is opened again.
 fn reopen(rt: &impl Abort, alloc: Global, files: Files<Fused>) -> Result<u64, Fail> {
     if !files.may_be_used() {
         return Err("a disk that is lost".into());
@@ -115,8 +116,8 @@ fn reopen(rt: &impl Abort, alloc: Global, files: Files<Fused>) -> Result<u64, Fa
     }
 }
 
-/// Stops the run after so many calls, and tells whether it ended without a stop. On the disks stand the transactions that
-/// were answered as done, or one more where the database failed; a store that a failure has broken takes no other.
+/// Interrupts the run after this many calls, and returns whether it ended without a failure. The disks have the
+/// transactions that were answered as done, or one more if the database failed; a store that has failed takes no other.
 fn stop_at(rt: &impl Abort, alloc: Global, calls: (u64, u64)) -> Result<bool, Fail> {
     let (ends, files) = stop(alloc, calls.0, calls.1)?;
     let left = reopen(rt, alloc, files)?;
@@ -162,7 +163,7 @@ fn a_history_is_whole_where_its_file_stops(rt: HostRuntime) -> Result<(), Fail> 
     Err("no run ends".into())
 }
 
-/// A store of the transaction whose row is then there as often as can be.
+/// A store with the transaction, and then with its row's count at the maximum.
 fn filled(alloc: Global) -> Result<Store<MemStore>, Fail> {
     let mut store = super::store(alloc)?;
     let taken = read(alloc, &mut store, LIMIT, &[&ONE_TRANSACTION], false);

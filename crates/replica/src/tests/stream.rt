@@ -8,22 +8,23 @@ use crate::counted::Duplex;
 use std::io;
 use std::io::{Read, Write};
 
-/// A stream that tells what is left to read and what was written. It can fail.
+/// A stream that shows what is left to read and what was written. It can fail.
 #[derive(Drop)]
 pub(crate) struct Stream<'a> {
     left: &'a [u8],
     written: Vec<u8>,
-    /// The most bytes that a read gives, or 0 for a packet at a time.
+    /// The most bytes that a read gives, or 0 for one packet at a time.
     gives: usize,
     /// The most bytes that a write takes.
     takes: usize,
-    /// How many bytes can be read before a read fails, and how many be written before a write does.
+    /// How many bytes can be read before a read fails, and how many can be written before a write fails.
     readable: usize,
     writable: usize,
 }
 
 impl<'a> Stream<'a> {
-    /// A stream with these bytes to read that does not fail. A read gives so many, and a write takes so many.
+    /// A stream with these bytes to read that does not fail, with the most bytes that a read gives and that a write
+    /// takes.
     pub(crate) fn new(left: &'a [u8], written: Vec<u8>, gives: usize, takes: usize) -> Stream<'a> {
         Stream {
             left,
@@ -35,13 +36,13 @@ impl<'a> Stream<'a> {
         }
     }
 
-    /// It fails to read once so many bytes were read.
+    /// Makes it fail to read once this many bytes were read.
     pub(crate) fn fail_to_read_behind(mut self, count: usize) -> Stream<'a> {
         self.readable = count;
         self
     }
 
-    /// It fails to write once so many bytes were written.
+    /// Makes it fail to write once this many bytes were written.
     pub(crate) fn fail_to_write_behind(mut self, count: usize) -> Stream<'a> {
         self.writable = count;
         self

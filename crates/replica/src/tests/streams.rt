@@ -21,14 +21,14 @@ pub(crate) const ONE_TRANSACTION: [u8; 449] = [
     27, 0, 0, 0, 0, 0, 0, 0, 0, 0, 1, 0, 0, 0, 0, 0, 0, 0,
 ];
 
-/// The query COMMIT, as a packet, that ends the same transaction in place of its last packet.
+/// The query COMMIT, as a packet, which ends the same transaction instead of its last packet.
 #[rattlefmt::skip]
 pub(crate) const COMMITTED: [u8; 44] = [
     40, 0, 0, 6, 0, 0, 0, 0, 0, 2, 1, 0, 0, 0, 39, 0, 0, 0, 0, 0, 0, 0, 0, 0, 0, 0, 0, 0, 0, 0, 0,
     0, 0, 0, 0, 0, 0, 0, 67, 79, 77, 77, 73, 84,
 ];
 
-/// The opening with a switch of the authentication.
+/// The opening with a switch of the authentication method.
 #[rattlefmt::skip]
 pub(crate) const SWITCHED: [u8; 148] = [
     74, 0, 0, 0, 10, 56, 46, 48, 46, 51, 54, 0, 8, 0, 0, 0, 1, 2, 3, 4, 5, 6, 7, 8, 0, 5, 162, 33,
@@ -103,8 +103,8 @@ pub(crate) const HISTORY: [u8; 890] = [
     16, 0, 0, 0, 0, 0, 16, 1, 0, 0, 0, 27, 0, 0, 0, 0, 0, 0, 0, 0, 0, 2, 0, 0, 0, 0, 0, 0, 0,
 ];
 
-/// What a replica sends to the opening: the response of the user `repl` with no password, the query, and the dump command
-/// of the server id 7 with the empty set.
+/// What a replica sends in reply to the opening: the response of the user `repl` with no password, the query, and the
+/// dump command with the server id 7 and the empty set.
 #[rattlefmt::skip]
 pub(crate) const SENT: [u8; 138] = [
     60, 0, 0, 1, 5, 162, 8, 0, 0, 0, 0, 1, 33, 0, 0, 0, 0, 0, 0, 0, 0, 0, 0, 0, 0, 0, 0, 0, 0, 0, 0,

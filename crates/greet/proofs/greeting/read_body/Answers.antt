@@ -8,11 +8,9 @@ use Rattle.greet.proofs.Cuts.{IsBytes, IsBytes-rest, IsBytes-behind, behind_zero
 use Rattle.greet.proofs.Greetings.{no_fields, short_second, is_greeting}
 use Rattle.greet.proofs.greeting.read_body.Goals as goal
 
--- src/greeting.rt:105:9
 pub returns-in_default-clause-fault : goal.returns-in_default-clause-fault
 returns-in_default-clause-fault c = no_fields c.args.body.now c.in_default.ensures.none
 
--- src/greeting.rt:107:17
 pub returns-in_err-fixed-clause-fault : goal.returns-in_err-fixed-clause-fault
 returns-in_err-fixed-clause-fault c =
     let p = err_from_is_err_and c.from_residual.result c.from_residual.ensures.1 in
@@ -20,7 +18,6 @@ returns-in_err-fixed-clause-fault c =
     let behind : fields ≡ behind_zero c.args.body.now = sym (ap behind_zero c.in-Some.ensures.bytes ∙ behind_zero-text c.in-Some.version.now fields c.in-Some.ensures.text) in
     rw (p.1, p.2) (subst (λ f. Refuses (fields_refusal f) c.in_err-fixed.field-0.0) behind c.in_err-fixed.ensures.fault)
 
--- src/greeting.rt:110:9
 pub returns-then-second-max-clause-fault : goal.returns-then-second-max-clause-fault
 returns-then-second-max-clause-fault c =
     let fields = c.in-Some.fields.now in
@@ -30,7 +27,6 @@ returns-then-second-max-clause-fault c =
     ap fields_refusal behind
     ∙ short_second fields c.in_ok-fixed.ensures.long (sym (ap (λ n. bit_and n needed) c.in_ok-fixed.ensures.capabilities) ∙ c.in_ok-fixed.ensures.has_needed) (omega (arith, c.if-second-max.true, rest, size, c.in_ok-fixed.ensures.long))
 
--- src/greeting.rt:100:1
 pub returns-clause-found : goal.returns-clause-found
 returns-clause-found c =
     let version = c.in-Some.version.now in

@@ -3,7 +3,7 @@ use Rattle.wire.specs.Packet.{packing_length}
 use Rattle.wire.proofs.Packets.{Packed}
 use Rattle.wire.proofs.packet.push_packets.Given as goal
 
--- what is written is a packing so far, and there is room for the rest
+-- what has been written is a packing so far, and there is room for the rest
 abbrev pub invariant-loop-rest : goal.invariant-loop-rest
 invariant-loop-rest l = record {
   packed : Packed l.sequence l.payload l.fn.out.items l.out.items l.rest l.id;
