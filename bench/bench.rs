@@ -287,7 +287,7 @@ fn remove_store(file: &str) -> io::Result<()> {
 fn compare_stores(store_bench: &str, store: &str, folder: &Path) -> io::Result<bool> {
     let python = Command::new("python3").args(["-c", "import sqlite3"]).stderr(Stdio::null()).status();
     if !python.is_ok_and(|status| status.success()) {
-        println!("stores: passed over, since there is no python3 with sqlite3");
+        println!("stores: skipped, since there is no python3 with sqlite3");
         return Ok(true);
     }
     let goal = Goal { other: "C", runs: STORE_RUNS, times: STORE_TIMES, bound: usize::MAX };

@@ -210,7 +210,7 @@ fn reasons(rt: HostRuntime) {
 fn words(rt: HostRuntime) -> Result<(), Fail> {
     let cases: [(&[&str], u8, &str); 13] = [
         (&["mrep", "--help"], 0, "A MySQL replication follower"),
-        (&["mrep", "--version"], 0, "mrep 0.1.0\n"),
+        (&["mrep", "--version"], 0, "mrep "),
         (&["mrep", "packets", "--help"], 0, "List the payloads"),
         (&["mrep"], 2, "error: "),
         (&["mrep", "minus", "--help"], 0, "Print a GTID set"),
