@@ -2,9 +2,10 @@
 
     python3 tests/pages/names.py ROOT
 
-- A link, and a path in backticks, has to exist: from the root, from the page's folder, or from the crate's.
+- A link has to exist, and a path in backticks: from the root, the page's folder, or the folder of the crate (on a page of
+  no crate, of some crate).
 - `CRATE::NAME` and `CRATE::TYPE::NAME` have to be items of that crate.
-- `clause `X`` or `clauses `X`, `Y`` after a function: a clause of a function that the same sentence or row names.
+- A clause has to be one of a function that the same sentence or row names.
 - In a crate's page: the first column of a table `Function` or `Law` names functions of the crate, and its second
   column clauses of theirs.
 - A table `File` | `Lines`: the file has about so many lines.
@@ -59,9 +60,9 @@ WORDS = {crate: words(crate) for crate in CRATES}
 
 
 def there(page, path):
-    folders = [root, os.path.dirname(page)]
     folder = os.path.relpath(page, root).split('/')
-    if folder[0] == 'crates': folders.append(f'{root}/crates/{folder[1]}')
+    crate = folder[1] if folder[0] == 'crates' else '*'
+    folders = [root, os.path.dirname(page), f'{root}/crates', f'{root}/crates/{crate}', f'{root}/crates/{crate}/src']
     return any(glob.glob(os.path.join(folder, path)) for folder in folders)
 
 
@@ -91,6 +92,10 @@ def of_sentence(crate, sentence):
         elif crate: yield crate, token
 
 
+def is_function(crate, name):
+    return name in INDEX[crate][1] or '::'.join(name.split('::')[-2:]) in INDEX[crate][1]
+
+
 def has_clause(functions, clause):
     for crate, name in functions:
         clauses = INDEX[crate][1]
@@ -102,8 +107,9 @@ def has_clause(functions, clause):
 def claims(crate, text):
     for sentence in re.split(r'(?<=[.;])\s|\n', text):
         for group in re.findall(r'\bclauses? ((?:`\w+`(?:, | and )?)+)', sentence):
+            functions = [it for it in of_sentence(crate, sentence) if is_function(*it)]
             for clause in re.findall(r'`(\w+)`', group):
-                if not has_clause(list(of_sentence(crate, sentence)), clause): yield f'no clause {clause}: {sentence[:90]}'
+                if functions and not has_clause(functions, clause): yield f'no clause {clause}: {sentence[:90]}'
 
 
 def tables(page, crate, text):
