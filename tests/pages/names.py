@@ -4,7 +4,8 @@
 
 - A link has to exist, and a path in backticks: from the root, the page's folder, or the folder of the crate (on a page of
   no crate, of some crate).
-- `CRATE::NAME` and `CRATE::TYPE::NAME` have to be items of that crate.
+- `CRATE::NAME` and `CRATE::TYPE::NAME` have to be items of that crate; on pages about the code, other names in backticks
+  words of some crate.
 - A clause has to be one of a function that the same sentence or row names.
 - In a crate's page: the first column of a table `Function` or `Law` names functions of the crate, and its second
   column clauses of theirs.
@@ -55,8 +56,18 @@ def words(crate):
     return found
 
 
+def every_word():
+    """All words of the crates: their sources, definitions and proofs."""
+    found = set()
+    for pattern in ('src/**/*.rt', 'specs/*.antt', 'proofs/**/*.antt'):
+        for path in glob.glob(f'{root}/crates/*/{pattern}', recursive=True): found.update(re.findall(r'\w+', read(path)))
+    return found
+
+
 INDEX = {crate: items(crate) for crate in CRATES}
 WORDS = {crate: words(crate) for crate in CRATES}
+ALL = every_word()
+OF_CODE = ('docs/THEOREMS.md', 'docs/ARCHITECTURE.md', 'docs/DECISIONS.md')
 
 
 def there(page, path):
@@ -82,6 +93,13 @@ def qualified(text):
         last = '::'.join(rest[-2:])
         if not (rest[-1] in names or rest[-1] in WORDS[crate] or last in clauses or (len(rest) < 3 and rest[-1] in clauses)):
             yield f'no item {token}'
+
+
+def unqualified(text):
+    """Names of the code without their crate, as `Session::feed` or `take_event`: words of some crate, at least."""
+    for token in re.findall(r'`([A-Za-z]\w*(?:::\w+)*)`', text):
+        looks = '::' in token or '_' in token or re.match(r'[A-Z][a-z]+[A-Z]', token)
+        if looks and not all(part in ALL for part in token.split('::') if part not in CRATES): yield f'no name {token}'
 
 
 def of_sentence(crate, sentence):
@@ -138,7 +156,9 @@ for page in pages:
     text = read(page)
     folder = os.path.relpath(page, root).split('/')
     crate = folder[1] if folder[0] == 'crates' and folder[1] in CRATES else None
-    for finding in [*paths(page, text), *qualified(text), *claims(crate, text), *tables(page, crate, text)]:
-        bad.append(f'{os.path.relpath(page, root)}: {finding}')
+    name = os.path.relpath(page, root)
+    findings = [*paths(page, text), *qualified(text), *claims(crate, text), *tables(page, crate, text)]
+    if crate or name in OF_CODE: findings += unqualified(text)
+    bad += [f'{name}: {finding}' for finding in findings]
 print('\n'.join(bad), end='\n' if bad else '')
 sys.exit(1 if bad else 0)
