@@ -67,6 +67,8 @@ def every_word():
 INDEX = {crate: items(crate) for crate in CRATES}
 WORDS = {crate: words(crate) for crate in CRATES}
 ALL = every_word()
+NAMES = {name for crate in CRATES for name in INDEX[crate][0]}
+OWNERS = {key.split('::')[0] for crate in CRATES for key in INDEX[crate][1] if '::' in key}
 OF_CODE = ('docs/THEOREMS.md', 'docs/ARCHITECTURE.md', 'docs/DECISIONS.md')
 
 
@@ -100,6 +102,8 @@ def unqualified(text):
     for token in re.findall(r'`([A-Za-z]\w*(?:::\w+)*)`', text):
         looks = '::' in token or '_' in token or re.match(r'[A-Z][a-z]+[A-Z]', token)
         if looks and not all(part in ALL for part in token.split('::') if part not in CRATES): yield f'no name {token}'
+        owner, _, name = token.rpartition('::')
+        if owner in OWNERS and name not in NAMES and not any(token in INDEX[crate][1] for crate in CRATES): yield f'no item {token}'
 
 
 def of_sentence(crate, sentence):
