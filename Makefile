@@ -24,13 +24,4 @@ test:
 	tests/gate/run
 
 bench: build
-	cd crates/gtid_bench && rt run
-	cd crates/binlog_bench && rt run
-	cd crates/gather_bench && rt run
-	cd crates/store_bench && rt run
-	mkdir -p bench/out
-	rustc -O --edition 2024 -o bench/out/packets bench/packets.rs
-	rustc -O --edition 2024 -o bench/out/gtid bench/gtid.rs
-	rustc -O --edition 2024 -o bench/out/events bench/events.rs
-	rustc -O --edition 2024 -o bench/out/bench bench/bench.rs
-	bench/out/bench bin/mrep bench/out/packets crates/gtid_bench/out/gtid_bench bench/out/gtid crates/binlog_bench/out/binlog_bench crates/gather_bench/out/gather_bench bench/out/events crates/store_bench/out/store_bench bench/store.py bench/out
+	bench/run

@@ -1,8 +1,8 @@
-//! Times `mrep packets`, `mrep events`, `gtid_bench`, `binlog_bench` and `gather_bench` against `packets.rs`, `events.rs`
-//! and `gtid.rs`, plain Rust programs that do the same jobs, `store_bench` against `store.py`, which gives the same
-//! statements to the C library of SQLite, and `mrep replay` and `mrep follow` against `store_bench` and one another.
+//! Times `mrep packets` and `mrep events`, and the jobs of `ours` over the crates, against `packets.rs`, `events.rs` and
+//! `gtid.rs`, plain Rust programs that do the same; stores against `store.py`, which gives the same statements to the C
+//! library of SQLite; and `mrep replay` and `mrep follow` against a store and one another.
 //!
-//!     bench MREP PACKETS GTID_BENCH GTID BINLOG_BENCH GATHER_BENCH EVENTS STORE_BENCH STORE FOLDER
+//!     bench MREP JOBS PACKETS GTID EVENTS STORE FOLDER
 //!
 //! It makes each input from files in the folder. Both programs of a job run in turn, five times each (for stores three
 //! times), and must print the same; the line has their best times, the ratio of these and the greatest resident size of
@@ -284,7 +284,7 @@ fn remove_store(file: &str) -> io::Result<()> {
 }
 
 /// Whether the goals are met for stores in a file, compared with the C library. Both open the same database.
-fn compare_stores(store_bench: &str, store: &str, folder: &Path) -> io::Result<bool> {
+fn compare_stores(jobs: &str, store: &str, folder: &Path) -> io::Result<bool> {
     let python = Command::new("python3").args(["-c", "import sqlite3"]).stderr(Stdio::null()).status();
     if !python.is_ok_and(|status| status.success()) {
         println!("stores: skipped, since there is no python3 with sqlite3");
@@ -295,7 +295,7 @@ fn compare_stores(store_bench: &str, store: &str, folder: &Path) -> io::Result<b
     let file = path.to_str().ok_or(io::ErrorKind::InvalidInput)?;
     let mut met = true;
     for (job, words) in STORES {
-        let ours = [&[store_bench], words, &[file]].concat();
+        let ours = [&[jobs, "store"], words, &[file]].concat();
         let theirs = [&["python3", store], words, &[file]].concat();
         met &= compare_from(job, &ours, &theirs, folder, &goal, || remove_store(file))?;
     }
@@ -305,7 +305,7 @@ fn compare_stores(store_bench: &str, store: &str, folder: &Path) -> io::Result<b
     if million.status != 0 {
         return Err(io::Error::other("store.py fails"));
     }
-    let (ours, theirs) = ([store_bench, "open", file], ["python3", store, "open", file]);
+    let (ours, theirs) = ([jobs, "store", "open", file], ["python3", store, "open", file]);
     met &= compare_from("a store of 1,000,000 rows opened", &ours, &theirs, folder, &goal, || Ok(()))?;
     remove_store(file)?;
     Ok(met)
@@ -313,10 +313,8 @@ fn compare_stores(store_bench: &str, store: &str, folder: &Path) -> io::Result<b
 
 fn main() -> io::Result<ExitCode> {
     let words: Vec<String> = std::env::args().collect();
-    let [_, mrep, packets, gtid_bench, gtid, binlog_bench, gather_bench, events, store_bench, store, folder] =
-        words.as_slice()
-    else {
-        eprintln!("usage: bench MREP PACKETS GTID_BENCH GTID BINLOG_BENCH GATHER_BENCH EVENTS STORE_BENCH STORE FOLDER");
+    let [_, mrep, jobs, packets, gtid, events, store, folder] = words.as_slice() else {
+        eprintln!("usage: bench MREP JOBS PACKETS GTID EVENTS STORE FOLDER");
         return Ok(ExitCode::from(2));
     };
     let folder = Path::new(folder);
@@ -330,20 +328,20 @@ fn main() -> io::Result<ExitCode> {
     }
     make_rows(&path, 200 * MIB / 100)?;
     let rows = "200 MiB of rows to the last cell";
-    met &= compare(rows, &[binlog_bench, name], &[events, "sum", name], folder, EVENTS_TIMES, usize::MAX)?;
+    met &= compare(rows, &[jobs, "rows", name], &[events, "sum", name], folder, EVENTS_TIMES, usize::MAX)?;
     for count in [250_000, 500_000, 1_000_000] {
         make_rows(&path, count)?;
         let job = format!("a transaction of {count} rows, gathered");
-        met &= compare(&job, &[gather_bench, name], &[events, "gather", name], folder, GATHER_TIMES, usize::MAX)?;
+        met &= compare(&job, &[jobs, "gather", name], &[events, "gather", name], folder, GATHER_TIMES, usize::MAX)?;
     }
     make_small(&path)?;
     let small = "a list of a million small events";
     met &= compare(small, &[mrep, "events", name], &[events, "list", name], folder, EVENTS_TIMES, MORE)?;
     fs::remove_file(&path)?;
     for operation in OPERATIONS {
-        met &= compare(operation, &[gtid_bench, operation], &[gtid, operation], folder, GTID_TIMES, usize::MAX)?;
+        met &= compare(operation, &[jobs, "gtid", operation], &[gtid, operation], folder, GTID_TIMES, usize::MAX)?;
     }
-    met &= compare_stores(store_bench, store, folder)?;
-    met &= replay::compare_connections(mrep, store_bench, folder)?;
+    met &= compare_stores(jobs, store, folder)?;
+    met &= replay::compare_connections(mrep, jobs, folder)?;
     Ok(if met { ExitCode::SUCCESS } else { ExitCode::FAILURE })
 }

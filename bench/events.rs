@@ -1,4 +1,4 @@
-//! What `binlog_bench`, `gather_bench` and `mrep events` do, in plain Rust, for `make bench`.
+//! What `ours rows`, `ours gather` and `mrep events` do, in plain Rust, for `make bench`.
 //!
 //!     events sum FILE      the rows of a file of events, and a sum over their cells
 //!     events gather FILE   the changes of its transactions, and the bytes of their images

@@ -1,4 +1,4 @@
-//! The jobs of `crates/gtid_bench` in plain Rust with only the standard library, by the same algorithms over `Vec<(u64,
+//! The jobs of `bench/ours/gtid.rt.in` in plain Rust with only the standard library, by the same algorithms over `Vec<(u64,
 //! u64)>`: the reference of `make bench`. A text is read in one pass, with the same faults.
 
 use std::fmt::Write;

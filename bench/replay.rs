@@ -1,4 +1,4 @@
-//! Times `mrep replay` against `store_bench`, which gives a store the same transactions; a stream in pieces of one byte
+//! Times `mrep replay` against a store that is given the same transactions (`ours store add`); a stream in pieces of one byte
 //! against one in pieces of 64 KiB; and `mrep follow` over the loopback interface against `mrep replay` of the same
 //! bytes.
 //!
@@ -42,7 +42,7 @@ const TEXT: &[u8] = b"\x10sixteen bytes...";
 /// How many rows an event has at most.
 const ROWS: u64 = 300;
 
-/// A connection with transactions of this many inserts each, of the rows of `store_bench add`, and the EOF at the end
+/// A connection with transactions of this many inserts each, of the rows of `ours store add`, and the EOF at the end
 /// of the log.
 fn make(path: &Path, transactions: u64, changes: u64) -> io::Result<()> {
     let mut out = BufWriter::new(File::create(path)?);
@@ -184,7 +184,7 @@ fn print_rate(path: &Path, transactions: u64, seconds: f64) -> io::Result<()> {
 }
 
 /// Whether the goals are met for connections that are replayed and followed.
-pub fn compare_connections(mrep: &str, store_bench: &str, folder: &Path) -> io::Result<bool> {
+pub fn compare_connections(mrep: &str, jobs: &str, folder: &Path) -> io::Result<bool> {
     let memory = Path::new("/dev/shm");
     let store = if memory.is_dir() { memory.join("mrep-bench.db") } else { folder.join("replay.db") };
     let files = Files {
@@ -201,7 +201,7 @@ pub fn compare_connections(mrep: &str, store_bench: &str, folder: &Path) -> io::
         return Err(io::Error::other("mkfifo fails"));
     }
     let mut met = true;
-    let stored = |transactions: &str, changes: &str| files.run(&[store_bench, "add", transactions, changes, &files.database]);
+    let stored = |transactions: &str, changes: &str| files.run(&[jobs, "store", "add", transactions, changes, &files.database]);
 
     make(&files.stream, 1, 100_000)?;
     let job = "a transaction of 100,000 rows replayed";

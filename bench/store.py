@@ -1,10 +1,10 @@
-"""The reference of `store_bench`: the same statements run by the C library of SQLite, through Python's sqlite3.
+"""The reference of `ours store`: the same statements run by the C library of SQLite, through Python's sqlite3.
 
     store.py add TRANSACTIONS CHANGES FILE
     store.py again ROWS FILE
     store.py open FILE
 
-A file has a write-ahead log and each commit is synced, as for `store_bench`, and no other process may use it. `open`
+A file has a write-ahead log and each commit is synced, as for `ours store`, and no other process may use it. `open`
 checks the file and reads every row of each table, as opening the store does; it does not check the images.
 """
 
