@@ -1,8 +1,6 @@
 //! Sources that are followed: over the loopback interface, and a history that is asked for again after every cut.
 
 use super::forge::{request, row, three};
-use super::replays::fresh;
-use super::run;
 use super::streams::{DUMP, ONE_TRANSACTION};
 use crate::forge::{Ending, Script, answer, check, opening};
 use binlog::Follow;
@@ -11,7 +9,6 @@ use greet::Dump;
 use replica::{Config, Counted, Ended, Reason, follow, run as read};
 use sqlite::{Connection, MemStore};
 use std::alloc::Global;
-use std::fs;
 use std::io::{Read, Write};
 use std::net::{TcpListener, TcpStream};
 use std::process::Abort;
@@ -309,98 +306,4 @@ fn follows_over_loopback(rt: HostRuntime) -> Result<(), Fail> {
     let done = follows_twice(&rt, &rt, &mut store);
     let _ = store.close();
     done
-}
-
-/// What `mrep follow` gives.
-fn follow_words(
-    rt: &HostRuntime,
-    host: &str,
-    port: &str,
-    more: &[&str],
-) -> Result<(u8, String, String), Fail> {
-    let mut words = Vec::new(rt.alloc());
-    words.extend_from_slice(&["mrep", "follow", "--host", host, "--port", port, "--once"])?;
-    words.extend_from_slice(more)?;
-    run(rt, &words)
-}
-
-const WHO: [&str; 8] = [
-    "--user",
-    "repl",
-    "--password-file",
-    "password",
-    "--server-id",
-    "7",
-    "--db",
-    "follow.db",
-];
-
-#[test]
-fn follow_tells_where_nobody_listens(rt: HostRuntime) -> Result<(), Fail> {
-    fs::write(&rt, "password", b"secret\n")?;
-    let port = TcpListener::bind(&rt, ("127.0.0.1", 0u16))?
-        .local_addr()?
-        .port();
-    let port = format!(in rt.alloc(); "{port}")?;
-    let (status, out, err) = follow_words(&rt, "127.0.0.1", &port, &WHO)?;
-    assert_eq!(rt; (status, out.as_str()), (3, ""));
-    assert!(rt; err.as_str().starts_with("mrep: 127.0.0.1: "));
-    assert!(rt; !err.as_str().contains("secret"));
-    fs::remove_file(&rt, "password")?;
-    fresh(&rt, "follow.db")
-}
-
-/// A name of 256 bytes.
-const LONG: &str = "aaaaaaaaaaaaaaaaaaaaaaaaaaaaaaaaaaaaaaaaaaaaaaaaaaaaaaaaaaaaaaaa\
-    aaaaaaaaaaaaaaaaaaaaaaaaaaaaaaaaaaaaaaaaaaaaaaaaaaaaaaaaaaaaaaaa\
-    aaaaaaaaaaaaaaaaaaaaaaaaaaaaaaaaaaaaaaaaaaaaaaaaaaaaaaaaaaaaaaaa\
-    aaaaaaaaaaaaaaaaaaaaaaaaaaaaaaaaaaaaaaaaaaaaaaaaaaaaaaaaaaaaaaaa";
-
-/// Faults of the arguments come first, then those of the password file, the user name and the database.
-#[test]
-fn follow_looks_for_faults_in_order(rt: HostRuntime) -> Result<(), Fail> {
-    fs::write(&rt, "password", b"secret\n")?;
-    let cases: [(&str, &str, &str, &str, &str, u8, &str); 8] = [
-        ("0", LONG, "none", "7", "no/f.db", 2, "mrep: 0: "),
-        ("65536", LONG, "none", "7", "no/f.db", 2, "mrep: 65536: "),
-        ("+5", LONG, "none", "7", "no/f.db", 2, "mrep: +5: "),
-        ("1", LONG, "none", "0", "no/f.db", 2, "mrep: 0: "),
-        (
-            "1",
-            LONG,
-            "none",
-            "4294967296",
-            "no/f.db",
-            2,
-            "mrep: 4294967296: ",
-        ),
-        ("1", LONG, "none", "7", "no/f.db", 3, "mrep: none: "),
-        ("1", LONG, "password", "7", "no/f.db", 2, "mrep: aaa"),
-        (
-            "1",
-            "repl",
-            "password",
-            "4294967295",
-            "no/f.db",
-            3,
-            "mrep: no/f.db: ",
-        ),
-    ];
-    for (port, user, password, id, db, want, text) in cases {
-        let more = [
-            "--user",
-            user,
-            "--password-file",
-            password,
-            "--server-id",
-            id,
-            "--db",
-            db,
-        ];
-        let (status, out, err) = follow_words(&rt, "127.0.0.1", port, &more)?;
-        assert_eq!(rt; (status, out.as_str()), (want, ""), "{port} {id}");
-        assert!(rt; err.as_str().starts_with(text), "{err}");
-    }
-    fs::remove_file(&rt, "password")?;
-    Ok(())
 }
