@@ -160,7 +160,3 @@ query_some bytes fits none =
     let p9 = passes (refuse (not (is_statement (drop (text_place bytes) bytes))) Statement (text_place bytes)) _ p8.1 in
     let text = drop (text_place bytes) bytes in
     of_text text bytes (is_query bytes fits (is_there bytes (32 + status_size + schema_size) 1 p8.0)) (holds _ (not_refused (not (is_statement text)) Statement (text_place bytes) p9.0))
-
--- no query has two statements
-pub query_one : (bytes : List ℕ) → IsQuery (statement Begin) (drop 19 bytes) → IsQuery (statement Commit) (drop 19 bytes) → ⊥
-query_one bytes begin commit = absurd (omega (arith, ap length (sym (query_told (statement Begin) bytes begin).text_is ∙ (query_told (statement Commit) bytes commit).text_is)))

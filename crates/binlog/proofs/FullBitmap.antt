@@ -37,12 +37,6 @@ moved n j i = elim (cases_lt (8 * j + i) n) as (λ _. nat_lt (8 * j + i) n ≡ n
 byte_is : (n j : ℕ) → bits_number 8 (λ i. nat_lt i (n - 8 * j)) ≡ bitmap_byte (replicate n true) j
 byte_is n j = ap (bits_number 8) (λ k i. sym (bit_there n (8 * j + i) ∙ moved n j i) k)
 
--- a byte of n bits, all set, where n is at least 8
-pub all_set : (n : ℕ) → 8 ≤ n → bits_number 8 (λ i. nat_lt i n) ≡ 255
-all_set n many =
-    let below : (i : ℕ) → i < 8 → nat_lt i n ≡ true = λ i short. lt-ltb i n (omega (arith, short, many)) in
-    rw (below 0 (omega arith), below 1 (omega arith), below 2 (omega arith), below 3 (omega arith), below 4 (omega arith), below 5 (omega arith), below 6 (omega arith), below 7 (omega arith)) refl
-
 -- the bytes from one on
 abbrev pub bytes_from : ℕ → ℕ → List ℕ
 bytes_from n j = map (bitmap_byte (replicate n true)) (range_with_len j (bitmap_size n - j))

@@ -49,15 +49,3 @@ six_parts old a b c d e f n1 n2 n3 n4 n5 n6 h1 h2 h3 h4 h5 h6 =
     let g4 : n4 ≡ old ++ a ++ b ++ c ++ d = h4 ∙ ap (λ l. l ++ d) g3 in
     let g5 : n5 ≡ old ++ a ++ b ++ c ++ d ++ e = h5 ∙ ap (λ l. l ++ e) g4 in
     h6 ∙ ap (λ l. l ++ f) g5 ∙ regroup_6 old a b c d e f
-
-regroup_4 : (old a b c d : List ℕ) → old ++ a ++ b ++ c ++ d ≡ old ++ (a ++ b ++ c ++ d)
-regroup_4 old a b c d = simp append_assoc
-
-pub four_parts : (old a b c d n1 n2 n3 n4 : List ℕ) → n1 ≡ old ++ a → n2 ≡ n1 ++ b → n3 ≡ n2 ++ c → n4 ≡ n3 ++ d → n4 ≡ old ++ (a ++ b ++ c ++ d)
-four_parts old a b c d n1 n2 n3 n4 h1 h2 h3 h4 =
-    let g2 : n2 ≡ old ++ a ++ b = h2 ∙ ap (λ l. l ++ b) h1 in
-    let g3 : n3 ≡ old ++ a ++ b ++ c = h3 ∙ ap (λ l. l ++ c) g2 in
-    h4 ∙ ap (λ l. l ++ d) g3 ∙ regroup_4 old a b c d
-
-pub two_parts : (old a b n1 n2 : List ℕ) → n1 ≡ old ++ a → n2 ≡ n1 ++ b → n2 ≡ old ++ (a ++ b)
-two_parts old a b n1 n2 h1 h2 = h2 ∙ ap (λ l. l ++ b) h1 ∙ append_assoc old a b

@@ -14,15 +14,6 @@ pub record Ranges (id : ℕ) (kind : RowsKind) (columns : ℕ) (bytes : List ℕ
   pub number : (1 ≤ columns) × (columns ≤ 4096)
   pub size : 29 + length (length_encoded columns) + presents_size kind columns + length bytes < 2 ^ 32
 
-pub in_ranges : (id : ℕ) (kind : RowsKind) (columns : ℕ) (bytes : List ℕ) → IsWritable (rows (plain_rows id kind columns bytes)) → Ranges id kind columns bytes
-in_ranges id kind columns bytes is =
-    let r = plain_rows id kind columns bytes in
-    let has = rows_body_of r is in
-    let s = suits r has in
-    let end = rows_end r (rows_body r) (rows_written r has) in
-    let small = writable_short (rows r) is in
-    record { an_id = s.an_id; number = s.number; size = omega (arith, end, small) }
-
 pub of_ranges : (id : ℕ) (kind : RowsKind) (columns : ℕ) (bytes : List ℕ) → Ranges id kind columns bytes → IsWritable (rows (plain_rows id kind columns bytes))
 of_ranges id kind columns bytes are =
     let r = plain_rows id kind columns bytes in

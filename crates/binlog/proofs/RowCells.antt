@@ -80,12 +80,6 @@ pub early_column : (types : List ColumnType) (bytes bitmap : List ℕ) (i place 
 early_column types bytes bitmap i place at_value t reached short at clear is =
     sym reached.left ∙ ap (λ l. further place (values_end bitmap i l (drop place bytes))) (drop_kinds i types t short at) ∙ rw (clear, is) refl
 
-pub last_column : (types : List ColumnType) (bytes bitmap : List ℕ) (i place : ℕ) → Reached types bytes bitmap i place → length types ≤ i → row_end (kinds types) bytes ≡ Ok place
-last_column types bytes bitmap i place reached long =
-    let none : drop i (kinds types) ≡ [] = drop_all i (kinds types) (omega (arith, long, length-map types (λ (t : ColumnType). t.kind))) in
-    let e : place ≡ place + 0 = omega arith in
-    sym reached.left ∙ ap (λ l. further place (values_end bitmap i l (drop place bytes))) none ∙ ap (λ (k : ℕ). Ok k) (sym e)
-
 -- ---- One value.
 
 -- a value is read to its end, whatever follows it,

@@ -191,9 +191,6 @@ fault_from events ds formatted place e fault is b faults =
     (λ broken. inr (⊎_elim (λ m. misplaced has m.0 m.1) (λ u. unread u.0 u.1 has u.2 u.3) broken))
     (faults (last_block events) b.at)
 
-pub no_format_yet : (events : List EventValue) (ds : List DeliveryValue) (formatted : Bool) (place : Place) (e : EventValue) → formatted ≡ false → is_of_transaction e ≡ true → Brings events ds formatted place → IsFault events e NoFormat
-no_format_yet events ds formatted place e is of b = no_format of (sym b.has_format ∙ is) refl
-
 -- ---- Answers.
 
 pub takes : (result : Result (Option Delivery) GatherFault) (formatted : Bool) (before after : Place) (e : EventValue) → Continues e → IfOk result (λ delivery. GoesOn e before after (delivered delivery)) →

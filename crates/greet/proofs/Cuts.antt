@@ -109,9 +109,6 @@ behind n m front rest long = ap (λ k. drop (k + m) (front ++ rest)) (sym long) 
 
 -- ---- Parts joined from the left and from the right.
 
-pub right_3 : (a b c : List ℕ) → a ++ b ++ c ≡ a ++ (b ++ c)
-right_3 a b c = append_assoc a b c
-
 pub right_4 : (a b c d : List ℕ) → a ++ b ++ c ++ d ≡ a ++ (b ++ (c ++ d))
 right_4 a b c d = append_assoc (a ++ b) c d ∙ append_assoc a b (c ++ d)
 

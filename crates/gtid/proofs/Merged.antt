@@ -212,11 +212,6 @@ merged_nothing {c} {all_left} {all_right} {left} {right} {done} s a b kept_of l 
       (ap (λ is. is_listed q done || (bytes_eq q.0 s && has is q.1)) none ∙ ap (λ b. is_listed q done || b) (and_right (bytes_eq q.0 s) false refl) ∙ or-false (is_listed q done));
 }
 
-pub merged_all : {c : Combination} {all_left all_right left right done : List Group} → Merged c all_left all_right left right done → left ≡ [] → right ≡ [] →
-    (q : Id) → is_listed q done ≡ keeps c (is_listed q all_left) (is_listed q all_right)
-merged_all {c} {done = done} m no_left no_right q =
-    sym (m.same q ∙ (λ i. is_listed q done || keeps c (is_listed q (no_left i)) (is_listed q (no_right i))) ∙ ap (λ b. is_listed q done || b) (keeps_none c) ∙ or-false (is_listed q done))
-
 -- what the next source says of both lists
 pub turn : {c : Combination} {all_left all_right left right done : List Group} (s : List ℕ) → Merged c all_left all_right left right done →
     (IsNext s left × IsNoHigher s right) ⊎ (IsNoHigher s left × IsNext s right) → IsNoHigher s left × IsNoHigher s right × AreBelow (sources done) (s ∷ [])
@@ -234,6 +229,3 @@ none_below s (g ∷ groups) q below same = or_from (is_of q g) (is_listed q grou
         let one : g.source ≡ s = sym ((bytes_eq-Decides q.0 g.source).0 e) ∙ (bytes_eq-Decides q.0 s).0 same in
         let less : slice_cmp nat_cmp s s ≡ Less = ap (λ t. slice_cmp nat_cmp t s) (sym one) ∙ below.0.0 in
         absurd (not_below_itself s less)
-
-pub ascend_one : (s : List ℕ) → Ascend (s ∷ [])
-ascend_one s = ascend_cons s [] tt ascend_nil

@@ -73,9 +73,6 @@ prints_none text of items old front out all is grows all_is = record {
   grows = grows;
 }
 
-pub prints_all : {X Y : Type 0} {text : Y → List ℕ} {of : X → Y} {items : List X} {at : ℕ} {old out all : List ℕ} → Prints text of items at old out all → length items ≤ at → out ≡ old ++ all
-prints_all {text = text} {of} {items} {at} {old} {out} {all} p end = sym (append-nil out) ∙ ap (λ xs. out ++ flat_map text (map of xs)) (sym (drop_of_length-le items end)) ∙ p.rest
-
 -- one item more of which it holds
 pub all_more : {X : Type 0} (P : X → Type 0) (items : List X) (at : ℕ) (x : X) → AllByRecursion P (take at items) → at < length items → x ≡ get_or items at x → P x → AllByRecursion P (take (at + 1) items)
 all_more {X = X} P items at x all short is holds = subst (λ k. AllByRecursion P (take k items)) (sym (add-one at)) (one_more items at all short is)

@@ -191,9 +191,6 @@ begins_none front none (rest, items, is_list) =
 
 -- ---- The scan's own steps.
 
-pub passed_none : (s : State) (text : List ℕ) → IsPassed s text s text
-passed_none s text = record { front = []; is = refl; ran = refl }
-
 pub passed_on : {s t u : State} {text left rest : List ℕ} → IsPassed s text t left → IsPassed t left u rest → IsPassed s text u rest
 passed_on {s} {t} {u} {text} {left} {rest} p q = record {
   front = p.front ++ q.front;
@@ -214,6 +211,3 @@ passed_lo {left = left} {rest = rest} b p e is = passed_on p (record { front = b
 
 pub passed_hi : {text : List ℕ} {left rest : List ℕ} (b : ℕ) → IsPassed Hi text Hi left → left ≡ b ∷ rest → is_digit b ≡ true → IsPassed Hi text Hi rest
 passed_hi {left = left} {rest = rest} b p e is = passed_on p (record { front = b ∷ []; is = e; ran = (digit_stays b is).1 })
-
-pub passed_shorter : {s t : State} {text left : List ℕ} → IsPassed s text t left → length left ≤ length text
-passed_shorter {left = left} p = omega (arith, length-append p.front left, ap length p.is)

@@ -50,13 +50,6 @@ pub record Listed (old new : Listing) (piece rest : List ℕ) (listed entries : 
   pub cut : piece ≡ taken ++ rest
   pub stands : (stream : List ℕ) (before : List Entry) → length stream + length piece < 2 ^ 64 → Stands old stream (before ++ listed) → Stands new (stream ++ taken) (before ++ entries)
 
-pub listed_none : (l : Listing) (piece : List ℕ) (entries : List Entry) → Listed l l piece piece entries entries
-listed_none l piece entries = record {
-  taken = [];
-  cut = refl;
-  stands = λ stream before short at. subst (λ s. Stands l s (before ++ entries)) (sym (append-nil stream)) at;
-}
-
 pub listed_held : {old mid : Listing} {piece rest : List ℕ} {listed entries : List Entry} (new : Listing) (used : ℕ) → Listed old mid piece rest listed entries →
     used ≤ length rest → held_of new ≡ held_of mid ++ take used rest → IsNoPayload (held_of new) → new.assembler.ended ≡ false → new.begin ≡ mid.begin → (mid.seen + used < 2 ^ 64 → new.seen ≡ mid.seen + used) →
     Listed old new piece (drop used rest) listed entries

@@ -164,9 +164,6 @@ pub record Going (executed : Ids) (id now : ℕ) (old out : List ℕ) (all : Lis
   pub can : AllByRecursion CanSend (due executed left) → AllByRecursion CanSend (due executed all)
   pub fault : (f : ForgeFault) → IsScriptsFault executed at left f → IsScriptsFault executed 0 all f
 
-pub going_begins : (executed : Ids) (id : ℕ) (old : List ℕ) (all : List ScriptValue) → Going executed id id old old all 0 all
-going_begins executed id old all = record { sent = λ new last a. a; can = λ c. c; fault = λ f h. h }
-
 passed : (executed : Ids) (script : ScriptValue) (left : List ScriptValue) → is_in executed script ≡ true → due executed (script ∷ left) ≡ due executed left
 passed executed script left is = rw is refl
 

@@ -50,12 +50,3 @@ module _ (changes : List Change) (at : ℕ) (change : Change) (low : at < length
       followed = one.0;
       refused = one.1;
     }
-
-pub goes_nowhere : (s : State) → IsWorking s → Goes s s
-goes_nowhere s was = record { on = record { working = was; schema = refl; committed = refl; meta = refl; follow = refl }; spans = refl }
-
-pub begins_way : (names : Names) (changes : List ChangeValue) (s : State) → IsWorking s → DoesAll names (take 0 changes) s s None
-begins_way names changes s was = (goes_nowhere s was, refl)
-
-pub ends_way : (names : Names) (changes : List Change) (at : ℕ) (old new : State) → length changes ≤ at → DoesAll names (take at (change_values changes)) old new None → DoesAll names (change_values changes) old new None
-ends_way names changes at old new high way = subst (λ cs. DoesAll names cs old new None) (take_all at (change_values changes) (rw (length-map changes change_value) high)) way

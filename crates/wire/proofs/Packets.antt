@@ -43,9 +43,6 @@ pub record Packed (id : ℕ) (payload start now rest : List ℕ) (due : ℕ) : T
   pub appended : now ≡ start ++ packets id chunks
   pub is_due : due ≡ (id + length chunks) % 256
 
-pub packed_none : (id : ℕ) (payload start : List ℕ) → id < 256 → Packed id payload start start payload id
-packed_none id payload start h = record { chunks = []; full = tt; cut = refl; appended = sym (append-nil start); is_due = omega arith }
-
 due-push : (id : ℕ) (chunks : List (List ℕ)) (chunk : List ℕ) → id + length chunks + 1 ≡ id + length (chunks ++ chunk ∷ [])
 due-push id chunks chunk = omega (arith, length_push chunks chunk)
 
