@@ -2,7 +2,8 @@
 #             a new database, whose rows and executed set are shown
 # make test   runs the whole gate: a program that must not compile, every proof from nothing, the wrong bodies, the tests
 #             and the program, and then, with the program that was built, what tests/ has: files read by sqlite3,
-#             captured streams, a source over loopback, and the commands, examples and names of the pages
+#             damaged databases, streams and their faults, captured streams, a source over loopback, and the commands,
+#             examples and names of the pages
 # make bench  times mrep, the sets and the transactions against plain Rust programs that do the same jobs, and the
 #             store against the C library of SQLite (needs rustc; the store also python3)
 

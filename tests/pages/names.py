@@ -57,8 +57,8 @@ def words(crate):
 
 
 def every_word():
-    """All words of the crates: their sources, definitions and proofs."""
-    found = set()
+    """All words of the crates: their names, sources, definitions and proofs."""
+    found = set(os.listdir(f'{root}/crates'))
     for pattern in ('src/**/*.rt', 'specs/*.antt', 'proofs/**/*.antt'):
         for path in glob.glob(f'{root}/crates/*/{pattern}', recursive=True): found.update(re.findall(r'\w+', read(path)))
     return found

@@ -40,6 +40,3 @@ pub use feed::Stopped;
 pub use following::follow;
 pub use replay::{NoMemory, run};
 pub use session::Session;
-
-#[cfg(test)]
-mod tests;

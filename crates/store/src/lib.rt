@@ -42,14 +42,3 @@ mod taking;
 pub use fault::{Applied, StoreFault};
 pub use listing::{List, Listed};
 pub use store::Store;
-
-#[cfg(test)]
-mod delivery_tests;
-#[cfg(test)]
-mod fixtures;
-#[cfg(test)]
-mod list_tests;
-#[cfg(test)]
-mod opening_tests;
-#[cfg(test)]
-mod stop_tests;

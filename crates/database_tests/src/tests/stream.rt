@@ -4,13 +4,13 @@ ghost use Rattle.std.specs.Prelude.{◌≡◌, Some};
 ghost use Rattle.std.specs.Io.{ReadsAtMost, WritesAtMost};
 ghost use Rattle.std.specs.Io.KnownBytes.{ReadConsumes, WriteAppends};
 
-use crate::counted::Duplex;
+use replica::Duplex;
 use std::io;
 use std::io::{Read, Write};
 
 /// A stream that shows what is left to read and what was written. It can fail.
 #[derive(Drop)]
-pub(crate) struct Stream<'a> {
+pub(super) struct Stream<'a> {
     left: &'a [u8],
     written: Vec<u8>,
     /// The most bytes that a read gives, or 0 for one packet at a time.
@@ -25,7 +25,7 @@ pub(crate) struct Stream<'a> {
 impl<'a> Stream<'a> {
     /// A stream with these bytes to read that does not fail, with the most bytes that a read gives and that a write
     /// takes.
-    pub(crate) fn new(left: &'a [u8], written: Vec<u8>, gives: usize, takes: usize) -> Stream<'a> {
+    pub(super) fn new(left: &'a [u8], written: Vec<u8>, gives: usize, takes: usize) -> Stream<'a> {
         Stream {
             left,
             written,
@@ -37,22 +37,22 @@ impl<'a> Stream<'a> {
     }
 
     /// Makes it fail to read once this many bytes were read.
-    pub(crate) fn fail_to_read_behind(mut self, count: usize) -> Stream<'a> {
+    pub(super) fn fail_to_read_behind(mut self, count: usize) -> Stream<'a> {
         self.readable = count;
         self
     }
 
     /// Makes it fail to write once this many bytes were written.
-    pub(crate) fn fail_to_write_behind(mut self, count: usize) -> Stream<'a> {
+    pub(super) fn fail_to_write_behind(mut self, count: usize) -> Stream<'a> {
         self.writable = count;
         self
     }
 
-    pub(crate) fn left(&self) -> &[u8] {
+    pub(super) fn left(&self) -> &[u8] {
         self.left
     }
 
-    pub(crate) fn into_written(self) -> Vec<u8> {
+    pub(super) fn into_written(self) -> Vec<u8> {
         let Stream { written, .. } = self;
         written
     }

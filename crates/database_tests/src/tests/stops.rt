@@ -1,0 +1,269 @@
+//! Failures: each call of a disk in turn is the first that fails, then the disks crash and the job is done again.
+
+use super::fixtures::{attempt, delivery};
+use super::sessions::ends;
+use super::streams::HISTORY;
+use sqlite::{Alter, Connection, FileStore, Files, Options};
+use sqlite_disk::{Crash, Disk, Fuse, Memory};
+use std::alloc::Global;
+use std::test::Fail;
+use store::Store;
+
+type Fused = Fuse<Memory>;
+
+/// A small cache, which is quickly made.
+const OPTIONS: Options = Options {
+    cache_pages: 20,
+    spill_pages: 20,
+    checkpoint_frames: 1000,
+    seed: 1,
+};
+
+/// What is interrupted.
+#[derive(Clone, Copy)]
+enum Job {
+    /// A database is made, for a filter of two tables.
+    Make,
+    /// A database of layout 1 is migrated.
+    Migrate,
+    /// A store takes a transaction of three changes.
+    Take,
+    /// A replica reads a connection with three transactions.
+    Run,
+}
+
+const FIRST: &str = "BEGIN;
+CREATE TABLE meta (k TEXT PRIMARY KEY, v INTEGER NOT NULL);
+CREATE TABLE executed (source BLOB NOT NULL, number INTEGER NOT NULL, PRIMARY KEY (source, number));
+CREATE TABLE held (schema_name BLOB NOT NULL, table_name BLOB NOT NULL, image BLOB NOT NULL, n INTEGER NOT NULL CHECK (n > 0), PRIMARY KEY (schema_name, table_name, image));
+INSERT INTO meta VALUES ('layout', 1);
+INSERT INTO executed VALUES (x'3e11fa4771ca11e19e33c80aa9429562', 1), (x'3e11fa4771ca11e19e33c80aa9429562', 2), (x'3e11fa4771ca11e19e33c80aa9429562', 4);
+INSERT INTO held VALUES (x'73686f70', x'6974656d73', x'020001040700000002020000006162', 2);
+COMMIT;";
+
+const SECOND: &str = "BEGIN;
+CREATE TABLE meta (k TEXT PRIMARY KEY, v INTEGER NOT NULL);
+CREATE TABLE held (schema_name BLOB NOT NULL, table_name BLOB NOT NULL, image BLOB NOT NULL, n INTEGER NOT NULL CHECK (n > 0), PRIMARY KEY (schema_name, table_name, image));
+CREATE TABLE spans (source BLOB NOT NULL, lo INTEGER NOT NULL, hi INTEGER NOT NULL, PRIMARY KEY (source, lo));
+CREATE TABLE follow (schema_name BLOB NOT NULL, table_name BLOB NOT NULL, PRIMARY KEY (schema_name, table_name));
+INSERT INTO meta VALUES ('layout', 2);
+INSERT INTO held VALUES (x'73686f70', x'6974656d73', x'020001040700000002020000006162', 2);
+INSERT INTO spans VALUES (x'3e11fa4771ca11e19e33c80aa9429562', 2, 3);
+COMMIT;";
+
+/// What the tables show before the job and after each of its steps: `meta`, `executed`, `held`, `spans`, `follow`.
+fn states(job: Job) -> &'static [&'static str] {
+    match job {
+        Job::Make => &["none|none|none|none|none|", " 2|none||| 2|"],
+        Job::Migrate => &[" 1| 1 2 4| 2|none|none|", " 2|none| 2| 1 3 4 5| 0|"],
+        Job::Take => &[" 2|none| 2| 2 3| 0|", " 2|none| 1 1| 1 3| 0|"],
+        Job::Run => &[
+            "none|none|none|none|none|",
+            " 2|none||| 0|",
+            " 2|none| 1| 1 2| 0|",
+            " 2|none| 1 1| 1 2 3 4| 0|",
+            " 2|none| 1 1| 1 4| 0|",
+        ],
+    }
+}
+
+/// The numbers that a query gives, each after a space, or `none` if its table is not there.
+fn numbers<S: Alter>(alloc: Global, conn: &mut Connection<S>, sql: &str) -> Result<String, Fail> {
+    let Ok(rows) = conn.query_all(sql, &[]) else {
+        return Ok(String::from_str(alloc, "none")?);
+    };
+    let mut text = String::new(alloc);
+    for row in &rows {
+        for at in 0..row.column_count() {
+            let number: i64 = row.get(at)?;
+            text.push_str(&format!(in alloc; " {number}")?)?;
+        }
+    }
+    Ok(text)
+}
+
+/// What the tables show.
+fn dump<S: Alter>(alloc: Global, conn: &mut Connection<S>) -> Result<String, Fail> {
+    let mut text = String::new(alloc);
+    for sql in [
+        "SELECT v FROM meta",
+        "SELECT number FROM executed ORDER BY number",
+        "SELECT n FROM held ORDER BY image",
+        "SELECT lo, hi FROM spans ORDER BY lo",
+        "SELECT count(*) FROM follow",
+    ] {
+        text.push_str(&numbers(alloc, conn, sql)?)?;
+        text.push_str("|")?;
+    }
+    Ok(text)
+}
+
+/// A connection to files, or the files if they cannot be opened.
+fn connect<D: Disk + Drop>(
+    alloc: Global,
+    files: Files<D>,
+) -> Result<Connection<FileStore<D>>, Files<D>> {
+    if !files.may_be_used() {
+        return Err(files);
+    }
+    match Connection::open_files(alloc, files, OPTIONS) {
+        Ok(conn) => Ok(conn),
+        Err((_, left)) => Err(left.into_files()),
+    }
+}
+
+/// The statements that make the database before the job.
+fn beginning(job: Job) -> &'static str {
+    match job {
+        Job::Make | Job::Run => "",
+        Job::Migrate => FIRST,
+        Job::Take => SECOND,
+    }
+}
+
+/// The files before the job.
+fn before(alloc: Global, job: Job) -> Result<Files<Memory>, Fail> {
+    let files = Files {
+        log: Memory::new(alloc),
+        db: Memory::new(alloc),
+    };
+    let sql = beginning(job);
+    if sql.is_empty() {
+        return Ok(files);
+    }
+    let Ok(mut conn) = connect(alloc, files) else {
+        return Err("no connection".into());
+    };
+    conn.execute_batch(sql)?;
+    match conn.close_files() {
+        Ok(files) => Ok(files),
+        Err((error, _)) => Err(error.into()),
+    }
+}
+
+/// How many steps of the job have been done with a store: its opening and the transactions that it takes.
+fn work<S: Alter>(alloc: Global, job: Job, store: &mut Store<S>) -> Result<u64, Fail> {
+    match job {
+        Job::Make | Job::Migrate => Ok(1),
+        Job::Take => match store.apply(&delivery(alloc, 1, "p-=")?) {
+            Ok(_) => Ok(1),
+            Err(_) => Ok(0),
+        },
+        Job::Run => match ends(alloc, store, &[&HISTORY])?.as_slice() {
+            [end] => Ok(end.applied.saturating_add(1)),
+            _ => Ok(1),
+        },
+    }
+}
+
+/// Does the job, and returns how many of its steps were done.
+fn act<S: Alter + Drop>(
+    alloc: Global,
+    job: Job,
+    conn: Connection<S>,
+) -> Result<(u64, Connection<S>), Fail> {
+    let only = match job {
+        Job::Make => Some("oc"),
+        _ => None,
+    };
+    match attempt(alloc, conn, only)? {
+        Ok(store) => {
+            let mut store = store;
+            let done = work(alloc, job, &mut store);
+            let conn = store.close();
+            Ok((done?, conn))
+        }
+        Err((_, conn)) => Ok((0, conn)),
+    }
+}
+
+/// Does the job on disks of which one fails after this many calls, and then lets both crash.
+fn stop(alloc: Global, job: Job, calls: (u64, u64)) -> Result<(u64, Files<Fused>), Fail> {
+    let Files { log, db } = before(alloc, job)?;
+    let files = Files {
+        log: Fuse::new(log, calls.0),
+        db: Fuse::new(db, calls.1),
+    };
+    let (done, mut files) = match connect(alloc, files) {
+        Ok(conn) => {
+            let (done, conn) = act(alloc, job, conn)?;
+            (done, conn.into_store().close())
+        }
+        Err(files) => (0, files),
+    };
+    files.log.crash();
+    files.db.crash();
+    Ok((done, files))
+}
+
+/// What the tables in files show, and what they show once the job was done with these.
+fn resume(alloc: Global, job: Job, files: Files<Fused>) -> Result<(String, String), Fail> {
+    let Ok(mut conn) = connect(alloc, files) else {
+        return Err("no connection".into());
+    };
+    let left = dump(alloc, &mut conn)?;
+    let (_, mut conn) = act(alloc, job, conn)?;
+    Ok((left, dump(alloc, &mut conn)?))
+}
+
+/// Whether the tables show the state after this many steps, or after one more.
+fn is_left(job: Job, done: u64, left: &str) -> bool {
+    match states(job).get(done as usize..) {
+        Some([state, next, ..]) => *state == left || *next == left,
+        Some([state]) => *state == left,
+        _ => false,
+    }
+}
+
+/// Interrupts the job, and returns whether all its steps were done. The tables are those after the steps that were done,
+/// or after one more, and those after all steps once the job is done again.
+fn stop_at(alloc: Global, job: Job, calls: (u64, u64)) -> Result<bool, Fail> {
+    let (done, files) = stop(alloc, job, calls)?;
+    let (left, behind) = resume(alloc, job, files)?;
+    let last = states(job).last().copied().unwrap_or("");
+    if is_left(job, done, left.as_str()) && behind.as_str() == last {
+        return Ok(done.saturating_add(1) == states(job).len() as u64);
+    }
+    Err(Fail::new(format!(in alloc; "{calls:?}: {done} done, {left} and then {behind}")?))
+}
+
+/// Interrupts the job at each call of one disk, until it is done.
+fn stops_of(alloc: Global, job: Job, on_log: bool) -> Result<(), Fail> {
+    for count in 0..1000 {
+        let calls = if on_log {
+            (count, u64::MAX)
+        } else {
+            (u64::MAX, count)
+        };
+        if stop_at(alloc, job, calls)? {
+            return Ok(());
+        }
+    }
+    Err("no run ends".into())
+}
+
+/// Interrupts the job at each call of each disk.
+fn stops(alloc: Global, job: Job) -> Result<(), Fail> {
+    stops_of(alloc, job, true)?;
+    stops_of(alloc, job, false)
+}
+
+#[test]
+fn a_new_database_is_whole_where_a_disk_stops(rt: HostRuntime) -> Result<(), Fail> {
+    stops(rt.alloc(), Job::Make)
+}
+
+#[test]
+fn a_migration_is_whole_where_a_disk_stops(rt: HostRuntime) -> Result<(), Fail> {
+    stops(rt.alloc(), Job::Migrate)
+}
+
+#[test]
+fn a_transaction_is_whole_where_a_disk_stops(rt: HostRuntime) -> Result<(), Fail> {
+    stops(rt.alloc(), Job::Take)
+}
+
+#[test]
+fn a_history_is_whole_where_a_disk_stops(rt: HostRuntime) -> Result<(), Fail> {
+    stops(rt.alloc(), Job::Run)
+}
