@@ -121,6 +121,20 @@ fn beginning(job: Job) -> &'static str {
     }
 }
 
+/// The files of a connection, which is closed.
+fn finished(conn: Connection<FileStore<Memory>>) -> Result<Files<Memory>, Fail> {
+    match conn.close_files() {
+        Ok(files) => Ok(files),
+        Err((error, _)) => Err(error.into()),
+    }
+}
+
+/// Runs statements, and returns the connection.
+fn made<S: Alter + Drop>(mut conn: Connection<S>, sql: &str) -> Result<Connection<S>, Fail> {
+    conn.execute_batch(sql)?;
+    Ok(conn)
+}
+
 /// The files before the job.
 fn before(alloc: Global, job: Job) -> Result<Files<Memory>, Fail> {
     let files = Files {
@@ -131,13 +145,9 @@ fn before(alloc: Global, job: Job) -> Result<Files<Memory>, Fail> {
     if sql.is_empty() {
         return Ok(files);
     }
-    let Ok(mut conn) = connect(alloc, files) else {
-        return Err("no connection".into());
-    };
-    conn.execute_batch(sql)?;
-    match conn.close_files() {
-        Ok(files) => Ok(files),
-        Err((error, _)) => Err(error.into()),
+    match connect(alloc, files) {
+        Ok(conn) => finished(made(conn, sql)?),
+        Err(_) => Err("no connection".into()),
     }
 }
 
@@ -196,14 +206,23 @@ fn stop(alloc: Global, job: Job, calls: (u64, u64)) -> Result<(u64, Files<Fused>
     Ok((done, files))
 }
 
-/// What the tables in files show, and what they show once the job was done with these.
-fn resume(alloc: Global, job: Job, files: Files<Fused>) -> Result<(String, String), Fail> {
-    let Ok(mut conn) = connect(alloc, files) else {
-        return Err("no connection".into());
-    };
+/// What the tables show, and what they show once the job was done with these.
+fn resume<S: Alter + Drop>(
+    alloc: Global,
+    job: Job,
+    mut conn: Connection<S>,
+) -> Result<(String, String), Fail> {
     let left = dump(alloc, &mut conn)?;
     let (_, mut conn) = act(alloc, job, conn)?;
     Ok((left, dump(alloc, &mut conn)?))
+}
+
+/// As `resume`, with the tables in files.
+fn reopen(alloc: Global, job: Job, files: Files<Fused>) -> Result<(String, String), Fail> {
+    match connect(alloc, files) {
+        Ok(conn) => resume(alloc, job, conn),
+        Err(_) => Err("no connection".into()),
+    }
 }
 
 /// Whether the tables show the state after this many steps, or after one more.
@@ -219,7 +238,7 @@ fn is_left(job: Job, done: u64, left: &str) -> bool {
 /// or after one more, and those after all steps once the job is done again.
 fn stop_at(alloc: Global, job: Job, calls: (u64, u64)) -> Result<bool, Fail> {
     let (done, files) = stop(alloc, job, calls)?;
-    let (left, behind) = resume(alloc, job, files)?;
+    let (left, behind) = reopen(alloc, job, files)?;
     let last = states(job).last().copied().unwrap_or("");
     if is_left(job, done, left.as_str()) && behind.as_str() == last {
         return Ok(done.saturating_add(1) == states(job).len() as u64);
