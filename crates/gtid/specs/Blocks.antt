@@ -1,4 +1,4 @@
--- Groups as blocks of bytes.
+-- Private: groups as blocks of bytes.
 use Rattle.std.specs.Prelude.{◌≡◌, ℕ, List, ◌++◌, map}
 use Rattle.std.specs.Str.{IsAscii}
 use Rattle.gtid.specs.Encoding.{SidBlock}

@@ -1,4 +1,4 @@
--- Two sets combined into one.
+-- Private: two sets combined into one.
 use Rattle.std.specs.Prelude.{Bool, ◌&&◌, ◌||◌, not}
 use Rattle.gtid.specs.declared.combination.Combination.{Combination}
 use Rattle.gtid.specs.declared.combination.Combination.TheVariants.{Union, Difference}

@@ -1,4 +1,4 @@
--- Faults in the bytes of a set's parts.
+-- Private: faults in the bytes of a set's parts.
 use Rattle.std.specs.Prelude.{◌≡◌, ℕ, ◌<◌, ◌^◌, ◌⊎◌, true, List, ◌++◌, length, Option, Some, flat_map}
 use Rattle.byteorder.specs.Endian.{little_bytes}
 use Rattle.gtid.specs.Encoding.{interval_bytes, interval_fault, is_above, source_fault, end_of, AreIntervals}

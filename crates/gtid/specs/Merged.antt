@@ -1,4 +1,4 @@
--- Intervals of two lists, by where they begin.
+-- Private: intervals of two lists, by where they begin.
 use Rattle.std.specs.Prelude.{ℕ, ◌<◌, ◌≤◌, ◌^◌, ◌||◌, Bool, List, [], ◌∷◌}
 use Rattle.gtid.specs.Interval.{has, AreLeast}
 use Rattle.gtid.specs.declared.interval.Interval.{Interval}

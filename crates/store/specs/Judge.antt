@@ -1,4 +1,4 @@
--- Facts about rows that are read one after the other.
+-- Private: facts about rows that are read one after the other.
 use Rattle.std.specs.Prelude.{◌≡◌, ◌+◌, ◌<ℤ◌, Bool, true, false, not, ◌&&◌, ℤ, List, [], ◌∷◌, map, filter, codes, Option, None, Some}
 use Rattle.sqlite_value.specs.declared.value.Value.{Value}
 use Rattle.sqlite_value.specs.declared.value.Value.TheVariants.{Int}

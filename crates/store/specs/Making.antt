@@ -1,4 +1,4 @@
--- Making the tables of a new database.
+-- Private: making the tables of a new database.
 use Rattle.std.specs.Prelude.{◌≡◌, ℕ, true, codes, pos, List, [], ◌∷◌, IsTrue}
 use Rattle.std.specs.List.{AllByRecursion}
 use Rattle.sqlite_value.specs.declared.value.Value.TheVariants.{Null, Int, Text}

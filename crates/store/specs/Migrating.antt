@@ -1,4 +1,4 @@
--- Migration from layout 1 to layout 2.
+-- Private: migration from layout 1 to layout 2.
 use Rattle.std.specs.Prelude.{◌≡◌, ℕ, ℤ, true, codes, pos, List, [], ◌∷◌, ◌++◌, map, IsTrue, IsPermutation}
 use Rattle.std.specs.List.{AllByRecursion}
 use Rattle.sqlite_value.specs.declared.value.Value.TheVariants.{Int, Text}
