@@ -49,12 +49,3 @@ pub use rows::{RowPair, Rows};
 pub use rows_event::{RowsEvent, RowsKind};
 pub use rows_writing::{OwnedPair, rows_fit, write_rows};
 pub use table::{TableDef, TableMap};
-
-#[cfg(test)]
-mod body_tests;
-#[cfg(test)]
-mod event_tests;
-#[cfg(test)]
-mod rows_writing_tests;
-#[cfg(test)]
-mod tests;

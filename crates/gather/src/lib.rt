@@ -26,8 +26,3 @@ pub use fault::GatherFault;
 pub use gatherer::Gatherer;
 pub use image::Image;
 pub use image_cells::ImageCells;
-
-#[cfg(test)]
-mod gatherer_tests;
-#[cfg(test)]
-mod image_tests;

@@ -26,6 +26,3 @@ pub use greeting::Greeting;
 pub use native_auth::native;
 pub use reply::{AuthReply, read_eof, read_ok};
 pub use response::Response;
-
-#[cfg(test)]
-mod tests;

@@ -35,6 +35,3 @@ pub use reserved::Reserved;
 pub use set::GtidSet;
 pub use span::Span;
 pub use spans::Spans;
-
-#[cfg(test)]
-mod tests;

@@ -21,6 +21,3 @@ pub use assembler::{Assembler, Step};
 pub use fault::WireFault;
 pub use integer::{read_int, write_int};
 pub use packet::{LARGEST_PAYLOAD, packing_length, write_payload};
-
-#[cfg(test)]
-mod tests;

@@ -1,7 +1,7 @@
 use Rattle.std.proofs.Common.{map, ap, ◌∙◌, arith}
 use Rattle.std.proofs.lemmas.List.{take_rest, map_push, drop_all}
 use Rattle.wire.proofs.Reader.{hands_out, holds_all, stops}
-use Rattle.wire.proofs.tests.payloads.Goals as goal
+use Rattle.formats_tests.proofs.tests.packets.payloads.Goals as goal
 
 pub loop-payloads-preserved : goal.loop-payloads-preserved
 loop-payloads-preserved c =

@@ -1,6 +1,6 @@
 use Rattle.std.proofs.Common.{◌≡◌, ◌+◌, ◌∷◌, drop, map, length}
 use Rattle.wire.proofs.Reader.{GoesOn}
-use Rattle.wire.proofs.tests.payloads.Given as goal
+use Rattle.formats_tests.proofs.tests.packets.payloads.Given as goal
 
 abbrev pub invariant-loop-piece : goal.invariant-loop-piece
 invariant-loop-piece l = record {

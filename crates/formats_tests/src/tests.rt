@@ -1,0 +1,13 @@
+//! A file for each subject, and the bytes that they share.
+
+mod bytes;
+mod columns;
+mod event_bytes;
+mod events;
+mod follows;
+mod gtids;
+mod images;
+mod messages;
+mod packets;
+mod rows;
+mod transactions;

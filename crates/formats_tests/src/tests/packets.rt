@@ -1,0 +1,253 @@
+//! Packets and integers of the MySQL client/server protocol, by worked values of the public standard.
+
+ghost use Rattle.std.specs.Prelude.{ℕ, [], List, map, IfOk};
+ghost use Rattle.wire.specs.Stream.{Held, Runs};
+
+use std::alloc::Global;
+use wire::{
+    Assembler, LARGEST_PAYLOAD, Step, WireFault, packing_length, read_int, write_int, write_payload,
+};
+
+/// Length-encoded integers, each with its shortest spelling.
+static SPELLINGS: [(u64, &[u8]); 8] = [
+    (5, &[0x05]),
+    (250, &[0xfa]),
+    (251, &[0xfc, 0xfb, 0x00]),
+    (65_535, &[0xfc, 0xff, 0xff]),
+    (65_536, &[0xfd, 0x00, 0x00, 0x01]),
+    (16_777_215, &[0xfd, 0xff, 0xff, 0xff]),
+    (
+        16_777_216,
+        &[0xfe, 0x00, 0x00, 0x00, 0x01, 0x00, 0x00, 0x00, 0x00],
+    ),
+    (
+        u64::MAX,
+        &[0xfe, 0xff, 0xff, 0xff, 0xff, 0xff, 0xff, 0xff, 0xff],
+    ),
+];
+
+/// The integer as it is written.
+fn spelled(alloc: Global, value: u64) -> Option<Vec<u8>> {
+    let mut out = Vec::new(alloc);
+    write_int(value, &mut out).ok()?;
+    Some(out)
+}
+
+/// Integers are written in the shortest spelling, and read again.
+#[test]
+fn integers(rt: HostRuntime) {
+    for (value, bytes) in &SPELLINGS {
+        let written = spelled(rt.alloc(), *value).expect(&rt, "memory");
+        assert_eq!(rt; written.as_slice(), *bytes);
+        assert_eq!(rt; read_int(bytes), Some((*value, bytes.len())));
+    }
+}
+
+/// Bytes that are no shortest spelling, and what is read of them.
+static OTHER_SPELLINGS: [(&[u8], Option<(u64, usize)>); 7] = [
+    (&[0xfc, 0x05, 0x00], Some((5, 3))),
+    (&[0xfd, 0x00, 0x00, 0x00], Some((0, 4))),
+    (&[], None),
+    (&[0xfb], None),
+    (&[0xff], None),
+    (&[0xfc, 0x05], None),
+    (&[0xfe, 1, 2, 3, 4, 5, 6, 7], None),
+];
+
+/// A longer spelling is read, and bytes that begin with no integer are not.
+#[test]
+fn other_integers(rt: HostRuntime) {
+    for (bytes, read) in &OTHER_SPELLINGS {
+        assert_eq!(rt; read_int(bytes), *read);
+    }
+}
+
+/// The length of a payload, its first id, the length of its packing, its last header and the next
+/// expected id.
+static PACKINGS: [(usize, u8, usize, [u8; 4], u8); 7] = [
+    (0, 0, 4, [0, 0, 0, 0], 1),
+    (1, 0, 5, [1, 0, 0, 0], 1),
+    (16_777_214, 0, 16_777_218, [0xfe, 0xff, 0xff, 0], 1),
+    (16_777_215, 0, 16_777_223, [0, 0, 0, 1], 2),
+    (16_777_216, 0, 16_777_224, [1, 0, 0, 1], 2),
+    (33_554_430, 0, 33_554_442, [0, 0, 0, 2], 3),
+    (16_777_215, 255, 16_777_223, [0, 0, 0, 0], 1),
+];
+
+/// A payload of two packets, as one of `PACKINGS`.
+const LONG: (usize, u8, usize, [u8; 4], u8) = (16_777_216, 255, 16_777_224, [1, 0, 0, 0], 1);
+
+/// So many sevens, their packing, and the next expected id.
+fn packing(alloc: Global, length: usize, first: u8) -> Option<(Vec<u8>, Vec<u8>, u8)> {
+    let mut payload = Vec::new(alloc);
+    payload.resize(length, 7).ok()?;
+    let mut out = Vec::new(alloc);
+    let next = write_payload(first, &payload, &mut out).ok()?;
+    Some((payload, out, next))
+}
+
+/// The payload of a stream in pieces of this length, which ends with its last piece.
+fn payload(alloc: Global, first: u8, stream: &[u8], length: usize) -> Option<Vec<u8>> {
+    let mut assembler = Assembler::new(alloc, LARGEST_PAYLOAD);
+    assembler.expect(first);
+    let mut found = None;
+    for piece in stream.chunks(length.max(1)) {
+        if found.is_some() {
+            return None;
+        }
+        found = assembler.step(piece).ok()?.payload;
+    }
+    found
+}
+
+/// Whether sevens have this packing, and are read from it in pieces of this length.
+fn is_packed(
+    alloc: Global,
+    (length, first, total, header, next): (usize, u8, usize, [u8; 4], u8),
+    piece: usize,
+) -> Option<bool> {
+    let (sevens, stream, id) = packing(alloc, length, first)?;
+    let last = stream.len().checked_sub(length % 16_777_215 + 4)?;
+    let header_is = stream.get(last..)?.starts_with(&header);
+    let read = payload(alloc, first, &stream, piece)?;
+    Some(header_is && stream.len() == total && id == next && read == sevens)
+}
+
+/// How a payload is written, and read again in pieces of 65,536 bytes.
+#[test]
+fn packings(rt: HostRuntime) {
+    for case in &PACKINGS {
+        assert_eq!(rt; is_packed(rt.alloc(), *case, 65_536), Some(true));
+    }
+}
+
+/// A long payload of two packets, a byte at a time: the work is linear in its length.
+#[test]
+fn bytes(rt: HostRuntime) {
+    assert_eq!(rt; is_packed(rt.alloc(), LONG, 1), Some(true));
+}
+
+/// The payloads of a stream that comes in these pieces, from the id 0 on. It proves, from the clauses of
+/// `step` alone, that they are those of the stream's one reading.
+fn payloads(alloc: Global, pieces: &[&[u8]]) -> Result<Vec<Vec<u8>>, WireFault>
+    ensures { IfOk result (λ found. (id : ℕ) × (held : List ℕ) ×
+        Runs 0 LARGEST_PAYLOAD [] (map (λ piece. piece.now) pieces.now) (map (λ payload. payload.items) found.items) (Held id held)) }
+{
+    let mut assembler = Assembler::new(alloc, LARGEST_PAYLOAD);
+    let mut payloads = Vec::new(alloc);
+    for piece in pieces {
+        let mut rest = *piece;
+        loop {
+            let Step { used, payload } = assembler.step(rest)?;
+            let Some(payload) = payload else {
+                break;
+            };
+            payloads.push(payload)?;
+            rest = &rest[used..];
+        }
+    }
+    Ok(payloads)
+}
+
+/// The payloads of 0 to 299 sevens, their packings, and the next expected id.
+fn stream(alloc: Global) -> Option<(Vec<Vec<u8>>, Vec<u8>, u8)> {
+    let mut payloads = Vec::new(alloc);
+    let mut stream = Vec::new(alloc);
+    let mut id = 0;
+    for length in 0..300usize {
+        let (payload, packing, next) = packing(alloc, length, id)?;
+        payloads.push(payload).ok()?;
+        stream.extend_from_slice(&packing).ok()?;
+        id = next;
+    }
+    Some((payloads, stream, id))
+}
+
+/// Whether the stream has these payloads, in pieces of this length.
+fn has_payloads(alloc: Global, stream: &[u8], want: &[Vec<u8>], length: usize) -> Option<bool> {
+    let pieces: Vec<&[u8]> = stream.chunks(length.max(1)).collect(alloc).ok()?;
+    let found = payloads(alloc, &pieces).ok()?;
+    Some(found.as_slice() == want)
+}
+
+/// However a stream is cut into pieces, its payloads are the same. Its ids go on from 255 to 0.
+#[test]
+fn pieces(rt: HostRuntime) {
+    let (payloads, stream, id) = stream(rt.alloc()).expect(&rt, "memory");
+    assert_eq!(rt; id, 44);
+    for length in [1, 2, 3, 4, 5, 64, 65_536] {
+        assert_eq!(rt;
+            has_payloads(rt.alloc(), &stream, &payloads, length),
+            Some(true)
+        );
+    }
+}
+
+/// A limit, the expected id, the bytes of a header and one more in pieces, and the fault of the last piece.
+static FAULTS: [(usize, u8, &[&[u8]], Option<WireFault>); 8] = [
+    (
+        100,
+        2,
+        &[&[1, 0, 0], &[3]],
+        Some(WireFault::Sequence { want: 2, got: 3 }),
+    ),
+    (
+        100,
+        0,
+        &[&[0xff, 0xff, 0xff], &[1]],
+        Some(WireFault::Sequence { want: 0, got: 1 }),
+    ),
+    (100, 0, &[&[101, 0, 0], &[0]], Some(WireFault::TooLarge)),
+    (100, 0, &[&[100, 0, 0], &[0]], None),
+    (100, 0, &[&[101, 0, 0]], None),
+    (
+        16_777_214,
+        0,
+        &[&[0xff, 0xff, 0xff], &[0]],
+        Some(WireFault::TooLarge),
+    ),
+    (16_777_215, 0, &[&[0xff, 0xff, 0xff], &[0]], None),
+    (100, 2, &[&[1, 0, 0], &[3], &[0]], Some(WireFault::Ended)),
+];
+
+/// The fault that a reader answers to the last of these pieces, where no payload ends.
+fn answer(alloc: Global, limit: usize, due: u8, pieces: &[&[u8]]) -> Option<WireFault> {
+    let mut assembler = Assembler::new(alloc, limit.min(LARGEST_PAYLOAD));
+    assembler.expect(due);
+    let mut fault = None;
+    for piece in pieces {
+        fault = assembler.step(piece).err();
+    }
+    fault
+}
+
+/// A wrong header is reported with its fourth byte, and ends the reader.
+#[test]
+fn faults(rt: HostRuntime) {
+    for (limit, due, pieces, fault) in &FAULTS {
+        assert_eq!(rt; answer(rt.alloc(), *limit, *due, pieces), *fault);
+    }
+}
+
+/// A second header, and its fault after a full packet of a payload of at most 16,777,220 bytes.
+static SECOND: [([u8; 4], Option<WireFault>); 3] = [
+    ([6, 0, 0, 1], Some(WireFault::TooLarge)),
+    ([5, 0, 0, 1], None),
+    ([5, 0, 0, 5], Some(WireFault::Sequence { want: 1, got: 5 })),
+];
+
+/// The fault of a second header, after a first packet.
+fn second(alloc: Global, first: &[u8], header: &[u8]) -> Option<WireFault> {
+    answer(alloc, 16_777_220, 0, &[first, header])
+}
+
+/// The limit is on the second packet of a payload together with the first, and its id must follow the
+/// first's.
+#[test]
+fn second_packet(rt: HostRuntime) {
+    let (_, packing, _) = packing(rt.alloc(), 16_777_216, 0).expect(&rt, "memory");
+    let first = packing.get(..16_777_219).expect(&rt, "two packets");
+    for (header, fault) in &SECOND {
+        assert_eq!(rt; second(rt.alloc(), first, header), *fault);
+    }
+}
