@@ -1,9 +1,9 @@
 # make        proves and builds mrep, puts it at bin/mrep, and runs it on a sample: a captured stream is replayed into
 #             a new database, whose rows and executed set are shown
-# make test   runs the whole gate: a program that must not compile, every proof from nothing, the wrong bodies, the tests
-#             and the program, and then, with the program that was built, what tests/ has: files read by sqlite3,
-#             damaged databases, streams and their faults, captured streams, a source over loopback, and the commands,
-#             examples and names of the pages
+# make test   runs the whole gate, tests/run: a program that must not compile, every proof from nothing, the tests and the
+#             program, the wrong bodies, and then, with the program that was built, what else tests/ has: the commands,
+#             files read by sqlite3, damaged databases, streams and their faults, captured streams, a source over
+#             loopback, and the commands, examples and names of the pages
 # make bench  times mrep, the sets and the transactions against plain Rust programs that do the same jobs, and the
 #             store against the C library of SQLite (needs rustc; the store also python3)
 
@@ -21,8 +21,7 @@ build:
 	cp crates/mrep/out/mrep bin/mrep
 
 test:
-	tests/borrows/run
-	tests/gate/run
+	tests/run
 
 bench: build
 	bench/run

@@ -1,11 +1,13 @@
-//! A store, and a replica with a store, over databases and streams in memory.
+//! A store, a scripted source, and a replica with a store, over databases and streams in memory.
 
 mod deliveries;
 mod fixtures;
 mod follows;
 mod lists;
 mod openings;
+mod resumes;
 mod sessions;
+mod sources;
 mod stops;
 mod stream;
 mod streams;

@@ -1,11 +1,2 @@
 pub mod Entries
 pub mod Statuses
-pub mod Taking
-pub mod Sending
-pub mod Checking
-pub mod Scripted
-pub mod Talking
-pub mod Transactions
-pub mod Resuming
-pub mod PassedOver
-pub mod OneAnswer

@@ -7,6 +7,7 @@ use crate::failure::{Failure, MEMORY};
 use crate::progress::Progress;
 use crate::reason::{write_cause, write_end};
 use crate::replay::{status_of, tables};
+use crate::socket::Socket;
 use replica::{Config, ConfigFault, Counted, Duplex, Ended, follow};
 use std::fs;
 use std::io::{ErrorKind, Write};
@@ -108,7 +109,7 @@ fn follow_into<'a, W: Write, E: Write>(
 ) -> Result<(), Failure<'a>> {
     let host = words.host;
     let stream = match TcpStream::connect(rt, (host, port)) {
-        Ok(stream) => stream,
+        Ok(stream) => Socket(stream),
         Err(cause) => return Err(Failure::Host { name: host, cause }),
     };
     let (end, failure) = if words.progress {

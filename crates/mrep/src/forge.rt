@@ -1,22 +1,3 @@
-//! A scripted source: what a server sends to a replica for a given history of transactions.
-//!
-//! [`opening`] is what it sends before the dump command, [`answer`] what it sends in reply to one, and [`check`] reads
-//! what a replica sent to it. None of these reads from a socket or writes to one. [`laws`] says what a replica is led
-//! to that stops anywhere and asks again.
-//!
-//! The layouts are those of the MySQL Source Documentation, "Client/Server Protocol", "Replication Protocol" and
-//! "Binlog Event".
+//! A scripted source, for tests and laws: the crate `scripted_source`.
 
-mod answering;
-mod checking;
-mod fault;
-pub mod laws;
-mod opening;
-mod script;
-mod sending;
-
-pub use answering::answer;
-pub use checking::check;
-pub use fault::ForgeFault;
-pub use opening::opening;
-pub use script::{Ending, Part, Script};
+pub use scripted_source::{Ending, ForgeFault, Part, Script, answer, check, laws, opening};

@@ -16,15 +16,13 @@ mod listing;
 mod minus;
 mod name;
 mod progress;
-mod reading;
 mod reason;
 mod replay;
 mod sets;
 mod show;
 mod skip;
+mod socket;
 mod stream;
-#[cfg(test)]
-mod tests;
 
 use crate::command::command;
 use crate::failure::{MEMORY, USAGE};

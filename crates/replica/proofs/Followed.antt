@@ -24,11 +24,11 @@ use Rattle.replica.specs.Crash.{IsLeft}
 use Rattle.replica.specs.Sent.{SentFor}
 use Rattle.replica.specs.Standing.{Stands, GoesOn, HasEnded, end_of, room_of}
 use Rattle.replica.specs.Over.{StandsOver, HasRead, LeavesOnly}
-use Rattle.replica.specs.Follow.{IsInFull, IsOfStream, MayOwe, Follows, IsFollowing, HandsOut, EndsInLast, told_as, gave_up_with, turns_left, while_going}
+use Rattle.replica.specs.Follow.{IsInFull, IsOfStream, MaySendLess, Follows, IsFollowing, HandsOut, EndsInLast, told_as, sends_no_more_after, turns_left, while_going}
 use Rattle.replica.proofs.Stood.{conn_of, sent_of}
 use Rattle.replica.proofs.Runs.{begins, read_all}
 
-may_owe : (reason : Reason) → gave_up_with reason ≡ true → MayOwe reason
+may_owe : (reason : Reason) → sends_no_more_after reason ≡ true → MaySendLess reason
 may_owe EndOfInput h = cc
 may_owe SourceEof h = cc
 may_owe (SourceError code state message) h = cc
@@ -42,7 +42,7 @@ may_owe Memory h = tt
 may_owe ReadFailed h = cc
 may_owe WriteFailed h = cc
 
-is_in_full : (reason : Reason) → gave_up_with reason ≡ false → IsNoStreamFailure reason → IsInFull reason
+is_in_full : (reason : Reason) → sends_no_more_after reason ≡ false → IsNoStreamFailure reason → IsInFull reason
 is_in_full EndOfInput h n = tt
 is_in_full SourceEof h n = tt
 is_in_full (SourceError code state message) h n = tt
@@ -135,9 +135,9 @@ abbrev pub Retells : ℕ → Names → Bool → Content → List ℕ → Content
 Retells limit names was old b new at reason other =
     (r : Reading limit names b) → why limit names (due_behind r.payloads) r.events r.deliveries (length r.front) r.id r.rest was old new at reason → why limit names (due_behind r.payloads) r.events r.deliveries (length r.front) r.id r.rest was old new at other
 
-conn-retold : (limit : ℕ) (names : Names) (was : Bool) (old : Content) (b : List ℕ) (new : Content) (end : Ended) (reason : Reason) → Retells limit names was old b new end.at end.reason reason
+conn-ended_with : (limit : ℕ) (names : Names) (was : Bool) (old : Content) (b : List ℕ) (new : Content) (end : Ended) (reason : Reason) → Retells limit names was old b new end.at end.reason reason
     → Conn limit names was old b new end → Conn limit names was old b new (told_as reason end)
-conn-retold limit names was old b new end reason f c = record {
+conn-ended_with limit names was old b new end reason f c = record {
   reading = c.reading;
   took = c.took;
   why = f c.reading c.why;
@@ -145,14 +145,14 @@ conn-retold limit names was old b new end reason f c = record {
 }
 
 module _ {S : Type 0} (g : Ghosts S) where
-  retold : (limit : ℕ) (before store : Store S g) (was : Bool) (old : Content) (b : List ℕ) (end : Ended) (reason : Reason) → IsInFull end.reason → IsLate reason
+  ended_with : (limit : ℕ) (before store : Store S g) (was : Bool) (old : Content) (b : List ℕ) (end : Ended) (reason : Reason) → IsInFull end.reason → IsLate reason
       → ((new : Content) → Retells limit before.following was old b new end.at end.reason reason) → HasRead g limit before store was old b end → HasRead g limit before store was old b (told_as reason end)
-  retold limit before store was old b end reason full late f r = record {
+  ended_with limit before store was old b end reason full late f r = record {
     is = r.is;
     new = r.new;
     holds = r.holds;
     following = r.following;
-    conn = conn-retold limit before.following was old b r.new end reason (f r.new) r.conn;
+    conn = conn-ended_with limit before.following was old b r.new end reason (f r.new) r.conn;
     breaks = told_late reason was r.is late (as_it_was end.reason was r.is full r.breaks);
     schema_is = r.schema_is;
     leaves = λ w. record {
@@ -183,44 +183,44 @@ module _ {S : Type 0} (g : Ghosts S) where
     has_read : HasRead g session.config.limit before store was old f.read end
     has_read = read_all g session before store session.config.limit was old f.read f.sent end refl names refl f.stands
 
-    owes : SentFor session.config before.following old.executed f.read end.at (f.sent ++ session.out.items)
-    owes = subst (λ n. SentFor session.config n old.executed f.read end.at (f.sent ++ session.out.items)) names (sent_of session store.following was f.stands.is old f.stands.now f.read f.sent f.stands.stands)
+    is_due : SentFor session.config before.following old.executed f.read end.at (f.sent ++ session.out.items)
+    is_due = subst (λ n. SentFor session.config n old.executed f.read end.at (f.sent ++ session.out.items)) names (sent_of session store.following was f.stands.is old f.stands.now f.read f.sent f.stands.stands)
 
     -- nothing can be read, since memory ran out
     pub follows-memory : end.reason ≡ EndOfInput → Follows g session.config before store was old left0 left written0 written (told_as Memory end)
-    unfolding retold has_read
+    unfolding ended_with has_read
     follows-memory e =
         let full : IsInFull end.reason = subst (λ (v : Reason). IsInFull v) (sym e) tt in
         record {
           read = f.read;
           sent = f.sent;
-          owed = session.out.items;
+          pending = session.out.items;
           reads = f.reads;
           writes = f.writes;
           last = f.last;
           unended = λ h. let no : Memory ≡ ReadFailed = h in cc;
-          has_read = retold session.config.limit before store was old f.read end Memory full tt
+          has_read = ended_with session.config.limit before store was old f.read end Memory full tt
               (λ new r w. why_memory session.config.limit before.following (due_behind r.payloads) r.events r.deliveries (length r.front) r.id r.rest was old new end.at end.reason e w) has_read;
           in_full = λ h. absurd h;
           all_read = λ bad. let no : Memory ≡ EndOfInput = bad in cc;
-          owes = owes;
+          is_due = is_due;
           all_sent = inl tt;
         }
 
     -- memory or the database ended it: nothing more is sent
-    pub follows-gave_up : gave_up_with end.reason ≡ true → IsNoStreamFailure end.reason → Follows g session.config before store was old left0 left written0 written end
-    follows-gave_up gave n = record {
+    pub follows-sends_no_more : sends_no_more_after end.reason ≡ true → IsNoStreamFailure end.reason → Follows g session.config before store was old left0 left written0 written end
+    follows-sends_no_more gave n = record {
       read = f.read;
       sent = f.sent;
-      owed = session.out.items;
+      pending = session.out.items;
       reads = f.reads;
       writes = f.writes;
       has_read = has_read;
       last = f.last;
       unended = λ h. absurd (subst (λ (v : Reason). IsNoStreamFailure v) h n);
       in_full = λ h. absurd (not_of_stream end.reason n h);
-      all_read = λ e. let bad : false ≡ true = sym (ap gave_up_with e) ∙ gave in cc;
-      owes = owes;
+      all_read = λ e. let bad : false ≡ true = sym (ap sends_no_more_after e) ∙ gave in cc;
+      is_due = is_due;
       all_sent = inl (may_owe end.reason gave);
     }
 
@@ -231,42 +231,42 @@ module _ {S : Type 0} (g : Ghosts S) where
       reads' : Consumes left0 left' f.read
       reads' = Consumes-kept left0 left left' f.read f.reads keeps
 
-      owes' : SentFor session.config before.following old.executed f.read end.at ((f.sent ++ y) ++ z)
-      owes' =
+      is_due' : SentFor session.config before.following old.executed f.read end.at ((f.sent ++ y) ++ z)
+      is_due' =
           subst (λ (l : List ℕ). SentFor session.config before.following old.executed f.read end.at l) (sym (append_assoc f.sent y z))
           (subst (λ n. SentFor session.config n old.executed f.read end.at (f.sent ++ (y ++ z))) names (hands.sent store.following was f.stands.is old f.stands.now f.read f.sent f.stands.stands))
 
       -- a write failed
-      pub follows-write_failed : gave_up_with end.reason ≡ false → IsNoStreamFailure end.reason → Follows g session.config before store was old left0 left' written0 written' (told_as WriteFailed end)
-      unfolding retold has_read
+      pub follows-write_failed : sends_no_more_after end.reason ≡ false → IsNoStreamFailure end.reason → Follows g session.config before store was old left0 left' written0 written' (told_as WriteFailed end)
+      unfolding ended_with has_read
       follows-write_failed gave n =
           let full = is_in_full end.reason gave n in
           record {
             read = f.read;
             sent = f.sent ++ y;
-            owed = z;
+            pending = z;
             reads = reads';
             writes = writes';
             last = f.last;
             unended = λ h. let no : WriteFailed ≡ ReadFailed = h in cc;
-            has_read = retold session.config.limit before store was old f.read end WriteFailed full tt
+            has_read = ended_with session.config.limit before store was old f.read end WriteFailed full tt
                 (λ new r w. why_write_failed session.config.limit before.following (due_behind r.payloads) r.events r.deliveries (length r.front) r.id r.rest was old new end.at end.reason full w) has_read;
             in_full = λ h. (end.reason, full, has_read.conn);
             all_read = λ e. let bad : WriteFailed ≡ EndOfInput = e in cc;
-            owes = owes';
+            is_due = is_due';
             all_sent = inl tt;
           }
 
       module _ (all : z ≡ []) where
         sent' : SentFor session.config before.following old.executed f.read end.at ((f.sent ++ y) ++ [])
-        sent' = subst (λ (l : List ℕ). SentFor session.config before.following old.executed f.read end.at ((f.sent ++ y) ++ l)) all owes'
+        sent' = subst (λ (l : List ℕ). SentFor session.config before.following old.executed f.read end.at ((f.sent ++ y) ++ l)) all is_due'
 
         -- everything has been sent, and the session has ended or everything has been read
         pub follows-ended : IsNoStreamFailure end.reason → (end.reason ≡ EndOfInput → IsAtEnd left') → Follows g session.config before store was old left0 left' written0 written' end
         follows-ended n read = record {
           read = f.read;
           sent = f.sent ++ y;
-          owed = [];
+          pending = [];
           reads = reads';
           writes = writes';
           has_read = has_read;
@@ -274,29 +274,29 @@ module _ {S : Type 0} (g : Ghosts S) where
           unended = λ h. absurd (subst (λ (v : Reason). IsNoStreamFailure v) h n);
           in_full = λ h. absurd (not_of_stream end.reason n h);
           all_read = read;
-          owes = sent';
+          is_due = sent';
           all_sent = inr refl;
         }
 
         -- a read failed
         pub follows-read_failed : end.reason ≡ EndOfInput → Follows g session.config before store was old left0 left' written0 written' (told_as ReadFailed end)
-        unfolding retold has_read
+        unfolding ended_with has_read
         follows-read_failed e =
             let full : IsInFull end.reason = subst (λ (v : Reason). IsInFull v) (sym e) tt in
             record {
               read = f.read;
               sent = f.sent ++ y;
-              owed = [];
+              pending = [];
               reads = reads';
               writes = writes';
               last = f.last;
-              unended = λ h. conn-retold session.config.limit before.following was old f.read has_read.new end EndOfInput
+              unended = λ h. conn-ended_with session.config.limit before.following was old f.read has_read.new end EndOfInput
                   (λ r w. subst (λ (v : Reason). why session.config.limit before.following (due_behind r.payloads) r.events r.deliveries (length r.front) r.id r.rest was old has_read.new end.at v) e w) has_read.conn;
-              has_read = retold session.config.limit before store was old f.read end ReadFailed full tt
+              has_read = ended_with session.config.limit before store was old f.read end ReadFailed full tt
                   (λ new r w. why_read_failed session.config.limit before.following (due_behind r.payloads) r.events r.deliveries (length r.front) r.id r.rest was old new end.at end.reason e w) has_read;
               in_full = λ h. (end.reason, full, has_read.conn);
               all_read = λ bad. let no : ReadFailed ≡ EndOfInput = bad in cc;
-              owes = sent';
+              is_due = sent';
               all_sent = inr refl;
             }
 

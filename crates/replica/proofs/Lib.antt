@@ -1,3 +1,4 @@
+pub mod Bytes
 pub mod Sending
 pub mod Messages
 pub mod Events
@@ -14,3 +15,9 @@ pub mod Told
 pub mod OneEnd
 pub mod Followed
 pub mod Left
+pub mod FromReader
+pub mod Scripted
+pub mod Talking
+pub mod Transactions
+pub mod Resuming
+pub mod Filtered

@@ -48,7 +48,7 @@ pub answered_again : (settings : Settings) (names : Names) (executed : Ids) (scr
     → IsAnswered settings names executed Reply p old new
 answered_again settings names executed scramble p old new is s = record {
   answers = (inr (record { scramble = scramble; is = is }), refl);
-  replies = record { bytes = s.bytes; owes = inl (record { scramble = scramble; switch = is; packs = s.packed }); appended = s.appended };
+  replies = record { bytes = s.bytes; is_due = inl (record { scramble = scramble; switch = is; packs = s.packed }); appended = s.appended };
   short = λ e. cc;
 }
 

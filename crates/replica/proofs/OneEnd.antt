@@ -33,39 +33,10 @@ use Rattle.replica.specs.Message.{refusal_of, begins_event, IsNoEvent, IsOfMessa
 use Rattle.replica.specs.Told.{Told, Verdict, told_of, refusal_told}
 use Rattle.replica.specs.Told as told
 use Rattle.replica.specs.End.{HasNext, StopsAt, PassesEnd, EndsLog, EndsWith, StopsFor, IsWrong, Denies, End}
+use Rattle.replica.proofs.Bytes.{all_front, all_back, packed_bytes}
 
 both : true ≡ false → ⊥
 both e = cc
-
-all_front : (xs ys : List ℕ) → AllByRecursion (λ b. b < 256) (xs ++ ys) → AllByRecursion (λ b. b < 256) xs
-all_front [] ys h = tt
-all_front (x ∷ xs) ys h = (h.0, all_front xs ys h.1)
-
-all_back : (xs ys : List ℕ) → AllByRecursion (λ b. b < 256) (xs ++ ys) → AllByRecursion (λ b. b < 256) ys
-all_back [] ys h = h
-all_back (x ∷ xs) ys h = all_back xs ys h.1
-
-all_both : (xs ys : List ℕ) → AllByRecursion (λ b. b < 256) xs → AllByRecursion (λ b. b < 256) ys → AllByRecursion (λ b. b < 256) (xs ++ ys)
-all_both [] ys g h = h
-all_both (x ∷ xs) ys g h = (g.0, all_both xs ys g.1 h)
-
--- the bytes of a payload are bytes of its packing
-of_packet : (id : ℕ) (chunk rest : List ℕ) → AllByRecursion (λ b. b < 256) (packet id chunk ++ rest) → AllByRecursion (λ b. b < 256) chunk
-of_packet id chunk rest h =
-    let one : AllByRecursion (λ b. b < 256) (little_bytes 3 (length chunk) ++ (id % 256 ∷ chunk)) = all_front (packet id chunk) rest h in
-    let tail : AllByRecursion (λ b. b < 256) (id % 256 ∷ chunk) = all_back (little_bytes 3 (length chunk)) (id % 256 ∷ chunk) one in
-    tail.1
-
-payload_bytes : (id : ℕ) (chunks : List (List ℕ)) (last : List ℕ) → AllByRecursion (λ b. b < 256) (packets id (chunks ++ last ∷ [])) → AllByRecursion (λ b. b < 256) (concat chunks ++ last)
-payload_bytes id [] last h = of_packet id last [] h
-payload_bytes id (chunk ∷ chunks) last h =
-    let rest = payload_bytes (suc id) chunks last (all_back (packet id chunk) (packets (suc id) (chunks ++ last ∷ [])) h) in
-    subst (λ l. AllByRecursion (λ b. b < 256) l) (sym (append_assoc chunk (concat chunks) last)) (all_both chunk (concat chunks ++ last) (of_packet id chunk (packets (suc id) (chunks ++ last ∷ [])) h) rest)
-
-whole_bytes : (id limit : ℕ) (packing : List ℕ) (p : Payload) (behind : ℕ) → IsWholePayload id limit packing p behind → AllByRecursion (λ b. b < 256) packing → AllByRecursion (λ b. b < 256) p
-whole_bytes id limit packing p behind w h =
-    let k = w.packing in
-    subst (λ l. AllByRecursion (λ b. b < 256) l) (sym k.cut) (payload_bytes id k.chunks k.last (subst (λ l. AllByRecursion (λ b. b < 256) l) k.packed h))
 
 -- ---- What a payload carries.
 carries_same : (names : Names) (p : Payload) (e f : EventValue) → Carries names p e → Carries names p f → e ≡ f
@@ -73,14 +44,14 @@ carries_same names p e f c d =
     let same : c.body ≡ d.body = (let x = c.payload_is in let y = d.payload_is in cc) in
     one_event names e f d.body (subst (λ l. IsEvent names e l) same c.is_event) d.is_event
 
-one_answer : (names : Names) (due : Due) (p : Payload) (es fs : List EventValue) → Answers names due p es → Answers names due p fs → es ≡ fs
+pub one_answer : (names : Names) (due : Due) (p : Payload) (es fs : List EventValue) → Answers names due p es → Answers names due p fs → es ≡ fs
 one_answer names Hello p es fs a b = a.1 ∙ sym b.1
 one_answer names Reply p es fs a b = a.1 ∙ sym b.1
 one_answer names SecondReply p es fs a b = a.1 ∙ sym b.1
 one_answer names QueryReply p es fs a b = a.1 ∙ sym b.1
 one_answer names InDump p es fs a b = a.2 ∙ ap (λ e. e ∷ []) (carries_same names p a.0 b.0 a.1 b.1) ∙ sym b.2
 
-first_of : (x y : ℕ) (xs ys : List ℕ) → x ∷ xs ≡ y ∷ ys → x ≡ y
+pub first_of : (x y : ℕ) (xs ys : List ℕ) → x ∷ xs ≡ y ∷ ys → x ≡ y
 first_of x y xs ys h = cc
 
 -- an event is not an end of the log
@@ -319,7 +290,7 @@ module _ (limit : ℕ) (names : Names) (due : Due) (es : List EventValue) (taken
     with : (reason : Reason) → EndsWith limit names due es taken id r reason → ⊥
     with reason s =
         let k = same_next id limit r f.packing f.left f.payload s.payload f.behind s.stops.next f.whole f.rest_is in
-        let of : AllByRecursion (λ b. b < 256) f.payload = whole_bytes id limit f.packing f.payload f.behind f.whole (all_front f.packing f.left (subst (λ l. AllByRecursion (λ b. b < 256) l) f.rest_is bytes)) in
+        let of : AllByRecursion (λ b. b < 256) f.payload = packed_bytes id f.payload f.packing f.behind f.whole.packing (all_front (λ b. b < 256) f.packing f.left (subst (λ l. AllByRecursion (λ b. b < 256) l) f.rest_is bytes)) in
         denied reason f.payload f.first f.others fs ds of f.answers f.events are (subst (λ v. Denies names due es v reason) k.0 s.denied)
 
     blocked : (at : ℕ) (reason : Reason) → StopsFor limit names due es taken id r at reason → ⊥
@@ -409,7 +380,7 @@ module _ (limit : ℕ) (names : Names) (b : List ℕ) (bytes : AllByRecursion (�
   no_further : (x y : Reading limit names b) (at : ℕ) (reason : Reason) → StopsFor limit names (due_behind x.payloads) x.events (length x.front) x.id x.rest at reason
       → Further limit names (due_behind x.payloads) x.id x.front x.events x.rest y.front y.events → ⊥
   no_further x y at reason s f =
-      blocked limit names (due_behind x.payloads) x.events (length x.front) x.id x.rest x.front y.front y.events y.deliveries f refl (all_back x.front x.rest (subst (λ l. AllByRecursion (λ v. v < 256) l) x.bytes bytes))
+      blocked limit names (due_behind x.payloads) x.events (length x.front) x.id x.rest x.front y.front y.events y.deliveries f refl (all_back (λ b. b < 256) x.front x.rest (subst (λ l. AllByRecursion (λ v. v < 256) l) x.bytes bytes))
       y.talk.within y.talk.delivers at reason s
 
   both_read : (x y : Reading limit names b) → Compared limit names Hello x.payloads x.front x.events x.id x.rest y.payloads y.front y.events y.id y.rest
@@ -623,7 +594,7 @@ module _ (limit : ℕ) (names : Names) (due : Due) (es : List EventValue) (taken
   same_told fits (told.Says v) (told.Says w) x y =
       let n = y.stops.next in
       let k = same_next id limit r n.packing n.more y.payload x.payload n.behind x.stops.next n.whole n.bytes in
-      let of : AllByRecursion (λ b. b < 256) y.payload = whole_bytes id limit n.packing y.payload n.behind n.whole (all_front n.packing n.more (subst (λ l. AllByRecursion (λ b. b < 256) l) n.bytes fits)) in
+      let of : AllByRecursion (λ b. b < 256) y.payload = packed_bytes id y.payload n.packing n.behind n.whole.packing (all_front (λ b. b < 256) n.packing n.more (subst (λ l. AllByRecursion (λ b. b < 256) l) n.bytes fits)) in
       ap (λ u. told.Says u) (same_verdict y.payload v w of (subst (λ p. SaysSo p v) k.0 x.says) y.says)
 
 module _ (limit : ℕ) (names : Names) (b : List ℕ) (bytes : AllByRecursion (λ v. v < 256) b) where
@@ -632,7 +603,7 @@ module _ (limit : ℕ) (names : Names) (b : List ℕ) (bytes : AllByRecursion (�
       let x = e.reading in
       let y = f.reading in
       elim (both_read limit names b bytes x y) [
-        | inl same ↦ same_told limit names (due_behind x.payloads) x.events (length x.front) x.id x.rest (all_back x.front x.rest (subst (λ l. AllByRecursion (λ v. v < 256) l) x.bytes bytes)) (told_of r) (told_of s)
+        | inl same ↦ same_told limit names (due_behind x.payloads) x.events (length x.front) x.id x.rest (all_back (λ b. b < 256) x.front x.rest (subst (λ l. AllByRecursion (λ v. v < 256) l) x.bytes bytes)) (told_of r) (told_of s)
             (tells limit names (due_behind x.payloads) x.events (length x.front) x.id x.rest at r e.stops)
             (tells limit names (due_behind x.payloads) x.events (length x.front) x.id x.rest other s
             (stops_same limit names x.payloads y.payloads x.events y.events x.front y.front x.id y.id x.rest y.rest other s same f.stops))

@@ -114,7 +114,7 @@ module _ (settings : Settings) (assembly : ReaderState) (gatherer : Gatherer) (w
       let d = due_behind r.payloads in
       let within_at : length r.front + length r.rest < 2 ^ 64 = omega (arith, end_is, within, h.at_is) in
       let answers = subst (λ x. Rattle.replica.specs.Stream.Answers names x p []) h.awaits a.answers in
-      let owes = subst (λ x. Rattle.replica.specs.Sent.Owes settings old.executed x p a.replies.bytes) h.awaits a.replies.owes in
+      let is_due = subst (λ x. Rattle.replica.specs.Sent.Owes settings old.executed x p a.replies.bytes) h.awaits a.replies.is_due in
       let no_dump : IsInDump d → ⊥ = λ i. n (subst IsInDump (sym h.awaits) i) in
       let due_next : due_of next ≡ next_due d p = due ∙ ap (λ x. next_due x p) h.awaits in
       record {
@@ -132,7 +132,7 @@ module _ (settings : Settings) (assembly : ReaderState) (gatherer : Gatherer) (w
           asked = λ i. could_ask d p old.executed no_dump (λ q. a.short (h.awaits ∙ q)) (subst IsInDump (due_push Hello r.payloads p) i);
         };
         sent = subst (λ l. Sent settings old.executed (r.payloads ++ p ∷ []) l) (ap (λ l. l ++ a.replies.bytes) all_is ∙ append_assoc o out a.replies.bytes ∙ ap (λ l. o ++ l) (sym a.replies.appended))
-            (owes_push settings old.executed Hello r.payloads all p a.replies.bytes h.sent owes);
+            (owes_push settings old.executed Hello r.payloads all p a.replies.bytes h.sent is_due);
         store = h.store;
         kept = h.kept;
       }

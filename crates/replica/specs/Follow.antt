@@ -24,17 +24,17 @@ IsInFull (Refused refusal) = Unit {0}
 IsInFull reason = IsOfBytes reason
 
 -- the connection was ended by running out of memory or by the database
-abbrev pub gave_up_with : Reason → Bool
-gave_up_with Memory = true
-gave_up_with (Database cause) = true
-gave_up_with _ = false
+abbrev pub sends_no_more_after : Reason → Bool
+sends_no_more_after Memory = true
+sends_no_more_after (Database cause) = true
+sends_no_more_after _ = false
 
 -- some pending output may stay unsent
-abbrev pub MayOwe : Reason → Type 0
-MayOwe Memory = Unit {0}
-MayOwe (Database cause) = Unit {0}
-MayOwe WriteFailed = Unit {0}
-MayOwe _ = ⊥
+abbrev pub MaySendLess : Reason → Type 0
+MaySendLess Memory = Unit {0}
+MaySendLess (Database cause) = Unit {0}
+MaySendLess WriteFailed = Unit {0}
+MaySendLess _ = ⊥
 
 -- a failure of the stream
 abbrev pub IsOfStream : Reason → Type 0
@@ -67,7 +67,7 @@ module _ {S : Type 0} (g : Ghosts S) where
     -- the bytes read, the bytes sent, and the pending output that was not sent
     pub read : List ℕ
     pub sent : List ℕ
-    pub owed : List ℕ
+    pub pending : List ℕ
     pub reads : Consumes left left' read
     pub writes : Appends written written' sent
     pub has_read : HasRead g settings.limit before after was old read end
@@ -76,8 +76,8 @@ module _ {S : Type 0} (g : Ghosts S) where
     -- a read fails only if the bytes read do not end the connection
     pub unended : end.reason ≡ ReadFailed → Conn settings.limit (names_of g before) was old read has_read.new (told_as EndOfInput end)
     pub all_read : end.reason ≡ EndOfInput → IsAtEnd left'
-    pub owes : SentFor settings (names_of g before) old.executed read end.at (sent ++ owed)
-    pub all_sent : MayOwe end.reason ⊎ (owed ≡ [])
+    pub is_due : SentFor settings (names_of g before) old.executed read end.at (sent ++ pending)
+    pub all_sent : MaySendLess end.reason ⊎ (pending ≡ [])
 
   -- While a stream is followed these bytes have been read and these sent, and this is the position of the session and
   -- its store.

@@ -13,3 +13,4 @@ pub mod Pieces
 pub mod Told
 pub mod Failing
 pub mod Follow
+pub mod Resume

@@ -1,5 +1,6 @@
 -- A session with its store, and a list of connections with a store.
-use Rattle.std.specs.Prelude.{◌≡◌, ℕ, Bool, false, List}
+use Rattle.std.specs.Prelude.{◌≡◌, ℕ, Bool, false, List, ◌++◌, Option}
+use Rattle.std.specs.Io.KnownBytes.{Consumes}
 use Rattle.sqlite_trees.specs.declared.store.Store.{Ghosts}
 use Rattle.sqlite_trees.specs.Tree.{Trees}
 use Rattle.sqlite_schema.specs.declared.schema.Schema.{Schema}
@@ -46,6 +47,13 @@ module _ {S : Type 0} (g : Ghosts S) where
     pub breaks : BreaksStore end.reason was is
     pub schema_is : is ≡ false → (database g after).now.schema ≡ (database g before).now.schema
     pub leaves : was ≡ false → LeavesOnly (database g before).now.schema after (IsLeft limit (names_of g before) old b new end)
+
+  -- A store that held this content, and had failed or not, has read a connection with this end: these first bytes, and
+  -- those that were taken from a reader.
+  pub record HasReadOf (limit : ℕ) (before after : Store S g) (was : Bool) (old : Content) (first : List ℕ) (left left' : Option (List ℕ)) (end : Ended) : Type 0 where
+    pub read : List ℕ
+    pub consumes : Consumes left left' read
+    pub has_read : HasRead limit before after was old (first ++ read) end
 
   -- A store that held this content under this schema, and had failed or not, has taken these connections with these
   -- ends.

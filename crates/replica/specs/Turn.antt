@@ -38,7 +38,7 @@ pub record Sends (id : ℕ) (p : Payload) (old new : List ℕ) : Type 0 where
 -- The bytes due in reply to the message were appended.
 pub record Replies (settings : Settings) (executed : Ids) (due : Due) (p : Payload) (old new : List ℕ) : Type 0 where
   pub bytes : List ℕ
-  pub owes : Owes settings executed due p bytes
+  pub is_due : Owes settings executed due p bytes
   pub appended : new ≡ old ++ bytes
 
 -- The message before the dump is the expected one, and the bytes due in reply to it were appended.

@@ -7,7 +7,6 @@ ghost use Rattle.replica.specs.Failing.{failed_to_write};
 
 use std::io;
 use std::io::{Read, Write};
-use std::net::TcpStream;
 
 /// A stream whose two directions are independent: reading leaves what was written as it is, and writing leaves what is
 /// still to be read.
@@ -23,17 +22,6 @@ pub trait Duplex: Read + Write {
         ensures bound { WritesAtMost result buf.now }
         ensures bytes { WriteAppends (Self.Write.contents self.old) (Self.Write.contents self.new) result buf.now }
         ensures apart { Keeps (Self.Read.remaining self.old) (Self.Read.remaining self.new) };
-}
-
-// Nothing is specified about the bytes of a socket.
-impl Duplex for TcpStream {
-    fn receive(&mut self, buf: &mut [u8]) -> io::Result<usize> {
-        self.read(buf)
-    }
-
-    fn send(&mut self, buf: &[u8]) -> io::Result<usize> {
-        self.write(buf)
-    }
 }
 
 /// A stream with the counts of its failed reads and failed writes. A write that takes nothing of a non-empty slice

@@ -9,7 +9,7 @@ ghost use Rattle.store.specs.Store.{HoldsAs, IsBroken, database, names_of};
 ghost use Rattle.replica.specs.Conn.{IsNoStreamFailure};
 ghost use Rattle.replica.specs.Standing.{end_of};
 ghost use Rattle.replica.specs.Over.{StandsOver};
-ghost use Rattle.replica.specs.Follow.{Follows, HandsOut, gave_up_with, reads_failed, turns_left};
+ghost use Rattle.replica.specs.Follow.{Follows, HandsOut, sends_no_more_after, reads_failed, turns_left};
 
 use crate::config::Config;
 use crate::counted::{Counted, Duplex};
@@ -23,8 +23,8 @@ use store::Store;
 const PIECE: usize = 65_536;
 
 /// Whether the connection was ended by the database or by running out of memory. Then nothing more is sent.
-fn gave_up(session: &Session) -> bool
-    ensures { result ≡ gave_up_with (end_of session.now).reason }
+fn sends_no_more(session: &Session) -> bool
+    ensures { result ≡ sends_no_more_after (end_of session.now).reason }
 {
     match session.ended() {
         Some(end) => matches!(end.reason, Reason::Memory | Reason::Database(_)),
@@ -52,7 +52,7 @@ fn send_all<T: Duplex>(stream: &mut Counted<T>, bytes: &[u8]) -> bool
 }
 
 /// Sends the session's pending output, and returns whether no write has failed.
-fn send_owed<T: Duplex>(session: &mut Session, stream: &mut Counted<T>) -> bool
+fn send_pending<T: Duplex>(session: &mut Session, stream: &mut Counted<T>) -> bool
     requires { stream.old.failed_writes < 2 ^ 64 - 1 }
     // What was sent, and what could not be sent.
     ensures sent { (y : List ℕ) × (z : List ℕ) × Appends (T.Write.contents stream.old.stream) (T.Write.contents stream.new.stream) y × (result ≡ true → z ≡ [])
@@ -74,7 +74,7 @@ enum Turn {
 }
 
 /// Reads some bytes of the stream into the session.
-fn read_some<T: Duplex, S: Alter>(
+fn read_piece<T: Duplex, S: Alter>(
     session: &mut Session,
     stream: &mut Counted<T>,
     store: &mut Store<S>,
@@ -109,7 +109,7 @@ fn read_some<T: Duplex, S: Alter>(
 }
 
 /// The end of the session, with another reason.
-fn retold(session: Session, reason: Reason) -> Ended
+fn ended_with(session: Session, reason: Reason) -> Ended
     ensures { result ≡ record { reason = reason; at = (end_of session).at; applied = (end_of session).applied } }
 {
     let Ended { at, applied, .. } = session.finish();
@@ -149,22 +149,22 @@ pub fn follow<T: Duplex, S: Alter>(
 {
     let mut session = Session::new(config);
     let Ok(mut buffer) = vec![in alloc; 0u8; PIECE] else {
-        return retold(session, Reason::Memory);
+        return ended_with(session, Reason::Memory);
     };
     'turns: loop {
-        if gave_up(&session) {
+        if sends_no_more(&session) {
             return session.finish();
         }
-        if !send_owed(&mut session, stream) {
-            return retold(session, Reason::WriteFailed);
+        if !send_pending(&mut session, stream) {
+            return ended_with(session, Reason::WriteFailed);
         }
         if session.ended().is_some() {
             return session.finish();
         }
-        match read_some(&mut session, stream, store, &mut buffer) {
+        match read_piece(&mut session, stream, store, &mut buffer) {
             Turn::Read => {}
             Turn::AtEnd => return session.finish(),
-            Turn::Failed => return retold(session, Reason::ReadFailed),
+            Turn::Failed => return ended_with(session, Reason::ReadFailed),
         }
     }
 }

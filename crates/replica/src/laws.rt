@@ -2,12 +2,17 @@
 //!
 //! A law is a function with an empty body: its clauses are proved of the definitions themselves.
 
-ghost use Rattle.std.specs.Prelude.{◌≡◌, ◌↔◌, ◌⊎◌, ℕ, ◌<◌, ◌≤◌, ◌++◌, Bool, List, [], length, None};
+ghost use Rattle.std.specs.Prelude.{◌≡◌, ◌↔◌, ◌⊎◌, ℕ, ◌+◌, ◌<◌, ◌≤◌, ◌++◌, Bool, List, [], length, drop, map, None};
+ghost use Rattle.std.specs.FinSet as set;
 ghost use Rattle.std.specs.List.{AllByRecursion};
 ghost use Rattle.sqlite.specs.Held.{state};
 ghost use Rattle.sqlite_schema.specs.declared.schema.Schema.{Schema};
 ghost use Rattle.binlog.specs.Follow.{Names};
+ghost use Rattle.gather.specs.Transaction.{change_of};
+ghost use Rattle.scripted_source.specs.Script.{PartValue, ScriptValue};
+ghost use Rattle.scripted_source.specs.Source.{is_once};
 ghost use Rattle.store.specs.State.{Content};
+ghost use Rattle.store.specs.Take.{Takes, done};
 ghost use Rattle.store.specs.Store.{HoldsAs, database, names_of};
 ghost use Rattle.replica.specs.declared.end.Reason.{Reason};
 ghost use Rattle.replica.specs.declared.end.Reason.TheVariants.{EndOfInput, Wire};
@@ -22,6 +27,7 @@ ghost use Rattle.replica.specs.Sent.{SentFor};
 ghost use Rattle.replica.specs.Standing.{Stands, end_of};
 ghost use Rattle.replica.specs.Over.{StandsOver};
 ghost use Rattle.replica.specs.Follow.{HandsOut};
+ghost use Rattle.replica.specs.Resume.{Resumes, Leads, Reaches, part_changes, transaction, transactions, end_of as end_of_log};
 
 use crate::session::Session;
 use sqlite::Alter;
@@ -70,4 +76,38 @@ pub fn one_end()
 /// No reading of a connection's bytes has more payloads than the reading up to their end.
 pub fn longest()
     ensures { (limit : ℕ) (names : Names) (b : List ℕ) (r : Reason) (at : ℕ) → AllByRecursion (λ byte. byte < 256) b → (e : End limit names b r at) → (q : Reading limit names b) → length q.payloads ≤ length e.reading.payloads }
+{}
+
+/// A replica holds the content after the first j transactions of a history, and asks with its executed set. What the
+/// source sends before the dump and in its answer leads it to the content after the whole history: the connection's
+/// transactions are those after the j-th, in order and no others. If the connection is cut, at any byte, it is led to
+/// the content after some of them, and none is left out in between.
+pub fn resuming(_opening: &[u8], _answer: &[u8])
+    ensures leads { (limit : ℕ) (names : Names) (history : List ScriptValue) (j : ℕ) (held last : Content) (request : List ℕ) → (r : Resumes limit names history j held last request _opening.now _answer.now)
+        → Leads limit names held last (_opening.now ++ _answer.now) (transactions names (drop j history)) (end_of_log (is_once r.dump.flags)) }
+    ensures cut { (limit : ℕ) (names : Names) (history : List ScriptValue) (j : ℕ) (held last : Content) (request : List ℕ) → (r : Resumes limit names history j held last request _opening.now _answer.now)
+        → (part more : List ℕ) (count applied : ℕ) (new : Content) → _opening.now ++ _answer.now ≡ part ++ more → Begun limit names held part count applied new → Reaches names history (j + count) new }
+{
+    greet::laws::dumps();
+}
+
+/// Whatever prefix of that connection a replica has followed, and wherever it is stopped: what it took, and what a
+/// crash leaves, is the content after the first transactions of the history, some number of them. None that it had is
+/// lost, and at most one more is there.
+pub fn stopped_anywhere(_opening: &[u8], _answer: &[u8])
+    ensures { (limit : ℕ) (names : Names) (history : List ScriptValue) (j : ℕ) (held last : Content) (request : List ℕ) → (r : Resumes limit names history j held last request _opening.now _answer.now)
+        → (part more : List ℕ) (was : Bool) (new : Content) (end : Ended) (left : Content) → _opening.now ++ _answer.now ≡ part ++ more → Conn limit names was held part new end → IsLeft limit names held part new end left
+        → (i : ℕ) × Reaches names history (j + i) new × ((left ≡ new) ⊎ Reaches names history (j + (i + 1)) left) }
+{
+    resuming(_opening, _answer);
+    left_begun();
+}
+
+/// The transactions of a history, as a connection has them, leave out the changes of tables that are not followed; with
+/// no list they have all changes. A replica takes a transaction without these changes exactly if it takes the whole
+/// one.
+pub fn filtered()
+    ensures all { (part : PartValue) → part_changes set.empty part ≡ map (change_of part.table) part.pairs }
+    ensures taken { (names : Names) (script : ScriptValue) (old new : Content) →
+        Takes names old (transaction set.empty script) (done new) ↔ Takes names old (transaction names script) (done new) }
 {}

@@ -7,9 +7,9 @@
 //! caller must send. [`Session::ended`] says whether the connection has ended, and [`Session::finish`] returns how, as
 //! [`Ended`] with its [`Reason`]. A session that has ended reads no more.
 //!
-//! [`run`] reads a list of connections that are in memory, one after the other. [`follow`] follows a source over a
-//! stream of two directions, such as a socket, wrapped in [`Counted`]: it sends all pending output before each read,
-//! until the connection ends.
+//! [`run`] reads a list of connections that are in memory, one after the other, and [`read_stream`] one connection from
+//! a reader, such as a file. [`follow`] follows a source over a stream of two directions, such as a socket, wrapped in
+//! [`Counted`]: it sends all pending output before each read, until the connection ends.
 //!
 //! All of them borrow the store, so that it can be used for the next connection. After an end with `Reason::Database`
 //! the store has failed and must be opened again; after `Reason::Memory` it may have. A connection that is cut short
@@ -20,6 +20,7 @@
 #![tactic(auto)]
 
 mod config;
+mod connections;
 mod counted;
 mod end;
 mod event;
@@ -28,15 +29,16 @@ mod following;
 pub mod laws;
 mod login;
 mod message;
+mod payload;
 mod phase;
-mod replay;
+mod reader;
 mod session;
-mod turn;
 
 pub use config::{Config, ConfigFault};
+pub use connections::{NoMemory, run};
 pub use counted::{Counted, Duplex};
 pub use end::{Ended, Reason, Refusal};
 pub use feed::Stopped;
 pub use following::follow;
-pub use replay::{NoMemory, run};
+pub use reader::{read_some, read_stream};
 pub use session::Session;

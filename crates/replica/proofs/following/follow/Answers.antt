@@ -9,14 +9,14 @@ use Rattle.store.specs.Store.{database}
 use Rattle.replica.specs.Conn.{IsNoStreamFailure}
 use Rattle.replica.specs.Standing.{end_of}
 use Rattle.replica.specs.Follow.{Follows}
-use Rattle.replica.proofs.Followed.{follows-memory, follows-gave_up, follows-write_failed, follows-ended, follows-read_failed, following-begins, following-sent, following-read, follows-same, some_behind, none_behind, ended_early, over-out, length_kept}
+use Rattle.replica.proofs.Followed.{follows-memory, follows-sends_no_more, follows-write_failed, follows-ended, follows-read_failed, following-begins, following-sent, following-read, follows-same, some_behind, none_behind, ended_early, over-out, length_kept}
 use Rattle.replica.proofs.following.follow.Goals as goal
 
 pub returns-in_default-clause-follows : goal.returns-in_default-clause-follows
 returns-in_default-clause-follows g c clean was old holds =
     let session = c.new-session.result in
     let reason : (end_of session).reason ≡ EndOfInput = ap (λ (v : Option Ended). (unwrap_or v (record { reason = EndOfInput; at = session.at; applied = session.applied })).reason) c.new-session.ensures.ended in
-    follows-same g.S.Store session.config c.args.config c.args.store.now c.args.store.now was old (g.T.Read.remaining c.args.stream.now.stream) (g.T.Read.remaining c.args.stream.now.stream) (g.T.Write.contents c.args.stream.now.stream) (g.T.Write.contents c.args.stream.now.stream) (told_as Memory (end_of session)) c.retold.result c.new-session.ensures.config (sym c.retold.ensures)
+    follows-same g.S.Store session.config c.args.config c.args.store.now c.args.store.now was old (g.T.Read.remaining c.args.stream.now.stream) (g.T.Read.remaining c.args.stream.now.stream) (g.T.Write.contents c.args.stream.now.stream) (g.T.Write.contents c.args.stream.now.stream) (told_as Memory (end_of session)) c.ended_with.result c.new-session.ensures.config (sym c.ended_with.ensures)
     (follows-memory g.S.Store session c.args.store.now c.args.store.now was old (g.T.Read.remaining c.args.stream.now.stream) (g.T.Read.remaining c.args.stream.now.stream) (g.T.Write.contents c.args.stream.now.stream) (g.T.Write.contents c.args.stream.now.stream) refl
     (following-begins g.S.Store (λ h db is_open may. g.met.S.Store.settled h.store db is_open may) session c.args.store.now was old (g.T.Read.remaining c.args.stream.now.stream) (g.T.Write.contents c.args.stream.now.stream) c.new-session.ensures.ended holds (c.new-session.ensures.stands c.args.store.now.following was old)) reason)
 
@@ -34,99 +34,99 @@ turns-init g c = record {
       following-begins g.S.Store (λ h db is_open may. g.met.S.Store.settled h.store db is_open may) c.new-session.result c.args.store.now was old (g.T.Read.remaining c.args.stream.now.stream) (g.T.Write.contents c.args.stream.now.stream) c.new-session.ensures.ended holds (c.new-session.ensures.stands c.args.store.now.following was old);
 }
 
-pub returns-then-gave_up-clause-follows : goal.returns-then-gave_up-clause-follows
-returns-then-gave_up-clause-follows g c clean was old holds =
+pub returns-then-sends_no_more-clause-follows : goal.returns-then-sends_no_more-clause-follows
+returns-then-sends_no_more-clause-follows g c clean was old holds =
     let session = c.turns.session in
     let inv = c.turns.invariant in
     follows-same g.S.Store session.config c.args.config c.args.store.now c.turns.store was old (g.T.Read.remaining c.args.stream.now.stream) (g.T.Read.remaining c.turns.stream.stream) (g.T.Write.contents c.args.stream.now.stream) (g.T.Write.contents c.turns.stream.stream) (end_of session) c.finish.result inv.config (sym c.finish.ensures.end)
-    (follows-gave_up g.S.Store session c.args.store.now c.turns.store was old (g.T.Read.remaining c.args.stream.now.stream) (g.T.Read.remaining c.turns.stream.stream) (g.T.Write.contents c.args.stream.now.stream) (g.T.Write.contents c.turns.stream.stream) inv.names (inv.following clean was old holds) (sym c.gave_up.ensures ∙ c.if-gave_up.true) inv.neither)
+    (follows-sends_no_more g.S.Store session c.args.store.now c.turns.store was old (g.T.Read.remaining c.args.stream.now.stream) (g.T.Read.remaining c.turns.stream.stream) (g.T.Write.contents c.args.stream.now.stream) (g.T.Write.contents c.turns.stream.stream) inv.names (inv.following clean was old holds) (sym c.sends_no_more.ensures ∙ c.if-sends_no_more.true) inv.neither)
 
-pub returns-then-not-send_owed-clause-follows : goal.returns-then-not-send_owed-clause-follows
-returns-then-not-send_owed-clause-follows g c clean was old holds =
+pub returns-then-not-send_pending-clause-follows : goal.returns-then-not-send_pending-clause-follows
+returns-then-not-send_pending-clause-follows g c clean was old holds =
     let session = c.turns.session in
     let inv = c.turns.invariant in
-    let sent = c.send_owed.ensures.sent in
-    follows-same g.S.Store session.config c.args.config c.args.store.now c.turns.store was old (g.T.Read.remaining c.args.stream.now.stream) (g.T.Read.remaining c.send_owed.new.stream.stream) (g.T.Write.contents c.args.stream.now.stream) (g.T.Write.contents c.send_owed.new.stream.stream) (told_as WriteFailed (end_of session)) c.retold-then-not-send_owed.result inv.config
-    (sym (c.retold-then-not-send_owed.ensures ∙ ap (λ (e : Ended). told_as WriteFailed e) sent.4.end))
+    let sent = c.send_pending.ensures.sent in
+    follows-same g.S.Store session.config c.args.config c.args.store.now c.turns.store was old (g.T.Read.remaining c.args.stream.now.stream) (g.T.Read.remaining c.send_pending.new.stream.stream) (g.T.Write.contents c.args.stream.now.stream) (g.T.Write.contents c.send_pending.new.stream.stream) (told_as WriteFailed (end_of session)) c.ended_with-then-not-send_pending.result inv.config
+    (sym (c.ended_with-then-not-send_pending.ensures ∙ ap (λ (e : Ended). told_as WriteFailed e) sent.4.end))
     (follows-write_failed g.S.Store session c.args.store.now c.turns.store was old (g.T.Read.remaining c.args.stream.now.stream) (g.T.Read.remaining c.turns.stream.stream) (g.T.Write.contents c.args.stream.now.stream) (g.T.Write.contents c.turns.stream.stream) inv.names (inv.following clean was old holds)
-    c.send_owed.new.session (g.T.Read.remaining c.send_owed.new.stream.stream) (g.T.Write.contents c.send_owed.new.stream.stream) sent.0 sent.1 c.send_owed.ensures.apart sent.2 sent.4 (sym c.gave_up.ensures ∙ c.if-gave_up.false) inv.neither)
+    c.send_pending.new.session (g.T.Read.remaining c.send_pending.new.stream.stream) (g.T.Write.contents c.send_pending.new.stream.stream) sent.0 sent.1 c.send_pending.ensures.apart sent.2 sent.4 (sym c.sends_no_more.ensures ∙ c.if-sends_no_more.false) inv.neither)
 
 pub returns-then-is_some-clause-follows : goal.returns-then-is_some-clause-follows
 returns-then-is_some-clause-follows g c clean was old holds =
     let session = c.turns.session in
     let inv = c.turns.invariant in
-    let sent = c.send_owed.ensures.sent in
-    let after = c.send_owed.new.session in
+    let sent = c.send_pending.ensures.sent in
+    let after = c.send_pending.new.session in
     let f = inv.following clean was old holds in
     let some : is_some after.ended ≡ true = some_behind c.ended.result after.ended c.ended.ensures ∙ sym c.is_some.ensures ∙ c.if-is_some.true in
     let s = over-out g.S.Store session after c.turns.store (database g.S.Store c.args.store.now).now.schema was old f.read f.sent (sent.0 ++ sent.1) sent.4 f.stands in
     let early : (end_of session).reason ≢ EndOfInput = λ h. ended_early after c.turns.store.following was s.is old s.now f.read (f.sent ++ (sent.0 ++ sent.1)) some s.stands (ap (λ (e : Ended). e.reason) sent.4.end ∙ h) in
-    follows-same g.S.Store session.config c.args.config c.args.store.now c.turns.store was old (g.T.Read.remaining c.args.stream.now.stream) (g.T.Read.remaining c.send_owed.new.stream.stream) (g.T.Write.contents c.args.stream.now.stream) (g.T.Write.contents c.send_owed.new.stream.stream) (end_of session) c.finish-then-is_some.result inv.config (sym (c.finish-then-is_some.ensures.end ∙ sent.4.end))
+    follows-same g.S.Store session.config c.args.config c.args.store.now c.turns.store was old (g.T.Read.remaining c.args.stream.now.stream) (g.T.Read.remaining c.send_pending.new.stream.stream) (g.T.Write.contents c.args.stream.now.stream) (g.T.Write.contents c.send_pending.new.stream.stream) (end_of session) c.finish-then-is_some.result inv.config (sym (c.finish-then-is_some.ensures.end ∙ sent.4.end))
     (follows-ended g.S.Store session c.args.store.now c.turns.store was old (g.T.Read.remaining c.args.stream.now.stream) (g.T.Read.remaining c.turns.stream.stream) (g.T.Write.contents c.args.stream.now.stream) (g.T.Write.contents c.turns.stream.stream) inv.names f
-    after (g.T.Read.remaining c.send_owed.new.stream.stream) (g.T.Write.contents c.send_owed.new.stream.stream) sent.0 sent.1 c.send_owed.ensures.apart sent.2 sent.4 (sent.3 c.if-not-send_owed.false) inv.neither (λ h. absurd (early h)))
+    after (g.T.Read.remaining c.send_pending.new.stream.stream) (g.T.Write.contents c.send_pending.new.stream.stream) sent.0 sent.1 c.send_pending.ensures.apart sent.2 sent.4 (sent.3 c.if-not-send_pending.false) inv.neither (λ h. absurd (early h)))
 
-pub read_some-requires-clause-going : goal.read_some-requires-clause-going
-read_some-requires-clause-going g c =
-    none_behind c.send_owed.new.session.ended (some_behind c.ended.result c.send_owed.new.session.ended c.ended.ensures ∙ sym c.is_some.ensures ∙ c.if-is_some.false)
+pub read_piece-requires-clause-going : goal.read_piece-requires-clause-going
+read_piece-requires-clause-going g c =
+    none_behind c.send_pending.new.session.ended (some_behind c.ended.result c.send_pending.new.session.ended c.ended.ensures ∙ sym c.is_some.ensures ∙ c.if-is_some.false)
 
 pub turns-preserved : goal.turns-preserved
 turns-preserved g c =
     let session = c.turns.session in
     let inv = c.turns.invariant in
-    let sent = c.send_owed.ensures.sent in
-    let after = c.send_owed.new.session in
-    let read = c.read_some.ensures.read c.in-Read.is in
+    let sent = c.send_pending.ensures.sent in
+    let after = c.send_pending.new.session in
+    let read = c.read_piece.ensures.read c.in-Read.is in
     let going : after.ended ≡ None = none_behind after.ended (some_behind c.ended.result after.ended c.ended.ensures ∙ sym c.is_some.ensures ∙ c.if-is_some.false) in
     let long : length c.deref_mut.result.now ≡ 65536 = search (rules, inv.piece) in
     let neither : IsNoStreamFailure (end_of after).reason = subst (λ (e : Ended). IsNoStreamFailure e.reason) (sym sent.4.end) inv.neither in
     record {
-      config = c.read_some.ensures.config ∙ sent.4.config ∙ inv.config;
-      piece = length_kept c.turns.buffer.len c.read_some.new.buffer c.turns.buffer.items (search rules) (search rules) ∙ inv.piece;
+      config = c.read_piece.ensures.config ∙ sent.4.config ∙ inv.config;
+      piece = length_kept c.turns.buffer.len c.read_piece.new.buffer c.turns.buffer.items (search rules) (search rules) ∙ inv.piece;
       reads = search rules;
       writes = search rules;
-      names = c.read_some.ensures.following ∙ inv.names;
+      names = c.read_piece.ensures.following ∙ inv.names;
       broken = search rules;
-      clean = λ h. inv.clean (c.read_some.ensures.clean h);
-      neither = c.read_some.ensures.neither neither;
+      clean = λ h. inv.clean (c.read_piece.ensures.clean h);
+      neither = c.read_piece.ensures.neither neither;
       following = λ clean was old holds.
-          let f = inv.following (c.read_some.ensures.clean clean) was old holds in
+          let f = inv.following (c.read_piece.ensures.clean clean) was old holds in
           let sent_f = following-sent g.S.Store session c.args.store.now c.turns.store was old (g.T.Read.remaining c.args.stream.now.stream) (g.T.Read.remaining c.turns.stream.stream) (g.T.Write.contents c.args.stream.now.stream) (g.T.Write.contents c.turns.stream.stream) inv.names f
-          after (g.T.Read.remaining c.send_owed.new.stream.stream) (g.T.Write.contents c.send_owed.new.stream.stream) sent.0 sent.1 c.send_owed.ensures.apart sent.2 sent.4 (sent.3 c.if-not-send_owed.false) in
-          following-read g.S.Store after c.read_some.new.session c.args.store.now c.turns.store c.read_some.new.store was old (g.T.Read.remaining c.args.stream.now.stream) (g.T.Read.remaining c.send_owed.new.stream.stream) (g.T.Read.remaining c.read_some.new.stream.stream) (g.T.Write.contents c.args.stream.now.stream) (g.T.Write.contents c.send_owed.new.stream.stream) (g.T.Write.contents c.read_some.new.stream.stream) read.0
-          sent_f inv.names going (c.read_some.ensures.config) (omega (arith, read.1, long)) read.2 c.read_some.ensures.apart (read.3 clean (database g.S.Store c.args.store.now).now.schema was old sent_f.read sent_f.sent sent_f.stands);
+          after (g.T.Read.remaining c.send_pending.new.stream.stream) (g.T.Write.contents c.send_pending.new.stream.stream) sent.0 sent.1 c.send_pending.ensures.apart sent.2 sent.4 (sent.3 c.if-not-send_pending.false) in
+          following-read g.S.Store after c.read_piece.new.session c.args.store.now c.turns.store c.read_piece.new.store was old (g.T.Read.remaining c.args.stream.now.stream) (g.T.Read.remaining c.send_pending.new.stream.stream) (g.T.Read.remaining c.read_piece.new.stream.stream) (g.T.Write.contents c.args.stream.now.stream) (g.T.Write.contents c.send_pending.new.stream.stream) (g.T.Write.contents c.read_piece.new.stream.stream) read.0
+          sent_f inv.names going (c.read_piece.ensures.config) (omega (arith, read.1, long)) read.2 c.read_piece.ensures.apart (read.3 clean (database g.S.Store c.args.store.now).now.schema was old sent_f.read sent_f.sent sent_f.stands);
     }
 
 pub returns-in-AtEnd-clause-follows : goal.returns-in-AtEnd-clause-follows
 returns-in-AtEnd-clause-follows g c clean was old holds =
     let session = c.turns.session in
     let inv = c.turns.invariant in
-    let sent = c.send_owed.ensures.sent in
-    let after = c.send_owed.new.session in
-    let not_read : c.read_some.result ≢ turn.Read = λ h. let bad : turn.AtEnd ≡ turn.Read = sym c.in-AtEnd.is ∙ h in cc in
-    let still = c.read_some.ensures.still not_read in
-    let f = inv.following (c.read_some.ensures.clean clean) was old holds in
-    subst (λ s. Follows g.S.Store c.args.config c.args.store.now s was old (g.T.Read.remaining c.args.stream.now.stream) (g.T.Read.remaining c.read_some.new.stream.stream) (g.T.Write.contents c.args.stream.now.stream) (g.T.Write.contents c.read_some.new.stream.stream) c.finish-in-AtEnd.result) (sym still.1)
-    (follows-same g.S.Store session.config c.args.config c.args.store.now c.turns.store was old (g.T.Read.remaining c.args.stream.now.stream) (g.T.Read.remaining c.read_some.new.stream.stream) (g.T.Write.contents c.args.stream.now.stream) (g.T.Write.contents c.read_some.new.stream.stream) (end_of session) c.finish-in-AtEnd.result inv.config
+    let sent = c.send_pending.ensures.sent in
+    let after = c.send_pending.new.session in
+    let not_read : c.read_piece.result ≢ turn.Read = λ h. let bad : turn.AtEnd ≡ turn.Read = sym c.in-AtEnd.is ∙ h in cc in
+    let still = c.read_piece.ensures.still not_read in
+    let f = inv.following (c.read_piece.ensures.clean clean) was old holds in
+    subst (λ s. Follows g.S.Store c.args.config c.args.store.now s was old (g.T.Read.remaining c.args.stream.now.stream) (g.T.Read.remaining c.read_piece.new.stream.stream) (g.T.Write.contents c.args.stream.now.stream) (g.T.Write.contents c.read_piece.new.stream.stream) c.finish-in-AtEnd.result) (sym still.1)
+    (follows-same g.S.Store session.config c.args.config c.args.store.now c.turns.store was old (g.T.Read.remaining c.args.stream.now.stream) (g.T.Read.remaining c.read_piece.new.stream.stream) (g.T.Write.contents c.args.stream.now.stream) (g.T.Write.contents c.read_piece.new.stream.stream) (end_of session) c.finish-in-AtEnd.result inv.config
     (sym (c.finish-in-AtEnd.ensures.end ∙ ap (λ (s : Session). end_of s) still.0 ∙ sent.4.end))
     (follows-ended g.S.Store session c.args.store.now c.turns.store was old (g.T.Read.remaining c.args.stream.now.stream) (g.T.Read.remaining c.turns.stream.stream) (g.T.Write.contents c.args.stream.now.stream) (g.T.Write.contents c.turns.stream.stream) inv.names f
-    after (g.T.Read.remaining c.read_some.new.stream.stream) (g.T.Write.contents c.read_some.new.stream.stream) sent.0 sent.1 (Keeps-trans (g.T.Read.remaining c.turns.stream.stream) (g.T.Read.remaining c.send_owed.new.stream.stream) (g.T.Read.remaining c.read_some.new.stream.stream) c.send_owed.ensures.apart still.2) (Appends-kept (g.T.Write.contents c.turns.stream.stream) (g.T.Write.contents c.send_owed.new.stream.stream) (g.T.Write.contents c.read_some.new.stream.stream) sent.0 sent.2 c.read_some.ensures.apart)
-    sent.4 (sent.3 c.if-not-send_owed.false) inv.neither (λ h. c.read_some.ensures.at_end c.in-AtEnd.is)))
+    after (g.T.Read.remaining c.read_piece.new.stream.stream) (g.T.Write.contents c.read_piece.new.stream.stream) sent.0 sent.1 (Keeps-trans (g.T.Read.remaining c.turns.stream.stream) (g.T.Read.remaining c.send_pending.new.stream.stream) (g.T.Read.remaining c.read_piece.new.stream.stream) c.send_pending.ensures.apart still.2) (Appends-kept (g.T.Write.contents c.turns.stream.stream) (g.T.Write.contents c.send_pending.new.stream.stream) (g.T.Write.contents c.read_piece.new.stream.stream) sent.0 sent.2 c.read_piece.ensures.apart)
+    sent.4 (sent.3 c.if-not-send_pending.false) inv.neither (λ h. c.read_piece.ensures.at_end c.in-AtEnd.is)))
 
 pub returns-in-Failed-clause-follows : goal.returns-in-Failed-clause-follows
 returns-in-Failed-clause-follows g c clean was old holds =
     let session = c.turns.session in
     let inv = c.turns.invariant in
-    let sent = c.send_owed.ensures.sent in
-    let after = c.send_owed.new.session in
-    let not_read : c.read_some.result ≢ turn.Read = λ h. let bad : turn.Failed ≡ turn.Read = sym c.in-Failed.is ∙ h in cc in
-    let still = c.read_some.ensures.still not_read in
-    let f = inv.following (c.read_some.ensures.clean clean) was old holds in
+    let sent = c.send_pending.ensures.sent in
+    let after = c.send_pending.new.session in
+    let not_read : c.read_piece.result ≢ turn.Read = λ h. let bad : turn.Failed ≡ turn.Read = sym c.in-Failed.is ∙ h in cc in
+    let still = c.read_piece.ensures.still not_read in
+    let f = inv.following (c.read_piece.ensures.clean clean) was old holds in
     let none : after.ended ≡ None = none_behind after.ended (some_behind c.ended.result after.ended c.ended.ensures ∙ sym c.is_some.ensures ∙ c.if-is_some.false) in
     let at_end : (end_of session).reason ≡ EndOfInput =
     ap (λ (e : Ended). e.reason) (sym sent.4.end ∙ ap (λ (v : Option Ended). unwrap_or v (record { reason = EndOfInput; at = after.at; applied = after.applied })) none) in
-    subst (λ s. Follows g.S.Store c.args.config c.args.store.now s was old (g.T.Read.remaining c.args.stream.now.stream) (g.T.Read.remaining c.read_some.new.stream.stream) (g.T.Write.contents c.args.stream.now.stream) (g.T.Write.contents c.read_some.new.stream.stream) c.retold-in-Failed.result) (sym still.1)
-    (follows-same g.S.Store session.config c.args.config c.args.store.now c.turns.store was old (g.T.Read.remaining c.args.stream.now.stream) (g.T.Read.remaining c.read_some.new.stream.stream) (g.T.Write.contents c.args.stream.now.stream) (g.T.Write.contents c.read_some.new.stream.stream) (told_as ReadFailed (end_of session)) c.retold-in-Failed.result inv.config
-    (sym (c.retold-in-Failed.ensures ∙ ap (λ (s : Session). told_as ReadFailed (end_of s)) still.0 ∙ ap (λ (e : Ended). told_as ReadFailed e) sent.4.end))
+    subst (λ s. Follows g.S.Store c.args.config c.args.store.now s was old (g.T.Read.remaining c.args.stream.now.stream) (g.T.Read.remaining c.read_piece.new.stream.stream) (g.T.Write.contents c.args.stream.now.stream) (g.T.Write.contents c.read_piece.new.stream.stream) c.ended_with-in-Failed.result) (sym still.1)
+    (follows-same g.S.Store session.config c.args.config c.args.store.now c.turns.store was old (g.T.Read.remaining c.args.stream.now.stream) (g.T.Read.remaining c.read_piece.new.stream.stream) (g.T.Write.contents c.args.stream.now.stream) (g.T.Write.contents c.read_piece.new.stream.stream) (told_as ReadFailed (end_of session)) c.ended_with-in-Failed.result inv.config
+    (sym (c.ended_with-in-Failed.ensures ∙ ap (λ (s : Session). told_as ReadFailed (end_of s)) still.0 ∙ ap (λ (e : Ended). told_as ReadFailed e) sent.4.end))
     (follows-read_failed g.S.Store session c.args.store.now c.turns.store was old (g.T.Read.remaining c.args.stream.now.stream) (g.T.Read.remaining c.turns.stream.stream) (g.T.Write.contents c.args.stream.now.stream) (g.T.Write.contents c.turns.stream.stream) inv.names f
-    after (g.T.Read.remaining c.read_some.new.stream.stream) (g.T.Write.contents c.read_some.new.stream.stream) sent.0 sent.1 (Keeps-trans (g.T.Read.remaining c.turns.stream.stream) (g.T.Read.remaining c.send_owed.new.stream.stream) (g.T.Read.remaining c.read_some.new.stream.stream) c.send_owed.ensures.apart still.2) (Appends-kept (g.T.Write.contents c.turns.stream.stream) (g.T.Write.contents c.send_owed.new.stream.stream) (g.T.Write.contents c.read_some.new.stream.stream) sent.0 sent.2 c.read_some.ensures.apart)
-    sent.4 (sent.3 c.if-not-send_owed.false) at_end))
+    after (g.T.Read.remaining c.read_piece.new.stream.stream) (g.T.Write.contents c.read_piece.new.stream.stream) sent.0 sent.1 (Keeps-trans (g.T.Read.remaining c.turns.stream.stream) (g.T.Read.remaining c.send_pending.new.stream.stream) (g.T.Read.remaining c.read_piece.new.stream.stream) c.send_pending.ensures.apart still.2) (Appends-kept (g.T.Write.contents c.turns.stream.stream) (g.T.Write.contents c.send_pending.new.stream.stream) (g.T.Write.contents c.read_piece.new.stream.stream) sent.0 sent.2 c.read_piece.ensures.apart)
+    sent.4 (sent.3 c.if-not-send_pending.false) at_end))

@@ -1,0 +1,89 @@
+-- A connection while it is being read.
+use Rattle.std.proofs.Common.{◌≡◌, ℕ, ◌+◌, Bool, List, [], ◌++◌, true, Option, None, Some, is_some, option_map, MatchOption, unwrap_or, refl, sym, ap, ◌∙◌, subst, append_assoc}
+use Rattle.std.specs.Io.KnownBytes.{Consumes, Keeps}
+use Rattle.std.proofs.KnownBytes.{Consumes-trans, Consumes-kept}
+use Rattle.sqlite_trees.specs.declared.store.Store.{Ghosts}
+use Rattle.sqlite_schema.specs.declared.schema.Schema.{Schema}
+use Rattle.sqlite.specs.State.{HasCleanDisk}
+use Rattle.sqlite.specs.Held.{state}
+use Rattle.binlog.specs.Follow.{Names}
+use Rattle.store.specs.State.{Content}
+use Rattle.store.specs.declared.store.Store.{Store}
+use Rattle.store.specs.Store.{HoldsAs}
+use Rattle.replica.specs.declared.end.Reason.TheVariants.{EndOfInput}
+use Rattle.replica.specs.declared.end.Ended.{Ended}
+use Rattle.replica.specs.declared.session.Session.{Session}
+use Rattle.replica.specs.Standing.{Stands, GoesOn, HasEnded, end_of, room_of}
+use Rattle.replica.specs.Over.{StandsOver}
+use Rattle.replica.proofs.Runs.{read_all}
+use Rattle.replica.specs.Over.{HasReadOf}
+
+-- how many more reads there may be
+abbrev turns : Option Ended → ℕ → ℕ
+turns None room = room + 1
+turns (Some end) room = 0
+
+abbrev pub turns_left : Session → ℕ
+turns_left session = turns session.ended (room_of session)
+
+-- no bytes were taken
+pub Keeps-from_none : (a b : Option (List ℕ)) → Consumes a b [] → Keeps a b
+Keeps-from_none None b p = tt
+Keeps-from_none (Some x) None p = absurd p
+Keeps-from_none (Some x) (Some y) p = sym p
+
+module _ {S : Type 0} (g : Ghosts S) where
+  -- these bytes were taken from the reader, and this is the position of the session and its store
+  pub record IsTaking (limit : ℕ) (first : List ℕ) (entry : Store S g) (session : Session) (store : Store S g) (left left' : Option (List ℕ)) : Type 0 where
+    pub read : List ℕ
+    pub consumes : Consumes left left' read
+    pub limit_is : session.config.limit ≡ limit
+    pub following : store.following ≡ entry.following
+    pub clean : HasCleanDisk (state g store.conn) → HasCleanDisk (state g entry.conn)
+    pub stands : HasCleanDisk (state g store.conn) → (was : Bool) (old : Content) → HoldsAs g was old entry → StandsOver g session store (state g entry.conn).now.schema was old (first ++ read) []
+
+  -- more bytes were taken, and the session was fed with them
+  pub taking_more : (limit : ℕ) (first : List ℕ) (entry : Store S g) (session : Session) (store : Store S g) (left left' : Option (List ℕ)) (after : Session) (new : Store S g) (left'' : Option (List ℕ)) (piece : List ℕ)
+      → IsTaking limit first entry session store left left' → Consumes left' left'' piece → after.config ≡ session.config → new.following ≡ store.following
+      → (HasCleanDisk (state g new.conn) → HasCleanDisk (state g store.conn))
+      → (HasCleanDisk (state g new.conn) → (schema : Schema) (was : Bool) (old : Content) (b o : List ℕ) → StandsOver g session store schema was old b o → StandsOver g after new schema was old (b ++ piece) o)
+      → IsTaking limit first entry after new left left''
+  taking_more limit first entry session store left left' after new left'' piece t consumes config following clean leads = record {
+    read = t.read ++ piece;
+    consumes = Consumes-trans left left' left'' t.read piece t.consumes consumes;
+    limit_is = ap (λ s. s.limit) config ∙ t.limit_is;
+    following = following ∙ t.following;
+    clean = λ h. t.clean (clean h);
+    stands = λ h was old holds. subst (λ (l : List ℕ). StandsOver g after new (state g entry.conn).now.schema was old l []) (append_assoc first t.read piece)
+        (leads h (state g entry.conn).now.schema was old (first ++ t.read) [] (t.stands (clean h) was old holds));
+  }
+
+  -- what has been read so far
+  pub taken : (limit : ℕ) (first : List ℕ) (entry : Store S g) (session : Session) (store : Store S g) (left left' left'' : Option (List ℕ)) (was : Bool) (old : Content) (end : Ended)
+      → IsTaking limit first entry session store left left' → Keeps left' left'' → end ≡ end_of session → HasCleanDisk (state g store.conn) → HoldsAs g was old entry
+      → HasReadOf g limit entry store was old first left left'' end
+  taken limit first entry session store left left' left'' was old end t keeps end_is clean holds = record {
+    read = t.read;
+    consumes = Consumes-kept left left' left'' t.read t.consumes keeps;
+    has_read = read_all g session entry store limit was old (first ++ t.read) [] end t.limit_is t.following end_is (t.stands clean was old holds);
+  }
+
+-- a session that has ended was not ended by the end of the input
+still_some : {A B : Type 0} (f : A → B) (o : Option A) → is_some (option_map f o) ≡ is_some o
+still_some f None = refl
+still_some f (Some x) = refl
+
+pub is_ended : {A : Type 0} (f : A → Ended) (o : Option A) (ended : Option Ended) → option_map f o ≡ ended → is_some o ≡ true → is_some ended ≡ true
+is_ended f o ended same some = subst (λ (v : Option Ended). is_some v ≡ true) same (still_some f o ∙ some)
+
+pub no_end : (session : Session) (names : Names) (was is : Bool) (old now : Content) (b o : List ℕ) → is_some session.ended ≡ true → Stands session names was is old now b o → (end_of session).reason ≡ EndOfInput → ⊥
+unfolding Stands
+no_end session names was is old now b o some s same =
+    elim session.ended as (λ v. is_some v ≡ true
+    → MatchOption v
+    (GoesOn session.config session.assembler session.gatherer session.phase session.at session.applied names was is old now b (o ++ session.out.items))
+    (λ end. HasEnded session.config names was is old now b (o ++ session.out.items) end)
+    → (unwrap_or v (record { reason = EndOfInput; at = session.at; applied = session.applied })).reason ≡ EndOfInput → ⊥) [
+      | None ↦ λ bad _ _. cc
+      | Some end ↦ λ _ h same. h.more same
+    ] some s same

@@ -1,0 +1,13 @@
+use Rattle.std.proofs.Common.{arith}
+use Rattle.std.proofs.lemmas.List.{length-append}
+use Rattle.replica.proofs.Resuming.{leads, cut, all_bytes}
+use Rattle.replica.proofs.laws.resuming.Goals as goal
+
+pub returns-clause-leads : goal.returns-clause-leads
+returns-clause-leads c limit names history j held last request r =
+    leads c.dumps.ensures.one limit names history j held last request c.args._opening.now c.args._answer.now r (omega (arith, length-append c.args._opening.now c.args._answer.now))
+
+pub returns-clause-cut : goal.returns-clause-cut
+returns-clause-cut c limit names history j held last request r =
+    cut c.dumps.ensures.one limit names history j held last request c.args._opening.now c.args._answer.now r (omega (arith, length-append c.args._opening.now c.args._answer.now))
+    (all_bytes c.args._answer.now (λ i. let fits = c.type_inv._answer i in omega (arith, fits)))

@@ -1,0 +1,60 @@
+use Rattle.std.proofs.Common.{rules, ◌≡◌, ◌++◌, ◌∙◌, ℕ, List, [], take, refl, sym, ap, subst, append-nil}
+use Rattle.std.proofs.KnownBytes.{Consumes-nil, Keeps-refl}
+use Rattle.std.specs.Io.KnownBytes.{Consumes}
+use Rattle.sqlite.specs.Held.{state}
+use Rattle.replica.specs.declared.end.Reason.TheVariants.{EndOfInput}
+use Rattle.replica.specs.declared.end.Ended.{Ended}
+use Rattle.replica.specs.Standing.{end_of}
+use Rattle.replica.specs.Over.{StandsOver}
+use Rattle.replica.proofs.Runs.{begins}
+use Rattle.replica.proofs.FromReader.{taking_more, taken, no_end, is_ended, Keeps-from_none}
+use Rattle.replica.proofs.reader.read_stream.Goals as goal
+
+pub loop-reader-init : goal.loop-reader-init
+loop-reader-init g c = record {
+  some = search rules;
+  taking = record {
+    read = [];
+    consumes = Consumes-nil (g.R.Read.remaining c.args.reader.now);
+    limit_is = ap (λ s. s.limit) (c.feed.ensures.config ∙ c.new-session.ensures.config);
+    following = c.feed.ensures.following;
+    clean = c.feed.ensures.clean;
+    stands = λ h was old holds. subst (λ (l : List ℕ). StandsOver g.S.Store c.feed.new.self c.feed.new.store (state g.S.Store c.args.store.now.conn).now.schema was old l []) (sym (append-nil c.args.first.now))
+        (c.feed.ensures.stands h (state g.S.Store c.args.store.now.conn).now.schema was old [] []
+        (begins g.S.Store (λ h db is_open may. g.met.S.Store.settled h.store db is_open may) c.new-session.result c.args.store.now was old holds (c.new-session.ensures.stands c.args.store.now.following was old)));
+  };
+}
+
+pub loop-reader-preserved : goal.loop-reader-preserved
+loop-reader-preserved g c = record {
+  some = search rules;
+  taking = taking_more g.S.Store c.args.config.limit c.args.first.now c.args.store.now c.loop-reader.session c.loop-reader.store (g.R.Read.remaining c.args.reader.now) (g.R.Read.remaining c.loop-reader.reader)
+      c.feed-in-Ok.new.self c.feed-in-Ok.new.store (g.R.Read.remaining c.read_some.new.reader) (take c.in-Ok.count c.read_some.new.piece) c.loop-reader.invariant.taking c.in-Ok.ensures.bytes.0
+      c.feed-in-Ok.ensures.config c.feed-in-Ok.ensures.following c.feed-in-Ok.ensures.clean c.feed-in-Ok.ensures.stands;
+}
+
+pub returns-in-Ok-eq0-clause-read : goal.returns-in-Ok-eq0-clause-read
+returns-in-Ok-eq0-clause-read g c clean was old holds =
+    let zero : c.in-Ok-eq0.field-0 ≡ 0 = search rules in
+    taken g.S.Store c.args.config.limit c.args.first.now c.args.store.now c.loop-reader.session c.loop-reader.store (g.R.Read.remaining c.args.reader.now) (g.R.Read.remaining c.loop-reader.reader)
+    (g.R.Read.remaining c.read_some.new.reader) was old c.finish.result c.loop-reader.invariant.taking
+    (Keeps-from_none (g.R.Read.remaining c.loop-reader.reader) (g.R.Read.remaining c.read_some.new.reader) (subst (λ (n : ℕ). Consumes (g.R.Read.remaining c.loop-reader.reader) (g.R.Read.remaining c.read_some.new.reader) (take n c.read_some.new.piece)) zero c.in-Ok-eq0.ensures.bytes.0)) c.finish.ensures.end clean holds
+
+pub returns-in-Err-clause-failed : goal.returns-in-Err-clause-failed
+returns-in-Err-clause-failed g c clean was old holds = (
+  end_of c.loop-reader.session,
+  taken g.S.Store c.args.config.limit c.args.first.now c.args.store.now c.loop-reader.session c.loop-reader.store (g.R.Read.remaining c.args.reader.now) (g.R.Read.remaining c.loop-reader.reader)
+      (g.R.Read.remaining c.read_some.new.reader) was old (end_of c.loop-reader.session) c.loop-reader.invariant.taking c.in-Err.ensures.bytes refl clean holds,
+)
+
+pub returns-clause-read : goal.returns-clause-read
+returns-clause-read g c clean was old holds =
+    taken g.S.Store c.args.config.limit c.args.first.now c.args.store.now c.loop-reader.session c.loop-reader.store (g.R.Read.remaining c.args.reader.now) (g.R.Read.remaining c.loop-reader.reader)
+    (g.R.Read.remaining c.loop-reader.reader) was old c.finish-2.result c.loop-reader.invariant.taking (Keeps-refl (g.R.Read.remaining c.loop-reader.reader)) c.finish-2.ensures.end clean holds
+
+pub returns-clause-all : goal.returns-clause-all
+returns-clause-all g c clean was old holds same =
+    let s = c.loop-reader.invariant.taking.stands clean was old holds in
+    absurd (no_end c.loop-reader.session c.loop-reader.store.following was s.is old s.now (c.args.first.now ++ c.loop-reader.invariant.taking.read) []
+    (is_ended (λ e. e.now) c.ended.result c.loop-reader.session.ended c.ended.ensures c.loop-reader-test.ensures) s.stands
+    (subst (λ (e : Ended). e.reason ≡ EndOfInput) c.finish-2.ensures.end same))

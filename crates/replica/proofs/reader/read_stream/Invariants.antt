@@ -1,0 +1,12 @@
+use Rattle.std.proofs.Common.{◌<◌, length}
+use Rattle.replica.proofs.FromReader.{IsTaking, turns_left}
+use Rattle.replica.proofs.reader.read_stream.Given as goal
+
+abbrev pub invariant-loop-reader : goal.invariant-loop-reader
+invariant-loop-reader g l = record {
+  some : 0 < length l.piece;
+  taking : IsTaking g.S.Store l.fn.config.limit l.fn.first l.fn.store l.session l.store (g.R.Read.remaining l.fn.reader) (g.R.Read.remaining l.reader);
+}
+
+abbrev pub decreases-loop-reader : goal.decreases-loop-reader
+decreases-loop-reader g l = turns_left l.session

@@ -1,0 +1,69 @@
+-- A replica that asks a scripted source again. MySQL Source Documentation, Client/Server Protocol, "Connection Phase";
+-- Replication Protocol: COM_BINLOG_DUMP_GTID.
+use Rattle.std.specs.Prelude.{◌≡◌, ℕ, ◌≤◌, Bool, false, List, [], ◌∷◌, ◌++◌, length, map, take, flat_map, if◌then◌else◌}
+use Rattle.std.specs.FinSet as set
+use Rattle.std.specs.List.{AllByRecursion}
+use Rattle.wire.specs.declared.packet.TheConstants.{LARGEST_PAYLOAD}
+use Rattle.greet.specs.Message.{DumpValue}
+use Rattle.binlog.specs.Follow.{Names, follows}
+use Rattle.gather.specs.Transaction.{ChangeValue, DeliveryValue, change_of}
+use Rattle.store.specs.State.{Content}
+use Rattle.replica.specs.declared.end.Reason.{Reason}
+use Rattle.replica.specs.declared.end.Reason.TheVariants.{EndOfInput, SourceEof}
+use Rattle.replica.specs.declared.end.Ended.{Ended}
+use Rattle.replica.specs.Conn.{TakesAll, Conn}
+use Rattle.scripted_source.specs.Script.{PartValue, ScriptValue}
+use Rattle.scripted_source.specs.Source.{Payload, Opens, Asks, IsAnswer, is_once, sent_payloads, due}
+
+-- ---- What a history means to a replica that follows these tables.
+
+-- the changes of a part: none if its table is not followed
+abbrev pub part_changes : Names → PartValue → List ChangeValue
+part_changes names part = if follows names part.table.schema part.table.table then map (change_of part.table) part.pairs else []
+
+abbrev pub transaction : Names → ScriptValue → DeliveryValue
+transaction names script = record { source = script.source; number = script.number; changes = flat_map (part_changes names) script.parts }
+
+abbrev pub transactions : Names → List ScriptValue → List DeliveryValue
+transactions names history = map (transaction names) history
+
+-- the empty executed set, and no rows
+abbrev pub empty_content : Content
+empty_content = record { executed = set.empty; rows = λ row. 0 }
+
+-- The first transactions, this many, are each new and can be taken, in their order from the empty content, and lead to
+-- this content.
+abbrev pub Reaches : Names → List ScriptValue → ℕ → Content → Type 0
+Reaches names history count content = TakesAll names empty_content (transactions names (take count history)) count content
+
+-- ---- The law.
+
+-- A source with this history is asked by a replica that holds the content after its first j transactions, all of which
+-- can be taken, and that follows these tables and takes payloads up to this limit. These are what the source sends
+-- before the dump, and what it sends in it.
+pub record Resumes (limit : ℕ) (names : Names) (history : List ScriptValue) (j : ℕ) (held last : Content) (request : Payload) (opening answer : List ℕ) : Type 0 where
+  pub reached : Reaches names history j held
+  pub all_taken : Reaches names history (length history) last
+  pub dump : DumpValue
+  pub asks : Asks request dump held.executed
+  pub short : length request ≤ LARGEST_PAYLOAD
+  pub greeting : Payload
+  pub login : Payload
+  pub query : Payload
+  pub opens : Opens greeting login query opening
+  pub answers : IsAnswer history request answer
+  pub admits : AllByRecursion (λ p. length p ≤ limit) (greeting ∷ login ∷ query ∷ sent_payloads (is_once dump.flags) (due held.executed history))
+
+-- why the connection ends
+abbrev pub end_of : Bool → Reason
+end_of once = if once then SourceEof else EndOfInput
+
+-- The connection with these bytes leads from one content to the other by exactly these transactions, in this order,
+-- each of them new; it ends with the bytes, for this reason.
+pub record Leads (limit : ℕ) (names : Names) (held last : Content) (bytes : List ℕ) (ds : List DeliveryValue) (reason : Reason) : Type 0 where
+  pub end : Ended
+  pub conn : Conn limit names false held bytes last end
+  pub delivers : conn.reading.deliveries ≡ ds
+  pub applied : end.applied ≡ length ds
+  pub at : end.at ≡ length bytes
+  pub reason_is : end.reason ≡ reason

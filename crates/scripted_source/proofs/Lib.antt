@@ -1,0 +1,4 @@
+pub mod Front
+pub mod Opens
+pub mod Packings
+pub mod OneAnswer

@@ -1,0 +1,22 @@
+use Rattle.std.proofs.Common.{◌≡◌, ◌∙◌, length, ap, sym, subst, arith}
+use Rattle.std.proofs.Math.Seq.{take-length}
+use Rattle.gtid.specs.Encoding.{IsEncoding}
+use Rattle.scripted_source.specs.Source.{told_of_set}
+use Rattle.scripted_source.proofs.answering.read_set.Goals as goal
+
+pub returns-then-used-bytes-clause-only : goal.returns-then-used-bytes-clause-only
+returns-then-used-bytes-clause-only c ids is =
+    let bytes = c.args.bytes.now in
+    let both = c.in-Ok.ensures.only ids (length bytes) (omega arith) (subst (IsEncoding ids) (sym (take-length bytes)) is) in
+    let used : c.in-Ok.used ≡ length bytes = ap (λ p. p.1) both in
+    absurd (omega (arith, used, c.if-used-bytes.true))
+
+pub returns-else-used-bytes-clause-only : goal.returns-else-used-bytes-clause-only
+returns-else-used-bytes-clause-only c ids is =
+    let bytes = c.args.bytes.now in
+    ap (λ p. p.0) (c.in-Ok.ensures.only ids (length bytes) (omega arith) (subst (IsEncoding ids) (sym (take-length bytes)) is))
+
+pub returns-in-Err-clause-only : goal.returns-in-Err-clause-only
+returns-in-Err-clause-only c ids is =
+    let bytes = c.args.bytes.now in
+    c.told_of_set.ensures ∙ ap told_of_set (c.in-Err.ensures.only ids (length bytes) (omega arith) (subst (IsEncoding ids) (sym (take-length bytes)) is))

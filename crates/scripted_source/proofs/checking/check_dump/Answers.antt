@@ -1,0 +1,26 @@
+use Rattle.std.proofs.Common.{◌≡◌, [], ◌∙◌, length, ap, sym, subst, arith}
+use Rattle.std.proofs.lemmas.Result.{err_from_is_err_and}
+use Rattle.scripted_source.specs.Source.{Asks}
+use Rattle.scripted_source.proofs.checking.check_dump.Goals as goal
+
+pub returns-in_err-command-clause-only : goal.returns-in_err-command-clause-only
+returns-in_err-command-clause-only c executed last =
+    let p = err_from_is_err_and c.from_residual.result c.from_residual.ensures.1 in
+    rw (p.1, p.2) (c.in_err-command.ensures.only last.command [] last.taken)
+
+pub returns-then-rest-gt0-clause-only : goal.returns-then-rest-gt0-clause-only
+returns-then-rest-gt0-clause-only c executed last =
+    let same = c.in_ok-command.ensures.only last.command [] last.taken in
+    let none : length c.in_ok-command.rest.now ≡ 0 = ap length same.1 in
+    absurd (omega arith)
+
+pub returns-in_err-executed-clause-only : goal.returns-in_err-executed-clause-only
+returns-in_err-executed-clause-only c executed last =
+    let p = err_from_is_err_and c.from_residual-in_err-executed.result c.from_residual-in_err-executed.ensures.1 in
+    let same = c.in_ok-command.ensures.only last.command [] last.taken in
+    rw (p.1, p.2) (c.in_err-executed.ensures.only last.dump executed (subst (λ l. Asks l last.dump executed) (sym (c.deref.ensures.value ∙ same.0)) last.asks))
+
+pub returns-clause-only : goal.returns-clause-only
+returns-clause-only c executed last =
+    let same = c.in_ok-command.ensures.only last.command [] last.taken in
+    c.in_ok-executed.ensures.only last.dump executed (subst (λ l. Asks l last.dump executed) (sym (c.deref.ensures.value ∙ same.0)) last.asks)
