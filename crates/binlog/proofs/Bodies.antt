@@ -5,8 +5,8 @@ use Rattle.std.proofs.lemmas.Bool.{le-ltb}
 use Rattle.byteorder.specs.Endian.{little_bytes, little_number}
 use Rattle.byteorder.specs.Numbers.{little_number-reads_back, little_from-lt}
 use Rattle.binlog.specs.Body.{IsGtid, IsQuery, text_place, statement, is_statement, query_fault}
-use Rattle.binlog.specs.declared.body.Query.{Query}
-use Rattle.binlog.specs.declared.body.Query.TheVariants.{Begin, Commit}
+use Rattle.binlog.specs.declared.body.query.Query.{Query}
+use Rattle.binlog.specs.declared.body.query.Query.TheVariants.{Begin, Commit}
 use Rattle.binlog.specs.Fault.{number_at}
 use Rattle.binlog.proofs.Cuts.{IsBytes, number_at_front, drop_drop, cut, one, behind, drop_at}
 

@@ -10,8 +10,8 @@ use Rattle.byteorder.specs.Endian.{little_bytes, little_number}
 use Rattle.byteorder.specs.Numbers.{little_number-reads_back, little_from-lt}
 use Rattle.binlog.specs.Fault.{refuse, needs, first_of, number_at}
 use Rattle.binlog.specs.Body.{IsFormat, IsRotate, IsXid, IsGtid, IsQuery, statement, is_statement, text_place, read_lengths, length_refusals, format_fault, rotate_fault, xid_fault, gtid_fault, query_fault}
-use Rattle.binlog.specs.declared.body.Query.{Query}
-use Rattle.binlog.specs.declared.body.Query.TheVariants.{Begin, Commit}
+use Rattle.binlog.specs.declared.body.query.Query.{Query}
+use Rattle.binlog.specs.declared.body.query.Query.TheVariants.{Begin, Commit}
 use Rattle.binlog.specs.declared.fault.EventFault.{EventFault}
 use Rattle.binlog.specs.declared.fault.EventFaultKind.TheVariants.{FormatVersion, HeaderLengths, Checksum, Statement, Trailing, Number}
 use Rattle.binlog.proofs.Cuts.{IsBytes, drop_drop, behind}

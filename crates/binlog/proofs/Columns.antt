@@ -6,9 +6,9 @@ use Rattle.std.proofs.lemmas.List.{length-append}
 use Rattle.binlog.specs.Column.{type_code, metadata, string_metadata, is_lawful, IsColumn, HasColumn, metadata_size, metadata_fault, is_within, string_fault, when, column_fault}
 use Rattle.binlog.specs.declared.fault.EventFaultKind.{EventFaultKind}
 use Rattle.binlog.specs.declared.fault.EventFaultKind.TheVariants.{Truncated, Metadata, ColumnType as UnknownColumn}
-use Rattle.binlog.specs.declared.column.ColumnKind.{ColumnKind}
-use Rattle.binlog.specs.declared.column.ColumnType.{ColumnType}
-use Rattle.binlog.specs.declared.column.ColumnKind.TheVariants.{Tiny, Short, Int24, Long, LongLong, Varchar, Blob, Bit, NewDecimal, Float, Double, Date, Year, Timestamp2, Datetime2, Time2, Char, Enum, Set}
+use Rattle.binlog.specs.declared.column.kind.ColumnKind.{ColumnKind}
+use Rattle.binlog.specs.declared.column.kind.ColumnType.{ColumnType}
+use Rattle.binlog.specs.declared.column.kind.ColumnKind.TheVariants.{Tiny, Short, Int24, Long, LongLong, Varchar, Blob, Bit, NewDecimal, Float, Double, Date, Year, Timestamp2, Datetime2, Time2, Char, Enum, Set}
 use Rattle.binlog.specs.Columns.{kind_of}
 use Rattle.binlog.proofs.Cuts.{IsBytes, drop_front}
 

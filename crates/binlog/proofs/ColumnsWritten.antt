@@ -4,7 +4,7 @@ use Rattle.std.specs.Prelude.{flat_map}
 use Rattle.std.proofs.lemmas.List.{length-append}
 use Rattle.binlog.specs.Column.{type_code, metadata}
 use Rattle.binlog.specs.Table.{metadata_length}
-use Rattle.binlog.specs.declared.column.ColumnKind.{ColumnKind}
+use Rattle.binlog.specs.declared.column.kind.ColumnKind.{ColumnKind}
 use Rattle.binlog.proofs.TableColumns.{metadata_long}
 
 -- the length of the remaining metadata after the first column's

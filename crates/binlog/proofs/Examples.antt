@@ -5,7 +5,7 @@ use Rattle.binlog.specs.Column.{metadata, metadata_size, metadata_fault, column_
 use Rattle.binlog.specs.Cell.{null_cell, number_cell, bytes_cell}
 use Rattle.binlog.specs.Row.{row_end, row_cells}
 use Rattle.binlog.specs.declared.fault.EventFaultKind.TheVariants.{Truncated, Size, Metadata, ColumnType as UnknownColumn}
-use Rattle.binlog.specs.declared.column.ColumnKind.TheVariants.{Long, Varchar, Char, Blob, Enum, Set, Bit}
+use Rattle.binlog.specs.declared.column.kind.ColumnKind.TheVariants.{Long, Varchar, Char, Blob, Enum, Set, Bit}
 
 xid_header : header_fault (0 ∷ 0 ∷ 0 ∷ 0 ∷ 16 ∷ 1 ∷ 0 ∷ 0 ∷ 0 ∷ 27 ∷ 0 ∷ 0 ∷ 0 ∷ 0 ∷ 0 ∷ 0 ∷ 0 ∷ 0 ∷ 0 ∷ 1 ∷ 0 ∷ 0 ∷ 0 ∷ 0 ∷ 0 ∷ 0 ∷ 0 ∷ []) ≡ None
 unfolding header_fault

@@ -6,8 +6,8 @@ use Rattle.binlog.specs.Row.{kinds}
 use Rattle.binlog.specs.Column.{is_lawful, column_fault}
 use Rattle.binlog.specs.Table.{metadata_length}
 use Rattle.binlog.specs.Columns.{kind_of, column_front, columns_of}
-use Rattle.binlog.specs.declared.column.ColumnKind.{ColumnKind}
-use Rattle.binlog.specs.declared.column.ColumnType.{ColumnType}
+use Rattle.binlog.specs.declared.column.kind.ColumnKind.{ColumnKind}
+use Rattle.binlog.specs.declared.column.kind.ColumnType.{ColumnType}
 use Rattle.binlog.specs.declared.fault.EventFaultKind.{EventFaultKind}
 use Rattle.binlog.proofs.Cuts.{IsBytes}
 use Rattle.binlog.proofs.Columns.{some_column}

@@ -13,7 +13,7 @@ pub mod TableColumns
 pub mod WholeColumns
 pub mod RowsHead
 pub mod RowsItems
-pub mod Followed
+pub mod Admitted
 pub mod Events
 pub mod RowsWritten
 pub mod RowWriting

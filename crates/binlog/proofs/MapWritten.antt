@@ -9,8 +9,8 @@ use Rattle.byteorder.specs.Numbers.{length-bytes_low_first}
 use Rattle.wire.specs.Integer.{IsLengthEncoded, length_encoded}
 use Rattle.binlog.specs.Row.{bitmap_size}
 use Rattle.binlog.specs.Column.{type_code, metadata, is_lawful}
-use Rattle.binlog.specs.declared.column.ColumnKind.{ColumnKind}
-use Rattle.binlog.specs.declared.column.ColumnKind.TheVariants.{Tiny, Short, Int24, Long, LongLong, Varchar, Blob, Bit, NewDecimal, Float, Double, Date, Year, Timestamp2, Datetime2, Time2, Char, Enum, Set}
+use Rattle.binlog.specs.declared.column.kind.ColumnKind.{ColumnKind}
+use Rattle.binlog.specs.declared.column.kind.ColumnKind.TheVariants.{Tiny, Short, Int24, Long, LongLong, Varchar, Blob, Bit, NewDecimal, Float, Double, Date, Year, Timestamp2, Datetime2, Time2, Char, Enum, Set}
 use Rattle.binlog.specs.Table.{TableValue, IsTableMap}
 use Rattle.binlog.specs.Writing.{HasMap, table_map_body, full_bitmap}
 use Rattle.binlog.proofs.FullBitmap.{full_long}

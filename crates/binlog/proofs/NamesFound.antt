@@ -8,9 +8,9 @@ use Rattle.std.specs.List.Sorted.{IsNonDecreasingBy, IsStrictlySortedBy, IsBinar
 use Rattle.std.proofs.lemmas.Bool.{cases_lt}
 use Rattle.std.proofs.lemmas.List.Folds.{list_any_at, Any-from_list_any}
 use Rattle.std.proofs.lemmas.Slice.Eq.{bytes_eq-Decides}
-use Rattle.binlog.specs.Follow.{Name, name_cmp, is_listed}
-use Rattle.binlog.specs.FollowView.{names_of}
-use Rattle.binlog.proofs.Followed.{name_cmp_total, name_cmp-same, both_true, itself, none_of}
+use Rattle.binlog.specs.Filter.{Name, name_cmp, is_listed}
+use Rattle.binlog.specs.FilterView.{names_of}
+use Rattle.binlog.proofs.Admitted.{name_cmp_total, name_cmp-same, both_true, itself, none_of}
 use Rattle.binlog.proofs.NamesOnce.{Kept, name_of, is_named, named, both_parts}
 
 -- how a name compares

@@ -14,9 +14,9 @@ use Rattle.std.proofs.lemmas.List.Filters.{dedup_is}
 use Rattle.std.proofs.lemmas.List.Kept.{IsStrictlySortedBy-dedup}
 use Rattle.std.proofs.lemmas.List.Sorted.{list_any-IsPermutation}
 use Rattle.std.proofs.lemmas.Slice.Eq.{bytes_eq-Decides}
-use Rattle.binlog.specs.Follow.{Name, name_cmp, is_listed}
-use Rattle.binlog.specs.FollowView.{names_of}
-use Rattle.binlog.proofs.Followed.{name_cmp_total, name_cmp-same, listed}
+use Rattle.binlog.specs.Filter.{Name, name_cmp, is_listed}
+use Rattle.binlog.specs.FilterView.{names_of}
+use Rattle.binlog.proofs.Admitted.{name_cmp_total, name_cmp-same, listed}
 
 -- a schema and a table as they are kept
 abbrev pub Kept : Type 0 → Type 0

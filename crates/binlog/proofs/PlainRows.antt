@@ -4,7 +4,7 @@ use Rattle.wire.specs.Integer.{length_encoded}
 use Rattle.binlog.specs.Rows.{presents_size}
 use Rattle.binlog.specs.Event.{rows}
 use Rattle.binlog.specs.Writing.{IsWritable, plain_rows, rows_body}
-use Rattle.binlog.specs.declared.rows_event.RowsKind.{RowsKind}
+use Rattle.binlog.specs.declared.body.rows_event.RowsKind.{RowsKind}
 use Rattle.binlog.proofs.MapWritten.{spelled}
 use Rattle.binlog.proofs.RowsEventWritten.{suits, spells, has_by_width, rows_written, rows_end}
 use Rattle.binlog.proofs.Written.{writes_rows, rows_body_of, writable_short}

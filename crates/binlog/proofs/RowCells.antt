@@ -9,10 +9,10 @@ use Rattle.byteorder.specs.Numbers.{little_number-reads_back, little_from-lt, le
 use Rattle.binlog.specs.Cell.{CellValue, null_cell, number_cell, bytes_cell, is_null}
 use Rattle.binlog.specs.Shape.{shape, IsValue, value_end, cell_of}
 use Rattle.binlog.specs.Row.{kinds, bitmap_size, is_set, AreValues, IsRow, further, ◌>>=◌, values_end, row_end, cell_front, cells_of, row_cells}
-use Rattle.binlog.specs.declared.column.ColumnKind.{ColumnKind}
-use Rattle.binlog.specs.declared.column.ColumnType.{ColumnType}
-use Rattle.binlog.specs.declared.shape.Shape.{Shape}
-use Rattle.binlog.specs.declared.shape.Shape.TheVariants.{Number, Fixed, Prefixed}
+use Rattle.binlog.specs.declared.column.kind.ColumnKind.{ColumnKind}
+use Rattle.binlog.specs.declared.column.kind.ColumnType.{ColumnType}
+use Rattle.binlog.specs.declared.column.value.Shape.{Shape}
+use Rattle.binlog.specs.declared.column.value.Shape.TheVariants.{Number, Fixed, Prefixed}
 use Rattle.binlog.proofs.Cuts.{IsBytes, drop_drop, drop_at, drop_front, take_is_number}
 
 -- ---- A column at a time.

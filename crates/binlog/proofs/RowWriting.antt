@@ -15,12 +15,12 @@ use Rattle.binlog.specs.RowsView.{owned_pair, owned_pairs}
 use Rattle.binlog.specs.RowsWritten.{bitmap_byte, value_bytes, values_bytes, pair_bytes, rows_bytes, value_fits, row_fits, pair_fits, pairs_fit}
 use Rattle.binlog.proofs.RowsWritten.{column_kind, as_long}
 use Rattle.binlog.specs.declared.cell.OwnedCell.{OwnedCell}
-use Rattle.binlog.specs.declared.column.ColumnKind.{ColumnKind}
-use Rattle.binlog.specs.declared.column.ColumnType.{ColumnType}
-use Rattle.binlog.specs.declared.rows_writing.OwnedPair.{OwnedPair}
-use Rattle.binlog.specs.declared.rows_event.RowsKind.{RowsKind}
-use Rattle.binlog.specs.declared.shape.Shape.{Shape}
-use Rattle.binlog.specs.declared.shape.Shape.TheVariants.{Number, Fixed, Prefixed}
+use Rattle.binlog.specs.declared.column.kind.ColumnKind.{ColumnKind}
+use Rattle.binlog.specs.declared.column.kind.ColumnType.{ColumnType}
+use Rattle.binlog.specs.declared.row_pair.OwnedPair.{OwnedPair}
+use Rattle.binlog.specs.declared.body.rows_event.RowsKind.{RowsKind}
+use Rattle.binlog.specs.declared.column.value.Shape.{Shape}
+use Rattle.binlog.specs.declared.column.value.Shape.TheVariants.{Number, Fixed, Prefixed}
 
 -- ---- Where memory ends.
 

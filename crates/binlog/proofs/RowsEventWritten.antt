@@ -6,8 +6,8 @@ use Rattle.byteorder.specs.Numbers.{length-bytes_low_first}
 use Rattle.wire.specs.Integer.{IsLengthEncoded}
 use Rattle.binlog.specs.Rows.{RowsValue, ArePresent, IsRows, presents_size}
 use Rattle.binlog.specs.Writing.{HasRowsBody, count_bytes, presents_bytes, full_bitmap, rows_body}
-use Rattle.binlog.specs.declared.rows_event.RowsKind.{RowsKind}
-use Rattle.binlog.specs.declared.rows_event.RowsKind.TheVariants.{Write, Update, Delete}
+use Rattle.binlog.specs.declared.body.rows_event.RowsKind.{RowsKind}
+use Rattle.binlog.specs.declared.body.rows_event.RowsKind.TheVariants.{Write, Update, Delete}
 use Rattle.binlog.proofs.RowsHead.{presents_long}
 use Rattle.binlog.proofs.FullBitmap.{all_present}
 

@@ -8,13 +8,13 @@ use Rattle.binlog.specs.Cell.{CellValue}
 use Rattle.binlog.specs.Shape.{shape, value_end}
 use Rattle.binlog.specs.Row.{bitmap_size, is_set, IsRow, further, ◌>>=◌, values_end, row_end, row_cells}
 use Rattle.binlog.specs.Rows.{PairValue, inserted, deleted, updated, IsPair, AreRows, pair_end, EndsEarly, AreItemsAt, reached, pair_of, item_front, items_of}
-use Rattle.binlog.specs.declared.column.ColumnKind.{ColumnKind}
+use Rattle.binlog.specs.declared.column.kind.ColumnKind.{ColumnKind}
 use Rattle.binlog.specs.declared.fault.EventFault.{EventFault}
 use Rattle.binlog.specs.declared.fault.EventFaultKind.TheVariants.{Truncated}
-use Rattle.binlog.specs.declared.rows_event.RowsKind.{RowsKind}
-use Rattle.binlog.specs.declared.rows_event.RowsKind.TheVariants.{Write, Update, Delete}
-use Rattle.binlog.specs.declared.shape.Shape.{Shape}
-use Rattle.binlog.specs.declared.shape.Shape.TheVariants.{Number, Fixed, Prefixed}
+use Rattle.binlog.specs.declared.body.rows_event.RowsKind.{RowsKind}
+use Rattle.binlog.specs.declared.body.rows_event.RowsKind.TheVariants.{Write, Update, Delete}
+use Rattle.binlog.specs.declared.column.value.Shape.{Shape}
+use Rattle.binlog.specs.declared.column.value.Shape.TheVariants.{Number, Fixed, Prefixed}
 use Rattle.binlog.proofs.Cuts.{IsBytes, drop_front}
 use Rattle.binlog.proofs.RowCells.{value_is_there, drop_bytes, split_end, row_is_read, row_is_there}
 

@@ -12,13 +12,13 @@ use Rattle.binlog.specs.Rows.{PairValue, inserted, deleted, updated, IsPair, Are
 use Rattle.binlog.specs.RowsView.{owned_pair, owned_pairs}
 use Rattle.binlog.specs.RowsWritten.{HaveRows, digit, bits_number, bitmap_byte, bitmap_bytes, value_bytes, values_bytes, row_bytes, pair_bytes, rows_bytes, value_fits, row_fits, pair_fits, pairs_fit}
 use Rattle.binlog.specs.declared.cell.OwnedCell.{OwnedCell}
-use Rattle.binlog.specs.declared.column.ColumnKind.{ColumnKind}
-use Rattle.binlog.specs.declared.column.ColumnType.{ColumnType}
-use Rattle.binlog.specs.declared.rows_writing.OwnedPair.{OwnedPair}
-use Rattle.binlog.specs.declared.rows_event.RowsKind.{RowsKind}
-use Rattle.binlog.specs.declared.rows_event.RowsKind.TheVariants.{Write, Update, Delete}
-use Rattle.binlog.specs.declared.shape.Shape.{Shape}
-use Rattle.binlog.specs.declared.shape.Shape.TheVariants.{Number, Fixed, Prefixed}
+use Rattle.binlog.specs.declared.column.kind.ColumnKind.{ColumnKind}
+use Rattle.binlog.specs.declared.column.kind.ColumnType.{ColumnType}
+use Rattle.binlog.specs.declared.row_pair.OwnedPair.{OwnedPair}
+use Rattle.binlog.specs.declared.body.rows_event.RowsKind.{RowsKind}
+use Rattle.binlog.specs.declared.body.rows_event.RowsKind.TheVariants.{Write, Update, Delete}
+use Rattle.binlog.specs.declared.column.value.Shape.{Shape}
+use Rattle.binlog.specs.declared.column.value.Shape.TheVariants.{Number, Fixed, Prefixed}
 
 -- ---- Bits.
 

@@ -4,9 +4,9 @@ use Rattle.std.specs.FinSet as set
 use Rattle.std.specs.List.{AllByRecursion}
 use Rattle.std.proofs.lemmas.Bool.{false≢true, and_parts, or_parts}
 use Rattle.std.proofs.lemmas.Slice.Eq.{bytes_eq-Decides}
-use Rattle.binlog.specs.Follow.{Name, name_cmp, is_listed, AreAmong}
-use Rattle.binlog.specs.FollowView.{names_of}
-use Rattle.binlog.proofs.Followed.{name_cmp_total, name_cmp-same, listed, agree, both_true, itself}
+use Rattle.binlog.specs.Filter.{Name, name_cmp, is_listed, AreAmong}
+use Rattle.binlog.specs.FilterView.{names_of}
+use Rattle.binlog.proofs.Admitted.{name_cmp_total, name_cmp-same, listed, agree, both_true, itself}
 
 either : (a b : Bool) → (a || b) ≡ true → (a ≡ true) ⊎ (b ≡ true)
 either true b h = inl refl

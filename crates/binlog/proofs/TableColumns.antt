@@ -10,7 +10,7 @@ use Rattle.binlog.specs.Count.{count_width, count_at, no_count}
 use Rattle.binlog.specs.Row.{bitmap_size}
 use Rattle.binlog.specs.Table.{is_column_count, types_fault, metadata_length, at_place, all_metadata_fault, columns_fault}
 use Rattle.binlog.specs.Columns.{kind_of, column_front, columns_of}
-use Rattle.binlog.specs.declared.column.ColumnKind.{ColumnKind}
+use Rattle.binlog.specs.declared.column.kind.ColumnKind.{ColumnKind}
 use Rattle.binlog.specs.declared.fault.EventFault.{EventFault}
 use Rattle.binlog.specs.declared.fault.EventFaultKind.{EventFaultKind}
 use Rattle.binlog.specs.declared.fault.EventFaultKind.TheVariants.{Truncated, Columns, Metadata, ColumnType as UnknownColumn}

@@ -13,8 +13,8 @@ use Rattle.binlog.specs.Row.{bitmap_size, kinds}
 use Rattle.binlog.specs.Column.{type_code, metadata, is_lawful, IsColumn, metadata_fault, column_fault}
 use Rattle.binlog.specs.Table.{AreColumns, is_column_count, types_fault, metadata_length, at_place, all_metadata_fault, codes_at, measure_place, metadata_place, columns_fault}
 use Rattle.binlog.specs.Columns.{columns_of, columns_at, HasColumns}
-use Rattle.binlog.specs.declared.column.ColumnKind.{ColumnKind}
-use Rattle.binlog.specs.declared.column.ColumnType.{ColumnType}
+use Rattle.binlog.specs.declared.column.kind.ColumnKind.{ColumnKind}
+use Rattle.binlog.specs.declared.column.kind.ColumnType.{ColumnType}
 use Rattle.binlog.specs.declared.fault.EventFault.{EventFault}
 use Rattle.binlog.specs.declared.fault.EventFaultKind.{EventFaultKind}
 use Rattle.binlog.specs.declared.fault.EventFaultKind.TheVariants.{Columns, Metadata}

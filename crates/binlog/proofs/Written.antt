@@ -10,9 +10,9 @@ use Rattle.binlog.specs.Table.{TableValue}
 use Rattle.binlog.specs.Rows.{RowsValue}
 use Rattle.binlog.specs.Event.{EventValue, format, begin, commit, neutral, stop, rotate, gtid, table_map, other_map, rows, xid, IsOtherMap, HasBody, IsEvent}
 use Rattle.binlog.specs.Writing.{IsWritable, HasMap, HasRowsBody, header_bytes, format_body, query_body, gtid_body, rows_body, event_code, event_body, framed_bytes, event_bytes}
-use Rattle.binlog.specs.declared.body.Query.TheVariants.{Begin, Commit}
+use Rattle.binlog.specs.declared.body.query.Query.TheVariants.{Begin, Commit}
 use Rattle.binlog.proofs.Headers as headers
-use Rattle.binlog.proofs.Followed.{all_follow}
+use Rattle.binlog.proofs.Admitted.{all_follow}
 use Rattle.binlog.proofs.MapWritten.{map_written, map_short}
 use Rattle.binlog.proofs.RowsEventWritten.{rows_written, rows_end}
 
@@ -92,7 +92,7 @@ body_written neutral code may_ignore body is = inl refl
 body_written stop code may_ignore body is = refl
 body_written (rotate position name) code may_ignore body (is, of) = (refl, (of.0, refl))
 body_written (gtid source number) code may_ignore body (is, of) = (refl, gtid_written source number body of)
-body_written (table_map t) code may_ignore body (is, of, followed) = (refl, map_written t (record { body = body; is_map = of }), all_follow t.schema t.table)
+body_written (table_map t) code may_ignore body (is, of, admitted) = (refl, map_written t (record { body = body; is_map = of }), all_follow t.schema t.table)
 body_written (other_map id) code may_ignore body (is, of) = absurd (not_other id body of)
 body_written (rows r) code may_ignore body (is, of) = (refl, rows_written r (record { body = body; is_rows = of }))
 body_written (xid number) code may_ignore body (is, of) = (refl, (of.0, refl))
@@ -106,7 +106,7 @@ body_short neutral code may_ignore body small is = omega arith
 body_short stop code may_ignore body small is = omega arith
 body_short (rotate position name) code may_ignore body small (is, of) = omega (arith, small, ap length of.1)
 body_short (gtid source number) code may_ignore body small (is, of) = omega (arith, of.source_length, length-append (0 ∷ source) (little_bytes 8 number))
-body_short (table_map t) code may_ignore body small (is, of, followed) = omega (arith, map_short t (record { body = body; is_map = of }))
+body_short (table_map t) code may_ignore body small (is, of, admitted) = omega (arith, map_short t (record { body = body; is_map = of }))
 body_short (other_map id) code may_ignore body small is = omega arith
 body_short (rows r) code may_ignore body small (is, of) = omega (arith, small, rows_end r body of, rows_end r (rows_body r) (rows_written r (record { body = body; is_rows = of })))
 body_short (xid number) code may_ignore body small is = omega arith
@@ -167,7 +167,7 @@ pub writes_map : (t : TableValue) → HasMap t → IsWritable (table_map t)
 writes_map t has = writable (table_map t) (refl, map_written t has, all_follow t.schema t.table) (omega (arith, map_short t has))
 
 pub map_of : (t : TableValue) → IsWritable (table_map t) → HasMap t
-map_of t is = let (is_code, of, followed) = is.is_event.has_body in record { body = is.is_event.body; is_map = of }
+map_of t is = let (is_code, of, admitted) = is.is_event.has_body in record { body = is.is_event.body; is_map = of }
 
 pub writes_rows : (r : RowsValue) → r.bytes_at + length r.bytes < 2 ^ 32 → HasRowsBody r → IsWritable (rows r)
 writes_rows r small has = let of = rows_written r has in writable (rows r) (refl, of) (omega (arith, small, rows_end r (rows_body r) of))

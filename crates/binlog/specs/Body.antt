@@ -3,9 +3,10 @@
 use Rattle.std.specs.Prelude.{◌≡◌, ℕ, ◌+◌, ◌-◌, ◌<◌, ◌≤◌, ◌^◌, Bool, ◌&&◌, ◌||◌, not, List, [], ◌∷◌, ◌++◌, length, drop, map, slice_index, codes, ◌==◌, nat_lt, nat_le, Option}
 use Rattle.std.specs.Str.{bytes_eq}
 use Rattle.byteorder.specs.Endian.{little_bytes}
+use Rattle.binlog.specs.EventType as event_type
 use Rattle.binlog.specs.Fault.{refuse, needs, first_of, number_at}
-use Rattle.binlog.specs.declared.body.Query.{Query}
-use Rattle.binlog.specs.declared.body.Query.TheVariants.{Begin, Commit}
+use Rattle.binlog.specs.declared.body.query.Query.{Query}
+use Rattle.binlog.specs.declared.body.query.Query.TheVariants.{Begin, Commit}
 use Rattle.binlog.specs.declared.fault.EventFault.{EventFault}
 use Rattle.binlog.specs.declared.fault.EventFaultKind.TheVariants.{FormatVersion, Checksum, HeaderLengths, Statement, Number, Trailing}
 
@@ -20,10 +21,10 @@ pub record IsFormat (body : List ℕ) : Type 0 where
   pub unread : List ℕ
   pub body_is : body ≡ little_bytes 2 4 ++ server_version ++ time ++ 19 ∷ lengths ++ 0 ∷ unread
   pub sizes : (length server_version ≡ 50) × (length time ≡ 4) × (length unread ≡ 4) × (35 ≤ length lengths)
-  pub query : slice_index lengths (2 - 1) ≡ 13
-  pub rotate : slice_index lengths (4 - 1) ≡ 8
-  pub table_map : slice_index lengths (19 - 1) ≡ 8
-  pub rows : (slice_index lengths (30 - 1) ≡ 10) × (slice_index lengths (31 - 1) ≡ 10) × (slice_index lengths (32 - 1) ≡ 10)
+  pub query : slice_index lengths (event_type.query - 1) ≡ 13
+  pub rotate : slice_index lengths (event_type.rotate - 1) ≡ 8
+  pub table_map : slice_index lengths (event_type.table_map - 1) ≡ 8
+  pub rows : (slice_index lengths (event_type.write_rows - 1) ≡ 10) × (slice_index lengths (event_type.update_rows - 1) ≡ 10) × (slice_index lengths (event_type.delete_rows - 1) ≡ 10)
 
 -- A rotation: the position in the next file, and the file's name.
 abbrev pub IsRotate : ℕ → List ℕ → List ℕ → Type 0
@@ -61,7 +62,9 @@ statement Commit = codes "COMMIT"
 
 -- the supported types, with the lengths of their post-headers
 abbrev pub read_lengths : List (ℕ × ℕ)
-read_lengths = (2, 13) ∷ (4, 8) ∷ (19, 8) ∷ (30, 10) ∷ (31, 10) ∷ (32, 10) ∷ []
+read_lengths =
+    (event_type.query, 13) ∷ (event_type.rotate, 8) ∷ (event_type.table_map, 8) ∷ (event_type.write_rows, 10)
+    ∷ (event_type.update_rows, 10) ∷ (event_type.delete_rows, 10) ∷ []
 
 -- a type's length, at 75 + type
 abbrev pub length_refusal : List ℕ → ℕ × ℕ → Option EventFault

@@ -2,34 +2,35 @@
 -- metadata by type), and the field types of field_types.h.
 use Rattle.std.specs.Prelude.{◌≡◌, ℕ, ◌+◌, ◌-◌, ◌*◌, ◌/◌, ◌%◌, Bool, true, ◌&&◌, ◌||◌, not, List, [], ◌∷◌, ◌++◌, length, ◌==◌, nat_lt, nat_le, if◌then◌else◌, Option, Some, None, IsTrue, slice_index, bit_and, bit_or, bit_xor}
 use Rattle.byteorder.specs.Endian.{little_bytes}
+use Rattle.binlog.specs.ColumnCode as codes
 use Rattle.binlog.specs.declared.fault.EventFaultKind.{EventFaultKind}
 use Rattle.binlog.specs.declared.fault.EventFaultKind.TheVariants.{Truncated, ColumnType as UnknownColumn, Metadata}
-use Rattle.binlog.specs.declared.column.ColumnKind.{ColumnKind}
-use Rattle.binlog.specs.declared.column.ColumnKind.TheVariants.{Tiny, Short, Int24, Long, LongLong, Varchar, Blob, Bit, NewDecimal, Float, Double, Date, Year, Timestamp2, Datetime2, Time2, Char, Enum, Set}
+use Rattle.binlog.specs.declared.column.kind.ColumnKind.{ColumnKind}
+use Rattle.binlog.specs.declared.column.kind.ColumnKind.TheVariants.{Tiny, Short, Int24, Long, LongLong, Varchar, Blob, Bit, NewDecimal, Float, Double, Date, Year, Timestamp2, Datetime2, Time2, Char, Enum, Set}
 
 -- ---- A type as bytes.
 
 -- the type byte of a table map
 abbrev pub type_code : ColumnKind → ℕ
-type_code Tiny = 1
-type_code Short = 2
-type_code Long = 3
-type_code Float = 4
-type_code Double = 5
-type_code LongLong = 8
-type_code Int24 = 9
-type_code Date = 10
-type_code Year = 13
-type_code (Varchar maximum) = 15
-type_code (Bit bits) = 16
-type_code (Timestamp2 fraction) = 17
-type_code (Datetime2 fraction) = 18
-type_code (Time2 fraction) = 19
-type_code (NewDecimal precision scale) = 246
-type_code (Blob prefix) = 252
-type_code (Char maximum) = 254
-type_code (Enum width) = 254
-type_code (Set width) = 254
+type_code Tiny = codes.tiny
+type_code Short = codes.short
+type_code Long = codes.long
+type_code Float = codes.float
+type_code Double = codes.double
+type_code LongLong = codes.longlong
+type_code Int24 = codes.int24
+type_code Date = codes.date
+type_code Year = codes.year
+type_code (Varchar maximum) = codes.varchar
+type_code (Bit bits) = codes.bit
+type_code (Timestamp2 fraction) = codes.timestamp2
+type_code (Datetime2 fraction) = codes.datetime2
+type_code (Time2 fraction) = codes.time2
+type_code (NewDecimal precision scale) = codes.newdecimal
+type_code (Blob prefix) = codes.blob
+type_code (Char maximum) = codes.string
+type_code (Enum width) = codes.string
+type_code (Set width) = codes.string
 
 -- the metadata of a STRING of this real type and length: bits 8 and 9 of the length are flipped and put in bits 4 and 5
 -- of the first byte
@@ -47,9 +48,9 @@ metadata Double = 8 ∷ []
 metadata (Timestamp2 fraction) = fraction ∷ []
 metadata (Datetime2 fraction) = fraction ∷ []
 metadata (Time2 fraction) = fraction ∷ []
-metadata (Char maximum) = string_metadata 254 maximum
-metadata (Enum width) = string_metadata 247 width
-metadata (Set width) = string_metadata 248 width
+metadata (Char maximum) = string_metadata codes.string maximum
+metadata (Enum width) = string_metadata codes.enum width
+metadata (Set width) = string_metadata codes.set width
 metadata _ = []
 
 abbrev pub is_within : ℕ → ℕ → ℕ → Bool
@@ -86,9 +87,11 @@ pub record HasColumn (code : ℕ) (bytes : List ℕ) : Type 0 where
 -- how many bytes of metadata a supported type has
 unfoldable pub metadata_size : ℕ → Option ℕ
 metadata_size code =
-    if (code == 1) || (code == 2) || (code == 3) || (code == 8) || (code == 9) || (code == 10) || (code == 13) then Some 0
-    else if (code == 4) || (code == 5) || (code == 17) || (code == 18) || (code == 19) || (code == 252) then Some 1
-    else if (code == 15) || (code == 16) || (code == 246) || (code == 254) then Some 2
+    if (code == codes.tiny) || (code == codes.short) || (code == codes.long) || (code == codes.longlong)
+    || (code == codes.int24) || (code == codes.date) || (code == codes.year) then Some 0
+    else if (code == codes.float) || (code == codes.double) || (code == codes.timestamp2)
+    || (code == codes.datetime2) || (code == codes.time2) || (code == codes.blob) then Some 1
+    else if (code == codes.varchar) || (code == codes.bit) || (code == codes.newdecimal) || (code == codes.string) then Some 2
     else None
 
 abbrev pub when : Bool → EventFaultKind → Option EventFaultKind
@@ -103,21 +106,21 @@ string_length first second = second + 16 * bit_xor (bit_and first 0x30) 0x30
 
 abbrev pub string_fault : ℕ → ℕ → Option EventFaultKind
 string_fault real size =
-    if real == 254 then None
-    else if real == 247 then when (not (is_within 1 2 size)) Metadata
-    else if real == 248 then when (not (is_within 1 8 size)) Metadata
+    if real == codes.string then None
+    else if real == codes.enum then when (not (is_within 1 2 size)) Metadata
+    else if real == codes.set then when (not (is_within 1 8 size)) Metadata
     else Some (UnknownColumn real)
 
 -- what is wrong with the metadata of a supported type: its first byte, and the second, if it has two
 unfoldable pub metadata_fault : ℕ → ℕ → ℕ → Option EventFaultKind
 metadata_fault code first second =
-    if code == 4 then when (not (first == 4)) Metadata
-    else if code == 5 then when (not (first == 8)) Metadata
-    else if code == 16 then when (not (nat_le first 7 && is_within 1 64 (8 * second + first))) Metadata
-    else if (code == 17) || (code == 18) || (code == 19) then when (not (nat_le first 6)) Metadata
-    else if code == 246 then when (not (is_within 1 65 first && (nat_le second 30 && nat_le second first))) Metadata
-    else if code == 252 then when (not (is_within 1 4 first)) Metadata
-    else if code == 254 then string_fault (real_type first) (string_length first second)
+    if code == codes.float then when (not (first == 4)) Metadata
+    else if code == codes.double then when (not (first == 8)) Metadata
+    else if code == codes.bit then when (not (nat_le first 7 && is_within 1 64 (8 * second + first))) Metadata
+    else if (code == codes.timestamp2) || (code == codes.datetime2) || (code == codes.time2) then when (not (nat_le first 6)) Metadata
+    else if code == codes.newdecimal then when (not (is_within 1 65 first && (nat_le second 30 && nat_le second first))) Metadata
+    else if code == codes.blob then when (not (is_within 1 4 first)) Metadata
+    else if code == codes.string then string_fault (real_type first) (string_length first second)
     else None
 
 -- what is wrong with a type code and bytes that begin with its metadata: a type that is not supported, then metadata

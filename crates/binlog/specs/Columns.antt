@@ -3,8 +3,8 @@ use Rattle.std.specs.Prelude.{ℕ, ◌+◌, ◌*◌, List, [], ◌∷◌, drop, 
 use Rattle.binlog.specs.Column.{real_type, string_length, column_fault}
 use Rattle.binlog.specs.Table.{AreColumns, IsNamed, metadata_length, codes_at, metadata_place}
 use Rattle.binlog.specs.declared.fault.EventFaultKind.{EventFaultKind}
-use Rattle.binlog.specs.declared.column.ColumnKind.{ColumnKind}
-use Rattle.binlog.specs.declared.column.ColumnKind.TheVariants.{Tiny, Short, Int24, Long, LongLong, Varchar, Blob, Bit, NewDecimal, Float, Double, Date, Year, Timestamp2, Datetime2, Time2, Char, Enum, Set}
+use Rattle.binlog.specs.declared.column.kind.ColumnKind.{ColumnKind}
+use Rattle.binlog.specs.declared.column.kind.ColumnKind.TheVariants.{Tiny, Short, Int24, Long, LongLong, Varchar, Blob, Bit, NewDecimal, Float, Double, Date, Year, Timestamp2, Datetime2, Time2, Char, Enum, Set}
 
 -- the type of a column that is not at fault, from its type code and the first two bytes from its metadata on
 unfoldable pub kind_of : ℕ → ℕ → ℕ → ColumnKind

@@ -2,9 +2,9 @@
 use Rattle.std.specs.Prelude.{ℕ, List, length}
 use Rattle.binlog.specs.Columns.{columns_of}
 use Rattle.binlog.specs.Row.{kinds}
-use Rattle.binlog.specs.declared.column.ColumnKind.{ColumnKind}
-use Rattle.binlog.specs.declared.column_types.Columns.{Columns}
-use Rattle.binlog.specs.declared.column_types.Columns.TheVariants.{Encoded, Types}
+use Rattle.binlog.specs.declared.column.kind.ColumnKind.{ColumnKind}
+use Rattle.binlog.specs.declared.column.types.Columns.{Columns}
+use Rattle.binlog.specs.declared.column.types.Columns.TheVariants.{Encoded, Types}
 
 -- the types that they encode
 abbrev pub columns_in : Columns → List ColumnKind

@@ -1,8 +1,8 @@
--- Events, apart from the memory that holds them, and the tables that a reader follows.
+-- Events, apart from the memory that holds them, and the filter of tables of a reader.
 use Rattle.std.specs.Prelude.{Option, Some, None}
 use Rattle.std.specs.Borrow.{Bor}
 use Rattle.std.specs.FinSet as set
-use Rattle.binlog.specs.Follow.{Names}
+use Rattle.binlog.specs.Filter.{Names}
 use Rattle.binlog.specs.Event.{EventValue, format, begin, commit, neutral, stop, rotate, gtid, table_map, other_map, rows, xid}
 use Rattle.binlog.specs.TableView.{table_value}
 use Rattle.binlog.specs.RowsView.{rows_value}
@@ -23,7 +23,7 @@ event_value (events.OtherMap id) = other_map id
 event_value (events.Rows r) = rows (rows_value r)
 event_value (events.Xid number) = xid number
 
--- the tables that are followed: all if there is no list
-abbrev pub followed : Option (Bor Names) → Names
-followed (Some follow) = follow.now
-followed None = set.empty
+-- the filter: that of all tables if there is none
+abbrev pub filter_of : Option (Bor Names) → Names
+filter_of (Some filter) = filter.now
+filter_of None = set.empty

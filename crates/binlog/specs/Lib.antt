@@ -1,5 +1,7 @@
 pub mod Fault
+pub mod EventType
 pub mod Header
+pub mod ColumnCode
 pub mod Column
 pub mod Cell
 pub mod Shape
@@ -10,8 +12,8 @@ pub mod Table
 pub mod Rows
 pub mod RowsView
 pub mod RowsWritten
-pub mod Follow
-pub mod FollowView
+pub mod Filter
+pub mod FilterView
 pub mod Event
 pub mod EventView
 pub mod Columns

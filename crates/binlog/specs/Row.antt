@@ -3,8 +3,8 @@ use Rattle.std.specs.Prelude.{◌≡◌, ℕ, suc, ◌+◌, ◌/◌, ◌%◌, �
 use Rattle.std.specs.Int.{div_ceil}
 use Rattle.binlog.specs.Cell.{CellValue, null_cell, is_null}
 use Rattle.binlog.specs.Shape.{shape, IsValue, value_end, cell_of}
-use Rattle.binlog.specs.declared.column.ColumnKind.{ColumnKind}
-use Rattle.binlog.specs.declared.column.ColumnType.{ColumnType}
+use Rattle.binlog.specs.declared.column.kind.ColumnKind.{ColumnKind}
+use Rattle.binlog.specs.declared.column.kind.ColumnType.{ColumnType}
 
 -- the kinds of types
 abbrev pub kinds : List ColumnType → List ColumnKind

@@ -4,16 +4,17 @@ use Rattle.std.specs.Prelude.{◌≡◌, ℕ, zero, suc, ◌+◌, ◌-◌, ◌<�
 use Rattle.std.specs.List.{list_all, range_with_len}
 use Rattle.byteorder.specs.Endian.{little_bytes}
 use Rattle.wire.specs.Integer.{IsLengthEncoded}
+use Rattle.binlog.specs.EventType as event_type
 use Rattle.binlog.specs.Fault.{refuse, needs, first_of, number_at}
 use Rattle.binlog.specs.Count.{count_width, count_at, no_count}
 use Rattle.binlog.specs.Cell.{CellValue}
 use Rattle.binlog.specs.Row.{bitmap_size, is_set, IsRow, row_end, ◌>>=◌, row_cells}
 use Rattle.binlog.specs.Table.{is_column_count}
-use Rattle.binlog.specs.declared.column.ColumnKind.{ColumnKind}
+use Rattle.binlog.specs.declared.column.kind.ColumnKind.{ColumnKind}
 use Rattle.binlog.specs.declared.fault.EventFault.{EventFault}
 use Rattle.binlog.specs.declared.fault.EventFaultKind.TheVariants.{Truncated, Size, Columns, Partial}
-use Rattle.binlog.specs.declared.rows_event.RowsKind.{RowsKind}
-use Rattle.binlog.specs.declared.rows_event.RowsKind.TheVariants.{Write, Update, Delete}
+use Rattle.binlog.specs.declared.body.rows_event.RowsKind.{RowsKind}
+use Rattle.binlog.specs.declared.body.rows_event.RowsKind.TheVariants.{Write, Update, Delete}
 
 -- ---- The event.
 
@@ -61,9 +62,9 @@ pub record HasRows (kind : RowsKind) (body : List ℕ) : Type 0 where
 
 -- the event's type
 abbrev pub rows_code : RowsKind → ℕ
-rows_code Write = 30
-rows_code Update = 31
-rows_code Delete = 32
+rows_code Write = event_type.write_rows
+rows_code Update = event_type.update_rows
+rows_code Delete = event_type.delete_rows
 
 -- ---- Its faults, of the whole event, whose body begins at 19.
 

@@ -3,11 +3,11 @@ use Rattle.std.specs.Prelude.{List, map, Result, Ok, Err}
 use Rattle.binlog.specs.Cell.{owned_values}
 use Rattle.binlog.specs.Rows.{RowsValue, PairValue, inserted, deleted, updated}
 use Rattle.binlog.specs.declared.fault.EventFault.{EventFault}
-use Rattle.binlog.specs.declared.rows_event.RowsEvent.{RowsEvent}
-use Rattle.binlog.specs.declared.rows.RowPair.{RowPair}
-use Rattle.binlog.specs.declared.rows.RowPair.TheVariants.{Insert, Delete, Update}
-use Rattle.binlog.specs.declared.rows_writing.OwnedPair.{OwnedPair}
-use Rattle.binlog.specs.declared.rows_writing.OwnedPair.TheVariants.{Insert as OwnInsert, Delete as OwnDelete, Update as OwnUpdate}
+use Rattle.binlog.specs.declared.body.rows_event.RowsEvent.{RowsEvent}
+use Rattle.binlog.specs.declared.row_pair.RowPair.{RowPair}
+use Rattle.binlog.specs.declared.row_pair.RowPair.TheVariants.{Insert, Delete, Update}
+use Rattle.binlog.specs.declared.row_pair.OwnedPair.{OwnedPair}
+use Rattle.binlog.specs.declared.row_pair.OwnedPair.TheVariants.{Insert as OwnInsert, Delete as OwnDelete, Update as OwnUpdate}
 
 -- what a rows event says
 abbrev pub rows_value : RowsEvent → RowsValue

@@ -6,11 +6,11 @@ use Rattle.binlog.specs.Cell.{CellValue, null_cell, number_cell, bytes_cell, is_
 use Rattle.binlog.specs.Shape.{shape}
 use Rattle.binlog.specs.Row.{bitmap_size}
 use Rattle.binlog.specs.Rows.{PairValue, inserted, deleted, updated, AreRows}
-use Rattle.binlog.specs.declared.column.ColumnKind.{ColumnKind}
-use Rattle.binlog.specs.declared.rows_event.RowsKind.{RowsKind}
-use Rattle.binlog.specs.declared.rows_event.RowsKind.TheVariants.{Write, Update, Delete}
-use Rattle.binlog.specs.declared.shape.Shape.{Shape}
-use Rattle.binlog.specs.declared.shape.Shape.TheVariants.{Number, Fixed, Prefixed}
+use Rattle.binlog.specs.declared.column.kind.ColumnKind.{ColumnKind}
+use Rattle.binlog.specs.declared.body.rows_event.RowsKind.{RowsKind}
+use Rattle.binlog.specs.declared.body.rows_event.RowsKind.TheVariants.{Write, Update, Delete}
+use Rattle.binlog.specs.declared.column.value.Shape.{Shape}
+use Rattle.binlog.specs.declared.column.value.Shape.TheVariants.{Number, Fixed, Prefixed}
 
 -- ---- The bytes.
 

@@ -7,7 +7,7 @@ use Rattle.binlog.specs.Fault.{refuse, needs, first_of}
 use Rattle.binlog.specs.Count.{count_width, count_at, no_count}
 use Rattle.binlog.specs.Column.{type_code, metadata, is_lawful, metadata_size, metadata_fault}
 use Rattle.binlog.specs.Row.{bitmap_size}
-use Rattle.binlog.specs.declared.column.ColumnKind.{ColumnKind}
+use Rattle.binlog.specs.declared.column.kind.ColumnKind.{ColumnKind}
 use Rattle.binlog.specs.declared.fault.EventFaultKind.{EventFaultKind}
 use Rattle.binlog.specs.declared.fault.EventFaultKind.TheVariants.{ColumnType as UnknownColumn, Metadata, Columns}
 use Rattle.binlog.specs.declared.fault.EventFault.{EventFault}

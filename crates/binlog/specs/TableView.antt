@@ -1,6 +1,6 @@
 -- Table maps, as the code holds them.
 use Rattle.binlog.specs.Table.{TableValue}
-use Rattle.binlog.specs.declared.table.TableMap.{TableMap}
+use Rattle.binlog.specs.declared.body.table_map.TableMap.{TableMap}
 
 -- what a table map says
 abbrev pub table_value : TableMap → TableValue

@@ -4,15 +4,16 @@ use Rattle.std.specs.Prelude.{ℕ, ◌+◌, ◌-◌, true, List, [], ◌∷◌, 
 use Rattle.std.specs.FinSet as set
 use Rattle.byteorder.specs.Endian.{little_bytes}
 use Rattle.wire.specs.Integer.{length_encoded}
+use Rattle.binlog.specs.EventType as event_type
 use Rattle.binlog.specs.Column.{type_code, metadata}
 use Rattle.binlog.specs.Body.{statement}
 use Rattle.binlog.specs.Table.{TableValue, IsTableMap}
 use Rattle.binlog.specs.Rows.{RowsValue, IsRows, rows_code, presents_size}
 use Rattle.binlog.specs.RowsWritten.{bitmap_bytes}
 use Rattle.binlog.specs.Event.{EventValue, format, begin, commit, neutral, stop, rotate, gtid, table_map, other_map, rows, xid, IsEvent}
-use Rattle.binlog.specs.declared.body.Query.TheVariants.{Begin, Commit}
-use Rattle.binlog.specs.declared.rows_event.RowsKind.{RowsKind}
-use Rattle.binlog.specs.declared.rows_event.RowsKind.TheVariants.{Write, Update, Delete}
+use Rattle.binlog.specs.declared.body.query.Query.TheVariants.{Begin, Commit}
+use Rattle.binlog.specs.declared.body.rows_event.RowsKind.{RowsKind}
+use Rattle.binlog.specs.declared.body.rows_event.RowsKind.TheVariants.{Write, Update, Delete}
 
 -- Some bytes are the event, for a reader that follows all tables.
 pub record IsWritable (e : EventValue) : Type 0 where
@@ -96,17 +97,17 @@ rows_body r =
 
 -- the type that is written; IGNORABLE for a neutral event
 abbrev pub event_code : EventValue → ℕ
-event_code format = 15
-event_code begin = 2
-event_code commit = 2
-event_code neutral = 28
-event_code stop = 3
-event_code (rotate position name) = 4
-event_code (gtid source number) = 33
-event_code (table_map t) = 19
-event_code (other_map id) = 19
+event_code format = event_type.format_description
+event_code begin = event_type.query
+event_code commit = event_type.query
+event_code neutral = event_type.ignorable
+event_code stop = event_type.stop
+event_code (rotate position name) = event_type.rotate
+event_code (gtid source number) = event_type.gtid
+event_code (table_map t) = event_type.table_map
+event_code (other_map id) = event_type.table_map
 event_code (rows r) = rows_code r.kind
-event_code (xid number) = 16
+event_code (xid number) = event_type.xid
 
 -- the body; a table map of a table that is not followed has none
 abbrev pub event_body : EventValue → List ℕ

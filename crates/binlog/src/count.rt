@@ -1,11 +1,13 @@
 //! Counts: length-encoded integers inside an event.
 
-ghost use Rattle.std.specs.Prelude.{◌≡◌, ◌+◌, ◌≤◌, length, take, drop, IfOk, IfErr, Some, None};
-ghost use Rattle.wire.specs.Integer.{IsLengthEncoded};
+ghost use Rattle.std.specs.Prelude.{◌≡◌, ◌+◌, ◌≤◌, length, take, drop, IfOk, IfErr, Some, None, ◌-◌, ◌++◌, OnOk, OnErr, Err};
+ghost use Rattle.wire.specs.Integer.{IsLengthEncoded, length_encoded};
 ghost use Rattle.binlog.specs.Count.{count_width, count_at, no_count};
+ghost use Rattle.binlog.specs.Writing.{count_bytes};
+ghost use Rattle.binlog.specs.declared.fault.EventFaultKind.TheVariants.{Memory};
 
 use crate::fault::{EventFault, EventFaultKind};
-use wire::read_int;
+use wire::{read_int, write_int};
 
 /// Reads the count at an offset: its value, and how many bytes it takes.
 ///
@@ -30,8 +32,51 @@ pub(crate) fn read_count(
         return Err(EventFault::truncated(at));
     }
     match bytes[at] {
-        0xfb => Err(EventFault { kind, at }),
-        0xff => Err(EventFault { kind, at }),
+        0xfb => Err(EventFault::new(kind, at)),
+        0xff => Err(EventFault::new(kind, at)),
         _ => Err(EventFault::truncated(at)),
     }
+}
+
+/// How many bytes the shortest count takes.
+pub(crate) fn count_width(count: usize) -> usize
+    requires { count ≤ 4096 }
+    ensures width { result ≡ length (length_encoded count) }
+    ensures bound { result ≤ 3 }
+{
+    if count <= 250 { 1 } else { 3 }
+}
+
+/// Appends a count.
+pub(crate) fn write_count(count: usize, out: &mut Vec<u8>) -> Result<(), EventFault>
+    ensures ok { OnOk result (out.new.items ≡ out.old.items ++ length_encoded count) }
+    ensures err { OnErr result (result ≡ Err (record { kind = Memory; at = 0 })) }
+    ensures kept { OnErr result (take (length out.old.items) out.new.items ≡ out.old.items) }
+{
+    match write_int(count as u64, out) {
+        Ok(()) => Ok(()),
+        Err(_) => Err(EventFault::MEMORY),
+    }
+}
+
+/// Appends a count in `width` bytes.
+pub(crate) fn write_padded_count(
+    width: usize,
+    count: usize,
+    out: &mut Vec<u8>,
+) -> Result<(), EventFault>
+    requires small { count ≤ 4096 }
+    requires fits { width ≡ 1 → count ≤ 250 }
+    ensures ok { OnOk result (out.new.items ≡ out.old.items ++ count_bytes width count) }
+    ensures err { OnErr result (result ≡ Err (record { kind = Memory; at = 0 })) }
+    ensures kept { OnErr result (take (length out.old.items) out.new.items ≡ out.old.items) }
+{
+    let [a, b, ..] = count.to_le_bytes();
+    match width {
+        1 => out.push(a)?,
+        3 => out.extend_from_slice(&[0xfc, a, b])?,
+        4 => out.extend_from_slice(&[0xfd, a, b, 0])?,
+        _ => out.extend_from_slice(&[0xfe, a, b, 0, 0, 0, 0, 0, 0])?,
+    }
+    Ok(())
 }

@@ -1,22 +1,28 @@
 //! Events. MySQL Source Documentation, "Binlog Event", the page `binary_log::Log_event_type`.
 
-ghost use Rattle.std.specs.Prelude.{◌≡◌, [], ◌∷◌, drop, IfOk, IfErr, MatchResult, Some};
+ghost use Rattle.std.specs.Prelude.{◌≡◌, [], ◌∷◌, drop, IfOk, IfErr, MatchResult, Some, ◌+◌, ◌<◌, ◌++◌, ◌↔◌, IsTrue, length, take, OnOk, OnErr, Err};
 ghost use Rattle.std.specs.FinSet as set;
 ghost use Rattle.binlog.specs.Fault.{first_of};
 ghost use Rattle.binlog.specs.Header.{IsFramed};
-ghost use Rattle.binlog.specs.Follow.{follows};
-ghost use Rattle.binlog.specs.Event.{EventValue, HasBody, IsEvent, type_fault, table_map_fault, body_fault, event_fault};
-ghost use Rattle.binlog.specs.EventView.{event_value, followed};
+ghost use Rattle.binlog.specs.Filter.{admits};
+ghost use Rattle.binlog.specs.Event.{EventValue, HasBody, IsEvent, type_fault, table_map_fault, body_fault, event_fault, gtid};
+ghost use Rattle.binlog.specs.EventView.{event_value, filter_of};
+ghost use Rattle.binlog.specs.Writing.{IsWritable, event_code, event_body, event_bytes};
+ghost use Rattle.binlog.specs.declared.fault.EventFaultKind.TheVariants.{Memory};
 
-use crate::body::{Query, read_format, read_gtid, read_query, read_rotate, read_xid};
+use crate::body::format::{read_format, write_format};
+use crate::body::gtid_event::{gtid_fits, read_gtid, write_gtid};
+use crate::body::query::{Query, read_query, write_query};
+use crate::body::rotate::{read_rotate, rotate_fits, write_rotate};
+use crate::body::rows::{read_rows, rows_event_fits, write_rows_event};
+use crate::body::rows_event::{RowsEvent, RowsKind};
+use crate::body::table_map::{TableMap, map_fits, read_names, write_table_map};
+use crate::body::xid::{read_xid, write_xid, xid_fits};
+use crate::column::list::read_columns;
+use crate::event_type;
 use crate::fault::{EventFault, EventFaultKind};
-use crate::follow::Follow;
-use crate::header::Header;
-use crate::names::read_names;
-use crate::rows_event::{RowsEvent, RowsKind};
-use crate::rows_head::read_rows;
-use crate::table::TableMap;
-use crate::table_columns::read_columns;
+use crate::filter::Follow;
+use crate::header::{Header, frame};
 use gtid::Gtid;
 
 /// An event of the binary log. It borrows from the bytes that it was read from.
@@ -62,22 +68,22 @@ pub fn read_event(bytes: &[u8]) -> Result<Event<'_>, EventFault>
 
 /// Like [`read_event`], with a list of tables: a table map of another table is not read after its names, and is
 /// answered as [`Event::OtherMap`]. An empty list means all tables.
-pub fn read_event_only<'a>(bytes: &'a [u8], follow: &Follow) -> Result<Event<'a>, EventFault>
-    ensures found { IfOk result (λ event. IsEvent follow.now (event_value event) bytes.now) }
-    ensures only { (e : EventValue) → IsEvent follow.now e bytes.now → MatchResult result (λ event. event_value event ≡ e) (λ _. ⊥) }
-    ensures fault { IfErr result (λ fault. event_fault follow.now bytes.now ≡ Some fault) }
+pub fn read_event_only<'a>(bytes: &'a [u8], filter: &Follow) -> Result<Event<'a>, EventFault>
+    ensures found { IfOk result (λ event. IsEvent filter.now (event_value event) bytes.now) }
+    ensures only { (e : EventValue) → IsEvent filter.now e bytes.now → MatchResult result (λ event. event_value event ≡ e) (λ _. ⊥) }
+    ensures fault { IfErr result (λ fault. event_fault filter.now bytes.now ≡ Some fault) }
 {
-    read(bytes, Some(follow))
+    read(bytes, Some(filter))
 }
 
-/// Reads an event. Without a list all tables are followed.
-fn read<'a>(bytes: &'a [u8], follow: Option<&Follow>) -> Result<Event<'a>, EventFault>
-    ensures found { IfOk result (λ event. IsEvent (followed follow.entry) (event_value event) bytes.now) }
-    ensures only { (e : EventValue) → IsEvent (followed follow.entry) e bytes.now → MatchResult result (λ event. event_value event ≡ e) (λ _. ⊥) }
-    ensures fault { IfErr result (λ fault. event_fault (followed follow.entry) bytes.now ≡ Some fault) }
+/// Reads an event. Without a filter all tables are followed.
+fn read<'a>(bytes: &'a [u8], filter: Option<&Follow>) -> Result<Event<'a>, EventFault>
+    ensures found { IfOk result (λ event. IsEvent (filter_of filter.entry) (event_value event) bytes.now) }
+    ensures only { (e : EventValue) → IsEvent (filter_of filter.entry) e bytes.now → MatchResult result (λ event. event_value event ≡ e) (λ _. ⊥) }
+    ensures fault { IfErr result (λ fault. event_fault (filter_of filter.entry) bytes.now ≡ Some fault) }
 {
     match Header::read(bytes) {
-        Ok(header) => read_body(header, bytes, follow),
+        Ok(header) => read_body(header, bytes, filter),
         Err(fault) => Err(fault),
     }
 }
@@ -87,49 +93,48 @@ fn read<'a>(bytes: &'a [u8], follow: Option<&Follow>) -> Result<Event<'a>, Event
 fn read_body<'a>(
     header: Header,
     bytes: &'a [u8],
-    follow: Option<&Follow>,
+    filter: Option<&Follow>,
 ) -> Result<Event<'a>, EventFault>
     requires { IsFramed header.code header.may_ignore (drop 19 bytes.now) bytes.now }
-    ensures found { IfOk result (λ event. HasBody (followed follow.entry) (event_value event) header.code header.may_ignore (drop 19 bytes.now)) }
-    ensures fault { IfErr result (λ fault. first_of (type_fault header.code header.may_ignore ∷ body_fault (followed follow.entry) header.code bytes.now ∷ []) ≡ Some fault) }
+    ensures found { IfOk result (λ event. HasBody (filter_of filter.entry) (event_value event) header.code header.may_ignore (drop 19 bytes.now)) }
+    ensures fault { IfErr result (λ fault. first_of (type_fault header.code header.may_ignore ∷ body_fault (filter_of filter.entry) header.code bytes.now ∷ []) ≡ Some fault) }
 {
     match header.code {
-        2 => match read_query(bytes)? {
+        event_type::QUERY => match read_query(bytes)? {
             Query::Begin => Ok(Event::Begin),
             Query::Commit => Ok(Event::Commit),
         },
-        3 => Ok(Event::Stop),
-        4 => {
+        event_type::STOP => Ok(Event::Stop),
+        event_type::ROTATE => {
             let (position, name) = read_rotate(bytes)?;
             Ok(Event::Rotate { position, name })
         }
-        15 => {
+        event_type::FORMAT_DESCRIPTION => {
             read_format(bytes)?;
             Ok(Event::Format)
         }
-        16 => {
+        event_type::XID => {
             let number = read_xid(bytes)?;
             Ok(Event::Xid { number })
         }
-        19 => read_map(header, bytes, follow),
-        27 | 28 | 29 | 35 => Ok(Event::Neutral),
-        30 => Ok(Event::Rows(read_rows(RowsKind::Write, bytes)?)),
-        31 => Ok(Event::Rows(read_rows(RowsKind::Update, bytes)?)),
-        32 => Ok(Event::Rows(read_rows(RowsKind::Delete, bytes)?)),
-        33 => Ok(Event::Gtid(read_gtid(bytes)?)),
-        34 => Err(EventFault {
-            kind: EventFaultKind::Anonymous,
-            at: 4,
-        }),
-        38 | 39 | 40 => Err(EventFault {
-            kind: EventFaultKind::TypeCode(header.code),
-            at: 4,
-        }),
+        event_type::TABLE_MAP => read_map(header, bytes, filter),
+        event_type::HEARTBEAT
+        | event_type::IGNORABLE
+        | event_type::ROWS_QUERY
+        | event_type::PREVIOUS_GTIDS => Ok(Event::Neutral),
+        event_type::WRITE_ROWS => Ok(Event::Rows(read_rows(RowsKind::Write, bytes)?)),
+        event_type::UPDATE_ROWS => Ok(Event::Rows(read_rows(RowsKind::Update, bytes)?)),
+        event_type::DELETE_ROWS => Ok(Event::Rows(read_rows(RowsKind::Delete, bytes)?)),
+        event_type::GTID => Ok(Event::Gtid(read_gtid(bytes)?)),
+        event_type::ANONYMOUS_GTID => Err(EventFault::new(EventFaultKind::Anonymous, 4)),
+        event_type::XA_PREPARE
+        | event_type::PARTIAL_UPDATE_ROWS
+        | event_type::TRANSACTION_PAYLOAD => Err(EventFault::new(
+            EventFaultKind::TypeCode(header.code),
+            4,
+        )),
         _ if header.may_ignore => Ok(Event::Neutral),
-        _ => Err(EventFault {
-            kind: EventFaultKind::TypeCode(header.code),
-            at: 4,
-        }),
+        _ => Err(EventFault::new(EventFaultKind::TypeCode(header.code), 4)),
     }
 }
 
@@ -138,14 +143,14 @@ fn read_body<'a>(
 fn read_map<'a>(
     header: Header,
     bytes: &'a [u8],
-    follow: Option<&Follow>,
+    filter: Option<&Follow>,
 ) -> Result<Event<'a>, EventFault>
     requires { header.code ≡ 19 }
-    ensures found { IfOk result (λ event. HasBody (followed follow.entry) (event_value event) header.code header.may_ignore (drop 19 bytes.now)) }
-    ensures fault { IfErr result (λ fault. table_map_fault (followed follow.entry) bytes.now ≡ Some fault) }
+    ensures found { IfOk result (λ event. HasBody (filter_of filter.entry) (event_value event) header.code header.may_ignore (drop 19 bytes.now)) }
+    ensures fault { IfErr result (λ fault. table_map_fault (filter_of filter.entry) bytes.now ≡ Some fault) }
 {
     let names = read_names(bytes)?;
-    if !is_followed(follow, names.schema, names.table) {
+    if !is_admitted(filter, names.schema, names.table) {
         return Ok(Event::OtherMap { id: names.id });
     }
     let columns = read_columns(bytes, names.end)?;
@@ -157,12 +162,111 @@ fn read_map<'a>(
     }))
 }
 
-/// Whether a table is followed. Without a list all tables are.
-fn is_followed(follow: Option<&Follow>, schema: &[u8], table: &[u8]) -> bool
-    ensures { result ≡ follows (followed follow.entry) schema.now table.now }
+/// Whether a filter admits a table. Without one, all tables are admitted.
+fn is_admitted(filter: Option<&Follow>, schema: &[u8], table: &[u8]) -> bool
+    ensures { result ≡ admits (filter_of filter.entry) schema.now table.now }
 {
-    match follow {
-        Some(follow) => follow.follows(schema, table),
+    match filter {
+        Some(filter) => filter.follows(schema, table),
         None => true,
+    }
+}
+
+impl Event<'_> {
+    /// Whether the event can be written, for a reader that follows all tables: its names, numbers and size fit their
+    /// fields. [`Event::OtherMap`] cannot. It takes no memory.
+    pub fn fits(&self) -> bool
+        ensures { IsTrue result ↔ IsWritable (event_value self.now) }
+    {
+        match self {
+            Event::Format => true,
+            Event::Begin => true,
+            Event::Commit => true,
+            Event::Neutral => true,
+            Event::Stop => true,
+            Event::Rotate { position, name } => rotate_fits(*position, name),
+            Event::Gtid(gtid) => gtid_fits(*gtid),
+            Event::TableMap(map) => map_fits(map),
+            Event::OtherMap { .. } => false,
+            Event::Rows(rows) => rows_event_fits(rows),
+            Event::Xid { number } => xid_fits(*number),
+        }
+    }
+
+    /// Appends the event. The fields that a reader ignores are fixed: time 0, server 1, next position 0 and no flags. A
+    /// neutral event is written as IGNORABLE without a body.
+    ///
+    /// The only error is `Memory`, which leaves the vector as it was.
+    pub fn write(&self, out: &mut Vec<u8>) -> Result<(), EventFault>
+        requires { IsWritable (event_value self.now) }
+        ensures ok { OnOk result (out.new.items ≡ out.old.items ++ event_bytes (event_value self.now)) }
+        ensures err { OnErr result ((result ≡ Err (record { kind = Memory; at = 0 })) × (out.new.items ≡ out.old.items)) }
+    {
+        let start = out.len();
+        match write_event(self, out) {
+            Ok(()) => Ok(()),
+            Err(fault) => {
+                out.truncate(start);
+                Err(fault)
+            }
+        }
+    }
+}
+
+/// Appends an event. If it fails, a part of it may have been appended.
+fn write_event(event: &Event<'_>, out: &mut Vec<u8>) -> Result<(), EventFault>
+    requires { IsWritable (event_value event.now) }
+    ensures ok { OnOk result (out.new.items ≡ out.old.items ++ event_bytes (event_value event.now)) }
+    ensures err { OnErr result (result ≡ Err (record { kind = Memory; at = 0 })) }
+    ensures kept { OnErr result (take (length out.old.items) out.new.items ≡ out.old.items) }
+{
+    let start = out.len();
+    out.extend_from_slice(&[0; 19])?;
+    let code = write_body(event, out)?;
+    frame(code, start, out);
+    Ok(())
+}
+
+/// Appends the body of an event, or a part of it, and returns the event's type.
+fn write_body(event: &Event<'_>, out: &mut Vec<u8>) -> Result<u8, EventFault>
+    requires { IsWritable (event_value event.now) }
+    ensures code { IfOk result (λ code. code ≡ event_code (event_value event.now)) }
+    ensures ok { OnOk result (out.new.items ≡ out.old.items ++ event_body (event_value event.now)) }
+    ensures err { OnErr result (result ≡ Err (record { kind = Memory; at = 0 })) }
+    ensures kept { OnErr result (take (length out.old.items) out.new.items ≡ out.old.items) }
+{
+    match event {
+        Event::Format => {
+            write_format(out)?;
+            Ok(event_type::FORMAT_DESCRIPTION)
+        }
+        Event::Begin => {
+            write_query(Query::Begin, out)?;
+            Ok(event_type::QUERY)
+        }
+        Event::Commit => {
+            write_query(Query::Commit, out)?;
+            Ok(event_type::QUERY)
+        }
+        Event::Neutral => Ok(event_type::IGNORABLE),
+        Event::Stop => Ok(event_type::STOP),
+        Event::Rotate { position, name } => {
+            write_rotate(*position, name, out)?;
+            Ok(event_type::ROTATE)
+        }
+        Event::Gtid(gtid) => {
+            write_gtid(*gtid, out)?;
+            Ok(event_type::GTID)
+        }
+        Event::TableMap(map) => {
+            write_table_map(map, out)?;
+            Ok(event_type::TABLE_MAP)
+        }
+        Event::OtherMap { .. } => Ok(event_type::TABLE_MAP),
+        Event::Rows(rows) => write_rows_event(rows, out),
+        Event::Xid { number } => {
+            write_xid(*number, out)?;
+            Ok(event_type::XID)
+        }
     }
 }

@@ -74,6 +74,13 @@ impl EventFault {
         at: 0,
     };
 
+    /// A fault of this kind at this offset.
+    pub(crate) fn new(kind: EventFaultKind, at: usize) -> EventFault
+        ensures { result ≡ record { kind = kind; at = at } }
+    {
+        EventFault { kind, at }
+    }
+
     /// The field at this offset does not fit.
     pub(crate) fn truncated(at: usize) -> EventFault
         ensures { result ≡ record { kind = Truncated; at = at } }

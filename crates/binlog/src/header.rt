@@ -1,11 +1,15 @@
 //! The header of an event. MySQL Source Documentation, "Binlog Event", the page
 //! `binary_log::Log_event_header`.
 
-ghost use Rattle.std.specs.Prelude.{◌≡◌, ℕ, Bool, List, length, drop, IfOk, IfErr, Ok, Some};
+ghost use Rattle.std.specs.Prelude.{◌≡◌, ℕ, Bool, List, length, drop, IfOk, IfErr, Ok, Some, ◌+◌, ◌<◌, ◌≤◌, ◌^◌, ◌++◌, take};
 ghost use Rattle.binlog.specs.Header.{IsFramed, header_fault};
+ghost use Rattle.binlog.specs.Writing.{header_bytes};
 
 use crate::fault::{EventFault, EventFaultKind};
 use byteorder::{ByteOrder, LittleEndian};
+
+/// The flag LOG_EVENT_IGNORABLE_F, in the low byte of the flags: of these bits it is the highest.
+const IGNORABLE: u8 = 0x80;
 
 /// The fields of a header that are read.
 #[derive(Clone, Copy, Debug, PartialEq, Eq)]
@@ -42,15 +46,41 @@ impl Header {
         }
         let size = LittleEndian::read_u32(&bytes[9..]);
         if size as usize != bytes.len() {
-            return Err(EventFault {
-                kind: EventFaultKind::Size,
-                at: 9,
-            });
+            return Err(EventFault::new(EventFaultKind::Size, 9));
         }
         Ok(Header {
             code: bytes[4],
             size,
-            may_ignore: bytes[17] >= 0x80,
+            may_ignore: bytes[17] >= IGNORABLE,
         })
     }
+}
+
+/// A header with time 0, server 1, next position 0 and no flags.
+fn header_bytes(code: u8, size: u32) -> [u8; 19]
+    ensures { result ≡ header_bytes code size }
+{
+    let [a, b, c, d] = size.to_le_bytes();
+    [0, 0, 0, 0, code, 1, 0, 0, 0, a, b, c, d, 0, 0, 0, 0, 0, 0]
+}
+
+/// Sets the header of an event whose other bytes are written.
+fn set_header(code: u8, event: &mut [u8])
+    requires whole { 19 ≤ length event.old }
+    requires size { length event.old < 2 ^ 32 }
+    ensures { event.new ≡ header_bytes code (length event.old) ++ drop 19 event.old }
+{
+    let size = event.len() as u32;
+    let (front, _) = event.split_at_mut(19);
+    front.copy_from_slice(&header_bytes(code, size));
+}
+
+/// Writes the header of the event that begins at `start`: of this type, with its body after 19 bytes of room.
+pub(crate) fn frame(code: u8, start: usize, out: &mut Vec<u8>)
+    requires whole { start + 19 ≤ length out.old.items }
+    requires size { length out.old.items < start + 2 ^ 32 }
+    ensures { out.new.items ≡ take start out.old.items ++ header_bytes code (length (drop start out.old.items)) ++ drop (start + 19) out.old.items }
+{
+    let (_, event) = out.as_mut_slice().split_at_mut(start);
+    set_header(code, event);
 }

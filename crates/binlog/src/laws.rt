@@ -12,13 +12,13 @@ ghost use Rattle.binlog.specs.Row.{IsRow, HasRow, row_end};
 ghost use Rattle.binlog.specs.Table.{IsNamed, names_fault, AreColumns, columns_fault};
 ghost use Rattle.binlog.specs.Columns.{HasNames, HasColumns};
 ghost use Rattle.binlog.specs.Rows.{RowsValue, IsRows, HasRows, rows_fault, PairValue, AreRows, EndsEarly, AreItemsAt, HasItems};
-ghost use Rattle.binlog.specs.Follow.{Names};
+ghost use Rattle.binlog.specs.Filter.{Names};
 ghost use Rattle.binlog.specs.Event.{EventValue, IsEvent, HasEvent, event_fault};
 ghost use Rattle.binlog.specs.RowsWritten.{HaveRows, rows_bytes};
 ghost use Rattle.binlog.specs.Writing.{IsWritable, event_bytes};
 ghost use Rattle.binlog.specs.declared.fault.EventFault.{EventFault};
-ghost use Rattle.binlog.specs.declared.rows_event.RowsKind.{RowsKind};
-ghost use Rattle.binlog.specs.declared.column.ColumnKind.{ColumnKind};
+ghost use Rattle.binlog.specs.declared.body.rows_event.RowsKind.{RowsKind};
+ghost use Rattle.binlog.specs.declared.column.kind.ColumnKind.{ColumnKind};
 
 /// Bytes either have a header that frames them, with one type, one flag and one body, or have a fault, and not both.
 pub fn one_header()

@@ -12,40 +12,30 @@
 //! byte lists, and [`laws`] states what follows from them.
 #![tactic(auto)]
 
+mod bitmap;
 mod body;
 mod cell;
 mod column;
-mod column_types;
 mod count;
 mod event;
+pub mod event_type;
 mod fault;
-mod follow;
-mod full_bitmap;
+mod filter;
 mod header;
 pub mod laws;
-mod map_writing;
-mod names;
 mod row;
-mod row_writing;
+mod row_pair;
 mod rows;
-mod rows_event;
-mod rows_event_writing;
-mod rows_head;
-mod rows_writing;
-mod shape;
-mod table;
-mod table_columns;
-mod writing;
 
+pub use body::rows_event::{RowsEvent, RowsKind};
+pub use body::table_map::{TableDef, TableMap};
 pub use cell::{Cell, OwnedCell};
-pub use column::{ColumnKind, ColumnType};
-pub use column_types::{ColumnTypes, ColumnTypesIter};
+pub use column::kind::{ColumnKind, ColumnType};
+pub use column::types::{ColumnTypes, ColumnTypesIter};
 pub use event::{Event, read_event, read_event_only};
 pub use fault::{EventFault, EventFaultKind};
-pub use follow::Follow;
+pub use filter::Follow;
 pub use header::Header;
 pub use row::{Cells, Row};
-pub use rows::{RowPair, Rows};
-pub use rows_event::{RowsEvent, RowsKind};
-pub use rows_writing::{OwnedPair, rows_fit, write_rows};
-pub use table::{TableDef, TableMap};
+pub use row_pair::{OwnedPair, RowPair};
+pub use rows::{Rows, rows_fit, write_rows};

@@ -1,13 +1,17 @@
 //! Rows. MySQL Source Documentation, "Binlog Event", the page `binary_log::Rows_event`.
 
-ghost use Rattle.std.specs.Prelude.{◌≡◌, ℕ, ◌≤◌, ◌++◌, List, length, take, IfOk, IfErr, MatchResult, Err};
+ghost use Rattle.std.specs.Prelude.{◌≡◌, ℕ, ◌≤◌, ◌++◌, List, length, take, IfOk, IfErr, MatchResult, Err, IsTrue, OnOk, OnErr};
 ghost use Rattle.std.specs.Iterator.{YieldsFirstBy, item_count};
-ghost use Rattle.binlog.specs.Cell.{CellValue, cell_value};
+ghost use Rattle.binlog.specs.Cell.{CellValue, cell_value, owned_values};
 ghost use Rattle.binlog.specs.Row.{kinds, is_set, IsRow, row_end};
+ghost use Rattle.binlog.specs.RowsWritten.{value_fits, row_fits, values_bytes, row_bytes};
+ghost use Rattle.binlog.specs.declared.fault.EventFaultKind.TheVariants.{Memory};
 
-use crate::cell::Cell;
-use crate::column::ColumnType;
-use crate::shape::{read_value, shape_of};
+use crate::bitmap::{is_set, write_bitmap};
+use crate::cell::{Cell, OwnedCell};
+use crate::column::kind::ColumnType;
+use crate::column::value::{read_value, shape_of, value_fits, write_value};
+use crate::fault::EventFault;
 use std::marker::Model;
 
 /// A row image. It borrows from the event's bytes and takes no memory. In contracts it is the list of its cells.
@@ -130,12 +134,50 @@ fn row_end(types: &[ColumnType], bytes: &[u8]) -> Result<usize, usize>
     Ok(place)
 }
 
-/// Bit i of a bitmap, the lowest bit of each byte first.
-pub(crate) fn is_set(bitmap: &[u8], i: usize) -> bool
-    ensures { result ≡ is_set bitmap.now i }
+/// Whether the row of the cells can be written.
+pub(crate) fn row_fits(types: &[ColumnType], cells: &[OwnedCell]) -> bool
+    ensures { result ≡ row_fits (kinds types.now) (owned_values cells.now) }
 {
-    match bitmap.get(i / 8) {
-        Some(byte) => (byte >> (i % 8)) % 2 == 1,
-        None => false,
+    if types.len() != cells.len() {
+        return false;
     }
+    for i in 0..types.len() {
+        if !value_fits(shape_of(types[i]), &cells[i]) {
+            return false;
+        }
+    }
+    true
+}
+
+/// Appends the row of the cells, or a part of it: the bitmap of the null cells, and the values of the others.
+pub(crate) fn write_row(
+    types: &[ColumnType],
+    cells: &[OwnedCell],
+    out: &mut Vec<u8>,
+) -> Result<(), EventFault>
+    requires { IsTrue (row_fits (kinds types.now) (owned_values cells.now)) }
+    ensures ok { OnOk result (out.new.items ≡ out.old.items ++ row_bytes (kinds types.now) (owned_values cells.now)) }
+    ensures err { OnErr result (result ≡ Err (record { kind = Memory; at = 0 })) }
+    ensures kept { OnErr result (take (length out.old.items) out.new.items ≡ out.old.items) }
+{
+    write_bitmap(cells, out)?;
+    write_values(types, cells, out)
+}
+
+/// Appends the values of the cells that are not null, or a part of them.
+fn write_values(
+    types: &[ColumnType],
+    cells: &[OwnedCell],
+    out: &mut Vec<u8>,
+) -> Result<(), EventFault>
+    requires as_many { length cells.now ≡ length types.now }
+    requires fit { IsTrue (row_fits (kinds types.now) (owned_values cells.now)) }
+    ensures ok { OnOk result (out.new.items ≡ out.old.items ++ values_bytes (kinds types.now) (owned_values cells.now)) }
+    ensures err { OnErr result (result ≡ Err (record { kind = Memory; at = 0 })) }
+    ensures kept { OnErr result (take (length out.old.items) out.new.items ≡ out.old.items) }
+{
+    for i in 0..types.len() {
+        write_value(shape_of(types[i]), &cells[i], out)?;
+    }
+    Ok(())
 }

@@ -1,21 +1,17 @@
 //! The rows of a rows event. MySQL Source Documentation, "Binlog Event", the page `binary_log::Rows_event`.
 
-ghost use Rattle.std.specs.Prelude.{◌+◌, ◌<◌, ◌≤◌, ◌^◌, length};
+ghost use Rattle.std.specs.Prelude.{◌+◌, ◌<◌, ◌≤◌, ◌^◌, length, ◌≡◌, ◌++◌, ◌↔◌, take, IsTrue, OnOk, OnErr, Err};
+ghost use Rattle.binlog.specs.Row.{kinds};
+ghost use Rattle.binlog.specs.RowsView.{owned_pairs};
+ghost use Rattle.binlog.specs.RowsWritten.{HaveRows, rows_bytes, pair_fits, pairs_fit};
+ghost use Rattle.binlog.specs.declared.fault.EventFaultKind.TheVariants.{Memory};
 
-use crate::column::ColumnType;
+use crate::body::rows_event::{RowsEvent, RowsKind};
+use crate::body::table_map::TableDef;
+use crate::column::kind::ColumnType;
 use crate::fault::{EventFault, EventFaultKind};
-use crate::row::Row;
-use crate::rows_event::{RowsEvent, RowsKind};
-use crate::table::TableDef;
+use crate::row_pair::{OwnedPair, RowPair, pair_fits, write_pair};
 use std::marker::Model;
-
-/// One row change: the row before it, the row after it, or both.
-#[derive(Debug, Drop)]
-pub enum RowPair<'a> {
-    Insert { after: Row<'a> },
-    Delete { before: Row<'a> },
-    Update { before: Row<'a>, after: Row<'a> },
-}
 
 /// An iterator over the rows of an event. The last item may be a fault. It takes no memory. In contracts it is the list
 /// of the items that are still to come.
@@ -72,10 +68,7 @@ impl<'a> RowsEvent<'a> {
         ensures items { IfOk result (AreItems (rows_value self.now) (kinds types.now)) }
     {
         if types.len() != self.columns {
-            return Err(EventFault {
-                kind: EventFaultKind::Columns,
-                at: self.columns_at,
-            });
+            return Err(EventFault::new(EventFaultKind::Columns, self.columns_at));
         }
         Ok(Rows::new(self.kind, types, self.bytes, self.bytes_at))
     }
@@ -129,34 +122,57 @@ impl<'a> Iterator for Rows<'a> {
     }
 }
 
-impl<'a> RowPair<'a> {
-    ghost use Rattle.std.specs.Prelude.{◌≡◌, ◌<◌, ◌≤◌, ◌^◌, length, IfOk, IfErr, Ok, Err};
-    ghost use Rattle.binlog.specs.Row.{kinds};
-    ghost use Rattle.binlog.specs.Rows.{pair_of, pair_end};
-    ghost use Rattle.binlog.specs.RowsView.{pair_value};
-
-    /// Reads the pair at the front of the bytes: the pair, and how many bytes it takes. If a part of it does not fit,
-    /// the error is the offset of that part.
-    fn read(
-        kind: RowsKind,
-        types: &'a [ColumnType],
-        bytes: &'a [u8],
-    ) -> Result<(RowPair<'a>, usize), usize>
-        requires { length bytes.now < 2 ^ 32 }
-        ensures pair { IfOk result (λ read. pair_value read.0 ≡ pair_of kind (kinds types.now) bytes.now) }
-        ensures end { IfOk result (λ read. pair_end kind (kinds types.now) bytes.now ≡ Ok read.1) }
-        ensures within { IfOk result (λ read. read.1 ≤ length bytes.now) }
-        ensures fault { IfErr result (λ place. pair_end kind (kinds types.now) bytes.now ≡ Err place) }
-        ensures fault_within { IfErr result (λ place. place ≤ length bytes.now) }
-    {
-        let (row, size) = Row::read(types, bytes)?;
-        match kind {
-            RowsKind::Write => Ok((RowPair::Insert { after: row }, size)),
-            RowsKind::Delete => Ok((RowPair::Delete { before: row }, size)),
-            RowsKind::Update => match Row::read(types, &bytes[size..]) {
-                Ok((after, rest)) => Ok((RowPair::Update { before: row, after }, size + rest)),
-                Err(place) => Err(size + place),
-            },
+/// Whether the pairs can be written: each pair is of the event's kind, each row has a cell for each column, and each
+/// cell is null or has the size of its column. It takes no memory.
+pub fn rows_fit(kind: RowsKind, types: &[ColumnType], pairs: &[OwnedPair]) -> bool
+    ensures { IsTrue result ↔ HaveRows kind (kinds types.now) (owned_pairs pairs.now) }
+{
+    for i in 0..pairs.len() {
+        if !pair_fits(kind, types, &pairs[i]) {
+            return false;
         }
     }
+    true
+}
+
+/// Appends the rows of the pairs, one after the other: for each row the bitmap of its null cells, the lowest bit first,
+/// and the values of the others. The unused bits of a bitmap are 0.
+///
+/// The only error is `Memory`, which leaves the vector as it was.
+pub fn write_rows(
+    kind: RowsKind,
+    types: &[ColumnType],
+    pairs: &[OwnedPair],
+    out: &mut Vec<u8>,
+) -> Result<(), EventFault>
+    requires { HaveRows kind (kinds types.now) (owned_pairs pairs.now) }
+    ensures ok { OnOk result (out.new.items ≡ out.old.items ++ rows_bytes (kinds types.now) (owned_pairs pairs.now)) }
+    ensures err { OnErr result ((result ≡ Err (record { kind = Memory; at = 0 })) × (out.new.items ≡ out.old.items)) }
+{
+    let start = out.len();
+    match write_pairs(kind, types, pairs, out) {
+        Ok(()) => Ok(()),
+        Err(fault) => {
+            out.truncate(start);
+            Err(fault)
+        }
+    }
+}
+
+/// Appends the rows of the pairs. If it fails, a part of them may have been appended.
+fn write_pairs(
+    kind: RowsKind,
+    types: &[ColumnType],
+    pairs: &[OwnedPair],
+    out: &mut Vec<u8>,
+) -> Result<(), EventFault>
+    requires { IsTrue (pairs_fit kind (kinds types.now) (owned_pairs pairs.now)) }
+    ensures ok { OnOk result (out.new.items ≡ out.old.items ++ rows_bytes (kinds types.now) (owned_pairs pairs.now)) }
+    ensures err { OnErr result (result ≡ Err (record { kind = Memory; at = 0 })) }
+    ensures kept { OnErr result (take (length out.old.items) out.new.items ≡ out.old.items) }
+{
+    for pair in pairs {
+        write_pair(kind, types, pair, out)?;
+    }
+    Ok(())
 }

@@ -1,0 +1,35 @@
+use Rattle.std.proofs.Common.{◌++◌, ◌∙◌, subst, sym, ap, take, length}
+use Rattle.std.specs.Prelude.{IsTrue}
+use Rattle.std.proofs.lemmas.List.{append_assoc}
+use Rattle.byteorder.specs.Endian.{little_bytes}
+use Rattle.binlog.specs.Cell.{bytes_cell, owned_value}
+use Rattle.binlog.specs.Shape.{is_readable}
+use Rattle.binlog.specs.RowsWritten.{value_bytes, value_fits}
+use Rattle.binlog.proofs.RowWriting.{low_bytes, number_bytes, prefix_short}
+use Rattle.binlog.proofs.column.value.write_value.Goals as goal
+
+pub returns-in_ok-extend_from_slice-in-Number-clause-ok :
+    goal.returns-in_ok-extend_from_slice-in-Number-clause-ok
+returns-in_ok-extend_from_slice-in-Number-clause-ok c =
+    let cell = ap owned_value c.in-Number.is in
+    c.in_ok-extend_from_slice-in-Number.ensures.items
+    ∙ ap (λ xs. c.args.out.now.items ++ take c.in-Number.width xs) c.to_le_bytes.ensures
+    ∙ ap (λ xs. c.args.out.now.items ++ xs) (number_bytes c.args.shape c.in-Number.value c.in-Number.width c.requires.readable (ap (value_fits c.args.shape) (sym cell) ∙ c.requires.fits))
+    ∙ ap (λ v. c.args.out.now.items ++ value_bytes c.args.shape v) (sym cell)
+
+pub returns-in_ok-extend_from_slice-in-Prefixed-2-clause-ok :
+    goal.returns-in_ok-extend_from_slice-in-Prefixed-2-clause-ok
+returns-in_ok-extend_from_slice-in-Prefixed-2-clause-ok c =
+    let old = c.args.out.now.items in
+    let size = c.in-Prefixed.size in
+    let value = c.in-Bytes.bytes.items in
+    let readable = subst (λ s. IsTrue (is_readable s)) c.in-Prefixed.is c.requires.readable in
+    c.in_ok-extend_from_slice-in-Prefixed-2.ensures.items
+    ∙ ap (λ xs. xs ++ c.deref.result.now) c.in_ok-extend_from_slice-in-Prefixed.ensures.items
+    ∙ ap (λ xs. (old ++ take size xs) ++ c.deref.result.now) c.to_le_bytes-in-Prefixed.ensures
+    ∙ ap (λ n. (old ++ take size (little_bytes 8 n)) ++ c.deref.result.now) (c.len.ensures ∙ sym c.deref.ensures.len ∙ ap length c.deref.ensures.value)
+    ∙ ap (λ xs. (old ++ take size (little_bytes 8 (length value))) ++ xs) c.deref.ensures.value
+    ∙ ap (λ xs. (old ++ xs) ++ value) (low_bytes size (length value) (prefix_short size readable))
+    ∙ append_assoc old (little_bytes size (length value)) value
+    ∙ ap (λ s. old ++ value_bytes s (bytes_cell value)) (sym c.in-Prefixed.is)
+    ∙ ap (λ v. old ++ value_bytes c.args.shape v) (sym (ap owned_value c.in-Bytes.is))

@@ -1,6 +1,0 @@
-use Rattle.std.proofs.Common.{◌≡◌, ◌++◌}
-use Rattle.binlog.specs.Row.{kinds}
-use Rattle.binlog.proofs.column_types.ColumnTypes.to_vec.Given as goal
-
-abbrev pub invariant-loop-column : goal.invariant-loop-column
-invariant-loop-column l = kinds l.types.items ++ l.column-iterator ≡ l.self

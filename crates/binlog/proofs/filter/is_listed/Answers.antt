@@ -1,0 +1,11 @@
+use Rattle.std.proofs.Common.{rules, ◌∙◌}
+use Rattle.std.proofs.lemmas.Fn.{always_returns_same}
+use Rattle.binlog.specs.Filter.{Name}
+use Rattle.binlog.proofs.NamesFound.{compares, searched}
+use Rattle.binlog.proofs.filter.is_listed.Goals as goal
+
+pub returns : goal.returns
+returns c =
+    let q : Name = (c.args.schema.now, c.args.table.now) in
+    c.is_ok.ensures.value
+    ∙ searched q c.args.names.now c.binary_search_by.result c.requires c.binary_search_by.ensures.bound (c.binary_search_by.ensures.position (compares q) (always_returns_same _ _ _ (λ a r f k. search rules)))

@@ -1,5 +1,0 @@
-use Rattle.binlog.proofs.NamesOnce.{none_rise}
-use Rattle.binlog.proofs.follow.Follow.all.Goals as goal
-
-pub invariant_of-result : goal.invariant_of-result
-invariant_of-result c = none_rise c.new.result.items c.new.ensures.items

@@ -1,7 +1,0 @@
-use Rattle.std.proofs.Common.{take}
-use Rattle.binlog.specs.Follow.{AreAmong}
-use Rattle.binlog.specs.FollowView.{names_of}
-use Rattle.binlog.proofs.follow.are_among.Given as goal
-
-abbrev pub invariant-loop-name : goal.invariant-loop-name
-invariant-loop-name l = AreAmong (names_of (take l.name-index l.names)) (names_of l.of)

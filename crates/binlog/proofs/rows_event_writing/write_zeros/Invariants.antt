@@ -1,6 +1,0 @@
-use Rattle.std.proofs.Common.{◌-◌, replicate}
-use Rattle.binlog.proofs.Kept.{Writes}
-use Rattle.binlog.proofs.rows_event_writing.write_zeros.Given as goal
-
-abbrev pub invariant-loop : goal.invariant-loop
-invariant-loop l = Writes l.fn.out.items l.out.items (replicate (l.n - l.counter) 0) (replicate l.n 0)

@@ -1,8 +1,0 @@
-use Rattle.std.proofs.Common.{◌≡◌, drop}
-use Rattle.binlog.specs.Cell.{owned_values}
-use Rattle.binlog.specs.Row.{kinds}
-use Rattle.binlog.specs.RowsWritten.{row_fits}
-use Rattle.binlog.proofs.rows_writing.row_fits.Given as goal
-
-abbrev pub invariant-loop-i : goal.invariant-loop-i
-invariant-loop-i l = row_fits (kinds l.types) (owned_values l.cells) ≡ row_fits (drop l.i (kinds l.types)) (drop l.i (owned_values l.cells))

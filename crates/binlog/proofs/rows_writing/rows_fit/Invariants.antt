@@ -1,8 +1,0 @@
-use Rattle.std.proofs.Common.{◌≡◌, drop}
-use Rattle.binlog.specs.Row.{kinds}
-use Rattle.binlog.specs.RowsView.{owned_pairs}
-use Rattle.binlog.specs.RowsWritten.{pairs_fit}
-use Rattle.binlog.proofs.rows_writing.rows_fit.Given as goal
-
-abbrev pub invariant-loop-i : goal.invariant-loop-i
-invariant-loop-i l = pairs_fit l.kind (kinds l.types) (owned_pairs l.pairs) ≡ pairs_fit l.kind (kinds l.types) (drop l.i (owned_pairs l.pairs))

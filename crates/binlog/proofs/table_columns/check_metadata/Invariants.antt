@@ -1,5 +1,0 @@
-use Rattle.binlog.proofs.TableColumns.{Checked}
-use Rattle.binlog.proofs.table_columns.check_metadata.Given as goal
-
-abbrev pub invariant-loop-i : goal.invariant-loop-i
-invariant-loop-i l = Checked l.bytes l.codes l.start l.i l.place

@@ -1,6 +1,0 @@
-use Rattle.std.proofs.Common.{refl, arith}
-use Rattle.binlog.proofs.Written.{writes_xid}
-use Rattle.binlog.proofs.writing.xid_fits.Goals as goal
-
-pub returns : goal.returns
-returns c = ((λ _. writes_xid c.args.number (omega arith)), (λ _. refl))

@@ -1,6 +1,0 @@
--- The names of a list of tables.
-use Rattle.std.specs.Prelude.{ℕ, List, map, Vec}
-use Rattle.binlog.specs.Follow.{Name}
-
-abbrev pub names_of : {A : Type 0} → List (Vec ℕ A × Vec ℕ A) → List Name
-names_of pairs = map (λ p. (p.0.items, p.1.items)) pairs

@@ -1,0 +1,54 @@
+//! GTID: the GTID of the transaction that begins. MySQL Source Documentation, "Binlog Event", the page
+//! `binary_log::Gtid_event`.
+
+ghost use Rattle.std.specs.Prelude.{◌≡◌, ℕ, List, drop, IfOk, IfErr, Ok, Some, None, ◌↔◌, IsTrue, ◌++◌, length, take, OnOk, OnErr, Err};
+ghost use Rattle.binlog.specs.Body.{IsGtid, gtid_fault};
+ghost use Rattle.binlog.specs.Event.{gtid};
+ghost use Rattle.binlog.specs.Writing.{IsWritable};
+ghost use Rattle.binlog.specs.Writing.{gtid_body};
+ghost use Rattle.binlog.specs.declared.fault.EventFaultKind.TheVariants.{Memory};
+
+use crate::fault::{EventFault, EventFaultKind};
+use byteorder::{ByteOrder, LittleEndian};
+use gtid::Gtid;
+
+/// Reads the GTID of a GTID event.
+#[tactic(auto, unfolding(crate::specs::Body::gtid_fault))]
+pub(crate) fn read_gtid(bytes: &[u8]) -> Result<Gtid, EventFault>
+    ensures found { IfOk result (λ gtid. IsGtid gtid.source gtid.number (drop 19 bytes.now)) }
+    ensures only { (source : List ℕ) (number : ℕ) → IsGtid source number (drop 19 bytes.now) → IfOk result (λ gtid. (gtid.source ≡ source) × (gtid.number ≡ number)) }
+    ensures fault { IfErr result (λ fault. gtid_fault bytes.now ≡ Some fault) }
+{
+    match bytes.len() {
+        0..20 => return Err(EventFault::truncated(19)),
+        20..36 => return Err(EventFault::truncated(20)),
+        36..44 => return Err(EventFault::truncated(36)),
+        _ => {}
+    }
+    let mut source = [0; 16];
+    source.copy_from_slice(&bytes[20..36]);
+    let number = LittleEndian::read_u64(&bytes[36..]);
+    match Gtid::new(source, number) {
+        Some(gtid) => Ok(gtid),
+        None => Err(EventFault::new(EventFaultKind::Number, 36)),
+    }
+}
+
+/// Whether a GTID can be written: every GTID can.
+pub(crate) fn gtid_fits(id: Gtid) -> bool
+    ensures { IsTrue result ↔ IsWritable (gtid id.source id.number) }
+{
+    true
+}
+
+/// Appends the body of a GTID event, or a part of it.
+pub(crate) fn write_gtid(id: Gtid, out: &mut Vec<u8>) -> Result<(), EventFault>
+    ensures ok { OnOk result (out.new.items ≡ out.old.items ++ gtid_body id.source id.number) }
+    ensures err { OnErr result (result ≡ Err (record { kind = Memory; at = 0 })) }
+    ensures kept { OnErr result (take (length out.old.items) out.new.items ≡ out.old.items) }
+{
+    out.push(0)?;
+    out.extend_from_slice(&id.source)?;
+    out.extend_from_slice(&id.number.to_le_bytes())?;
+    Ok(())
+}

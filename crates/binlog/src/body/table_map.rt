@@ -1,0 +1,183 @@
+//! TABLE_MAP: which table the following rows events mean by a number. MySQL Source Documentation, "Binlog Event", the
+//! page `binary_log::Table_map_event`.
+
+ghost use Rattle.std.specs.Prelude.{◌≡◌, IfOk, OnErr, Err, ℕ, ◌+◌, ◌≤◌, List, length, drop, IfErr, MatchResult, Some, None, ◌++◌, ◌↔◌, take, map, OnOk, IsTrue};
+ghost use Rattle.binlog.specs.Row.{kinds};
+ghost use Rattle.binlog.specs.declared.fault.EventFaultKind.TheVariants.{Memory};
+ghost use Rattle.binlog.specs.Fault.{number_at};
+ghost use Rattle.binlog.specs.Table.{IsNamed, terminator_place, schema_of, table_of, names_fault};
+ghost use Rattle.binlog.specs.TableView.{table_value};
+ghost use Rattle.binlog.specs.Writing.{HasMap, names_bytes, table_map_body};
+
+use crate::bitmap::write_full_bitmap;
+use crate::column::kind::ColumnType;
+use crate::column::list::{metadata_length, write_all_metadata, write_codes};
+use crate::column::types::ColumnTypes;
+use crate::count::write_count;
+use crate::fault::EventFault;
+use byteorder::{ByteOrder, LittleEndian};
+use std::alloc::Global;
+
+/// A table map: which table the following rows events mean by a number. It borrows from the event's bytes.
+#[derive(Debug, Drop)]
+pub struct TableMap<'a> {
+    /// The number that rows events use for the table.
+    pub id: u64,
+    pub schema: &'a [u8],
+    pub table: &'a [u8],
+    pub columns: ColumnTypes<'a>,
+}
+
+/// A table's names and the types of its columns.
+#[derive(Debug, Drop)]
+pub struct TableDef {
+    pub schema: Vec<u8>,
+    pub table: Vec<u8>,
+    pub types: Vec<ColumnType>,
+}
+
+impl TableDef {
+    /// A table with these names and columns.
+    pub fn new(schema: Vec<u8>, table: Vec<u8>, types: Vec<ColumnType>) -> TableDef
+        ensures { result ≡ record { schema = schema; table = table; types = types } }
+    {
+        TableDef {
+            schema,
+            table,
+            types,
+        }
+    }
+
+    /// The table map that gives the table this number.
+    pub fn map(&self, id: u64) -> TableMap<'_>
+        ensures id { result.id ≡ id }
+        ensures schema { result.schema.now ≡ self.now.schema.items }
+        ensures table { result.table.now ≡ self.now.table.items }
+        ensures columns { result.columns ≡ kinds self.now.types.items }
+    {
+        TableMap {
+            id,
+            schema: &self.schema,
+            table: &self.table,
+            columns: ColumnTypes::of(&self.types),
+        }
+    }
+}
+
+impl TableMap<'_> {
+    /// Copies the names and the column types, so that they outlive the event. The only error is `Memory`.
+    pub fn copy(&self, alloc: Global) -> Result<TableDef, EventFault>
+        ensures ok { IfOk result (λ copied. (copied.schema.items ≡ self.now.schema.now) × (copied.table.items ≡ self.now.table.now) × (kinds copied.types.items ≡ self.now.columns)) }
+        ensures err { OnErr result (result ≡ Err (record { kind = Memory; at = 0 })) }
+    {
+        Ok(TableDef {
+            schema: Vec::from_slice(alloc, self.schema)?,
+            table: Vec::from_slice(alloc, self.table)?,
+            types: self.columns.to_vec(alloc)?,
+        })
+    }
+}
+
+/// The part of a table map before the columns.
+#[derive(Clone, Copy, Debug)]
+pub(crate) struct Names<'a> {
+    pub(crate) id: u64,
+    pub(crate) schema: &'a [u8],
+    pub(crate) table: &'a [u8],
+    /// The offset in the event at which the columns begin.
+    pub(crate) end: usize,
+}
+
+/// Reads a table map's number and names, from an event whose header was read.
+///
+/// A field that does not fit is `Truncated` at its first byte. Nothing after the names is read.
+#[tactic(auto, unfolding(crate::specs::Table::names_fault))]
+pub(crate) fn read_names(bytes: &[u8]) -> Result<Names<'_>, EventFault>
+    ensures found { IfOk result (λ names. IsNamed names.id names.schema.now names.table.now (drop names.end bytes.now) (drop 19 bytes.now)) }
+    ensures within { IfOk result (λ names. names.end ≤ length bytes.now) }
+    ensures place { IfOk result (λ names. names.end ≡ terminator_place bytes.now + 1) }
+    ensures values { IfOk result (λ names. (names.id ≡ number_at 6 bytes.now 19) × (names.schema.now ≡ schema_of bytes.now) × (names.table.now ≡ table_of bytes.now)) }
+    ensures only { (id : ℕ) (schema table rest : List ℕ) → IsNamed id schema table rest (drop 19 bytes.now) → MatchResult result (λ names. (names.id ≡ id) × (names.schema.now ≡ schema) × (names.table.now ≡ table) × (drop names.end bytes.now ≡ rest)) (λ _. ⊥) }
+    ensures fault { IfErr result (λ fault. names_fault bytes.now ≡ Some fault) }
+    ensures none { IfOk result (λ _. names_fault bytes.now ≡ None) }
+{
+    match bytes.len() {
+        0..25 => return Err(EventFault::truncated(19)),
+        25..27 => return Err(EventFault::truncated(25)),
+        27 => return Err(EventFault::truncated(27)),
+        _ => {}
+    }
+    let terminator = 28 + usize::from(bytes[27]);
+    if bytes.len() < terminator {
+        return Err(EventFault::truncated(28));
+    }
+    if bytes.len() == terminator {
+        return Err(EventFault::truncated(terminator));
+    }
+    if bytes.len() == terminator + 1 {
+        return Err(EventFault::truncated(terminator + 1));
+    }
+    let table = terminator + 2;
+    let end = table + usize::from(bytes[terminator + 1]);
+    if bytes.len() < end {
+        return Err(EventFault::truncated(table));
+    }
+    if bytes.len() == end {
+        return Err(EventFault::truncated(end));
+    }
+    Ok(Names {
+        id: LittleEndian::read_u48(&bytes[19..]),
+        schema: &bytes[28..terminator],
+        table: &bytes[table..end],
+        end: end + 1,
+    })
+}
+
+/// Whether a table map can be written: its number is below 2^48, its names have at most 255 bytes, and it has 1 to
+/// 4,096 columns.
+pub(crate) fn map_fits(map: &TableMap<'_>) -> bool
+    ensures { IsTrue result ↔ HasMap (table_value map.now) }
+{
+    if map.id >= 1 << 48 {
+        return false;
+    }
+    if map.schema.len() > 255 {
+        return false;
+    }
+    if map.table.len() > 255 {
+        return false;
+    }
+    matches!(map.columns.len(), 1..=4096)
+}
+
+/// Appends the body of a table map, or a part of it. All columns may be null, and no flags are set.
+pub(crate) fn write_table_map(map: &TableMap<'_>, out: &mut Vec<u8>) -> Result<(), EventFault>
+    requires { HasMap (table_value map.now) }
+    ensures ok { OnOk result (out.new.items ≡ out.old.items ++ table_map_body (table_value map.now)) }
+    ensures err { OnErr result (result ≡ Err (record { kind = Memory; at = 0 })) }
+    ensures kept { OnErr result (take (length out.old.items) out.new.items ≡ out.old.items) }
+{
+    write_names(map, out)?;
+    write_count(map.columns.len(), out)?;
+    write_codes(&map.columns, out)?;
+    write_count(metadata_length(&map.columns), out)?;
+    write_all_metadata(&map.columns, out)?;
+    write_full_bitmap(map.columns.len(), out)?;
+    Ok(())
+}
+
+/// Appends a table's number, its flags and its names, or a part of these.
+fn write_names(map: &TableMap<'_>, out: &mut Vec<u8>) -> Result<(), EventFault>
+    requires { HasMap (table_value map.now) }
+    ensures ok { OnOk result (out.new.items ≡ out.old.items ++ names_bytes (table_value map.now)) }
+    ensures err { OnErr result (result ≡ Err (record { kind = Memory; at = 0 })) }
+    ensures kept { OnErr result (take (length out.old.items) out.new.items ≡ out.old.items) }
+{
+    let [a, b, c, d, e, f, ..] = map.id.to_le_bytes();
+    out.extend_from_slice(&[a, b, c, d, e, f, 0, 0, map.schema.len() as u8])?;
+    out.extend_from_slice(map.schema)?;
+    out.extend_from_slice(&[0, map.table.len() as u8])?;
+    out.extend_from_slice(map.table)?;
+    out.push(0)?;
+    Ok(())
+}

@@ -1,0 +1,195 @@
+//! How values are stored in a row. MySQL Source Documentation, "Binlog Event", the page `binary_log::Rows_event`.
+
+ghost use Rattle.std.specs.Prelude.{◌≡◌, ◌≤◌, length, IfOk, IfErr, Ok, Err, IsTrue, ◌<◌, ◌^◌, nat_lt, ◌*◌, ◌++◌, take, OnOk, OnErr};
+ghost use Rattle.binlog.specs.Cell.{cell_value, owned_value};
+ghost use Rattle.binlog.specs.Shape.{shape, digits_size, prefix_of, is_readable, value_end, cell_of};
+ghost use Rattle.binlog.specs.RowsWritten.{value_fits, value_bytes};
+ghost use Rattle.binlog.specs.declared.fault.EventFaultKind.TheVariants.{Memory};
+
+use crate::cell::{Cell, OwnedCell};
+use crate::column::kind::{ColumnKind, ColumnType};
+use crate::fault::EventFault;
+use byteorder::{ByteOrder, LittleEndian};
+
+/// How the value of a column is stored in a row.
+#[derive(Clone, Copy, Debug, PartialEq, Eq)]
+pub(crate) enum Shape {
+    /// A number of `width` bytes.
+    Number { width: u8 },
+    /// `size` bytes.
+    Fixed { size: usize },
+    /// A length of `size` bytes, and then that many bytes.
+    Prefixed { size: usize },
+}
+
+/// The shape of a type's values.
+pub(crate) fn shape_of(column: ColumnType) -> Shape
+    ensures shape { result ≡ shape column.kind }
+    ensures readable { IsTrue (is_readable result) }
+{
+    match column.kind {
+        ColumnKind::Tiny => Shape::Number { width: 1 },
+        ColumnKind::Short => Shape::Number { width: 2 },
+        ColumnKind::Int24 => Shape::Number { width: 3 },
+        ColumnKind::Long => Shape::Number { width: 4 },
+        ColumnKind::LongLong => Shape::Number { width: 8 },
+        ColumnKind::Enum { width } => Shape::Number { width },
+        ColumnKind::Set { width } => Shape::Number { width },
+        ColumnKind::Varchar { maximum } => Shape::Prefixed {
+            size: prefix_of(maximum),
+        },
+        ColumnKind::Char { maximum } => Shape::Prefixed {
+            size: prefix_of(maximum),
+        },
+        ColumnKind::Blob { prefix } => Shape::Prefixed {
+            size: prefix as usize,
+        },
+        ColumnKind::Bit { bits } => Shape::Fixed {
+            size: (bits as usize + 7) / 8,
+        },
+        ColumnKind::NewDecimal { precision, scale } => Shape::Fixed {
+            size: digits_size(precision - scale) + digits_size(scale),
+        },
+        ColumnKind::Float => Shape::Fixed { size: 4 },
+        ColumnKind::Double => Shape::Fixed { size: 8 },
+        ColumnKind::Date => Shape::Fixed { size: 3 },
+        ColumnKind::Year => Shape::Fixed { size: 1 },
+        ColumnKind::Timestamp2 { fraction } => Shape::Fixed {
+            size: 4 + (fraction as usize + 1) / 2,
+        },
+        ColumnKind::Datetime2 { fraction } => Shape::Fixed {
+            size: 5 + (fraction as usize + 1) / 2,
+        },
+        ColumnKind::Time2 { fraction } => Shape::Fixed {
+            size: 3 + (fraction as usize + 1) / 2,
+        },
+    }
+}
+
+/// How many bytes the length takes in front of a text of at most `maximum` bytes.
+fn prefix_of(maximum: u16) -> usize
+    ensures { result ≡ prefix_of maximum }
+{
+    if maximum < 256 { 1 } else { 2 }
+}
+
+/// How many bytes this many decimal digits take.
+fn digits_size(digits: u8) -> usize
+    ensures { result ≡ digits_size digits }
+{
+    let digits = digits as usize;
+    4 * (digits / 9) + (digits % 9 + 1) / 2
+}
+
+/// Reads the value at the front of the bytes: its cell, and how many bytes it takes. If its length or its bytes do not
+/// fit, the error is the offset of that part.
+#[inline]
+pub(crate) fn read_value(shape: Shape, bytes: &[u8]) -> Result<(Cell<'_>, usize), usize>
+    requires { IsTrue (is_readable shape) }
+    ensures cell { IfOk result (λ read. cell_value read.0 ≡ cell_of shape bytes.now) }
+    ensures end { IfOk result (λ read. value_end shape bytes.now ≡ Ok read.1) }
+    ensures within { IfOk result (λ read. read.1 ≤ length bytes.now) }
+    ensures fault { IfErr result (λ place. value_end shape bytes.now ≡ Err place) }
+    ensures fault_within { IfErr result (λ place. place ≤ length bytes.now) }
+{
+    match shape {
+        Shape::Number { width } => {
+            let size = width as usize;
+            if bytes.len() < size {
+                return Err(0);
+            }
+            let value = LittleEndian::read_uint(bytes, size);
+            Ok((Cell::Number { value, width }, size))
+        }
+        Shape::Fixed { size } => {
+            if bytes.len() < size {
+                return Err(0);
+            }
+            Ok((Cell::Bytes(&bytes[..size]), size))
+        }
+        Shape::Prefixed { size } => {
+            if bytes.len() < size {
+                return Err(0);
+            }
+            let length = LittleEndian::read_uint(bytes, size) as usize;
+            if bytes.len() - size < length {
+                return Err(size);
+            }
+            Ok((Cell::Bytes(&bytes[size..size + length]), size + length))
+        }
+    }
+}
+
+/// Whether the cell is null, or has a value of this shape.
+pub(crate) fn value_fits(shape: Shape, cell: &OwnedCell) -> bool
+    requires { IsTrue (is_readable shape) }
+    ensures { result ≡ value_fits shape (owned_value cell.now) }
+{
+    match cell {
+        OwnedCell::Null => true,
+        OwnedCell::Number { value, width } => match shape {
+            Shape::Number { width: size } => {
+                if *width != size {
+                    return false;
+                }
+                is_below(*value, size as usize)
+            }
+            _ => false,
+        },
+        OwnedCell::Bytes(bytes) => match shape {
+            Shape::Number { .. } => false,
+            Shape::Fixed { size } => bytes.len() == size,
+            Shape::Prefixed { size } => is_below(bytes.len() as u64, size),
+        },
+    }
+}
+
+/// Whether a number can be written in `size` bytes.
+fn is_below(value: u64, size: usize) -> bool
+    requires low { 1 ≤ size }
+    requires high { size ≤ 8 }
+    ensures { result ≡ nat_lt value (256 ^ size) }
+{
+    match size {
+        1 => value < 0x100,
+        2 => value < 0x1_0000,
+        3 => value < 0x100_0000,
+        4 => value < 0x1_0000_0000,
+        5 => value < 0x100_0000_0000,
+        6 => value < 0x1_0000_0000_0000,
+        7 => value < 0x100_0000_0000_0000,
+        _ => true,
+    }
+}
+
+/// Appends the value of a cell, or a part of it; nothing if the cell is null.
+pub(crate) fn write_value(
+    shape: Shape,
+    cell: &OwnedCell,
+    out: &mut Vec<u8>,
+) -> Result<(), EventFault>
+    requires readable { IsTrue (is_readable shape) }
+    requires fits { IsTrue (value_fits shape (owned_value cell.now)) }
+    ensures ok { OnOk result (out.new.items ≡ out.old.items ++ value_bytes shape (owned_value cell.now)) }
+    ensures err { OnErr result (result ≡ Err (record { kind = Memory; at = 0 })) }
+    ensures kept { OnErr result (take (length out.old.items) out.new.items ≡ out.old.items) }
+{
+    match cell {
+        OwnedCell::Null => Ok(()),
+        OwnedCell::Number { value, width } => {
+            out.extend_from_slice(&value.to_le_bytes()[..*width as usize])?;
+            Ok(())
+        }
+        OwnedCell::Bytes(bytes) => match shape {
+            Shape::Prefixed { size } => {
+                out.extend_from_slice(&(bytes.len() as u64).to_le_bytes()[..size])?;
+                out.extend_from_slice(bytes)?;
+                Ok(())
+            }
+            _ => {
+                out.extend_from_slice(bytes)?;
+                Ok(())
+            }
+        },
+    }
+}
