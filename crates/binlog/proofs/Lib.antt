@@ -12,6 +12,7 @@ pub mod TableNames
 pub mod TableColumns
 pub mod WholeColumns
 pub mod RowsHead
+pub mod RowEnds
 pub mod RowsItems
 pub mod Admitted
 pub mod Events

@@ -83,7 +83,7 @@ early_column types bytes bitmap i place at_value t reached short at clear is =
 -- ---- One value.
 
 -- a value is read to its end, whatever follows it,
-value_is_read : (s : Shape) (cell : CellValue) (first rest : List ℕ) → IsValue s cell first → (value_end s (first ++ rest) ≡ Ok (length first)) × (cell_of s (first ++ rest) ≡ cell)
+pub value_is_read : (s : Shape) (cell : CellValue) (first rest : List ℕ) → IsValue s cell first → (value_end s (first ++ rest) ≡ Ok (length first)) × (cell_of s (first ++ rest) ≡ cell)
 value_is_read (Number width) null_cell first rest is = absurd is
 value_is_read (Number width) (number_cell n w) first rest is =
     let long : length first ≡ width = ap length is.2 ∙ length-bytes_low_first 0 width n in
@@ -156,16 +156,16 @@ value_is_there (Prefixed prefix) bytes size fits is =
 
 -- ---- The values of a row.
 
-abbrev Nulls : List ℕ → ℕ → ℕ → List CellValue → Type 0
+abbrev pub Nulls : List ℕ → ℕ → ℕ → List CellValue → Type 0
 Nulls bitmap i n cells = (k : ℕ) → k < n → slice_get (map is_null cells) k ≡ Some (is_set bitmap (i + k))
 
-later : (bitmap : List ℕ) (i n : ℕ) (cell : CellValue) (cells : List CellValue) → Nulls bitmap i (suc n) (cell ∷ cells) → Nulls bitmap (suc i) n cells
+pub later : (bitmap : List ℕ) (i n : ℕ) (cell : CellValue) (cells : List CellValue) → Nulls bitmap i (suc n) (cell ∷ cells) → Nulls bitmap (suc i) n cells
 later bitmap i n cell cells nulls k below = let e : i + suc k ≡ suc i + k = omega arith in nulls (suc k) (omega (arith, below)) ∙ ap (λ j. Some (is_set bitmap j)) e
 
-now : (bitmap : List ℕ) (i n : ℕ) (cell : CellValue) (cells : List CellValue) → Nulls bitmap i (suc n) (cell ∷ cells) → is_set bitmap i ≡ is_null cell
+pub now : (bitmap : List ℕ) (i n : ℕ) (cell : CellValue) (cells : List CellValue) → Nulls bitmap i (suc n) (cell ∷ cells) → is_set bitmap i ≡ is_null cell
 now bitmap i n cell cells nulls = let e : i + 0 ≡ i = omega arith in let same = nulls 0 (omega arith) ∙ ap (λ j. Some (is_set bitmap j)) e in cc
 
-earlier : (bitmap : List ℕ) (i n : ℕ) (cell : CellValue) (cells : List CellValue) → is_set bitmap i ≡ is_null cell → Nulls bitmap (suc i) n cells → Nulls bitmap i (suc n) (cell ∷ cells)
+pub earlier : (bitmap : List ℕ) (i n : ℕ) (cell : CellValue) (cells : List CellValue) → is_set bitmap i ≡ is_null cell → Nulls bitmap (suc i) n cells → Nulls bitmap i (suc n) (cell ∷ cells)
 earlier bitmap i n cell cells set nulls zero below = let e : i + 0 ≡ i = omega arith in ap Some (sym set) ∙ ap (λ j. Some (is_set bitmap j)) (sym e)
 earlier bitmap i n cell cells set nulls (suc k) below = let e : i + suc k ≡ suc i + k = omega arith in nulls k (omega (arith, below)) ∙ ap (λ j. Some (is_set bitmap j)) (sym e)
 
@@ -207,7 +207,7 @@ pub record AreThere (bitmap : List ℕ) (i : ℕ) (types : List ColumnKind) (cel
   pub values_are : AreValues types cells (take size bytes)
   pub nulls : Nulls bitmap i (length types) cells
 
-are_values : (t : ColumnKind) (types : List ColumnKind) (cell : CellValue) (cells : List CellValue) (bytes first others : List ℕ) → is_null cell ≡ false → bytes ≡ first ++ others →
+pub are_values : (t : ColumnKind) (types : List ColumnKind) (cell : CellValue) (cells : List CellValue) (bytes first others : List ℕ) → is_null cell ≡ false → bytes ≡ first ++ others →
     IsValue (shape t) cell first → AreValues types cells others → AreValues (t ∷ types) (cell ∷ cells) bytes
 are_values t types null_cell cells bytes first others not_null e is are = absurd cc
 are_values t types (number_cell n w) cells bytes first others not_null e is are = (first, others, e, is, are)

@@ -16,13 +16,10 @@ use Rattle.binlog.specs.declared.body.rows_event.RowsKind.TheVariants.{Write, Up
 use Rattle.binlog.specs.declared.column.value.Shape.{Shape}
 use Rattle.binlog.specs.declared.column.value.Shape.TheVariants.{Number, Fixed, Prefixed}
 use Rattle.binlog.proofs.Cuts.{IsBytes, drop_front}
+use Rattle.binlog.proofs.RowEnds.{split_err, pair_stops, pair_stopped}
 use Rattle.binlog.proofs.RowCells.{value_is_there, drop_bytes, split_end, row_is_read, row_is_there}
 
 -- ---- The offset of what does not fit is within the bytes.
-
-split_err : (n place : ℕ) (r : Result ℕ ℕ) → further n r ≡ Err place → (p : ℕ) × (r ≡ Err p) × (n + p ≡ place)
-split_err n place (Ok m) is = absurd cc
-split_err n place (Err p) is = let e : n + p ≡ place = cc in (p, refl, e)
 
 value_early : (s : Shape) (bytes : List ℕ) (place : ℕ) → value_end s bytes ≡ Err place → place ≤ length bytes
 value_early (Number width) bytes place is = elim (cases_lt (length bytes) width) as (λ _. place ≤ length bytes) [
@@ -262,7 +259,7 @@ are_items (suc most) kind types (x ∷ bytes) at fits some all = by_end (pair_en
         let there = pair_is_there kind types (x ∷ bytes) size fits some is in
         more_items kind types (x ∷ bytes) at size (pair_of kind types (x ∷ bytes)) (items_of most kind types (drop size (x ∷ bytes)) (at + size)) there.within there.is_pair (others size there.some)
     by_end (Err place) is others =
-        inr ([], place, record { whole = []; rest = x ∷ bytes; early = place; bytes_are = refl; pairs_are = refl; left_over = omega arith; ends = is; place_is = omega arith }, refl)
+        inr ([], place, record { whole = []; rest = x ∷ bytes; early = place; bytes_are = refl; pairs_are = refl; left_over = omega arith; ends = pair_stops kind types (x ∷ bytes) place fits is; place_is = omega arith }, refl)
 
 -- ---- One list of rows.
 
@@ -308,7 +305,7 @@ early_items kind types pairs bytes place at some e =
     let own : length e.rest ≤ length e.rest = omega arith in
     let further_on : at + length e.whole + e.early ≡ at + place = omega (arith, place_is) in
     ap (λ l. items_of (length bytes) kind types l at) cut ∙ behind_rows pairs (length bytes) kind types e.whole e.rest at some e.pairs_are all
-    ∙ ap (λ l. map Ok pairs ++ l) (fault_first (length e.rest) kind types e.rest (at + length e.whole) e.early own e.left_over e.ends ∙ ap (λ (k : ℕ). Err (record { kind = Truncated; at = k }) ∷ []) further_on)
+    ∙ ap (λ l. map Ok pairs ++ l) (fault_first (length e.rest) kind types e.rest (at + length e.whole) e.early own e.left_over (pair_stopped kind types e.rest e.early e.ends) ∙ ap (λ (k : ℕ). Err (record { kind = Truncated; at = k }) ∷ []) further_on)
 
 abbrev Items : Type 0
 Items = List (Result PairValue EventFault)

@@ -1,8 +1,8 @@
 -- Rows. MySQL Source Documentation, Binlog Event: binary_log::Rows_event (row images, null bitmaps).
-use Rattle.std.specs.Prelude.{◌≡◌, ℕ, suc, ◌+◌, ◌/◌, ◌%◌, ◌<◌, ◌≤◌, ◌^◌, Bool, List, [], ◌∷◌, ◌++◌, length, take, drop, map, slice_get, slice_index, nat_lt, ◌==◌, if◌then◌else◌, Some, Result, Ok, Err}
+use Rattle.std.specs.Prelude.{◌≡◌, ℕ, suc, ◌+◌, ◌/◌, ◌%◌, ◌<◌, ◌≤◌, ◌^◌, ◌⊎◌, Bool, false, List, [], ◌∷◌, ◌++◌, length, take, drop, map, slice_get, slice_index, nat_lt, ◌==◌, if◌then◌else◌, Some, Result, Ok, Err}
 use Rattle.std.specs.Int.{div_ceil}
 use Rattle.binlog.specs.Cell.{CellValue, null_cell, is_null}
-use Rattle.binlog.specs.Shape.{shape, IsValue, value_end, cell_of}
+use Rattle.binlog.specs.Shape.{shape, IsValue, EndsInValue, value_end, cell_of}
 use Rattle.binlog.specs.declared.column.kind.ColumnKind.{ColumnKind}
 use Rattle.binlog.specs.declared.column.kind.ColumnType.{ColumnType}
 
@@ -40,6 +40,30 @@ pub record HasRow (types : List ColumnKind) (end : ℕ) (bytes : List ℕ) : Typ
   pub cells : List CellValue
   pub within : end ≤ length bytes
   pub is_row : IsRow types cells (take end bytes)
+
+-- The bytes are the bitmap of a row and the values of some first columns, and end before the value of the next column
+-- does: `place` is the offset of its length or its bytes.
+pub record EndsInValues (types : List ColumnKind) (bytes : List ℕ) (place : ℕ) : Type 0 where
+  pub bitmap : List ℕ
+  pub values : List ℕ
+  pub rest : List ℕ
+  pub before : List ColumnKind
+  pub kind : ColumnKind
+  pub after : List ColumnKind
+  pub cells : List CellValue
+  pub part : ℕ
+  pub bytes_are : bytes ≡ bitmap ++ (values ++ rest)
+  pub bitmap_length : length bitmap ≡ bitmap_size (length types)
+  pub types_are : types ≡ before ++ kind ∷ after
+  pub nulls : (i : ℕ) → i < length before → slice_get (map is_null cells) i ≡ Some (is_set bitmap i)
+  pub values_are : AreValues before cells values
+  pub not_null : is_set bitmap (length before) ≡ false
+  pub ends : EndsInValue (shape kind) rest part
+  pub place_is : place ≡ length bitmap + length values + part
+
+-- The bytes end before a row of these types does: in its bitmap, which is at 0, or in its values.
+abbrev pub EndsInRow : List ColumnKind → List ℕ → ℕ → Type 0
+EndsInRow types bytes place = ((place ≡ 0) × (length bytes < bitmap_size (length types))) ⊎ EndsInValues types bytes place
 
 -- ---- The row at the front of bytes.
 

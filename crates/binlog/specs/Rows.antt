@@ -8,7 +8,7 @@ use Rattle.binlog.specs.EventType as event_type
 use Rattle.binlog.specs.Fault.{refuse, needs, first_of, number_at}
 use Rattle.binlog.specs.Count.{count_width, count_at, no_count}
 use Rattle.binlog.specs.Cell.{CellValue}
-use Rattle.binlog.specs.Row.{bitmap_size, is_set, IsRow, row_end, ◌>>=◌, row_cells}
+use Rattle.binlog.specs.Row.{bitmap_size, is_set, IsRow, EndsInRow, row_end, ◌>>=◌, row_cells}
 use Rattle.binlog.specs.Table.{is_column_count}
 use Rattle.binlog.specs.declared.column.kind.ColumnKind.{ColumnKind}
 use Rattle.binlog.specs.declared.fault.EventFault.{EventFault}
@@ -123,13 +123,24 @@ abbrev pub AreRows : RowsKind → List ColumnKind → List PairValue → List �
 AreRows kind types [] bytes = bytes ≡ []
 AreRows kind types (pair ∷ pairs) bytes = (first : List ℕ) × (others : List ℕ) × (bytes ≡ first ++ others) × IsPair kind types pair first × AreRows kind types pairs others
 
--- where the pair at the front of bytes ends, or (Err) the offset of what doesn't fit
-abbrev pub pair_end : RowsKind → List ColumnKind → List ℕ → Result ℕ ℕ
-pair_end Update types bytes = row_end types bytes >>= (λ size. row_end types (drop size bytes))
-pair_end Write types bytes = row_end types bytes
-pair_end Delete types bytes = row_end types bytes
+-- The bytes are the row before an update, and end before the row after it does.
+pub record EndsInSecond (types : List ColumnKind) (bytes : List ℕ) (place : ℕ) : Type 0 where
+  pub first : List ℕ
+  pub rest : List ℕ
+  pub before : List CellValue
+  pub part : ℕ
+  pub bytes_are : bytes ≡ first ++ rest
+  pub is_row : IsRow types before first
+  pub ends : EndsInRow types rest part
+  pub place_is : place ≡ length first + part
 
--- The bytes are the rows of these pairs and then a part of another pair, of which the part at `place` doesn't fit.
+-- The bytes end before a pair does: `place` is the offset of the bitmap, the length or the value that does not fit.
+abbrev pub EndsInPair : RowsKind → List ColumnKind → List ℕ → ℕ → Type 0
+EndsInPair Update types bytes place = EndsInRow types bytes place ⊎ EndsInSecond types bytes place
+EndsInPair Write types bytes place = EndsInRow types bytes place
+EndsInPair Delete types bytes place = EndsInRow types bytes place
+
+-- The bytes are the rows of these pairs, and then end before another pair does, in what is at `place`.
 pub record EndsEarly (kind : RowsKind) (types : List ColumnKind) (pairs : List PairValue) (bytes : List ℕ) (place : ℕ) : Type 0 where
   pub whole : List ℕ
   pub rest : List ℕ
@@ -137,7 +148,7 @@ pub record EndsEarly (kind : RowsKind) (types : List ColumnKind) (pairs : List P
   pub bytes_are : bytes ≡ whole ++ rest
   pub pairs_are : AreRows kind types pairs whole
   pub left_over : 1 ≤ length rest
-  pub ends : pair_end kind types rest ≡ Err early
+  pub ends : EndsInPair kind types rest early
   pub place_is : place ≡ length whole + early
 
 -- The items are the pairs of the rows, which begin at an offset of the event, or the pairs before the first fault and
@@ -162,6 +173,12 @@ pub record HasItems (kind : RowsKind) (types : List ColumnKind) (bytes : List �
 abbrev pub reached : Result ℕ ℕ → ℕ
 reached (Ok place) = place
 reached (Err place) = place
+
+-- where the pair at the front of bytes ends, or (Err) the offset of what doesn't fit
+abbrev pub pair_end : RowsKind → List ColumnKind → List ℕ → Result ℕ ℕ
+pair_end Update types bytes = row_end types bytes >>= (λ size. row_end types (drop size bytes))
+pair_end Write types bytes = row_end types bytes
+pair_end Delete types bytes = row_end types bytes
 
 -- the pair at the front of bytes, if it fits
 abbrev pub pair_of : RowsKind → List ColumnKind → List ℕ → PairValue

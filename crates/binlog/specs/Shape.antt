@@ -1,6 +1,6 @@
 -- How the value of a column is stored in a row. MySQL Source Documentation, Binlog Event: binary_log::Rows_event, and
 -- the storage of decimals and times of binary_log::Table_map_event's types.
-use Rattle.std.specs.Prelude.{◌≡◌, ℕ, ◌+◌, ◌-◌, ◌*◌, ◌/◌, ◌%◌, ◌<◌, ◌^◌, Bool, true, List, ◌++◌, length, take, drop, nat_lt, if◌then◌else◌, Result, Ok, Err}
+use Rattle.std.specs.Prelude.{◌≡◌, ℕ, ◌+◌, ◌-◌, ◌*◌, ◌/◌, ◌%◌, ◌<◌, ◌≤◌, ◌^◌, ◌⊎◌, Bool, true, List, ◌++◌, length, take, drop, nat_lt, if◌then◌else◌, Result, Ok, Err}
 use Rattle.byteorder.specs.Endian.{little_bytes, little_number}
 use Rattle.binlog.specs.Cell.{CellValue, number_cell, bytes_cell}
 use Rattle.binlog.specs.Column.{is_within}
@@ -50,6 +50,15 @@ IsValue (Number width) (number_cell n w) bytes = (w ≡ width) × (n < 256 ^ wid
 IsValue (Fixed size) (bytes_cell value) bytes = (bytes ≡ value) × (length value ≡ size)
 IsValue (Prefixed size) (bytes_cell value) bytes = (length value < 256 ^ size) × (bytes ≡ little_bytes size (length value) ++ value)
 IsValue _ _ bytes = ⊥
+
+-- The bytes end before a value of the shape does: `place` is the offset in it of what does not fit, its length or else
+-- its bytes.
+abbrev pub EndsInValue : Shape → List ℕ → ℕ → Type 0
+EndsInValue (Number width) bytes place = (place ≡ 0) × (length bytes < width)
+EndsInValue (Fixed size) bytes place = (place ≡ 0) × (length bytes < size)
+EndsInValue (Prefixed size) bytes place =
+    ((place ≡ 0) × (length bytes < size))
+    ⊎ ((place ≡ size) × (size ≤ length bytes) × (length bytes - size < little_number size bytes))
 
 -- ---- The value at the front of bytes.
 

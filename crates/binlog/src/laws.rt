@@ -2,13 +2,13 @@
 //!
 //! A law is a function with an empty body: its clauses are proved of the definitions themselves.
 
-ghost use Rattle.std.specs.Prelude.{◌≡◌, ℕ, ◌<◌, ◌≤◌, ◌++◌, Bool, List, length, drop, Some, None, Result, Ok};
+ghost use Rattle.std.specs.Prelude.{◌≡◌, ℕ, ◌<◌, ◌≤◌, ◌++◌, Bool, List, length, drop, Some, None, Result, Ok, Err};
 ghost use Rattle.std.specs.FinSet as set;
 ghost use Rattle.std.specs.List.{AllByRecursion};
 ghost use Rattle.binlog.specs.Column.{type_code, metadata, IsColumn, HasColumn, metadata_size, column_fault};
 ghost use Rattle.binlog.specs.Header.{IsFramed, HasFrame, header_fault};
 ghost use Rattle.binlog.specs.Cell.{CellValue};
-ghost use Rattle.binlog.specs.Row.{IsRow, HasRow, row_end};
+ghost use Rattle.binlog.specs.Row.{IsRow, HasRow, EndsInRow, row_end};
 ghost use Rattle.binlog.specs.Table.{IsNamed, names_fault, AreColumns, columns_fault};
 ghost use Rattle.binlog.specs.Columns.{HasNames, HasColumns};
 ghost use Rattle.binlog.specs.Rows.{RowsValue, IsRows, HasRows, rows_fault, PairValue, AreRows, EndsEarly, AreItemsAt, HasItems};
@@ -37,10 +37,13 @@ pub fn one_column()
     ensures size { (kind : ColumnKind) → metadata_size (type_code kind) ≡ Some (length (metadata kind)) }
 {}
 
-/// Bytes begin with a row exactly if every part of it fits, and then with one row of one list of cells.
+/// Bytes begin with a row exactly if every part of it fits, and then with one row of one list of cells; or they end in
+/// one of its parts, and then in one.
 pub fn one_row()
     ensures some { (types : List ColumnKind) (bytes : List ℕ) (end : ℕ) → AllByRecursion (λ b. b < 256) bytes → row_end types bytes ≡ Ok end → HasRow types end bytes }
     ensures whole { (types : List ColumnKind) (cells : List CellValue) (first rest : List ℕ) → IsRow types cells first → row_end types (first ++ rest) ≡ Ok (length first) }
+    ensures early { (types : List ColumnKind) (bytes : List ℕ) (place : ℕ) → AllByRecursion (λ b. b < 256) bytes → row_end types bytes ≡ Err place → EndsInRow types bytes place }
+    ensures ends { (types : List ColumnKind) (bytes : List ℕ) (place : ℕ) → EndsInRow types bytes place → row_end types bytes ≡ Err place }
     ensures one { (types : List ColumnKind) (a b : List CellValue) (first second x y : List ℕ) → IsRow types a first → IsRow types b second → first ++ x ≡ second ++ y → (a ≡ b) × (first ≡ second) }
 {}
 
