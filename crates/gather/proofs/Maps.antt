@@ -17,7 +17,7 @@ use Rattle.binlog.specs.declared.table.TableDef.{TableDef}
 use Rattle.gather.specs.Transaction.{ChangeValue, said_of, map_of, change_of, is_end, AreChangesOf, AreChanges}
 use Rattle.gather.specs.View.{change_values}
 use Rattle.gather.specs.Begun.{table_of, said, Adds, Keeps}
-use Rattle.gather.specs.declared.begun.Begun.{Begun}
+use Rattle.gather.specs.declared.open_transaction.Begun.{Begun}
 
 pub or_none : (x : Option (Option TableValue)) → option_or x None ≡ x
 or_none None = refl

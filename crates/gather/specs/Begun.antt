@@ -13,7 +13,7 @@ use Rattle.binlog.specs.declared.table.TableDef.{TableDef}
 use Rattle.gather.specs.Image.{HasImage}
 use Rattle.gather.specs.Transaction.{ChangeValue, map_of, change_of, IsReadBy, AreChanges}
 use Rattle.gather.specs.View.{change_values}
-use Rattle.gather.specs.declared.begun.Begun.{Begun}
+use Rattle.gather.specs.declared.open_transaction.Begun.{Begun}
 
 -- the table of a table map with this number
 abbrev pub table_of : ℕ → Rc TableDef Global → TableValue

@@ -8,7 +8,7 @@ use Rattle.sqlite.specs.State.{State}
 use Rattle.binlog.specs.Follow.{Names}
 use Rattle.gather.specs.Transaction.{ChangeValue}
 use Rattle.gather.specs.View.{change_value, change_values}
-use Rattle.gather.specs.declared.change.Change.{Change}
+use Rattle.gather.specs.declared.transaction.Change.{Change}
 use Rattle.store.specs.declared.change.Refusal.{Refusal}
 use Rattle.store.specs.State.{Bag}
 use Rattle.store.specs.Take.{IsDone, AreDone}

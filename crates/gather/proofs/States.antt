@@ -6,12 +6,12 @@ use Rattle.gather.specs.Transaction.{ChangeValue, map_of, AreChanges}
 use Rattle.gather.specs.Fault.{is_open, IsRowsFault}
 use Rattle.gather.specs.View.{change_values}
 use Rattle.gather.specs.Begun.{Keeps}
-use Rattle.gather.specs.Place.{IsAt, BreaksOff, FaultsAt}
-use Rattle.gather.specs.declared.begun.Begun.{Begun}
+use Rattle.gather.specs.State.{IsAt, BreaksOff, FaultsAt}
+use Rattle.gather.specs.declared.open_transaction.Begun.{Begun}
 use Rattle.gather.specs.declared.fault.GatherFault.{GatherFault}
 use Rattle.gather.specs.declared.fault.GatherFault.TheVariants.{Memory}
-use Rattle.gather.specs.declared.place.Place.{Place}
-use Rattle.gather.specs.declared.place.Place.TheVariants.{Inside}
+use Rattle.gather.specs.declared.state.State.{State}
+use Rattle.gather.specs.declared.state.State.TheVariants.{Inside}
 use Rattle.gather.proofs.Maps.{or_none, no_end}
 
 -- a block that has begun is open
@@ -34,7 +34,7 @@ breaks_off begun r fault faults block (body, is, keeps) =
     (faults body keeps) in
     subst (λ b. (fault ≡ Memory) ⊎ BreaksOff b (rows r) fault) (sym is) at
 
-pub rows_break_off : {T : Type 0} (begun : Begun) (r : RowsValue) (place : Place) (result : Result T GatherFault) → place ≡ Inside begun →
-    ((body : List EventValue) → Keeps body begun → IfErr result (λ fault. (fault ≡ Memory) ⊎ IsRowsFault (map_of body r.id) r fault)) → IfErr result (FaultsAt (rows r) place)
-rows_break_off begun r place (Ok x) is faults = tt
-rows_break_off begun r place (Err fault) is faults = subst (λ p. FaultsAt (rows r) p fault) (sym is) (breaks_off begun r fault faults)
+pub rows_break_off : {T : Type 0} (begun : Begun) (r : RowsValue) (state : State) (result : Result T GatherFault) → state ≡ Inside begun →
+    ((body : List EventValue) → Keeps body begun → IfErr result (λ fault. (fault ≡ Memory) ⊎ IsRowsFault (map_of body r.id) r fault)) → IfErr result (FaultsAt (rows r) state)
+rows_break_off begun r state (Ok x) is faults = tt
+rows_break_off begun r state (Err fault) is faults = subst (λ p. FaultsAt (rows r) p fault) (sym is) (breaks_off begun r fault faults)

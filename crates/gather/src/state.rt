@@ -1,4 +1,4 @@
-//! The place in a transaction that a gatherer has reached.
+//! The state of a gatherer: how far into a transaction it is.
 
 ghost use Rattle.std.specs.Prelude.{◌≡◌, true, IfOk, IfErr};
 ghost use Rattle.binlog.specs.Event.{EventValue, begin, table_map, other_map, rows};
@@ -7,19 +7,19 @@ ghost use Rattle.binlog.specs.TableView.{table_value};
 ghost use Rattle.gather.specs.Transaction.{is_end};
 ghost use Rattle.gather.specs.Fault.{type_of};
 ghost use Rattle.gather.specs.View.{delivered};
-ghost use Rattle.gather.specs.Place.{GoesOn, FaultsAt};
+ghost use Rattle.gather.specs.State.{GoesOn, FaultsAt};
 
-use crate::begun::Begun;
-use crate::change::Delivery;
 use crate::fault::GatherFault;
+use crate::open_transaction::Begun;
+use crate::transaction::Delivery;
 use binlog::{RowsEvent, RowsKind, TableMap};
 use gtid::Gtid;
 use std::alloc::Global;
 use std::mem;
 
-/// The place in a transaction that a gatherer has reached.
+/// How far into a transaction a gatherer is.
 #[derive(Drop)]
-pub(crate) enum Place {
+pub(crate) enum State {
     /// Outside of any transaction.
     Between,
     /// Right after the GTID.
@@ -29,13 +29,13 @@ pub(crate) enum Place {
 }
 
 /// Takes BEGIN, which must come right after the GTID.
-pub(crate) fn take_begin(place: &mut Place, alloc: Global) -> Result<Option<Delivery>, GatherFault>
-    ensures taken { IfOk result (λ delivery. GoesOn begin place.old place.new (delivered delivery)) }
-    ensures fault { IfErr result (FaultsAt begin place.old) }
+pub(crate) fn take_begin(state: &mut State, alloc: Global) -> Result<Option<Delivery>, GatherFault>
+    ensures taken { IfOk result (λ delivery. GoesOn begin state.old state.new (delivered delivery)) }
+    ensures fault { IfErr result (FaultsAt begin state.old) }
 {
-    match place {
-        Place::Announced(gtid) => {
-            *place = Place::Inside(Begun::new(alloc, *gtid));
+    match state {
+        State::Announced(gtid) => {
+            *state = State::Inside(Begun::new(alloc, *gtid));
             Ok(None)
         }
         _ => Err(GatherFault::Misplaced(2)),
@@ -44,15 +44,15 @@ pub(crate) fn take_begin(place: &mut Place, alloc: Global) -> Result<Option<Deli
 
 /// Takes a table map, which must come after BEGIN.
 pub(crate) fn take_map(
-    place: &mut Place,
+    state: &mut State,
     alloc: Global,
     map: &TableMap<'_>,
 ) -> Result<Option<Delivery>, GatherFault>
-    ensures taken { IfOk result (λ delivery. GoesOn (table_map (table_value map.now)) place.old place.new (delivered delivery)) }
-    ensures fault { IfErr result (FaultsAt (table_map (table_value map.now)) place.old) }
+    ensures taken { IfOk result (λ delivery. GoesOn (table_map (table_value map.now)) state.old state.new (delivered delivery)) }
+    ensures fault { IfErr result (FaultsAt (table_map (table_value map.now)) state.old) }
 {
-    match place {
-        Place::Inside(begun) => {
+    match state {
+        State::Inside(begun) => {
             begun.take_map(alloc, map)?;
             Ok(None)
         }
@@ -61,12 +61,12 @@ pub(crate) fn take_map(
 }
 
 /// Takes a table map of a table that is not followed, which must come after BEGIN.
-pub(crate) fn take_other(place: &mut Place, id: u64) -> Result<Option<Delivery>, GatherFault>
-    ensures taken { IfOk result (λ delivery. GoesOn (other_map id) place.old place.new (delivered delivery)) }
-    ensures fault { IfErr result (FaultsAt (other_map id) place.old) }
+pub(crate) fn take_other(state: &mut State, id: u64) -> Result<Option<Delivery>, GatherFault>
+    ensures taken { IfOk result (λ delivery. GoesOn (other_map id) state.old state.new (delivered delivery)) }
+    ensures fault { IfErr result (FaultsAt (other_map id) state.old) }
 {
-    match place {
-        Place::Inside(begun) => {
+    match state {
+        State::Inside(begun) => {
             begun.take_other(id)?;
             Ok(None)
         }
@@ -76,15 +76,15 @@ pub(crate) fn take_other(place: &mut Place, id: u64) -> Result<Option<Delivery>,
 
 /// Takes a rows event, which must come after BEGIN.
 pub(crate) fn take_rows(
-    place: &mut Place,
+    state: &mut State,
     alloc: Global,
     event: &RowsEvent<'_>,
 ) -> Result<Option<Delivery>, GatherFault>
-    ensures taken { IfOk result (λ delivery. GoesOn (rows (rows_value event.now)) place.old place.new (delivered delivery)) }
-    ensures fault { IfErr result (FaultsAt (rows (rows_value event.now)) place.old) }
+    ensures taken { IfOk result (λ delivery. GoesOn (rows (rows_value event.now)) state.old state.new (delivered delivery)) }
+    ensures fault { IfErr result (FaultsAt (rows (rows_value event.now)) state.old) }
 {
-    match place {
-        Place::Inside(begun) => {
+    match state {
+        State::Inside(begun) => {
             begun.take_rows(alloc, event)?;
             Ok(None)
         }
@@ -97,12 +97,12 @@ pub(crate) fn take_rows(
 }
 
 /// Takes an event of this type that ends a transaction, which must come after BEGIN.
-pub(crate) fn take_end(place: &mut Place, code: u8) -> Result<Option<Delivery>, GatherFault>
-    ensures taken { (e : EventValue) → is_end e ≡ true → IfOk result (λ delivery. GoesOn e place.old place.new (delivered delivery)) }
-    ensures fault { (e : EventValue) → is_end e ≡ true → type_of e ≡ code → IfErr result (FaultsAt e place.old) }
+pub(crate) fn take_end(state: &mut State, code: u8) -> Result<Option<Delivery>, GatherFault>
+    ensures taken { (e : EventValue) → is_end e ≡ true → IfOk result (λ delivery. GoesOn e state.old state.new (delivered delivery)) }
+    ensures fault { (e : EventValue) → is_end e ≡ true → type_of e ≡ code → IfErr result (FaultsAt e state.old) }
 {
-    match mem::replace(place, Place::Between) {
-        Place::Inside(begun) => {
+    match mem::replace(state, State::Between) {
+        State::Inside(begun) => {
             let Begun { gtid, changes, .. } = begun;
             Ok(Some(Delivery { gtid, changes }))
         }

@@ -1,8 +1,8 @@
 //! A transaction that has begun and not ended.
 
-use crate::change::Change;
 use crate::fault::GatherFault;
 use crate::row_changes::push_changes;
+use crate::transaction::Change;
 use binlog::{RowsEvent, TableDef, TableMap};
 use gtid::Gtid;
 use std::alloc::Global;

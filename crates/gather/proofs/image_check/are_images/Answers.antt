@@ -3,7 +3,7 @@ use Rattle.std.proofs.lemmas.List.{take_rest}
 use Rattle.binlog.specs.Cell.{cell_value}
 use Rattle.gather.specs.ImageCells.{are_images}
 use Rattle.gather.proofs.ImageParts.{one_left}
-use Rattle.gather.proofs.image_reading.are_images.Goals as goal
+use Rattle.gather.proofs.image_check.are_images.Goals as goal
 
 pub loop-preserved : goal.loop-preserved
 loop-preserved c =

@@ -1,7 +1,7 @@
 use Rattle.std.proofs.Common.{Some, ap, sym, ◌∙◌}
 use Rattle.binlog.specs.RowsView.{rows_value}
 use Rattle.gather.proofs.Maps.{told, keeps_other, adds_rows, maps_stay, on_ok}
-use Rattle.gather.proofs.begun.Begun.take_rows.Goals as goal
+use Rattle.gather.proofs.open_transaction.Begun.take_rows.Goals as goal
 
 pub returns-in-Some-None-clause-keeps : goal.returns-in-Some-None-clause-keeps
 returns-in-Some-None-clause-keeps c = λ body keeps.

@@ -2,7 +2,7 @@ use Rattle.std.proofs.Common.{[], None, refl}
 use Rattle.binlog.specs.Event.{other_map}
 use Rattle.gather.specs.View.{change_values}
 use Rattle.gather.proofs.Maps.{maps_more, no_changes, other_says}
-use Rattle.gather.proofs.begun.Begun.take_other.Goals as goal
+use Rattle.gather.proofs.open_transaction.Begun.take_other.Goals as goal
 
 pub returns-clause-keeps : goal.returns-clause-keeps
 returns-clause-keeps c = λ body keeps. record {

@@ -3,7 +3,7 @@ use Rattle.binlog.specs.Event.{table_map}
 use Rattle.binlog.specs.TableView.{table_value}
 use Rattle.gather.specs.View.{change_values}
 use Rattle.gather.proofs.Maps.{maps_more, no_changes, map_says, copied}
-use Rattle.gather.proofs.begun.Begun.take_map.Goals as goal
+use Rattle.gather.proofs.open_transaction.Begun.take_map.Goals as goal
 
 pub returns-clause-keeps : goal.returns-clause-keeps
 returns-clause-keeps c = λ body keeps.
