@@ -12,7 +12,7 @@ use Rattle.store.specs.declared.fault.StoreFault.{StoreFault}
 use Rattle.store.specs.declared.fault.StoreFault.TheVariants as fault
 use Rattle.store.specs.State.{Content}
 use Rattle.store.specs.Take.{Takes, done, repeat, refused, is_executed}
-use Rattle.store.specs.declared.change.Refusal.TheVariants as why
+use Rattle.store.specs.declared.row_change.Refusal.TheVariants as why
 use Rattle.replica.specs.declared.end.Refusal.{Refusal}
 use Rattle.replica.specs.declared.end.Refusal.TheVariants.{NoSuchRow, CountFull}
 use Rattle.replica.specs.declared.end.Reason.{Reason}

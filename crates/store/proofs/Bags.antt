@@ -9,8 +9,8 @@ use Rattle.binlog.specs.Cell.{CellValue, null_cell, number_cell, bytes_cell}
 use Rattle.gather.specs.Image.{IsImage, HasImage, HasCellImage, image}
 use Rattle.gather.specs.Transaction.{insert, delete, update}
 use Rattle.gather.proofs.WholeImages.{one_list}
-use Rattle.store.specs.declared.change.Refusal.{Refusal}
-use Rattle.store.specs.declared.change.Refusal.TheVariants.{NoSuchRow, CountFull}
+use Rattle.store.specs.declared.row_change.Refusal.{Refusal}
+use Rattle.store.specs.declared.row_change.Refusal.TheVariants.{NoSuchRow, CountFull}
 use Rattle.store.specs.State.{TableRow, row_of, has_image, has_cell_image}
 use Rattle.store.specs.Take.{most, IsAdded, IsTaken}
 use Rattle.store.specs.Rows.{Key, key_of, key_for, same_key, Counts, with_one, without_one, bag_of, count, held_rows}

@@ -9,7 +9,7 @@ use Rattle.binlog.specs.Follow.{Names}
 use Rattle.gather.specs.Transaction.{ChangeValue}
 use Rattle.gather.specs.View.{change_value, change_values}
 use Rattle.gather.specs.declared.transaction.Change.{Change}
-use Rattle.store.specs.declared.change.Refusal.{Refusal}
+use Rattle.store.specs.declared.row_change.Refusal.{Refusal}
 use Rattle.store.specs.State.{Bag}
 use Rattle.store.specs.Take.{IsDone, AreDone}
 use Rattle.store.specs.Rows.{bag_of, count, held_rows}

@@ -6,7 +6,7 @@ use Rattle.std.proofs.lemmas.Bool.Decides.{nat_tests}
 use Rattle.sqlite_value.specs.Order.{Row}
 use Rattle.sqlite.specs.Effect.{Database}
 use Rattle.sqlite.specs.State.{State, IsUnchanged}
-use Rattle.store.specs.declared.change.Refusal.TheVariants.{NoSuchRow, CountFull}
+use Rattle.store.specs.declared.row_change.Refusal.TheVariants.{NoSuchRow, CountFull}
 use Rattle.store.specs.Layout.{IsLaidOut}
 use Rattle.store.specs.Take.{most}
 use Rattle.store.specs.Rows.{Key, IsHeldRow, HasRowids, Finds, meta_rows, held_rows, span_rows, follow_rows, count, Counts, with_one, without_one}

@@ -10,7 +10,7 @@ use Rattle.sqlite.specs.Steps.{FailsToCommit}
 use Rattle.sqlite.specs.Held.{Held, state}
 use Rattle.binlog.specs.Follow.{Names}
 use Rattle.gather.specs.Transaction.{DeliveryValue}
-use Rattle.store.specs.declared.change.Refusal.{Refusal}
+use Rattle.store.specs.declared.row_change.Refusal.{Refusal}
 use Rattle.store.specs.State.{Content}
 use Rattle.store.specs.Rows.{StandsFor, HasRowids, held_rows, span_rows}
 use Rattle.store.specs.Inside.{IsWorking, GoesOn}

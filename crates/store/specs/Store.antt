@@ -7,7 +7,7 @@ use Rattle.sqlite.specs.State.{State}
 use Rattle.sqlite.specs.Held.{Held, state}
 use Rattle.binlog.specs.Follow.{Names}
 use Rattle.gather.specs.Transaction.{DeliveryValue}
-use Rattle.store.specs.declared.change.Refusal.TheVariants as why
+use Rattle.store.specs.declared.row_change.Refusal.TheVariants as why
 use Rattle.store.specs.declared.fault.Applied.{Applied}
 use Rattle.store.specs.declared.fault.Applied.TheVariants.{Done, Repeat}
 use Rattle.store.specs.declared.fault.StoreFault.{StoreFault}

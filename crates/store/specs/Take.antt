@@ -3,8 +3,8 @@ use Rattle.std.specs.Prelude.{◌≡◌, ◌≢◌, ◌⊎◌, ◌<◌, ◌≤�
 use Rattle.std.specs.FinSet as set
 use Rattle.binlog.specs.Follow.{Names, follows}
 use Rattle.gather.specs.Transaction.{ChangeValue, insert, delete, update, DeliveryValue}
-use Rattle.store.specs.declared.change.Refusal.{Refusal}
-use Rattle.store.specs.declared.change.Refusal.TheVariants.{NoSuchRow, CountFull}
+use Rattle.store.specs.declared.row_change.Refusal.{Refusal}
+use Rattle.store.specs.declared.row_change.Refusal.TheVariants.{NoSuchRow, CountFull}
 use Rattle.store.specs.State.{TableRow, row_of, Bag, Content}
 
 -- the greatest count: 2 ^ 63 - 1

@@ -12,10 +12,10 @@ ghost use Rattle.store.specs.Apply.{IsAtRest, Comes, MayMove, IsTold};
 ghost use Rattle.store.specs.Store.{Holds, Applies, Leaves, breaks, database, names_of, IsBroken, IsWhole};
 ghost use Rattle.store.specs.declared.fault.StoreFault.TheVariants.{Broken, Memory};
 
-use crate::apply::run;
-use crate::beside::around;
-use crate::change::Refusal;
+use crate::changes::run;
 use crate::fault::{Applied, StoreFault};
+use crate::neighbors::around;
+use crate::row_change::Refusal;
 use crate::store::Store;
 use binlog::Follow;
 use gather::Delivery;
