@@ -19,13 +19,13 @@
 //! tables store it (`Rows.antt`, `Layout.antt`). [`laws`] states what follows.
 #![tactic(auto)]
 
+mod apply;
 mod changes;
 mod contents;
 mod counting;
 mod fault;
 mod held_rows;
 pub mod laws;
-mod layout;
 mod listing;
 mod load;
 mod make;
@@ -37,7 +37,7 @@ mod rules;
 mod span_rows;
 mod store;
 mod table_rows;
-mod taking;
+mod tables;
 
 pub use fault::{Applied, StoreFault};
 pub use listing::{List, Listed};

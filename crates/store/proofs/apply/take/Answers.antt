@@ -7,7 +7,7 @@ use Rattle.gather.specs.View.{delivery_value}
 use Rattle.store.specs.Take.{is_executed}
 use Rattle.store.specs.Apply.{LiesBeside}
 use Rattle.store.proofs.Taken.{beside_known, moved, came, given_up, fault_in}
-use Rattle.store.proofs.taking.take.Goals as goal
+use Rattle.store.proofs.apply.take.Goals as goal
 
 pub returns-in-Ok-None-clause-comes : goal.returns-in-Ok-None-clause-comes
 returns-in-Ok-None-clause-comes g c clean content rest same =

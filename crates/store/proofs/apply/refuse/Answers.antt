@@ -1,7 +1,7 @@
 use Rattle.std.proofs.Common.{[]}
 use Rattle.sqlite.specs.Held.{state}
 use Rattle.store.proofs.Taken.{told_failed}
-use Rattle.store.proofs.taking.refuse.Goals as goal
+use Rattle.store.proofs.apply.refuse.Goals as goal
 
 pub returns-in-Err-clause-told : goal.returns-in-Err-clause-told
 returns-in-Err-clause-told g c clean =
