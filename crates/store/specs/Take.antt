@@ -20,15 +20,15 @@ pub record IsAdded (row : TableRow) (old new : Bag) : Type 0 where
   pub others : (r : TableRow) → r ≢ row → new r ≡ old r
 
 -- There is one less of the row, and as many of each other row as before.
-pub record IsTaken (row : TableRow) (old new : Bag) : Type 0 where
+pub record IsRemoved (row : TableRow) (old new : Bag) : Type 0 where
   pub one_less : old row ≡ new row + 1
   pub others : (r : TableRow) → r ≢ row → new r ≡ old r
 
 -- The change is made. An update removes the row before and then adds the row after.
 abbrev pub IsMade : ChangeValue → Bag → Bag → Type 0
 IsMade (insert schema table after) old new = IsAdded (row_of schema table after) old new
-IsMade (delete schema table before) old new = IsTaken (row_of schema table before) old new
-IsMade (update schema table before after) old new = (mid : Bag) × IsTaken (row_of schema table before) old mid × IsAdded (row_of schema table after) mid new
+IsMade (delete schema table before) old new = IsRemoved (row_of schema table before) old new
+IsMade (update schema table before after) old new = (mid : Bag) × IsRemoved (row_of schema table before) old mid × IsAdded (row_of schema table after) mid new
 
 abbrev pub IsFull : TableRow → Bag → Refusal → Type 0
 IsFull row bag why = (most ≤ bag row) × (why ≡ CountFull)
@@ -42,7 +42,7 @@ IsRefused (insert schema table after) bag why = IsFull (row_of schema table afte
 IsRefused (delete schema table before) bag why = IsMissing (row_of schema table before) bag why
 IsRefused (update schema table before after) bag why =
     IsMissing (row_of schema table before) bag why
-    ⊎ ((mid : Bag) × IsTaken (row_of schema table before) bag mid × IsFull (row_of schema table after) mid why)
+    ⊎ ((mid : Bag) × IsRemoved (row_of schema table before) bag mid × IsFull (row_of schema table after) mid why)
 
 -- ---- Changes in order.
 

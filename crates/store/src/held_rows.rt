@@ -6,7 +6,7 @@ ghost use Rattle.sqlite.specs.Held.{state};
 ghost use Rattle.sqlite_value.specs.Order.{column};
 ghost use Rattle.store.specs.Take.{most};
 ghost use Rattle.store.specs.Rows.{key_in, Finds, IsCount, IsStored, held_rows, count, with_one, without_one, is_at};
-ghost use Rattle.store.specs.Inside.{IsWorking, Holds};
+ghost use Rattle.store.specs.Inside.{IsWorking, HasCounts};
 
 use sqlite::types::ValueRef;
 use sqlite::{Alter, Error, Row, Transaction};
@@ -77,7 +77,7 @@ pub(crate) fn insert<S: Alter>(
     row: &RowKey<'_>,
 ) -> Result<usize, Error>
     ensures same_reference { tx.new.conn.ghost_name ≡ tx.old.conn.ghost_name }
-    ensures holds { HasCleanDisk (state S.Store tx.new.conn.now) → IsWorking (state S.Store tx.old.conn.now) → IsStored row.now.image.now → OnOk result (Holds (state S.Store tx.old.conn.now) (state S.Store tx.new.conn.now) (with_one (key_in row.now) (count (held_rows (state S.Store tx.old.conn.now).now)))) }
+    ensures holds { HasCleanDisk (state S.Store tx.new.conn.now) → IsWorking (state S.Store tx.old.conn.now) → IsStored row.now.image.now → OnOk result (HasCounts (state S.Store tx.old.conn.now) (state S.Store tx.new.conn.now) (with_one (key_in row.now) (count (held_rows (state S.Store tx.old.conn.now).now)))) }
     ensures kept { HasCleanDisk (state S.Store tx.new.conn.now) → IsWorking (state S.Store tx.old.conn.now) → KeepsCommit (state S.Store tx.old.conn.now) (state S.Store tx.new.conn.now) }
     ensures survives { Survives (state S.Store tx.old.conn.now) (state S.Store tx.new.conn.now) (λ _. ⊥) }
 {
@@ -98,8 +98,8 @@ pub(crate) fn update<S: Alter>(
     n: i64,
 ) -> Result<usize, Error>
     ensures same_reference { tx.new.conn.ghost_name ≡ tx.old.conn.ghost_name }
-    ensures raised { HasCleanDisk (state S.Store tx.new.conn.now) → IsWorking (state S.Store tx.old.conn.now) → (m : ℕ) → m + 1 ≤ most → Finds (key_in row.now) (held_rows (state S.Store tx.old.conn.now).now) (Some m) → n ≡ pos (m + 1) → OnOk result (Holds (state S.Store tx.old.conn.now) (state S.Store tx.new.conn.now) (with_one (key_in row.now) (count (held_rows (state S.Store tx.old.conn.now).now)))) }
-    ensures lowered { HasCleanDisk (state S.Store tx.new.conn.now) → IsWorking (state S.Store tx.old.conn.now) → (m : ℕ) → 1 ≤ m → m ≤ most → Finds (key_in row.now) (held_rows (state S.Store tx.old.conn.now).now) (Some (m + 1)) → n ≡ pos m → OnOk result (Holds (state S.Store tx.old.conn.now) (state S.Store tx.new.conn.now) (without_one (key_in row.now) (count (held_rows (state S.Store tx.old.conn.now).now)))) }
+    ensures raised { HasCleanDisk (state S.Store tx.new.conn.now) → IsWorking (state S.Store tx.old.conn.now) → (m : ℕ) → m + 1 ≤ most → Finds (key_in row.now) (held_rows (state S.Store tx.old.conn.now).now) (Some m) → n ≡ pos (m + 1) → OnOk result (HasCounts (state S.Store tx.old.conn.now) (state S.Store tx.new.conn.now) (with_one (key_in row.now) (count (held_rows (state S.Store tx.old.conn.now).now)))) }
+    ensures lowered { HasCleanDisk (state S.Store tx.new.conn.now) → IsWorking (state S.Store tx.old.conn.now) → (m : ℕ) → 1 ≤ m → m ≤ most → Finds (key_in row.now) (held_rows (state S.Store tx.old.conn.now).now) (Some (m + 1)) → n ≡ pos m → OnOk result (HasCounts (state S.Store tx.old.conn.now) (state S.Store tx.new.conn.now) (without_one (key_in row.now) (count (held_rows (state S.Store tx.old.conn.now).now)))) }
     ensures kept { HasCleanDisk (state S.Store tx.new.conn.now) → IsWorking (state S.Store tx.old.conn.now) → KeepsCommit (state S.Store tx.old.conn.now) (state S.Store tx.new.conn.now) }
     ensures survives { Survives (state S.Store tx.old.conn.now) (state S.Store tx.new.conn.now) (λ _. ⊥) }
 {
@@ -120,7 +120,7 @@ pub(crate) fn delete<S: Alter>(
     row: &RowKey<'_>,
 ) -> Result<usize, Error>
     ensures same_reference { tx.new.conn.ghost_name ≡ tx.old.conn.ghost_name }
-    ensures holds { HasCleanDisk (state S.Store tx.new.conn.now) → IsWorking (state S.Store tx.old.conn.now) → Finds (key_in row.now) (held_rows (state S.Store tx.old.conn.now).now) (Some 1) → OnOk result (Holds (state S.Store tx.old.conn.now) (state S.Store tx.new.conn.now) (without_one (key_in row.now) (count (held_rows (state S.Store tx.old.conn.now).now)))) }
+    ensures holds { HasCleanDisk (state S.Store tx.new.conn.now) → IsWorking (state S.Store tx.old.conn.now) → Finds (key_in row.now) (held_rows (state S.Store tx.old.conn.now).now) (Some 1) → OnOk result (HasCounts (state S.Store tx.old.conn.now) (state S.Store tx.new.conn.now) (without_one (key_in row.now) (count (held_rows (state S.Store tx.old.conn.now).now)))) }
     ensures kept { HasCleanDisk (state S.Store tx.new.conn.now) → IsWorking (state S.Store tx.old.conn.now) → KeepsCommit (state S.Store tx.old.conn.now) (state S.Store tx.new.conn.now) }
     ensures survives { Survives (state S.Store tx.old.conn.now) (state S.Store tx.new.conn.now) (λ _. ⊥) }
 {

@@ -6,7 +6,7 @@ ghost use Rattle.sqlite.specs.Held.{state};
 ghost use Rattle.sqlite_value.specs.Order.{Row as Stored};
 ghost use Rattle.sqlite_value.specs.declared.value.Value.TheVariants.{Int, Blob};
 ghost use Rattle.store.specs.Rows.{span_rows, shown_spans};
-ghost use Rattle.store.specs.Inside.{IsWorking, GoesOn, Moves, Begins, Leaves, EndsBefore, BeginsBehind, Shows, Records};
+ghost use Rattle.store.specs.Inside.{IsWorking, GoesOn, Moves, Begins, Remains, EndsBefore, BeginsBehind, Shows, Records};
 ghost use Rattle.std.specs.FinSet as set;
 ghost use Rattle.std.specs.List.{AllByRecursion};
 ghost use Rattle.gtid.specs.Identifier.{Ids, id, IsSource, IsGtid};
@@ -60,7 +60,7 @@ fn drop_if<S: Alter>(
     there: bool,
 ) -> Result<(), Error>
     ensures same_reference { tx.new.conn.ghost_name ≡ tx.old.conn.ghost_name }
-    ensures moves { HasCleanDisk (state S.Store tx.new.conn.now) → IsWorking (state S.Store tx.old.conn.now) → (rest : List Stored) → Leaves source.now lo there (shown_spans (span_rows (state S.Store tx.old.conn.now).now)) rest → OnOk result (Moves (state S.Store tx.old.conn.now) (state S.Store tx.new.conn.now) rest) }
+    ensures moves { HasCleanDisk (state S.Store tx.new.conn.now) → IsWorking (state S.Store tx.old.conn.now) → (rest : List Stored) → Remains source.now lo there (shown_spans (span_rows (state S.Store tx.old.conn.now).now)) rest → OnOk result (Moves (state S.Store tx.old.conn.now) (state S.Store tx.new.conn.now) rest) }
     ensures goes { HasCleanDisk (state S.Store tx.new.conn.now) → IsWorking (state S.Store tx.old.conn.now) → OnOk result (GoesOn (state S.Store tx.old.conn.now) (state S.Store tx.new.conn.now)) }
     ensures kept { HasCleanDisk (state S.Store tx.new.conn.now) → IsWorking (state S.Store tx.old.conn.now) → KeepsCommit (state S.Store tx.old.conn.now) (state S.Store tx.new.conn.now) }
     ensures survives { Survives (state S.Store tx.old.conn.now) (state S.Store tx.new.conn.now) (λ _. ⊥) }
@@ -87,8 +87,8 @@ fn put_span<S: Alter>(
     requires next { next < 2 ^ 63 }
     requires hi { hi < 2 ^ 63 }
     ensures same_reference { tx.new.conn.ghost_name ≡ tx.old.conn.ghost_name }
-    ensures moves { HasCleanDisk (state S.Store tx.new.conn.now) → IsWorking (state S.Store tx.old.conn.now) → (middle : List Stored) → (rest : List Stored) → Leaves source.now (pos lo) before (shown_spans (span_rows (state S.Store tx.old.conn.now).now)) middle
-        → ((rows : List Stored) → IsPermutation middle rows → Leaves source.now (pos next) after rows rest) → OnOk result (Moves (state S.Store tx.old.conn.now) (state S.Store tx.new.conn.now) ((Blob source.now ∷ Int (pos lo) ∷ Int (pos hi) ∷ []) ∷ rest)) }
+    ensures moves { HasCleanDisk (state S.Store tx.new.conn.now) → IsWorking (state S.Store tx.old.conn.now) → (middle : List Stored) → (rest : List Stored) → Remains source.now (pos lo) before (shown_spans (span_rows (state S.Store tx.old.conn.now).now)) middle
+        → ((rows : List Stored) → IsPermutation middle rows → Remains source.now (pos next) after rows rest) → OnOk result (Moves (state S.Store tx.old.conn.now) (state S.Store tx.new.conn.now) ((Blob source.now ∷ Int (pos lo) ∷ Int (pos hi) ∷ []) ∷ rest)) }
     ensures kept { HasCleanDisk (state S.Store tx.new.conn.now) → IsWorking (state S.Store tx.old.conn.now) → KeepsCommit (state S.Store tx.old.conn.now) (state S.Store tx.new.conn.now) }
     ensures survives { Survives (state S.Store tx.old.conn.now) (state S.Store tx.new.conn.now) (λ _. ⊥) }
 {

@@ -6,7 +6,7 @@ use Rattle.sqlite.proofs.Callers.{survives_begin}
 use Rattle.sqlite.proofs.StateLemmas.{survives_then}
 use Rattle.sqlite_trees.specs.Tree.{Trees}
 use Rattle.gather.specs.View.{delivery_value}
-use Rattle.store.specs.Apply.{Fills, Runs, MayCommit, HasTaken, IsTaken}
+use Rattle.store.specs.Apply.{Fills, Runs, MayCommit, HasTaken, IsApplied}
 use Rattle.store.proofs.Ran.{begun_working, rests_rolled, rests_failed, runs_err, has_taken, leaves, may_commit_err}
 use Rattle.store.proofs.changes.run.Goals as goal
 
@@ -87,7 +87,7 @@ returns-clause-crash g c content rest out beside =
     let same : c.commit.new.self.0 ≡ c.conn-2-1.given.0 = search rules in
     let n = state g.S.Store c.commit.new.self.0 in
     let fills : HasCleanDisk m → Fills names content d t m None = λ early. rw c.in_default.is at ((rw c.transaction-tx.ensures.begun at c.in_ok-refused.ensures.fills) early working content rest.stands out beside) in
-    let may : Trees → Type 0 = λ db. IsTaken names content d c.args.conn.now.schema db in
+    let may : Trees → Type 0 = λ db. IsApplied names content d c.args.conn.now.schema db in
     subst (λ k. Survives (state g.S.Store h) (state g.S.Store k) may) same
     (survives_begin g.S.Store h n may (survives_then t m n (λ _. ⊥) (λ db. db ≡ m.now.trees) may (λ _ db none. absurd none)
     (λ clean db is. leaves names content d t m (fills (omega (arith, c.commit.ensures.survives.clean, clean))) db is)
