@@ -14,8 +14,8 @@ ghost use Rattle.replica.specs.Over.{StandsOver, MeetsOver};
 ghost use Rattle.replica.specs.declared.phase.Phase.TheVariants.{Dump};
 ghost use Rattle.store.specs.Store.{database, names_of, IsBroken};
 
+use crate::dump::take_event;
 use crate::end::{Ended, Reason};
-use crate::event::take_event;
 use crate::message::answer;
 use crate::phase::Phase;
 use crate::session::Session;

@@ -4,7 +4,7 @@ use Rattle.store.specs.Store.{HoldsAs}
 use Rattle.replica.specs.Turn.{GathersMore, EndsDump}
 use Rattle.replica.specs.Event.{TakesEvent}
 use Rattle.replica.proofs.Events.{ends_early, goes_on, over_broken, over_whole}
-use Rattle.replica.proofs.event.take_event.Goals as goal
+use Rattle.replica.proofs.dump.take_event.Goals as goal
 
 pub returns-in-Ok-Some-clause-turn : goal.returns-in-Ok-Some-clause-turn
 returns-in-Ok-Some-clause-turn g c clean is now es ds stands =

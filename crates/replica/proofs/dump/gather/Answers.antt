@@ -1,7 +1,7 @@
 use Rattle.std.proofs.Common.{◌≡◌, ◌≤◌, get_or, length, arith}
 use Rattle.binlog.specs.EventView.{event_value}
 use Rattle.replica.proofs.Events.{carries_event, events_end}
-use Rattle.replica.proofs.event.gather.Goals as goal
+use Rattle.replica.proofs.dump.gather.Goals as goal
 
 pub returns-in_default-clause-err : goal.returns-in_default-clause-err
 returns-in_default-clause-err c es ds stands = c.no_event.ensures.ends c.args.follow.now es
