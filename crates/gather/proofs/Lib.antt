@@ -4,7 +4,7 @@ pub mod WholeImages
 pub mod ImageParts
 pub mod Maps
 pub mod RowItems
-pub mod Places
+pub mod States
 pub mod Growing
 pub mod Stepping
 pub mod Shortening

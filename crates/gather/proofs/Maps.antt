@@ -13,11 +13,11 @@ use Rattle.binlog.specs.Table.{TableValue}
 use Rattle.binlog.specs.Row.{kinds}
 use Rattle.binlog.specs.Rows.{RowsValue}
 use Rattle.binlog.specs.Event.{EventValue, format, begin, commit, neutral, stop, rotate, gtid, table_map, other_map, rows, xid}
-use Rattle.binlog.specs.declared.table.TableDef.{TableDef}
+use Rattle.binlog.specs.declared.body.table_map.TableDef.{TableDef}
 use Rattle.gather.specs.Transaction.{ChangeValue, said_of, map_of, change_of, is_end, AreChangesOf, AreChanges}
 use Rattle.gather.specs.View.{change_values}
 use Rattle.gather.specs.Begun.{table_of, said, Adds, Keeps}
-use Rattle.gather.specs.declared.begun.Begun.{Begun}
+use Rattle.gather.specs.declared.open_transaction.Begun.{Begun}
 
 pub or_none : (x : Option (Option TableValue)) → option_or x None ≡ x
 or_none None = refl

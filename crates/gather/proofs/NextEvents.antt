@@ -16,7 +16,7 @@ use Rattle.gather.specs.declared.fault.GatherFault.{GatherFault}
 use Rattle.gather.specs.declared.fault.GatherFault.TheVariants.{NoFormat, Misplaced, UnknownTable, Event}
 use Rattle.gather.proofs.Maps.{changes_more}
 use Rattle.gather.proofs.Growing.{counted, joined, counts_no_more, format_more, first_more, first_behind, split, last_is, skips}
-use Rattle.gather.proofs.Places.{open_block, map_of_body}
+use Rattle.gather.proofs.States.{open_block, map_of_body}
 use Rattle.gather.proofs.Stepping.{whole_closed, new_block, longer, Continues, continues}
 use Rattle.gather.proofs.Shortening.{Back, passes, marks, announces, starts, goes_on, ends, back}
 use Rattle.gather.proofs.OneList.{many_columns}

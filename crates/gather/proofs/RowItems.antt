@@ -10,12 +10,12 @@ use Rattle.std.specs.Option.{unwrap_or}
 use Rattle.binlog.specs.Column.{is_lawful}
 use Rattle.binlog.specs.Row.{kinds}
 use Rattle.binlog.specs.Rows.{RowsValue, PairValue, inserted, deleted, updated, IsPair, AreRows, AreItems}
-use Rattle.binlog.specs.declared.column.ColumnKind.{ColumnKind}
+use Rattle.binlog.specs.declared.column.kind.ColumnKind.{ColumnKind}
 use Rattle.binlog.specs.declared.fault.EventFault.{EventFault}
 use Rattle.binlog.specs.declared.fault.EventFaultKind.TheVariants.{Columns, Truncated}
-use Rattle.binlog.specs.declared.rows_event.RowsKind.{RowsKind}
-use Rattle.binlog.specs.declared.rows_event.RowsKind.TheVariants.{Write, Update, Delete}
-use Rattle.binlog.specs.declared.table.TableDef.{TableDef}
+use Rattle.binlog.specs.declared.body.rows_event.RowsKind.{RowsKind}
+use Rattle.binlog.specs.declared.body.rows_event.RowsKind.TheVariants.{Write, Update, Delete}
+use Rattle.binlog.specs.declared.body.table_map.TableDef.{TableDef}
 use Rattle.binlog.proofs.LawfulColumns.{lawful_kinds}
 use Rattle.gather.specs.Transaction.{ChangeValue, change_of}
 use Rattle.gather.specs.Fault.{IsRowsFault}

@@ -11,14 +11,14 @@ use Rattle.binlog.specs.EventView.{event_value}
 use Rattle.binlog.specs.declared.event.Event.{Event}
 use Rattle.binlog.specs.declared.event.Event.TheVariants.{Rotate, Stop}
 use Rattle.gather.specs.View.{delivered}
-use Rattle.gather.specs.Place.{IsAt, GoesOn, FaultsAt}
+use Rattle.gather.specs.State.{IsAt, GoesOn, FaultsAt}
 use Rattle.gather.specs.Standing.{Brings}
-use Rattle.gather.specs.declared.change.Delivery.{Delivery}
+use Rattle.gather.specs.declared.transaction.Delivery.{Delivery}
 use Rattle.gather.specs.declared.fault.GatherFault.{GatherFault}
 use Rattle.gather.specs.declared.fault.GatherFault.TheVariants.{NoFormat, Memory}
-use Rattle.gather.specs.declared.place.Place.{Place}
-use Rattle.gather.specs.declared.place.Place.TheVariants.{Between, Announced}
-use Rattle.gather.proofs.Places.{open_block}
+use Rattle.gather.specs.declared.state.State.{State}
+use Rattle.gather.specs.declared.state.State.TheVariants.{Between, Announced}
+use Rattle.gather.proofs.States.{open_block}
 use Rattle.gather.proofs.Growing.{counted, joined, counts_no_more, counts_more, last_more, format_more, first_more, first_behind, joined_append, blocks_more, split, mark_begins, last_is, skips}
 
 -- ---- A block that is whole has ended.
@@ -97,8 +97,8 @@ or_false : (b : Bool) → (b || false) ≡ b
 or_false true = refl
 or_false false = refl
 
-pub step_neutral : (events : List EventValue) (ds : List DeliveryValue) (formatted : Bool) (place : Place) → Brings events ds formatted place → Brings (events ++ neutral ∷ []) (ds ++ []) formatted place
-step_neutral events ds formatted place b = record {
+pub step_neutral : (events : List EventValue) (ds : List DeliveryValue) (formatted : Bool) (state : State) → Brings events ds formatted state → Brings (events ++ neutral ∷ []) (ds ++ []) formatted state
+step_neutral events ds formatted state b = record {
   deliveries = record {
     blocks = b.deliveries.blocks;
     cut = counts_no_more events ∙ b.deliveries.cut;
@@ -106,7 +106,7 @@ step_neutral events ds formatted place b = record {
     format_first = first_neutral events b.deliveries.format_first;
   };
   has_format = b.has_format ∙ sym (format_more events neutral ∙ or_false (has_format events));
-  at = subst (λ block. IsAt block place) (sym (last_more events neutral)) b.at;
+  at = subst (λ block. IsAt block state) (sym (last_more events neutral)) b.at;
 }
 
 -- ---- Format descriptions, rotations and stops.
@@ -129,9 +129,9 @@ marks_are (other_map id) marks = absurd cc
 marks_are (rows r) marks = absurd cc
 marks_are (xid number) marks = absurd cc
 
-pub step_mark : (events : List EventValue) (ds : List DeliveryValue) (formatted formatted' : Bool) (place : Place) (e : EventValue) → is_mark e ≡ true → Brings events ds formatted place →
+pub step_mark : (events : List EventValue) (ds : List DeliveryValue) (formatted formatted' : Bool) (state : State) (e : EventValue) → is_mark e ≡ true → Brings events ds formatted state →
     formatted' ≡ (has_format events || is_format e) → Brings (events ++ e ∷ []) (ds ++ []) formatted' Between
-step_mark events ds formatted formatted' place e marks b has =
+step_mark events ds formatted formatted' state e marks b has =
     let m = marks_are e marks in
     record {
       deliveries = new_block events ds e b.deliveries m.counts (first_more events e m.no_gtid b.deliveries.format_first) (inl (inl (record { event = e; marks = marks; block_is = refl }), refl));
@@ -141,9 +141,9 @@ step_mark events ds formatted formatted' place e marks b has =
 
 -- ---- GTIDs.
 
-pub step_gtid : (events : List EventValue) (ds : List DeliveryValue) (formatted : Bool) (place : Place) (id : Gtid) → formatted ≡ true → Brings events ds formatted place →
+pub step_gtid : (events : List EventValue) (ds : List DeliveryValue) (formatted : Bool) (state : State) (id : Gtid) → formatted ≡ true → Brings events ds formatted state →
     Brings (events ++ gtid id.source id.number ∷ []) (ds ++ []) formatted (Announced id)
-step_gtid events ds formatted place id is b =
+step_gtid events ds formatted state id is b =
     let e = gtid id.source id.number in
     record {
       deliveries = new_block events ds e b.deliveries refl (first_behind events e (sym b.has_format ∙ is) b.deliveries.format_first) (inl (inr (inl (record { source = id.source; number = id.number; block_is = refl })), refl));
@@ -173,7 +173,7 @@ continues neutral of other = absurd cc
 continues stop of other = absurd cc
 continues (rotate position name) of other = absurd cc
 
-pub stepped : (events : List EventValue) (ds own : List DeliveryValue) (formatted : Bool) (before after : Place) (e : EventValue) → Continues e → Brings events ds formatted before → GoesOn e before after own →
+pub stepped : (events : List EventValue) (ds own : List DeliveryValue) (formatted : Bool) (before after : State) (e : EventValue) → Continues e → Brings events ds formatted before → GoesOn e before after own →
     Brings (events ++ e ∷ []) (ds ++ own) formatted after
 stepped events ds own formatted before after e k b goes =
     let x = goes (last_block events) b.at in
@@ -183,9 +183,9 @@ stepped events ds own formatted before after e k b goes =
       at = subst (λ block. IsAt block after) (sym (last_more events e ∙ k.added (last_block events))) x.at;
     }
 
-pub fault_from : (events : List EventValue) (ds : List DeliveryValue) (formatted : Bool) (place : Place) (e : EventValue) (fault : GatherFault) → formatted ≡ true → Brings events ds formatted place → FaultsAt e place fault →
+pub fault_from : (events : List EventValue) (ds : List DeliveryValue) (formatted : Bool) (state : State) (e : EventValue) (fault : GatherFault) → formatted ≡ true → Brings events ds formatted state → FaultsAt e state fault →
     (fault ≡ Memory) ⊎ IsFault events e fault
-fault_from events ds formatted place e fault is b faults =
+fault_from events ds formatted state e fault is b faults =
     let has : has_format events ≡ true = sym b.has_format ∙ is in
     ⊎_elim inl
     (λ broken. inr (⊎_elim (λ m. misplaced has m.0 m.1) (λ u. unread u.0 u.1 has u.2 u.3) broken))
@@ -193,12 +193,12 @@ fault_from events ds formatted place e fault is b faults =
 
 -- ---- Answers.
 
-pub takes : (result : Result (Option Delivery) GatherFault) (formatted : Bool) (before after : Place) (e : EventValue) → Continues e → IfOk result (λ delivery. GoesOn e before after (delivered delivery)) →
+pub takes : (result : Result (Option Delivery) GatherFault) (formatted : Bool) (before after : State) (e : EventValue) → Continues e → IfOk result (λ delivery. GoesOn e before after (delivered delivery)) →
     (events : List EventValue) (ds : List DeliveryValue) → Brings events ds formatted before → IfOk result (λ delivery. Brings (events ++ e ∷ []) (ds ++ delivered delivery) formatted after)
 takes (Ok delivery) formatted before after e k goes events ds b = stepped events ds (delivered delivery) formatted before after e k b goes
 takes (Err fault) formatted before after e k goes events ds b = goes
 
-pub refuses : (result : Result (Option Delivery) GatherFault) (formatted : Bool) (before : Place) (e : EventValue) → formatted ≡ true → IfErr result (FaultsAt e before) →
+pub refuses : (result : Result (Option Delivery) GatherFault) (formatted : Bool) (before : State) (e : EventValue) → formatted ≡ true → IfErr result (FaultsAt e before) →
     (events : List EventValue) (ds : List DeliveryValue) → Brings events ds formatted before → IfErr result (λ fault. (fault ≡ Memory) ⊎ IsFault events e fault)
 refuses (Ok delivery) formatted before e is faults events ds b = faults
 refuses (Err fault) formatted before e is faults events ds b = fault_from events ds formatted before e fault is b faults

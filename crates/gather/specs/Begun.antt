@@ -9,11 +9,11 @@ use Rattle.binlog.specs.Table.{TableValue}
 use Rattle.binlog.specs.Row.{kinds}
 use Rattle.binlog.specs.Rows.{RowsValue, PairValue, inserted, deleted, updated}
 use Rattle.binlog.specs.Event.{EventValue}
-use Rattle.binlog.specs.declared.table.TableDef.{TableDef}
+use Rattle.binlog.specs.declared.body.table_map.TableDef.{TableDef}
 use Rattle.gather.specs.Image.{HasImage}
 use Rattle.gather.specs.Transaction.{ChangeValue, map_of, change_of, IsReadBy, AreChanges}
 use Rattle.gather.specs.View.{change_values}
-use Rattle.gather.specs.declared.begun.Begun.{Begun}
+use Rattle.gather.specs.declared.open_transaction.Begun.{Begun}
 
 -- the table of a table map with this number
 abbrev pub table_of : ℕ → Rc TableDef Global → TableValue

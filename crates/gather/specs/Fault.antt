@@ -1,7 +1,8 @@
 -- The first event that makes a list of events unlawful, and its fault.
 use Rattle.std.specs.Prelude.{◌≡◌, ℕ, ◌+◌, ◌<◌, ◌⊎◌, Bool, true, false, not, List, [], ◌∷◌, ◌++◌, length, fold, Option, Some, None, if◌then◌else◌, ◌≢◌}
 use Rattle.std.specs.List.{AllByRecursion, list_any}
-use Rattle.binlog.specs.Follow.{Names}
+use Rattle.binlog.specs.EventType as event_type
+use Rattle.binlog.specs.Filter.{Names}
 use Rattle.binlog.specs.Table.{TableValue}
 use Rattle.binlog.specs.Rows.{RowsValue, PairValue, EndsEarly, rows_code}
 use Rattle.binlog.specs.Event.{EventValue, format, begin, commit, gtid, table_map, other_map, rows, xid, IsEvent}
@@ -67,11 +68,11 @@ is_in_place block _ = true
 
 -- the type of an event that may be misplaced
 abbrev pub type_of : EventValue → ℕ
-type_of begin = 2
-type_of commit = 2
-type_of (xid number) = 16
-type_of (table_map t) = 19
-type_of (other_map id) = 19
+type_of begin = event_type.query
+type_of commit = event_type.query
+type_of (xid number) = event_type.xid
+type_of (table_map t) = event_type.table_map
+type_of (other_map id) = event_type.table_map
 type_of (rows r) = rows_code r.kind
 type_of _ = 0
 

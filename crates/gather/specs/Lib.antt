@@ -4,5 +4,5 @@ pub mod Transaction
 pub mod Fault
 pub mod View
 pub mod Begun
-pub mod Place
+pub mod State
 pub mod Standing

@@ -3,21 +3,21 @@ use Rattle.std.specs.Prelude.{◌≡◌, Bool, true, false, List}
 use Rattle.binlog.specs.Event.{EventValue}
 use Rattle.gather.specs.Transaction.{DeliveryValue, AreDeliveries}
 use Rattle.gather.specs.Fault.{has_format, last_block}
-use Rattle.gather.specs.Place.{IsAt}
-use Rattle.gather.specs.declared.place.Place.{Place}
+use Rattle.gather.specs.State.{IsAt}
+use Rattle.gather.specs.declared.state.State.{State}
 use Rattle.gather.specs.declared.gatherer.Gatherer.{Gatherer}
 
 -- The events are lawful, and these are their transactions; `formatted` says whether a format description has come, and
--- the last block has brought the gatherer to this place.
-pub record Brings (events : List EventValue) (ds : List DeliveryValue) (formatted : Bool) (place : Place) : Type 0 where
+-- the last block has brought the gatherer to this state.
+pub record Brings (events : List EventValue) (ds : List DeliveryValue) (formatted : Bool) (state : State) : Type 0 where
   pub deliveries : AreDeliveries events ds
   pub has_format : formatted ≡ has_format events
-  pub at : IsAt (last_block events) place
+  pub at : IsAt (last_block events) state
 
 -- The gatherer has been given these events, which are lawful, and has answered their transactions: this is its
 -- position.
 pub record Stands (events : List EventValue) (ds : List DeliveryValue) (g : Gatherer) : Type 0 where
-  pub given : Brings events ds g.formatted g.place
+  pub given : Brings events ds g.formatted g.state
   pub goes_on : g.ended ≡ false
 
 -- It has answered a fault.

@@ -1,9 +1,9 @@
 -- What the crate's values mean, apart from the memory that holds them.
 use Rattle.std.specs.Prelude.{List, [], ◌∷◌, map, Option, Some, None}
 use Rattle.gather.specs.Transaction.{ChangeValue, insert, delete, update, DeliveryValue}
-use Rattle.gather.specs.declared.change.Change.{Change}
-use Rattle.gather.specs.declared.change.Change.TheVariants.{Insert, Delete, Update}
-use Rattle.gather.specs.declared.change.Delivery.{Delivery}
+use Rattle.gather.specs.declared.transaction.Change.{Change}
+use Rattle.gather.specs.declared.transaction.Change.TheVariants.{Insert, Delete, Update}
+use Rattle.gather.specs.declared.transaction.Delivery.{Delivery}
 
 -- what a change says
 abbrev pub change_value : Change → ChangeValue

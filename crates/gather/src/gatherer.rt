@@ -1,9 +1,9 @@
 //! Events of a source gathered into transactions.
 
-use crate::change::Delivery;
 use crate::fault::GatherFault;
-use crate::place::{Place, take_begin, take_end, take_map, take_other, take_rows};
-use binlog::Event;
+use crate::state::{State, take_begin, take_end, take_map, take_other, take_rows};
+use crate::transaction::Delivery;
+use binlog::{Event, event_type};
 use std::alloc::Global;
 
 /// Gathers events into whole transactions. It keeps only the current transaction.
@@ -12,7 +12,7 @@ pub struct Gatherer {
     alloc: Global,
     /// Whether a format description has come.
     formatted: bool,
-    place: Place,
+    state: State,
     /// Whether a fault was answered.
     ended: bool,
 }
@@ -33,7 +33,7 @@ impl Gatherer {
         Gatherer {
             alloc,
             formatted: false,
-            place: Place::Between,
+            state: State::Between,
             ended: false,
         }
     }
@@ -59,11 +59,11 @@ impl Gatherer {
         Ok(delivery)
     }
 
-    /// Takes an event, depending on the place in a transaction.
+    /// Takes an event, depending on the state.
     fn take(&mut self, event: &Event<'_>) -> Result<Option<Delivery>, GatherFault>
-        ensures taken { (events : List EventValue) (ds : List DeliveryValue) → Brings events ds self.old.formatted self.old.place →
-            IfOk result (λ delivery. Brings (events ++ event_value event.now ∷ []) (ds ++ delivered delivery) self.new.formatted self.new.place) }
-        ensures fault { (events : List EventValue) (ds : List DeliveryValue) → Brings events ds self.old.formatted self.old.place →
+        ensures taken { (events : List EventValue) (ds : List DeliveryValue) → Brings events ds self.old.formatted self.old.state →
+            IfOk result (λ delivery. Brings (events ++ event_value event.now ∷ []) (ds ++ delivered delivery) self.new.formatted self.new.state) }
+        ensures fault { (events : List EventValue) (ds : List DeliveryValue) → Brings events ds self.old.formatted self.old.state →
             IfErr result (λ fault. (fault ≡ GatherFault.Memory) ⊎ IsFault events (event_value event.now) fault) }
         ensures ended { self.new.ended ≡ self.old.ended }
     {
@@ -74,23 +74,23 @@ impl Gatherer {
             Event::Neutral => Ok(None),
             Event::Format => {
                 self.formatted = true;
-                self.place = Place::Between;
+                self.state = State::Between;
                 Ok(None)
             }
             Event::Rotate { .. } | Event::Stop => {
-                self.place = Place::Between;
+                self.state = State::Between;
                 Ok(None)
             }
             Event::Gtid(gtid) => {
-                self.place = Place::Announced(*gtid);
+                self.state = State::Announced(*gtid);
                 Ok(None)
             }
-            Event::Begin => take_begin(&mut self.place, self.alloc),
-            Event::TableMap(map) => take_map(&mut self.place, self.alloc, map),
-            Event::OtherMap { id } => take_other(&mut self.place, *id),
-            Event::Rows(rows) => take_rows(&mut self.place, self.alloc, rows),
-            Event::Commit => take_end(&mut self.place, 2),
-            Event::Xid { .. } => take_end(&mut self.place, 16),
+            Event::Begin => take_begin(&mut self.state, self.alloc),
+            Event::TableMap(map) => take_map(&mut self.state, self.alloc, map),
+            Event::OtherMap { id } => take_other(&mut self.state, *id),
+            Event::Rows(rows) => take_rows(&mut self.state, self.alloc, rows),
+            Event::Commit => take_end(&mut self.state, event_type::QUERY),
+            Event::Xid { .. } => take_end(&mut self.state, event_type::XID),
         }
     }
 }

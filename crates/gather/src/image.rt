@@ -7,7 +7,7 @@ ghost use Rattle.gather.specs.ImageCells.{cell_values};
 
 use crate::fault::GatherFault;
 use crate::image_cells::ImageCells;
-use crate::image_reading::is_image;
+use crate::image_check::is_image;
 use crate::image_writing::{image_size, row_size, write_cells, write_row};
 use binlog::{Cell, Row};
 use std::alloc::Global;

@@ -8,21 +8,21 @@
 //! events are lawful and which transactions they hold, and [`laws`] states what follows from that.
 #![tactic(auto)]
 
-mod begun;
-mod change;
 mod fault;
 mod gatherer;
 mod image;
 mod image_cells;
-mod image_reading;
+mod image_check;
 mod image_writing;
 pub mod laws;
-mod place;
+mod open_transaction;
 mod row_changes;
+mod state;
+mod transaction;
 
 pub use binlog::Follow;
-pub use change::{Change, Delivery};
 pub use fault::GatherFault;
 pub use gatherer::Gatherer;
 pub use image::Image;
 pub use image_cells::ImageCells;
+pub use transaction::{Change, Delivery};

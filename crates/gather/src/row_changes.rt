@@ -7,9 +7,9 @@ ghost use Rattle.gather.specs.Fault.{IsRowsFault};
 ghost use Rattle.gather.specs.View.{change_value, change_values};
 ghost use Rattle.gather.specs.Begun.{table_of, HasImages, Adds};
 
-use crate::change::Change;
 use crate::fault::GatherFault;
 use crate::image::Image;
+use crate::transaction::Change;
 use binlog::{RowPair, RowsEvent, TableDef};
 use std::alloc::Global;
 use std::rc::Rc;

@@ -2,9 +2,9 @@
 
 ghost use Rattle.std.specs.Prelude.{◌≤◌, IfOk, IfSome};
 
+use crate::arguments::grammar;
 use crate::failure::{DONE, Failure, MEMORY};
 use crate::follow::{Words, follow_source};
-use crate::grammar::grammar;
 use crate::minus::minus;
 use crate::replay::replay;
 use crate::sets::{gtids, missing};

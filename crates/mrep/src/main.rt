@@ -4,6 +4,7 @@
 //! the process.
 #![tactic(auto)]
 
+mod arguments;
 mod cells;
 mod command;
 mod database;
@@ -11,7 +12,6 @@ mod events;
 mod failure;
 mod follow;
 mod forge;
-mod grammar;
 mod listing;
 mod minus;
 mod name;

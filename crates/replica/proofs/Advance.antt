@@ -3,7 +3,7 @@ use Rattle.std.proofs.Common.{◌≡◌, ℕ, Bool, true, false, List, [], ◌++
 use Rattle.wire.specs.declared.fault.WireFault.{WireFault}
 use Rattle.wire.specs.declared.fault.WireFault.TheVariants as wire
 use Rattle.wire.specs.Payload.{ReaderState, IsWholePayload, IsUnfinished, IsOutOfSequence, IsTooLarge}
-use Rattle.binlog.specs.Follow.{Names}
+use Rattle.binlog.specs.Filter.{Names}
 use Rattle.gather.specs.declared.gatherer.Gatherer.{Gatherer}
 use Rattle.sqlite_trees.specs.declared.store.Store.{Ghosts}
 use Rattle.sqlite_schema.specs.declared.schema.Schema.{Schema}

@@ -8,7 +8,7 @@ use Rattle.sqlite.specs.Held.{Held, state}
 use Rattle.wire.specs.Packet.{packing_length}
 use Rattle.wire.specs.Payload.{ReaderState, IsUnfinished}
 use Rattle.wire.proofs.OneReading.{nothing_yet}
-use Rattle.binlog.specs.Follow.{Names}
+use Rattle.binlog.specs.Filter.{Names}
 use Rattle.gather.specs.Transaction.{DeliveryValue}
 use Rattle.gather.specs.declared.gatherer.Gatherer.{Gatherer}
 use Rattle.sqlite.specs.declared.error.Error.{Error}

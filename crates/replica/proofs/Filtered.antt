@@ -1,10 +1,10 @@
 -- Changes of tables that are not followed are skipped.
 use Rattle.std.proofs.Common.{◌≡◌, Bool, true, false, List, [], ◌∷◌, ◌++◌, map, flat_map, if◌then◌else◌, refl, sym, subst, ◌∙◌, MatchBool}
 use Rattle.std.specs.FinSet as set
-use Rattle.binlog.specs.Follow.{Names, follows}
+use Rattle.binlog.specs.Filter.{Names, admits}
 use Rattle.binlog.specs.Table.{TableValue}
 use Rattle.binlog.specs.Rows.{PairValue, inserted, deleted, updated}
-use Rattle.binlog.proofs.Followed.{all_follow}
+use Rattle.binlog.proofs.Admitted.{all_follow}
 use Rattle.gather.specs.Transaction.{ChangeValue, change_of}
 use Rattle.store.specs.State.{Bag, Content}
 use Rattle.store.specs.Take.{IsMade, is_followed, AreDone, Takes, done}
@@ -15,20 +15,20 @@ use Rattle.replica.specs.Resume.{part_changes, transaction}
 pub all_changes : (part : PartValue) → part_changes set.empty part ≡ map (change_of part.table) part.pairs
 all_changes part = rw (all_follow part.table.schema part.table.table) refl
 
-by_table : (names : Names) (t : TableValue) (pair : PairValue) → is_followed names (change_of t pair) ≡ follows names t.schema t.table
+by_table : (names : Names) (t : TableValue) (pair : PairValue) → is_followed names (change_of t pair) ≡ admits names t.schema t.table
 by_table names t (inserted after) = refl
 by_table names t (deleted before) = refl
 by_table names t (updated before after) = refl
 
 -- ---- Changes of a table that is not followed.
 
-passed : (names : Names) (t : TableValue) (pairs : List PairValue) (old new : Bag) → follows names t.schema t.table ≡ false → AreDone names (map (change_of t) pairs) old new → new ≡ old
+passed : (names : Names) (t : TableValue) (pairs : List PairValue) (old new : Bag) → admits names t.schema t.table ≡ false → AreDone names (map (change_of t) pairs) old new → new ≡ old
 passed names t [] old new other h = h
 passed names t (pair ∷ pairs) old new other h =
     let mid : h.0 ≡ old = subst (λ (b : Bool). MatchBool b (IsMade (change_of t pair) old h.0) (h.0 ≡ old)) (by_table names t pair ∙ other) h.1 in
     passed names t pairs h.0 new other h.2 ∙ mid
 
-passing : (names : Names) (t : TableValue) (pairs : List PairValue) (old : Bag) → follows names t.schema t.table ≡ false → AreDone names (map (change_of t) pairs) old old
+passing : (names : Names) (t : TableValue) (pairs : List PairValue) (old : Bag) → admits names t.schema t.table ≡ false → AreDone names (map (change_of t) pairs) old old
 passing names t [] old other = refl
 passing names t (pair ∷ pairs) old other = (old, subst (λ (b : Bool). MatchBool b (IsMade (change_of t pair) old old) (old ≡ old)) (sym (by_table names t pair ∙ other)) refl, passing names t pairs old other)
 
@@ -49,12 +49,12 @@ both names (x ∷ xs) ys old mid new a b = (a.0, a.1, both names xs ys a.0 mid n
 
 -- ---- A part.
 
-without : (names : Names) (part : PartValue) (followed : Bool) (old new : Bag) → follows names part.table.schema part.table.table ≡ followed → AreDone names (map (change_of part.table) part.pairs) old new
+without : (names : Names) (part : PartValue) (followed : Bool) (old new : Bag) → admits names part.table.schema part.table.table ≡ followed → AreDone names (map (change_of part.table) part.pairs) old new
     → AreDone names (if followed then map (change_of part.table) part.pairs else []) old new
 without names part true old new is h = h
 without names part false old new is h = passed names part.table part.pairs old new is h
 
-within : (names : Names) (part : PartValue) (followed : Bool) (old new : Bag) → follows names part.table.schema part.table.table ≡ followed
+within : (names : Names) (part : PartValue) (followed : Bool) (old new : Bag) → admits names part.table.schema part.table.table ≡ followed
     → AreDone names (if followed then map (change_of part.table) part.pairs else []) old new → AreDone names (map (change_of part.table) part.pairs) old new
 within names part true old new is h = h
 within names part false old new is h = subst (λ m. AreDone names (map (change_of part.table) part.pairs) old m) (sym h) (passing names part.table part.pairs old is)
@@ -66,7 +66,7 @@ parts_without names [] old new h = h
 parts_without names (part ∷ parts) old new h =
     let t = halved names (part_changes set.empty part) (flat_map (part_changes set.empty) parts) old new h in
     both names (part_changes names part) (flat_map (part_changes names) parts) old t.mid new
-    (without names part (follows names part.table.schema part.table.table) old t.mid refl (subst (λ l. AreDone names l old t.mid) (all_changes part) t.first))
+    (without names part (admits names part.table.schema part.table.table) old t.mid refl (subst (λ l. AreDone names l old t.mid) (all_changes part) t.first))
     (parts_without names parts t.mid new t.second)
 
 parts_within : (names : Names) (parts : List PartValue) (old new : Bag) → AreDone names (flat_map (part_changes names) parts) old new → AreDone names (flat_map (part_changes set.empty) parts) old new
@@ -74,7 +74,7 @@ parts_within names [] old new h = h
 parts_within names (part ∷ parts) old new h =
     let t = halved names (part_changes names part) (flat_map (part_changes names) parts) old new h in
     both names (part_changes set.empty part) (flat_map (part_changes set.empty) parts) old t.mid new
-    (subst (λ l. AreDone names l old t.mid) (sym (all_changes part)) (within names part (follows names part.table.schema part.table.table) old t.mid refl t.first))
+    (subst (λ l. AreDone names l old t.mid) (sym (all_changes part)) (within names part (admits names part.table.schema part.table.table) old t.mid refl t.first))
     (parts_within names parts t.mid new t.second)
 
 pub whole_or_not : (names : Names) (script : ScriptValue) (old new : Content)

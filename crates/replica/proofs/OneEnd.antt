@@ -17,7 +17,7 @@ use Rattle.greet.specs.declared.fault.GreetFault.{GreetFault}
 use Rattle.greet.specs.declared.fault.GreetFault.TheVariants as greet
 use Rattle.greet.proofs.Replies.{switch_not_refused, ok_not_refused, ok_reply_not_refused, eof_not_refused}
 use Rattle.greet.proofs.Greetings.{not_refused}
-use Rattle.binlog.specs.Follow.{Names}
+use Rattle.binlog.specs.Filter.{Names}
 use Rattle.binlog.specs.Event.{EventValue, IsEvent, event_fault}
 use Rattle.binlog.specs.declared.fault.EventFault.{EventFault}
 use Rattle.binlog.proofs.Events.{one_event, event_not_refused}

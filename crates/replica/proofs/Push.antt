@@ -3,7 +3,7 @@ use Rattle.std.proofs.Common.{◌≡◌, ℕ, ◌+◌, ◌^◌, ◌<◌, true, f
 use Rattle.std.proofs.lemmas.List.{length-append}
 use Rattle.wire.specs.Payload.{IsWholePayload}
 use Rattle.gtid.specs.Identifier.{Ids}
-use Rattle.binlog.specs.Follow.{Names}
+use Rattle.binlog.specs.Filter.{Names}
 use Rattle.binlog.specs.Event.{EventValue}
 use Rattle.gather.specs.Transaction.{DeliveryValue, AreBlocks, IsBlock, AreDeliveries}
 use Rattle.store.specs.State.{Content}

@@ -12,7 +12,7 @@ use Rattle.gtid.specs.Encoding.{blocks_bytes, grouped, IsEncoding}
 use Rattle.gtid.proofs.Decoded.{one_front}
 use Rattle.gtid.proofs.OneLeastList.{one_least_list}
 use Rattle.byteorder.specs.Endian.{little_bytes}
-use Rattle.binlog.specs.Follow.{Names}
+use Rattle.binlog.specs.Filter.{Names}
 use Rattle.binlog.specs.Event.{EventValue}
 use Rattle.binlog.specs.Writing.{IsWritable}
 use Rattle.gather.specs.Fault.{IsRead}

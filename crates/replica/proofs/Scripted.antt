@@ -5,7 +5,7 @@ use Rattle.std.proofs.lemmas.List.{map-append}
 use Rattle.std.proofs.lemmas.List.Elements.{filter-append}
 use Rattle.std.specs.List.{AllByRecursion}
 use Rattle.std.specs.Option.{option_or}
-use Rattle.binlog.specs.Follow.{Names, follows}
+use Rattle.binlog.specs.Filter.{Names, admits}
 use Rattle.binlog.specs.Table.{TableValue}
 use Rattle.binlog.specs.Event.{EventValue, format, begin, commit, neutral, stop, rotate, gtid, table_map, other_map, rows, xid}
 use Rattle.binlog.proofs.RowsWritten.{are_written, they_fit}
@@ -30,7 +30,7 @@ seen names neutral = neutral
 seen names stop = stop
 seen names (rotate position name) = rotate position name
 seen names (gtid source number) = gtid source number
-seen names (table_map t) = map_seen (follows names t.schema t.table) t
+seen names (table_map t) = map_seen (admits names t.schema t.table) t
 seen names (other_map id) = other_map id
 seen names (rows r) = rows r
 seen names (xid number) = xid number
@@ -98,7 +98,7 @@ row_changes false part fits = refl
 are_changes : (names : Names) (before : List EventValue) (parts : List PartValue) → AllByRecursion CanSendPart parts → AreChanges before (flat_map (seen_part names) parts) (flat_map (part_changes names) parts)
 are_changes names before [] can = refl
 are_changes names before (part ∷ parts) can =
-    let f = follows names part.table.schema part.table.table in
+    let f = admits names part.table.schema part.table.table in
     let map_event = map_seen f part.table in
     let behind = before ++ map_event ∷ [] in (
       [],
@@ -149,7 +149,7 @@ map_counts false t events = refl
 parts_count : (names : Names) (parts : List PartValue) → filter counts (flat_map (seen_part names) parts) ≡ flat_map (seen_part names) parts
 parts_count names [] = refl
 parts_count names (part ∷ parts) =
-    let f = follows names part.table.schema part.table.table in
+    let f = admits names part.table.schema part.table.table in
     map_counts f part.table (rows (rows_of part) ∷ flat_map (seen_part names) parts) ∙ ap (λ l. map_seen f part.table ∷ rows (rows_of part) ∷ l) (parts_count names parts)
 
 end_counts : (ending : Ending) (number : ℕ) → filter counts (end_event ending number ∷ []) ≡ end_event ending number ∷ []

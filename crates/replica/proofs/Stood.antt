@@ -1,6 +1,6 @@
 -- What follows from a session's position.
 use Rattle.std.proofs.Common.{◌≡◌, ℕ, Bool, true, false, List, [], ◌++◌, refl, sym, ap, ◌∙◌, inl, Some, None, is_some, MatchOption, unwrap_or, append-nil, subst, Vec, Global, Option, arith}
-use Rattle.binlog.specs.Follow.{Names}
+use Rattle.binlog.specs.Filter.{Names}
 use Rattle.wire.specs.Payload.{ReaderState, IsUnfinished}
 use Rattle.wire.proofs.OneReading.{nothing_yet}
 use Rattle.gather.specs.Standing.{Stands as Gathers}

@@ -7,7 +7,7 @@ use Rattle.wire.specs.Packet.{packet, packets, IsPacking, packing_length}
 use Rattle.wire.specs.Payload.{IsWholePayload}
 use Rattle.wire.proofs.OnePacking.{none_begins, length_packing}
 use Rattle.greet.specs.Message.{IsOkPacket}
-use Rattle.binlog.specs.Follow.{Names, follows}
+use Rattle.binlog.specs.Filter.{Names, admits}
 use Rattle.binlog.specs.Table.{TableValue}
 use Rattle.binlog.specs.Event.{EventValue, format, begin, commit, neutral, stop, rotate, gtid, table_map, other_map, rows, xid, IsEvent}
 use Rattle.binlog.specs.Writing.{IsWritable, event_bytes}
@@ -24,7 +24,7 @@ use Rattle.replica.proofs.Scripted.{map_seen, seen}
 
 -- ---- Events.
 
-map_read : (names : Names) (t : TableValue) (bytes : List ℕ) (followed : Bool) → follows names t.schema t.table ≡ followed → IsEvent set.empty (table_map t) bytes → IsEvent names (map_seen followed t) bytes
+map_read : (names : Names) (t : TableValue) (bytes : List ℕ) (followed : Bool) → admits names t.schema t.table ≡ followed → IsEvent set.empty (table_map t) bytes → IsEvent names (map_seen followed t) bytes
 map_read names t bytes true is w = record { code = w.code; may_ignore = w.may_ignore; body = w.body; framed = w.framed; has_body = (w.has_body.0, w.has_body.1, is) }
 map_read names t bytes false is w = record {
   code = w.code;
@@ -43,7 +43,7 @@ is_read names neutral is = let w = written neutral is in record { code = w.code;
 is_read names stop is = let w = written stop is in record { code = w.code; may_ignore = w.may_ignore; body = w.body; framed = w.framed; has_body = w.has_body }
 is_read names (rotate position name) is = let w = written (rotate position name) is in record { code = w.code; may_ignore = w.may_ignore; body = w.body; framed = w.framed; has_body = w.has_body }
 is_read names (gtid source number) is = let w = written (gtid source number) is in record { code = w.code; may_ignore = w.may_ignore; body = w.body; framed = w.framed; has_body = w.has_body }
-is_read names (table_map t) is = map_read names t (event_bytes (table_map t)) (follows names t.schema t.table) refl (written (table_map t) is)
+is_read names (table_map t) is = map_read names t (event_bytes (table_map t)) (admits names t.schema t.table) refl (written (table_map t) is)
 is_read names (other_map id) is = absurd (no_other_map id is)
 is_read names (rows r) is = let w = written (rows r) is in record { code = w.code; may_ignore = w.may_ignore; body = w.body; framed = w.framed; has_body = w.has_body }
 is_read names (xid number) is = let w = written (xid number) is in record { code = w.code; may_ignore = w.may_ignore; body = w.body; framed = w.framed; has_body = w.has_body }

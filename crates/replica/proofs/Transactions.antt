@@ -8,10 +8,10 @@ use Rattle.std.specs.Ordering.{is_eq}
 use Rattle.std.specs.FinSet as set
 use Rattle.gtid.specs.Identifier.{Id, Ids, id_cmp}
 use Rattle.gtid.proofs.Sets.{id_cmp_total}
-use Rattle.binlog.specs.Follow.{Names}
+use Rattle.binlog.specs.Filter.{Names}
 use Rattle.gather.specs.Transaction.{ChangeValue, insert, delete, update, DeliveryValue}
 use Rattle.store.specs.State.{TableRow, row_of, Bag, Content}
-use Rattle.store.specs.Take.{IsAdded, IsTaken, IsMade, is_followed, AreDone, is_executed, Takes, done}
+use Rattle.store.specs.Take.{IsAdded, IsRemoved, IsMade, is_followed, AreDone, is_executed, Takes, done}
 use Rattle.replica.specs.Conn.{TakesAll}
 use Rattle.scripted_source.specs.Script.{ScriptValue}
 use Rattle.scripted_source.specs.Source.{due}
@@ -33,7 +33,7 @@ added_at row old new other a b r = no_other (new r) (other r) (λ differ.
     let apart : r ≢ row = λ e. differ (ap new e ∙ a.one_more ∙ sym b.one_more ∙ sym (ap other e)) in
     differ (a.others r apart ∙ sym (b.others r apart)))
 
-taken_at : (row : TableRow) (old new other : Bag) → IsTaken row old new → IsTaken row old other → (r : TableRow) → new r ≡ other r
+taken_at : (row : TableRow) (old new other : Bag) → IsRemoved row old new → IsRemoved row old other → (r : TableRow) → new r ≡ other r
 taken_at row old new other a b r = no_other (new r) (other r) (λ differ.
     let apart : r ≢ row = λ e. differ (ap new e ∙ less (old row) (new row) (other row) a.one_less b.one_less ∙ sym (ap other e)) in
     differ (a.others r apart ∙ sym (b.others r apart)))

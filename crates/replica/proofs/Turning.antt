@@ -6,7 +6,7 @@ use Rattle.wire.specs.Payload.{ReaderState, IsUnfinished}
 use Rattle.wire.specs.declared.fault.WireFault.TheVariants as wire
 use Rattle.wire.proofs.OneReading.{nothing_yet}
 use Rattle.wire.proofs.OnePacking.{length_packing}
-use Rattle.binlog.specs.Follow.{Names}
+use Rattle.binlog.specs.Filter.{Names}
 use Rattle.gather.specs.declared.gatherer.Gatherer.{Gatherer}
 use Rattle.store.specs.State.{Content}
 use Rattle.replica.specs.declared.end.Reason.{Reason}

@@ -4,7 +4,7 @@ use Rattle.wire.specs.declared.fault.WireFault.TheVariants as wire
 use Rattle.greet.specs.Message.{IsOkPacket}
 use Rattle.gtid.specs.Identifier.{Ids}
 use Rattle.gtid.specs.Encoding.{IsEncoding}
-use Rattle.binlog.specs.Follow.{Names}
+use Rattle.binlog.specs.Filter.{Names}
 use Rattle.binlog.specs.Event.{EventValue}
 use Rattle.gather.specs.Transaction.{DeliveryValue, AreDeliveries}
 use Rattle.sqlite.specs.declared.error.Error.{Error}
@@ -12,7 +12,7 @@ use Rattle.store.specs.declared.fault.StoreFault.{StoreFault}
 use Rattle.store.specs.declared.fault.StoreFault.TheVariants as fault
 use Rattle.store.specs.State.{Content}
 use Rattle.store.specs.Take.{Takes, done, repeat, refused, is_executed}
-use Rattle.store.specs.declared.change.Refusal.TheVariants as why
+use Rattle.store.specs.declared.row_change.Refusal.TheVariants as why
 use Rattle.replica.specs.declared.end.Refusal.{Refusal}
 use Rattle.replica.specs.declared.end.Refusal.TheVariants.{NoSuchRow, CountFull}
 use Rattle.replica.specs.declared.end.Reason.{Reason}

@@ -1,6 +1,6 @@
 -- What a crash may leave of connections.
 use Rattle.std.specs.Prelude.{◌≡◌, ℕ, ◌+◌, ◌⊎◌, Bool, false, List, ◌∷◌, ◌++◌, length}
-use Rattle.binlog.specs.Follow.{Names}
+use Rattle.binlog.specs.Filter.{Names}
 use Rattle.gather.specs.Transaction.{DeliveryValue}
 use Rattle.store.specs.State.{Content}
 use Rattle.store.specs.Take.{Takes, done}

@@ -6,7 +6,7 @@ use Rattle.wire.specs.declared.fault.WireFault.TheVariants as wire
 use Rattle.greet.specs.Message.{IsEofPacket}
 use Rattle.greet.specs.Refusal.{server_error}
 use Rattle.greet.specs.View.{Refuses}
-use Rattle.binlog.specs.Follow.{Names}
+use Rattle.binlog.specs.Filter.{Names}
 use Rattle.binlog.specs.Event.{EventValue, event_fault}
 use Rattle.gather.specs.Fault.{IsFault}
 use Rattle.replica.specs.declared.end.Reason.{Reason}

@@ -5,7 +5,7 @@ use Rattle.std.specs.FinSet as set
 use Rattle.std.specs.List.{AllByRecursion}
 use Rattle.wire.specs.declared.packet.TheConstants.{LARGEST_PAYLOAD}
 use Rattle.greet.specs.Message.{DumpValue}
-use Rattle.binlog.specs.Follow.{Names, follows}
+use Rattle.binlog.specs.Filter.{Names, admits}
 use Rattle.gather.specs.Transaction.{ChangeValue, DeliveryValue, change_of}
 use Rattle.store.specs.State.{Content}
 use Rattle.replica.specs.declared.end.Reason.{Reason}
@@ -19,7 +19,7 @@ use Rattle.scripted_source.specs.Source.{Payload, Opens, Asks, IsAnswer, is_once
 
 -- the changes of a part: none if its table is not followed
 abbrev pub part_changes : Names → PartValue → List ChangeValue
-part_changes names part = if follows names part.table.schema part.table.table then map (change_of part.table) part.pairs else []
+part_changes names part = if admits names part.table.schema part.table.table then map (change_of part.table) part.pairs else []
 
 abbrev pub transaction : Names → ScriptValue → DeliveryValue
 transaction names script = record { source = script.source; number = script.number; changes = flat_map (part_changes names) script.parts }

@@ -7,7 +7,7 @@ use Rattle.greet.specs.Native.{native_answer}
 use Rattle.greet.specs.Message.{GreetingValue, IsGreeting, response, IsSwitch, IsOkPacket, query_bytes, dump_bytes}
 use Rattle.gtid.specs.Identifier.{Ids}
 use Rattle.gtid.specs.Encoding.{IsEncoding}
-use Rattle.binlog.specs.Follow.{Names}
+use Rattle.binlog.specs.Filter.{Names}
 use Rattle.replica.specs.Settings.{Settings}
 use Rattle.replica.specs.Stream.{Payload, Due, Hello, Reply, SecondReply, QueryReply, InDump, next_due, Reading, due_behind}
 use Rattle.replica.specs.End.{EndsLog}

@@ -1,7 +1,7 @@
 -- The position of a session in a connection.
 use Rattle.std.specs.Prelude.{◌≡◌, ◌≢◌, ℕ, ◌+◌, ◌-◌, ◌^◌, Bool, true, false, List, [], ◌++◌, length, Option, Some, None, MatchOption, unwrap_or, take}
 use Rattle.wire.specs.Payload.{ReaderState, IsUnfinished, IsWholePayload}
-use Rattle.binlog.specs.Follow.{Names}
+use Rattle.binlog.specs.Filter.{Names}
 use Rattle.gather.specs.Standing.{Stands as Gathers}
 use Rattle.gather.specs.declared.gatherer.Gatherer.{Gatherer}
 use Rattle.store.specs.State.{Content}

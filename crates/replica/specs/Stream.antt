@@ -4,7 +4,7 @@ use Rattle.std.specs.Prelude.{◌≡◌, ℕ, ◌^◌, ◌<◌, ◌==◌, ◌⊎
 use Rattle.wire.specs.Payload.{IsWholePayload}
 use Rattle.greet.specs.Message.{IsOkPacket}
 use Rattle.greet.specs.Complete.{HasGreeting, HasSwitch}
-use Rattle.binlog.specs.Follow.{Names}
+use Rattle.binlog.specs.Filter.{Names}
 use Rattle.binlog.specs.Event.{EventValue, IsEvent}
 use Rattle.gather.specs.Transaction.{DeliveryValue, AreDeliveries}
 

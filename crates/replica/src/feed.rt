@@ -4,7 +4,7 @@ ghost use Rattle.std.specs.Prelude.{◌≡◌, ◌↔◌, ℕ, ◌+◌, ◌<◌,
 ghost use Rattle.sqlite.specs.State.{HasCleanDisk};
 ghost use Rattle.sqlite.specs.Held.{state};
 ghost use Rattle.sqlite_schema.specs.declared.schema.Schema.{Schema};
-ghost use Rattle.binlog.specs.Follow.{Names};
+ghost use Rattle.binlog.specs.Filter.{Names};
 ghost use Rattle.store.specs.State.{Content};
 ghost use Rattle.replica.specs.Conn.{Conn, BreaksStore, IsNoStreamFailure};
 ghost use Rattle.replica.specs.Sent.{SentFor};

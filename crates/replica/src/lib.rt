@@ -22,8 +22,8 @@
 mod config;
 mod connections;
 mod counted;
+mod dump;
 mod end;
-mod event;
 mod feed;
 mod following;
 pub mod laws;

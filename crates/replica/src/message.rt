@@ -1,7 +1,7 @@
 //! Messages of a source before the dump.
 
 ghost use Rattle.std.specs.Prelude.{◌≡◌, [], OnOk, OnErr, IfOk, IfErr, Option};
-ghost use Rattle.binlog.specs.Follow.{Names};
+ghost use Rattle.binlog.specs.Filter.{Names};
 ghost use Rattle.greet.specs.View.{Refuses};
 ghost use Rattle.greet.specs.Refusal.{Refusal};
 ghost use Rattle.gtid.specs.Identifier.{Ids};

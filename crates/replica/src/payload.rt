@@ -4,7 +4,7 @@ ghost use Rattle.std.specs.Prelude.{◌≡◌, ◌≤◌, ◌<◌, ◌+◌, ◌^
 ghost use Rattle.sqlite.specs.State.{HasCleanDisk};
 ghost use Rattle.sqlite.specs.Held.{state};
 ghost use Rattle.sqlite_schema.specs.declared.schema.Schema.{Schema};
-ghost use Rattle.binlog.specs.Follow.{Names};
+ghost use Rattle.binlog.specs.Filter.{Names};
 ghost use Rattle.gtid.specs.Identifier.{Ids};
 ghost use Rattle.wire.specs.Packet.{packing_length};
 ghost use Rattle.store.specs.State.{Content};
@@ -14,8 +14,8 @@ ghost use Rattle.replica.specs.Over.{StandsOver, MeetsOver};
 ghost use Rattle.replica.specs.declared.phase.Phase.TheVariants.{Dump};
 ghost use Rattle.store.specs.Store.{database, names_of, IsBroken};
 
+use crate::dump::take_event;
 use crate::end::{Ended, Reason};
-use crate::event::take_event;
 use crate::message::answer;
 use crate::phase::Phase;
 use crate::session::Session;

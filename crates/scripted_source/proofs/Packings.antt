@@ -15,8 +15,8 @@ use Rattle.binlog.specs.Rows.{RowsValue, rows_code, presents_size}
 use Rattle.binlog.specs.RowsWritten.{rows_bytes}
 use Rattle.binlog.specs.Event.{format, gtid, begin, rows}
 use Rattle.binlog.specs.Writing.{IsWritable, plain_rows, header_bytes, framed_bytes, rows_body, rows_head, count_bytes, presents_bytes}
-use Rattle.binlog.specs.declared.rows_event.RowsKind.{RowsKind}
-use Rattle.binlog.specs.declared.rows_event.RowsKind.TheVariants.{Write, Update, Delete}
+use Rattle.binlog.specs.declared.body.rows_event.RowsKind.{RowsKind}
+use Rattle.binlog.specs.declared.body.rows_event.RowsKind.TheVariants.{Write, Update, Delete}
 use Rattle.binlog.proofs.PlainRows.{of_ranges}
 use Rattle.binlog.proofs.MapWritten.{suits, spelled}
 use Rattle.binlog.proofs.Written.{map_of}

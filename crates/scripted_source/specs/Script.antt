@@ -8,7 +8,7 @@ use Rattle.binlog.specs.RowsView.{owned_pairs}
 use Rattle.binlog.specs.RowsWritten.{rows_bytes}
 use Rattle.binlog.specs.Writing.{plain_rows}
 use Rattle.binlog.specs.Event.{EventValue, gtid, begin, commit, table_map, rows, xid}
-use Rattle.binlog.specs.declared.rows_event.RowsKind.{RowsKind}
+use Rattle.binlog.specs.declared.body.rows_event.RowsKind.{RowsKind}
 use Rattle.scripted_source.specs.declared.script.Ending.{Ending}
 use Rattle.scripted_source.specs.declared.script.Ending.TheVariants.{Xid, Commit}
 use Rattle.scripted_source.specs.declared.script.Part.{Part}

@@ -9,10 +9,10 @@ use Rattle.binlog.specs.Cell.{CellValue, null_cell, number_cell, bytes_cell}
 use Rattle.gather.specs.Image.{IsImage, HasImage, HasCellImage, image}
 use Rattle.gather.specs.Transaction.{insert, delete, update}
 use Rattle.gather.proofs.WholeImages.{one_list}
-use Rattle.store.specs.declared.change.Refusal.{Refusal}
-use Rattle.store.specs.declared.change.Refusal.TheVariants.{NoSuchRow, CountFull}
+use Rattle.store.specs.declared.row_change.Refusal.{Refusal}
+use Rattle.store.specs.declared.row_change.Refusal.TheVariants.{NoSuchRow, CountFull}
 use Rattle.store.specs.State.{TableRow, row_of, has_image, has_cell_image}
-use Rattle.store.specs.Take.{most, IsAdded, IsTaken}
+use Rattle.store.specs.Take.{most, IsAdded, IsRemoved}
 use Rattle.store.specs.Rows.{Key, key_of, key_for, same_key, Counts, with_one, without_one, bag_of, count, held_rows}
 use Rattle.store.specs.Inside.{Goes, added, taken, Counted, Makes}
 use Rattle.store.proofs.Made.{goes_then}
@@ -85,7 +85,7 @@ module _ (schema table : List ℕ) (cells : List CellValue) (bytes : List ℕ) (
     others = λ r other. ap (λ c. bag_of c r) more ∙ not_at_row old (λ n. n + 1) r other;
   }
 
-  is_taken : (old new : Counts) → 0 < old (key_of schema table bytes) → new ≡ without_one (key_of schema table bytes) old → IsTaken (row_of schema table cells) (bag_of old) (bag_of new)
+  is_taken : (old new : Counts) → 0 < old (key_of schema table bytes) → new ≡ without_one (key_of schema table bytes) old → IsRemoved (row_of schema table cells) (bag_of old) (bag_of new)
   is_taken old new some less = record {
     one_less =
         let now : bag_of new (row_of schema table cells) ≡ bag_of old (row_of schema table cells) - 1 = ap (λ c. bag_of c (row_of schema table cells)) less ∙ here old (λ n. n - 1) in

@@ -12,7 +12,7 @@ use Rattle.store.specs.Open.{IsFirstAtRest, MayStandFor}
 use Rattle.store.specs.Making.{HasMade}
 use Rattle.store.specs.Migrating.{IsFirstInside}
 use Rattle.store.proofs.Ran.{rests_failed}
-use Rattle.binlog.specs.Follow.{Names}
+use Rattle.binlog.specs.Filter.{Names}
 
 pub first_inside : {S : Type 0} (g : store.Ghosts S) (h : Held S) (content : Content) → IsFirstAtRest (state g h) content → IsFirstInside content (state g (record h { in_transaction = true }))
 first_inside g h content rest = record {

@@ -8,7 +8,7 @@ use Rattle.sqlite.specs.Listing.{understood}
 use Rattle.sqlite.specs.State.{State, Survives, IsUnchanged, IsRolledBack, IsNotRun, FailsToQuery, FailsToShow, Shown, CommitsShowing}
 use Rattle.sqlite.proofs.Callers.{IsPlain}
 use Rattle.binlog.specs.Cell.{CellValue}
-use Rattle.binlog.specs.Follow.{Names}
+use Rattle.binlog.specs.Filter.{Names}
 use Rattle.gather.specs.Image.{IsImage}
 use Rattle.store.specs.State.{Content, row_of}
 use Rattle.store.specs.Layout.{IsLaidOut, tree_at, held_tree, read_text}

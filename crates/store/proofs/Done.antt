@@ -11,7 +11,7 @@ use Rattle.sqlite.proofs.Callers.{one_permutation}
 use Rattle.store.specs.Layout.{IsLaidOut, IsApart, layout, held_tree, read_text, insert_text, update_text, delete_text}
 use Rattle.store.specs.Take.{most}
 use Rattle.store.specs.Rows.{Key, IsStored, Finds, IsCount, is_at, held_rows, count, with_one, without_one}
-use Rattle.store.specs.Inside.{IsWorking, Holds}
+use Rattle.store.specs.Inside.{IsWorking, HasCounts}
 use Rattle.store.proofs.Selects.{key_params}
 use Rattle.store.proofs.Statements.{inserts, deletes, updates, shown_reads, shown_same}
 use Rattle.store.proofs.Effects.{rows_old, holds_inserted, holds_deleted, holds_raised, holds_lowered}
@@ -31,7 +31,7 @@ module _ (old new : State) (key : Key) (was : IsWorking old) where
   free : AllByRecursion (IsApart (layout l.origin l.others l.indexes l.views) (held_tree l.origin)) l.others
   free = subst (λ s. AllByRecursion (IsApart s (held_tree l.origin)) l.others) l.is l.held_free
 
-  pub done_insert : (r : Result ℕ Error) → IsStored key.image → ExecutesInside 0 insert_text (key_params key []) old new r → OnOk r (Holds old new (with_one key (count (held_rows old.now))))
+  pub done_insert : (r : Result ℕ Error) → IsStored key.image → ExecutesInside 0 insert_text (key_params key []) old new r → OnOk r (HasCounts old new (with_one key (count (held_rows old.now))))
   done_insert (Ok n) stored h = holds_inserted old new was key stored (inserts l.origin l.others l.indexes l.views old new l.is key n h.0)
   done_insert (Err e) stored h = tt
 
@@ -39,7 +39,7 @@ module _ (old new : State) (key : Key) (was : IsWorking old) where
   found_old n found = subst (λ rows. Finds key rows (Some n)) (rows_old old new was) found
 
   pub done_delete : (r : Result ℕ Error) → Finds key (held_rows old.now) (Some 1) → ExecutesInside 0 delete_text (key_params key []) old new r
-      → OnOk r (Holds old new (without_one key (count (held_rows old.now))))
+      → OnOk r (HasCounts old new (without_one key (count (held_rows old.now))))
   done_delete (Ok n) found h =
       let it = deletes l.origin l.others l.indexes l.views old new l.is free key n h.0 in
       let one = found_old 1 found in
@@ -47,7 +47,7 @@ module _ (old new : State) (key : Key) (was : IsWorking old) where
   done_delete (Err e) found h = tt
 
   pub done_raise : (m : ℕ) (to : ℤ) (r : Result ℕ Error) → m + 1 ≤ most → Finds key (held_rows old.now) (Some m) → to ≡ pos (m + 1)
-      → ExecutesInside 0 update_text (key_params key (Int to ∷ [])) old new r → OnOk r (Holds old new (with_one key (count (held_rows old.now))))
+      → ExecutesInside 0 update_text (key_params key (Int to ∷ [])) old new r → OnOk r (HasCounts old new (with_one key (count (held_rows old.now))))
   done_raise m to (Ok n) high found is h =
       let it = updates l.origin l.others l.indexes l.views old new l.is free key (pos (m + 1)) n (subst (λ z. ExecutesInside 0 update_text (key_params key (Int z ∷ [])) old new (Ok n)) is h).0 in
       let one = found_old m found in
@@ -55,7 +55,7 @@ module _ (old new : State) (key : Key) (was : IsWorking old) where
   done_raise m to (Err e) high found is h = tt
 
   pub done_lower : (m : ℕ) (to : ℤ) (r : Result ℕ Error) → 1 ≤ m → m ≤ most → Finds key (held_rows old.now) (Some (m + 1)) → to ≡ pos m
-      → ExecutesInside 0 update_text (key_params key (Int to ∷ [])) old new r → OnOk r (Holds old new (without_one key (count (held_rows old.now))))
+      → ExecutesInside 0 update_text (key_params key (Int to ∷ [])) old new r → OnOk r (HasCounts old new (without_one key (count (held_rows old.now))))
   done_lower m to (Ok n) low high found is h =
       let it = updates l.origin l.others l.indexes l.views old new l.is free key (pos m) n (subst (λ z. ExecutesInside 0 update_text (key_params key (Int z ∷ [])) old new (Ok n)) is h).0 in
       let one = found_old (m + 1) found in

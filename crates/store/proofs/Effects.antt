@@ -24,7 +24,7 @@ use Rattle.sqlite.proofs.Callers.{one_permutation}
 use Rattle.store.specs.Layout.{Origin, made, migrated, IsLaidOut, layout, meta_tree, held_tree, spans_tree, follow_tree, held_at, tree_at}
 use Rattle.store.specs.Take.{most}
 use Rattle.store.specs.Rows.{Key, IsStored, IsHeldRow, HasRowids, is_at, is_blob, count, with_one, without_one, held_rows, span_rows}
-use Rattle.store.specs.Inside.{IsWorking, GoesOn, Holds}
+use Rattle.store.specs.Inside.{IsWorking, GoesOn, HasCounts}
 use Rattle.store.proofs.Statements.{Applied, cast_null, cast_int}
 use Rattle.store.proofs.RowLemmas.{counts_inserted, counts_deleted, counts_raised, counts_lowered, found_alone, rowids_put, rowids_without}
 
@@ -133,7 +133,7 @@ module _ (old new : State) (was : IsWorking old) where
 
   pub holds_inserted : (key : Key) → IsStored key.image
       → Applied schema old new (edit_of old.now.trees (held_at o) [] Chosen 0 ((Null ∷ Blob key.schema ∷ Blob key.table ∷ Blob key.image ∷ Int (pos 1) ∷ []) ∷ []))
-      → Holds old new (with_one key (count (held_rows old.now)))
+      → HasCounts old new (with_one key (count (held_rows old.now)))
   holds_inserted key stored h =
       let row = new_held key in
       let news = news_inserted key in
@@ -157,7 +157,7 @@ module _ (old new : State) (was : IsWorking old) where
     at_id = ap (λ v. is_eq (value_cmp v (Int (id_in (rowid r))))) keyed ∙ own_id (id_in (rowid r))
 
     pub holds_deleted : (answer : List Row) → IsPermutation (map (λ r. column r 0 ∷ []) (filter (is_at key) rows)) answer → column r 4 ≡ Int (pos 1)
-        → Applied schema old new (edit_of old.now.trees (held_at o) (ids_of answer) Given 0 []) → Holds old new (without_one key (count (held_rows old.now)))
+        → Applied schema old new (edit_of old.now.trees (held_at o) (ids_of answer) Given 0 []) → HasCounts old new (without_one key (count (held_rows old.now)))
     holds_deleted answer same one h =
         let one_row : answer ≡ (column r 0 ∷ []) ∷ [] = one_permutation _ answer (subst (λ l. IsPermutation (map (λ r. column r 0 ∷ []) l) answer) found same) in
         let is : new.now.trees (held_tree o) ≡ without_rowid (id_in (rowid r)) rows = h.step.rows ∙ ap (λ l. without_all rows (ids_of l)) one_row in
@@ -201,7 +201,7 @@ module _ (old new : State) (was : IsWorking old) where
         (rw is (all-put_row IsHeldRow (new_row n) _ lawful (all_filtered IsHeldRow _ rows lawful_old)))
 
     pub holds_raised : (n : ℕ) (answer : List Row) → n + 1 ≤ most → IsPermutation (map (λ r. column r 0 ∷ column r 0 ∷ column r 1 ∷ column r 2 ∷ column r 3 ∷ Int (pos (n + 1)) ∷ []) (filter (is_at key) rows)) answer
-        → column r 4 ≡ Int (pos n) → Applied schema old new (edit_of old.now.trees (held_at o) (ids_of answer) Given 1 answer) → Holds old new (with_one key (count (held_rows old.now)))
+        → column r 4 ≡ Int (pos n) → Applied schema old new (edit_of old.now.trees (held_at o) (ids_of answer) Given 1 answer) → HasCounts old new (with_one key (count (held_rows old.now)))
     holds_raised n answer high same is_n h =
         let m = moved (pos (n + 1)) answer same h in
         record {
@@ -211,7 +211,7 @@ module _ (old new : State) (was : IsWorking old) where
         }
 
     pub holds_lowered : (n : ℕ) (answer : List Row) → 1 ≤ n → n ≤ most → IsPermutation (map (λ r. column r 0 ∷ column r 0 ∷ column r 1 ∷ column r 2 ∷ column r 3 ∷ Int (pos n) ∷ []) (filter (is_at key) rows)) answer
-        → column r 4 ≡ Int (pos (n + 1)) → Applied schema old new (edit_of old.now.trees (held_at o) (ids_of answer) Given 1 answer) → Holds old new (without_one key (count (held_rows old.now)))
+        → column r 4 ≡ Int (pos (n + 1)) → Applied schema old new (edit_of old.now.trees (held_at o) (ids_of answer) Given 1 answer) → HasCounts old new (without_one key (count (held_rows old.now)))
     holds_lowered n answer low high same is_n h =
         let m = moved (pos n) answer same h in
         record {

@@ -7,9 +7,9 @@ use Rattle.std.proofs.lemmas.Slice.Eq.{bytes_eq-Decides}
 use Rattle.sqlite.specs.State.{State}
 use Rattle.gtid.specs.Identifier.{Id, Ids, IsGtid, AreGtids}
 use Rattle.gtid.proofs.Sets.{id_cmp_total, tied}
-use Rattle.binlog.specs.Follow.{Names}
+use Rattle.binlog.specs.Filter.{Names}
 use Rattle.gather.specs.Transaction.{DeliveryValue}
-use Rattle.store.specs.declared.change.Refusal.{Refusal}
+use Rattle.store.specs.declared.row_change.Refusal.{Refusal}
 use Rattle.store.specs.State.{Content}
 use Rattle.store.specs.Take.{is_executed, AreDone, IsRefusedAt}
 use Rattle.store.specs.Rows.{StandsFor, SaysLayout, IsMetaRow, AreNames, bag_of, count, held_rows, span_rows}

@@ -8,9 +8,9 @@ use Rattle.std.specs.FinSet as set
 use Rattle.std.proofs.lemmas.List.Sorted.{IsPermutation-refl}
 use Rattle.sqlite.specs.State.{State}
 use Rattle.gtid.specs.Identifier.{id_cmp}
-use Rattle.binlog.specs.Follow.{Name, Names, name_cmp}
-use Rattle.binlog.specs.FollowView.{names_of}
-use Rattle.binlog.proofs.Followed.{name_cmp_total, name_cmp-same}
+use Rattle.binlog.specs.Filter.{Name, Names, name_cmp}
+use Rattle.binlog.specs.FilterView.{names_of}
+use Rattle.binlog.proofs.Admitted.{name_cmp_total, name_cmp-same}
 use Rattle.store.specs.Layout.{IsLaidOut, made, tree_at}
 use Rattle.store.specs.Rows.{AreSpans, AreLeast, HasRowids, bag_of, count, meta_rows, held_rows, span_rows}
 use Rattle.store.specs.State.{has_image}

@@ -8,9 +8,9 @@ use Rattle.sqlite.specs.Effect.{Database as Stored}
 use Rattle.sqlite.specs.State.{State, Survives, IsUnchanged, HasCleanDisk}
 use Rattle.sqlite.proofs.StateLemmas.{survives_then}
 use Rattle.gtid.specs.Identifier.{Ids}
-use Rattle.binlog.specs.Follow.{Names}
+use Rattle.binlog.specs.Filter.{Names}
 use Rattle.store.specs.declared.fault.StoreFault.{StoreFault}
-use Rattle.store.specs.declared.layout.Tables.{Tables}
+use Rattle.store.specs.declared.tables.Tables.{Tables}
 use Rattle.store.specs.Layout.{no_schema, first_layout, IsLaidOut}
 use Rattle.store.specs.Rows.{SaysLayout, first_meta_rows}
 use Rattle.store.specs.Load.{IsMetaFirst}

@@ -15,8 +15,8 @@ use Rattle.sqlite_value.specs.Order.{Row, value_cmp}
 use Rattle.sqlite_value.proofs.OrderLemmas.{value_cmp_total}
 use Rattle.gtid.specs.Identifier.{Ids}
 use Rattle.gtid.proofs.Sets.{id_cmp_total, id_cmp-same}
-use Rattle.binlog.specs.Follow.{Names}
-use Rattle.binlog.proofs.Followed.{name_cmp_total, name_cmp-same}
+use Rattle.binlog.specs.Filter.{Names}
+use Rattle.binlog.proofs.Admitted.{name_cmp_total, name_cmp-same}
 use Rattle.store.specs.declared.fault.StoreFault.{StoreFault}
 use Rattle.store.specs.declared.fault.StoreFault.TheVariants.{NoSuchRow, CountFull, Database, Memory, Damaged, Layout, Broken, Follows}
 use Rattle.store.specs.Rows.{alike, HasRowids, IsMetaRow, IsHeldRow, IsFollowRow, IsSpanRow, IsExecutedRow, AreNames, AreSpans, touches, shown_span, span_in, id_in, name_in}

@@ -5,11 +5,11 @@ use Rattle.std.proofs.Math.ListN.{get_or-map}
 use Rattle.std.proofs.lemmas.List.{length-map, take_all}
 use Rattle.std.proofs.lemmas.Option.{slice_get-get_or}
 use Rattle.sqlite.specs.State.{State}
-use Rattle.binlog.specs.Follow.{Names}
+use Rattle.binlog.specs.Filter.{Names}
 use Rattle.gather.specs.Transaction.{ChangeValue}
 use Rattle.gather.specs.View.{change_value, change_values}
-use Rattle.gather.specs.declared.change.Change.{Change}
-use Rattle.store.specs.declared.change.Refusal.{Refusal}
+use Rattle.gather.specs.declared.transaction.Change.{Change}
+use Rattle.store.specs.declared.row_change.Refusal.{Refusal}
 use Rattle.store.specs.State.{Bag}
 use Rattle.store.specs.Take.{IsDone, AreDone}
 use Rattle.store.specs.Rows.{bag_of, count, held_rows}

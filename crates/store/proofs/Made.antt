@@ -6,11 +6,11 @@ use Rattle.std.proofs.lemmas.Bool.Decides.{nat_tests}
 use Rattle.sqlite_value.specs.Order.{Row}
 use Rattle.sqlite.specs.Effect.{Database}
 use Rattle.sqlite.specs.State.{State, IsUnchanged}
-use Rattle.store.specs.declared.change.Refusal.TheVariants.{NoSuchRow, CountFull}
+use Rattle.store.specs.declared.row_change.Refusal.TheVariants.{NoSuchRow, CountFull}
 use Rattle.store.specs.Layout.{IsLaidOut}
 use Rattle.store.specs.Take.{most}
 use Rattle.store.specs.Rows.{Key, IsHeldRow, HasRowids, Finds, meta_rows, held_rows, span_rows, follow_rows, count, Counts, with_one, without_one}
-use Rattle.store.specs.Inside.{IsWorking, GoesOn, Holds, added, taken, Counted}
+use Rattle.store.specs.Inside.{IsWorking, GoesOn, HasCounts, added, taken, Counted}
 use Rattle.store.proofs.RowLemmas.{count_found, count_none}
 
 pub working_same : (old mid : State) → IsUnchanged old mid → IsWorking old → IsWorking mid
@@ -32,7 +32,7 @@ goes_since old mid new h next = record {
   follow = next.follow ∙ ap follow_rows h.0.now_is;
 }
 
-pub holds_since : (old mid new : State) (counts : Counts) → IsUnchanged old mid → Holds mid new counts → Holds old new counts
+pub holds_since : (old mid new : State) (counts : Counts) → IsUnchanged old mid → HasCounts mid new counts → HasCounts old new counts
 holds_since old mid new counts h next = record {
   on = goes_since old mid new h next.on;
   spans = next.spans ∙ ap span_rows h.0.now_is;
@@ -53,15 +53,15 @@ module _ (old mid new : State) (key : Key) (same : IsUnchanged old mid) where
   pub found_mid : (found : Option ℕ) → Finds key (held_rows old.now) found → Finds key (held_rows mid.now) found
   found_mid found h = subst (λ (d : Database). Finds key (held_rows d) found) (sym same.0.now_is) h
 
-  pub counted_added : (n : ℕ) → count (held_rows old.now) key ≡ n → n < most → Holds mid new (with_one key (count (held_rows mid.now))) → Counted old new (added key (count (held_rows old.now))) None
+  pub counted_added : (n : ℕ) → count (held_rows old.now) key ≡ n → n < most → HasCounts mid new (with_one key (count (held_rows mid.now))) → Counted old new (added key (count (held_rows old.now))) None
   counted_added n is low h =
       let test : nat_lt (count (held_rows old.now) key) most ≡ true = rw is (lt-ltb n most low) in
-      rw test (holds_since old mid new _ same (subst (λ b. Holds mid new (with_one key b)) counts_same h))
+      rw test (holds_since old mid new _ same (subst (λ b. HasCounts mid new (with_one key b)) counts_same h))
 
-  pub counted_taken : (n : ℕ) → count (held_rows old.now) key ≡ n → 0 < n → Holds mid new (without_one key (count (held_rows mid.now))) → Counted old new (taken key (count (held_rows old.now))) None
+  pub counted_taken : (n : ℕ) → count (held_rows old.now) key ≡ n → 0 < n → HasCounts mid new (without_one key (count (held_rows mid.now))) → Counted old new (taken key (count (held_rows old.now))) None
   counted_taken n is low h =
       let test : nat_lt 0 (count (held_rows old.now) key) ≡ true = rw is (lt-ltb 0 n low) in
-      rw test (holds_since old mid new _ same (subst (λ b. Holds mid new (without_one key b)) counts_same h))
+      rw test (holds_since old mid new _ same (subst (λ b. HasCounts mid new (without_one key b)) counts_same h))
 
 pub counted_full : (old new : State) (key : Key) (n : ℕ) → count (held_rows old.now) key ≡ n → most ≤ n → Counted old new (added key (count (held_rows old.now))) (Some CountFull)
 counted_full old new key n is high =

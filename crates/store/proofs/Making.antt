@@ -25,8 +25,8 @@ use Rattle.sqlite.specs.Does.{Tally, Does, lacks_sequence}
 use Rattle.sqlite.specs.Listing.{understood}
 use Rattle.sqlite.specs.State.{State, mode_of, Writes, ExecutesInside, Executes}
 use Rattle.sqlite.proofs.Callers.{IsPlain, command_of, statement_of, runs_as, one_step}
-use Rattle.binlog.specs.Follow.{Name, Names, name_cmp}
-use Rattle.binlog.proofs.Followed.{name_cmp_total, name_cmp-same}
+use Rattle.binlog.specs.Filter.{Name, Names, name_cmp}
+use Rattle.binlog.proofs.Admitted.{name_cmp_total, name_cmp-same}
 use Rattle.store.specs.Layout.{meta, meta_text, held, held_text, spans, spans_text, follow, follow_text, no_schema}
 use Rattle.store.specs.Rows.{AreNames, IsFollowRow, name_in}
 use Rattle.store.specs.Making.{IsMaking, IsNaming, layout_row, with_meta, with_held, with_spans, new_layout, layout_text, layout_terms, add_name_text, add_name_terms}

@@ -8,13 +8,13 @@ use Rattle.sqlite.specs.Effect.{Database}
 use Rattle.sqlite.specs.State.{State, KeepsCommit, IsRolledBack, Shows}
 use Rattle.sqlite.specs.Steps.{FailsToCommit}
 use Rattle.sqlite.specs.Held.{Held, state}
-use Rattle.binlog.specs.Follow.{Names}
+use Rattle.binlog.specs.Filter.{Names}
 use Rattle.gather.specs.Transaction.{DeliveryValue}
-use Rattle.store.specs.declared.change.Refusal.{Refusal}
+use Rattle.store.specs.declared.row_change.Refusal.{Refusal}
 use Rattle.store.specs.State.{Content}
 use Rattle.store.specs.Rows.{StandsFor, HasRowids, held_rows, span_rows}
 use Rattle.store.specs.Inside.{IsWorking, GoesOn}
-use Rattle.store.specs.Apply.{IsTaken, IsAtRest, Rests, HasTaken, Runs, MayCommit}
+use Rattle.store.specs.Apply.{IsApplied, IsAtRest, Rests, HasTaken, Runs, MayCommit}
 
 pub begun_working : {S : Type 0} (g : store.Ghosts S) (h : Held S) (names : Names) (content : Content) → IsAtRest (state g h) names content → IsWorking (state g (record h { in_transaction = true }))
 begun_working g h names content rest = record {
@@ -45,7 +45,7 @@ module _ (names : Names) (content : Content) (d : DeliveryValue) where
 
   -- ---- taken
 
-  pub has_taken : (t m n : State) → GoesOn t m × IsTaken names content d m.now.schema m.now.trees → Shows m n m.now m.now false → HasTaken names content d n × (n.now.schema ≡ t.now.schema)
+  pub has_taken : (t m n : State) → GoesOn t m × IsApplied names content d m.now.schema m.now.trees → Shows m n m.now m.now false → HasTaken names content d n × (n.now.schema ≡ t.now.schema)
   has_taken t m n it h = (
     record {
       after = it.1.after;
@@ -63,9 +63,9 @@ module _ (names : Names) (content : Content) (d : DeliveryValue) where
 
   -- ---- what a crash leaves
 
-  pub leaves : (t m : State) → GoesOn t m × IsTaken names content d m.now.schema m.now.trees → (db : Trees) → db ≡ m.now.trees → IsTaken names content d t.now.schema db
-  leaves t m it db is = subst₂ (λ s trees. IsTaken names content d s trees) it.0.schema (sym is) it.1
+  pub leaves : (t m : State) → GoesOn t m × IsApplied names content d m.now.schema m.now.trees → (db : Trees) → db ≡ m.now.trees → IsApplied names content d t.now.schema db
+  leaves t m it db is = subst₂ (λ s trees. IsApplied names content d s trees) it.0.schema (sym is) it.1
 
-  pub may_commit_err : {E : Type 0} (a : State) (r : Result (Option (ℕ × Refusal)) E) (db : Trees) → IsErr r → IsTaken names content d a.now.schema db → MayCommit names content d a r db
+  pub may_commit_err : {E : Type 0} (a : State) (r : Result (Option (ℕ × Refusal)) E) (db : Trees) → IsErr r → IsApplied names content d a.now.schema db → MayCommit names content d a r db
   may_commit_err a (Ok o) db is taken = absurd (cc)
   may_commit_err a (Err e) db is taken = taken

@@ -19,7 +19,7 @@ use Rattle.gtid.specs.Span.{is_in}
 use Rattle.gtid.specs.Identifier.{Ids}
 use Rattle.gtid.specs.declared.span.Span.{Span}
 use Rattle.store.specs.Rows.{span_rows, span, stored_span, shown_spans, begins_at, touches, AreLeast}
-use Rattle.store.specs.Inside.{Moves, Leaves, EndsBefore, BeginsBehind, Records}
+use Rattle.store.specs.Inside.{Moves, Remains, EndsBefore, BeginsBehind, Records}
 use Rattle.store.proofs.Effects.{own_bytes, own_id}
 use Rattle.store.proofs.Made.{goes_then}
 use Rattle.store.proofs.RowLemmas.{equal_is}
@@ -51,7 +51,7 @@ begins_apart source lo hi (t ∷ rest) long some clear = (
 -- One stored span, or none, is removed.
 pub record Step (source : List ℕ) (lo hi at : ℕ) (there : Bool) (spans : List Span) : Type 1 where
   pub rest : List Span
-  pub leaves : (rows : List Row) → IsPermutation (map stored_span spans) rows → Leaves source (pos at) there rows (map stored_span rest)
+  pub leaves : (rows : List Row) → IsPermutation (map stored_span spans) rows → Remains source (pos at) there rows (map stored_span rest)
   pub split : Split source lo hi spans rest
 
 one_out : (source : List ℕ) (lo hi : ℕ) (spans : List Span) → Has spans (span source lo hi) → AllByRecursion IsSome spans → IsDistinct touches spans → Step source lo hi lo true spans

@@ -15,7 +15,7 @@ use Rattle.gtid.specs.declared.identifier.Gtid.{Gtid}
 use Rattle.gtid.specs.declared.span.Span.{Span}
 use Rattle.gtid.proofs.Sets.{id_cmp_total, tied}
 use Rattle.gtid.proofs.SomeLeastList.{some_least_list}
-use Rattle.store.specs.declared.spans.Beside.{Beside}
+use Rattle.store.specs.declared.span_rows.Beside.{Beside}
 use Rattle.store.specs.Rows.{AreLeast, span}
 use Rattle.store.specs.Inside.{EndsBefore, BeginsBehind}
 use Rattle.store.specs.Apply.{LiesBeside}

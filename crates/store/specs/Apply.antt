@@ -6,15 +6,15 @@ use Rattle.sqlite.specs.State.{State, IsUnchanged}
 use Rattle.gtid.specs.declared.identifier.Gtid.{Gtid}
 use Rattle.gtid.specs.declared.span.Span.{Span}
 use Rattle.gtid.specs.Identifier.{Ids}
-use Rattle.binlog.specs.Follow.{Names}
+use Rattle.binlog.specs.Filter.{Names}
 use Rattle.gather.specs.Transaction.{DeliveryValue}
-use Rattle.store.specs.declared.change.Refusal.{Refusal}
-use Rattle.store.specs.declared.change.Refusal.TheVariants as why
+use Rattle.store.specs.declared.row_change.Refusal.{Refusal}
+use Rattle.store.specs.declared.row_change.Refusal.TheVariants as why
 use Rattle.store.specs.declared.fault.Applied.{Applied}
 use Rattle.store.specs.declared.fault.Applied.TheVariants.{Done, Repeat}
 use Rattle.store.specs.declared.fault.StoreFault.{StoreFault}
 use Rattle.store.specs.declared.fault.StoreFault.TheVariants.{NoSuchRow, CountFull, Database, Memory}
-use Rattle.store.specs.declared.spans.Beside.{Beside}
+use Rattle.store.specs.declared.span_rows.Beside.{Beside}
 use Rattle.store.specs.State.{Content}
 use Rattle.store.specs.Take.{Takes, done, refused}
 use Rattle.store.specs.Rows.{StandsFor, HasRowids, held_rows, span_rows}
@@ -26,14 +26,14 @@ pub record LiesBeside (spans : List Span) (gtid : Gtid) (beside : Beside) : Type
   pub behind : BeginsBehind gtid.source gtid.number spans beside.after
 
 -- The database stands for what the transaction makes of the content.
-pub record IsTaken (names : Names) (content : Content) (d : DeliveryValue) (schema : Schema) (trees : Trees) : Type 0 where
+pub record IsApplied (names : Names) (content : Content) (d : DeliveryValue) (schema : Schema) (trees : Trees) : Type 0 where
   pub after : Content
   pub takes : Takes names content d (done after)
   pub stands : StandsFor (record { schema = schema; trees = trees }) names after
 
 -- what making the changes and recording the GTID does inside the database's transaction
 abbrev pub Fills : Names → Content → DeliveryValue → State → State → Option (ℕ × Refusal) → Type 0
-Fills names content d old new None = GoesOn old new × IsTaken names content d new.now.schema new.now.trees
+Fills names content d old new None = GoesOn old new × IsApplied names content d new.now.schema new.now.trees
 Fills names content d old new (Some why) = Takes names content d (refused why.0 why.1)
 
 -- The connection is open, in no transaction that has changed anything, and this is what its database stands for.
@@ -61,9 +61,9 @@ Runs names content d old new (Err e) = Rests old new
 
 -- What may be committed: what the transaction makes of the content, or nothing if it is refused.
 abbrev pub MayCommit : {E : Type 0} → Names → Content → DeliveryValue → State → Result (Option (ℕ × Refusal)) E → Trees → Type 0
-MayCommit names content d old (Ok None) trees = IsTaken names content d old.now.schema trees
+MayCommit names content d old (Ok None) trees = IsApplied names content d old.now.schema trees
 MayCommit names content d old (Ok (Some why)) trees = ⊥
-MayCommit names content d old (Err e) trees = IsTaken names content d old.now.schema trees
+MayCommit names content d old (Err e) trees = IsApplied names content d old.now.schema trees
 
 -- ---- The executed set in memory, besides the connection.
 
@@ -90,8 +90,8 @@ Comes names content d old new executed (Err _) = ⊥
 
 -- What such a transaction may commit.
 abbrev pub MayMove : Names → Content → DeliveryValue → State → Result Applied StoreFault → Trees → Type 0
-MayMove names content d old (Ok Done) trees = IsTaken names content d old.now.schema trees
-MayMove names content d old (Err (Database e)) trees = IsTaken names content d old.now.schema trees
+MayMove names content d old (Ok Done) trees = IsApplied names content d old.now.schema trees
+MayMove names content d old (Err (Database e)) trees = IsApplied names content d old.now.schema trees
 MayMove names content d old _ trees = ⊥
 
 -- A refused change is reported and the connection is as it was, or a failure of the database is reported.

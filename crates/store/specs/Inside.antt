@@ -6,10 +6,10 @@ use Rattle.sqlite_rules.specs.Lists.{Has}
 use Rattle.gtid.specs.Identifier.{Ids}
 use Rattle.gtid.specs.declared.span.Span.{Span}
 use Rattle.sqlite.specs.State.{State}
-use Rattle.binlog.specs.Follow.{Names}
+use Rattle.binlog.specs.Filter.{Names}
 use Rattle.gather.specs.Transaction.{ChangeValue}
-use Rattle.store.specs.declared.change.Refusal.{Refusal}
-use Rattle.store.specs.declared.change.Refusal.TheVariants.{NoSuchRow, CountFull}
+use Rattle.store.specs.declared.row_change.Refusal.{Refusal}
+use Rattle.store.specs.declared.row_change.Refusal.TheVariants.{NoSuchRow, CountFull}
 use Rattle.store.specs.Layout.{IsLaidOut}
 use Rattle.store.specs.Take.{most, IsMade, IsRefused, IsDone, AreDone, is_followed, IsRefusedAt}
 use Rattle.store.specs.Rows.{meta_rows, held_rows, span_rows, follow_rows, HasRowids, IsHeldRow, Key, Counts, count, with_one, without_one, bag_of, shown_spans, begins_at, span, stored_span, AreLeast}
@@ -32,7 +32,7 @@ pub record GoesOn (old new : State) : Type 0 where
   pub follow : follow_rows new.now ≡ follow_rows old.now
 
 -- Only the counts of held have changed, to these.
-pub record Holds (old new : State) (counts : Counts) : Type 0 where
+pub record HasCounts (old new : State) (counts : Counts) : Type 0 where
   pub on : GoesOn old new
   pub spans : span_rows new.now ≡ span_rows old.now
   pub counts_are : count (held_rows new.now) ≡ counts
@@ -50,9 +50,9 @@ pub record Begins (source : List ℕ) (lo : ℤ) (rows : List Row) (span : Row) 
   pub all : IsPermutation (span ∷ others) rows
 
 -- As Begins, if there is such a span; otherwise all spans are left.
-abbrev pub Leaves : List ℕ → ℤ → Bool → List Row → List Row → Type 0
-Leaves source lo true rows rest = (span : Row) × Begins source lo rows span rest
-Leaves source lo false rows rest = IsPermutation rest rows
+abbrev pub Remains : List ℕ → ℤ → Bool → List Row → List Row → Type 0
+Remains source lo true rows rest = (span : Row) × Begins source lo rows span rest
+Remains source lo false rows rest = IsPermutation rest rows
 
 -- ---- Recording a transaction.
 
@@ -89,7 +89,7 @@ taken key counts = if nat_lt 0 (counts key) then Ok (without_one key counts) els
 
 -- The transaction has these counts, or the change is refused for this reason.
 abbrev pub Counted : State → State → Result Counts Refusal → Option Refusal → Type 0
-Counted old new (Ok counts) None = Holds old new counts
+Counted old new (Ok counts) None = HasCounts old new counts
 Counted old new (Ok counts) (Some why) = ⊥
 Counted old new (Err e) None = ⊥
 Counted old new (Err e) (Some why) = why ≡ e

@@ -14,7 +14,7 @@ use Rattle.store.specs.declared.fault.StoreFault.{StoreFault}
 use Rattle.store.specs.declared.fault.StoreFault.TheVariants.{Database, Memory}
 use Rattle.store.specs.declared.listing.Listed.{Listed}
 use Rattle.store.specs.declared.listing.List.{List as Listing}
-use Rattle.store.specs.declared.rows.RowKey.{RowKey}
+use Rattle.store.specs.declared.held_rows.RowKey.{RowKey}
 use Rattle.store.specs.declared.store.Store.{Store}
 use Rattle.store.specs.State.{TableRow, row_of, Bag, Content}
 use Rattle.store.specs.Rows.{Key, key_in, key_for}

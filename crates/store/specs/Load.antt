@@ -16,7 +16,7 @@ use Rattle.sqlite.specs.Listing.{understood, reads_listing}
 use Rattle.sqlite.specs.Given.{IsPlain}
 use Rattle.sqlite.proofs.Callers.{command_of}
 use Rattle.gtid.specs.Identifier.{Ids}
-use Rattle.binlog.specs.Follow.{Names}
+use Rattle.binlog.specs.Filter.{Names}
 use Rattle.store.specs.declared.fault.StoreFault.{StoreFault}
 use Rattle.store.specs.declared.fault.StoreFault.TheVariants.{Database, Memory, Damaged}
 use Rattle.store.specs.State.{Content}

@@ -5,7 +5,7 @@ use Rattle.sqlite_trees.specs.Tree.{Trees}
 use Rattle.sqlite.specs.Effect.{Database}
 use Rattle.sqlite.specs.State.{State}
 use Rattle.gtid.specs.Identifier.{Ids}
-use Rattle.binlog.specs.Follow.{Names}
+use Rattle.binlog.specs.Filter.{Names}
 use Rattle.store.specs.State.{Content}
 use Rattle.store.specs.Layout.{no_schema}
 use Rattle.store.specs.Rows.{StandsFor, StandsForFirst, HasRowids, first_meta_rows, first_held_rows}

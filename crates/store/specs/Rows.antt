@@ -13,9 +13,9 @@ use Rattle.gtid.specs.Identifier.{Id, Ids, IsSource, IsGtid, AreGtids}
 use Rattle.gtid.specs.Span.{Covers}
 use Rattle.gtid.specs.declared.span.Span.{Span}
 use Rattle.binlog.specs.Cell.{CellValue}
-use Rattle.binlog.specs.Follow.{Name, Names}
+use Rattle.binlog.specs.Filter.{Name, Names}
 use Rattle.gather.specs.Image.{IsImage, image}
-use Rattle.store.specs.declared.rows.RowKey.{RowKey}
+use Rattle.store.specs.declared.held_rows.RowKey.{RowKey}
 use Rattle.store.specs.State.{TableRow, Bag, Content, has_image}
 use Rattle.store.specs.Take.{most}
 use Rattle.store.specs.Layout.{IsLaidOut, first_layout, tree_at}

@@ -5,9 +5,9 @@ use Rattle.sqlite_trees.specs.Tree.{Trees}
 use Rattle.sqlite_schema.specs.declared.schema.Schema.{Schema}
 use Rattle.sqlite.specs.State.{State}
 use Rattle.sqlite.specs.Held.{Held, state}
-use Rattle.binlog.specs.Follow.{Names}
+use Rattle.binlog.specs.Filter.{Names}
 use Rattle.gather.specs.Transaction.{DeliveryValue}
-use Rattle.store.specs.declared.change.Refusal.TheVariants as why
+use Rattle.store.specs.declared.row_change.Refusal.TheVariants as why
 use Rattle.store.specs.declared.fault.Applied.{Applied}
 use Rattle.store.specs.declared.fault.Applied.TheVariants.{Done, Repeat}
 use Rattle.store.specs.declared.fault.StoreFault.{StoreFault}
@@ -16,7 +16,7 @@ use Rattle.store.specs.declared.store.Store.{Store}
 use Rattle.store.specs.State.{Content, TableRow}
 use Rattle.store.specs.Take.{Takes, is_executed, done, repeat, refused}
 use Rattle.store.specs.Rows.{StandsFor}
-use Rattle.store.specs.Apply.{IsAtRest, IsTaken}
+use Rattle.store.specs.Apply.{IsAtRest, IsApplied}
 use Rattle.store.specs.Entering.{IsOf, IsWanted}
 
 module _ {S : Type 0} (g : Ghosts S) where
@@ -91,8 +91,8 @@ AreOf schema names content trees = StandsFor (record { schema = schema; trees = 
 
 -- What a crash leaves of a transaction that a store has applied.
 abbrev pub Leaves : Schema → Names → Content → DeliveryValue → Result Applied StoreFault → Trees → Type 0
-Leaves schema names content d (Ok Done) trees = IsTaken names content d schema trees
-Leaves schema names content d (Err (Database e)) trees = AreOf schema names content trees ⊎ IsTaken names content d schema trees
+Leaves schema names content d (Ok Done) trees = IsApplied names content d schema trees
+Leaves schema names content d (Err (Database e)) trees = AreOf schema names content trees ⊎ IsApplied names content d schema trees
 Leaves schema names content d _ trees = AreOf schema names content trees
 
 -- whether the database has to be opened again after this answer

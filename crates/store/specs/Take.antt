@@ -1,10 +1,10 @@
 -- What a change and a transaction make of what a replica holds.
 use Rattle.std.specs.Prelude.{◌≡◌, ◌≢◌, ◌⊎◌, ◌<◌, ◌≤◌, ◌+◌, ℕ, Bool, true, false, List, [], ◌∷◌, take, slice_get, Some, MatchBool}
 use Rattle.std.specs.FinSet as set
-use Rattle.binlog.specs.Follow.{Names, follows}
+use Rattle.binlog.specs.Filter.{Names, admits}
 use Rattle.gather.specs.Transaction.{ChangeValue, insert, delete, update, DeliveryValue}
-use Rattle.store.specs.declared.change.Refusal.{Refusal}
-use Rattle.store.specs.declared.change.Refusal.TheVariants.{NoSuchRow, CountFull}
+use Rattle.store.specs.declared.row_change.Refusal.{Refusal}
+use Rattle.store.specs.declared.row_change.Refusal.TheVariants.{NoSuchRow, CountFull}
 use Rattle.store.specs.State.{TableRow, row_of, Bag, Content}
 
 -- the greatest count: 2 ^ 63 - 1
@@ -20,15 +20,15 @@ pub record IsAdded (row : TableRow) (old new : Bag) : Type 0 where
   pub others : (r : TableRow) → r ≢ row → new r ≡ old r
 
 -- There is one less of the row, and as many of each other row as before.
-pub record IsTaken (row : TableRow) (old new : Bag) : Type 0 where
+pub record IsRemoved (row : TableRow) (old new : Bag) : Type 0 where
   pub one_less : old row ≡ new row + 1
   pub others : (r : TableRow) → r ≢ row → new r ≡ old r
 
 -- The change is made. An update removes the row before and then adds the row after.
 abbrev pub IsMade : ChangeValue → Bag → Bag → Type 0
 IsMade (insert schema table after) old new = IsAdded (row_of schema table after) old new
-IsMade (delete schema table before) old new = IsTaken (row_of schema table before) old new
-IsMade (update schema table before after) old new = (mid : Bag) × IsTaken (row_of schema table before) old mid × IsAdded (row_of schema table after) mid new
+IsMade (delete schema table before) old new = IsRemoved (row_of schema table before) old new
+IsMade (update schema table before after) old new = (mid : Bag) × IsRemoved (row_of schema table before) old mid × IsAdded (row_of schema table after) mid new
 
 abbrev pub IsFull : TableRow → Bag → Refusal → Type 0
 IsFull row bag why = (most ≤ bag row) × (why ≡ CountFull)
@@ -42,15 +42,15 @@ IsRefused (insert schema table after) bag why = IsFull (row_of schema table afte
 IsRefused (delete schema table before) bag why = IsMissing (row_of schema table before) bag why
 IsRefused (update schema table before after) bag why =
     IsMissing (row_of schema table before) bag why
-    ⊎ ((mid : Bag) × IsTaken (row_of schema table before) bag mid × IsFull (row_of schema table after) mid why)
+    ⊎ ((mid : Bag) × IsRemoved (row_of schema table before) bag mid × IsFull (row_of schema table after) mid why)
 
 -- ---- Changes in order.
 
 -- whether the table of the change is followed
 abbrev pub is_followed : Names → ChangeValue → Bool
-is_followed names (insert schema table after) = follows names schema table
-is_followed names (delete schema table before) = follows names schema table
-is_followed names (update schema table before after) = follows names schema table
+is_followed names (insert schema table after) = admits names schema table
+is_followed names (delete schema table before) = admits names schema table
+is_followed names (update schema table before after) = admits names schema table
 
 -- A change of a table that is not followed is skipped.
 abbrev pub IsDone : Names → ChangeValue → Bag → Bag → Type 0

@@ -1,60 +1,115 @@
-//! A transaction of the source as one transaction of the database.
+//! Applying a transaction of the source.
 
-ghost use Rattle.std.specs.Prelude.{◌≡◌, false, IfOk};
-ghost use Rattle.sqlite.specs.State.{HasCleanDisk, Survives, KeepsCommit};
+ghost use Rattle.std.specs.Prelude.{◌≡◌, ◌≢◌, true, false, Err, IsTrue};
+ghost use Rattle.std.specs.FinSet as set;
+ghost use Rattle.sqlite.specs.State.{HasCleanDisk, Survives};
 ghost use Rattle.sqlite.specs.Held.{state};
+ghost use Rattle.gtid.specs.Identifier.{id};
 ghost use Rattle.gather.specs.View.{delivery_value};
 ghost use Rattle.store.specs.State.{Content};
 ghost use Rattle.store.specs.Take.{is_executed};
-ghost use Rattle.store.specs.Rows.{StandsFor};
-ghost use Rattle.store.specs.Inside.{IsWorking};
-ghost use Rattle.store.specs.Apply.{LiesBeside, Fills, IsAtRest, Runs, MayCommit};
+ghost use Rattle.store.specs.Apply.{IsAtRest, Comes, MayMove, IsTold};
+ghost use Rattle.store.specs.Store.{Holds, Applies, Leaves, breaks, database, names_of, IsBroken, IsWhole};
+ghost use Rattle.store.specs.declared.fault.StoreFault.TheVariants.{Broken, Memory};
 
-use crate::change::{Refusal, make_all};
-use crate::spans::{Beside, record};
+use crate::changes::run;
+use crate::fault::{Applied, StoreFault};
+use crate::neighbors::around;
+use crate::row_change::Refusal;
+use crate::store::Store;
 use binlog::Follow;
 use gather::Delivery;
-use sqlite::{Alter, Connection, Error, Transaction};
+use gtid::GtidSet;
+use sqlite::{Alter, Connection};
+use std::mem;
 
-/// Makes the changes and records the GTID, or returns which change is refused and why.
-fn fill<S: Alter>(
-    tx: &mut Transaction<'_, S>,
-    follow: &Follow,
-    delivery: &Delivery,
-    beside: &Beside,
-) -> Result<Option<(usize, Refusal)>, Error>
-    ensures same_reference { tx.new.conn.ghost_name ≡ tx.old.conn.ghost_name }
-    ensures fills { HasCleanDisk (state S.Store tx.new.conn.now) → IsWorking (state S.Store tx.old.conn.now) → (content : Content) → (stands : StandsFor (state S.Store tx.old.conn.now).now follow.now content) → is_executed content (delivery_value delivery.now) ≡ false
-        → LiesBeside stands.executed.spans delivery.now.gtid beside.now → IfOk result (Fills follow.now content (delivery_value delivery.now) (state S.Store tx.old.conn.now) (state S.Store tx.new.conn.now)) }
-    ensures kept { HasCleanDisk (state S.Store tx.new.conn.now) → IsWorking (state S.Store tx.old.conn.now) → KeepsCommit (state S.Store tx.old.conn.now) (state S.Store tx.new.conn.now) }
-    ensures survives { Survives (state S.Store tx.old.conn.now) (state S.Store tx.new.conn.now) (λ _. ⊥) }
-{
-    if let Some(refused) = make_all(tx, follow, delivery.changes.as_slice())? {
-        return Ok(Some(refused));
-    }
-    record(tx, delivery.gtid, beside)?;
-    Ok(None)
-}
-
-/// Runs `fill` in a transaction of its own, which is rolled back if a change is refused or a statement fails.
-pub(crate) fn run<S: Alter>(
-    conn: &mut Connection<S>,
-    follow: &Follow,
-    delivery: &Delivery,
-    beside: &Beside,
-) -> Result<Option<(usize, Refusal)>, Error>
+/// Reports a refused change, or the database error if rolling back closed the connection.
+fn refuse<S: Alter>(conn: &mut Connection<S>, at: usize, why: Refusal) -> StoreFault
     requires { conn.old.in_transaction ≡ false }
     ensures autocommit { conn.new.in_transaction ≡ false }
-    ensures runs { HasCleanDisk (state S.Store conn.new) → (content : Content) → (rest : IsAtRest (state S.Store conn.old) follow.now content) → is_executed content (delivery_value delivery.now) ≡ false
-        → LiesBeside rest.stands.executed.spans delivery.now.gtid beside.now → Runs follow.now content (delivery_value delivery.now) (state S.Store conn.old) (state S.Store conn.new) result }
-    ensures lives { Survives (state S.Store conn.old) (state S.Store conn.new) (λ _. Unit {0}) }
-    ensures crash { (content : Content) → (rest : IsAtRest (state S.Store conn.old) follow.now content) → is_executed content (delivery_value delivery.now) ≡ false
-        → LiesBeside rest.stands.executed.spans delivery.now.gtid beside.now → Survives (state S.Store conn.old) (state S.Store conn.new) (MayCommit follow.now content (delivery_value delivery.now) (state S.Store conn.old) result) }
+    ensures told { HasCleanDisk (state S.Store conn.new) → IsTold at why (state S.Store conn.old) (state S.Store conn.new) result }
+    ensures survives { Survives (state S.Store conn.old) (state S.Store conn.new) (λ _. ⊥) }
+    ensures other { result ≢ Memory }
 {
-    let mut tx = conn.transaction();
-    if let Some(refused) = fill(&mut tx, follow, delivery, beside)? {
-        return Ok(Some(refused));
+    if let Err(error) = conn.prepare("SELECT n FROM held") {
+        return StoreFault::Database(error);
     }
-    tx.commit()?;
-    Ok(None)
+    match why {
+        Refusal::NoSuchRow => StoreFault::NoSuchRow(at),
+        Refusal::CountFull => StoreFault::CountFull(at),
+    }
+}
+
+/// Applies a transaction that is not in the executed set, and returns the set as it is then.
+fn take<S: Alter>(
+    conn: &mut Connection<S>,
+    follow: &Follow,
+    executed: GtidSet,
+    delivery: &Delivery,
+) -> (GtidSet, Result<Applied, StoreFault>)
+    requires autocommit { conn.old.in_transaction ≡ false }
+    requires new { set.contains executed (id delivery.now.gtid) ≡ false }
+    ensures autocommit { conn.new.in_transaction ≡ false }
+    ensures comes { HasCleanDisk (state S.Store conn.new) → (content : Content) → IsAtRest (state S.Store conn.old) follow.now content → executed ≡ content.executed → Comes follow.now content (delivery_value delivery.now) (state S.Store conn.old) (state S.Store conn.new) result.0 result.1 }
+    ensures crash { (content : Content) → IsAtRest (state S.Store conn.old) follow.now content → executed ≡ content.executed → Survives (state S.Store conn.old) (state S.Store conn.new) (MayMove follow.now content (delivery_value delivery.now) (state S.Store conn.old) result.1) }
+    ensures lives { Survives (state S.Store conn.old) (state S.Store conn.new) (λ _. Unit {0}) }
+    ensures memory { result.1 ≡ Err Memory → conn.new ≡ conn.old }
+{
+    let beside = around(&executed, delivery.gtid);
+    let reserved = match executed.reserve(delivery.gtid) {
+        Ok(reserved) => reserved,
+        Err(executed) => return (executed, Err(StoreFault::Memory)),
+    };
+    match run(conn, follow, delivery, &beside) {
+        Ok(None) => (reserved.insert(), Ok(Applied::Done)),
+        Ok(Some((at, why))) => (reserved.release(), Err(refuse(conn, at, why))),
+        Err(error) => (reserved.release(), Err(StoreFault::Database(error))),
+    }
+}
+
+/// Whether the database has to be opened again after this answer.
+fn breaks(answer: &Result<Applied, StoreFault>) -> bool
+    ensures { result ≡ breaks answer.now }
+{
+    matches!(
+        answer,
+        Err(StoreFault::Database(_)) | Err(StoreFault::Memory)
+    )
+}
+
+impl<S: Alter> Store<S> {
+    /// Applies a transaction of the source: makes its changes in order and adds its GTID to the executed set, all or
+    /// nothing. Changes of tables that are not followed are skipped.
+    ///
+    /// - `Done`: the changes were made, and the GTID was added.
+    /// - `Repeat`: the GTID was in the set already. No statement was run, and no memory was taken.
+    ///
+    /// The faults:
+    /// - `NoSuchRow` and `CountFull` have the index of the first change that cannot be made. Nothing has changed, and
+    ///   the store can be used further.
+    /// - `Database` if the database failed, and `Memory` if an allocation was refused. The executed set is as before,
+    ///   and so is the database if the connection is still open. From now on this call, `count` and `list` answer
+    ///   `Broken`. After `Database` a crash may leave the database with the transaction or without it.
+    /// - `Broken` after one of these two.
+    pub fn apply(&mut self, delivery: &Delivery) -> Result<Applied, StoreFault>
+        ensures applies { HasCleanDisk (database S.Store self.new) → (content : Content) → Holds S.Store self.old content → Applies S.Store content (delivery_value delivery.now) self.old self.new result }
+        ensures broken { IsBroken S.Store self.old → (result ≡ Err Broken) × (self.new ≡ self.old) }
+        ensures following { names_of S.Store self.new ≡ names_of S.Store self.old }
+        ensures schema { HasCleanDisk (database S.Store self.new) → (content : Content) → Holds S.Store self.old content → IsWhole S.Store self.new → (database S.Store self.new).now.schema ≡ (database S.Store self.old).now.schema }
+        ensures clean { HasCleanDisk (database S.Store self.new) → HasCleanDisk (database S.Store self.old) }
+        ensures crash { HasCleanDisk (database S.Store self.new) → (content : Content) → Holds S.Store self.old content → (trees : _) → (database S.Store self.new).may_leave trees
+            → Leaves (database S.Store self.old).now.schema (names_of S.Store self.old) content (delivery_value delivery.now) result trees }
+    {
+        if self.broken {
+            return Err(StoreFault::Broken);
+        }
+        if self.executed.contains(delivery.gtid) {
+            return Ok(Applied::Repeat);
+        }
+        let executed = mem::replace(&mut self.executed, GtidSet::new(self.alloc));
+        let (executed, answer) = take(&mut self.conn, &self.following, executed, delivery);
+        self.executed = executed;
+        self.broken = breaks(&answer);
+        answer
+    }
 }

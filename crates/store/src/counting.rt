@@ -12,7 +12,7 @@ ghost use Rattle.store.specs.Store.{Holds, Counts, AreOf, database, names_of, Is
 ghost use Rattle.store.specs.declared.fault.StoreFault.TheVariants.{Broken};
 
 use crate::fault::StoreFault;
-use crate::rows::{RowKey, one_count};
+use crate::held_rows::{RowKey, one_count};
 use crate::store::Store;
 use gather::Image;
 use sqlite::types::ValueRef;

@@ -20,24 +20,24 @@
 #![tactic(auto)]
 
 mod apply;
-mod beside;
-mod change;
+mod changes;
+mod contents;
 mod counting;
 mod fault;
-mod holding;
-mod judge;
+mod held_rows;
 pub mod laws;
-mod layout;
 mod listing;
 mod load;
 mod make;
 mod migrate;
+mod neighbors;
 mod opening;
-mod rows;
-mod spans;
+mod row_change;
+mod rules;
+mod span_rows;
 mod store;
+mod table_rows;
 mod tables;
-mod taking;
 
 pub use fault::{Applied, StoreFault};
 pub use listing::{List, Listed};

@@ -15,8 +15,8 @@ ghost use Rattle.store.specs.Listing.{Entry, shown_entry, key_cmp, HasKey, IsAbo
 ghost use Rattle.store.specs.declared.fault.StoreFault.TheVariants.{Broken};
 
 use crate::fault::StoreFault;
+use crate::held_rows::RowKey;
 use crate::load::read_all;
-use crate::rows::RowKey;
 use crate::store::Store;
 use gather::Image;
 use sqlite::types::ValueRef;

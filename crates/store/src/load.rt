@@ -10,8 +10,8 @@ ghost use Rattle.store.specs.Rows.{SaysLayout, meta_rows, first_meta_rows, HasRo
 ghost use Rattle.store.specs.Load.{AsksAll, IsMetaFirst, Rested, OnSeen, Judges, IsLoadFault, all_meta_text, all_held_text, all_spans_text, all_follow_text, all_executed_text, IsLoaded, IsFirstLoaded};
 
 use crate::fault::StoreFault;
-use crate::judge::layout_in;
-use crate::tables::{executed_from, follow_from, judge_held, judge_meta, spans_from};
+use crate::rules::layout_in;
+use crate::table_rows::{executed_from, follow_from, judge_held, judge_meta, spans_from};
 use binlog::Follow;
 use gtid::GtidSet;
 use sqlite::{Alter, Connection, Error, Row};

@@ -12,7 +12,7 @@ ghost use Rattle.store.specs.Open.{all, IsFirstAtRest, MayMigrate};
 ghost use Rattle.store.specs.Making.{HasMade};
 ghost use Rattle.store.specs.Migrating.{without_executed, migrated_spans, migrated_layout, IsFirstInside, IsMigrating, HasLeft};
 
-use crate::spans::add_span;
+use crate::span_rows::add_span;
 use gtid::{GtidSet, Span, Spans};
 use sqlite::{Alter, Connection, Error, Transaction};
 

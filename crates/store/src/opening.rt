@@ -11,11 +11,11 @@ ghost use Rattle.store.specs.Store.{Opens, database};
 ghost use Rattle.store.specs.Entering.{IsReady, IsEntered, IsTurned, IsWanted, MayEnter, tables_of, has_any, has_first, has_second};
 
 use crate::fault::StoreFault;
-use crate::layout::Tables;
 use crate::load::{Loaded, layout_of, load, load_first};
 use crate::make::make;
 use crate::migrate::migrate;
 use crate::store::Store;
+use crate::tables::Tables;
 use binlog::Follow;
 use gtid::GtidSet;
 use sqlite::{Alter, Connection};

@@ -2,7 +2,7 @@ use Rattle.std.proofs.Common.{◌≡◌, take}
 use Rattle.std.specs.FinSet as set
 use Rattle.sqlite.specs.State.{HasCleanDisk, Survives, KeepsCommit}
 use Rattle.sqlite.specs.Held.{state}
-use Rattle.binlog.specs.FollowView.{names_of}
+use Rattle.binlog.specs.FilterView.{names_of}
 use Rattle.store.specs.Making.{IsNaming}
 use Rattle.store.proofs.make.add_names.Given as goal
 

@@ -1,0 +1,84 @@
+//! A transaction that has begun and not ended.
+
+use crate::fault::GatherFault;
+use crate::row_changes::push_changes;
+use crate::transaction::Change;
+use binlog::{RowsEvent, TableDef, TableMap};
+use gtid::Gtid;
+use std::alloc::Global;
+use std::collections::BTreeMap;
+use std::rc::Rc;
+
+/// A transaction after its BEGIN.
+#[derive(Drop)]
+pub(crate) struct Begun {
+    pub(crate) gtid: Gtid,
+    /// For each table number its last table map: the table, or `None` if it is not followed.
+    pub(crate) maps: BTreeMap<u64, Option<Rc<TableDef>>>,
+    pub(crate) changes: Vec<Change>,
+}
+
+impl Begun {
+    ghost use Rattle.std.specs.Prelude.{◌≡◌, ◌⊎◌, [], ◌∷◌, ◌++◌, List, IfErr, OnOk, OnErr, Err};
+    ghost use Rattle.binlog.specs.Event.{EventValue, table_map, other_map, rows};
+    ghost use Rattle.binlog.specs.RowsView.{rows_value};
+    ghost use Rattle.binlog.specs.TableView.{table_value};
+    ghost use Rattle.gather.specs.Transaction.{map_of};
+    ghost use Rattle.gather.specs.Fault.{IsRowsFault};
+    ghost use Rattle.gather.specs.Begun.{Keeps};
+
+    /// A transaction whose BEGIN has just come.
+    pub(crate) fn new(alloc: Global, gtid: Gtid) -> Begun
+        ensures gtid { result.gtid ≡ gtid }
+        ensures keeps { Keeps [] result }
+    {
+        Begun {
+            gtid,
+            maps: BTreeMap::new(alloc),
+            changes: Vec::new(alloc),
+        }
+    }
+
+    /// Takes a table map. The only error is `Memory`.
+    pub(crate) fn take_map(&mut self, alloc: Global, map: &TableMap<'_>) -> Result<(), GatherFault>
+        ensures gtid { self.new.gtid ≡ self.old.gtid }
+        ensures keeps { (body : List EventValue) → Keeps body self.old → OnOk result (Keeps (body ++ table_map (table_value map.now) ∷ []) self.new) }
+        ensures err { OnErr result (result ≡ Err GatherFault.Memory) }
+    {
+        let table = match map.copy(alloc) {
+            Ok(table) => Rc::new(alloc, table)?,
+            Err(_) => return Err(GatherFault::Memory),
+        };
+        self.maps.insert(map.id, Some(table))?;
+        Ok(())
+    }
+
+    /// Takes a table map of a table that is not followed. The only error is `Memory`.
+    pub(crate) fn take_other(&mut self, id: u64) -> Result<(), GatherFault>
+        ensures gtid { self.new.gtid ≡ self.old.gtid }
+        ensures keeps { (body : List EventValue) → Keeps body self.old → OnOk result (Keeps (body ++ other_map id ∷ []) self.new) }
+        ensures err { OnErr result (result ≡ Err GatherFault.Memory) }
+    {
+        self.maps.insert(id, None)?;
+        Ok(())
+    }
+
+    /// Takes a rows event: appends its changes, whose table is that of the last table map with its number. The faults
+    /// are `UnknownTable`, `Event` and `Memory`.
+    pub(crate) fn take_rows(
+        &mut self,
+        alloc: Global,
+        event: &RowsEvent<'_>,
+    ) -> Result<(), GatherFault>
+        ensures gtid { self.new.gtid ≡ self.old.gtid }
+        ensures keeps { (body : List EventValue) → Keeps body self.old → OnOk result (Keeps (body ++ rows (rows_value event.now) ∷ []) self.new) }
+        ensures fault { (body : List EventValue) → Keeps body self.old →
+            IfErr result (λ fault. (fault ≡ GatherFault.Memory) ⊎ IsRowsFault (map_of body event.now.id) (rows_value event.now) fault) }
+    {
+        match self.maps.get(&event.id) {
+            None => Err(GatherFault::UnknownTable(event.id)),
+            Some(None) => Ok(()),
+            Some(Some(table)) => push_changes(alloc, table, event, &mut self.changes),
+        }
+    }
+}

@@ -1,0 +1,111 @@
+//! The state of a gatherer: how far into a transaction it is.
+
+ghost use Rattle.std.specs.Prelude.{◌≡◌, true, IfOk, IfErr};
+ghost use Rattle.binlog.specs.Event.{EventValue, begin, table_map, other_map, rows};
+ghost use Rattle.binlog.specs.RowsView.{rows_value};
+ghost use Rattle.binlog.specs.TableView.{table_value};
+ghost use Rattle.gather.specs.Transaction.{is_end};
+ghost use Rattle.gather.specs.Fault.{type_of};
+ghost use Rattle.gather.specs.View.{delivered};
+ghost use Rattle.gather.specs.State.{GoesOn, FaultsAt};
+
+use crate::fault::GatherFault;
+use crate::open_transaction::Begun;
+use crate::transaction::Delivery;
+use binlog::{RowsEvent, RowsKind, TableMap, event_type};
+use gtid::Gtid;
+use std::alloc::Global;
+use std::mem;
+
+/// How far into a transaction a gatherer is.
+#[derive(Drop)]
+pub(crate) enum State {
+    /// Outside of any transaction.
+    Between,
+    /// Right after the GTID.
+    Announced(Gtid),
+    /// After BEGIN.
+    Inside(Begun),
+}
+
+/// Takes BEGIN, which must come right after the GTID.
+pub(crate) fn take_begin(state: &mut State, alloc: Global) -> Result<Option<Delivery>, GatherFault>
+    ensures taken { IfOk result (λ delivery. GoesOn begin state.old state.new (delivered delivery)) }
+    ensures fault { IfErr result (FaultsAt begin state.old) }
+{
+    match state {
+        State::Announced(gtid) => {
+            *state = State::Inside(Begun::new(alloc, *gtid));
+            Ok(None)
+        }
+        _ => Err(GatherFault::Misplaced(event_type::QUERY)),
+    }
+}
+
+/// Takes a table map, which must come after BEGIN.
+pub(crate) fn take_map(
+    state: &mut State,
+    alloc: Global,
+    map: &TableMap<'_>,
+) -> Result<Option<Delivery>, GatherFault>
+    ensures taken { IfOk result (λ delivery. GoesOn (table_map (table_value map.now)) state.old state.new (delivered delivery)) }
+    ensures fault { IfErr result (FaultsAt (table_map (table_value map.now)) state.old) }
+{
+    match state {
+        State::Inside(begun) => {
+            begun.take_map(alloc, map)?;
+            Ok(None)
+        }
+        _ => Err(GatherFault::Misplaced(event_type::TABLE_MAP)),
+    }
+}
+
+/// Takes a table map of a table that is not followed, which must come after BEGIN.
+pub(crate) fn take_other(state: &mut State, id: u64) -> Result<Option<Delivery>, GatherFault>
+    ensures taken { IfOk result (λ delivery. GoesOn (other_map id) state.old state.new (delivered delivery)) }
+    ensures fault { IfErr result (FaultsAt (other_map id) state.old) }
+{
+    match state {
+        State::Inside(begun) => {
+            begun.take_other(id)?;
+            Ok(None)
+        }
+        _ => Err(GatherFault::Misplaced(event_type::TABLE_MAP)),
+    }
+}
+
+/// Takes a rows event, which must come after BEGIN.
+pub(crate) fn take_rows(
+    state: &mut State,
+    alloc: Global,
+    event: &RowsEvent<'_>,
+) -> Result<Option<Delivery>, GatherFault>
+    ensures taken { IfOk result (λ delivery. GoesOn (rows (rows_value event.now)) state.old state.new (delivered delivery)) }
+    ensures fault { IfErr result (FaultsAt (rows (rows_value event.now)) state.old) }
+{
+    match state {
+        State::Inside(begun) => {
+            begun.take_rows(alloc, event)?;
+            Ok(None)
+        }
+        _ => Err(GatherFault::Misplaced(match event.kind {
+            RowsKind::Write => event_type::WRITE_ROWS,
+            RowsKind::Update => event_type::UPDATE_ROWS,
+            RowsKind::Delete => event_type::DELETE_ROWS,
+        })),
+    }
+}
+
+/// Takes an event of this type that ends a transaction, which must come after BEGIN.
+pub(crate) fn take_end(state: &mut State, code: u8) -> Result<Option<Delivery>, GatherFault>
+    ensures taken { (e : EventValue) → is_end e ≡ true → IfOk result (λ delivery. GoesOn e state.old state.new (delivered delivery)) }
+    ensures fault { (e : EventValue) → is_end e ≡ true → type_of e ≡ code → IfErr result (FaultsAt e state.old) }
+{
+    match mem::replace(state, State::Between) {
+        State::Inside(begun) => {
+            let Begun { gtid, changes, .. } = begun;
+            Ok(Some(Delivery { gtid, changes }))
+        }
+        _ => Err(GatherFault::Misplaced(code)),
+    }
+}

@@ -1,0 +1,109 @@
+//! Payloads of the dump: events, and the EOF at the end of the log.
+
+ghost use Rattle.std.specs.Prelude.{◌≡◌, ◌⊎◌, Bool, List, ◌++◌, ◌∷◌, [], IfOk, IfErr, IfSome, IfNone, true, false, MatchResult, Ok, Err};
+ghost use Rattle.sqlite.specs.State.{HasCleanDisk};
+ghost use Rattle.sqlite.specs.Held.{state};
+ghost use Rattle.binlog.specs.Filter.{Names};
+ghost use Rattle.binlog.specs.Event.{EventValue};
+ghost use Rattle.binlog.specs.EventView.{event_value};
+ghost use Rattle.gather.specs.Transaction.{DeliveryValue};
+ghost use Rattle.gather.specs.Standing.{Stands as Gathers};
+ghost use Rattle.gather.specs.View.{delivery_value, delivered};
+ghost use Rattle.store.specs.State.{Content};
+ghost use Rattle.store.specs.Store.{Holds, HasFailed, HoldsAs, database, names_of, IsBroken};
+ghost use Rattle.replica.specs.Stream.{Carries, InDump};
+ghost use Rattle.replica.specs.Turn.{EndsDump, GathersMore, outcome_of, reason_of_events};
+ghost use Rattle.replica.specs.Message.{begins_event};
+ghost use Rattle.replica.specs.Conn.{IsNoStreamFailure};
+ghost use Rattle.replica.specs.Event.{TakesEvent};
+
+use crate::end::{Reason, Refusal};
+use crate::message::told;
+use binlog::{Event, Follow, read_event_only};
+use gather::{Delivery, GatherFault, Gatherer};
+use greet::read_eof;
+use sqlite::Alter;
+use std::alloc::Global;
+use store::{Applied, Store, StoreFault};
+
+/// The reason for a payload that does not carry an event.
+fn no_event(alloc: Global, payload: &[u8]) -> Reason
+    requires { begins_event payload.now ≡ false }
+    ensures ends { (names : Names) (es : List EventValue) → EndsDump names es payload.now result }
+    ensures neither { IsNoStreamFailure result }
+{
+    match read_eof(alloc, payload) {
+        Ok(()) => Reason::SourceEof,
+        Err(fault) => told(fault),
+    }
+}
+
+/// Maps a gather fault to a reason.
+fn reason_for(fault: GatherFault) -> Reason
+    ensures { result ≡ reason_of_events fault }
+{
+    match fault {
+        GatherFault::Memory => Reason::Memory,
+        other => Reason::Gather(other),
+    }
+}
+
+/// Reads and gathers the event of a payload, and returns the transaction that it ends, if it ends one.
+fn gather(
+    alloc: Global,
+    gatherer: &mut Gatherer,
+    follow: &Follow,
+    payload: &[u8],
+) -> Result<Option<Delivery>, Reason>
+    ensures ok { (es : List EventValue) (ds : List DeliveryValue) → Gathers es ds gatherer.old → IfOk result (λ delivery. GathersMore follow.now es ds payload.now (delivered delivery) gatherer.new) }
+    ensures err { (es : List EventValue) (ds : List DeliveryValue) → Gathers es ds gatherer.old → IfErr result (EndsDump follow.now es payload.now) }
+    ensures neither { IfErr result IsNoStreamFailure }
+{
+    let [0, body @ ..] = payload else {
+        return Err(no_event(alloc, payload));
+    };
+    let event = match read_event_only(body, follow) {
+        Ok(event) => event,
+        Err(fault) => return Err(Reason::Event(fault)),
+    };
+    match gatherer.event(&event) {
+        Ok(delivery) => Ok(delivery),
+        Err(fault) => Err(reason_for(fault)),
+    }
+}
+
+/// Maps the store's answer: whether the transaction was applied, or the reason why the connection ends.
+fn outcome(answer: Result<Applied, StoreFault>) -> Result<bool, Reason>
+    ensures { result ≡ outcome_of answer }
+{
+    match answer {
+        Ok(Applied::Done) => Ok(true),
+        Ok(Applied::Repeat) => Ok(false),
+        Err(StoreFault::NoSuchRow(at)) => Err(Reason::Refused(Refusal::NoSuchRow(at))),
+        Err(StoreFault::CountFull(at)) => Err(Reason::Refused(Refusal::CountFull(at))),
+        Err(StoreFault::Memory) => Err(Reason::Memory),
+        Err(fault) => Err(Reason::Database(fault)),
+    }
+}
+
+/// Takes a payload of the dump: reads its event and, if that ends a transaction, applies the transaction to the store.
+/// Returns whether one was applied.
+pub(crate) fn take_event<S: Alter>(
+    alloc: Global,
+    gatherer: &mut Gatherer,
+    store: &mut Store<S>,
+    payload: &[u8],
+) -> Result<bool, Reason>
+    ensures clean { HasCleanDisk (database S.Store store.new) → HasCleanDisk (database S.Store store.old) }
+    ensures neither { IfErr result IsNoStreamFailure }
+    ensures following { names_of S.Store store.new ≡ names_of S.Store store.old }
+    ensures broken { IsBroken S.Store store.old → store.new ≡ store.old }
+    ensures turn { HasCleanDisk (database S.Store store.new) → (is : Bool) (now : Content) (es : List EventValue) (ds : List DeliveryValue) → Gathers es ds gatherer.old → HoldsAs S.Store is now store.old
+        → TakesEvent S.Store is now es ds payload.now store.old store.new gatherer.new result }
+{
+    match gather(alloc, gatherer, store.following(), payload) {
+        Ok(Some(delivery)) => outcome(store.apply(&delivery)),
+        Ok(None) => Ok(false),
+        Err(reason) => Err(reason),
+    }
+}

@@ -1,0 +1,19 @@
+use Rattle.std.proofs.Common.{None, arith}
+use Rattle.sqlite.specs.State.{HasCleanDisk}
+use Rattle.sqlite.specs.Held.{state}
+use Rattle.gather.specs.View.{delivery_value, change_values}
+use Rattle.store.specs.Inside.{DoesAll}
+use Rattle.store.proofs.Filled.{shows_mid, filled}
+use Rattle.store.proofs.changes.fill.Goals as goal
+
+pub returns-clause-fills : goal.returns-clause-fills
+returns-clause-fills g c clean was content stands out beside =
+    let old = state g.S.Store c.args.tx.now.conn.now in
+    let mid = state g.S.Store c.make_all.new.tx.conn.now in
+    let new = state g.S.Store c.record.new.tx.conn.now in
+    let names = c.args.follow.now in
+    let d = delivery_value c.args.delivery.now in
+    let early : HasCleanDisk mid = omega (arith, c.record.ensures.survives.clean) in
+    let does : DoesAll names (change_values c.args.delivery.now.changes.items) old mid None = rw (c.in_default.is, c.as_slice.ensures.value) at (c.in_ok-refused.ensures.does early was) in
+    filled old mid new names d content stands out c.record.ensures.lawful does
+    (c.in_ok-record.ensures.records clean does.0.on.working content.executed stands.executed.spans (shows_mid old mid new names d content stands out does.0) out beside.before beside.behind)

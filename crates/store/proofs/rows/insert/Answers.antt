@@ -1,9 +1,0 @@
-use Rattle.std.proofs.Common.{refl}
-use Rattle.sqlite.specs.Held.{state}
-use Rattle.store.specs.Rows.{key_in}
-use Rattle.store.proofs.Done.{done_insert}
-use Rattle.store.proofs.rows.insert.Goals as goal
-
-pub returns-clause-holds : goal.returns-clause-holds
-returns-clause-holds g c clean was stored =
-    done_insert (state g.S.Store c.args.tx.now.conn.now) (state g.S.Store c.execute.new.self.conn.now) (key_in c.args.row.now) was c.execute.result stored (c.execute.ensures.runs clean (rw was.inside refl))

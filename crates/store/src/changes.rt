@@ -1,0 +1,60 @@
+//! The changes of a transaction of the source, as one transaction of the database.
+
+ghost use Rattle.std.specs.Prelude.{◌≡◌, false, IfOk};
+ghost use Rattle.sqlite.specs.State.{HasCleanDisk, Survives, KeepsCommit};
+ghost use Rattle.sqlite.specs.Held.{state};
+ghost use Rattle.gather.specs.View.{delivery_value};
+ghost use Rattle.store.specs.State.{Content};
+ghost use Rattle.store.specs.Take.{is_executed};
+ghost use Rattle.store.specs.Rows.{StandsFor};
+ghost use Rattle.store.specs.Inside.{IsWorking};
+ghost use Rattle.store.specs.Apply.{LiesBeside, Fills, IsAtRest, Runs, MayCommit};
+
+use crate::row_change::{Refusal, make_all};
+use crate::span_rows::{Beside, record};
+use binlog::Follow;
+use gather::Delivery;
+use sqlite::{Alter, Connection, Error, Transaction};
+
+/// Makes the changes and records the GTID, or returns which change is refused and why.
+fn fill<S: Alter>(
+    tx: &mut Transaction<'_, S>,
+    follow: &Follow,
+    delivery: &Delivery,
+    beside: &Beside,
+) -> Result<Option<(usize, Refusal)>, Error>
+    ensures same_reference { tx.new.conn.ghost_name ≡ tx.old.conn.ghost_name }
+    ensures fills { HasCleanDisk (state S.Store tx.new.conn.now) → IsWorking (state S.Store tx.old.conn.now) → (content : Content) → (stands : StandsFor (state S.Store tx.old.conn.now).now follow.now content) → is_executed content (delivery_value delivery.now) ≡ false
+        → LiesBeside stands.executed.spans delivery.now.gtid beside.now → IfOk result (Fills follow.now content (delivery_value delivery.now) (state S.Store tx.old.conn.now) (state S.Store tx.new.conn.now)) }
+    ensures kept { HasCleanDisk (state S.Store tx.new.conn.now) → IsWorking (state S.Store tx.old.conn.now) → KeepsCommit (state S.Store tx.old.conn.now) (state S.Store tx.new.conn.now) }
+    ensures survives { Survives (state S.Store tx.old.conn.now) (state S.Store tx.new.conn.now) (λ _. ⊥) }
+{
+    if let Some(refused) = make_all(tx, follow, delivery.changes.as_slice())? {
+        return Ok(Some(refused));
+    }
+    record(tx, delivery.gtid, beside)?;
+    Ok(None)
+}
+
+/// Runs `fill` in a transaction of its own, which is rolled back if a change is refused or a statement fails.
+pub(crate) fn run<S: Alter>(
+    conn: &mut Connection<S>,
+    follow: &Follow,
+    delivery: &Delivery,
+    beside: &Beside,
+) -> Result<Option<(usize, Refusal)>, Error>
+    requires { conn.old.in_transaction ≡ false }
+    ensures autocommit { conn.new.in_transaction ≡ false }
+    ensures runs { HasCleanDisk (state S.Store conn.new) → (content : Content) → (rest : IsAtRest (state S.Store conn.old) follow.now content) → is_executed content (delivery_value delivery.now) ≡ false
+        → LiesBeside rest.stands.executed.spans delivery.now.gtid beside.now → Runs follow.now content (delivery_value delivery.now) (state S.Store conn.old) (state S.Store conn.new) result }
+    ensures lives { Survives (state S.Store conn.old) (state S.Store conn.new) (λ _. Unit {0}) }
+    ensures crash { (content : Content) → (rest : IsAtRest (state S.Store conn.old) follow.now content) → is_executed content (delivery_value delivery.now) ≡ false
+        → LiesBeside rest.stands.executed.spans delivery.now.gtid beside.now → Survives (state S.Store conn.old) (state S.Store conn.new) (MayCommit follow.now content (delivery_value delivery.now) (state S.Store conn.old) result) }
+{
+    let mut tx = conn.transaction();
+    if let Some(refused) = fill(&mut tx, follow, delivery, beside)? {
+        return Ok(Some(refused));
+    }
+    tx.commit()?;
+    Ok(None)
+}

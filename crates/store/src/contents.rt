@@ -1,0 +1,42 @@
+//! The contents of a store: the executed set and the list of tables; and closing.
+
+ghost use Rattle.std.specs.Prelude.{◌≡◌, Bool, false};
+ghost use Rattle.store.specs.State.{Content};
+ghost use Rattle.store.specs.Store.{HoldsAs, connection, names_of};
+
+use crate::store::Store;
+use binlog::Follow;
+use gtid::GtidSet;
+use sqlite::{Alter, Connection};
+
+impl<S: Alter> Store<S> {
+    /// The executed set. It takes no memory. A store that has failed answers it too.
+    pub fn executed(&self) -> &GtidSet
+        ensures { (broken : Bool) (content : Content) → HoldsAs S.Store broken content self.now → result.now ≡ content.executed }
+    {
+        &self.executed
+    }
+
+    /// The tables whose rows are kept; the empty list means all tables. It takes no memory. A store that has failed
+    /// answers it too.
+    pub fn following(&self) -> &Follow
+        ensures { result.now ≡ (names_of S.Store self.now) }
+    {
+        &self.following
+    }
+
+    /// Ends the store and returns its connection. The database is not changed.
+    pub fn close(self) -> Connection<S>
+        ensures same { result ≡ connection S.Store self }
+        ensures autocommit { result.in_transaction ≡ false }
+    {
+        let Store {
+            conn,
+            executed: _,
+            following: _,
+            broken: _,
+            alloc: _,
+        } = self;
+        conn
+    }
+}

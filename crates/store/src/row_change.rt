@@ -1,0 +1,179 @@
+//! Row changes, inside a transaction.
+
+ghost use Rattle.std.specs.Prelude.{◌≡◌, IfOk};
+ghost use Rattle.sqlite.specs.State.{HasCleanDisk, Survives, KeepsCommit};
+ghost use Rattle.sqlite.specs.Held.{state};
+ghost use Rattle.store.specs.Rows.{IsStored, key_in, held_rows, count};
+ghost use Rattle.gather.specs.Transaction.{insert, delete};
+ghost use Rattle.gather.specs.View.{change_value, change_values};
+ghost use Rattle.store.specs.Take.{is_followed};
+ghost use Rattle.store.specs.Inside.{IsWorking, added, taken, Counted, Makes, Does, DoesAll};
+
+use crate::held_rows::{RowKey, delete, insert, read, update};
+use binlog::{Follow, TableDef};
+use gather::{Change, Image};
+use sqlite::{Alter, Error, Transaction};
+
+/// Why a change is refused.
+#[derive(Clone, Copy, Debug, PartialEq, Eq)]
+pub enum Refusal {
+    /// The row to be removed is not there.
+    NoSuchRow,
+    /// The row is to be added, and its count is at the maximum, 2^63 - 1.
+    CountFull,
+}
+
+const MOST: u64 = 9_223_372_036_854_775_807;
+
+/// Adds one copy of a row.
+pub(crate) fn add<S: Alter>(
+    tx: &mut Transaction<'_, S>,
+    row: &RowKey<'_>,
+) -> Result<Option<Refusal>, Error>
+    ensures same_reference { tx.new.conn.ghost_name ≡ tx.old.conn.ghost_name }
+    ensures counted { HasCleanDisk (state S.Store tx.new.conn.now) → IsWorking (state S.Store tx.old.conn.now) → IsStored row.now.image.now → IfOk result (Counted (state S.Store tx.old.conn.now) (state S.Store tx.new.conn.now) (added (key_in row.now) (count (held_rows (state S.Store tx.old.conn.now).now)))) }
+    ensures kept { HasCleanDisk (state S.Store tx.new.conn.now) → IsWorking (state S.Store tx.old.conn.now) → KeepsCommit (state S.Store tx.old.conn.now) (state S.Store tx.new.conn.now) }
+    ensures survives { Survives (state S.Store tx.old.conn.now) (state S.Store tx.new.conn.now) (λ _. ⊥) }
+{
+    let Some(n) = read(tx, row)? else {
+        insert(tx, row)?;
+        return Ok(None);
+    };
+    if n >= MOST {
+        return Ok(Some(Refusal::CountFull));
+    }
+    update(tx, row, (n + 1) as i64)?;
+    Ok(None)
+}
+
+/// Removes one copy of a row.
+pub(crate) fn take<S: Alter>(
+    tx: &mut Transaction<'_, S>,
+    row: &RowKey<'_>,
+) -> Result<Option<Refusal>, Error>
+    ensures same_reference { tx.new.conn.ghost_name ≡ tx.old.conn.ghost_name }
+    ensures counted { HasCleanDisk (state S.Store tx.new.conn.now) → IsWorking (state S.Store tx.old.conn.now) → IfOk result (Counted (state S.Store tx.old.conn.now) (state S.Store tx.new.conn.now) (taken (key_in row.now) (count (held_rows (state S.Store tx.old.conn.now).now)))) }
+    ensures kept { HasCleanDisk (state S.Store tx.new.conn.now) → IsWorking (state S.Store tx.old.conn.now) → KeepsCommit (state S.Store tx.old.conn.now) (state S.Store tx.new.conn.now) }
+    ensures survives { Survives (state S.Store tx.old.conn.now) (state S.Store tx.new.conn.now) (λ _. ⊥) }
+{
+    let Some(n) = read(tx, row)? else {
+        return Ok(Some(Refusal::NoSuchRow));
+    };
+    if n == 0 {
+        return Ok(Some(Refusal::NoSuchRow));
+    }
+    if n == 1 {
+        delete(tx, row)?;
+        return Ok(None);
+    }
+    update(tx, row, (n - 1) as i64)?;
+    Ok(None)
+}
+
+/// Adds one copy of a row of a table.
+fn add_row<S: Alter>(
+    tx: &mut Transaction<'_, S>,
+    table: &TableDef,
+    image: &Image,
+) -> Result<Option<Refusal>, Error>
+    ensures same_reference { tx.new.conn.ghost_name ≡ tx.old.conn.ghost_name }
+    ensures makes { HasCleanDisk (state S.Store tx.new.conn.now) → IsWorking (state S.Store tx.old.conn.now) → IfOk result (Makes (insert table.now.schema.items table.now.table.items image.now) (state S.Store tx.old.conn.now) (state S.Store tx.new.conn.now)) }
+    ensures kept { HasCleanDisk (state S.Store tx.new.conn.now) → IsWorking (state S.Store tx.old.conn.now) → KeepsCommit (state S.Store tx.old.conn.now) (state S.Store tx.new.conn.now) }
+    ensures survives { Survives (state S.Store tx.old.conn.now) (state S.Store tx.new.conn.now) (λ _. ⊥) }
+{
+    let row = RowKey {
+        schema: table.schema.as_slice(),
+        table: table.table.as_slice(),
+        image: image.bytes(),
+    };
+    add(tx, &row)
+}
+
+/// Removes one copy of a row of a table.
+fn take_row<S: Alter>(
+    tx: &mut Transaction<'_, S>,
+    table: &TableDef,
+    image: &Image,
+) -> Result<Option<Refusal>, Error>
+    ensures same_reference { tx.new.conn.ghost_name ≡ tx.old.conn.ghost_name }
+    ensures makes { HasCleanDisk (state S.Store tx.new.conn.now) → IsWorking (state S.Store tx.old.conn.now) → IfOk result (Makes (delete table.now.schema.items table.now.table.items image.now) (state S.Store tx.old.conn.now) (state S.Store tx.new.conn.now)) }
+    ensures kept { HasCleanDisk (state S.Store tx.new.conn.now) → IsWorking (state S.Store tx.old.conn.now) → KeepsCommit (state S.Store tx.old.conn.now) (state S.Store tx.new.conn.now) }
+    ensures survives { Survives (state S.Store tx.old.conn.now) (state S.Store tx.new.conn.now) (λ _. ⊥) }
+{
+    let row = RowKey {
+        schema: table.schema.as_slice(),
+        table: table.table.as_slice(),
+        image: image.bytes(),
+    };
+    take(tx, &row)
+}
+
+/// Makes one change, or returns why it is refused.
+fn make<S: Alter>(tx: &mut Transaction<'_, S>, change: &Change) -> Result<Option<Refusal>, Error>
+    ensures same_reference { tx.new.conn.ghost_name ≡ tx.old.conn.ghost_name }
+    ensures makes { HasCleanDisk (state S.Store tx.new.conn.now) → IsWorking (state S.Store tx.old.conn.now) → IfOk result (Makes (change_value change.now) (state S.Store tx.old.conn.now) (state S.Store tx.new.conn.now)) }
+    ensures kept { HasCleanDisk (state S.Store tx.new.conn.now) → IsWorking (state S.Store tx.old.conn.now) → KeepsCommit (state S.Store tx.old.conn.now) (state S.Store tx.new.conn.now) }
+    ensures survives { Survives (state S.Store tx.old.conn.now) (state S.Store tx.new.conn.now) (λ _. ⊥) }
+{
+    match change {
+        Change::Insert { table, after } => add_row(tx, table, after),
+        Change::Delete { table, before } => take_row(tx, table, before),
+        Change::Update {
+            table,
+            before,
+            after,
+        } => {
+            if let Some(why) = take_row(tx, table, before)? {
+                return Ok(Some(why));
+            }
+            add_row(tx, table, after)
+        }
+    }
+}
+
+/// Whether the table of a change is followed.
+fn is_followed(follow: &Follow, change: &Change) -> bool
+    ensures { result ≡ is_followed follow.now (change_value change.now) }
+{
+    match change {
+        Change::Insert { table, .. } => follow.follows(&table.schema, &table.table),
+        Change::Delete { table, .. } => follow.follows(&table.schema, &table.table),
+        Change::Update { table, .. } => follow.follows(&table.schema, &table.table),
+    }
+}
+
+/// Makes one change of a table that is followed, and skips any other.
+fn step<S: Alter>(
+    tx: &mut Transaction<'_, S>,
+    follow: &Follow,
+    change: &Change,
+) -> Result<Option<Refusal>, Error>
+    ensures same_reference { tx.new.conn.ghost_name ≡ tx.old.conn.ghost_name }
+    ensures does { HasCleanDisk (state S.Store tx.new.conn.now) → IsWorking (state S.Store tx.old.conn.now) → IfOk result (Does follow.now (change_value change.now) (state S.Store tx.old.conn.now) (state S.Store tx.new.conn.now)) }
+    ensures kept { HasCleanDisk (state S.Store tx.new.conn.now) → IsWorking (state S.Store tx.old.conn.now) → KeepsCommit (state S.Store tx.old.conn.now) (state S.Store tx.new.conn.now) }
+    ensures survives { Survives (state S.Store tx.old.conn.now) (state S.Store tx.new.conn.now) (λ _. ⊥) }
+{
+    if !is_followed(follow, change) {
+        return Ok(None);
+    }
+    make(tx, change)
+}
+
+/// Makes the changes in order, or returns the index of the one that is refused, and why.
+pub(crate) fn make_all<S: Alter>(
+    tx: &mut Transaction<'_, S>,
+    follow: &Follow,
+    changes: &[Change],
+) -> Result<Option<(usize, Refusal)>, Error>
+    ensures same_reference { tx.new.conn.ghost_name ≡ tx.old.conn.ghost_name }
+    ensures does { HasCleanDisk (state S.Store tx.new.conn.now) → IsWorking (state S.Store tx.old.conn.now) → IfOk result (DoesAll follow.now (change_values changes.now) (state S.Store tx.old.conn.now) (state S.Store tx.new.conn.now)) }
+    ensures kept { HasCleanDisk (state S.Store tx.new.conn.now) → IsWorking (state S.Store tx.old.conn.now) → KeepsCommit (state S.Store tx.old.conn.now) (state S.Store tx.new.conn.now) }
+    ensures survives { Survives (state S.Store tx.old.conn.now) (state S.Store tx.new.conn.now) (λ _. ⊥) }
+{
+    for at in 0..changes.len() {
+        if let Some(why) = step(tx, follow, &changes[at])? {
+            return Ok(Some((at, why)));
+        }
+    }
+    Ok(None)
+}
