@@ -5,8 +5,6 @@ use Rattle.gtid.specs.Identifier.{Ids}
 use Rattle.binlog.specs.Filter.{Names}
 use Rattle.replica.specs.declared.end.Reason.{Reason}
 use Rattle.replica.specs.declared.end.Reason.TheVariants.{EndOfInput, SourceEof, SourceError, Wire, Greet, Event, Gather, Refused, Database, Memory, ReadFailed, WriteFailed}
-use Rattle.replica.specs.declared.phase.Phase.{Phase}
-use Rattle.replica.specs.declared.phase.Phase.TheVariants as phases
 use Rattle.replica.specs.Settings.{Settings}
 use Rattle.replica.specs.Stream.{Payload, Due, IsInDump, Reply, SecondReply, QueryReply, next_due}
 use Rattle.replica.specs.Message.{refusal_of, IsNoEvent}
@@ -55,10 +53,6 @@ answered_again settings names executed scramble p old new is s = record {
 pub switch_due : (scramble : List ℕ) (p : Payload) → IsSwitch scramble p → SecondReply ≡ next_due Reply p
 switch_due scramble p is = subst (λ q. SecondReply ≡ next_due Reply q) (sym is.payload_is) refl
 
-pub ends_in : {A : Type 0} (names : Names) (executed : Ids) (phase : Phase) (due : Due) (p : Payload) (r : Result A Reason) → due ≡ due_of phase → IfErr r (EndsAt names executed due p) → IfErr r (EndsAt names executed (due_of phase) p)
-ends_in names executed phase due p (Ok a) is h = tt
-ends_in names executed phase due p (Err reason) is h = subst (λ d. EndsAt names executed d p reason) is h
-
-pub query_due : (phase : Phase) → (phase ≡ phases.QueryReply) ⊎ (phase ≡ phases.Dump) → (IsInDump (due_of phase) → ⊥) → QueryReply ≡ due_of phase
-query_due phase (inl e) h = sym (ap due_of e)
-query_due phase (inr e) h = absurd (h (subst (λ x. IsInDump (due_of x)) (sym e) tt))
+pub ends_in : {A : Type 0} (names : Names) (executed : Ids) (at due : Due) (p : Payload) (r : Result A Reason) → due ≡ at → IfErr r (EndsAt names executed due p) → IfErr r (EndsAt names executed at p)
+ends_in names executed at due p (Ok a) is h = tt
+ends_in names executed at due p (Err reason) is h = subst (λ d. EndsAt names executed d p reason) is h

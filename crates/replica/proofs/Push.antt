@@ -9,6 +9,7 @@ use Rattle.gather.specs.Transaction.{DeliveryValue, AreBlocks, IsBlock, AreDeliv
 use Rattle.store.specs.State.{Content}
 use Rattle.replica.specs.declared.phase.Phase.{Phase}
 use Rattle.replica.specs.declared.phase.Phase.TheVariants as phases
+use Rattle.replica.specs.declared.phase.Login.TheVariants as login
 use Rattle.replica.specs.Settings.{Settings}
 use Rattle.replica.specs.Stream.{Payload, Due, Hello, Reply, SecondReply, QueryReply, InDump, begins_switch, next_due, next_id, due_from, due_behind, IsInDump, Answers, Talks, Reading}
 use Rattle.replica.specs.Conn.{TakesAll, IsDumpTooLong}
@@ -39,10 +40,10 @@ id_of QueryReply = 1
 id_of InDump = 1
 
 id_of_phase : (phase : Phase) → first_id_of phase ≡ id_of (due_of phase)
-id_of_phase phases.Greeting = refl
-id_of_phase phases.Reply = refl
-id_of_phase phases.SecondReply = refl
-id_of_phase phases.QueryReply = refl
+id_of_phase (phases.Login login.Greeting) = refl
+id_of_phase (phases.Login login.Reply) = refl
+id_of_phase (phases.Login login.SecondReply) = refl
+id_of_phase (phases.Login login.QueryReply) = refl
 id_of_phase phases.Dump = refl
 
 id_of_next : (d : Due) (p : Payload) (behind : ℕ) → (IsInDump d → ⊥) → id_of (next_due d p) ≡ next_id d p behind

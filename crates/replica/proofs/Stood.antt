@@ -8,7 +8,8 @@ use Rattle.gather.specs.declared.gatherer.Gatherer.{Gatherer}
 use Rattle.store.specs.State.{Content}
 use Rattle.replica.specs.declared.end.Reason.TheVariants.{EndOfInput}
 use Rattle.replica.specs.declared.end.Ended.{Ended}
-use Rattle.replica.specs.declared.phase.Phase.TheVariants.{Greeting}
+use Rattle.replica.specs.declared.phase.Login.TheVariants.{Greeting}
+use Rattle.replica.specs.declared.phase.Phase.TheVariants.{Login}
 use Rattle.replica.specs.declared.session.Session.{Session}
 use Rattle.replica.specs.Settings.{Settings}
 use Rattle.replica.specs.Stream.{Reading}
@@ -35,7 +36,7 @@ unread limit names b = record {
 
 pub begun : (settings : Settings) (a : ReaderState) (gatherer : Gatherer) (names : Names) (was : Bool) (old : Content) (all : List ℕ)
     → a.held ≡ [] → a.limit ≡ settings.limit → a.due ≡ 0 → a.ended ≡ false → Gathers [] [] gatherer → all ≡ []
-    → GoesOn settings a gatherer Greeting 0 0 names was was old old [] all
+    → GoesOn settings a gatherer (Login Greeting) 0 0 names was was old old [] all
 begun settings a gatherer names was old all held limit due ended gathers sent = record {
   reading = unread settings.limit names [];
   held = sym held;

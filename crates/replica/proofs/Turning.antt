@@ -14,13 +14,15 @@ use Rattle.replica.specs.declared.end.Reason.TheVariants.{EndOfInput, SourceEof,
 use Rattle.replica.specs.declared.end.Ended.{Ended}
 use Rattle.replica.specs.declared.phase.Phase.{Phase}
 use Rattle.replica.specs.declared.phase.Phase.TheVariants as phases
+use Rattle.replica.specs.declared.phase.Login.{Login}
+use Rattle.replica.specs.declared.phase.Login.TheVariants as login
 use Rattle.replica.specs.declared.session.Session.{Session}
 use Rattle.replica.specs.Settings.{Settings}
 use Rattle.replica.specs.Stream.{Payload, Due, Hello, QueryReply, IsInDump, next_due, next_id, due_behind, Reading}
 use Rattle.replica.specs.End.{HasNext, StopsAt, PassesEnd, StopsFor}
 use Rattle.replica.specs.Conn.{TakesAll, Why, BreaksStore}
 use Rattle.replica.specs.Sent.{Sent, SentFor}
-use Rattle.replica.specs.Standing.{GoesOn, HasEnded, Stands, HasPayload, due_of, first_id_of, room_of}
+use Rattle.replica.specs.Standing.{GoesOn, HasEnded, Stands, HasPayload, due_at, due_of, first_id_of, room_of}
 use Rattle.replica.specs.Turn.{IsAnswered, EndsAt}
 use Rattle.replica.proofs.Push.{due_push, id_is_next, could_ask, no_events, no_deliveries, owes_push, with_message}
 
@@ -48,12 +50,14 @@ room_left s new end n at held was end_is within =
     omega (arith, a, z, at, end_is, within)
 
 -- the message expected before the dump
-pub not_dump : (phase : Phase) → phase ≢ phases.Dump → IsInDump (due_of phase) → ⊥
-not_dump phases.Greeting n i = i
-not_dump phases.Reply n i = i
-not_dump phases.SecondReply n i = i
-not_dump phases.QueryReply n i = i
-not_dump phases.Dump n i = n refl
+no_dump : (at : Login) → IsInDump (due_at at) → ⊥
+no_dump login.Greeting i = i
+no_dump login.Reply i = i
+no_dump login.SecondReply i = i
+no_dump login.QueryReply i = i
+
+pub not_dump : (phase : Phase) (at : Login) → phase ≡ phases.Login at → IsInDump (due_of phase) → ⊥
+not_dump phase at is i = no_dump at (subst (λ x. IsInDump (due_of x)) is i)
 
 -- ---- the payload
 module _ (settings : Settings) (assembly : ReaderState) (gatherer : Gatherer) (waits : Phase) (at applied : ℕ) (names : Names) (was is : Bool) (old now : Content) (b all : List ℕ) (p : Payload)

@@ -8,6 +8,8 @@ use Rattle.store.specs.State.{Content}
 use Rattle.replica.specs.declared.end.Reason.{Reason}
 use Rattle.replica.specs.declared.end.Reason.TheVariants.{EndOfInput, SourceEof}
 use Rattle.replica.specs.declared.end.Ended.{Ended}
+use Rattle.replica.specs.declared.phase.Login.{Login}
+use Rattle.replica.specs.declared.phase.Login.TheVariants as login
 use Rattle.replica.specs.declared.phase.Phase.{Phase}
 use Rattle.replica.specs.declared.phase.Phase.TheVariants as phase
 use Rattle.replica.specs.declared.session.Session.{Session}
@@ -16,12 +18,16 @@ use Rattle.replica.specs.Stream.{Payload, Due, Hello, Reply, SecondReply, QueryR
 use Rattle.replica.specs.Conn.{Took, Conn, BreaksStore}
 use Rattle.replica.specs.Sent.{Sent, SentFor}
 
+-- the message that a session expects before the dump
+abbrev pub due_at : Login → Due
+due_at login.Greeting = Hello
+due_at login.Reply = Reply
+due_at login.SecondReply = SecondReply
+due_at login.QueryReply = QueryReply
+
 -- the message that a session expects
 abbrev pub due_of : Phase → Due
-due_of phase.Greeting = Hello
-due_of phase.Reply = Reply
-due_of phase.SecondReply = SecondReply
-due_of phase.QueryReply = QueryReply
+due_of (phase.Login at) = due_at at
 due_of phase.Dump = InDump
 
 -- how a session ends if no more comes
@@ -81,10 +87,10 @@ Meets session names was is old now b o p =
 
 -- the sequence id of the first packet of the expected message, before any payload of the dump has come
 abbrev pub first_id_of : Phase → ℕ
-first_id_of phase.Greeting = 0
-first_id_of phase.Reply = 2
-first_id_of phase.SecondReply = 4
-first_id_of phase.QueryReply = 1
+first_id_of (phase.Login login.Greeting) = 0
+first_id_of (phase.Login login.Reply) = 2
+first_id_of (phase.Login login.SecondReply) = 4
+first_id_of (phase.Login login.QueryReply) = 1
 first_id_of phase.Dump = 1
 
 -- how many more bytes a session may take in before it ends: a connection ends within 2 ^ 64 - 1 bytes and the packing

@@ -15,7 +15,7 @@ ghost use Rattle.store.specs.Store.{database, names_of, IsBroken};
 
 use crate::config::Config;
 use crate::end::{Ended, Reason};
-use crate::phase::Phase;
+use crate::phase::{Login, Phase};
 use crate::session::Session;
 use gather::Gatherer;
 use sqlite::Alter;
@@ -54,7 +54,7 @@ impl Session {
             config,
             assembler: Assembler::new(alloc, limit),
             gatherer: Gatherer::new(alloc),
-            phase: Phase::Greeting,
+            phase: Phase::Login(Login::Greeting),
             out: Vec::new(alloc),
             at: 0,
             applied: 0,

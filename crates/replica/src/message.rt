@@ -5,15 +5,15 @@ ghost use Rattle.binlog.specs.Filter.{Names};
 ghost use Rattle.greet.specs.View.{Refuses};
 ghost use Rattle.greet.specs.Refusal.{Refusal};
 ghost use Rattle.gtid.specs.Identifier.{Ids};
-ghost use Rattle.replica.specs.Stream.{next_due, next_id, Hello, Reply, SecondReply, QueryReply, InDump, IsInDump};
+ghost use Rattle.replica.specs.Stream.{next_due, next_id, Hello, Reply, SecondReply, QueryReply, InDump};
 ghost use Rattle.replica.specs.Conn.{IsNoStreamFailure};
-ghost use Rattle.replica.specs.Standing.{due_of};
+ghost use Rattle.replica.specs.Standing.{due_at, due_of};
 ghost use Rattle.replica.specs.Turn.{IsAnswered, EndsAt, IsToldOf};
 
 use crate::config::Config;
 use crate::end::Reason;
 use crate::login::{ask, log_in, log_in_again, turn_checksums_off};
-use crate::phase::Phase;
+use crate::phase::{Login, Phase};
 use greet::{AuthReply, GreetFault, Greeting, read_ok};
 use gtid::GtidSet;
 
@@ -48,7 +48,7 @@ fn take_greeting(config: &Config, payload: &[u8], out: &mut Vec<u8>) -> Result<P
     match Greeting::read(config.alloc(), payload) {
         Ok(greeting) => {
             log_in(config, &greeting.scramble, out)?;
-            Ok(Phase::Reply)
+            Ok(Phase::Login(Login::Reply))
         }
         Err(fault) => Err(told(fault)),
     }
@@ -65,11 +65,11 @@ fn take_reply(config: &Config, payload: &[u8], out: &mut Vec<u8>) -> Result<Phas
     match AuthReply::read(config.alloc(), payload) {
         Ok(AuthReply::Ok) => {
             turn_checksums_off(config.alloc(), out)?;
-            Ok(Phase::QueryReply)
+            Ok(Phase::Login(Login::QueryReply))
         }
         Ok(AuthReply::Switch { scramble }) => {
             log_in_again(config, &scramble, out)?;
-            Ok(Phase::SecondReply)
+            Ok(Phase::Login(Login::SecondReply))
         }
         Err(fault) => Err(told(fault)),
     }
@@ -86,7 +86,7 @@ fn take_second_reply(config: &Config, payload: &[u8], out: &mut Vec<u8>) -> Resu
     match read_ok(config.alloc(), payload) {
         Ok(()) => {
             turn_checksums_off(config.alloc(), out)?;
-            Ok(Phase::QueryReply)
+            Ok(Phase::Login(Login::QueryReply))
         }
         Err(fault) => Err(told(fault)),
     }
@@ -116,23 +116,22 @@ fn take_query_reply(
 
 /// Takes a message before the dump, and returns the phase after it.
 pub(crate) fn answer(
-    phase: Phase,
+    login: Login,
     config: &Config,
     executed: &GtidSet,
     payload: &[u8],
     out: &mut Vec<u8>,
 ) -> Result<Phase, Reason>
-    requires { IsInDump (due_of phase) → ⊥ }
-    ensures ok { (names : Names) → OnOk result (IsAnswered config.now names executed.now (due_of phase) payload.now out.old.items out.new.items) }
-    ensures due { IfOk result (λ next. due_of next ≡ next_due (due_of phase) payload.now) }
-    ensures err { (names : Names) → IfErr result (EndsAt names executed.now (due_of phase) payload.now) }
+    ensures ok { (names : Names) → OnOk result (IsAnswered config.now names executed.now (due_at login) payload.now out.old.items out.new.items) }
+    ensures due { IfOk result (λ next. due_of next ≡ next_due (due_at login) payload.now) }
+    ensures err { (names : Names) → IfErr result (EndsAt names executed.now (due_at login) payload.now) }
     ensures kept { OnErr result (out.new.items ≡ out.old.items) }
     ensures neither { IfErr result IsNoStreamFailure }
 {
-    match phase {
-        Phase::Greeting => take_greeting(config, payload, out),
-        Phase::Reply => take_reply(config, payload, out),
-        Phase::SecondReply => take_second_reply(config, payload, out),
-        Phase::QueryReply | Phase::Dump => take_query_reply(config, executed, payload, out),
+    match login {
+        Login::Greeting => take_greeting(config, payload, out),
+        Login::Reply => take_reply(config, payload, out),
+        Login::SecondReply => take_second_reply(config, payload, out),
+        Login::QueryReply => take_query_reply(config, executed, payload, out),
     }
 }

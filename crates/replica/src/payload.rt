@@ -1,6 +1,6 @@
 //! What a session does with a payload.
 
-ghost use Rattle.std.specs.Prelude.{◌≡◌, ◌≤◌, ◌<◌, ◌+◌, ◌^◌, Bool, List, ℕ, Some, None, true, false, length, ◌≢◌, [], if◌then◌else◌};
+ghost use Rattle.std.specs.Prelude.{◌≡◌, ◌≤◌, ◌<◌, ◌+◌, ◌^◌, Bool, List, ℕ, Some, None, true, false, length, [], if◌then◌else◌};
 ghost use Rattle.sqlite.specs.State.{HasCleanDisk};
 ghost use Rattle.sqlite.specs.Held.{state};
 ghost use Rattle.sqlite_schema.specs.declared.schema.Schema.{Schema};
@@ -11,13 +11,13 @@ ghost use Rattle.store.specs.State.{Content};
 ghost use Rattle.replica.specs.Standing.{Stands, Meets, first_id_of, place_of, MovesOn, room_of, end_of};
 ghost use Rattle.replica.specs.Conn.{IsNoStreamFailure};
 ghost use Rattle.replica.specs.Over.{StandsOver, MeetsOver};
-ghost use Rattle.replica.specs.declared.phase.Phase.TheVariants.{Dump};
+ghost use Rattle.replica.specs.declared.phase.Phase.TheVariants as phase;
 ghost use Rattle.store.specs.Store.{database, names_of, IsBroken};
 
 use crate::dump::take_event;
 use crate::end::{Ended, Reason};
 use crate::message::answer;
-use crate::phase::Phase;
+use crate::phase::{Login, Phase};
 use crate::session::Session;
 use gtid::GtidSet;
 use sqlite::Alter;
@@ -29,10 +29,11 @@ fn first_id(phase: Phase) -> u8
     ensures { result ≡ first_id_of phase }
 {
     match phase {
-        Phase::Greeting => 0,
-        Phase::Reply => 2,
-        Phase::SecondReply => 4,
-        Phase::QueryReply | Phase::Dump => 1,
+        Phase::Login(Login::Greeting) => 0,
+        Phase::Login(Login::Reply) => 2,
+        Phase::Login(Login::SecondReply) => 4,
+        Phase::Login(Login::QueryReply) => 1,
+        Phase::Dump => 1,
     }
 }
 
@@ -74,9 +75,9 @@ impl Session {
     }
 
     /// Takes a message before the dump, which ends at the offset `end`.
-    fn take_message(&mut self, executed: &GtidSet, payload: &[u8], end: u64)
+    fn take_message(&mut self, login: Login, executed: &GtidSet, payload: &[u8], end: u64)
         requires going { self.old.ended ≡ None }
-        requires before_dump { self.old.phase ≢ Dump }
+        requires at_login { self.old.phase ≡ phase.Login login }
         requires between { (self.old.assembler.held ≡ []) × (self.old.assembler.ended ≡ false) }
         requires behind { self.old.at < end }
         ensures config { self.new.config ≡ self.old.config }
@@ -85,7 +86,7 @@ impl Session {
         ensures takes { (names : Names) (was is : Bool) (old now : Content) (b o : List ℕ) → executed.now ≡ now.executed → end ≡ self.old.at + packing_length (length payload.now)
             → Meets self.old names was is old now b o payload.now → Stands self.new names was is old now b o }
     {
-        match answer(self.phase, &self.config, executed, payload, &mut self.out) {
+        match answer(login, &self.config, executed, payload, &mut self.out) {
             Ok(phase) => {
                 self.phase = phase;
                 self.assembler.expect(first_id(phase));
@@ -98,7 +99,7 @@ impl Session {
     /// Takes a payload of the dump, which ends at the offset `end`.
     fn take_dump<S: Alter>(&mut self, store: &mut Store<S>, payload: &[u8], end: u64)
         requires going { self.old.ended ≡ None }
-        requires in_dump { self.old.phase ≡ Dump }
+        requires in_dump { self.old.phase ≡ phase.Dump }
         requires between { self.old.assembler.held ≡ [] }
         requires behind { self.old.at < end }
         ensures clean { HasCleanDisk (database S.Store store.new) → HasCleanDisk (database S.Store store.old) }
@@ -135,7 +136,7 @@ impl Session {
         };
         match self.phase {
             Phase::Dump => self.take_dump(store, payload, end),
-            _ => self.take_message(store.executed(), payload, end),
+            Phase::Login(login) => self.take_message(login, store.executed(), payload, end),
         }
     }
 }

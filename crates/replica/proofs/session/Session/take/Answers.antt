@@ -21,8 +21,8 @@ returns-in_default-clause-takes g c clean schema was old b o m =
     (subst (λ x. HasEnded x.config store.following was m.is old m.now b (o ++ x.out.items) e) (sym c.end.ensures)
     (too_far s.config s.assembler s.gatherer s.phase s.at s.applied store.following was m.is old m.now b (o ++ s.out.items) p m.meets beyond)))
 
-pub returns-in_default-phase : goal.returns-in_default-phase
-returns-in_default-phase g c =
+pub returns-in-Login : goal.returns-in-Login
+returns-in-Login g c =
     let s = c.args.self.now in
     let n = packing_length (length c.args.payload.now) in
     let ends : c.in-Some.end ≡ s.at + n = c.in-Some.ensures.1 ∙ ap (λ k. s.at + k) c.packing_length.ensures in

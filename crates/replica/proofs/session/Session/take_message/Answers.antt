@@ -1,6 +1,6 @@
 use Rattle.std.proofs.Common.{◌≡◌, ◌+◌, ◌++◌, unwrap_or, refl, sym, ap, subst, ◌∙◌, length, arith}
-use Rattle.replica.specs.Stream.{IsInDump}
-use Rattle.replica.specs.Standing.{due_of, end_of, Stands, HasEnded, Meets, HasPayload}
+use Rattle.replica.specs.Stream.{IsInDump, next_due}
+use Rattle.replica.specs.Standing.{due_at, due_of, end_of, Stands, HasEnded, Meets, HasPayload}
 use Rattle.replica.specs.declared.end.Ended.{Ended}
 use Rattle.replica.specs.declared.end.Reason.TheVariants.{EndOfInput}
 use Rattle.replica.specs.Conn.{IsNoStreamFailure}
@@ -16,13 +16,15 @@ returns-in-Ok c = record {
   takes = λ names was is old now b o executed ends meets.
       let s = c.args.self.now in
       let p = c.args.payload.now in
-      let n : IsInDump (due_of s.phase) → ⊥ = not_dump s.phase c.requires.before_dump in
+      let due : due_of s.phase ≡ due_at c.args.login = ap due_of c.requires.at_login in
+      let n : IsInDump (due_of s.phase) → ⊥ = not_dump s.phase c.args.login c.requires.at_login in
       let same = executed ∙ ap (λ x. x.executed) (nothing_taken s.config s.assembler s.gatherer s.phase s.at s.applied names was is old now b (o ++ s.out.items) p meets n) in
       let end_is : c.args.end ≡ s.at + length meets.reading.rest = ends ∙ ap (λ k. s.at + k) (sym (rest_length s.config s.assembler s.gatherer s.phase s.at s.applied names was is old now b (o ++ s.out.items) p meets)) in
       stands_going _ names was is old now b o c.requires.going
       (subst (λ a. Rattle.replica.specs.Standing.GoesOn s.config a s.gatherer c.in-Ok.phase c.args.end s.applied names was is old now b (o ++ c.answer.new.out.items)) (sym (c.expect.ensures ∙ ap (λ k. record s.assembler { due = k }) c.first_id.ensures))
       (message_goes_on s.config s.assembler s.gatherer s.phase s.at s.applied names was is old now b (o ++ s.out.items) p meets c.in-Ok.phase c.args.end s.out.items s.out.items c.answer.new.out.items o n end_is (omega (arith, c.ranges.end.fits)) refl
-      (subst (λ e. IsAnswered s.config names e (due_of s.phase) p s.out.items c.answer.new.out.items) same (c.in-Ok.ensures.ok names)) c.in-Ok.ensures.due));
+      (subst (λ e. IsAnswered s.config names e (due_of s.phase) p s.out.items c.answer.new.out.items) same (subst (λ d. IsAnswered s.config names c.args.executed.now d p s.out.items c.answer.new.out.items) (sym due) (c.in-Ok.ensures.ok names)))
+      (c.in-Ok.ensures.due ∙ ap (λ d. next_due d p) (sym due))));
 }
 
 pub returns-in-Err : goal.returns-in-Err
@@ -33,7 +35,8 @@ returns-in-Err c = record {
   takes = λ names was is old now b o executed ends meets.
       let s = c.args.self.now in
       let p = c.args.payload.now in
-      let n : IsInDump (due_of s.phase) → ⊥ = not_dump s.phase c.requires.before_dump in
+      let due : due_of s.phase ≡ due_at c.args.login = ap due_of c.requires.at_login in
+      let n : IsInDump (due_of s.phase) → ⊥ = not_dump s.phase c.args.login c.requires.at_login in
       let same = executed ∙ ap (λ x. x.executed) (nothing_taken s.config s.assembler s.gatherer s.phase s.at s.applied names was is old now b (o ++ s.out.items) p meets n) in
       let end_is : c.args.end ≡ s.at + length meets.reading.rest = ends ∙ ap (λ k. s.at + k) (sym (rest_length s.config s.assembler s.gatherer s.phase s.at s.applied names was is old now b (o ++ s.out.items) p meets)) in
       let end : Ended = record { reason = c.in-Err.reason; at = s.at; applied = s.applied } in
@@ -41,5 +44,5 @@ returns-in-Err c = record {
       (subst (λ x. HasEnded x.config names was is old now b (o ++ x.out.items) end) (sym c.end.ensures)
       (subst (λ l. HasEnded s.config names was is old now b (o ++ l) end) (sym c.in-Err.ensures.kept)
       (message_ends_it s.config s.assembler s.gatherer s.phase s.at s.applied names was is old now b (o ++ s.out.items) p meets c.in-Err.reason (omega (arith, end_is, c.ranges.end.fits))
-      (subst (λ e. EndsAt names e (due_of s.phase) p c.in-Err.reason) same (c.in-Err.ensures.err names)))));
+      (subst (λ e. EndsAt names e (due_of s.phase) p c.in-Err.reason) same (subst (λ d. EndsAt names c.args.executed.now d p c.in-Err.reason) (sym due) (c.in-Err.ensures.err names))))));
 }
