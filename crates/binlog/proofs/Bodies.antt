@@ -8,7 +8,7 @@ use Rattle.binlog.specs.Body.{IsGtid, IsQuery, text_place, statement, is_stateme
 use Rattle.binlog.specs.declared.body.query.Query.{Query}
 use Rattle.binlog.specs.declared.body.query.Query.TheVariants.{Begin, Commit}
 use Rattle.binlog.specs.Fault.{number_at}
-use Rattle.binlog.proofs.Cuts.{IsBytes, number_at_front, drop_drop, cut, one, behind, drop_at}
+use Rattle.wire.proofs.Cuts.{IsBytes, number_at_front, drop_drop, cut, one, behind, drop_at}
 
 from : (n : ℕ) (xs : List ℕ) → IsBytes xs → IsBytes (drop n xs)
 from n xs fits i = rw get_or-drop (fits (n + i))

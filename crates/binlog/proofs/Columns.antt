@@ -10,7 +10,7 @@ use Rattle.binlog.specs.declared.column.kind.ColumnKind.{ColumnKind}
 use Rattle.binlog.specs.declared.column.kind.ColumnType.{ColumnType}
 use Rattle.binlog.specs.declared.column.kind.ColumnKind.TheVariants.{Tiny, Short, Int24, Long, LongLong, Varchar, Blob, Bit, NewDecimal, Float, Double, Date, Year, Timestamp2, Datetime2, Time2, Char, Enum, Set}
 use Rattle.binlog.specs.Columns.{kind_of}
-use Rattle.binlog.proofs.Cuts.{IsBytes, drop_front}
+use Rattle.wire.proofs.Cuts.{IsBytes, drop_front}
 
 -- ---- The types that are read, by their bytes.
 

@@ -10,7 +10,7 @@ use Rattle.binlog.specs.Count.{width_of, count_width, count_at, no_count}
 use Rattle.binlog.specs.declared.fault.EventFaultKind.{EventFaultKind}
 use Rattle.binlog.specs.declared.fault.EventFaultKind.TheVariants.{Truncated}
 use Rattle.binlog.proofs.Tables.{passes, not_refused, is_there}
-use Rattle.binlog.proofs.Cuts.{IsBytes, drop_drop, one, take_is_number}
+use Rattle.wire.proofs.Cuts.{IsBytes, drop_drop, one, take_is_number}
 
 -- ---- By the bytes from the offset on.
 

@@ -18,7 +18,7 @@ use Rattle.binlog.specs.declared.body.rows_event.RowsKind.{RowsKind}
 use Rattle.binlog.specs.declared.body.rows_event.RowsKind.TheVariants.{Write, Update, Delete}
 use Rattle.binlog.specs.declared.fault.EventFault.{EventFault}
 use Rattle.binlog.specs.declared.fault.EventFaultKind.TheVariants.{TypeCode, Anonymous}
-use Rattle.binlog.proofs.Cuts.{IsBytes}
+use Rattle.wire.proofs.Cuts.{IsBytes}
 use Rattle.binlog.proofs.Tables.{passes, not_refused}
 use Rattle.binlog.proofs.Headers as headers
 use Rattle.binlog.proofs.Bodies.{gtid_told, query_told, query_not_refused}

@@ -9,7 +9,7 @@ use Rattle.binlog.specs.Body.{IsFormat, read_lengths, length_refusal, length_ref
 use Rattle.binlog.specs.declared.fault.EventFault.{EventFault}
 use Rattle.binlog.specs.declared.fault.EventFaultKind.TheVariants.{HeaderLengths, Checksum}
 use Rattle.binlog.proofs.Tables.{passes, not_refused}
-use Rattle.binlog.proofs.Cuts.{IsBytes, number_at_front, drop_drop, cut, one, behind, drop_front}
+use Rattle.wire.proofs.Cuts.{IsBytes, number_at_front, drop_drop, cut, one, behind, drop_front}
 use Rattle.binlog.proofs.Bodies.{first_left}
 
 -- ---- Tables one after the other.

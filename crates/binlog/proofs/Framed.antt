@@ -4,7 +4,7 @@ use Rattle.std.proofs.Math.ListN.{drop_of_length-le}
 use Rattle.std.proofs.Math.Seq.{take-length}
 use Rattle.std.proofs.lemmas.List.{length-append, length-drop, length-take-le, append-nil}
 use Rattle.binlog.specs.Writing.{header_bytes}
-use Rattle.binlog.proofs.Cuts.{drop_drop}
+use Rattle.wire.proofs.Cuts.{drop_drop}
 
 -- a vector in which the bytes from an offset on are replaced by as many others
 pub set_back : (len start : ℕ) (items front new : List ℕ) → start ≤ length items → len ≡ length items → front ≡ take start items → length new ≡ length items - start →

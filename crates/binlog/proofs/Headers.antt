@@ -9,7 +9,7 @@ use Rattle.binlog.specs.Header.{IsFramed, header_fault}
 use Rattle.binlog.specs.Fault.{refuse, needs, number_at}
 use Rattle.binlog.specs.declared.fault.EventFaultKind.TheVariants.{Size}
 use Rattle.binlog.proofs.Tables.{passes, not_refused, is_there}
-use Rattle.binlog.proofs.Cuts.{IsBytes, number_at_front, drop_drop, cut, one, behind}
+use Rattle.wire.proofs.Cuts.{IsBytes, number_at_front, drop_drop, cut, one, behind}
 
 from : (n : ℕ) (xs : List ℕ) → IsBytes xs → IsBytes (drop n xs)
 from n xs fits i = rw get_or-drop (fits (n + i))

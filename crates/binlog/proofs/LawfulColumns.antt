@@ -9,7 +9,7 @@ use Rattle.binlog.specs.Columns.{kind_of, column_front, columns_of}
 use Rattle.binlog.specs.declared.column.kind.ColumnKind.{ColumnKind}
 use Rattle.binlog.specs.declared.column.kind.ColumnType.{ColumnType}
 use Rattle.binlog.specs.declared.fault.EventFaultKind.{EventFaultKind}
-use Rattle.binlog.proofs.Cuts.{IsBytes}
+use Rattle.wire.proofs.Cuts.{IsBytes}
 use Rattle.binlog.proofs.Columns.{some_column}
 use Rattle.binlog.proofs.TableColumns.{behind_metadata, column_first}
 

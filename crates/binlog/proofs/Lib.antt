@@ -1,4 +1,3 @@
-pub mod Cuts
 pub mod Tables
 pub mod Headers
 pub mod Columns

@@ -13,7 +13,7 @@ use Rattle.binlog.specs.declared.column.kind.ColumnKind.{ColumnKind}
 use Rattle.binlog.specs.declared.column.kind.ColumnType.{ColumnType}
 use Rattle.binlog.specs.declared.column.value.Shape.{Shape}
 use Rattle.binlog.specs.declared.column.value.Shape.TheVariants.{Number, Fixed, Prefixed}
-use Rattle.binlog.proofs.Cuts.{IsBytes, drop_drop, drop_at, drop_front, take_is_number}
+use Rattle.wire.proofs.Cuts.{IsBytes, IsBytes-drop, drop_drop, drop_at, drop_front, take_is_number}
 
 -- ---- A column at a time.
 
@@ -213,9 +213,6 @@ are_values t types null_cell cells bytes first others not_null e is are = absurd
 are_values t types (number_cell n w) cells bytes first others not_null e is are = (first, others, e, is, are)
 are_values t types (bytes_cell v) cells bytes first others not_null e is are = (first, others, e, is, are)
 
-pub drop_bytes : (n : ℕ) (bytes : List ℕ) → IsBytes bytes → IsBytes (drop n bytes)
-drop_bytes n bytes fits i = rw get_or-drop (fits (n + i))
-
 -- the rest of the values, if the first ends at an offset
 one_there : (bitmap : List ℕ) (i : ℕ) (t : ColumnKind) (types : List ColumnKind) (bytes : List ℕ) (size first : ℕ) (rest : Result ℕ ℕ) → is_set bitmap i ≡ false → value_end (shape t) bytes ≡ Ok first →
     IsBytes bytes → further first rest ≡ Ok size → ((n : ℕ) → rest ≡ Ok n → AreThere bitmap (suc i) types (cells_of bitmap (suc i) types (drop first bytes)) (drop first bytes) n) →
@@ -255,7 +252,7 @@ values_are_there bitmap i (t ∷ types) bytes size fits is = elim (cases_Bool (i
   | inr clear ↦ (
       let e : cells_of bitmap i (t ∷ types) bytes ≡ cell_front (value_end (shape t) bytes) (cell_of (shape t) bytes) (λ n. cells_of bitmap (suc i) types (drop n bytes)) = rw clear refl in
       subst (λ l. AreThere bitmap i (t ∷ types) l bytes size) (sym e)
-      (by_value bitmap i t types bytes size (value_end (shape t) bytes) clear refl fits (rw clear at is) (λ first n rest. values_are_there bitmap (suc i) types (drop first bytes) n (drop_bytes first bytes fits) rest)))
+      (by_value bitmap i t types bytes size (value_end (shape t) bytes) clear refl fits (rw clear at is) (λ first n rest. values_are_there bitmap (suc i) types (drop first bytes) n (IsBytes-drop first bytes fits) rest)))
 ]
 
 -- ---- A row.
@@ -289,7 +286,7 @@ row_is_there types bytes end fits is = elim (cases_lt (length bytes) (bitmap_siz
       let size = bitmap_size (length types) in
       let e : row_end types bytes ≡ further size (values_end (take size bytes) 0 types (drop size bytes)) = rw (le-ltb _ _ long) refl in
       let s = split_end size end (values_end (take size bytes) 0 types (drop size bytes)) (sym e ∙ is) in
-      let there = values_are_there (take size bytes) 0 types (drop size bytes) s.0 (drop_bytes size bytes fits) s.1 in
+      let there = values_are_there (take size bytes) 0 types (drop size bytes) s.0 (IsBytes-drop size bytes fits) s.1 in
       let within = there.within in
       let total = s.2 in (
         omega (arith, within, total, long, length-drop size bytes),

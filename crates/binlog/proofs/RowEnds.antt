@@ -13,8 +13,8 @@ use Rattle.binlog.specs.declared.body.rows_event.RowsKind.{RowsKind}
 use Rattle.binlog.specs.declared.body.rows_event.RowsKind.TheVariants.{Write, Update, Delete}
 use Rattle.binlog.specs.declared.column.value.Shape.{Shape}
 use Rattle.binlog.specs.declared.column.value.Shape.TheVariants.{Number, Fixed, Prefixed}
-use Rattle.binlog.proofs.Cuts.{IsBytes, drop_front, drop_at}
-use Rattle.binlog.proofs.RowCells.{value_is_read, value_is_there, drop_bytes, row_is_read, row_is_there, Nulls, now, later, earlier, are_values}
+use Rattle.wire.proofs.Cuts.{IsBytes, IsBytes-drop, drop_front, drop_at}
+use Rattle.binlog.proofs.RowCells.{value_is_read, value_is_there, row_is_read, row_is_there, Nulls, now, later, earlier, are_values}
 
 pub split_err : (n place : ℕ) (r : Result ℕ ℕ) → further n r ≡ Err place → (p : ℕ) × (r ≡ Err p) × (n + p ≡ place)
 split_err n place (Ok m) is = absurd cc
@@ -138,7 +138,7 @@ values_stop bitmap i (t ∷ types) bytes place fits is = elim (cases_Bool (is_se
         ends = o.ends;
         place_is = o.place_is;
       })
-  | inr clear ↦ stops_by bitmap i t types bytes place (value_end (shape t) bytes) clear fits refl (rw clear at is) (λ size early rest. values_stop bitmap (suc i) types (drop size bytes) early (drop_bytes size bytes fits) rest)
+  | inr clear ↦ stops_by bitmap i t types bytes place (value_end (shape t) bytes) clear fits refl (rw clear at is) (λ size early rest. values_stop bitmap (suc i) types (drop size bytes) early (IsBytes-drop size bytes fits) rest)
 ]
 
 -- the columns before are read, and the next one stops
@@ -185,7 +185,7 @@ row_stops types bytes place fits is =
           let bitmap = take size bytes in
           let e : row_end types bytes ≡ further size (values_end bitmap 0 types (drop size bytes)) = rw (le-ltb _ _ long) refl in
           let s = split_err size place (values_end bitmap 0 types (drop size bytes)) (sym e ∙ is) in
-          let o = values_stop bitmap 0 types (drop size bytes) s.0 (drop_bytes size bytes fits) s.1 in
+          let o = values_stop bitmap 0 types (drop size bytes) s.0 (IsBytes-drop size bytes fits) s.1 in
           let bitmap_length : length bitmap ≡ size = omega (arith, long, length-take size bytes) in
           let total = s.2 in
           let place_is = o.place_is in
@@ -240,7 +240,7 @@ update_stops types bytes place (Ok n) fits is total =
       part = s.0;
       bytes_are = sym (take-append-drop n bytes);
       is_row = there.1;
-      ends = row_stops types (drop n bytes) s.0 (drop_bytes n bytes fits) s.1;
+      ends = row_stops types (drop n bytes) s.0 (IsBytes-drop n bytes fits) s.1;
       place_is = omega (arith, sum, within, length-take n bytes);
     })
 

@@ -19,7 +19,7 @@ use Rattle.binlog.specs.declared.fault.EventFaultKind.TheVariants.{Columns, Part
 use Rattle.binlog.specs.declared.fault.EventFault.{EventFault}
 use Rattle.binlog.specs.declared.body.rows_event.RowsKind.{RowsKind}
 use Rattle.binlog.specs.declared.body.rows_event.RowsKind.TheVariants.{Write, Update, Delete}
-use Rattle.binlog.proofs.Cuts.{IsBytes, number_at_front, drop_drop, cut, behind, drop_at, drop_front}
+use Rattle.wire.proofs.Cuts.{IsBytes, number_at_front, drop_drop, cut, behind, drop_at, drop_front}
 use Rattle.binlog.proofs.Tables.{passes, not_refused, is_there}
 use Rattle.binlog.proofs.Counts.{counted, count_not_refused, Counted, is_counted}
 

@@ -15,9 +15,9 @@ use Rattle.binlog.specs.declared.body.rows_event.RowsKind.{RowsKind}
 use Rattle.binlog.specs.declared.body.rows_event.RowsKind.TheVariants.{Write, Update, Delete}
 use Rattle.binlog.specs.declared.column.value.Shape.{Shape}
 use Rattle.binlog.specs.declared.column.value.Shape.TheVariants.{Number, Fixed, Prefixed}
-use Rattle.binlog.proofs.Cuts.{IsBytes, drop_front}
+use Rattle.wire.proofs.Cuts.{IsBytes, IsBytes-drop, drop_front}
 use Rattle.binlog.proofs.RowEnds.{split_err, pair_stops, pair_stopped}
-use Rattle.binlog.proofs.RowCells.{value_is_there, drop_bytes, split_end, row_is_read, row_is_there}
+use Rattle.binlog.proofs.RowCells.{value_is_there, split_end, row_is_read, row_is_there}
 
 -- ---- The offset of what does not fit is within the bytes.
 
@@ -50,7 +50,7 @@ values_early bitmap i (t ∷ types) bytes place fits is = elim (cases_Bool (is_s
   | inl set ↦ values_early bitmap (suc i) types bytes place fits (rw set at is)
   | inr clear ↦ early_by (value_end (shape t) bytes) (λ size. values_end bitmap (suc i) types (drop size bytes)) (length bytes) place (value_early (shape t) bytes)
       (λ size e h rest. let inside = (value_is_there (shape t) bytes size fits h).within in
-      let l = values_early bitmap (suc i) types (drop size bytes) e (drop_bytes size bytes fits) rest in
+      let l = values_early bitmap (suc i) types (drop size bytes) e (IsBytes-drop size bytes fits) rest in
       omega (arith, inside, l, length-drop size bytes))
       (rw clear at is)
 ]
@@ -65,7 +65,7 @@ row_early types bytes place fits is =
       | inr long ↦ (
           let e : row_end types bytes ≡ further size (values_end (take size bytes) 0 types (drop size bytes)) = rw (le-ltb _ _ long) refl in
           let s = split_err size place (values_end (take size bytes) 0 types (drop size bytes)) (sym e ∙ is) in
-          let l = values_early (take size bytes) 0 types (drop size bytes) s.0 (drop_bytes size bytes fits) s.1 in
+          let l = values_early (take size bytes) 0 types (drop size bytes) s.0 (IsBytes-drop size bytes fits) s.1 in
           let total = s.2 in
           omega (arith, l, total, long, length-drop size bytes))
     ]
@@ -109,7 +109,7 @@ update_there types bytes size (Err place) fits some is total = absurd cc
 update_there types bytes size (Ok n) fits some is total =
     let s = split_end n size (row_end types (drop n bytes)) total in
     let first = row_is_there types bytes n fits is in
-    let second = row_is_there types (drop n bytes) s.0 (drop_bytes n bytes fits) s.1 in
+    let second = row_is_there types (drop n bytes) s.0 (IsBytes-drop n bytes fits) s.1 in
     let not_none = row_some types bytes n some is in
     let a = first.0 in
     let b = second.0 in
@@ -250,7 +250,7 @@ are_items zero kind types [] at fits some all = inl ([], refl, refl)
 are_items zero kind types (x ∷ bytes) at fits some all = absurd (omega (arith, all))
 are_items (suc most) kind types [] at fits some all = inl ([], refl, refl)
 are_items (suc most) kind types (x ∷ bytes) at fits some all = by_end (pair_end kind types (x ∷ bytes)) refl
-    (λ size not_none. are_items most kind types (drop size (x ∷ bytes)) (at + size) (drop_bytes size (x ∷ bytes) fits) some (omega (arith, all, not_none, length-drop size (x ∷ bytes))))
+    (λ size not_none. are_items most kind types (drop size (x ∷ bytes)) (at + size) (IsBytes-drop size (x ∷ bytes) fits) some (omega (arith, all, not_none, length-drop size (x ∷ bytes))))
   where
     by_end : (end : Result ℕ ℕ) → pair_end kind types (x ∷ bytes) ≡ end →
         ((size : ℕ) → 1 ≤ size → AreItemsAt kind types (drop size (x ∷ bytes)) (at + size) (items_of most kind types (drop size (x ∷ bytes)) (at + size))) →

@@ -15,7 +15,7 @@ use Rattle.binlog.specs.declared.fault.EventFault.{EventFault}
 use Rattle.binlog.specs.declared.fault.EventFaultKind.{EventFaultKind}
 use Rattle.binlog.specs.declared.fault.EventFaultKind.TheVariants.{Truncated, Columns, Metadata, ColumnType as UnknownColumn}
 use Rattle.binlog.proofs.Tables.{passes, not_refused}
-use Rattle.binlog.proofs.Cuts.{drop_front, one}
+use Rattle.wire.proofs.Cuts.{drop_front, one}
 use Rattle.binlog.proofs.Columns.{kind_is, known, at_most_two, lawful_size, no_fault, fault_of}
 
 -- ---- One column.

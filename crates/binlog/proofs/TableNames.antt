@@ -8,7 +8,7 @@ use Rattle.binlog.specs.Fault.{needs, number_at}
 use Rattle.binlog.specs.Table.{IsNamed, table_place, terminator_place, schema_of, table_of, names_fault}
 use Rattle.binlog.specs.Columns.{HasNames}
 use Rattle.binlog.proofs.Tables.{passes, is_there}
-use Rattle.binlog.proofs.Cuts.{IsBytes, number_at_front, drop_drop, cut, one, behind, drop_front}
+use Rattle.wire.proofs.Cuts.{IsBytes, number_at_front, drop_drop, cut, one, behind, drop_front}
 use Rattle.binlog.proofs.Bodies.{first_left}
 
 right_5 : (a b c d e : List ℕ) → a ++ b ++ c ++ d ++ e ≡ a ++ (b ++ (c ++ (d ++ e)))

@@ -19,7 +19,7 @@ use Rattle.binlog.specs.declared.fault.EventFault.{EventFault}
 use Rattle.binlog.specs.declared.fault.EventFaultKind.{EventFaultKind}
 use Rattle.binlog.specs.declared.fault.EventFaultKind.TheVariants.{Columns, Metadata}
 use Rattle.binlog.proofs.Tables.{passes, not_refused, is_there}
-use Rattle.binlog.proofs.Cuts.{IsBytes, drop_drop, drop_front, drop_at, cut}
+use Rattle.wire.proofs.Cuts.{IsBytes, drop_drop, drop_front, drop_at, cut}
 use Rattle.binlog.proofs.Columns.{lawful_size, no_fault, some_column}
 use Rattle.binlog.proofs.Counts.{counted, count_not_refused, some_bytes, is_counted}
 use Rattle.binlog.proofs.TableColumns.{metadata_long, behind_metadata, before_metadata, column_first, only_line, type_passes_at, first_sized, others_read, length_is, fault_there, column_passes_at, Opened, Counts, Measured, no_line}

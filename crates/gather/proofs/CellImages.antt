@@ -8,7 +8,7 @@ use Rattle.std.proofs.lemmas.List.{length-append, length-take, length-drop, take
 use Rattle.byteorder.specs.Endian.{little_bytes, little_number}
 use Rattle.byteorder.specs.Numbers.{little_number-reads_back, little_from-lt, length-bytes_low_first}
 use Rattle.binlog.specs.Cell.{CellValue, null_cell, number_cell, bytes_cell}
-use Rattle.binlog.proofs.Cuts.{IsBytes, IsBytes-rest, take_is_number, drop_at, drop_front}
+use Rattle.wire.proofs.Cuts.{IsBytes, IsBytes-rest, take_is_number, drop_at, drop_front}
 use Rattle.gather.specs.Image.{cell_image, HasCellImage}
 use Rattle.gather.specs.ImageCells.{number_front, bytes_front, cell_front, goes_on, cells_of, cells_in}
 

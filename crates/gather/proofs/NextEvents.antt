@@ -8,7 +8,7 @@ use Rattle.binlog.specs.Table.{TableValue}
 use Rattle.binlog.specs.Rows.{RowsValue, AreItemsAt, items_of}
 use Rattle.binlog.specs.Event.{EventValue, format, begin, commit, neutral, stop, rotate, gtid, table_map, other_map, rows, xid}
 use Rattle.binlog.specs.declared.fault.EventFaultKind.TheVariants.{Columns, Truncated}
-use Rattle.binlog.proofs.Cuts.{IsBytes-all}
+use Rattle.wire.proofs.Cuts.{IsBytes-all}
 use Rattle.binlog.proofs.RowsItems.{whole_or_early, one_end, some_items}
 use Rattle.gather.specs.Transaction.{ChangeValue, DeliveryValue, is_neutral, is_mark, is_end, map_of, change_of, AreRowChanges, AreChangesOf, IsAnnounced, IsOpen, IsWhole, IsBlock, AreBlocks, is_format_first, AreDeliveries, IsLawful}
 use Rattle.gather.specs.Fault.{is_format, is_gtid, has_format, add_event, last_block, is_announced, is_open, is_of_transaction, is_in_place, type_of, IsRowsFault, IsFault, no_format, misplaced, unread, HasFault, IsRead}

@@ -7,8 +7,7 @@ use Rattle.std.proofs.lemmas.List.{length-append, take-append-drop}
 use Rattle.byteorder.specs.Endian.{little_bytes, little_number}
 use Rattle.byteorder.specs.Numbers.{little_number-reads_back, little_from-lt, length-bytes_low_first}
 use Rattle.binlog.specs.Cell.{CellValue}
-use Rattle.binlog.proofs.Cuts.{IsBytes, number_at_front, drop_front, drop_at}
-use Rattle.binlog.proofs.RowCells.{drop_bytes}
+use Rattle.wire.proofs.Cuts.{IsBytes, IsBytes-drop, number_at_front, drop_front, drop_at}
 use Rattle.gather.specs.Image.{cell_image, image, HasCellImage, HasImage, IsImage}
 use Rattle.gather.specs.ImageCells.{cell_front, cells_in, holds_behind, are_images, is_image}
 use Rattle.gather.proofs.CellImages.{front_is, image_is_read, images_are_read}
@@ -70,12 +69,12 @@ more_there count bytes (Some front) fits is holds others =
 are_there : (count : ℕ) (bytes : List ℕ) → IsBytes bytes → are_images count bytes ≡ true → AreThere count bytes
 are_there zero [] fits holds = record { cells = []; as_many = refl; each = tt; bytes_are = refl }
 are_there zero (b ∷ bytes) fits holds = absurd cc
-are_there (suc count) bytes fits holds = more_there count bytes (cell_front bytes) fits refl holds (λ size. are_there count (drop size bytes) (drop_bytes size bytes fits))
+are_there (suc count) bytes fits holds = more_there count bytes (cell_front bytes) fits refl holds (λ size. are_there count (drop size bytes) (IsBytes-drop size bytes fits))
 
 some_cells : (bytes : List ℕ) → IsBytes bytes → is_image bytes ≡ true → (cells : List CellValue) × IsImage cells bytes
 some_cells bytes fits is =
     let p = and_parts (nat_le 2 (length bytes)) (are_images (little_number 2 bytes) (drop 2 bytes)) is in
-    let there = are_there (little_number 2 bytes) (drop 2 bytes) (drop_bytes 2 bytes fits) p.1 in
+    let there = are_there (little_number 2 bytes) (drop 2 bytes) (IsBytes-drop 2 bytes fits) p.1 in
     let many = there.as_many in
     let small = little_from-lt 0 2 bytes fits in (
       there.cells,

@@ -9,7 +9,7 @@ use Rattle.byteorder.specs.Endian.{little_number}
 use Rattle.greet.specs.Message.{IsText, needed, plugin_name, response_lead, IsGreeting, IsSwitch, IsOkPacket, IsEofPacket, IsDump}
 use Rattle.greet.specs.Refusal.{Refusal, truncated, protocol, plugin, old_auth, unexpected, capabilities, has_zero, before_zero, behind_zero, has_insert_id, behind_int, dump_name_size, dump_set_size, error_of, fields_refusal, greeting_refusal, end_refusal, response_refusal, switch_refusal, reply_refusal, ok_refusal, eof_refusal, dump_refusal}
 use Rattle.greet.specs.Complete.{HasGreeting, HasResponse, HasSwitch, HasDump}
-use Rattle.greet.proofs.Cuts.{IsBytes, IsBytes-rest, IsBytes-behind, IsBytes-drop}
+use Rattle.wire.proofs.Cuts.{IsBytes, IsBytes-rest, IsBytes-behind, IsBytes-drop}
 use Rattle.greet.proofs.Greetings.{greeting_of, is_greeting}
 use Rattle.greet.proofs.Replies.{is_switch, is_ok, is_eof, same_name}
 use Rattle.greet.proofs.Responses.{is_response, no_difference}

@@ -11,7 +11,8 @@ use Rattle.greet.specs.View.{dump_value, Refuses}
 use Rattle.greet.specs.declared.command.Dump.{Dump}
 use Rattle.greet.specs.declared.fault.GreetFault.{GreetFault}
 use Rattle.greet.specs.declared.fault.GreetFault.TheVariants as faults
-use Rattle.greet.proofs.Cuts.{IsBytes, IsBytes-drop, number_at, cut, behind, right_7}
+use Rattle.wire.proofs.Cuts.{IsBytes, IsBytes-drop, number_at_front, cut, behind}
+use Rattle.greet.proofs.Cuts.{right_7}
 
 -- what a dump command says, from the bytes after its first
 abbrev pub dump_of : List ℕ → DumpValue
@@ -32,13 +33,13 @@ is_dump body fits whole =
     let e18 : 10 + n + 8 ≡ 18 + n = omega arith in
     let e22 : 18 + n + 4 ≡ 22 + n = omega arith in
     let c18 : drop (18 + n) body ≡ little_bytes 4 (length set) ++ set =
-    number_at 4 (drop (18 + n) body) l18 (IsBytes-drop (18 + n) body fits) ∙ (λ i. little_bytes 4 (set_long i) ++ drop-drop 4 (18 + n) body i) ∙ ap (λ k. little_bytes 4 (length set) ++ drop k body) e22 in
+    number_at_front 4 (drop (18 + n) body) l18 (IsBytes-drop (18 + n) body fits) ∙ (λ i. little_bytes 4 (set_long i) ++ drop-drop 4 (18 + n) body i) ∙ ap (λ k. little_bytes 4 (length set) ++ drop k body) e22 in
     let c10n : drop (10 + n) body ≡ position ++ (little_bytes 4 (length set) ++ set) = cut (10 + n) 8 body ∙ ap (λ k. position ++ drop k body) e18 ∙ ap (λ t. position ++ t) c18 in
     let c10 = cut 10 n body ∙ ap (λ t. name ++ t) c10n in
     let c6 : drop 6 body ≡ little_bytes 4 (length name) ++ (name ++ (position ++ (little_bytes 4 (length set) ++ set))) =
-    number_at 4 (drop 6 body) l6 (IsBytes-drop 6 body fits) ∙ (λ i. little_bytes 4 (name_long i) ++ drop-drop 4 6 body i) ∙ ap (λ t. little_bytes 4 (length name) ++ t) c10 in
-    let c2 = number_at 4 (drop 2 body) l2 (IsBytes-drop 2 body fits) ∙ ap (λ t. little_bytes 4 (little_number 4 (drop 2 body)) ++ t) (drop-drop 4 2 body ∙ c6) in
-    let c0 = number_at 2 body (omega (arith, whole)) fits ∙ ap (λ t. little_bytes 2 (little_number 2 body) ++ t) c2 in
+    number_at_front 4 (drop 6 body) l6 (IsBytes-drop 6 body fits) ∙ (λ i. little_bytes 4 (name_long i) ++ drop-drop 4 6 body i) ∙ ap (λ t. little_bytes 4 (length name) ++ t) c10 in
+    let c2 = number_at_front 4 (drop 2 body) l2 (IsBytes-drop 2 body fits) ∙ ap (λ t. little_bytes 4 (little_number 4 (drop 2 body)) ++ t) (drop-drop 4 2 body ∙ c6) in
+    let c0 = number_at_front 2 body (omega (arith, whole)) fits ∙ ap (λ t. little_bytes 2 (little_number 2 body) ++ t) c2 in
     record {
       name = name;
       position = position;

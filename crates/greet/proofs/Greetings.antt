@@ -6,7 +6,8 @@ use Rattle.byteorder.specs.Endian.{little_bytes, little_number}
 use Rattle.byteorder.specs.Numbers.{little_number-reads_back, little_from-lt}
 use Rattle.greet.specs.Message.{IsText, needed, GreetingValue, IsGreeting}
 use Rattle.greet.specs.Refusal.{truncated, before_zero, behind_zero, fields_refusal, greeting_refusal}
-use Rattle.greet.proofs.Cuts.{IsBytes, IsBytes-drop, number_at, cut, one, behind, behind_zero-text, behind_zero-none, before_zero-text, right_9}
+use Rattle.wire.proofs.Cuts.{IsBytes, IsBytes-drop, number_at_front, cut, one, behind}
+use Rattle.greet.proofs.Cuts.{behind_zero-text, behind_zero-none, before_zero-text, right_9}
 
 -- what a greeting says
 abbrev pub greeting_of : List ℕ → List ℕ → GreetingValue
@@ -44,13 +45,13 @@ is_greeting version fields text fits long has =
     let f18 : 2 ≤ length (drop 18 fields) = omega (arith, long, length-drop 18 fields) in
     let c20 : drop 20 fields ≡ get_or fields 20 0 ∷ (take 10 (drop 21 fields) ++ (take (max 13 (get_or fields 20 0 - 8)) (drop 31 fields) ++ drop (max 13 (get_or fields 20 0 - 8)) (drop 31 fields))) =
     one 20 fields (omega (arith, long)) ∙ ap (λ t. get_or fields 20 0 ∷ t) (cut 21 10 fields ∙ ap (λ t. take 10 (drop 21 fields) ++ t) (sym (take-append-drop (max 13 (get_or fields 20 0 - 8)) (drop 31 fields)))) in
-    let c18 = number_at 2 (drop 18 fields) f18 (IsBytes-drop 18 fields fits) ∙ ap (λ t. little_bytes 2 (little_number 2 (drop 18 fields)) ++ t) (drop-drop 2 18 fields ∙ c20) in
-    let c16 = number_at 2 (drop 16 fields) f16 (IsBytes-drop 16 fields fits) ∙ ap (λ t. little_bytes 2 (little_number 2 (drop 16 fields)) ++ t) (drop-drop 2 16 fields ∙ c18) in
+    let c18 = number_at_front 2 (drop 18 fields) f18 (IsBytes-drop 18 fields fits) ∙ ap (λ t. little_bytes 2 (little_number 2 (drop 18 fields)) ++ t) (drop-drop 2 18 fields ∙ c20) in
+    let c16 = number_at_front 2 (drop 16 fields) f16 (IsBytes-drop 16 fields fits) ∙ ap (λ t. little_bytes 2 (little_number 2 (drop 16 fields)) ++ t) (drop-drop 2 16 fields ∙ c18) in
     let c15 = one 15 fields (omega (arith, long)) ∙ ap (λ t. get_or fields 15 0 ∷ t) c16 in
-    let c13 = number_at 2 (drop 13 fields) f13 (IsBytes-drop 13 fields fits) ∙ ap (λ t. little_bytes 2 (little_number 2 (drop 13 fields)) ++ t) (drop-drop 2 13 fields ∙ c15) in
+    let c13 = number_at_front 2 (drop 13 fields) f13 (IsBytes-drop 13 fields fits) ∙ ap (λ t. little_bytes 2 (little_number 2 (drop 13 fields)) ++ t) (drop-drop 2 13 fields ∙ c15) in
     let c12 = one 12 fields (omega (arith, long)) ∙ ap (λ t. get_or fields 12 0 ∷ t) c13 in
     let c4 = cut 4 8 fields ∙ ap (λ t. take 8 (drop 4 fields) ++ t) c12 in
-    let c0 = number_at 4 fields f4 fits ∙ ap (λ t. little_bytes 4 (little_number 4 fields) ++ t) c4 in
+    let c0 = number_at_front 4 fields f4 fits ∙ ap (λ t. little_bytes 4 (little_number 4 fields) ++ t) c4 in
     record {
       first = take 8 (drop 4 fields);
       filler = get_or fields 12 0;

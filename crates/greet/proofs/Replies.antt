@@ -14,7 +14,8 @@ use Rattle.byteorder.specs.Numbers.{little_from-lt}
 use Rattle.wire.specs.Integer.{IsLengthEncoded}
 use Rattle.greet.specs.Message.{plugin_name, IsText, IsOkPacket, IsEofPacket, IsSwitch}
 use Rattle.greet.specs.Refusal.{truncated, plugin, behind_int, has_counters, has_insert_id, ok_refusal, eof_refusal, switch_refusal, reply_refusal}
-use Rattle.greet.proofs.Cuts.{IsText-by, IsBytes, IsBytes-behind, IsBytes-rest, has_zero-none, has_zero-text, before_zero-text, behind_zero-text, number_at, right_4}
+use Rattle.wire.proofs.Cuts.{IsBytes, IsBytes-behind, IsBytes-rest, number_at_front}
+use Rattle.greet.proofs.Cuts.{IsText-by, has_zero-none, has_zero-text, before_zero-text, behind_zero-text, right_4}
 
 -- ---- Length-encoded integers.
 
@@ -50,7 +51,7 @@ wide k first bytes rest fits long encoded is = record {
   value = little_number k bytes;
   front = first ∷ little_bytes k (little_number k bytes);
   is_int = encoded (little_number k bytes) (little_from-lt 0 k bytes fits);
-  bytes_are = ap (λ l. first ∷ l) (number_at k bytes long fits ∙ ap (λ l. little_bytes k (little_number k bytes) ++ l) is);
+  bytes_are = ap (λ l. first ∷ l) (number_at_front k bytes long fits ∙ ap (λ l. little_bytes k (little_number k bytes) ++ l) is);
 }
 
 pub has_int : (bytes rest : List ℕ) → IsBytes bytes → behind_int bytes ≡ Some rest → HasInt bytes rest

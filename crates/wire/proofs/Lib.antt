@@ -1,4 +1,5 @@
 mod Examples
+pub mod Cuts
 pub mod Packets
 pub mod Chain
 pub mod HeaderBytes

@@ -1,6 +1,6 @@
 use Rattle.std.proofs.Common.{length}
 use Rattle.binlog.specs.Rows.{items_of}
-use Rattle.binlog.proofs.Cuts.{IsBytes-all}
+use Rattle.wire.proofs.Cuts.{IsBytes-all}
 use Rattle.binlog.proofs.RowsItems as lemma
 use Rattle.binlog.proofs.laws.one_list_of_rows.Goals as goal
 

@@ -1,4 +1,4 @@
-use Rattle.binlog.proofs.Cuts.{IsBytes-all}
+use Rattle.wire.proofs.Cuts.{IsBytes-all}
 use Rattle.binlog.proofs.TableNames as lemma
 use Rattle.binlog.proofs.laws.one_names.Goals as goal
 

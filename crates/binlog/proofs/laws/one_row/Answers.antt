@@ -1,5 +1,5 @@
 use Rattle.binlog.specs.Row.{row_cells}
-use Rattle.binlog.proofs.Cuts.{IsBytes-all}
+use Rattle.wire.proofs.Cuts.{IsBytes-all}
 use Rattle.binlog.proofs.RowCells as lemma
 use Rattle.binlog.proofs.RowEnds.{row_stops, row_stopped}
 use Rattle.binlog.proofs.laws.one_row.Goals as goal

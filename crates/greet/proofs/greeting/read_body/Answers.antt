@@ -4,7 +4,8 @@ use Rattle.std.proofs.lemmas.Result.{err_from_is_err_and}
 use Rattle.greet.specs.Message.{GreetingValue, IsGreeting, needed}
 use Rattle.greet.specs.Refusal.{fields_refusal, behind_zero}
 use Rattle.greet.specs.View.{Refuses}
-use Rattle.greet.proofs.Cuts.{IsBytes, IsBytes-rest, IsBytes-behind, behind_zero-text}
+use Rattle.wire.proofs.Cuts.{IsBytes, IsBytes-rest, IsBytes-behind}
+use Rattle.greet.proofs.Cuts.{behind_zero-text}
 use Rattle.greet.proofs.Greetings.{no_fields, short_second, is_greeting}
 use Rattle.greet.proofs.greeting.read_body.Goals as goal
 

@@ -1,6 +1,6 @@
 use Rattle.greet.proofs.Greetings.{one_value, not_refused}
 use Rattle.greet.proofs.Written.{written_greeting}
-use Rattle.greet.proofs.Cuts.{IsBytes-all}
+use Rattle.wire.proofs.Cuts.{IsBytes-all}
 use Rattle.greet.proofs.Complete.{some_greeting}
 use Rattle.greet.proofs.laws.greetings.Goals as goal
 

@@ -1,5 +1,5 @@
 use Rattle.greet.proofs.Replies.{one_switch, switch_not_refused, ok_not_refused, ok_reply_not_refused, eof_not_refused, apart}
-use Rattle.greet.proofs.Cuts.{IsBytes-all}
+use Rattle.wire.proofs.Cuts.{IsBytes-all}
 use Rattle.greet.proofs.Complete.{some_eof, some_ok, some_reply}
 use Rattle.greet.proofs.laws.replies.Goals as goal
 

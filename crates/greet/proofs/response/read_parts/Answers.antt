@@ -4,7 +4,7 @@ use Rattle.std.proofs.lemmas.Result.{err_from_is_err_and}
 use Rattle.greet.specs.Message.{IsText, plugin_name}
 use Rattle.greet.specs.Refusal.{end_refusal}
 use Rattle.greet.specs.View.{Refuses}
-use Rattle.greet.proofs.Cuts.{IsBytes, IsBytes-drop, IsBytes-behind, first_and_rest}
+use Rattle.wire.proofs.Cuts.{IsBytes, IsBytes-drop, IsBytes-behind, first_and_rest}
 use Rattle.greet.proofs.Responses.{no_lead, no_user, no_size, short_answer, then_end, is_response}
 use Rattle.greet.proofs.response.read_parts.Goals as goal
 

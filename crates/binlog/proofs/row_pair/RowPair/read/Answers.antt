@@ -4,7 +4,7 @@ use Rattle.std.specs.Result.{IfErr}
 use Rattle.std.proofs.lemmas.Result.{err_from_is_err_and}
 use Rattle.binlog.specs.Row.{kinds, IsRow, row_end}
 use Rattle.binlog.specs.Rows.{inserted, deleted, pair_of, pair_end}
-use Rattle.binlog.proofs.RowCells.{drop_bytes}
+use Rattle.wire.proofs.Cuts.{IsBytes-drop}
 use Rattle.binlog.proofs.RowsItems.{row_early, row_front, both_rows, early_second}
 use Rattle.binlog.proofs.row_pair.RowPair.read.Goals as goal
 
@@ -19,7 +19,7 @@ pub overflow_add-result-in-Err : goal.overflow_add-result-in-Err
 overflow_add-result-in-Err c =
     let rest = drop c.in_ok-row.size c.args.bytes.now in
     let end : row_end (kinds c.args.types.now) rest ≡ Err c.in-Err.place = ap (row_end (kinds c.args.types.now)) (sym (take_rest c.args.bytes.now c.in_ok-row.size)) ∙ c.in-Err.ensures.fault in
-    let early = row_early (kinds c.args.types.now) rest c.in-Err.place (drop_bytes c.in_ok-row.size c.args.bytes.now (λ i. omega (arith, c.type_inv.bytes i))) end in
+    let early = row_early (kinds c.args.types.now) rest c.in-Err.place (IsBytes-drop c.in_ok-row.size c.args.bytes.now (λ i. omega (arith, c.type_inv.bytes i))) end in
     omega (arith, early, c.requires, c.in_ok-row.ensures.within, length-drop c.in_ok-row.size c.args.bytes.now)
 
 pub returns-in-Write-clause-pair : goal.returns-in-Write-clause-pair
@@ -61,5 +61,5 @@ pub returns-in-Err-clause-fault_within : goal.returns-in-Err-clause-fault_within
 returns-in-Err-clause-fault_within c =
     let rest = drop c.in_ok-row.size c.args.bytes.now in
     let end : row_end (kinds c.args.types.now) rest ≡ Err c.in-Err.place = ap (row_end (kinds c.args.types.now)) (sym (take_rest c.args.bytes.now c.in_ok-row.size)) ∙ c.in-Err.ensures.fault in
-    let early = row_early (kinds c.args.types.now) rest c.in-Err.place (drop_bytes c.in_ok-row.size c.args.bytes.now (λ i. omega (arith, c.type_inv.bytes i))) end in
+    let early = row_early (kinds c.args.types.now) rest c.in-Err.place (IsBytes-drop c.in_ok-row.size c.args.bytes.now (λ i. omega (arith, c.type_inv.bytes i))) end in
     omega (arith, early, c.in_ok-row.ensures.within, length-drop c.in_ok-row.size c.args.bytes.now)

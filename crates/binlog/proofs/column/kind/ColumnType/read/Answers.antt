@@ -2,7 +2,7 @@ use Rattle.std.proofs.Common.{◌≡◌, ◌++◌, ◌-◌, Some, None, length, 
 use Rattle.std.proofs.lemmas.Result.{err_from_is_err_and}
 use Rattle.binlog.specs.Column.{metadata_size}
 use Rattle.binlog.specs.declared.fault.EventFaultKind.TheVariants.{Truncated, ColumnType as UnknownColumn}
-use Rattle.binlog.proofs.Cuts.{one_and_rest, two_and_rest}
+use Rattle.wire.proofs.Cuts.{first_and_rest, two_and_rest}
 use Rattle.binlog.proofs.Columns.{exactly_two, fault_of, too_short, not_read, not_both, one_column}
 use Rattle.binlog.proofs.column.kind.ColumnType.read.Goals as goal
 
@@ -47,7 +47,7 @@ returns-in_ok-by_byte-in-Some-eq1-clause-only c kind rest is = one_column c.args
     (record {
       lawful = c.in_ok-by_byte-in-Some-eq1.field-0.lawful;
       code_is = sym c.in_ok-by_byte-in-Some-eq1.ensures.code;
-      bytes_are = one_and_rest c.args.bytes.now c.in-len1-up.len_at_least ∙ ap (λ m. m ++ take (length c.args.bytes.now - 1) (drop 1 c.args.bytes.now)) (sym c.in_ok-by_byte-in-Some-eq1.ensures.metadata);
+      bytes_are = first_and_rest c.args.bytes.now c.in-len1-up.len_at_least ∙ ap (λ m. m ++ take (length c.args.bytes.now - 1) (drop 1 c.args.bytes.now)) (sym c.in_ok-by_byte-in-Some-eq1.ensures.metadata);
     }) is
 
 pub returns-in_ok-by_bytes-in-Some-clause-only : goal.returns-in_ok-by_bytes-in-Some-clause-only

@@ -1,7 +1,7 @@
 -- Bytes cut into parts.
 use Rattle.std.proofs.Common.{◌≡◌, ℕ, zero, suc, ◌+◌, ◌-◌, ◌<◌, ◌≤◌, ◌^◌, ◌%◌, ◌/◌, List, [], ◌∷◌, ◌++◌, length, get_or, take, drop, refl, sym, ap, ◌∙◌, arith}
 use Rattle.std.proofs.Math.Seq.{drop-cons, drop-append-add}
-use Rattle.std.proofs.lemmas.List.{take-append-drop, take_rest}
+use Rattle.std.proofs.lemmas.List.{drop-drop, get_or-drop, take-append-drop, take_rest}
 use Rattle.std.proofs.Math.Nat.{div-div-eq-div-mul, div-one, pow-suc}
 use Rattle.std.specs.Int.{bytes_low_first, byte_at}
 use Rattle.std.specs.List.{AllByRecursion}
@@ -18,6 +18,13 @@ IsBytes-all (b ∷ bytes) all (suc i) = IsBytes-all bytes all.1 i
 
 pub IsBytes-rest : (b : ℕ) (bytes : List ℕ) → IsBytes (b ∷ bytes) → IsBytes bytes
 IsBytes-rest b bytes h i = h (suc i)
+
+pub IsBytes-drop : (n : ℕ) (bytes : List ℕ) → IsBytes bytes → IsBytes (drop n bytes)
+IsBytes-drop n bytes fits i = rw get_or-drop (fits (n + i))
+
+pub IsBytes-behind : (front rest : List ℕ) → IsBytes (front ++ rest) → IsBytes rest
+IsBytes-behind [] rest h = h
+IsBytes-behind (b ∷ front) rest h = IsBytes-behind front rest (IsBytes-rest b (front ++ rest) h)
 
 -- ---- Numbers.
 
@@ -49,17 +56,8 @@ number_at_front k xs long fits = sym (take-append-drop k xs) ∙ ap (λ front. f
 
 -- ---- Cuts at a place.
 
-abbrev none : List ℕ
-none = []
-
-drop_none : (m : ℕ) → drop m none ≡ none
-drop_none zero = refl
-drop_none (suc m) = refl
-
 pub drop_drop : (n m : ℕ) (xs : List ℕ) → drop m (drop n xs) ≡ drop (n + m) xs
-drop_drop zero m xs = let e : m ≡ 0 + m = omega arith in ap (λ k. drop k xs) e
-drop_drop (suc n) m [] = drop_none m ∙ sym (drop_none (suc n + m))
-drop_drop (suc n) m (x ∷ xs) = let e : suc (n + m) ≡ suc n + m = omega arith in drop_drop n m xs ∙ ap (λ k. drop k (x ∷ xs)) e
+drop_drop n m xs = drop-drop m n xs
 
 pub cut : (n m : ℕ) (xs : List ℕ) → drop n xs ≡ take m (drop n xs) ++ drop (n + m) xs
 cut n m xs = sym (take-append-drop m (drop n xs)) ∙ ap (λ rest. take m (drop n xs) ++ rest) (drop_drop n m xs)
@@ -76,8 +74,8 @@ drop_front front rest = let e : length front ≡ length front + 0 = omega arith 
 
 -- ---- One byte or two, and the rest.
 
-pub one_and_rest : (xs : List ℕ) → 1 ≤ length xs → xs ≡ get_or xs 0 0 ∷ take (length xs - 1) (drop 1 xs)
-one_and_rest xs long = drop-cons xs 0 0 (omega (arith, long)) ∙ ap (λ rest. get_or xs 0 0 ∷ rest) (sym (take_rest xs 1))
+pub first_and_rest : (xs : List ℕ) → 1 ≤ length xs → xs ≡ get_or xs 0 0 ∷ take (length xs - 1) (drop 1 xs)
+first_and_rest xs long = drop-cons xs 0 0 (omega (arith, long)) ∙ ap (λ rest. get_or xs 0 0 ∷ rest) (sym (take_rest xs 1))
 
 pub two_and_rest : (xs : List ℕ) → 2 ≤ length xs → xs ≡ get_or xs 0 0 ∷ get_or xs 1 0 ∷ take (length xs - 2) (drop 2 xs)
 two_and_rest xs long = drop-cons xs 0 0 (omega (arith, long)) ∙ ap (λ rest. get_or xs 0 0 ∷ rest) (drop-cons xs 1 0 (omega (arith, long)) ∙ ap (λ rest. get_or xs 1 0 ∷ rest) (sym (take_rest xs 2)))
