@@ -32,3 +32,4 @@ pub mod Gathered
 pub mod Touching
 pub mod Around
 pub mod Roomy
+pub mod OneGtid

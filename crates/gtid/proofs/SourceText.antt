@@ -15,7 +15,7 @@ abbrev pub StandFrom : ℕ → List ℕ → Type 0
 StandFrom place [] = Unit {0}
 StandFrom place (b ∷ bs) = (stands_at place b ≡ true) × StandFrom (place + 1) bs
 
-stand_by_place : (bs : List ℕ) (place : ℕ) → ((i : ℕ) → i < length bs → stands_at (place + i) (get_or bs i 0) ≡ true) → StandFrom place bs
+pub stand_by_place : (bs : List ℕ) (place : ℕ) → ((i : ℕ) → i < length bs → stands_at (place + i) (get_or bs i 0) ≡ true) → StandFrom place bs
 stand_by_place [] place at = tt
 stand_by_place (b ∷ bs) place at = (
   subst (λ p. stands_at p b ≡ true) (add-zero place) (at 0 (omega arith)),
@@ -31,7 +31,7 @@ place_of_stand (b ∷ bs) place stand (suc i) short =
     let same : place + 1 + i ≡ place + suc i = omega arith in
     subst (λ p. stands_at p (get_or bs i 0) ≡ true) same (place_of_stand bs (place + 1) stand.1 i (omega arith))
 
-stands_in : (text : List ℕ) → StandFrom 0 text → (k : ℕ) → k < length text → stands_at k (get_or text k 0) ≡ true
+pub stands_in : (text : List ℕ) → StandFrom 0 text → (k : ℕ) → k < length text → stands_at k (get_or text k 0) ≡ true
 stands_in text stand k short =
     let same : 0 + k ≡ k = omega arith in
     subst (λ p. stands_at p (get_or text k 0) ≡ true) same (place_of_stand text 0 stand k short)
@@ -68,10 +68,10 @@ value_small c hex = grind (arith, nat_tests)
 lower_digit : (c : ℕ) → is_hex_digit c ≡ true → to_ascii_lowercase c ≡ hex_digit lower (value_of c)
 lower_digit c hex = grind (arith, nat_tests)
 
-abbrev bytes_of : List ℕ → List ℕ
+abbrev pub bytes_of : List ℕ → List ℕ
 bytes_of text = by_index 16 (byte_of_digits (digits_of text))
 
-digit_stands : (text : List ℕ) → length text ≡ 36 → StandFrom 0 text → (j : ℕ) → j < 32 → is_hex_digit (slice_index (digits_of text) j) ≡ true
+pub digit_stands : (text : List ℕ) → length text ≡ 36 → StandFrom 0 text → (j : ℕ) → j < 32 → is_hex_digit (slice_index (digits_of text) j) ≡ true
 digit_stands text long stand j small =
     let no_hyphen : is_hyphen_place (hyphen_place j) ≡ false = grind (arith, nat_tests) in
     let short : hyphen_place j < 36 = grind (arith, nat_tests) in
@@ -123,16 +123,19 @@ lowered_at text long stand k small =
         by_index_at 32 (λ i. slice_index text (hyphen_place i)) (digit_place k) 0 short ∙ ap (λ (i : ℕ). get_or text i 0) back in
         lower_digit (get_or text k 0) stands ∙ ap (hex_digit lower) (sym (nibble_back text long stand (digit_place k) short ∙ ap value_of digit))
 
+pub spelled_source : (text : List ℕ) → length text ≡ 36 → StandFrom 0 text → IsSource (bytes_of text)
+spelled_source text long stand = (
+  by_index_length 16 (byte_of_digits (digits_of text)),
+  recursion_from_All (λ b. b < 256) (bytes_of text) (λ k d short.
+      let within : k < 16 = omega (arith, by_index_length 16 (byte_of_digits (digits_of text))) in
+      subst (λ b. b < 256) (sym (by_index_at 16 (byte_of_digits (digits_of text)) k d within))
+      (byte_small _ _ (value_stands text long stand (2 * k) (omega arith)) (value_stands text long stand (2 * k + 1) (omega arith)))),
+)
+
+pub spelled_text : (text : List ℕ) → length text ≡ 36 → StandFrom 0 text → str_to_ascii_lowercase text ≡ hyphenated_text lower (bytes_of text)
+spelled_text text long stand =
+    by_index_same (map to_ascii_lowercase text) 36 _ (length-map text to_ascii_lowercase ∙ long)
+    (λ k d short. get_or-map to_ascii_lowercase text k 0 d (omega arith) ∙ lowered_at text long stand k short)
+
 pub spells : (text : List ℕ) → length text ≡ 36 → StandFrom 0 text → Spells text
-spells text long stand = record {
-  source = bytes_of text;
-  is_source = (
-    by_index_length 16 (byte_of_digits (digits_of text)),
-    recursion_from_All (λ b. b < 256) (bytes_of text) (λ k d short.
-        let within : k < 16 = omega (arith, by_index_length 16 (byte_of_digits (digits_of text))) in
-        subst (λ b. b < 256) (sym (by_index_at 16 (byte_of_digits (digits_of text)) k d within))
-        (byte_small _ _ (value_stands text long stand (2 * k) (omega arith)) (value_stands text long stand (2 * k + 1) (omega arith)))),
-  );
-  lowered = by_index_same (map to_ascii_lowercase text) 36 _ (length-map text to_ascii_lowercase ∙ long)
-      (λ k d short. get_or-map to_ascii_lowercase text k 0 d (omega arith) ∙ lowered_at text long stand k short);
-}
+spells text long stand = record { source = bytes_of text; is_source = spelled_source text long stand; lowered = spelled_text text long stand }

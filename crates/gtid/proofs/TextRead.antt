@@ -74,7 +74,7 @@ digits_more : (ds : List ℕ) (d : ℕ) → AllByRecursion IsAsciiDigit ds → I
 digits_more [] d all one = (one, tt)
 digits_more (c ∷ ds) d all one = (all.0, digits_more ds d all.1 one)
 
-is_numeral : (n : ℕ) → n < 2 ^ 64 → IsNumeral (decimal n) n
+pub is_numeral : (n : ℕ) → n < 2 ^ 64 → IsNumeral (decimal n) n
 is_numeral = decimal_by_steps (λ n ds. IsNumeral ds n)
     (λ n small. (omega arith, ((omega arith, omega arith), tt), omega arith))
     (λ n ds large h. (omega (arith, length-append ds ((48 + n % 10) ∷ [])), digits_more ds (48 + n % 10) h.1 (omega arith, omega arith), last n ds h.2))
@@ -100,7 +100,7 @@ lowered_byte true d small = refl
 lowered_byte false d small = grind (arith, nat_tests)
 
 -- the text of a source is in lower case
-lowered : (source : List ℕ) → str_to_ascii_lowercase (hyphenated_text lower source) ≡ hyphenated_text lower source
+pub lowered : (source : List ℕ) → str_to_ascii_lowercase (hyphenated_text lower source) ≡ hyphenated_text lower source
 lowered source =
     by_index_same (map to_ascii_lowercase (hyphenated_text lower source)) 36 byte_at (length-map (hyphenated_text lower source) to_ascii_lowercase ∙ by_index_length 36 byte_at)
     (λ k d short.

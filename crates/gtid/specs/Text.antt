@@ -1,10 +1,11 @@
--- A set of GTIDs as text. MySQL Reference Manual, "GTID Format and Storage": the syntax of a GTID set.
+-- A set of GTIDs as text, and one GTID. MySQL Reference Manual, "GTID Format and Storage": the syntax of a GTID set, and
+-- GTIDs as `source_id:transaction_id`.
 use Rattle.std.specs.Prelude.{◌≡◌, ℕ, ◌+◌, ◌*◌, ◌-◌, ◌<◌, ◌≤◌, ◌^◌, ◌⊎◌, ◌&&◌, not, List, [], ◌∷◌, ◌++◌, length, take, ◌==◌, nat_lt, nat_le, if◌then◌else◌, Bool, Option, Some, None, fold, flat_map, decimal, codes, map}
 use Rattle.std.specs.List.{join_by, AllByRecursion}
 use Rattle.std.specs.Str.{str_to_ascii_lowercase, byte}
 use Rattle.std.specs.Char.{IsAsciiDigit}
 use Rattle.uuid.specs.Text.{hyphenated_text, lower}
-use Rattle.gtid.specs.Identifier.{Ids, IsSource, AreGtids}
+use Rattle.gtid.specs.Identifier.{Id, Ids, IsSource, IsGtid, AreGtids}
 use Rattle.gtid.specs.Span.{IsLeastList, Covers}
 use Rattle.gtid.specs.declared.span.Span.{Span}
 use Rattle.gtid.specs.Encoding.{SidBlock, grouped}
@@ -141,3 +142,18 @@ pub data IsParseFault (text : List ℕ) : GtidFault → Type 0 where
 pub record HasParseFault (text : List ℕ) : Type 0 where
   pub fault : GtidFault
   pub is_fault : IsParseFault text fault
+
+-- ---- One GTID.
+
+-- the printed form: the source in lower case, `:`, and the number
+abbrev pub gtid_text : Id → List ℕ
+gtid_text q = hyphenated_text lower q.0 ++ byte ":" ∷ decimal q.1
+
+-- The text is the source as a hyphenated UUID in either case, `:`, and the number, which is from 1 to 2 ^ 63 - 2.
+pub record IsGtidText (text : List ℕ) (q : Id) : Type 0 where
+  pub uuid : List ℕ
+  pub digits : List ℕ
+  pub text_is : text ≡ uuid ++ byte ":" ∷ digits
+  pub a_uuid : str_to_ascii_lowercase uuid ≡ hyphenated_text lower q.0
+  pub a_numeral : IsNumeral digits q.1
+  pub lawful : IsGtid q

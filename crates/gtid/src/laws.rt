@@ -4,10 +4,10 @@
 
 ghost use Rattle.std.specs.Prelude.{◌≡◌, ◌⊎◌, ℕ, ◌<◌, ◌^◌, ◌++◌, List, length};
 ghost use Rattle.std.specs.List.{AllByRecursion};
-ghost use Rattle.gtid.specs.Identifier.{Ids};
+ghost use Rattle.gtid.specs.Identifier.{Id, Ids, IsGtid};
 ghost use Rattle.gtid.specs.Span.{IsLeastList, HasLeastList};
 ghost use Rattle.gtid.specs.Encoding.{IsEncoding, BeginsWithEncoding, IsDecodeFault, HasDecodeFault};
-ghost use Rattle.gtid.specs.Text.{IsText, IsRead, HasReading, IsParseFault, HasParseFault};
+ghost use Rattle.gtid.specs.Text.{IsText, IsRead, HasReading, IsParseFault, HasParseFault, IsGtidText, gtid_text};
 ghost use Rattle.gtid.specs.declared.fault.GtidFault.{GtidFault};
 ghost use Rattle.gtid.specs.declared.span.Span.{Span};
 
@@ -30,6 +30,11 @@ pub fn one_text()
 /// A printed text is read back as the set that was printed.
 pub fn text_is_read()
     ensures { (ids : Ids) (text : List ℕ) → IsText ids text → IsRead text ids }
+{}
+
+/// The printed text of a GTID is read back as that GTID.
+pub fn gtid_text_is_read()
+    ensures { (q : Id) → IsGtid q → IsGtidText (gtid_text q) q }
 {}
 
 /// Each text either is read as one set or has one fault, and not both.

@@ -5,7 +5,6 @@ use crate::reason::event_reason;
 use binlog::{Event, EventFault, Header, RowsEvent, RowsKind, TableMap, read_event};
 use std::io;
 use std::io::Write;
-use uuid::Uuid;
 
 /// The first byte of a payload that has an event.
 const EVENT: u8 = 0;
@@ -55,10 +54,7 @@ fn write_kind<W: Write>(event: &Event<'_>, out: &mut W) -> io::Result<()> {
         Event::Neutral => write!(out, "Neutral"),
         Event::Stop => write!(out, "Stop"),
         Event::Rotate { .. } => write!(out, "Rotate"),
-        Event::Gtid(gtid) => {
-            let source = Uuid::from_bytes(gtid.source);
-            write!(out, "Gtid {source}:{}", gtid.number)
-        }
+        Event::Gtid(gtid) => write!(out, "Gtid {gtid}"),
         Event::TableMap(map) => write_map(map, out),
         Event::OtherMap { id } => write!(out, "OtherMap {id}"),
         Event::Rows(rows) => write_rows(rows, out),

@@ -10,10 +10,6 @@ use sqlite::Alter;
 use std::alloc::Global;
 use std::io::Write;
 use store::{Applied, Store};
-use uuid::Uuid;
-
-/// The length in bytes of the text of a source, with its hyphens.
-const SOURCE: usize = 36;
 
 /// Records a GTID as executed in a database, without changes, and prints whether it is new.
 pub fn skip<'a, W: Write>(
@@ -24,7 +20,7 @@ pub fn skip<'a, W: Write>(
 ) -> Result<u8, Failure<'a>>
     ensures { IfOk result (λ status. status ≡ DONE) }
 {
-    let Some(gtid) = read_gtid(text) else {
+    let Some(gtid) = Gtid::parse(text) else {
         return Err(Failure::Gtid { word: "G" });
     };
     let mut store = open(rt, file, None)?;
@@ -55,33 +51,4 @@ fn record<'a, S: Alter>(
         Ok(applied) => Ok(applied),
         Err(cause) => Err(Failure::Database { name, cause }),
     }
-}
-
-/// The GTID in a text: a source as a hyphenated UUID in either case, `:`, and a number in decimal digits.
-fn read_gtid(text: &str) -> Option<Gtid> {
-    let bytes = text.as_bytes();
-    let source = bytes.get(..SOURCE)?;
-    let Some([b':', digits @ ..]) = bytes.get(SOURCE..) else {
-        return None;
-    };
-    let Ok(source) = Uuid::try_parse_ascii(source) else {
-        return None;
-    };
-    Gtid::new(source.into_bytes(), number(digits)?)
-}
-
-/// The number in at least one decimal digit.
-fn number(digits: &[u8]) -> Option<u64> {
-    if digits.is_empty() {
-        return None;
-    }
-    let mut number = 0u64;
-    for digit in digits {
-        let value = digit.checked_sub(b'0')?;
-        if value > 9 {
-            return None;
-        }
-        number = number.checked_mul(10)?.checked_add(u64::from(value))?;
-    }
-    Some(number)
 }
