@@ -16,7 +16,7 @@ use Rattle.binlog.specs.declared.fault.EventFault.{EventFault}
 use Rattle.binlog.specs.declared.fault.EventFaultKind.TheVariants.{FormatVersion, HeaderLengths, Checksum, Statement, Trailing, Number}
 use Rattle.wire.proofs.Cuts.{IsBytes, drop_drop, behind}
 use Rattle.binlog.proofs.Tables.{passes, not_refused, is_there}
-use Rattle.binlog.proofs.Bodies.{long_number, is_gtid, gtid_told, is_query, query_told}
+use Rattle.binlog.proofs.Bodies.{long_number, is_gtid, gtid_told, is_query}
 use Rattle.binlog.proofs.Formats.{first_behind, are_lengths, none_wrong, is_format, format_told, format_then}
 
 -- ---- Tables of refusals.

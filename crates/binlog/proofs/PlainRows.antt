@@ -3,11 +3,11 @@ use Rattle.std.proofs.Common.{ℕ, ◌+◌, ◌<◌, ◌≤◌, ◌^◌, List, l
 use Rattle.wire.specs.Integer.{length_encoded}
 use Rattle.binlog.specs.Rows.{presents_size}
 use Rattle.binlog.specs.Event.{rows}
-use Rattle.binlog.specs.Writing.{IsWritable, plain_rows, rows_body}
+use Rattle.binlog.specs.Writing.{IsWritable, plain_rows}
 use Rattle.binlog.specs.declared.body.rows_event.RowsKind.{RowsKind}
 use Rattle.binlog.proofs.MapWritten.{spelled}
-use Rattle.binlog.proofs.RowsEventWritten.{suits, spells, has_by_width, rows_written, rows_end}
-use Rattle.binlog.proofs.Written.{writes_rows, rows_body_of, writable_short}
+use Rattle.binlog.proofs.RowsEventWritten.{spells, has_by_width}
+use Rattle.binlog.proofs.Written.{writes_rows}
 
 pub record Ranges (id : ℕ) (kind : RowsKind) (columns : ℕ) (bytes : List ℕ) : Type 0 where
   pub an_id : id < 2 ^ 48

@@ -1,13 +1,12 @@
 -- Bytes that end before a row or a pair does: the relation, and the recursion that finds its place.
-use Rattle.std.proofs.Common.{◌≡◌, ℕ, suc, ◌+◌, ◌-◌, ◌<◌, ◌≤◌, false, List, [], ◌∷◌, ◌++◌, length, take, drop, Some, Result, Ok, Err, refl, sym, ap, subst, ◌∙◌, append_assoc, arith, inl, inr}
-use Rattle.std.specs.Prelude.{◌⊎◌}
+use Rattle.std.proofs.Common.{◌≡◌, ℕ, suc, ◌+◌, ◌-◌, ◌≤◌, false, List, [], ◌∷◌, ◌++◌, length, take, drop, Some, Result, Ok, Err, refl, sym, ap, ◌∙◌, append_assoc, arith, inl, inr}
 use Rattle.std.proofs.lemmas.Bool.{le-ltb, lt-ltb, cases_lt, cases_Bool}
-use Rattle.std.proofs.lemmas.List.{length-append, length-drop, length-take, take-append-drop, take_at}
+use Rattle.std.proofs.lemmas.List.{length-append, length-take, take-append-drop, take_at}
 use Rattle.byteorder.specs.Endian.{little_number}
-use Rattle.binlog.specs.Cell.{CellValue, null_cell, number_cell, bytes_cell, is_null}
+use Rattle.binlog.specs.Cell.{CellValue, null_cell, number_cell, bytes_cell}
 use Rattle.binlog.specs.Shape.{shape, IsValue, EndsInValue, value_end, cell_of}
-use Rattle.binlog.specs.Row.{bitmap_size, is_set, AreValues, IsRow, EndsInValues, EndsInRow, further, ◌>>=◌, values_end, row_end, row_cells}
-use Rattle.binlog.specs.Rows.{EndsInSecond, EndsInPair, pair_end}
+use Rattle.binlog.specs.Row.{bitmap_size, is_set, AreValues, EndsInRow, further, ◌>>=◌, values_end, row_end, row_cells}
+use Rattle.binlog.specs.Rows.{EndsInPair, pair_end}
 use Rattle.binlog.specs.declared.column.kind.ColumnKind.{ColumnKind}
 use Rattle.binlog.specs.declared.body.rows_event.RowsKind.{RowsKind}
 use Rattle.binlog.specs.declared.body.rows_event.RowsKind.TheVariants.{Write, Update, Delete}

@@ -1,8 +1,7 @@
 -- Lists of one set.
 use Rattle.std.proofs.Common.{◌≡◌, ◌⊎◌, inl, inr, ℕ, Vec, zero, suc, ◌+◌, ◌<◌, Bool, true, false, ◌||◌, List, [], ◌∷◌, length, take, slice_index_or, arith, refl, ap, sym, subst, ◌∙◌}
 use Rattle.std.specs.FinSet as set
-use Rattle.std.specs.List.{AllByRecursion}
-use Rattle.std.proofs.lemmas.Bool.{false≢true, and_parts, or_parts}
+use Rattle.std.proofs.lemmas.Bool.{false≢true, and_parts}
 use Rattle.std.proofs.lemmas.Slice.Eq.{bytes_eq-Decides}
 use Rattle.binlog.specs.Filter.{Name, name_cmp, is_listed, AreAmong}
 use Rattle.binlog.specs.FilterView.{names_of}

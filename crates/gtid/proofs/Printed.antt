@@ -1,7 +1,6 @@
 -- Text that grows by ASCII.
-use Rattle.std.proofs.Common.{◌≡◌, ℕ, List, [], ◌∷◌, ◌++◌, refl, ap, sym, ◌∙◌, append_assoc, ◌<◌, ◌≤◌, ◌+◌, zero, suc, length, drop, map, flat_map, get_or, take, add-one, codes, subst, arith, ◌-◌, ◌^◌, true, nat_le, nat_lt, inl, inr}
+use Rattle.std.proofs.Common.{◌≡◌, ℕ, List, [], ◌∷◌, ◌++◌, refl, ap, sym, ◌∙◌, append_assoc, ◌<◌, ◌+◌, zero, suc, length, drop, map, flat_map, get_or, take, add-one, codes, subst, arith, ◌-◌, ◌^◌, true, nat_le, nat_lt, inl, inr}
 use Rattle.std.specs.Str.{IsAscii}
-use Rattle.std.proofs.Math.ListN.{drop_of_length-le}
 use Rattle.std.proofs.lemmas.List.{append-nil, drop_more}
 use Rattle.std.proofs.lemmas.Str.{IsAscii-append}
 use Rattle.std.proofs.lemmas.Str.Ascii.{IsAscii-nil}

@@ -95,20 +95,24 @@ fn follow<'a>(alloc: Global) -> Result<Command<'a>, AllocError> {
         .arg(only(alloc))
 }
 
-/// `mrep replay`.
-fn replay<'a>(alloc: Global) -> Result<Command<'a>, AllocError> {
-    let streams = Arg::new(alloc, "STREAM")
+/// The files to replay.
+fn streams<'a>(alloc: Global) -> Arg<'a> {
+    Arg::new(alloc, "STREAM")
         .required(true)
         .num_args(1..)
         .action(ArgAction::Append)
-        .help("A file with the bytes that a source sent on one connection");
+        .help("A file with the bytes that a source sent on one connection")
+}
+
+/// `mrep replay`.
+fn replay<'a>(alloc: Global) -> Result<Command<'a>, AllocError> {
     over(
         alloc,
         "replay",
         "Read streams, each as one connection, apply their transactions to a database, and print how each ended",
     )?
     .arg(only(alloc))?
-    .arg(streams)
+    .arg(streams(alloc))
 }
 
 /// The commands that use a database, except `replay` and `follow`.

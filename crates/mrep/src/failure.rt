@@ -24,7 +24,7 @@ pub const FILES: u8 = 3;
 pub const MEMORY: u8 = 4;
 
 /// Why a command failed.
-#[derive(Debug, Drop)]
+#[derive(Drop)]
 pub enum Failure<'a> {
     /// The arguments are not those of a command.
     Words(clap::Error),

@@ -1,4 +1,4 @@
-use Rattle.std.proofs.Common.{◌≡◌, false, true, sym, inl, inr, subst, subst₂, ap, refl, ◌∙◌}
+use Rattle.std.proofs.Common.{◌≡◌, sym, inl, inr, subst, subst₂, ap, refl, ◌∙◌}
 use Rattle.std.specs.Bool.{IsTrue}
 use Rattle.std.specs.FinSet as set
 use Rattle.std.proofs.lemmas.Bool.{false≢true, cases_Bool}
