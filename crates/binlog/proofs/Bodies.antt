@@ -8,7 +8,7 @@ use Rattle.binlog.specs.Body.{IsGtid, IsQuery, text_place, statement, is_stateme
 use Rattle.binlog.specs.declared.body.query.Query.{Query}
 use Rattle.binlog.specs.declared.body.query.Query.TheVariants.{Begin, Commit}
 use Rattle.binlog.specs.Fault.{number_at}
-use Rattle.wire.proofs.Cuts.{IsBytes, number_at_front, drop_drop, cut, one, behind, drop_at}
+use Rattle.wire.proofs.Cuts.{IsBytes, number_at_front, drop_drop, cut, one, after, drop_at}
 
 from : (n : ℕ) (xs : List ℕ) → IsBytes xs → IsBytes (drop n xs)
 from n xs fits i = rw get_or-drop (fits (n + i))
@@ -39,8 +39,8 @@ pub record GtidTold (source : List ℕ) (number : ℕ) (bytes : List ℕ) : Type
   pub source_is : take 16 (drop 20 bytes) ≡ source
   pub number_is : little_number 8 (drop 36 bytes) ≡ number
 
-pub gtid_told : (source : List ℕ) (number : ℕ) (bytes : List ℕ) → IsGtid source number (drop 19 bytes) → GtidTold source number bytes
-gtid_told source number bytes is =
+pub gtid_reported : (source : List ℕ) (number : ℕ) (bytes : List ℕ) → IsGtid source number (drop 19 bytes) → GtidTold source number bytes
+gtid_reported source number bytes is =
     let rest = little_bytes 8 number ++ is.ignored in
     let body : drop 19 bytes ≡ is.flags ∷ (source ++ rest) = is.body_is ∙ append_assoc (is.flags ∷ source) (little_bytes 8 number) is.ignored in
     let d20 : drop 20 bytes ≡ source ++ rest = sym (drop_drop 19 1 bytes) ∙ ap (drop 1) body in
@@ -102,8 +102,8 @@ pub record QueryTold (text bytes : List ℕ) : Type 0 where
 pub first_left : (n b : ℕ) (xs rest : List ℕ) → drop n xs ≡ b ∷ rest → get_or xs n 0 ≡ b
 first_left n b xs rest is = let e : n ≡ n + 0 = omega arith in ap (λ k. get_or xs k 0) e ∙ sym (get_or-drop n xs 0 0) ∙ ap (λ l. get_or l 0 0) is
 
-pub query_told : (text bytes : List ℕ) → IsQuery text (drop 19 bytes) → QueryTold text bytes
-query_told text bytes is =
+pub query_reported : (text bytes : List ℕ) → IsQuery text (drop 19 bytes) → QueryTold text bytes
+query_reported text bytes is =
     let r5 = is.terminator ∷ text in
     let r4 = is.schema ++ r5 in
     let r3 = is.status ++ r4 in
@@ -112,15 +112,15 @@ query_told text bytes is =
     let r0 = length is.schema ∷ r1 in
     let t0 = is.time ++ r0 in
     let body : drop 19 bytes ≡ is.thread ++ t0 = is.body_is ∙ right_7 is.thread is.time (length is.schema ∷ is.error) (little_bytes 2 (length is.status)) is.status is.schema r5 in
-    let d23 : drop 23 bytes ≡ t0 = sym (drop_drop 19 4 bytes) ∙ ap (drop 4) body ∙ behind 4 0 is.thread t0 is.sizes.0 in
-    let d27 : drop 27 bytes ≡ r0 = sym (drop_drop 23 4 bytes) ∙ ap (drop 4) d23 ∙ behind 4 0 is.time r0 is.sizes.1 in
+    let d23 : drop 23 bytes ≡ t0 = sym (drop_drop 19 4 bytes) ∙ ap (drop 4) body ∙ after 4 0 is.thread t0 is.sizes.0 in
+    let d27 : drop 27 bytes ≡ r0 = sym (drop_drop 23 4 bytes) ∙ ap (drop 4) d23 ∙ after 4 0 is.time r0 is.sizes.1 in
     let d28 : drop 28 bytes ≡ r1 = sym (drop_drop 27 1 bytes) ∙ ap (drop 1) d27 in
-    let d30 : drop 30 bytes ≡ r2 = sym (drop_drop 28 2 bytes) ∙ ap (drop 2) d28 ∙ behind 2 0 is.error r2 is.sizes.2 in
+    let d30 : drop 30 bytes ≡ r2 = sym (drop_drop 28 2 bytes) ∙ ap (drop 2) d28 ∙ after 2 0 is.error r2 is.sizes.2 in
     let d32 : drop 32 bytes ≡ r3 = sym (drop_drop 30 2 bytes) ∙ ap (drop 2) d30 in
     let sc : get_or bytes 27 0 ≡ length is.schema = first_left 27 (length is.schema) bytes r1 d27 in
     let st : number_at 2 bytes 30 ≡ length is.status = ap (little_number 2) d30 ∙ little_number-reads_back 2 (length is.status) r3 (omega (arith, is.sizes.3)) in
     let place : text_place bytes ≡ 32 + (length is.status + (length is.schema + 1)) = omega (arith, sc, st) in
-    let at_text : drop (length is.status + (length is.schema + 1)) r3 ≡ text = behind (length is.status) (length is.schema + 1) is.status r4 refl ∙ behind (length is.schema) 1 is.schema r5 refl in
+    let at_text : drop (length is.status + (length is.schema + 1)) r3 ≡ text = after (length is.status) (length is.schema + 1) is.status r4 refl ∙ after (length is.schema) 1 is.schema r5 refl in
     record {
       long = omega (arith, place, ap length d32, length-drop 32 bytes, length-append is.status r4, length-append is.schema r5);
       text_is = ap (λ k. drop k bytes) place ∙ sym (drop_drop 32 (length is.status + (length is.schema + 1)) bytes) ∙ ap (drop (length is.status + (length is.schema + 1))) d32 ∙ at_text;
@@ -129,7 +129,7 @@ query_told text bytes is =
 pub query_not_refused : (query : Query) (bytes : List ℕ) → IsQuery (statement query) (drop 19 bytes) → query_fault bytes ≡ None
 unfolding query_fault
 query_not_refused query bytes is =
-    let t = query_told (statement query) bytes is in
+    let t = query_reported (statement query) bytes is in
     let st = number_at 2 bytes 30 in
     let sc = get_or bytes 27 0 in
     let h23 : 23 ≤ length bytes = omega (arith, t.long) in

@@ -14,10 +14,10 @@ use Rattle.binlog.specs.declared.body.query.Query.{Query}
 use Rattle.binlog.specs.declared.body.query.Query.TheVariants.{Begin, Commit}
 use Rattle.binlog.specs.declared.fault.EventFault.{EventFault}
 use Rattle.binlog.specs.declared.fault.EventFaultKind.TheVariants.{FormatVersion, HeaderLengths, Checksum, Statement, Trailing, Number}
-use Rattle.wire.proofs.Cuts.{IsBytes, drop_drop, behind}
+use Rattle.wire.proofs.Cuts.{IsBytes, drop_drop, after}
 use Rattle.binlog.proofs.Tables.{passes, not_refused, is_there}
-use Rattle.binlog.proofs.Bodies.{long_number, is_gtid, gtid_told, is_query}
-use Rattle.binlog.proofs.Formats.{first_behind, are_lengths, none_wrong, is_format, format_told, format_then}
+use Rattle.binlog.proofs.Bodies.{long_number, is_gtid, gtid_reported, is_query}
+use Rattle.binlog.proofs.Formats.{first_after, are_lengths, none_wrong, is_format, format_reported, format_then}
 
 -- ---- Tables of refusals.
 
@@ -34,8 +34,8 @@ holds false is = absurd cc
 
 pub format_not_refused : (bytes : List ℕ) → IsFormat (drop 19 bytes) → format_fault bytes ≡ None
 format_not_refused bytes is =
-    let t = format_told bytes is in
-    format_then bytes t.long t.version t.header ∙ first_behind (length_refusals bytes read_lengths) _ (none_wrong bytes t.are) ∙ rw t.algorithm refl
+    let t = format_reported bytes is in
+    format_then bytes t.long t.version t.header ∙ first_after (length_refusals bytes read_lengths) _ (none_wrong bytes t.are) ∙ rw t.algorithm refl
 
 pub format_some : (bytes : List ℕ) → IsBytes bytes → format_fault bytes ≡ None → IsFormat (drop 19 bytes)
 unfolding format_fault
@@ -74,7 +74,7 @@ rotate_some bytes fits none = (little_from-lt 0 8 (drop 19 bytes) (λ i. rw get_
 pub rotate_one : (position : ℕ) (name bytes : List ℕ) → IsRotate position name (drop 19 bytes) → (number_at 8 bytes 19 ≡ position) × (drop 27 bytes ≡ name)
 rotate_one position name bytes is = (
   ap (little_number 8) is.1 ∙ little_number-reads_back 8 position name is.0,
-  sym (drop_drop 19 8 bytes) ∙ ap (drop 8) is.1 ∙ behind 8 0 (little_bytes 8 position) name refl,
+  sym (drop_drop 19 8 bytes) ∙ ap (drop 8) is.1 ∙ after 8 0 (little_bytes 8 position) name refl,
 )
 
 -- ---- Ends of transactions.
@@ -113,7 +113,7 @@ gtid_not_refused source number bytes is =
     let h20 : 20 ≤ length bytes = omega (arith, long) in
     let h36 : 36 ≤ length bytes = omega (arith, long) in
     let h44 : 44 ≤ length bytes = long in
-    rw (le-ltb _ _ h20, le-ltb _ _ h36, le-ltb _ _ h44, (gtid_told source number bytes is).number_is, le-leb _ _ is.in_range.0, le-leb _ _ is.in_range.1) refl
+    rw (le-ltb _ _ h20, le-ltb _ _ h36, le-ltb _ _ h44, (gtid_reported source number bytes is).number_is, le-leb _ _ is.in_range.0, le-leb _ _ is.in_range.1) refl
 
 pub gtid_some : (bytes : List ℕ) → IsBytes bytes → gtid_fault bytes ≡ None → IsGtid (take 16 (drop 20 bytes)) (number_at 8 bytes 36) (drop 19 bytes)
 unfolding gtid_fault

@@ -18,27 +18,27 @@ first_at : (bytes : List ℕ) (place : ℕ) → get_or bytes place 0 ≡ get_or 
 first_at bytes place = let e : place ≡ place + 0 = omega arith in rw get_or-drop (ap (λ k. get_or bytes k 0) e)
 
 abbrev value_by : ℕ → List ℕ → ℕ
-value_by first behind = if nat_le first 250 then first else little_number (width_of first - 1) behind
+value_by first after = if nat_le first 250 then first else little_number (width_of first - 1) after
 
 value_at : (bytes : List ℕ) (place : ℕ) → count_at bytes place ≡ count_at (drop place bytes) 0
 value_at bytes place =
     let first = first_at bytes place in
-    let behind : drop (place + 1) bytes ≡ drop 1 (drop place bytes) = sym (drop_drop place 1 bytes) in
+    let after : drop (place + 1) bytes ≡ drop 1 (drop place bytes) = sym (drop_drop place 1 bytes) in
     let a : count_at bytes place ≡ value_by (get_or bytes place 0) (drop (place + 1) bytes) = refl in
     let b : value_by (get_or (drop place bytes) 0 0) (drop 1 (drop place bytes)) ≡ count_at (drop place bytes) 0 = refl in
-    a ∙ ap (λ f. value_by f (drop (place + 1) bytes)) first ∙ ap (value_by (get_or (drop place bytes) 0 0)) behind ∙ b
+    a ∙ ap (λ f. value_by f (drop (place + 1) bytes)) first ∙ ap (value_by (get_or (drop place bytes) 0 0)) after ∙ b
 
-front_told : (n : ℕ) (front rest : List ℕ) → IsLengthEncoded n front → (count_width (front ++ rest) 0 ≡ length front) × (count_at (front ++ rest) 0 ≡ n)
-front_told n front rest (inl (fits, is)) = ((λ i. count_width (is i ++ rest) 0) ∙ rw (le-leb n 250 fits) refl ∙ sym (ap length is), (λ i. count_at (is i ++ rest) 0) ∙ rw (le-leb n 250 fits) refl)
-front_told n front rest (inr (inl (fits, is))) = ((λ i. count_width (is i ++ rest) 0) ∙ sym (ap length is), (λ i. count_at (is i ++ rest) 0) ∙ little_number-reads_back 2 n rest fits)
-front_told n front rest (inr (inr (inl (fits, is)))) = ((λ i. count_width (is i ++ rest) 0) ∙ sym (ap length is), (λ i. count_at (is i ++ rest) 0) ∙ little_number-reads_back 3 n rest fits)
-front_told n front rest (inr (inr (inr (fits, is)))) = ((λ i. count_width (is i ++ rest) 0) ∙ sym (ap length is), (λ i. count_at (is i ++ rest) 0) ∙ little_number-reads_back 8 n rest fits)
+front_reported : (n : ℕ) (front rest : List ℕ) → IsLengthEncoded n front → (count_width (front ++ rest) 0 ≡ length front) × (count_at (front ++ rest) 0 ≡ n)
+front_reported n front rest (inl (fits, is)) = ((λ i. count_width (is i ++ rest) 0) ∙ rw (le-leb n 250 fits) refl ∙ sym (ap length is), (λ i. count_at (is i ++ rest) 0) ∙ rw (le-leb n 250 fits) refl)
+front_reported n front rest (inr (inl (fits, is))) = ((λ i. count_width (is i ++ rest) 0) ∙ sym (ap length is), (λ i. count_at (is i ++ rest) 0) ∙ little_number-reads_back 2 n rest fits)
+front_reported n front rest (inr (inr (inl (fits, is)))) = ((λ i. count_width (is i ++ rest) 0) ∙ sym (ap length is), (λ i. count_at (is i ++ rest) 0) ∙ little_number-reads_back 3 n rest fits)
+front_reported n front rest (inr (inr (inr (fits, is)))) = ((λ i. count_width (is i ++ rest) 0) ∙ sym (ap length is), (λ i. count_at (is i ++ rest) 0) ∙ little_number-reads_back 8 n rest fits)
 
 -- ---- A count at an offset.
 
 pub counted : (n : ℕ) (front rest bytes : List ℕ) (place : ℕ) → IsLengthEncoded n front → drop place bytes ≡ front ++ rest → (count_width bytes place ≡ length front) × (count_at bytes place ≡ n)
 counted n front rest bytes place is stands =
-    let t = front_told n front rest is in
+    let t = front_reported n front rest is in
     (ap width_of (first_at bytes place) ∙ ap (λ l. count_width l 0) stands ∙ t.0, value_at bytes place ∙ ap (λ l. count_at l 0) stands ∙ t.1)
 
 -- no encoding is empty

@@ -21,11 +21,11 @@ use Rattle.binlog.specs.declared.fault.EventFaultKind.TheVariants.{TypeCode, Ano
 use Rattle.wire.proofs.Cuts.{IsBytes}
 use Rattle.binlog.proofs.Tables.{passes, not_refused}
 use Rattle.binlog.proofs.Headers as headers
-use Rattle.binlog.proofs.Bodies.{gtid_told, query_told, query_not_refused}
+use Rattle.binlog.proofs.Bodies.{gtid_reported, query_reported, query_not_refused}
 use Rattle.binlog.proofs.BodyLaws.{format_not_refused, format_some, rotate_not_refused, rotate_some, rotate_one, xid_not_refused, xid_some, xid_one, gtid_not_refused, gtid_some, query_some}
-use Rattle.binlog.proofs.TableNames.{names_told, names_not_refused, has_names}
-use Rattle.binlog.proofs.WholeColumns.{columns_told, columns_not_refused, has_columns}
-use Rattle.binlog.proofs.RowsHead.{stated, parts_of, is_rows, rows_told, rows_not_refused}
+use Rattle.binlog.proofs.TableNames.{names_reported, names_not_refused, has_names}
+use Rattle.binlog.proofs.WholeColumns.{columns_reported, columns_not_refused, has_columns}
+use Rattle.binlog.proofs.RowsHead.{stated, parts_of, is_rows, rows_reported, rows_not_refused}
 
 -- ---- Types that are not read.
 
@@ -166,34 +166,34 @@ rows_said names Delete r code bytes is said = ap (event_at names bytes) is ∙ a
 
 columns_said : (t : TableValue) (rest bytes : List ℕ) → IsNamed t.id t.schema t.table rest (drop 19 bytes) → AreColumns t.columns rest → table_at bytes ≡ t
 columns_said t rest bytes named are =
-    let n = names_told t.id t.schema t.table rest bytes named in
-    let columns = columns_told t.columns bytes (terminator_place bytes + 1) (subst (AreColumns t.columns) (sym n.rest_is) are) in
+    let n = names_reported t.id t.schema t.table rest bytes named in
+    let columns = columns_reported t.columns bytes (terminator_place bytes + 1) (subst (AreColumns t.columns) (sym n.rest_is) are) in
     λ i. record { id = n.id_is i; schema = n.schema_is i; table = n.table_is i; columns = columns.columns i }
 
 said : (names : Names) (e : EventValue) (code : ℕ) (may_ignore : Bool) (bytes : List ℕ) → HasBody names e code may_ignore (drop 19 bytes) → event_at names bytes code ≡ e
 said names format code may_ignore bytes (is, body) = ap (event_at names bytes) is
-said names begin code may_ignore bytes (is, body) = ap (event_at names bytes) is ∙ ap (λ t. if bytes_eq t (codes "BEGIN") then begin else commit) (query_told (statement Begin) bytes body).text_is
-said names commit code may_ignore bytes (is, body) = ap (event_at names bytes) is ∙ ap (λ t. if bytes_eq t (codes "BEGIN") then begin else commit) (query_told (statement Commit) bytes body).text_is
+said names begin code may_ignore bytes (is, body) = ap (event_at names bytes) is ∙ ap (λ t. if bytes_eq t (codes "BEGIN") then begin else commit) (query_reported (statement Begin) bytes body).text_is
+said names commit code may_ignore bytes (is, body) = ap (event_at names bytes) is ∙ ap (λ t. if bytes_eq t (codes "BEGIN") then begin else commit) (query_reported (statement Commit) bytes body).text_is
 said names neutral code may_ignore bytes is = let n = neutral_not_read code may_ignore is in rw (n.n2, n.n3, n.n4, n.n15, n.n16, n.n19, n.n30, n.n31, n.n32, n.n33) refl
 said names stop code may_ignore bytes is = ap (event_at names bytes) is
 said names (rotate position name) code may_ignore bytes (is, body) = let r = rotate_one position name bytes body in ap (event_at names bytes) is ∙ (λ i. rotate (r.0 i) (r.1 i))
-said names (gtid source number) code may_ignore bytes (is, body) = let t = gtid_told source number bytes body in ap (event_at names bytes) is ∙ (λ i. gtid (t.source_is i) (t.number_is i))
+said names (gtid source number) code may_ignore bytes (is, body) = let t = gtid_reported source number bytes body in ap (event_at names bytes) is ∙ (λ i. gtid (t.source_is i) (t.number_is i))
 said names (table_map t) code may_ignore bytes (is, body, admitted) =
-    let n = names_told t.id t.schema t.table body.rest bytes body.named in
+    let n = names_reported t.id t.schema t.table body.rest bytes body.named in
     let taken : admits names (schema_of bytes) (table_of bytes) ≡ true = (λ i. admits names (n.schema_is i) (n.table_is i)) ∙ admitted in
     ap (event_at names bytes) is ∙ ap (λ b. if b then table_map (table_at bytes) else other_map (number_at 6 bytes 19)) taken ∙ ap table_map (columns_said t body.rest bytes body.named body.columns)
 said names (other_map id) code may_ignore bytes (is, body) =
-    let n = names_told id body.schema body.table body.rest bytes body.named in
+    let n = names_reported id body.schema body.table body.rest bytes body.named in
     let left : admits names (schema_of bytes) (table_of bytes) ≡ false = (λ i. admits names (n.schema_is i) (n.table_is i)) ∙ body.other in
     ap (event_at names bytes) is ∙ ap (λ b. if b then table_map (table_at bytes) else other_map (number_at 6 bytes 19)) left ∙ ap other_map n.id_is
-said names (rows r) code may_ignore bytes (is, body) = rows_said names r.kind r code bytes is (rows_told r bytes body).is
+said names (rows r) code may_ignore bytes (is, body) = rows_said names r.kind r code bytes is (rows_reported r bytes body).is
 said names (xid number) code may_ignore bytes (is, body) = ap (event_at names bytes) is ∙ ap xid (xid_one number bytes body)
 
 -- no bytes are two events
 pub one_event : (names : Names) (a b : EventValue) (bytes : List ℕ) → IsEvent names a bytes → IsEvent names b bytes → a ≡ b
 one_event names a b bytes is also =
-    let t = headers.told is.code is.may_ignore is.body bytes is.framed in
-    let t' = headers.told also.code also.may_ignore also.body bytes also.framed in
+    let t = headers.reported is.code is.may_ignore is.body bytes is.framed in
+    let t' = headers.reported also.code also.may_ignore also.body bytes also.framed in
     let body = subst (HasBody names a is.code is.may_ignore) t.body_is is.has_body in
     let body' = subst (HasBody names b also.code also.may_ignore) t'.body_is also.has_body in
     sym (said names a is.code is.may_ignore bytes body) ∙ ap (event_at names bytes) (t.code_is ∙ sym t'.code_is) ∙ said names b also.code also.may_ignore bytes body'
@@ -225,30 +225,30 @@ fine names stop code may_ignore bytes is = subst (IsFine names bytes may_ignore)
 fine names (rotate position name) code may_ignore bytes (is, body) = subst (IsFine names bytes may_ignore) (sym is) (refl, rotate_not_refused position name bytes body)
 fine names (gtid source number) code may_ignore bytes (is, body) = subst (IsFine names bytes may_ignore) (sym is) (refl, gtid_not_refused source number bytes body)
 fine names (table_map t) code may_ignore bytes (is, body, admitted) =
-    let n = names_told t.id t.schema t.table body.rest bytes body.named in
+    let n = names_reported t.id t.schema t.table body.rest bytes body.named in
     let taken : admits names (schema_of bytes) (table_of bytes) ≡ true = (λ i. admits names (n.schema_is i) (n.table_is i)) ∙ admitted in
     let columns = columns_not_refused t.columns bytes (terminator_place bytes + 1) (subst (AreColumns t.columns) (sym n.rest_is) body.columns) in
     subst (IsFine names bytes may_ignore) (sym is) (refl, map_not_refused names bytes true (names_not_refused t.id t.schema t.table body.rest bytes body.named) taken (λ _. columns))
 fine names (other_map id) code may_ignore bytes (is, body) =
-    let n = names_told id body.schema body.table body.rest bytes body.named in
+    let n = names_reported id body.schema body.table body.rest bytes body.named in
     let left : admits names (schema_of bytes) (table_of bytes) ≡ false = (λ i. admits names (n.schema_is i) (n.table_is i)) ∙ body.other in
     subst (IsFine names bytes may_ignore) (sym is) (refl, map_not_refused names bytes false (names_not_refused id body.schema body.table body.rest bytes body.named) left (λ no. absurd (false≢true no)))
-fine names (rows r) code may_ignore bytes (is, body) = rows_fine names r.kind code may_ignore bytes is (rows_not_refused r.kind bytes (rows_told r bytes body).are)
+fine names (rows r) code may_ignore bytes (is, body) = rows_fine names r.kind code may_ignore bytes is (rows_not_refused r.kind bytes (rows_reported r bytes body).are)
 fine names (xid number) code may_ignore bytes (is, body) = subst (IsFine names bytes may_ignore) (sym is) (refl, xid_not_refused number bytes body)
 
 -- the faults after a header that is there
-pub behind_header : (names : Names) (code : ℕ) (may_ignore : Bool) (body bytes : List ℕ) → IsFramed code may_ignore body bytes →
+pub after_header : (names : Names) (code : ℕ) (may_ignore : Bool) (body bytes : List ℕ) → IsFramed code may_ignore body bytes →
     event_fault names bytes ≡ first_of (type_fault code may_ignore ∷ body_fault names code bytes ∷ [])
 unfolding event_fault
-behind_header names code may_ignore body bytes framed =
-    let t = headers.told code may_ignore body bytes framed in
+after_header names code may_ignore body bytes framed =
+    let t = headers.reported code may_ignore body bytes framed in
     (λ i. first_of (headers.no_fault code may_ignore body bytes framed i ∷ type_fault (sym t.code_is i) (sym t.mark_is i) ∷ body_fault names (sym t.code_is i) bytes ∷ []))
 
 pub event_not_refused : (names : Names) (e : EventValue) (bytes : List ℕ) → IsEvent names e bytes → event_fault names bytes ≡ None
 event_not_refused names e bytes is =
-    let t = headers.told is.code is.may_ignore is.body bytes is.framed in
+    let t = headers.reported is.code is.may_ignore is.body bytes is.framed in
     let f = fine names e is.code is.may_ignore bytes (subst (HasBody names e is.code is.may_ignore) t.body_is is.has_body) in
-    behind_header names is.code is.may_ignore is.body bytes is.framed ∙ (λ i. first_of (f.0 i ∷ f.1 i ∷ []))
+    after_header names is.code is.may_ignore is.body bytes is.framed ∙ (λ i. first_of (f.0 i ∷ f.1 i ∷ []))
 
 -- ---- Bytes without a refusal are an event.
 
@@ -266,7 +266,7 @@ some_map names code may_ignore bytes fits is none =
     let p1 = passes (names_fault bytes) _ none in
     let p2 = passes (if admits names (schema_of bytes) (table_of bytes) then columns_fault bytes (terminator_place bytes + 1) else None) [] p1.1 in
     let h = has_names bytes fits p1.0 in
-    let n = names_told h.id h.schema h.table h.rest bytes h.named in
+    let n = names_reported h.id h.schema h.table h.rest bytes h.named in
     elim (cases_Bool (admits names (schema_of bytes) (table_of bytes))) as (λ _. HasSome names code may_ignore (drop 19 bytes)) [
       | inl taken ↦
           let fine = ap (λ b. if b then columns_fault bytes (terminator_place bytes + 1) else None) (sym taken) ∙ p2.0 in
@@ -321,8 +321,8 @@ some_body names code may_ignore bytes fits typed none =
 
 has_body : (names : Names) (bytes : List ℕ) → IsBytes bytes → HasFrame bytes → event_fault names bytes ≡ None → HasEvent names bytes
 has_body names bytes fits h none =
-    let t = headers.told h.code h.may_ignore h.body bytes h.framed in
-    let p1 = passes (type_fault h.code h.may_ignore) _ (sym (behind_header names h.code h.may_ignore h.body bytes h.framed) ∙ none) in
+    let t = headers.reported h.code h.may_ignore h.body bytes h.framed in
+    let p1 = passes (type_fault h.code h.may_ignore) _ (sym (after_header names h.code h.may_ignore h.body bytes h.framed) ∙ none) in
     let p2 = passes (body_fault names h.code bytes) _ p1.1 in
     let s = some_body names h.code h.may_ignore bytes fits p1.0 p2.0 in
     record { event = s.event; is_event = record { code = h.code; may_ignore = h.may_ignore; body = h.body; framed = h.framed; has_body = subst (HasBody names s.event h.code h.may_ignore) (sym t.body_is) s.has_body } }

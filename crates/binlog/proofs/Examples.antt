@@ -64,8 +64,8 @@ one_row : row_end (Long ∷ Varchar 20 ∷ []) (0 ∷ 7 ∷ 0 ∷ 0 ∷ 0 ∷ 2 
 unfolding row_end
 one_row = refl
 
-bits_behind : row_cells (Long ∷ Varchar 20 ∷ []) (252 ∷ 7 ∷ 0 ∷ 0 ∷ 0 ∷ 2 ∷ 97 ∷ 98 ∷ []) ≡ number_cell 7 4 ∷ bytes_cell (97 ∷ 98 ∷ []) ∷ []
-bits_behind = refl
+bits_after : row_cells (Long ∷ Varchar 20 ∷ []) (252 ∷ 7 ∷ 0 ∷ 0 ∷ 0 ∷ 2 ∷ 97 ∷ 98 ∷ []) ≡ number_cell 7 4 ∷ bytes_cell (97 ∷ 98 ∷ []) ∷ []
+bits_after = refl
 
 longer_text : row_end (Long ∷ Varchar 20 ∷ []) (0 ∷ 7 ∷ 0 ∷ 0 ∷ 0 ∷ 3 ∷ 97 ∷ 98 ∷ []) ≡ Err 6
 unfolding row_end

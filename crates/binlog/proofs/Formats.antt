@@ -9,7 +9,7 @@ use Rattle.binlog.specs.Body.{IsFormat, read_lengths, length_refusal, length_ref
 use Rattle.binlog.specs.declared.fault.EventFault.{EventFault}
 use Rattle.binlog.specs.declared.fault.EventFaultKind.TheVariants.{HeaderLengths, Checksum}
 use Rattle.binlog.proofs.Tables.{passes, not_refused}
-use Rattle.wire.proofs.Cuts.{IsBytes, number_at_front, drop_drop, cut, one, behind, drop_front}
+use Rattle.wire.proofs.Cuts.{IsBytes, number_at_front, drop_drop, cut, one, after, drop_front}
 use Rattle.binlog.proofs.Bodies.{first_left}
 
 -- ---- Tables one after the other.
@@ -19,10 +19,10 @@ first_front [] rest fault is = absurd cc
 first_front (Some f ∷ front) rest fault is = is
 first_front (None ∷ front) rest fault is = first_front front rest fault is
 
-pub first_behind : (front rest : List (Option EventFault)) → first_of front ≡ None → first_of (front ++ rest) ≡ first_of rest
-first_behind [] rest none = refl
-first_behind (Some f ∷ front) rest none = absurd cc
-first_behind (None ∷ front) rest none = first_behind front rest none
+pub first_after : (front rest : List (Option EventFault)) → first_of front ≡ None → first_of (front ++ rest) ≡ first_of rest
+first_after [] rest none = refl
+first_after (Some f ∷ front) rest none = absurd cc
+first_after (None ∷ front) rest none = first_after front rest none
 
 -- ---- The lengths of the types that are read.
 
@@ -110,16 +110,16 @@ get_front [] b i short = absurd (omega (arith, short))
 get_front (x ∷ a) b zero short = refl
 get_front (x ∷ a) b (suc i) short = get_front a b i (omega (arith, short))
 
-pub format_told : (bytes : List ℕ) → IsFormat (drop 19 bytes) → FormatTold bytes
-format_told bytes is =
+pub format_reported : (bytes : List ℕ) → IsFormat (drop 19 bytes) → FormatTold bytes
+format_reported bytes is =
     let r4 = 0 ∷ is.unread in
     let r3 = 19 ∷ (is.lengths ++ r4) in
     let r2 = is.time ++ r3 in
     let r1 = is.server_version ++ r2 in
     let body : drop 19 bytes ≡ little_bytes 2 4 ++ r1 = is.body_is ∙ right_5 (little_bytes 2 4) is.server_version is.time (19 ∷ is.lengths) r4 in
     let d21 : drop 21 bytes ≡ r1 = sym (drop_drop 19 2 bytes) ∙ ap (drop 2) body in
-    let d71 : drop 71 bytes ≡ r2 = sym (drop_drop 21 50 bytes) ∙ ap (drop 50) d21 ∙ behind 50 0 is.server_version r2 is.sizes.0 in
-    let d75 : drop 75 bytes ≡ r3 = sym (drop_drop 71 4 bytes) ∙ ap (drop 4) d71 ∙ behind 4 0 is.time r3 is.sizes.1 in
+    let d71 : drop 71 bytes ≡ r2 = sym (drop_drop 21 50 bytes) ∙ ap (drop 50) d21 ∙ after 50 0 is.server_version r2 is.sizes.0 in
+    let d75 : drop 75 bytes ≡ r3 = sym (drop_drop 71 4 bytes) ∙ ap (drop 4) d71 ∙ after 4 0 is.time r3 is.sizes.1 in
     let d76 : drop 76 bytes ≡ is.lengths ++ r4 = sym (drop_drop 75 1 bytes) ∙ ap (drop 1) d75 in
     let whole : length bytes ≡ 81 + length is.lengths = omega (arith, ap length d76, length-drop 76 bytes, length-append is.lengths r4, is.sizes.2) in
     let long : 116 ≤ length bytes = omega (arith, whole, is.sizes.3) in

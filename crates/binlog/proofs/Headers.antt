@@ -9,7 +9,7 @@ use Rattle.binlog.specs.Header.{IsFramed, header_fault}
 use Rattle.binlog.specs.Fault.{refuse, needs, number_at}
 use Rattle.binlog.specs.declared.fault.EventFaultKind.TheVariants.{Size}
 use Rattle.binlog.proofs.Tables.{passes, not_refused, is_there}
-use Rattle.wire.proofs.Cuts.{IsBytes, number_at_front, drop_drop, cut, one, behind}
+use Rattle.wire.proofs.Cuts.{IsBytes, number_at_front, drop_drop, cut, one, after}
 
 from : (n : ℕ) (xs : List ℕ) → IsBytes xs → IsBytes (drop n xs)
 from n xs fits i = rw get_or-drop (fits (n + i))
@@ -42,7 +42,7 @@ is_framed bytes fits long size =
     }
 
 -- The fields of framed bytes at each offset.
-pub record Told (code : ℕ) (may_ignore : Bool) (body bytes : List ℕ) : Type 0 where
+pub record Reported (code : ℕ) (may_ignore : Bool) (body bytes : List ℕ) : Type 0 where
   pub long : 19 ≤ length bytes
   pub code_is : code ≡ get_or bytes 4 0
   pub size_is : little_number 4 (drop 9 bytes) ≡ length bytes
@@ -53,8 +53,8 @@ pub record Told (code : ℕ) (may_ignore : Bool) (body bytes : List ℕ) : Type 
 first_left : (n b : ℕ) (xs rest : List ℕ) → drop n xs ≡ b ∷ rest → get_or xs n 0 ≡ b
 first_left n b xs rest is = let e : n ≡ n + 0 = omega arith in ap (λ k. get_or xs k 0) e ∙ sym (get_or-drop n xs 0 0) ∙ ap (λ l. get_or l 0 0) is
 
-pub told : (code : ℕ) (may_ignore : Bool) (body bytes : List ℕ) → IsFramed code may_ignore body bytes → Told code may_ignore body bytes
-told code may_ignore body bytes is =
+pub reported : (code : ℕ) (may_ignore : Bool) (body bytes : List ℕ) → IsFramed code may_ignore body bytes → Reported code may_ignore body bytes
+reported code may_ignore body bytes is =
     let r17 = is.low_flags ∷ is.high_flags ∷ body in
     let r13 = is.position ++ r17 in
     let r9 = little_bytes 4 (length bytes) ++ r13 in
@@ -62,11 +62,11 @@ told code may_ignore body bytes is =
     let r4 = code ∷ r5 in
     let all = is.timestamp ++ r4 in
     let e : bytes ≡ all = is.bytes_are ∙ right is.timestamp (code ∷ is.server_id) (little_bytes 4 (length bytes)) is.position r17 in
-    let d4 : drop 4 all ≡ r4 = behind 4 0 is.timestamp r4 is.sizes.0 in
-    let d5 : drop 5 all ≡ r5 = behind 4 1 is.timestamp r4 is.sizes.0 in
-    let d9 : drop 9 all ≡ r9 = sym (drop_drop 5 4 all) ∙ ap (drop 4) d5 ∙ behind 4 0 is.server_id r9 is.sizes.1 in
+    let d4 : drop 4 all ≡ r4 = after 4 0 is.timestamp r4 is.sizes.0 in
+    let d5 : drop 5 all ≡ r5 = after 4 1 is.timestamp r4 is.sizes.0 in
+    let d9 : drop 9 all ≡ r9 = sym (drop_drop 5 4 all) ∙ ap (drop 4) d5 ∙ after 4 0 is.server_id r9 is.sizes.1 in
     let d13 : drop 13 all ≡ r13 = sym (drop_drop 9 4 all) ∙ ap (drop 4) d9 in
-    let d17 : drop 17 all ≡ r17 = sym (drop_drop 13 4 all) ∙ ap (drop 4) d13 ∙ behind 4 0 is.position r17 is.sizes.2 in
+    let d17 : drop 17 all ≡ r17 = sym (drop_drop 13 4 all) ∙ ap (drop 4) d13 ∙ after 4 0 is.position r17 is.sizes.2 in
     let d19 : drop 19 all ≡ body = sym (drop_drop 17 2 all) ∙ ap (drop 2) d17 in
     record {
       long = omega (arith, ap length e, length-append is.timestamp r4, length-append is.server_id r9, length-append is.position r17, is.sizes.0, is.sizes.1, is.sizes.2);
@@ -80,7 +80,7 @@ told code may_ignore body bytes is =
 pub no_fault : (code : ℕ) (may_ignore : Bool) (body bytes : List ℕ) → IsFramed code may_ignore body bytes → header_fault bytes ≡ None
 unfolding header_fault
 no_fault code may_ignore body bytes is =
-    let t = told code may_ignore body bytes is in
+    let t = reported code may_ignore body bytes is in
     let h4 : 4 ≤ length bytes = omega (arith, t.long) in
     let h5 : 5 ≤ length bytes = omega (arith, t.long) in
     let h9 : 9 ≤ length bytes = omega (arith, t.long) in
@@ -105,6 +105,6 @@ stated bytes none =
 pub one_frame : (code code' : ℕ) (may_ignore may_ignore' : Bool) (body body' bytes : List ℕ) →
     IsFramed code may_ignore body bytes → IsFramed code' may_ignore' body' bytes → (code ≡ code') × (may_ignore ≡ may_ignore') × (body ≡ body')
 one_frame code code' may_ignore may_ignore' body body' bytes is is' =
-    let t = told code may_ignore body bytes is in
-    let t' = told code' may_ignore' body' bytes is' in
+    let t = reported code may_ignore body bytes is in
+    let t' = reported code' may_ignore' body' bytes is' in
     (t.code_is ∙ sym t'.code_is, t.mark_is ∙ sym t'.mark_is, t.body_is ∙ sym t'.body_is)

@@ -11,7 +11,7 @@ use Rattle.binlog.specs.declared.column.kind.ColumnType.{ColumnType}
 use Rattle.binlog.specs.declared.fault.EventFaultKind.{EventFaultKind}
 use Rattle.wire.proofs.Cuts.{IsBytes}
 use Rattle.binlog.proofs.Columns.{some_column}
-use Rattle.binlog.proofs.TableColumns.{behind_metadata, column_first}
+use Rattle.binlog.proofs.TableColumns.{after_metadata, column_first}
 
 abbrev pub AllLawful : List ColumnKind → Type 0
 AllLawful columns = AllByRecursion (λ kind. IsTrue (is_lawful kind)) columns
@@ -27,12 +27,12 @@ front_lawful (Some fault) code codes bytes is fits others =
 front_lawful None code codes bytes is fits others =
     let h = some_column code bytes fits is in
     let first : columns_of (code ∷ codes) bytes ≡ h.kind ∷ columns_of codes h.rest = column_first h.kind code codes h.rest bytes h.is_column in
-    let behind : drop (metadata_length code) bytes ≡ h.rest = behind_metadata h.kind code h.rest bytes h.is_column in
-    let rest : AllLawful (columns_of codes h.rest) = subst (λ r. AllLawful (columns_of codes r)) behind others in
+    let after : drop (metadata_length code) bytes ≡ h.rest = after_metadata h.kind code h.rest bytes h.is_column in
+    let rest : AllLawful (columns_of codes h.rest) = subst (λ r. AllLawful (columns_of codes r)) after others in
     subst AllLawful {x = h.kind ∷ columns_of codes h.rest} (sym {b = h.kind ∷ columns_of codes h.rest} first) (h.is_column.lawful, rest)
 
 pub lawful_columns : (codes bytes : List ℕ) → IsBytes bytes → AllLawful (columns_of codes bytes)
 lawful_columns [] bytes fits = tt
 lawful_columns (code ∷ codes) bytes fits =
-    let behind : IsBytes (drop (metadata_length code) bytes) = λ i. rw get_or-drop (fits (metadata_length code + i)) in
-    front_lawful (column_fault code bytes) code codes bytes refl fits (lawful_columns codes (drop (metadata_length code) bytes) behind)
+    let after : IsBytes (drop (metadata_length code) bytes) = λ i. rw get_or-drop (fits (metadata_length code + i)) in
+    front_lawful (column_fault code bytes) code codes bytes refl fits (lawful_columns codes (drop (metadata_length code) bytes) after)

@@ -80,5 +80,5 @@ searched q names (Err at) up bound position = sym (named q names ∙ none_of _ (
     let equal : compares q (slice_index_or names k x) ≡ Equal = ap (compares q) there.3 ∙ ap (λ n. name_cmp n q) (named_same q x there.4) ∙ cmp_itself q in
     elim (cases_lt k at) [
       | inl before ↦ differ equal (p.0 k x (omega arith) before)
-      | inr behind ↦ differ_above equal (p.1 k x behind there.2)
+      | inr after ↦ differ_above equal (p.1 k x after there.2)
     ]))

@@ -108,9 +108,9 @@ value_is_read (Prefixed size) (bytes_cell value) first rest is =
     let number : little_number size (first ++ rest) ≡ length value = ap (little_number size) cut ∙ little_number-reads_back size (length value) (value ++ rest) is.0 in
     let enough : size ≤ length (first ++ rest) = omega (arith, all) in
     let fits : length value ≤ length (first ++ rest) - size = omega (arith, all) in
-    let behind_prefix : drop size (first ++ rest) ≡ value ++ rest = ap (drop size) cut ∙ drop_at prefix (value ++ rest) size size_is in (
+    let after_prefix : drop size (first ++ rest) ≡ value ++ rest = ap (drop size) cut ∙ drop_at prefix (value ++ rest) size size_is in (
       rw (le-ltb _ _ enough, number, le-ltb _ _ fits) (ap (λ (k : ℕ). Ok k) (sym long)),
-      (λ i. bytes_cell (take (number i) (behind_prefix i))) ∙ ap bytes_cell (take_at value rest (length value) refl),
+      (λ i. bytes_cell (take (number i) (after_prefix i))) ∙ ap bytes_cell (take_at value rest (length value) refl),
     )
 
 -- and what is read is a value.
@@ -179,11 +179,11 @@ one_read : (bitmap : List ℕ) (i : ℕ) (t : ColumnKind) (types : List ColumnKi
 one_read bitmap i t types cell cells values first others more clear e is rest =
     let v = value_is_read (shape t) cell first (others ++ more) is in
     let cut : values ++ more ≡ first ++ (others ++ more) = ap (λ l. l ++ more) e ∙ append_assoc first others more in
-    let behind_first : drop (length first) (first ++ (others ++ more)) ≡ others ++ more = drop_front first (others ++ more) in
+    let after_first : drop (length first) (first ++ (others ++ more)) ≡ others ++ more = drop_front first (others ++ more) in
     let all : length first + length others ≡ length values = sym (ap length e ∙ length-append first others) in
     record {
-      end = ap (values_end bitmap i (t ∷ types)) cut ∙ rw (clear, v.0, behind_first, rest.end) (ap (λ (k : ℕ). Ok k) all);
-      cells_are = ap (cells_of bitmap i (t ∷ types)) cut ∙ rw (clear, v.0, v.1, behind_first, rest.cells_are) refl;
+      end = ap (values_end bitmap i (t ∷ types)) cut ∙ rw (clear, v.0, after_first, rest.end) (ap (λ (k : ℕ). Ok k) all);
+      cells_are = ap (cells_of bitmap i (t ∷ types)) cut ∙ rw (clear, v.0, v.1, after_first, rest.cells_are) refl;
     }
 
 values_are_read : (bitmap : List ℕ) (i : ℕ) (types : List ColumnKind) (cells : List CellValue) (values more : List ℕ) → Nulls bitmap i (length types) cells → AreValues types cells values →

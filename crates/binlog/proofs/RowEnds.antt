@@ -146,9 +146,9 @@ stopped_after : (bitmap : List ℕ) (i : ℕ) (t : ColumnKind) (types : List Col
 stopped_after bitmap i t types cell values first others rest part clear e is stopped =
     let v = value_is_read (shape t) cell first (others ++ rest) is in
     let cut : values ++ rest ≡ first ++ (others ++ rest) = ap (λ l. l ++ rest) e ∙ append_assoc first others rest in
-    let behind_first : drop (length first) (first ++ (others ++ rest)) ≡ others ++ rest = drop_front first (others ++ rest) in
+    let after_first : drop (length first) (first ++ (others ++ rest)) ≡ others ++ rest = drop_front first (others ++ rest) in
     let all : length first + (length others + part) ≡ length values + part = omega (arith, ap length e, length-append first others) in
-    ap (values_end bitmap i (t ∷ types)) cut ∙ rw (clear, v.0, behind_first, stopped) (ap (λ (k : ℕ). Err k) all)
+    ap (values_end bitmap i (t ∷ types)) cut ∙ rw (clear, v.0, after_first, stopped) (ap (λ (k : ℕ). Err k) all)
 
 values_stopped : (bitmap : List ℕ) (i : ℕ) (before : List ColumnKind) (kind : ColumnKind) (after : List ColumnKind) (cells : List CellValue) (values rest : List ℕ) (part : ℕ) → Nulls bitmap i (length before) cells →
     AreValues before cells values → is_set bitmap (i + length before) ≡ false → EndsInValue (shape kind) rest part → values_end bitmap i (before ++ kind ∷ after) (values ++ rest) ≡ Err (length values + part)
@@ -253,8 +253,8 @@ update_stopped : (types : List ColumnKind) (bytes : List ℕ) (place : ℕ) → 
 update_stopped types bytes place (inl ends) = ap (λ e. e >>= (λ n. row_end types (drop n bytes))) (row_stopped types bytes place ends)
 update_stopped types bytes place (inr r) =
     let read = ap (row_end types) r.bytes_are ∙ (row_is_read types r.before r.first r.rest r.is_row).0 in
-    let behind : drop (length r.first) bytes ≡ r.rest = ap (drop (length r.first)) r.bytes_are ∙ drop_front r.first r.rest in
-    ap (λ e. e >>= (λ n. row_end types (drop n bytes))) read ∙ ap (λ l. further (length r.first) (row_end types l)) behind ∙ ap (further (length r.first)) (row_stopped types r.rest r.part r.ends) ∙ ap (λ (k : ℕ). Err k) (sym r.place_is)
+    let beyond : drop (length r.first) bytes ≡ r.rest = ap (drop (length r.first)) r.bytes_are ∙ drop_front r.first r.rest in
+    ap (λ e. e >>= (λ n. row_end types (drop n bytes))) read ∙ ap (λ l. further (length r.first) (row_end types l)) beyond ∙ ap (further (length r.first)) (row_stopped types r.rest r.part r.ends) ∙ ap (λ (k : ℕ). Err k) (sym r.place_is)
 
 -- and where they do, it is not found.
 pub pair_stopped : (kind : RowsKind) (types : List ColumnKind) (bytes : List ℕ) (place : ℕ) → EndsInPair kind types bytes place → pair_end kind types bytes ≡ Err place

@@ -19,7 +19,7 @@ use Rattle.binlog.specs.declared.fault.EventFaultKind.TheVariants.{Columns, Part
 use Rattle.binlog.specs.declared.fault.EventFault.{EventFault}
 use Rattle.binlog.specs.declared.body.rows_event.RowsKind.{RowsKind}
 use Rattle.binlog.specs.declared.body.rows_event.RowsKind.TheVariants.{Write, Update, Delete}
-use Rattle.wire.proofs.Cuts.{IsBytes, number_at_front, drop_drop, cut, behind, drop_at, drop_front}
+use Rattle.wire.proofs.Cuts.{IsBytes, number_at_front, drop_drop, cut, after, drop_at, drop_front}
 use Rattle.binlog.proofs.Tables.{passes, not_refused, is_there}
 use Rattle.binlog.proofs.Counts.{counted, count_not_refused, Counted, is_counted}
 
@@ -217,8 +217,8 @@ pub record RowsTold (r : RowsValue) (bytes : List ℕ) : Type 0 where
   pub are : AreParts r.kind bytes
   pub is : stated r.kind bytes ≡ r
 
-pub rows_told : (r : RowsValue) (bytes : List ℕ) → IsRows r (drop 19 bytes) → RowsTold r bytes
-rows_told r bytes is =
+pub rows_reported : (r : RowsValue) (bytes : List ℕ) → IsRows r (drop 19 bytes) → RowsTold r bytes
+rows_reported r bytes is =
     let r5 = is.present ++ r.bytes in
     let r4 = is.count ++ r5 in
     let r3 = is.extra ++ r4 in
@@ -226,7 +226,7 @@ rows_told r bytes is =
     let r1 = is.flags ++ r2 in
     let body : drop 19 bytes ≡ little_bytes 6 r.id ++ r1 = is.body_is ∙ right_7 (little_bytes 6 r.id) is.flags (little_bytes 2 (2 + length is.extra)) is.extra is.count is.present r.bytes in
     let d25 : drop 25 bytes ≡ r1 = sym (drop_drop 19 6 bytes) ∙ ap (drop 6) body in
-    let d27 : drop 27 bytes ≡ r2 = sym (drop_drop 25 2 bytes) ∙ ap (drop 2) d25 ∙ behind 2 0 is.flags r2 is.sizes.0 in
+    let d27 : drop 27 bytes ≡ r2 = sym (drop_drop 25 2 bytes) ∙ ap (drop 2) d25 ∙ after 2 0 is.flags r2 is.sizes.0 in
     let d29 : drop 29 bytes ≡ r3 = sym (drop_drop 27 2 bytes) ∙ ap (drop 2) d27 in
     let e : number_at 2 bytes 27 ≡ 2 + length is.extra = ap (little_number 2) d27 ∙ little_number-reads_back 2 (2 + length is.extra) r3 is.sizes.1 in
     let id : number_at 6 bytes 19 ≡ r.id = ap (little_number 6) body ∙ little_number-reads_back 6 r.id r1 is.an_id in
@@ -323,4 +323,4 @@ parts_of kind bytes fits none =
     ]
 
 pub one_rows_event : (a b : RowsValue) (bytes : List ℕ) → a.kind ≡ b.kind → IsRows a (drop 19 bytes) → IsRows b (drop 19 bytes) → a ≡ b
-one_rows_event a b bytes same is_a is_b = sym (rows_told a bytes is_a).is ∙ ap (λ k. stated k bytes) same ∙ (rows_told b bytes is_b).is
+one_rows_event a b bytes same is_a is_b = sym (rows_reported a bytes is_a).is ∙ ap (λ k. stated k bytes) same ∙ (rows_reported b bytes is_b).is

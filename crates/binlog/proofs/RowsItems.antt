@@ -41,8 +41,8 @@ value_early (Prefixed size) bytes place is =
     ]
 
 early_by : (end : Result ℕ ℕ) (next : ℕ → Result ℕ ℕ) (long place : ℕ) → ((e : ℕ) → end ≡ Err e → e ≤ long) → ((size e : ℕ) → end ≡ Ok size → next size ≡ Err e → size + e ≤ long) → (end >>= next) ≡ Err place → place ≤ long
-early_by (Err e) next long place first behind is = let same : e ≡ place = cc in subst (λ k. k ≤ long) same (first e refl)
-early_by (Ok size) next long place first behind is = let s = split_err size place (next size) is in subst (λ k. k ≤ long) s.2 (behind size s.0 refl s.1)
+early_by (Err e) next long place first beyond is = let same : e ≡ place = cc in subst (λ k. k ≤ long) same (first e refl)
+early_by (Ok size) next long place first beyond is = let s = split_err size place (next size) is in subst (λ k. k ≤ long) s.2 (beyond size s.0 refl s.1)
 
 values_early : (bitmap : List ℕ) (i : ℕ) (types : List ColumnKind) (bytes : List ℕ) (place : ℕ) → IsBytes bytes → values_end bitmap i types bytes ≡ Err place → place ≤ length bytes
 values_early bitmap i [] bytes place fits is = absurd cc
@@ -141,10 +141,10 @@ pair_is_read Update types (updated before after) first rest is =
     let a = row_is_read types before is.0 (is.1 ++ rest) is.3 in
     let b = row_is_read types after is.1 rest is.4 in
     let end : row_end types (first ++ rest) ≡ Ok (length is.0) = ap (row_end types) cut ∙ a.0 in
-    let behind : drop (length is.0) (first ++ rest) ≡ is.1 ++ rest = ap (drop (length is.0)) cut ∙ drop_front is.0 (is.1 ++ rest) in
+    let beyond : drop (length is.0) (first ++ rest) ≡ is.1 ++ rest = ap (drop (length is.0)) cut ∙ drop_front is.0 (is.1 ++ rest) in
     let long : length is.0 + length is.1 ≡ length first = sym (ap length is.2 ∙ length-append is.0 is.1) in (
-      ap (λ e. e >>= (λ n. row_end types (drop n (first ++ rest)))) end ∙ ap (λ l. further (length is.0) (row_end types l)) behind ∙ ap (further (length is.0)) b.0 ∙ ap (λ (k : ℕ). Ok k) long,
-      (λ i. updated (row_cells types (cut i)) (row_cells types (drop (reached (end i)) (first ++ rest)))) ∙ (λ i. updated (a.1 i) (row_cells types (behind i))) ∙ ap (updated before) b.1,
+      ap (λ e. e >>= (λ n. row_end types (drop n (first ++ rest)))) end ∙ ap (λ l. further (length is.0) (row_end types l)) beyond ∙ ap (further (length is.0)) b.0 ∙ ap (λ (k : ℕ). Ok k) long,
+      (λ i. updated (row_cells types (cut i)) (row_cells types (drop (reached (end i)) (first ++ rest)))) ∙ (λ i. updated (a.1 i) (row_cells types (beyond i))) ∙ ap (updated before) b.1,
     )
 
 -- The rows of an update, as they are read.
@@ -204,10 +204,10 @@ pair_first (suc most) kind types [] at size some all left is = absurd (omega (ar
 pair_first (suc most) kind types (x ∷ bytes) at size some all left is =
     let not_none = pair_some kind types (x ∷ bytes) size some is in
     let rest = drop size (x ∷ bytes) in
-    let behind : length rest ≤ most = omega (arith, all, not_none, length-drop size (x ∷ bytes)) in
+    let beyond : length rest ≤ most = omega (arith, all, not_none, length-drop size (x ∷ bytes)) in
     let own : length rest ≤ length rest = omega arith in
     ap (λ e. item_front e (pair_of kind types (x ∷ bytes)) at (λ n. items_of most kind types (drop n (x ∷ bytes)) (at + n))) is
-    ∙ ap (λ l. Ok (pair_of kind types (x ∷ bytes)) ∷ l) (enough most (length rest) kind types rest (at + size) some behind own)
+    ∙ ap (λ l. Ok (pair_of kind types (x ∷ bytes)) ∷ l) (enough most (length rest) kind types rest (at + size) some beyond own)
 
 pub fault_first : (most : ℕ) (kind : RowsKind) (types : List ColumnKind) (bytes : List ℕ) (at place : ℕ) → length bytes ≤ most → 1 ≤ length bytes → pair_end kind types bytes ≡ Err place →
     items_of most kind types bytes at ≡ Err (record { kind = Truncated; at = at + place }) ∷ []
@@ -264,15 +264,15 @@ are_items (suc most) kind types (x ∷ bytes) at fits some all = by_end (pair_en
 -- ---- One list of rows.
 
 -- The items of rows, and what follows them.
-behind_rows : (pairs : List PairValue) (most : ℕ) (kind : RowsKind) (types : List ColumnKind) (bytes rest : List ℕ) (at : ℕ) → 1 ≤ length types → AreRows kind types pairs bytes → length (bytes ++ rest) ≤ most →
+after_rows : (pairs : List PairValue) (most : ℕ) (kind : RowsKind) (types : List ColumnKind) (bytes rest : List ℕ) (at : ℕ) → 1 ≤ length types → AreRows kind types pairs bytes → length (bytes ++ rest) ≤ most →
     items_of most kind types (bytes ++ rest) at ≡ map Ok pairs ++ items_of (length rest) kind types rest (at + length bytes)
-behind_rows [] most kind types bytes rest at some are all =
+after_rows [] most kind types bytes rest at some are all =
     let none = ap length are in
     let here : at ≡ at + length bytes = omega (arith, none) in
     let long : length rest ≤ most = omega (arith, all, none, length-append bytes rest) in
     let own : length rest ≤ length rest = omega arith in
     (λ i. items_of most kind types (are i ++ rest) (here i)) ∙ enough most (length rest) kind types rest (at + length bytes) some long own
-behind_rows (pair ∷ pairs) most kind types bytes rest at some are all =
+after_rows (pair ∷ pairs) most kind types bytes rest at some are all =
     let first = are.0 in
     let tail = are.1 ++ rest in
     let cut : bytes ++ rest ≡ first ++ tail = ap (λ l. l ++ rest) are.2 ∙ append_assoc first are.1 rest in
@@ -282,19 +282,19 @@ behind_rows (pair ∷ pairs) most kind types bytes rest at some are all =
     let fits : length (first ++ tail) ≤ most = omega (arith, all, ap length cut) in
     let left : 1 ≤ length (first ++ tail) = omega (arith, not_none, total) in
     let own : length tail ≤ length tail = omega arith in
-    let behind = drop_front first tail in
+    let beyond = drop_front first tail in
     let place : at + length first + length are.1 ≡ at + length bytes = omega (arith, ap length are.2, length-append first are.1) in
     ap (λ l. items_of most kind types l at) cut
     ∙ pair_first most kind types (first ++ tail) at (length first) some fits left read.0
-    ∙ (λ i. Ok (read.1 i) ∷ items_of (length (behind i)) kind types (behind i) (at + length first))
-    ∙ ap (λ l. Ok pair ∷ l) (behind_rows pairs (length tail) kind types are.1 rest (at + length first) some are.4 own
+    ∙ (λ i. Ok (read.1 i) ∷ items_of (length (beyond i)) kind types (beyond i) (at + length first))
+    ∙ ap (λ l. Ok pair ∷ l) (after_rows pairs (length tail) kind types are.1 rest (at + length first) some are.4 own
     ∙ ap (λ k. map Ok pairs ++ items_of (length rest) kind types rest k) place)
 
 rows_items : (kind : RowsKind) (types : List ColumnKind) (pairs : List PairValue) (bytes : List ℕ) (at : ℕ) → 1 ≤ length types → AreRows kind types pairs bytes → items_of (length bytes) kind types bytes at ≡ map Ok pairs
 rows_items kind types pairs bytes at some are =
     let whole = append-nil bytes in
     let all : length (bytes ++ []) ≤ length bytes = omega (arith, ap length whole) in
-    ap (λ l. items_of (length bytes) kind types l at) (sym whole) ∙ behind_rows pairs (length bytes) kind types bytes [] at some are all ∙ append-nil (map Ok pairs)
+    ap (λ l. items_of (length bytes) kind types l at) (sym whole) ∙ after_rows pairs (length bytes) kind types bytes [] at some are all ∙ append-nil (map Ok pairs)
 
 early_items : (kind : RowsKind) (types : List ColumnKind) (pairs : List PairValue) (bytes : List ℕ) (place at : ℕ) → 1 ≤ length types → EndsEarly kind types pairs bytes place →
     items_of (length bytes) kind types bytes at ≡ map Ok pairs ++ Err (record { kind = Truncated; at = at + place }) ∷ []
@@ -304,7 +304,7 @@ early_items kind types pairs bytes place at some e =
     let all : length (e.whole ++ e.rest) ≤ length bytes = omega (arith, ap length cut) in
     let own : length e.rest ≤ length e.rest = omega arith in
     let further_on : at + length e.whole + e.early ≡ at + place = omega (arith, place_is) in
-    ap (λ l. items_of (length bytes) kind types l at) cut ∙ behind_rows pairs (length bytes) kind types e.whole e.rest at some e.pairs_are all
+    ap (λ l. items_of (length bytes) kind types l at) cut ∙ after_rows pairs (length bytes) kind types e.whole e.rest at some e.pairs_are all
     ∙ ap (λ l. map Ok pairs ++ l) (fault_first (length e.rest) kind types e.rest (at + length e.whole) e.early own e.left_over (pair_stopped kind types e.rest e.early e.ends) ∙ ap (λ (k : ℕ). Err (record { kind = Truncated; at = k }) ∷ []) further_on)
 
 abbrev Items : Type 0

@@ -27,8 +27,8 @@ same_kind kind code rest bytes is = (λ i. kind_of (is.code_is i) (get_or (is.by
 pub metadata_long : (kind : ColumnKind) → metadata_length (type_code kind) ≡ length (metadata kind)
 metadata_long kind = ap (λ (size : Option ℕ). unwrap_or size 0) (lawful_size kind)
 
-pub behind_metadata : (kind : ColumnKind) (code : ℕ) (rest bytes : List ℕ) → IsColumn kind code rest bytes → drop (metadata_length code) bytes ≡ rest
-behind_metadata kind code rest bytes is = (λ i. drop (metadata_length (is.code_is i)) (is.bytes_are i)) ∙ ap (λ n. drop n (metadata kind ++ rest)) (metadata_long kind) ∙ drop_front (metadata kind) rest
+pub after_metadata : (kind : ColumnKind) (code : ℕ) (rest bytes : List ℕ) → IsColumn kind code rest bytes → drop (metadata_length code) bytes ≡ rest
+after_metadata kind code rest bytes is = (λ i. drop (metadata_length (is.code_is i)) (is.bytes_are i)) ∙ ap (λ n. drop n (metadata kind ++ rest)) (metadata_long kind) ∙ drop_front (metadata kind) rest
 
 pub before_metadata : (kind : ColumnKind) (code : ℕ) (rest bytes : List ℕ) → IsColumn kind code rest bytes → take (metadata_length code) bytes ≡ metadata kind
 before_metadata kind code rest bytes is = (λ i. take (metadata_length (is.code_is i)) (is.bytes_are i)) ∙ take_at (metadata kind) rest (metadata_length (type_code kind)) (sym (metadata_long kind))
@@ -36,7 +36,7 @@ before_metadata kind code rest bytes is = (λ i. take (metadata_length (is.code_
 -- the columns of type bytes that begin with a column's
 pub column_first : (kind : ColumnKind) (code : ℕ) (codes rest bytes : List ℕ) → IsColumn kind code rest bytes → columns_of (code ∷ codes) bytes ≡ kind ∷ columns_of codes rest
 column_first kind code codes rest bytes is =
-    (λ i. column_front (no_fault kind code rest bytes is i) (same_kind kind code rest bytes is i) (columns_of codes (behind_metadata kind code rest bytes is i)))
+    (λ i. column_front (no_fault kind code rest bytes is i) (same_kind kind code rest bytes is i) (columns_of codes (after_metadata kind code rest bytes is i)))
 
 pub fewer : (s t : List ColumnKind) (x : ColumnKind) → s ≡ x ∷ t → length t < length s
 fewer s t x e = omega (arith, ap length e)
@@ -141,7 +141,7 @@ column_passes bytes codes rest start i place kind checked short none is =
     let size : metadata_length code ≡ s.size = length_is code s.size s.has in
     let long : place + s.size ≤ length bytes = omega (arith, fits, sum, size) in
     let sound : metadata_fault code (get_or bytes place 0) (get_or bytes (place + 1) 0) ≡ None = sym (fault_there bytes code s.size place s.has long) ∙ no_fault kind code rest (drop place bytes) is in
-    let rest_is : drop (metadata_length code) (drop place bytes) ≡ rest = behind_metadata kind code rest (drop place bytes) is in
+    let rest_is : drop (metadata_length code) (drop place bytes) ≡ rest = after_metadata kind code rest (drop place bytes) is in
     let rest_long : length rest ≡ length bytes - place - metadata_length code = sym (ap length rest_is) ∙ length-drop (metadata_length code) (drop place bytes) ∙ ap (λ n. n - metadata_length code) (length-drop place bytes) in
     let there : place + metadata_length code ≡ length bytes - length rest = omega (arith, long, size, rest_long) in
     record {
@@ -263,6 +263,19 @@ pub record Counts (bytes : List ℕ) (at n w : ℕ) (codes : List ℕ) (size : �
   pub some : 1 ≤ n
   pub few : n ≤ 4096
 
+-- the type codes, as the code cuts them out
+abbrev pub codes_in : List ℕ → ℕ → ℕ → List ℕ
+codes_in bytes place n = take (place + n - place) (drop place bytes)
+
+pub counts_of : (bytes : List ℕ) (at n w size : ℕ) → (n ≡ count_at bytes at) × (w ≡ count_width bytes at) → no_count bytes at Columns ≡ None → (1 ≤ n) × (n ≤ 4096) →
+    size ≡ sum_by metadata_length (codes_in bytes (at + w) n) → Counts bytes at n w (codes_in bytes (at + w) n) size
+counts_of bytes at n w size value whole range sum = record {
+  opened = record { n_is = value.0; w_is = value.1; codes_are = codes_cut bytes (at + w) n; size_is = sum };
+  l1 = whole;
+  some = range.0;
+  few = range.1;
+}
+
 pub short_types : (bytes : List ℕ) (at n w : ℕ) (codes : List ℕ) (size : ℕ) → Counts bytes at n w codes size → length bytes < at + w + n →
     columns_fault bytes at ≡ Some (record { kind = Truncated; at = at + w })
 short_types bytes at n w codes size c short = table_of_opened bytes at n w codes size c.opened ∙ rw (c.l1, le-leb _ _ c.some, le-leb _ _ c.few, lt-ltb _ _ short) refl
@@ -282,6 +295,10 @@ pub record Measured (bytes : List ℕ) (at n w m v : ℕ) (codes : List ℕ) (si
   pub l5 : no_count bytes (at + w + n) Metadata ≡ None
   pub m_is : m ≡ count_at bytes (at + w + n)
   pub v_is : v ≡ count_width bytes (at + w + n)
+
+pub measured_of : (bytes : List ℕ) (at n w m v size : ℕ) → Counts bytes at n w (codes_in bytes (at + w) n) size → at + w + n ≤ length bytes → types_fault (at + w) (codes_in bytes (at + w) n) ≡ None →
+    no_count bytes (at + w + n) Metadata ≡ None → (m ≡ count_at bytes (at + w + n)) × (v ≡ count_width bytes (at + w + n)) → Measured bytes at n w m v (codes_in bytes (at + w) n) size
+measured_of bytes at n w m v size counts long types whole value = record { counts = counts; long = long; l4 = types; l5 = whole; m_is = value.0; v_is = value.1 }
 
 lines_6 : (bytes : List ℕ) (at n w m v : ℕ) (codes : List ℕ) (size : ℕ) → Measured bytes at n w m v codes size → columns_fault bytes at ≡ first_of (
     refuse (not (m == size)) Metadata (at + w + n)

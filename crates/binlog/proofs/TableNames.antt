@@ -8,7 +8,7 @@ use Rattle.binlog.specs.Fault.{needs, number_at}
 use Rattle.binlog.specs.Table.{IsNamed, table_place, terminator_place, schema_of, table_of, names_fault}
 use Rattle.binlog.specs.Columns.{HasNames}
 use Rattle.binlog.proofs.Tables.{passes, is_there}
-use Rattle.wire.proofs.Cuts.{IsBytes, number_at_front, drop_drop, cut, one, behind, drop_front}
+use Rattle.wire.proofs.Cuts.{IsBytes, number_at_front, drop_drop, cut, one, after, drop_front}
 use Rattle.binlog.proofs.Bodies.{first_left}
 
 right_5 : (a b c d e : List ℕ) → a ++ b ++ c ++ d ++ e ≡ a ++ (b ++ (c ++ (d ++ e)))
@@ -66,8 +66,8 @@ pub record NamesTold (id : ℕ) (schema table rest bytes : List ℕ) : Type 0 wh
   pub table_is : table_of bytes ≡ table
   pub rest_is : drop (terminator_place bytes + 1) bytes ≡ rest
 
-pub names_told : (id : ℕ) (schema table rest bytes : List ℕ) → IsNamed id schema table rest (drop 19 bytes) → NamesTold id schema table rest bytes
-names_told id schema table rest bytes is =
+pub names_reported : (id : ℕ) (schema table rest bytes : List ℕ) → IsNamed id schema table rest (drop 19 bytes) → NamesTold id schema table rest bytes
+names_reported id schema table rest bytes is =
     let r_end = is.second_terminator ∷ rest in
     let r_table = table ++ r_end in
     let r_length = length table ∷ r_table in
@@ -77,7 +77,7 @@ names_told id schema table rest bytes is =
     let r25 = is.flags ++ r27 in
     let body : drop 19 bytes ≡ little_bytes 6 id ++ r25 = is.body_is ∙ right_5 (little_bytes 6 id) is.flags (length schema ∷ schema) (is.first_terminator ∷ length table ∷ table) r_end in
     let d25 : drop 25 bytes ≡ r25 = sym (drop_drop 19 6 bytes) ∙ ap (drop 6) body in
-    let d27 : drop 27 bytes ≡ r27 = sym (drop_drop 25 2 bytes) ∙ ap (drop 2) d25 ∙ behind 2 0 is.flags r27 is.sizes.0 in
+    let d27 : drop 27 bytes ≡ r27 = sym (drop_drop 25 2 bytes) ∙ ap (drop 2) d25 ∙ after 2 0 is.flags r27 is.sizes.0 in
     let d28 : drop 28 bytes ≡ r28 = sym (drop_drop 27 1 bytes) ∙ ap (drop 1) d27 in
     let sc : get_or bytes 27 0 ≡ length schema = first_left 27 (length schema) bytes r28 d27 in
     let p = 28 + length schema in
@@ -101,8 +101,8 @@ names_told id schema table rest bytes is =
 pub one_name : (id id' : ℕ) (schema schema' table table' rest rest' bytes : List ℕ) → IsNamed id schema table rest (drop 19 bytes) → IsNamed id' schema' table' rest' (drop 19 bytes) →
     (id ≡ id') × (schema ≡ schema') × (table ≡ table') × (rest ≡ rest')
 one_name id id' schema schema' table table' rest rest' bytes is is' =
-    let t = names_told id schema table rest bytes is in
-    let t' = names_told id' schema' table' rest' bytes is' in
+    let t = names_reported id schema table rest bytes is in
+    let t' = names_reported id' schema' table' rest' bytes is' in
     (sym t.id_is ∙ t'.id_is, sym t.schema_is ∙ t'.schema_is, sym t.table_is ∙ t'.table_is, sym t.rest_is ∙ t'.rest_is)
 
 -- and have no fault.
@@ -120,7 +120,7 @@ names_stand bytes long =
     rw (le-ltb _ _ h25, le-ltb _ _ h27, le-ltb _ _ h28, le-ltb _ _ schema, le-ltb _ _ first, le-ltb _ _ size, le-ltb _ _ table, le-ltb _ _ long) refl
 
 pub names_not_refused : (id : ℕ) (schema table rest bytes : List ℕ) → IsNamed id schema table rest (drop 19 bytes) → names_fault bytes ≡ None
-names_not_refused id schema table rest bytes is = names_stand bytes (names_told id schema table rest bytes is).long
+names_not_refused id schema table rest bytes is = names_stand bytes (names_reported id schema table rest bytes is).long
 
 -- Bytes without a fault have names.
 pub has_names : (bytes : List ℕ) → IsBytes bytes → names_fault bytes ≡ None → HasNames (drop 19 bytes)

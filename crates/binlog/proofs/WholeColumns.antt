@@ -22,7 +22,7 @@ use Rattle.binlog.proofs.Tables.{passes, not_refused, is_there}
 use Rattle.wire.proofs.Cuts.{IsBytes, drop_drop, drop_front, drop_at, cut}
 use Rattle.binlog.proofs.Columns.{lawful_size, no_fault, some_column}
 use Rattle.binlog.proofs.Counts.{counted, count_not_refused, some_bytes, is_counted}
-use Rattle.binlog.proofs.TableColumns.{metadata_long, behind_metadata, before_metadata, column_first, only_line, type_passes_at, first_sized, others_read, length_is, fault_there, column_passes_at, Opened, Counts, Measured, no_line}
+use Rattle.binlog.proofs.TableColumns.{metadata_long, after_metadata, before_metadata, column_first, only_line, type_passes_at, first_sized, others_read, length_is, fault_there, column_passes_at, Opened, Counts, Measured, no_line}
 
 abbrev AllLawful : List ColumnKind → Type 0
 AllLawful columns = AllByRecursion (λ kind. IsTrue (is_lawful kind)) columns
@@ -42,7 +42,7 @@ columned_cons kind code columns codes rest bytes is others = record {
   codes_are = λ i. sym is.code_is i ∷ others.codes_are i;
   lawful = (is.lawful, others.lawful);
   metadata_are = ap (λ n. take n bytes) (sum_by-cons metadata_length code codes) ∙ take-add (metadata_length code) (sum_by metadata_length codes) bytes
-      ∙ (λ i. before_metadata kind code rest bytes is i ++ take (sum_by metadata_length codes) (behind_metadata kind code rest bytes is i)) ∙ ap (λ t. metadata kind ++ t) others.metadata_are;
+      ∙ (λ i. before_metadata kind code rest bytes is i ++ take (sum_by metadata_length codes) (after_metadata kind code rest bytes is i)) ∙ ap (λ t. metadata kind ++ t) others.metadata_are;
 }
 
 no_place : (fault : Option EventFaultKind) (place : ℕ) → at_place fault place ≡ None → fault ≡ None
@@ -63,7 +63,7 @@ columned (code ∷ codes) place types bytes fits read none long =
     let from : IsBytes (drop place bytes) = λ i. rw get_or-drop (fits (place + i)) in
     let h = some_column code (drop place bytes) from whole in
     let next = place + metadata_length code in
-    let rest_is : h.rest ≡ drop next bytes = sym (behind_metadata h.kind code h.rest (drop place bytes) h.is_column) ∙ drop_drop place (metadata_length code) bytes in
+    let rest_is : h.rest ≡ drop next bytes = sym (after_metadata h.kind code h.rest (drop place bytes) h.is_column) ∙ drop_drop place (metadata_length code) bytes in
     let others_sound : all_metadata_fault bytes next codes ≡ None = sym (only_line (all_metadata_fault bytes next codes)) ∙ lines.1 in
     let others = columned codes next (suc types) bytes fits (others_read code types codes read) others_sound (omega (arith, long, sum)) in
     let at_rest : Columned (columns_of codes h.rest) codes h.rest = subst (λ r. Columned (columns_of codes r) codes r) {x = drop next bytes} (sym rest_is) others in
@@ -167,14 +167,14 @@ all_sound (kind ∷ kinds) bytes place more lawful within stands =
     let sound = sym (fault_there bytes code (length (metadata kind)) place (lawful_size kind) long) ∙ no_fault kind code rest (drop place bytes) is in
     let size = metadata_long kind in
     column_passes_at bytes code place (map type_code kinds) sound
-    ∙ all_sound kinds bytes (place + metadata_length code) more lawful.1 (omega (arith, long, size)) (sym (drop_drop place (metadata_length code) bytes) ∙ behind_metadata kind code rest (drop place bytes) is)
+    ∙ all_sound kinds bytes (place + metadata_length code) more lawful.1 (omega (arith, long, size)) (sym (drop_drop place (metadata_length code) bytes) ∙ after_metadata kind code rest (drop place bytes) is)
 
 pub record ColumnsTold (kinds : List ColumnKind) (bytes : List ℕ) (at : ℕ) : Type 0 where
   pub fault : columns_fault bytes at ≡ None
   pub columns : columns_at bytes at ≡ kinds
 
-pub columns_told : (kinds : List ColumnKind) (bytes : List ℕ) (at : ℕ) → AreColumns kinds (drop at bytes) → ColumnsTold kinds bytes at
-columns_told kinds bytes at is =
+pub columns_reported : (kinds : List ColumnKind) (bytes : List ℕ) (at : ℕ) → AreColumns kinds (drop at bytes) → ColumnsTold kinds bytes at
+columns_reported kinds bytes at is =
     let n = length kinds in
     let codes = map type_code kinds in
     let flat = flat_map metadata kinds in
@@ -221,10 +221,10 @@ columns_told kinds bytes at is =
     }
 
 pub one_columns : (a b : List ColumnKind) (bytes : List ℕ) → AreColumns a bytes → AreColumns b bytes → a ≡ b
-one_columns a b bytes is_a is_b = sym (columns_told a bytes 0 is_a).columns ∙ (columns_told b bytes 0 is_b).columns
+one_columns a b bytes is_a is_b = sym (columns_reported a bytes 0 is_a).columns ∙ (columns_reported b bytes 0 is_b).columns
 
 pub columns_not_refused : (columns : List ColumnKind) (bytes : List ℕ) (at : ℕ) → AreColumns columns (drop at bytes) → columns_fault bytes at ≡ None
-columns_not_refused columns bytes at is = (columns_told columns bytes at is).fault
+columns_not_refused columns bytes at is = (columns_reported columns bytes at is).fault
 
 pub not_both : (kinds : List ColumnKind) (bytes : List ℕ) (at : ℕ) (fault : EventFault) → AreColumns kinds (drop at bytes) → columns_fault bytes at ≡ Some fault → ⊥
 not_both kinds bytes at fault is is_fault = let none = columns_not_refused kinds bytes at is in absurd cc

@@ -36,7 +36,7 @@ is_framed code body small =
 -- the length of framed bytes
 framed_length : (code : ℕ) (may_ignore : Bool) (body bytes : List ℕ) → IsFramed code may_ignore body bytes → length bytes ≡ 19 + length body
 framed_length code may_ignore body bytes is =
-    let t = headers.told code may_ignore body bytes is in
+    let t = headers.reported code may_ignore body bytes is in
     let long = t.long in
     omega (arith, long, ap length t.body_is, length-drop 19 bytes)
 

@@ -3,8 +3,6 @@
 mod deliveries;
 mod fixtures;
 mod follows;
-mod lists;
-mod openings;
 mod resumes;
 mod sessions;
 mod sources;

@@ -94,23 +94,23 @@ image_is_read (number_cell n width) rest has =
 image_is_read (bytes_cell value) rest has =
     let prefix = little_bytes 4 (length value) in
     let size : length prefix ≡ 4 = length-bytes_low_first 0 4 (length value) in
-    let behind = prefix ++ value ++ rest in
-    let cut : behind ≡ prefix ++ (value ++ rest) = append_assoc prefix value rest in
-    let total : length behind ≡ 4 + length value + length rest = ap length cut ∙ (omega (arith, size, length-append prefix (value ++ rest), length-append value rest)) in
-    let number : little_number 4 behind ≡ length value = ap (little_number 4) cut ∙ little_number-reads_back 4 (length value) (value ++ rest) has in
-    let dropped : drop 4 behind ≡ value ++ rest = ap (drop 4) cut ∙ drop_at prefix (value ++ rest) 4 size in
-    let long : 4 ≤ length behind = omega (arith, total) in
-    let enough : length value ≤ length behind - 4 = omega (arith, total) in
+    let after = prefix ++ value ++ rest in
+    let cut : after ≡ prefix ++ (value ++ rest) = append_assoc prefix value rest in
+    let total : length after ≡ 4 + length value + length rest = ap length cut ∙ (omega (arith, size, length-append prefix (value ++ rest), length-append value rest)) in
+    let number : little_number 4 after ≡ length value = ap (little_number 4) cut ∙ little_number-reads_back 4 (length value) (value ++ rest) has in
+    let dropped : drop 4 after ≡ value ++ rest = ap (drop 4) cut ∙ drop_at prefix (value ++ rest) 4 size in
+    let long : 4 ≤ length after = omega (arith, total) in
+    let enough : length value ≤ length after - 4 = omega (arith, total) in
     let all : 5 + length value ≡ length (2 ∷ prefix ++ value) = omega (arith, size, length-append prefix value) in
     rw (le-leb _ _ long, number, le-leb _ _ enough, dropped, take_at value rest (length value) refl) (ap (λ (k : ℕ). Some (bytes_cell value, k)) all)
 
 -- ---- Cells one after another.
 
 -- any two amounts of fuel that are enough give the same
-enough_behind : (m n : ℕ) (bytes : List ℕ) (found : Option (CellValue × ℕ)) → cell_front bytes ≡ found → ((size : ℕ) → 1 ≤ size → cells_of m (drop size bytes) ≡ cells_of n (drop size bytes)) →
+enough_after : (m n : ℕ) (bytes : List ℕ) (found : Option (CellValue × ℕ)) → cell_front bytes ≡ found → ((size : ℕ) → 1 ≤ size → cells_of m (drop size bytes) ≡ cells_of n (drop size bytes)) →
     goes_on found (λ size. cells_of m (drop size bytes)) ≡ goes_on found (λ size. cells_of n (drop size bytes))
-enough_behind m n bytes None is others = refl
-enough_behind m n bytes (Some front) is others = ap (λ l. front.0 ∷ l) (others front.1 (front_is bytes front is).some)
+enough_after m n bytes None is others = refl
+enough_after m n bytes (Some front) is others = ap (λ l. front.0 ∷ l) (others front.1 (front_is bytes front is).some)
 
 pub enough : (m n : ℕ) (bytes : List ℕ) → length bytes ≤ m → length bytes ≤ n → cells_of m bytes ≡ cells_of n bytes
 enough zero zero bytes a b = refl
@@ -118,7 +118,7 @@ enough zero (suc n) [] a b = refl
 enough zero (suc n) (x ∷ bytes) a b = absurd (omega (arith, a))
 enough (suc m) zero [] a b = refl
 enough (suc m) zero (x ∷ bytes) a b = absurd (omega (arith, b))
-enough (suc m) (suc n) bytes a b = enough_behind m n bytes (cell_front bytes) refl
+enough (suc m) (suc n) bytes a b = enough_after m n bytes (cell_front bytes) refl
     (λ size some. let shorter = length-drop size bytes in enough m n (drop size bytes) (omega (arith, a, some, shorter)) (omega (arith, b, some, shorter)))
 
 by_length : (count : ℕ) (bytes : List ℕ) (front : CellValue × ℕ) → length bytes ≡ suc count → cell_front bytes ≡ Some front → cells_of (suc count) bytes ≡ front.0 ∷ cells_in (drop front.1 bytes)

@@ -64,19 +64,19 @@ first_more ((rows r) ∷ events) e other first = first_more events e other first
 first_more ((xid number) ∷ events) e other first = first_more events e other first
 
 -- and so does any event after one
-pub first_behind : (events : List EventValue) (e : EventValue) → has_format events ≡ true → is_format_first events ≡ true → is_format_first (events ++ e ∷ []) ≡ true
-first_behind [] e has first = absurd cc
-first_behind (format ∷ events) e has first = refl
-first_behind (begin ∷ events) e has first = first_behind events e has first
-first_behind (commit ∷ events) e has first = first_behind events e has first
-first_behind (neutral ∷ events) e has first = first_behind events e has first
-first_behind (stop ∷ events) e has first = first_behind events e has first
-first_behind ((rotate position name) ∷ events) e has first = first_behind events e has first
-first_behind ((gtid source number) ∷ events) e has first = first
-first_behind ((table_map t) ∷ events) e has first = first_behind events e has first
-first_behind ((other_map id) ∷ events) e has first = first_behind events e has first
-first_behind ((rows r) ∷ events) e has first = first_behind events e has first
-first_behind ((xid number) ∷ events) e has first = first_behind events e has first
+pub first_after : (events : List EventValue) (e : EventValue) → has_format events ≡ true → is_format_first events ≡ true → is_format_first (events ++ e ∷ []) ≡ true
+first_after [] e has first = absurd cc
+first_after (format ∷ events) e has first = refl
+first_after (begin ∷ events) e has first = first_after events e has first
+first_after (commit ∷ events) e has first = first_after events e has first
+first_after (neutral ∷ events) e has first = first_after events e has first
+first_after (stop ∷ events) e has first = first_after events e has first
+first_after ((rotate position name) ∷ events) e has first = first_after events e has first
+first_after ((gtid source number) ∷ events) e has first = first
+first_after ((table_map t) ∷ events) e has first = first_after events e has first
+first_after ((other_map id) ∷ events) e has first = first_after events e has first
+first_after ((rows r) ∷ events) e has first = first_after events e has first
+first_after ((xid number) ∷ events) e has first = first_after events e has first
 
 -- ---- Blocks.
 
@@ -189,10 +189,10 @@ block_last x block own is =
     ⊎_elim
     (λ plain. ⊎_elim
     (λ mark. rw mark.block_is (mark_begins x mark.event mark.marks))
-    (λ begun. ⊎_elim
+    (λ current. ⊎_elim
     (λ announced. rw announced.block_is refl)
     (λ opened. rw opened.block_is (all_added (gtid opened.source opened.number ∷ begin ∷ []) [] opened.body opened.changes opened.are_changes))
-    begun)
+    current)
     plain.0)
     (λ whole. whole_added x block whole.0 whole.1)
     is

@@ -9,7 +9,7 @@ use Rattle.binlog.specs.Cell.{CellValue, null_cell, number_cell, bytes_cell, cel
 use Rattle.binlog.specs.declared.cell.Cell.{Cell}
 use Rattle.binlog.specs.declared.cell.Cell.TheVariants.{Number}
 use Rattle.gather.specs.Image.{cell_image, image, HasCellImage, HasImage}
-use Rattle.gather.specs.ImageCells.{cell_values, cell_front, are_images, holds_behind}
+use Rattle.gather.specs.ImageCells.{cell_values, cell_front, are_images, holds_after}
 use Rattle.gather.proofs.WholeImages.{image_length}
 
 abbrev pub AllHave : List CellValue → Type 0
@@ -67,14 +67,14 @@ next_values (suc i) (x ∷ cells) d short =
     let e : suc (i + 1) ≡ suc i + 1 = omega arith in
     next_values i cells d (omega (arith, short)) ∙ ap (λ k. cell_value (slice_index_or cells i d) ∷ drop k (cell_values (x ∷ cells))) e
 
-pub all_behind : (i : ℕ) (cells : List CellValue) → AllHave cells → AllHave (drop i cells)
-all_behind zero cells has = has
-all_behind (suc i) [] has = tt
-all_behind (suc i) (cell ∷ cells) has = all_behind i cells has.1
+pub all_after : (i : ℕ) (cells : List CellValue) → AllHave cells → AllHave (drop i cells)
+all_after zero cells has = has
+all_after (suc i) [] has = tt
+all_after (suc i) (cell ∷ cells) has = all_after i cells has.1
 
 -- ---- Images that are read one after another.
 
 pub one_left : (left : List ℕ) (count counter size : ℕ) (cell : CellValue) → counter < count → cell_front left ≡ Some (cell, size) → are_images (count - counter) left ≡ are_images (count - (counter + 1)) (drop size left)
 one_left left count counter size cell more is =
     let e : count - counter ≡ suc (count - (counter + 1)) = omega (arith, more) in
-    ap (λ k. are_images k left) e ∙ ap (λ found. holds_behind found (λ n. are_images (count - (counter + 1)) (drop n left))) is
+    ap (λ k. are_images k left) e ∙ ap (λ found. holds_after found (λ n. are_images (count - (counter + 1)) (drop n left))) is

@@ -16,8 +16,8 @@ use Rattle.binlog.specs.Event.{EventValue, format, begin, commit, neutral, stop,
 use Rattle.binlog.specs.declared.body.table_map.TableDef.{TableDef}
 use Rattle.gather.specs.Transaction.{ChangeValue, said_of, map_of, change_of, is_end, AreChangesOf, AreChanges}
 use Rattle.gather.specs.View.{change_values}
-use Rattle.gather.specs.Begun.{table_of, said, Adds, Keeps}
-use Rattle.gather.specs.declared.open_transaction.Begun.{Begun}
+use Rattle.gather.specs.OpenTransaction.{table_of, said, Adds, Keeps}
+use Rattle.gather.specs.declared.open_transaction.OpenTransaction.{OpenTransaction}
 
 pub or_none : (x : Option (Option TableValue)) → option_or x None ≡ x
 or_none None = refl
@@ -56,8 +56,8 @@ maps_more m n id kept e body updates says before q =
     ⊎_elim
     (λ same.
     let here : get nat_cmp n q ≡ Some kept = subst (λ k. get nat_cmp n k ≡ Some kept) same updates.1 in
-    let told : said_of q e ≡ Some (said q kept) = subst (λ k. said_of k e ≡ Some (said k kept)) same says.here in
-    ap (option_map (said q)) here ∙ sym (map_of_more body e q ∙ ap (λ s. option_or s (map_of body q)) told))
+    let reported : said_of q e ≡ Some (said q kept) = subst (λ k. said_of k e ≡ Some (said k kept)) same says.here in
+    ap (option_map (said q)) here ∙ sym (map_of_more body e q ∙ ap (λ s. option_or s (map_of body q)) reported))
     (λ ne.
     let there : get nat_cmp n q ≡ get nat_cmp m q = updates.2 q (other_key id q ne) in
     ap (option_map (said q)) there ∙ before q ∙ sym (map_of_more body e q ∙ ap (λ s. option_or s (map_of body q)) (says.elsewhere q ne)))
@@ -69,11 +69,11 @@ maps_more m n id kept e body updates says before q =
 pub changes_more : (before body : List EventValue) (e : EventValue) (changes own : List ChangeValue) →
     AreChanges before body changes → AreChangesOf (before ++ body) e own → AreChanges before (body ++ e ∷ []) (changes ++ own)
 changes_more before [] e changes own none of =
-    let behind : AreChangesOf before e own = subst (λ b. AreChangesOf b e own) (append-nil before) of in
-    (own, [], behind, ap (λ c. c ++ own) none ∙ sym (append-nil own), refl)
+    let after : AreChangesOf before e own = subst (λ b. AreChangesOf b e own) (append-nil before) of in
+    (own, [], after, ap (λ c. c ++ own) none ∙ sym (append-nil own), refl)
 changes_more before (x ∷ body) e changes own (first, others, is, all, rest) of =
-    let behind : AreChangesOf ((before ++ x ∷ []) ++ body) e own = subst (λ b. AreChangesOf b e own) (sym (append_assoc before (x ∷ []) body)) of in
-    (first, others ++ own, is, ap (λ c. c ++ own) all ∙ append_assoc first others own, changes_more (before ++ x ∷ []) body e others own rest behind)
+    let after : AreChangesOf ((before ++ x ∷ []) ++ body) e own = subst (λ b. AreChangesOf b e own) (sym (append_assoc before (x ∷ []) body)) of in
+    (first, others ++ own, is, ap (λ c. c ++ own) all ∙ append_assoc first others own, changes_more (before ++ x ∷ []) body e others own rest after)
 
 pub no_changes : (before body : List EventValue) (e : EventValue) (changes : List ChangeValue) →
     AreChanges before body changes → AreChangesOf (before ++ body) e [] → AreChanges before (body ++ e ∷ []) changes
@@ -104,28 +104,28 @@ pub copied : (t : TableValue) (kept : Rc TableDef Global) (d : TableDef) → kep
 copied t kept d is parts = rw (is, parts.0, parts.1, parts.2) refl
 
 -- what is kept of a rows event's number is what the last table map with it says
-pub told : (body : List EventValue) (begun : Begun) (id : ℕ) (kept : Option (Rc TableDef Global)) → Keeps body begun → get nat_cmp begun.maps id ≡ Some kept → map_of body id ≡ Some (said id kept)
-told body begun id kept keeps is = sym (keeps.maps id) ∙ ap (option_map (said id)) is
+pub reported : (body : List EventValue) (current : OpenTransaction) (id : ℕ) (kept : Option (Rc TableDef Global)) → Keeps body current → get nat_cmp current.maps id ≡ Some kept → map_of body id ≡ Some (said id kept)
+reported body current id kept keeps is = sym (keeps.maps id) ∙ ap (option_map (said id)) is
 
 rows_say_nothing : (maps : BTreeMap ℕ (Option (Rc TableDef Global))) (body : List EventValue) (r : RowsValue) → ((q : ℕ) → option_map (said q) (get nat_cmp maps q) ≡ map_of body q) →
     (q : ℕ) → option_map (said q) (get nat_cmp maps q) ≡ map_of (body ++ rows r ∷ []) q
 rows_say_nothing maps body r before q = before q ∙ sym (map_of_more body (rows r) q)
 
-pub keeps_other : (body : List EventValue) (begun : Begun) (r : RowsValue) → Keeps body begun → get nat_cmp begun.maps r.id ≡ Some None → Keeps (body ++ rows r ∷ []) begun
-keeps_other body begun r keeps is = record {
-  maps = rows_say_nothing begun.maps body r keeps.maps;
-  changes = no_changes [] body (rows r) (change_values begun.changes.items) keeps.changes (None, told body begun r.id None keeps is, refl);
+pub keeps_other : (body : List EventValue) (current : OpenTransaction) (r : RowsValue) → Keeps body current → get nat_cmp current.maps r.id ≡ Some None → Keeps (body ++ rows r ∷ []) current
+keeps_other body current r keeps is = record {
+  maps = rows_say_nothing current.maps body r keeps.maps;
+  changes = no_changes [] body (rows r) (change_values current.changes.items) keeps.changes (None, reported body current r.id None keeps is, refl);
 }
 
-pub adds_rows : (body : List EventValue) (begun : Begun) (r : RowsValue) (kept : Rc TableDef Global) (new : List ChangeValue) → Keeps body begun → get nat_cmp begun.maps r.id ≡ Some (Some kept) →
-    Adds (table_of r.id kept) r (change_values begun.changes.items) new → AreChanges [] (body ++ rows r ∷ []) new
-adds_rows body begun r kept new keeps is adds =
+pub adds_rows : (body : List EventValue) (current : OpenTransaction) (r : RowsValue) (kept : Rc TableDef Global) (new : List ChangeValue) → Keeps body current → get nat_cmp current.maps r.id ≡ Some (Some kept) →
+    Adds (table_of r.id kept) r (change_values current.changes.items) new → AreChanges [] (body ++ rows r ∷ []) new
+adds_rows body current r kept new keeps is adds =
     let own = map (change_of (table_of r.id kept)) adds.pairs in
-    let of : AreChangesOf body (rows r) own = (Some (table_of r.id kept), told body begun r.id (Some kept) keeps is, (adds.pairs, adds.read, refl)) in
-    subst (AreChanges [] (body ++ rows r ∷ [])) (sym adds.after_is) (changes_more [] body (rows r) (change_values begun.changes.items) own keeps.changes of)
+    let of : AreChangesOf body (rows r) own = (Some (table_of r.id kept), reported body current r.id (Some kept) keeps is, (adds.pairs, adds.read, refl)) in
+    subst (AreChanges [] (body ++ rows r ∷ [])) (sym adds.after_is) (changes_more [] body (rows r) (change_values current.changes.items) own keeps.changes of)
 
-pub maps_stay : (body : List EventValue) (begun : Begun) (r : RowsValue) → Keeps body begun → (q : ℕ) → option_map (said q) (get nat_cmp begun.maps q) ≡ map_of (body ++ rows r ∷ []) q
-maps_stay body begun r keeps = rows_say_nothing begun.maps body r keeps.maps
+pub maps_stay : (body : List EventValue) (current : OpenTransaction) (r : RowsValue) → Keeps body current → (q : ℕ) → option_map (said q) (get nat_cmp current.maps q) ≡ map_of (body ++ rows r ∷ []) q
+maps_stay body current r keeps = rows_say_nothing current.maps body r keeps.maps
 
 pub on_ok : {T E P Q : Type 0} (r : Result T E) → (P → Q) → OnOk r P → OnOk r Q
 on_ok (Ok x) f p = f p

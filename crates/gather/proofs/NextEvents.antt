@@ -15,7 +15,7 @@ use Rattle.gather.specs.Fault.{is_format, is_gtid, has_format, add_event, last_b
 use Rattle.gather.specs.declared.fault.GatherFault.{GatherFault}
 use Rattle.gather.specs.declared.fault.GatherFault.TheVariants.{NoFormat, Misplaced, UnknownTable, Event}
 use Rattle.gather.proofs.Maps.{changes_more}
-use Rattle.gather.proofs.Growing.{counted, joined, counts_no_more, format_more, first_more, first_behind, split, last_is, skips}
+use Rattle.gather.proofs.Growing.{counted, joined, counts_no_more, format_more, first_more, first_after, split, last_is, skips}
 use Rattle.gather.proofs.States.{open_block, map_of_body}
 use Rattle.gather.proofs.Stepping.{whole_closed, new_block, longer, Continues, continues}
 use Rattle.gather.proofs.Shortening.{Back, passes, marks, announces, starts, goes_on, ends, back}
@@ -23,9 +23,9 @@ use Rattle.gather.proofs.OneList.{many_columns}
 
 -- ---- Rows events that were read.
 
-all_behind : (front rest : List ℕ) → AllByRecursion (λ b. b < 256) (front ++ rest) → AllByRecursion (λ b. b < 256) rest
-all_behind [] rest all = all
-all_behind (b ∷ front) rest all = all_behind front rest all.1
+all_after : (front rest : List ℕ) → AllByRecursion (λ b. b < 256) (front ++ rest) → AllByRecursion (λ b. b < 256) rest
+all_after [] rest all = all
+all_after (b ∷ front) rest all = all_after front rest all.1
 
 -- the rows are bytes
 fitting : (r : RowsValue) → IsRead (rows r) → AllByRecursion (λ b. b < 256) r.bytes
@@ -33,9 +33,9 @@ fitting r is =
     let f = is.is_event.framed in
     let h = is.is_event.has_body.1 in
     let whole = subst (AllByRecursion (λ b. b < 256)) f.bytes_are is.fits in
-    let behind_flags = all_behind _ (f.low_flags ∷ f.high_flags ∷ is.is_event.body) whole in
-    let body = subst (AllByRecursion (λ b. b < 256)) h.body_is behind_flags.1.1 in
-    all_behind (little_bytes 6 r.id ++ h.flags ++ little_bytes 2 (2 + length h.extra) ++ h.extra ++ h.count ++ h.present) r.bytes body
+    let after_flags = all_after _ (f.low_flags ∷ f.high_flags ∷ is.is_event.body) whole in
+    let body = subst (AllByRecursion (λ b. b < 256)) h.body_is after_flags.1.1 in
+    all_after (little_bytes 6 r.id ++ h.flags ++ little_bytes 2 (2 + length h.extra) ++ h.extra ++ h.count ++ h.present) r.bytes body
 
 -- ---- Blocks that are announced or open.
 
@@ -47,7 +47,7 @@ opened : (block : List EventValue) (own : List DeliveryValue) → IsBlock block 
 opened block own (inl plain) there =
     ⊎_elim
     (λ mark. absurd (true≢false (sym there ∙ ap is_open mark.block_is ∙ one_closed mark.event)))
-    (λ begun. ⊎_elim (λ a. absurd (true≢false (sym there ∙ ap is_open a.block_is))) (λ o. o) begun)
+    (λ current. ⊎_elim (λ a. absurd (true≢false (sym there ∙ ap is_open a.block_is))) (λ o. o) current)
     plain.0
 opened block own (inr whole) there = absurd (true≢false (sym there ∙ (whole_closed block whole.0 whole.1).1))
 
@@ -81,11 +81,11 @@ first_of_transaction events source number has lawful =
     let e = gtid source number in
     record {
       deliveries = _;
-      are = new_block events lawful.deliveries e lawful.are refl (first_behind events e has lawful.are.format_first) (inl (inr (inl (record { source = source; number = number; block_is = refl })), refl));
+      are = new_block events lawful.deliveries e lawful.are refl (first_after events e has lawful.are.format_first) (inl (inr (inl (record { source = source; number = number; block_is = refl })), refl));
     }
 
-begun : (events : List EventValue) → is_announced (last_block events) ≡ true → IsLawful events → IsLawful (events ++ begin ∷ [])
-begun events there lawful =
+current : (events : List EventValue) → is_announced (last_block events) ≡ true → IsLawful events → IsLawful (events ++ begin ∷ [])
+current events there lawful =
     let a = announced (last_block events) there in
     let o : IsOpen (last_block events ++ begin ∷ []) = record { source = a.source; number = a.number; body = []; changes = []; block_is = ap (λ b. b ++ begin ∷ []) a.block_is; are_changes = refl } in
     record { deliveries = _; are = longer events lawful.deliveries begin [] lawful.are refl (first_more events begin refl lawful.are.format_first) (inl a) (inl (inr (inr o), refl)) }
@@ -142,7 +142,7 @@ in_its_place events format read lawful has there = inl (stands events format ref
 in_its_place events stop read lawful has there = inl (stands events stop refl refl refl lawful)
 in_its_place events (rotate position name) read lawful has there = inl (stands events (rotate position name) refl refl refl lawful)
 in_its_place events (gtid source number) read lawful has there = inl (first_of_transaction events source number has lawful)
-in_its_place events begin read lawful has there = inl (begun events there lawful)
+in_its_place events begin read lawful has there = inl (current events there lawful)
 in_its_place events commit read lawful has there = inl (closed events commit (continues commit refl refl) refl (open_at events lawful there) lawful)
 in_its_place events (xid number) read lawful has there = inl (closed events (xid number) (continues (xid number) refl refl) refl (open_at events lawful there) lawful)
 in_its_place events (table_map t) read lawful has there = inl (gone_on events (table_map t) [] (continues (table_map t) refl refl) (open_at events lawful there) refl lawful)
@@ -175,19 +175,19 @@ some events (rows r) read lawful = of_transaction events (rows r) read lawful re
 -- ---- A lawful event comes after a format description, and is in its place.
 
 -- format descriptions come before GTIDs
-gtid_behind : (events : List EventValue) → list_any is_gtid events ≡ true → is_format_first events ≡ true → has_format events ≡ true
-gtid_behind [] has first = absurd cc
-gtid_behind (format ∷ events) has first = refl
-gtid_behind (begin ∷ events) has first = gtid_behind events has first
-gtid_behind (commit ∷ events) has first = gtid_behind events has first
-gtid_behind (neutral ∷ events) has first = gtid_behind events has first
-gtid_behind (stop ∷ events) has first = gtid_behind events has first
-gtid_behind ((rotate position name) ∷ events) has first = gtid_behind events has first
-gtid_behind ((gtid source number) ∷ events) has first = absurd cc
-gtid_behind ((table_map t) ∷ events) has first = gtid_behind events has first
-gtid_behind ((other_map id) ∷ events) has first = gtid_behind events has first
-gtid_behind ((rows r) ∷ events) has first = gtid_behind events has first
-gtid_behind ((xid number) ∷ events) has first = gtid_behind events has first
+gtid_after : (events : List EventValue) → list_any is_gtid events ≡ true → is_format_first events ≡ true → has_format events ≡ true
+gtid_after [] has first = absurd cc
+gtid_after (format ∷ events) has first = refl
+gtid_after (begin ∷ events) has first = gtid_after events has first
+gtid_after (commit ∷ events) has first = gtid_after events has first
+gtid_after (neutral ∷ events) has first = gtid_after events has first
+gtid_after (stop ∷ events) has first = gtid_after events has first
+gtid_after ((rotate position name) ∷ events) has first = gtid_after events has first
+gtid_after ((gtid source number) ∷ events) has first = absurd cc
+gtid_after ((table_map t) ∷ events) has first = gtid_after events has first
+gtid_after ((other_map id) ∷ events) has first = gtid_after events has first
+gtid_after ((rows r) ∷ events) has first = gtid_after events has first
+gtid_after ((xid number) ∷ events) has first = gtid_after events has first
 
 or_true : (b : Bool) → (b || true) ≡ true
 or_true true = refl
@@ -215,20 +215,20 @@ gtid_within block (other_map id ∷ events) has = ⊎_elim (λ h. inl (sym (push
 gtid_within block (rows r ∷ events) has = ⊎_elim (λ h. inl (sym (pushed block (rows r) refl) ∙ h)) inr (gtid_within (block ++ rows r ∷ []) events has)
 gtid_within block (xid number ∷ events) has = ⊎_elim (λ h. inl (sym (pushed block (xid number) refl) ∙ h)) inr (gtid_within (block ++ xid number ∷ []) events has)
 
-behind_last : (events : List EventValue) (ds : List DeliveryValue) → AreDeliveries events ds → list_any is_gtid (last_block events) ≡ true → has_format events ≡ true
-behind_last events ds are has = gtid_behind events (⊎_elim (λ h. absurd (true≢false (sym h))) (λ h. h) (gtid_within [] events has)) are.format_first
+after_last : (events : List EventValue) (ds : List DeliveryValue) → AreDeliveries events ds → list_any is_gtid (last_block events) ≡ true → has_format events ≡ true
+after_last events ds are has = gtid_after events (⊎_elim (λ h. absurd (true≢false (sym h))) (λ h. h) (gtid_within [] events has)) are.format_first
 
-behind_open : (events : List EventValue) (ds : List DeliveryValue) → AreDeliveries events ds → IsOpen (last_block events) → has_format events ≡ true
-behind_open events ds are o = behind_last events ds are (ap (list_any is_gtid) o.block_is)
+after_open : (events : List EventValue) (ds : List DeliveryValue) → AreDeliveries events ds → IsOpen (last_block events) → has_format events ≡ true
+after_open events ds are o = after_last events ds are (ap (list_any is_gtid) o.block_is)
 
 no_format_gtid : (e : EventValue) → is_gtid e ≡ true → is_format e ≡ false
 no_format_gtid format is = absurd cc
 no_format_gtid _ is = refl
 
-behind_gtid : (events : List EventValue) (e : EventValue) → is_gtid e ≡ true → is_format_first (events ++ e ∷ []) ≡ true → has_format events ≡ true
-behind_gtid events e is first =
+after_gtid : (events : List EventValue) (e : EventValue) → is_gtid e ≡ true → is_format_first (events ++ e ∷ []) ≡ true → has_format events ≡ true
+after_gtid events e is first =
     let has : list_any is_gtid (events ++ e ∷ []) ≡ true = list_any-append is_gtid events (e ∷ []) ∙ ap (λ b. list_any is_gtid events || (b || false)) is ∙ or_true (list_any is_gtid events) in
-    sym (format_more events e ∙ ap (λ b. has_format events || b) (no_format_gtid e is) ∙ or_false (has_format events)) ∙ gtid_behind (events ++ e ∷ []) has first
+    sym (format_more events e ∙ ap (λ b. has_format events || b) (no_format_gtid e is) ∙ or_false (has_format events)) ∙ gtid_after (events ++ e ∷ []) has first
 
 not_neutral : (e : EventValue) → is_neutral e ≡ true → is_of_transaction e ≡ false
 not_neutral neutral is = refl
@@ -243,10 +243,10 @@ not_mark _ is = absurd cc
 formatted : (events : List EventValue) (e : EventValue) (ds : List DeliveryValue) → Back events e ds → is_format_first (events ++ e ∷ []) ≡ true → is_of_transaction e ≡ true → has_format events ≡ true
 formatted events e ds (passes is are) first of = absurd (true≢false (sym of ∙ not_neutral e is))
 formatted events e ds (marks is are) first of = absurd (true≢false (sym of ∙ not_mark e is))
-formatted events e ds (announces is are) first of = behind_gtid events e is first
-formatted events e ds (starts is a are) first of = behind_last events ds are (ap (list_any is_gtid) a.block_is)
-formatted events e ds (goes_on o own changes are) first of = behind_open events ds are o
-formatted events e ds (ends is o before all are) first of = behind_open events before are o
+formatted events e ds (announces is are) first of = after_gtid events e is first
+formatted events e ds (starts is a are) first of = after_last events ds are (ap (list_any is_gtid) a.block_is)
+formatted events e ds (goes_on o own changes are) first of = after_open events ds are o
+formatted events e ds (ends is o before all are) first of = after_open events before are o
 
 -- ---- Places.
 

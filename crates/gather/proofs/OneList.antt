@@ -102,7 +102,7 @@ no_empty_block block own is none =
     ⊎_elim
     (λ plain. ⊎_elim
     (λ mark. let bad = sym mark.block_is ∙ none in absurd cc)
-    (λ begun. ⊎_elim (λ a. let bad = sym a.block_is ∙ none in absurd cc) (λ o. let bad = sym o.block_is ∙ none in absurd cc) begun)
+    (λ current. ⊎_elim (λ a. let bad = sym a.block_is ∙ none in absurd cc) (λ o. let bad = sym o.block_is ∙ none in absurd cc) current)
     plain.0)
     (λ whole. let bad = sym whole.1.block_is ∙ none in absurd cc)
     is

@@ -47,8 +47,8 @@ number_has_image (Char maximum) n w bytes lawful is = absurd is
 number_has_image (Enum width) n w bytes lawful is = numbered n w width (within 2 width (omega arith) lawful) is.0 is.1
 number_has_image (Set width) n w bytes lawful is = numbered n w width (within 8 width (omega arith) lawful) is.0 is.1
 
-behind : (size : ℕ) (value bytes : List ℕ) → bytes ≡ little_bytes size (length value) ++ value → length value ≤ length bytes
-behind size value bytes is = omega (arith, ap length is, length-append (little_bytes size (length value)) value)
+after : (size : ℕ) (value bytes : List ℕ) → bytes ≡ little_bytes size (length value) ++ value → length value ≤ length bytes
+after size value bytes is = omega (arith, ap length is, length-append (little_bytes size (length value)) value)
 
 bytes_within : (t : ColumnKind) (value bytes : List ℕ) → IsValue (shape t) (bytes_cell value) bytes → length value ≤ length bytes
 bytes_within Tiny value bytes is = absurd is
@@ -56,8 +56,8 @@ bytes_within Short value bytes is = absurd is
 bytes_within Int24 value bytes is = absurd is
 bytes_within Long value bytes is = absurd is
 bytes_within LongLong value bytes is = absurd is
-bytes_within (Varchar maximum) value bytes is = behind (prefix_of maximum) value bytes is.1
-bytes_within (Blob prefix) value bytes is = behind prefix value bytes is.1
+bytes_within (Varchar maximum) value bytes is = after (prefix_of maximum) value bytes is.1
+bytes_within (Blob prefix) value bytes is = after prefix value bytes is.1
 bytes_within (Bit bits) value bytes is = omega (arith, ap length is.0)
 bytes_within (NewDecimal precision scale) value bytes is = omega (arith, ap length is.0)
 bytes_within Float value bytes is = omega (arith, ap length is.0)
@@ -67,7 +67,7 @@ bytes_within Year value bytes is = omega (arith, ap length is.0)
 bytes_within (Timestamp2 fraction) value bytes is = omega (arith, ap length is.0)
 bytes_within (Datetime2 fraction) value bytes is = omega (arith, ap length is.0)
 bytes_within (Time2 fraction) value bytes is = omega (arith, ap length is.0)
-bytes_within (Char maximum) value bytes is = behind (prefix_of maximum) value bytes is.1
+bytes_within (Char maximum) value bytes is = after (prefix_of maximum) value bytes is.1
 bytes_within (Enum width) value bytes is = absurd is
 bytes_within (Set width) value bytes is = absurd is
 

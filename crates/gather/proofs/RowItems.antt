@@ -19,7 +19,7 @@ use Rattle.binlog.specs.declared.body.table_map.TableDef.{TableDef}
 use Rattle.binlog.proofs.LawfulColumns.{lawful_kinds}
 use Rattle.gather.specs.Transaction.{ChangeValue, change_of}
 use Rattle.gather.specs.Fault.{IsRowsFault}
-use Rattle.gather.specs.Begun.{table_of, HasImages, Adds}
+use Rattle.gather.specs.OpenTransaction.{table_of, HasImages, Adds}
 use Rattle.gather.specs.declared.fault.GatherFault.TheVariants.{Event}
 use Rattle.gather.proofs.RowImages.{row_has_image}
 

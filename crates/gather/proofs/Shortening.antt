@@ -16,13 +16,13 @@ pub data FromBack (xs : List EventValue) : Type 0 where
   empty : xs ≡ [] → FromBack xs
   pushed : (front : List EventValue) → (last : EventValue) → xs ≡ front ++ last ∷ [] → FromBack xs
 
-behind : (x : EventValue) (xs : List EventValue) → FromBack xs → FromBack (x ∷ xs)
-behind x xs (empty is) = pushed [] x (ap (λ l. x ∷ l) is)
-behind x xs (pushed front last is) = pushed (x ∷ front) last (ap (λ l. x ∷ l) is)
+after : (x : EventValue) (xs : List EventValue) → FromBack xs → FromBack (x ∷ xs)
+after x xs (empty is) = pushed [] x (ap (λ l. x ∷ l) is)
+after x xs (pushed front last is) = pushed (x ∷ front) last (ap (λ l. x ∷ l) is)
 
 pub from_back : (xs : List EventValue) → FromBack xs
 from_back [] = empty refl
-from_back (x ∷ xs) = behind x xs (from_back xs)
+from_back (x ∷ xs) = after x xs (from_back xs)
 
 not_empty : (xs : List EventValue) (x : EventValue) → xs ++ x ∷ [] ≡ [] → ⊥
 not_empty [] x is = absurd cc
@@ -91,13 +91,13 @@ joined_last : (front : List (List EventValue)) (block : List EventValue) → joi
 joined_last front block = joined_append front (block ∷ []) ∙ ap (λ l. joined front ++ l) (append-nil block)
 
 -- the block before its last event
-record Begun (events : List EventValue) (before : List DeliveryValue) (block : List EventValue) : Type 0 where
+record OpenTransaction (events : List EventValue) (before : List DeliveryValue) (block : List EventValue) : Type 0 where
   last : last_block events ≡ block
   are : AreDeliveries events before
 
-begun : (events : List EventValue) (front : List (List EventValue)) (before : List DeliveryValue) (block : List EventValue) → counted events ≡ joined front ++ block → AreBlocks front before → is_format_first events ≡ true →
-    IsBlock block [] → Begun events before block
-begun events front before block cut are first is =
+current : (events : List EventValue) (front : List (List EventValue)) (before : List DeliveryValue) (block : List EventValue) → counted events ≡ joined front ++ block → AreBlocks front before → is_format_first events ≡ true →
+    IsBlock block [] → OpenTransaction events before block
+current events front before block cut are first is =
     let cuts : counted events ≡ joined (front ++ block ∷ []) = cut ∙ sym (joined_last front block) in
     record {
       last = last_is events front block [] cuts is;
@@ -127,14 +127,14 @@ back_open : (events : List EventValue) (e : EventValue) (front : List (List Even
 back_open events e front block before cut are first o (empty is) =
     let head = gtid o.source o.number ∷ [] in
     let c = cut_before events e front block head begin cut (o.block_is ∙ ap (λ b. gtid o.source o.number ∷ begin ∷ b) is) in
-    let b = begun events front before head c.0 are first (inl (inr (inl (record { source = o.source; number = o.number; block_is = refl })), refl)) in
+    let b = current events front before head c.0 are first (inl (inr (inl (record { source = o.source; number = o.number; block_is = refl })), refl)) in
     starts c.1 (record { source = o.source; number = o.number; block_is = b.last }) b.are
 back_open events e front block before cut are first o (pushed body last is) =
     let head = gtid o.source o.number ∷ begin ∷ body in
     let c = cut_before events e front block head last cut (o.block_is ∙ ap (λ b. gtid o.source o.number ∷ begin ∷ b) is) in
     let l = changes_less [] body last o.changes (subst (λ b. AreChanges [] b o.changes) is o.are_changes) in
     let shorter : IsOpen head = record { source = o.source; number = o.number; body = body; changes = l.first; block_is = refl; are_changes = l.are } in
-    let b = begun events front before head c.0 are first (inl (inr (inr shorter), refl)) in
+    let b = current events front before head c.0 are first (inl (inr (inr shorter), refl)) in
     goes_on (record { source = o.source; number = o.number; body = body; changes = l.first; block_is = b.last; are_changes = l.are }) l.own (subst (λ x. AreChangesOf body x l.own) (sym c.1) l.of) b.are
 
 back_whole : (events : List EventValue) (e : EventValue) (front : List (List EventValue)) (block : List EventValue) (before : List DeliveryValue) (d : DeliveryValue) → counted events ++ e ∷ [] ≡ joined front ++ block → AreBlocks front before →
@@ -143,7 +143,7 @@ back_whole events e front block before d cut are first w =
     let head = gtid d.source d.number ∷ begin ∷ w.body in
     let c = cut_before events e front block head w.last cut w.block_is in
     let shorter : IsOpen head = record { source = d.source; number = d.number; body = w.body; changes = d.changes; block_is = refl; are_changes = w.are_changes } in
-    let b = begun events front before head c.0 are first (inl (inr (inr shorter), refl)) in
+    let b = current events front before head c.0 are first (inl (inr (inr shorter), refl)) in
     ends (ap is_end c.1 ∙ w.ends) (record { source = d.source; number = d.number; body = w.body; changes = d.changes; block_is = b.last; are_changes = w.are_changes }) before refl b.are
 
 back_block : (events : List EventValue) (e : EventValue) (front : List (List EventValue)) (block : List EventValue) (before own : List DeliveryValue) → counted events ++ e ∷ [] ≡ joined front ++ block → AreBlocks front before →
@@ -154,7 +154,7 @@ back_block events e front block before own cut are first is =
     let there : Back events e before =
     ⊎_elim
     (λ m. back_mark events e front block before cut are first m)
-    (λ begun. ⊎_elim (λ a. back_announced events e front block before cut are first a) (λ o. back_open events e front block before cut are first o (from_back o.body)) begun)
+    (λ current. ⊎_elim (λ a. back_announced events e front block before cut are first a) (λ o. back_open events e front block before cut are first o (from_back o.body)) current)
     plain.0 in
     subst (Back events e) (sym (ap (λ o. before ++ o) plain.1 ∙ append-nil before)) there)
     (λ whole. subst (λ o. Back events e (before ++ o)) (sym whole.2) (back_whole events e front block before whole.0 cut are first whole.1))

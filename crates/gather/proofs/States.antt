@@ -5,16 +5,16 @@ use Rattle.binlog.specs.Event.{EventValue, begin, gtid, rows}
 use Rattle.gather.specs.Transaction.{ChangeValue, map_of, AreChanges}
 use Rattle.gather.specs.Fault.{is_open, IsRowsFault}
 use Rattle.gather.specs.View.{change_values}
-use Rattle.gather.specs.Begun.{Keeps}
+use Rattle.gather.specs.OpenTransaction.{Keeps}
 use Rattle.gather.specs.State.{IsAt, BreaksOff, FaultsAt}
-use Rattle.gather.specs.declared.open_transaction.Begun.{Begun}
+use Rattle.gather.specs.declared.open_transaction.OpenTransaction.{OpenTransaction}
 use Rattle.gather.specs.declared.fault.GatherFault.{GatherFault}
 use Rattle.gather.specs.declared.fault.GatherFault.TheVariants.{Memory}
 use Rattle.gather.specs.declared.state.State.{State}
 use Rattle.gather.specs.declared.state.State.TheVariants.{Inside}
 use Rattle.gather.proofs.Maps.{or_none, no_end}
 
--- a block that has begun is open
+-- a block that has current is open
 pub open_block : (source : List ℕ) (number : ℕ) (body : List EventValue) (changes : List ChangeValue) → AreChanges [] body changes → is_open (gtid source number ∷ begin ∷ body) ≡ true
 open_block source number body changes are = ap not (no_end [] body changes are)
 
@@ -22,19 +22,19 @@ open_block source number body changes are = ap not (no_end [] body changes are)
 pub map_of_body : (source : List ℕ) (number : ℕ) (body : List EventValue) (id : ℕ) → map_of (gtid source number ∷ begin ∷ body) id ≡ map_of body id
 map_of_body source number body id = or_none _ ∙ or_none (map_of body id)
 
-pub breaks_off : (begun : Begun) (r : RowsValue) (fault : GatherFault) → ((body : List EventValue) → Keeps body begun → (fault ≡ Memory) ⊎ IsRowsFault (map_of body r.id) r fault) →
-    (block : List EventValue) → IsAt block (Inside begun) → (fault ≡ Memory) ⊎ BreaksOff block (rows r) fault
-breaks_off begun r fault faults block (body, is, keeps) =
-    let source = begun.gtid.source in
-    let number = begun.gtid.number in
+pub breaks_off : (current : OpenTransaction) (r : RowsValue) (fault : GatherFault) → ((body : List EventValue) → Keeps body current → (fault ≡ Memory) ⊎ IsRowsFault (map_of body r.id) r fault) →
+    (block : List EventValue) → IsAt block (Inside current) → (fault ≡ Memory) ⊎ BreaksOff block (rows r) fault
+breaks_off current r fault faults block (body, is, keeps) =
+    let source = current.gtid.source in
+    let number = current.gtid.number in
     let whole = gtid source number ∷ begin ∷ body in
     let at : (fault ≡ Memory) ⊎ BreaksOff whole (rows r) fault =
     ⊎_elim inl
-    (λ f. inr (inr (r, refl, open_block source number body (change_values begun.changes.items) keeps.changes, subst (λ m. IsRowsFault m r fault) (sym (map_of_body source number body r.id)) f)))
+    (λ f. inr (inr (r, refl, open_block source number body (change_values current.changes.items) keeps.changes, subst (λ m. IsRowsFault m r fault) (sym (map_of_body source number body r.id)) f)))
     (faults body keeps) in
     subst (λ b. (fault ≡ Memory) ⊎ BreaksOff b (rows r) fault) (sym is) at
 
-pub rows_break_off : {T : Type 0} (begun : Begun) (r : RowsValue) (state : State) (result : Result T GatherFault) → state ≡ Inside begun →
-    ((body : List EventValue) → Keeps body begun → IfErr result (λ fault. (fault ≡ Memory) ⊎ IsRowsFault (map_of body r.id) r fault)) → IfErr result (FaultsAt (rows r) state)
-rows_break_off begun r state (Ok x) is faults = tt
-rows_break_off begun r state (Err fault) is faults = subst (λ p. FaultsAt (rows r) p fault) (sym is) (breaks_off begun r fault faults)
+pub rows_break_off : {T : Type 0} (current : OpenTransaction) (r : RowsValue) (state : State) (result : Result T GatherFault) → state ≡ Inside current →
+    ((body : List EventValue) → Keeps body current → IfErr result (λ fault. (fault ≡ Memory) ⊎ IsRowsFault (map_of body r.id) r fault)) → IfErr result (FaultsAt (rows r) state)
+rows_break_off current r state (Ok x) is faults = tt
+rows_break_off current r state (Err fault) is faults = subst (λ p. FaultsAt (rows r) p fault) (sym is) (breaks_off current r fault faults)

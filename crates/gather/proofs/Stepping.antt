@@ -19,7 +19,7 @@ use Rattle.gather.specs.declared.fault.GatherFault.TheVariants.{NoFormat, Memory
 use Rattle.gather.specs.declared.state.State.{State}
 use Rattle.gather.specs.declared.state.State.TheVariants.{Between, Announced}
 use Rattle.gather.proofs.States.{open_block}
-use Rattle.gather.proofs.Growing.{counted, joined, counts_no_more, counts_more, last_more, format_more, first_more, first_behind, joined_append, blocks_more, split, mark_begins, last_is, skips}
+use Rattle.gather.proofs.Growing.{counted, joined, counts_no_more, counts_more, last_more, format_more, first_more, first_after, joined_append, blocks_more, split, mark_begins, last_is, skips}
 
 -- ---- A block that is whole has ended.
 
@@ -37,18 +37,18 @@ abbrev pub IsBegun : List EventValue → Type 0
 IsBegun block = IsAnnounced block ⊎ IsOpen block
 
 pub begun_not_whole : (block : List EventValue) (d : DeliveryValue) → IsBegun block → IsWhole block d → ⊥
-begun_not_whole block d begun whole =
+begun_not_whole block d current whole =
     let closed = whole_closed block d whole in
     ⊎_elim
     (λ a. let yes : is_announced block ≡ true = rw a.block_is refl in absurd (true≢false (sym yes ∙ closed.0)))
     (λ o. let yes : is_open block ≡ true = rw o.block_is (open_block o.source o.number o.body o.changes o.are_changes) in absurd (true≢false (sym yes ∙ closed.1)))
-    begun
+    current
 
 begun_not_empty : (block : List EventValue) → IsBegun block → block ≡ [] → ⊥
-begun_not_empty block begun none = ⊎_elim (λ a. let bad = sym a.block_is ∙ none in absurd cc) (λ o. let bad = sym o.block_is ∙ none in absurd cc) begun
+begun_not_empty block current none = ⊎_elim (λ a. let bad = sym a.block_is ∙ none in absurd cc) (λ o. let bad = sym o.block_is ∙ none in absurd cc) current
 
 begun_gives_none : (block : List EventValue) (own : List DeliveryValue) → IsBegun block → IsBlock block own → own ≡ []
-begun_gives_none block own begun is = ⊎_elim (λ plain. plain.1) (λ whole. absurd (begun_not_whole block whole.0 begun whole.1)) is
+begun_gives_none block own current is = ⊎_elim (λ plain. plain.1) (λ whole. absurd (begun_not_whole block whole.0 current whole.1)) is
 
 -- ---- One more block, and a longer last block.
 
@@ -69,12 +69,12 @@ longer_front front block e =
 
 longer_blocks : (events : List EventValue) (ds : List DeliveryValue) (e : EventValue) (own : List DeliveryValue) (blocks : List (List EventValue)) → counted events ≡ joined blocks → AreBlocks blocks ds →
     is_neutral e ≡ false → is_format_first (events ++ e ∷ []) ≡ true → IsBegun (last_block events) → IsBlock (last_block events ++ e ∷ []) own → AreDeliveries (events ++ e ∷ []) (ds ++ own)
-longer_blocks events ds e own [] cut are counts first begun is =
-    absurd (begun_not_empty (last_block events) begun (skips [] events ∙ ap (fold add_event []) cut))
-longer_blocks events ds e own (x ∷ blocks) cut are counts first begun is =
+longer_blocks events ds e own [] cut are counts first current is =
+    absurd (begun_not_empty (last_block events) current (skips [] events ∙ ap (fold add_event []) cut))
+longer_blocks events ds e own (x ∷ blocks) cut are counts first current is =
     let s = split x blocks ds are in
     let last : last_block events ≡ s.block = last_is events s.front s.block s.own (cut ∙ ap joined s.blocks_are) s.is_block in
-    let none : s.own ≡ [] = begun_gives_none s.block s.own (subst IsBegun last begun) s.is_block in
+    let none : s.own ≡ [] = begun_gives_none s.block s.own (subst IsBegun last current) s.is_block in
     let before : ds ≡ s.before = s.ds_are ∙ ap (λ d. s.before ++ d) none ∙ append-nil s.before in
     let longer : IsBlock (s.block ++ e ∷ []) own = subst (λ b. IsBlock (b ++ e ∷ []) own) last is in
     record {
@@ -86,7 +86,7 @@ longer_blocks events ds e own (x ∷ blocks) cut are counts first begun is =
 
 pub longer : (events : List EventValue) (ds : List DeliveryValue) (e : EventValue) (own : List DeliveryValue) → AreDeliveries events ds →
     is_neutral e ≡ false → is_format_first (events ++ e ∷ []) ≡ true → IsBegun (last_block events) → IsBlock (last_block events ++ e ∷ []) own → AreDeliveries (events ++ e ∷ []) (ds ++ own)
-longer events ds e own are counts first begun is = longer_blocks events ds e own are.blocks are.cut are.each counts first begun is
+longer events ds e own are counts first current is = longer_blocks events ds e own are.blocks are.cut are.each counts first current is
 
 -- ---- Neutral events.
 
@@ -146,7 +146,7 @@ pub step_gtid : (events : List EventValue) (ds : List DeliveryValue) (formatted 
 step_gtid events ds formatted state id is b =
     let e = gtid id.source id.number in
     record {
-      deliveries = new_block events ds e b.deliveries refl (first_behind events e (sym b.has_format ∙ is) b.deliveries.format_first) (inl (inr (inl (record { source = id.source; number = id.number; block_is = refl })), refl));
+      deliveries = new_block events ds e b.deliveries refl (first_after events e (sym b.has_format ∙ is) b.deliveries.format_first) (inl (inr (inl (record { source = id.source; number = id.number; block_is = refl })), refl));
       has_format = b.has_format ∙ sym (format_more events e ∙ or_false (has_format events));
       at = last_more events e;
     }
@@ -178,7 +178,7 @@ pub stepped : (events : List EventValue) (ds own : List DeliveryValue) (formatte
 stepped events ds own formatted before after e k b goes =
     let x = goes (last_block events) b.at in
     record {
-      deliveries = longer events ds e own b.deliveries k.counts (first_more events e k.no_gtid b.deliveries.format_first) x.begun x.is_block;
+      deliveries = longer events ds e own b.deliveries k.counts (first_more events e k.no_gtid b.deliveries.format_first) x.current x.is_block;
       has_format = b.has_format ∙ sym (format_more events e ∙ ap (λ f. has_format events || f) k.no_format ∙ or_false (has_format events));
       at = subst (λ block. IsAt block after) (sym (last_more events e ∙ k.added (last_block events))) x.at;
     }

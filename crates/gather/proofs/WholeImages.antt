@@ -9,7 +9,7 @@ use Rattle.byteorder.specs.Numbers.{little_number-reads_back, little_from-lt, le
 use Rattle.binlog.specs.Cell.{CellValue}
 use Rattle.wire.proofs.Cuts.{IsBytes, IsBytes-drop, number_at_front, drop_front, drop_at}
 use Rattle.gather.specs.Image.{cell_image, image, HasCellImage, HasImage, IsImage}
-use Rattle.gather.specs.ImageCells.{cell_front, cells_in, holds_behind, are_images, is_image}
+use Rattle.gather.specs.ImageCells.{cell_front, cells_in, holds_after, are_images, is_image}
 use Rattle.gather.proofs.CellImages.{front_is, image_is_read, images_are_read}
 
 -- ---- An image is read as one.
@@ -18,25 +18,25 @@ are_read : (cells : List CellValue) → AllByRecursion HasCellImage cells → ar
 are_read [] has = refl
 are_read (cell ∷ cells) has =
     let rest = flat_map cell_image cells in
-    ap (λ found. holds_behind found (λ size. are_images (length cells) (drop size (cell_image cell ++ rest)))) (image_is_read cell rest has.0)
+    ap (λ found. holds_after found (λ size. are_images (length cells) (drop size (cell_image cell ++ rest)))) (image_is_read cell rest has.0)
     ∙ ap (are_images (length cells)) (drop_front (cell_image cell) rest)
     ∙ are_read cells has.1
 
 pub image_length : (cells : List CellValue) → length (image cells) ≡ 2 + length (flat_map cell_image cells)
 image_length cells = omega (arith, length-append (little_bytes 2 (length cells)) (flat_map cell_image cells), length-bytes_low_first 0 2 (length cells))
 
-behind_count : (cells : List CellValue) → drop 2 (image cells) ≡ flat_map cell_image cells
-behind_count cells = drop_at (little_bytes 2 (length cells)) (flat_map cell_image cells) 2 (length-bytes_low_first 0 2 (length cells))
+after_count : (cells : List CellValue) → drop 2 (image cells) ≡ flat_map cell_image cells
+after_count cells = drop_at (little_bytes 2 (length cells)) (flat_map cell_image cells) 2 (length-bytes_low_first 0 2 (length cells))
 
 own_cells : (cells : List CellValue) → HasImage cells → cells_in (drop 2 (image cells)) ≡ cells
-own_cells cells has = ap cells_in (behind_count cells) ∙ images_are_read cells has.each
+own_cells cells has = ap cells_in (after_count cells) ∙ images_are_read cells has.each
 
 own_image : (cells : List CellValue) → HasImage cells → is_image (image cells) ≡ true
 own_image cells has =
     let small = has.count in
     let long : 2 ≤ length (image cells) = omega (arith, image_length cells) in
     let number : little_number 2 (image cells) ≡ length cells = little_number-reads_back 2 (length cells) (flat_map cell_image cells) small in
-    rw (le-leb _ _ long) ((λ i. are_images (number i) (behind_count cells i)) ∙ are_read cells has.each)
+    rw (le-leb _ _ long) ((λ i. are_images (number i) (after_count cells i)) ∙ are_read cells has.each)
 
 pub is_read : (cells : List CellValue) (bytes : List ℕ) → IsImage cells bytes → is_image bytes ≡ true
 is_read cells bytes is = ap is_image is.bytes_are ∙ own_image cells is.has_image
@@ -52,7 +52,7 @@ record AreThere (count : ℕ) (bytes : List ℕ) : Type 0 where
   each : AllByRecursion HasCellImage cells
   bytes_are : bytes ≡ flat_map cell_image cells
 
-more_there : (count : ℕ) (bytes : List ℕ) (found : Option (CellValue × ℕ)) → IsBytes bytes → cell_front bytes ≡ found → holds_behind found (λ size. are_images count (drop size bytes)) ≡ true →
+more_there : (count : ℕ) (bytes : List ℕ) (found : Option (CellValue × ℕ)) → IsBytes bytes → cell_front bytes ≡ found → holds_after found (λ size. are_images count (drop size bytes)) ≡ true →
     ((size : ℕ) → are_images count (drop size bytes) ≡ true → AreThere count (drop size bytes)) → AreThere (suc count) bytes
 more_there count bytes None fits is holds others = absurd cc
 more_there count bytes (Some front) fits is holds others =

@@ -41,15 +41,15 @@ cells_in bytes = cells_of (length bytes) bytes
 
 -- ---- Whether bytes are cells.
 
-abbrev pub holds_behind : Option (CellValue × ℕ) → (ℕ → Bool) → Bool
-holds_behind None others = false
-holds_behind (Some front) others = others front.1
+abbrev pub holds_after : Option (CellValue × ℕ) → (ℕ → Bool) → Bool
+holds_after None others = false
+holds_after (Some front) others = others front.1
 
 -- whether the bytes are the images of this many cells, and nothing follows them
 abbrev pub are_images : ℕ → List ℕ → Bool
 are_images zero [] = true
 are_images zero (_ ∷ _) = false
-are_images (suc count) bytes = holds_behind (cell_front bytes) (λ size. are_images count (drop size bytes))
+are_images (suc count) bytes = holds_after (cell_front bytes) (λ size. are_images count (drop size bytes))
 
 -- whether the bytes are the image of some cells
 abbrev pub is_image : List ℕ → Bool

@@ -3,6 +3,6 @@ pub mod ImageCells
 pub mod Transaction
 pub mod Fault
 pub mod View
-pub mod Begun
+pub mod OpenTransaction
 pub mod State
 pub mod Standing

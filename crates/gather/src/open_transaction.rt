@@ -1,4 +1,4 @@
-//! A transaction that has begun and not ended.
+//! A transaction that has current and not ended.
 
 use crate::fault::GatherFault;
 use crate::row_changes::push_changes;
@@ -11,28 +11,28 @@ use std::rc::Rc;
 
 /// A transaction after its BEGIN.
 #[derive(Drop)]
-pub(crate) struct Begun {
+pub(crate) struct OpenTransaction {
     pub(crate) gtid: Gtid,
     /// For each table number its last table map: the table, or `None` if it is not followed.
     pub(crate) maps: BTreeMap<u64, Option<Rc<TableDef>>>,
     pub(crate) changes: Vec<Change>,
 }
 
-impl Begun {
+impl OpenTransaction {
     ghost use Rattle.std.specs.Prelude.{◌≡◌, ◌⊎◌, [], ◌∷◌, ◌++◌, List, IfErr, OnOk, OnErr, Err};
     ghost use Rattle.binlog.specs.Event.{EventValue, table_map, other_map, rows};
     ghost use Rattle.binlog.specs.RowsView.{rows_value};
     ghost use Rattle.binlog.specs.TableView.{table_value};
     ghost use Rattle.gather.specs.Transaction.{map_of};
     ghost use Rattle.gather.specs.Fault.{IsRowsFault};
-    ghost use Rattle.gather.specs.Begun.{Keeps};
+    ghost use Rattle.gather.specs.OpenTransaction.{Keeps};
 
     /// A transaction whose BEGIN has just come.
-    pub(crate) fn new(alloc: Global, gtid: Gtid) -> Begun
+    pub(crate) fn new(alloc: Global, gtid: Gtid) -> OpenTransaction
         ensures gtid { result.gtid ≡ gtid }
         ensures keeps { Keeps [] result }
     {
-        Begun {
+        OpenTransaction {
             gtid,
             maps: BTreeMap::new(alloc),
             changes: Vec::new(alloc),

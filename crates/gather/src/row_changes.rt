@@ -5,7 +5,7 @@ ghost use Rattle.binlog.specs.RowsView.{rows_value, pair_value};
 ghost use Rattle.gather.specs.Transaction.{change_of};
 ghost use Rattle.gather.specs.Fault.{IsRowsFault};
 ghost use Rattle.gather.specs.View.{change_value, change_values};
-ghost use Rattle.gather.specs.Begun.{table_of, HasImages, Adds};
+ghost use Rattle.gather.specs.OpenTransaction.{table_of, HasImages, Adds};
 
 use crate::fault::GatherFault;
 use crate::image::Image;

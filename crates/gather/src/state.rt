@@ -10,7 +10,7 @@ ghost use Rattle.gather.specs.View.{delivered};
 ghost use Rattle.gather.specs.State.{GoesOn, FaultsAt};
 
 use crate::fault::GatherFault;
-use crate::open_transaction::Begun;
+use crate::open_transaction::OpenTransaction;
 use crate::transaction::Delivery;
 use binlog::{RowsEvent, RowsKind, TableMap, event_type};
 use gtid::Gtid;
@@ -25,7 +25,7 @@ pub(crate) enum State {
     /// Right after the GTID.
     Announced(Gtid),
     /// After BEGIN.
-    Inside(Begun),
+    Inside(OpenTransaction),
 }
 
 /// Takes BEGIN, which must come right after the GTID.
@@ -35,7 +35,7 @@ pub(crate) fn take_begin(state: &mut State, alloc: Global) -> Result<Option<Deli
 {
     match state {
         State::Announced(gtid) => {
-            *state = State::Inside(Begun::new(alloc, *gtid));
+            *state = State::Inside(OpenTransaction::new(alloc, *gtid));
             Ok(None)
         }
         _ => Err(GatherFault::Misplaced(event_type::QUERY)),
@@ -52,8 +52,8 @@ pub(crate) fn take_map(
     ensures fault { IfErr result (FaultsAt (table_map (table_value map.now)) state.old) }
 {
     match state {
-        State::Inside(begun) => {
-            begun.take_map(alloc, map)?;
+        State::Inside(current) => {
+            current.take_map(alloc, map)?;
             Ok(None)
         }
         _ => Err(GatherFault::Misplaced(event_type::TABLE_MAP)),
@@ -66,8 +66,8 @@ pub(crate) fn take_other(state: &mut State, id: u64) -> Result<Option<Delivery>,
     ensures fault { IfErr result (FaultsAt (other_map id) state.old) }
 {
     match state {
-        State::Inside(begun) => {
-            begun.take_other(id)?;
+        State::Inside(current) => {
+            current.take_other(id)?;
             Ok(None)
         }
         _ => Err(GatherFault::Misplaced(event_type::TABLE_MAP)),
@@ -84,8 +84,8 @@ pub(crate) fn take_rows(
     ensures fault { IfErr result (FaultsAt (rows (rows_value event.now)) state.old) }
 {
     match state {
-        State::Inside(begun) => {
-            begun.take_rows(alloc, event)?;
+        State::Inside(current) => {
+            current.take_rows(alloc, event)?;
             Ok(None)
         }
         _ => Err(GatherFault::Misplaced(match event.kind {
@@ -102,8 +102,8 @@ pub(crate) fn take_end(state: &mut State, code: u8) -> Result<Option<Delivery>, 
     ensures fault { (e : EventValue) → is_end e ≡ true → type_of e ≡ code → IfErr result (FaultsAt e state.old) }
 {
     match mem::replace(state, State::Between) {
-        State::Inside(begun) => {
-            let Begun { gtid, changes, .. } = begun;
+        State::Inside(current) => {
+            let OpenTransaction { gtid, changes, .. } = current;
             Ok(Some(Delivery { gtid, changes }))
         }
         _ => Err(GatherFault::Misplaced(code)),

@@ -7,9 +7,9 @@ use Rattle.std.proofs.lemmas.List.{drop-drop, nil_from_length, length-append, le
 use Rattle.std.proofs.Math.Seq.{drop-cons}
 use Rattle.byteorder.specs.Endian.{little_number}
 use Rattle.greet.specs.Message.{IsText, needed, plugin_name, response_lead, IsGreeting, IsSwitch, IsOkPacket, IsEofPacket, IsDump}
-use Rattle.greet.specs.Refusal.{Refusal, truncated, protocol, plugin, old_auth, unexpected, capabilities, has_zero, before_zero, behind_zero, has_insert_id, behind_int, dump_name_size, dump_set_size, error_of, fields_refusal, greeting_refusal, end_refusal, response_refusal, switch_refusal, reply_refusal, ok_refusal, eof_refusal, dump_refusal}
+use Rattle.greet.specs.Refusal.{Refusal, truncated, protocol, plugin, old_auth, unexpected, capabilities, has_zero, before_zero, after_zero, has_insert_id, after_int, dump_name_size, dump_set_size, error_of, fields_refusal, greeting_refusal, end_refusal, response_refusal, switch_refusal, reply_refusal, ok_refusal, eof_refusal, dump_refusal}
 use Rattle.greet.specs.Complete.{HasGreeting, HasResponse, HasSwitch, HasDump}
-use Rattle.wire.proofs.Cuts.{IsBytes, IsBytes-rest, IsBytes-behind, IsBytes-drop}
+use Rattle.wire.proofs.Cuts.{IsBytes, IsBytes-rest, IsBytes-after, IsBytes-drop}
 use Rattle.greet.proofs.Greetings.{greeting_of, is_greeting}
 use Rattle.greet.proofs.Replies.{is_switch, is_ok, is_eof, same_name}
 use Rattle.greet.proofs.Responses.{is_response, no_difference}
@@ -24,7 +24,7 @@ passes false r others is = (refl, is)
 
 pub record IsSplit (bytes : List ℕ) : Type 0 where
   pub text : IsText (before_zero bytes)
-  pub bytes_are : bytes ≡ before_zero bytes ++ 0 ∷ behind_zero bytes
+  pub bytes_are : bytes ≡ before_zero bytes ++ 0 ∷ after_zero bytes
 
 either : (t : Bool) → (t ≡ true) ⊎ (t ≡ false)
 either true = inl refl
@@ -46,11 +46,11 @@ split_at_zero (b ∷ bytes) is = elim (either (b == 0)) [
 ]
 
 -- if there are bytes after a zero byte, there is a zero byte
-zero_before : (bytes : List ℕ) → 0 < length (behind_zero bytes) → has_zero bytes ≡ true
+zero_before : (bytes : List ℕ) → 0 < length (after_zero bytes) → has_zero bytes ≡ true
 zero_before [] some = absurd (omega (arith, some))
 zero_before (b ∷ bytes) some = elim (either (b == 0)) [
   | inl zero_byte ↦ rw zero_byte refl
-  | inr other ↦ rw other (zero_before bytes (let s : 0 < length (behind_zero bytes) = rw other at some in s))
+  | inr other ↦ rw other (zero_before bytes (let s : 0 < length (after_zero bytes) = rw other at some in s))
 ]
 
 -- ---- The greeting.
@@ -59,7 +59,7 @@ pub some_greeting : (payload : List ℕ) → IsBytes payload → greeting_refusa
 unfolding greeting_refusal fields_refusal
 some_greeting [] fits none = absurd cc
 some_greeting (first ∷ body) fits none =
-    let fields = behind_zero body in
+    let fields = after_zero body in
     let has = little_number 2 (drop 13 fields) + 2 ^ 16 * little_number 2 (drop 18 fields) in
     let a = passes (first == 0xFF) (error_of body) _ none in
     let b = passes (not (first == 10)) (protocol first) _ a.1 in
@@ -69,7 +69,7 @@ some_greeting (first ∷ body) fits none =
     let is_first : 10 ≡ first = sym (eqb-true first 10 (not-false _ b.0)) in
     let few : 31 ≤ length fields = ltb-false _ _ c.0 in
     let split = split_at_zero body (zero_before body (omega (arith, few))) in
-    let of_fields : IsBytes fields = IsBytes-rest 0 fields (IsBytes-behind (before_zero body) (0 ∷ fields) (subst IsBytes split.bytes_are (IsBytes-rest first body fits))) in
+    let of_fields : IsBytes fields = IsBytes-rest 0 fields (IsBytes-after (before_zero body) (0 ∷ fields) (subst IsBytes split.bytes_are (IsBytes-rest first body fits))) in
     let whole = sym split.bytes_are in
     record {
       value = greeting_of (before_zero body) fields;
@@ -83,13 +83,13 @@ pub some_response : (payload : List ℕ) → IsBytes payload → response_refusa
 unfolding response_refusal end_refusal
 some_response payload fits none =
     let user = drop 32 payload in
-    let auth = behind_zero user in
+    let auth = after_zero user in
     let size = get_or auth 0 0 in
     let name = drop (1 + size) auth in
     let a = passes (not (has_zero user)) truncated _ none in
     let b = passes (nat_lt (length auth) (1 + size)) truncated _ a.1 in
     let c = passes (not (has_zero name)) truncated _ b.1 in
-    let d = passes (not (length (behind_zero name) == 0)) truncated _ c.1 in
+    let d = passes (not (length (after_zero name) == 0)) truncated _ c.1 in
     let e = passes (not (bytes_eq (before_zero name) plugin_name)) plugin _ d.1 in
     let split = split_at_zero user (not-false _ a.0) in
     let split_name = split_at_zero name (not-false _ c.0) in
@@ -97,12 +97,12 @@ some_response payload fits none =
     let answer = take size (drop 1 auth) in
     let answer_long : size ≡ length answer = omega (arith, long, length-take size (drop 1 auth), length-drop 1 auth) in
     let plugin_is : before_zero name ≡ plugin_name = same_name (before_zero name) (not-false _ e.0) in
-    let nothing_more : behind_zero name ≡ [] = nil_from_length (behind_zero name) (eqb-true _ _ (not-false _ d.0)) in
+    let nothing_more : after_zero name ≡ [] = nil_from_length (after_zero name) (eqb-true _ _ (not-false _ d.0)) in
     let end : drop size (drop 1 auth) ≡ plugin_name ++ 0 ∷ [] = drop-drop size 1 auth ∙ split_name.bytes_are ∙ (λ i. plugin_is i ++ 0 ∷ nothing_more i) in
-    let behind : drop 1 auth ≡ answer ++ (plugin_name ++ 0 ∷ []) = sym (take-append-drop size (drop 1 auth)) ∙ ap (λ l. answer ++ l) end in
-    let counted : auth ≡ length answer ∷ (answer ++ (plugin_name ++ 0 ∷ [])) = drop-cons auth 0 0 (omega (arith, long)) ∙ (λ i. answer_long i ∷ behind i) in
+    let after : drop 1 auth ≡ answer ++ (plugin_name ++ 0 ∷ []) = sym (take-append-drop size (drop 1 auth)) ∙ ap (λ l. answer ++ l) end in
+    let counted : auth ≡ length answer ∷ (answer ++ (plugin_name ++ 0 ∷ [])) = drop-cons auth 0 0 (omega (arith, long)) ∙ (λ i. answer_long i ∷ after i) in
     let rest = split.bytes_are ∙ ap (λ l. before_zero user ++ 0 ∷ l) counted in
-    let small : size < 256 = IsBytes-behind (before_zero user) (0 ∷ auth) (subst IsBytes split.bytes_are (IsBytes-drop 32 payload fits)) 1 in
+    let small : size < 256 = IsBytes-after (before_zero user) (0 ∷ auth) (subst IsBytes split.bytes_are (IsBytes-drop 32 payload fits)) 1 in
     let lead_long : length (take 32 payload) ≡ length response_lead =
     omega (arith, length-take 32 payload, length-drop 32 payload, ap length split.bytes_are, length-append (before_zero user) (0 ∷ auth)) in
     record {
@@ -118,7 +118,7 @@ some_ok [] fits none = absurd cc
 some_ok (first ∷ body) fits none =
     let a = passes (first == 0xFF) (error_of body) _ none in
     let b = passes (not (first == 0x00)) (unexpected first) _ a.1 in
-    let c = passes (not (has_insert_id (behind_int body))) truncated _ b.1 in
+    let c = passes (not (has_insert_id (after_int body))) truncated _ b.1 in
     let is_first : 0 ≡ first = sym (eqb-true first 0 (not-false _ b.0)) in
     subst (λ f. IsOkPacket (f ∷ body)) is_first (is_ok body (IsBytes-rest first body fits) (not-false _ c.0))
 
@@ -139,11 +139,11 @@ some_switch body none =
     let a = passes (length body == 0) old_auth _ none in
     let b = passes (not (has_zero body)) truncated _ a.1 in
     let c = passes (not (bytes_eq (before_zero body) plugin_name)) plugin _ b.1 in
-    let d = passes (nat_lt (length (behind_zero body)) 20) truncated _ c.1 in
+    let d = passes (nat_lt (length (after_zero body)) 20) truncated _ c.1 in
     let split = split_at_zero body (not-false _ b.0) in
     record {
-      scramble = take 20 (behind_zero body);
-      is = subst (λ l. IsSwitch (take 20 (behind_zero body)) (0xFE ∷ l)) (sym split.bytes_are) (is_switch (before_zero body) (behind_zero body) (same_name (before_zero body) (not-false _ c.0)) (ltb-false _ _ d.0));
+      scramble = take 20 (after_zero body);
+      is = subst (λ l. IsSwitch (take 20 (after_zero body)) (0xFE ∷ l)) (sym split.bytes_are) (is_switch (before_zero body) (after_zero body) (same_name (before_zero body) (not-false _ c.0)) (ltb-false _ _ d.0));
     }
 
 pub some_reply : (payload : List ℕ) → IsBytes payload → reply_refusal payload ≡ None → IsOkPacket payload ⊎ HasSwitch payload

@@ -3,7 +3,7 @@ use Rattle.std.proofs.Common.{◌≡◌, ℕ, ◌-◌, ◌≤◌, Bool, true, fa
 use Rattle.std.proofs.lemmas.Bool.{eqb-false, ne_eqb}
 use Rattle.wire.proofs.Cuts.{first_and_rest}
 use Rattle.greet.specs.Message.{IsText}
-use Rattle.greet.specs.Refusal.{has_zero, before_zero, behind_zero}
+use Rattle.greet.specs.Refusal.{has_zero, before_zero, after_zero}
 
 or_true : (b : Bool) → (b || true) ≡ true
 or_true true = refl
@@ -24,9 +24,9 @@ pub before_zero-text : (text rest : List ℕ) → IsText text → before_zero (t
 before_zero-text [] rest is = refl
 before_zero-text (b ∷ text) rest is = rw (ne_eqb b 0 is.0, before_zero-text text rest is.1) refl
 
-pub behind_zero-text : (text rest : List ℕ) → IsText text → behind_zero (text ++ 0 ∷ rest) ≡ rest
-behind_zero-text [] rest is = refl
-behind_zero-text (b ∷ text) rest is = rw (ne_eqb b 0 is.0) (behind_zero-text text rest is.1)
+pub after_zero-text : (text rest : List ℕ) → IsText text → after_zero (text ++ 0 ∷ rest) ≡ rest
+after_zero-text [] rest is = refl
+after_zero-text (b ∷ text) rest is = rw (ne_eqb b 0 is.0) (after_zero-text text rest is.1)
 
 either_false : (a b : Bool) → (a || b) ≡ false → (a ≡ false) × (b ≡ false)
 either_false true b is = absurd cc
@@ -40,9 +40,9 @@ pub has_zero-none : (text : List ℕ) → IsText text → has_zero text ≡ fals
 has_zero-none [] is = refl
 has_zero-none (b ∷ text) is = rw (ne_eqb b 0 is.0) (has_zero-none text is.1)
 
-pub behind_zero-none : (text : List ℕ) → IsText text → behind_zero text ≡ []
-behind_zero-none [] is = refl
-behind_zero-none (b ∷ text) is = rw (ne_eqb b 0 is.0) (behind_zero-none text is.1)
+pub after_zero-none : (text : List ℕ) → IsText text → after_zero text ≡ []
+after_zero-none [] is = refl
+after_zero-none (b ∷ text) is = rw (ne_eqb b 0 is.0) (after_zero-none text is.1)
 
 -- ---- Parts joined from the left and from the right.
 

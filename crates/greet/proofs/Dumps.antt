@@ -11,7 +11,7 @@ use Rattle.greet.specs.View.{dump_value, Refuses}
 use Rattle.greet.specs.declared.command.Dump.{Dump}
 use Rattle.greet.specs.declared.fault.GreetFault.{GreetFault}
 use Rattle.greet.specs.declared.fault.GreetFault.TheVariants as faults
-use Rattle.wire.proofs.Cuts.{IsBytes, IsBytes-drop, number_at_front, cut, behind}
+use Rattle.wire.proofs.Cuts.{IsBytes, IsBytes-drop, number_at_front, cut, after}
 use Rattle.greet.proofs.Cuts.{right_7}
 
 -- what a dump command says, from the bytes after its first
@@ -50,7 +50,7 @@ is_dump body fits whole =
       fits = let small = little_from-lt 0 4 (drop (18 + n) body) (IsBytes-drop (18 + n) body fits) in omega (arith, small, set_long);
     }
 
-pub record Told (d : DumpValue) (payload : List ℕ) : Type 0 where
+pub record Reported (d : DumpValue) (payload : List ℕ) : Type 0 where
   pub body : List ℕ
   pub payload_is : payload ≡ 0x1E ∷ body
   pub value : d ≡ dump_of body
@@ -59,8 +59,8 @@ pub record Told (d : DumpValue) (payload : List ℕ) : Type 0 where
 number_is : (k n : ℕ) (bytes rest : List ℕ) → n < 256 ^ k → bytes ≡ little_bytes k n ++ rest → little_number k bytes ≡ n
 number_is k n bytes rest fits is = ap (little_number k) is ∙ little_number-reads_back k n rest fits
 
-pub told : (d : DumpValue) (payload : List ℕ) → IsDump d payload → Told d payload
-told d payload is =
+pub reported : (d : DumpValue) (payload : List ℕ) → IsDump d payload → Reported d payload
+reported d payload is =
     let r18 = little_bytes 4 (length d.set) ++ d.set in
     let r10 = is.position ++ r18 in
     let r6 = little_bytes 4 (length is.name) ++ (is.name ++ r10) in
@@ -70,9 +70,9 @@ told d payload is =
     let e18 : 18 + length is.name ≡ 10 + (length is.name + 8) = omega arith in
     let e22 : 22 + length is.name ≡ 10 + (length is.name + 12) = omega arith in
     let d18 : drop (18 + length is.name) body ≡ r18 =
-    ap (λ k. drop k body) e18 ∙ sym (drop-drop (length is.name + 8) 10 body) ∙ behind (length is.name) 8 is.name r10 refl ∙ behind 8 0 is.position r18 is.sizes.1 in
+    ap (λ k. drop k body) e18 ∙ sym (drop-drop (length is.name + 8) 10 body) ∙ after (length is.name) 8 is.name r10 refl ∙ after 8 0 is.position r18 is.sizes.1 in
     let d22 : drop (22 + length is.name) body ≡ d.set =
-    ap (λ k. drop k body) e22 ∙ sym (drop-drop (length is.name + 12) 10 body) ∙ behind (length is.name) 12 is.name r10 refl ∙ behind 8 4 is.position r18 is.sizes.1 in
+    ap (λ k. drop k body) e22 ∙ sym (drop-drop (length is.name + 12) 10 body) ∙ after (length is.name) 12 is.name r10 refl ∙ after 8 4 is.position r18 is.sizes.1 in
     let m : dump_set_size body ≡ length d.set = ap (λ k. little_number 4 (drop (18 + k) body)) n ∙ number_is 4 (length d.set) (drop (18 + length is.name) body) d.set (omega (arith, is.fits)) d18 in
     let f = sym (number_is 2 d.flags body r2 (omega (arith, is.ranges.0)) refl) in
     let s = sym (number_is 4 d.server_id r2 r6 (omega (arith, is.ranges.1)) refl) in
@@ -88,14 +88,14 @@ told d payload is =
 pub not_refused : (d : DumpValue) (payload : List ℕ) → IsDump d payload → dump_refusal payload ≡ None
 unfolding dump_refusal
 not_refused d payload is =
-    let t = told d payload is in
+    let t = reported d payload is in
     rw (t.payload_is, eq-eqb _ _ t.whole) refl
 
 -- and has one meaning.
 pub one_value : (a b : DumpValue) (payload : List ℕ) → IsDump a payload → IsDump b payload → a ≡ b
 one_value a b payload is_a is_b =
-    let x = told a payload is_a in
-    let y = told b payload is_b in
+    let x = reported a payload is_a in
+    let y = reported b payload is_b in
     x.value ∙ ap dump_of (ap (drop 1) (sym x.payload_is ∙ y.payload_is)) ∙ sym y.value
 
 pub nothing : (payload : List ℕ) → length payload < 1 → dump_refusal payload ≡ Some truncated
@@ -124,5 +124,5 @@ pub answered : (payload body : List ℕ) (result : Result Dump GreetFault) → p
     (d : DumpValue) → IsDump d payload → MatchResult result (λ dump. dump_value dump ≡ d) (λ _. ⊥)
 answered payload body (Ok dump) parts found fault d is = one_value (dump_value dump) d payload found is
 answered payload body (Err fault) parts found is_fault d is =
-    let t = told d payload is in
+    let t = reported d payload is in
     is_fault.1 (subst (λ b. length b ≡ 22 + dump_name_size b + dump_set_size b) (ap (drop 1) (sym t.payload_is ∙ parts)) t.whole)

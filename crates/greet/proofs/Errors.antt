@@ -34,9 +34,9 @@ message_is None message text (is, inl short) = rw (bare text short) is
 message_is None message text (is, inr other) = rw (unmarked text other) is
 
 -- an ERR, from the bytes after its first
-pub told : (code : ℕ) (state : Option (List ℕ)) (message payload : List ℕ) (is : IsErrPacket code state message payload) → error_of (little_bytes 2 code ++ is.text) ≡ server_error code state (take kept_message message)
+pub reported : (code : ℕ) (state : Option (List ℕ)) (message payload : List ℕ) (is : IsErrPacket code state message payload) → error_of (little_bytes 2 code ++ is.text) ≡ server_error code state (take kept_message message)
 unfolding error_of
-told code state message payload is =
+reported code state message payload is =
     let c = little_number-reads_back 2 code is.text (omega (arith, is.a_code)) in
     let s = state_is state message is.text is.text_is in
     let m = ap (take kept_message) (message_is state message is.text is.text_is) in
@@ -44,19 +44,19 @@ told code state message payload is =
 
 pub in_greeting : (code : ℕ) (state : Option (List ℕ)) (message payload : List ℕ) → IsErrPacket code state message payload → greeting_refusal payload ≡ Some (server_error code state (take kept_message message))
 unfolding greeting_refusal
-in_greeting code state message payload is = ap greeting_refusal is.payload_is ∙ ap Some (told code state message payload is)
+in_greeting code state message payload is = ap greeting_refusal is.payload_is ∙ ap Some (reported code state message payload is)
 
 pub in_ok : (code : ℕ) (state : Option (List ℕ)) (message payload : List ℕ) → IsErrPacket code state message payload → ok_refusal payload ≡ Some (server_error code state (take kept_message message))
 unfolding ok_refusal
-in_ok code state message payload is = ap ok_refusal is.payload_is ∙ ap Some (told code state message payload is)
+in_ok code state message payload is = ap ok_refusal is.payload_is ∙ ap Some (reported code state message payload is)
 
 pub in_reply : (code : ℕ) (state : Option (List ℕ)) (message payload : List ℕ) → IsErrPacket code state message payload → reply_refusal payload ≡ Some (server_error code state (take kept_message message))
 unfolding reply_refusal ok_refusal
-in_reply code state message payload is = ap reply_refusal is.payload_is ∙ ap Some (told code state message payload is)
+in_reply code state message payload is = ap reply_refusal is.payload_is ∙ ap Some (reported code state message payload is)
 
 pub in_eof : (code : ℕ) (state : Option (List ℕ)) (message payload : List ℕ) → IsErrPacket code state message payload → eof_refusal payload ≡ Some (server_error code state (take kept_message message))
 unfolding eof_refusal
-in_eof code state message payload is = ap eof_refusal is.payload_is ∙ ap Some (told code state message payload is)
+in_eof code state message payload is = ap eof_refusal is.payload_is ∙ ap Some (reported code state message payload is)
 
 -- ---- An ERR has one meaning.
 

@@ -5,9 +5,9 @@ use Rattle.std.proofs.lemmas.List.{drop-drop, length-append, length-drop, length
 use Rattle.byteorder.specs.Endian.{little_bytes, little_number}
 use Rattle.byteorder.specs.Numbers.{little_number-reads_back, little_from-lt}
 use Rattle.greet.specs.Message.{IsText, needed, GreetingValue, IsGreeting}
-use Rattle.greet.specs.Refusal.{truncated, before_zero, behind_zero, fields_refusal, greeting_refusal}
-use Rattle.wire.proofs.Cuts.{IsBytes, IsBytes-drop, number_at_front, cut, one, behind}
-use Rattle.greet.proofs.Cuts.{behind_zero-text, behind_zero-none, before_zero-text, right_9}
+use Rattle.greet.specs.Refusal.{truncated, before_zero, after_zero, fields_refusal, greeting_refusal}
+use Rattle.wire.proofs.Cuts.{IsBytes, IsBytes-drop, number_at_front, cut, one, after}
+use Rattle.greet.proofs.Cuts.{after_zero-text, after_zero-none, before_zero-text, right_9}
 
 -- what a greeting says
 abbrev pub greeting_of : List ℕ → List ℕ → GreetingValue
@@ -26,9 +26,9 @@ take_take (suc n) zero xs le = absurd (omega (arith, le))
 take_take (suc n) (suc m) [] le = refl
 take_take (suc n) (suc m) (x ∷ xs) le = ap (λ t. x ∷ t) (take_take n m xs (omega (arith, le)))
 
-pub no_fields : (body : List ℕ) → IsText body → fields_refusal (behind_zero body) ≡ Some truncated
+pub no_fields : (body : List ℕ) → IsText body → fields_refusal (after_zero body) ≡ Some truncated
 unfolding fields_refusal
-no_fields body text = rw (behind_zero-none body text) refl
+no_fields body text = rw (after_zero-none body text) refl
 
 pub short_second : (fields : List ℕ) → 31 ≤ length fields → bit_and (little_number 2 (drop 13 fields) + 2 ^ 16 * little_number 2 (drop 18 fields)) needed ≡ needed →
     length fields < 31 + max 13 (get_or fields 20 0 - 8) → fields_refusal fields ≡ Some truncated
@@ -78,7 +78,7 @@ is_greeting version fields text fits long has =
 
 -- ---- What a greeting says is determined by its bytes, and it is not refused.
 
-pub record Told (g : GreetingValue) (payload : List ℕ) : Type 0 where
+pub record Reported (g : GreetingValue) (payload : List ℕ) : Type 0 where
   pub fields : List ℕ
   pub payload_is : payload ≡ 10 ∷ g.version ++ 0 ∷ fields
   pub value : g ≡ greeting_of g.version fields
@@ -92,9 +92,9 @@ byte_at n b fields rest is = let e : n ≡ n + 0 = omega arith in ap (λ k. get_
 number_is : (k n : ℕ) (fields rest : List ℕ) → n < 256 ^ k → fields ≡ little_bytes k n ++ rest → little_number k fields ≡ n
 number_is k n fields rest fits is = ap (little_number k) is ∙ little_number-reads_back k n rest fits
 
-pub told : (g : GreetingValue) (payload : List ℕ) → IsGreeting g payload → Told g payload
+pub reported : (g : GreetingValue) (payload : List ℕ) → IsGreeting g payload → Reported g payload
 unfolding fields_refusal
-told g payload is =
+reported g payload is =
     let r31 = is.second ++ is.ignored in
     let r20 = is.size ∷ (is.reserved ++ r31) in
     let r18 = little_bytes 2 is.high ++ r20 in
@@ -104,12 +104,12 @@ told g payload is =
     let r12 = is.filler ∷ r13 in
     let r4 = is.first ++ r12 in
     let fields = little_bytes 4 g.thread ++ r4 in
-    let d13 : drop 13 fields ≡ r13 = behind 8 1 is.first r12 is.sizes.0 in
-    let d15 : drop 15 fields ≡ r15 = behind 8 3 is.first r12 is.sizes.0 in
-    let d16 : drop 16 fields ≡ r16 = behind 8 4 is.first r12 is.sizes.0 in
-    let d18 : drop 18 fields ≡ r18 = behind 8 6 is.first r12 is.sizes.0 in
-    let d20 : drop 20 fields ≡ r20 = behind 8 8 is.first r12 is.sizes.0 in
-    let d31 : drop 31 fields ≡ r31 = behind 8 19 is.first r12 is.sizes.0 ∙ behind 10 0 is.reserved r31 is.sizes.1 in
+    let d13 : drop 13 fields ≡ r13 = after 8 1 is.first r12 is.sizes.0 in
+    let d15 : drop 15 fields ≡ r15 = after 8 3 is.first r12 is.sizes.0 in
+    let d16 : drop 16 fields ≡ r16 = after 8 4 is.first r12 is.sizes.0 in
+    let d18 : drop 18 fields ≡ r18 = after 8 6 is.first r12 is.sizes.0 in
+    let d20 : drop 20 fields ≡ r20 = after 8 8 is.first r12 is.sizes.0 in
+    let d31 : drop 31 fields ≡ r31 = after 8 19 is.first r12 is.sizes.0 ∙ after 10 0 is.reserved r31 is.sizes.1 in
     let thread : little_number 4 fields ≡ g.thread = number_is 4 g.thread fields r4 (omega (arith, is.ranges.0)) refl in
     let low : little_number 2 (drop 13 fields) ≡ is.low = number_is 2 is.low (drop 13 fields) r15 (omega (arith, is.ranges.1)) d13 in
     let status : little_number 2 (drop 16 fields) ≡ g.status = number_is 2 g.status (drop 16 fields) r18 (omega (arith, is.ranges.3)) d16 in
@@ -139,17 +139,17 @@ told g payload is =
 pub not_refused : (g : GreetingValue) (payload : List ℕ) → IsGreeting g payload → greeting_refusal payload ≡ None
 unfolding greeting_refusal
 not_refused g payload is =
-    let t = told g payload is in
-    rw (t.payload_is, behind_zero-text g.version t.fields is.a_version) t.lawful
+    let t = reported g payload is in
+    rw (t.payload_is, after_zero-text g.version t.fields is.a_version) t.lawful
 
 -- and has one meaning.
 pub one_value : (a b : GreetingValue) (payload : List ℕ) → IsGreeting a payload → IsGreeting b payload → a ≡ b
 one_value a b payload is_a is_b =
-    let x = told a payload is_a in
-    let y = told b payload is_b in
+    let x = reported a payload is_a in
+    let y = reported b payload is_b in
     let same : a.version ++ 0 ∷ x.fields ≡ b.version ++ 0 ∷ y.fields = ap (drop 1) (sym x.payload_is ∙ y.payload_is) in
     let version = sym (before_zero-text a.version x.fields is_a.a_version) ∙ ap before_zero same ∙ before_zero-text b.version y.fields is_b.a_version in
-    let fields = sym (behind_zero-text a.version x.fields is_a.a_version) ∙ ap behind_zero same ∙ behind_zero-text b.version y.fields is_b.a_version in
+    let fields = sym (after_zero-text a.version x.fields is_a.a_version) ∙ ap after_zero same ∙ after_zero-text b.version y.fields is_b.a_version in
     x.value ∙ (λ i. greeting_of (version i) (fields i)) ∙ sym y.value
 
 pub nothing : (payload : List ℕ) → length payload < 1 → greeting_refusal payload ≡ Some truncated

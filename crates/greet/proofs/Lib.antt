@@ -1,3 +1,4 @@
+mod Appended
 mod Cuts
 mod Readers
 pub mod Greetings
@@ -7,3 +8,4 @@ mod Dumps
 mod Errors
 mod Written
 mod Complete
+mod ErrBytes

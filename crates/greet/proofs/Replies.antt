@@ -13,20 +13,20 @@ use Rattle.byteorder.specs.Endian.{little_bytes, little_number}
 use Rattle.byteorder.specs.Numbers.{little_from-lt}
 use Rattle.wire.specs.Integer.{IsLengthEncoded}
 use Rattle.greet.specs.Message.{plugin_name, IsText, IsOkPacket, IsEofPacket, IsSwitch}
-use Rattle.greet.specs.Refusal.{truncated, plugin, behind_int, has_counters, has_insert_id, ok_refusal, eof_refusal, switch_refusal, reply_refusal}
-use Rattle.wire.proofs.Cuts.{IsBytes, IsBytes-behind, IsBytes-rest, number_at_front}
-use Rattle.greet.proofs.Cuts.{IsText-by, has_zero-none, has_zero-text, before_zero-text, behind_zero-text, right_4}
+use Rattle.greet.specs.Refusal.{truncated, plugin, after_int, has_counters, has_insert_id, ok_refusal, eof_refusal, switch_refusal, reply_refusal}
+use Rattle.wire.proofs.Cuts.{IsBytes, IsBytes-after, IsBytes-rest, number_at_front}
+use Rattle.greet.proofs.Cuts.{IsText-by, has_zero-none, has_zero-text, before_zero-text, after_zero-text, right_4}
 
 -- ---- Length-encoded integers.
 
 enough : (k : ℕ) (front rest : List ℕ) → length front ≡ k → nat_le k (length (front ++ rest)) ≡ true
 enough k front rest long = le-leb k _ (omega (arith, long, length-append front rest))
 
-pub int_behind : (n : ℕ) (front rest : List ℕ) → IsLengthEncoded n front → behind_int (front ++ rest) ≡ Some rest
-int_behind n front rest (inl (fits, is)) = (λ i. behind_int (is i ++ rest)) ∙ rw (le-leb n 250 fits) refl
-int_behind n front rest (inr (inl (fits, is))) = (λ i. behind_int (is i ++ rest)) ∙ rw (enough 2 (little_bytes 2 n) rest refl) refl
-int_behind n front rest (inr (inr (inl (fits, is)))) = (λ i. behind_int (is i ++ rest)) ∙ rw (enough 3 (little_bytes 3 n) rest refl) refl
-int_behind n front rest (inr (inr (inr (fits, is)))) = (λ i. behind_int (is i ++ rest)) ∙ rw (enough 8 (little_bytes 8 n) rest refl) refl
+pub int_after : (n : ℕ) (front rest : List ℕ) → IsLengthEncoded n front → after_int (front ++ rest) ≡ Some rest
+int_after n front rest (inl (fits, is)) = (λ i. after_int (is i ++ rest)) ∙ rw (le-leb n 250 fits) refl
+int_after n front rest (inr (inl (fits, is))) = (λ i. after_int (is i ++ rest)) ∙ rw (enough 2 (little_bytes 2 n) rest refl) refl
+int_after n front rest (inr (inr (inl (fits, is)))) = (λ i. after_int (is i ++ rest)) ∙ rw (enough 3 (little_bytes 3 n) rest refl) refl
+int_after n front rest (inr (inr (inr (fits, is)))) = (λ i. after_int (is i ++ rest)) ∙ rw (enough 8 (little_bytes 8 n) rest refl) refl
 
 pub record HasInt (bytes rest : List ℕ) : Type 0 where
   pub value : ℕ
@@ -54,7 +54,7 @@ wide k first bytes rest fits long encoded is = record {
   bytes_are = ap (λ l. first ∷ l) (number_at_front k bytes long fits ∙ ap (λ l. little_bytes k (little_number k bytes) ++ l) is);
 }
 
-pub has_int : (bytes rest : List ℕ) → IsBytes bytes → behind_int bytes ≡ Some rest → HasInt bytes rest
+pub has_int : (bytes rest : List ℕ) → IsBytes bytes → after_int bytes ≡ Some rest → HasInt bytes rest
 has_int [] rest fits is = absurd cc
 has_int (first ∷ bytes) rest fits is =
     let of = IsBytes-rest first bytes fits in
@@ -76,13 +76,13 @@ none_of : {X : Type 0} (o : Option X) → ((x : X) → o ≡ Some x → ⊥) →
 none_of None not = refl
 none_of (Some x) not = absurd (not x refl)
 
-pub no_int : (bytes : List ℕ) → IsBytes bytes → ((n len : ℕ) → IsLengthEncoded n (take len bytes) → ⊥) → behind_int bytes ≡ None
-no_int bytes fits not = none_of (behind_int bytes) (λ rest is.
+pub no_int : (bytes : List ℕ) → IsBytes bytes → ((n len : ℕ) → IsLengthEncoded n (take len bytes) → ⊥) → after_int bytes ≡ None
+no_int bytes fits not = none_of (after_int bytes) (λ rest is.
     let h = has_int bytes rest fits is in
     not h.value (length h.front) (subst (IsLengthEncoded h.value) (sym (ap (take (length h.front)) h.bytes_are ∙ take-append_seam h.front rest)) h.is_int))
 
-pub some_int : (n len : ℕ) (bytes : List ℕ) → IsLengthEncoded n (take len bytes) → behind_int bytes ≡ Some (drop len bytes)
-some_int n len bytes is = ap behind_int (sym (take-append-drop len bytes)) ∙ int_behind n (take len bytes) (drop len bytes) is
+pub some_int : (n len : ℕ) (bytes : List ℕ) → IsLengthEncoded n (take len bytes) → after_int bytes ≡ Some (drop len bytes)
+some_int n len bytes is = ap after_int (sym (take-append-drop len bytes)) ∙ int_after n (take len bytes) (drop len bytes) is
 
 pub if_none : {X P : Type 0} (o : Option X) → P → IfNone o P
 if_none None p = p
@@ -103,11 +103,11 @@ other_plugin name rest text other = rw (some_bytes name rest, has_zero-text name
 
 pub short_data : (name rest : List ℕ) → IsText name → bytes_eq name plugin_name ≡ true → length rest < 20 → switch_refusal (name ++ 0 ∷ rest) ≡ Some truncated
 unfolding switch_refusal
-short_data name rest text same short = rw (some_bytes name rest, has_zero-text name rest, before_zero-text name rest text, same, behind_zero-text name rest text, lt-ltb _ _ short) refl
+short_data name rest text same short = rw (some_bytes name rest, has_zero-text name rest, before_zero-text name rest text, same, after_zero-text name rest text, lt-ltb _ _ short) refl
 
 pub no_fault : (name rest : List ℕ) → IsText name → bytes_eq name plugin_name ≡ true → 20 ≤ length rest → switch_refusal (name ++ 0 ∷ rest) ≡ None
 unfolding switch_refusal
-no_fault name rest text same long = rw (some_bytes name rest, has_zero-text name rest, before_zero-text name rest text, same, behind_zero-text name rest text, le-ltb _ _ long) refl
+no_fault name rest text same long = rw (some_bytes name rest, has_zero-text name rest, before_zero-text name rest text, same, after_zero-text name rest text, le-ltb _ _ long) refl
 
 pub is_switch : (name rest : List ℕ) → name ≡ plugin_name → 20 ≤ length rest → IsSwitch (take 20 rest) (0xFE ∷ (name ++ 0 ∷ rest))
 is_switch name rest same long = record {
@@ -156,13 +156,13 @@ four_more affected_rows insert_id a b rest is_a is_b long = record {
   size = omega (arith, long, length-take 4 rest);
 }
 
-pub is_ok : (body : List ℕ) → IsBytes body → has_insert_id (behind_int body) ≡ true → IsOkPacket (0x00 ∷ body)
-is_ok body fits is = elim (option_is (behind_int body)) [
+pub is_ok : (body : List ℕ) → IsBytes body → has_insert_id (after_int body) ≡ true → IsOkPacket (0x00 ∷ body)
+is_ok body fits is = elim (option_is (after_int body)) [
   | inl none ↦ absurd (false≢true (sym (ap has_insert_id none) ∙ is))
   | inr (rest, some) ↦ let a = has_int body rest fits some in
-      elim (option_is (behind_int rest)) [
+      elim (option_is (after_int rest)) [
         | inl none ↦ absurd (false≢true (sym (ap has_counters none) ∙ sym (ap has_insert_id some) ∙ is))
-        | inr (counters, more) ↦ let b = has_int rest counters (IsBytes-behind a.front rest (subst IsBytes a.bytes_are fits)) more in
+        | inr (counters, more) ↦ let b = has_int rest counters (IsBytes-after a.front rest (subst IsBytes a.bytes_are fits)) more in
             subst (λ l. IsOkPacket (0x00 ∷ l)) (sym (a.bytes_are ∙ ap (λ l. a.front ++ l) b.bytes_are))
             (four_more a.value b.value a.front b.front counters a.is_int b.is_int (leb-true _ _ (sym (ap has_counters more) ∙ sym (ap has_insert_id some) ∙ is)))
       ]
@@ -173,9 +173,9 @@ unfolding ok_refusal
 ok_not_refused payload is =
     let rest = is.counters ++ is.ignored in
     let parts : payload ≡ 0x00 ∷ (is.affected_bytes ++ (is.insert_bytes ++ rest)) = is.payload_is ∙ right_4 (0x00 ∷ is.affected_bytes) is.insert_bytes is.counters is.ignored in
-    let whole : has_insert_id (behind_int (is.affected_bytes ++ (is.insert_bytes ++ rest))) ≡ true =
-    ap has_insert_id (int_behind is.affected_rows is.affected_bytes (is.insert_bytes ++ rest) is.affected)
-    ∙ ap has_counters (int_behind is.insert_id is.insert_bytes rest is.inserted)
+    let whole : has_insert_id (after_int (is.affected_bytes ++ (is.insert_bytes ++ rest))) ≡ true =
+    ap has_insert_id (int_after is.affected_rows is.affected_bytes (is.insert_bytes ++ rest) is.affected)
+    ∙ ap has_counters (int_after is.insert_id is.insert_bytes rest is.inserted)
     ∙ enough 4 is.counters is.ignored is.size in
     rw (parts, whole) refl
 
@@ -209,7 +209,7 @@ eof_nothing [] few = refl
 eof_nothing (b ∷ payload) few = absurd (omega (arith, few))
 
 -- the bytes after the first of an OK decide
-pub counted_ok : {X F : Type 0} (body : List ℕ) (result : Result X F) → IsBytes body → OnOk result (has_insert_id (behind_int body) ≡ true) → OnOk result (IsOkPacket (0x00 ∷ body))
+pub counted_ok : {X F : Type 0} (body : List ℕ) (result : Result X F) → IsBytes body → OnOk result (has_insert_id (after_int body) ≡ true) → OnOk result (IsOkPacket (0x00 ∷ body))
 counted_ok body (Ok x) fits is = is_ok body fits is
 counted_ok body (Err f) fits is = tt
 
@@ -219,7 +219,7 @@ of_fault X f = Err f
 same_fault : {X : Type 0} {f g : GreetFault} → of_fault X f ≡ of_fault X g → f ≡ g
 same_fault is = cc
 
-pub counted_fault : {X : Type 0} (body : List ℕ) (result : Result X GreetFault) → OnErr result ((result ≡ Err faults.Truncated) × (has_insert_id (behind_int body) ≡ false)) → IfErr result (Refuses (ok_refusal (0x00 ∷ body)))
+pub counted_fault : {X : Type 0} (body : List ℕ) (result : Result X GreetFault) → OnErr result ((result ≡ Err faults.Truncated) × (has_insert_id (after_int body) ≡ false)) → IfErr result (Refuses (ok_refusal (0x00 ∷ body)))
 unfolding ok_refusal
 counted_fault body (Ok x) is = tt
 counted_fault body (Err f) is = let truncation : f ≡ faults.Truncated = same_fault (is.0) in rw (is.1) (subst (Refuses (Some truncated)) (sym truncation) refl)

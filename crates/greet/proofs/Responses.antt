@@ -6,8 +6,8 @@ use Rattle.std.proofs.lemmas.Bool.{ne_eqb, eq-eqb, eqb-true, le-ltb, lt-ltb}
 use Rattle.std.proofs.lemmas.List.{drop_more, length-append, take-append-drop, take_at, drop_at}
 use Rattle.std.specs.Str.{bytes_eq}
 use Rattle.greet.specs.Message.{IsText, plugin_name, response_lead, ResponseValue, IsResponse}
-use Rattle.greet.specs.Refusal.{protocol, truncated, plugin, behind_zero, before_zero, first_difference, end_refusal, response_refusal}
-use Rattle.greet.proofs.Cuts.{IsText-by, has_zero-text, has_zero-none, behind_zero-text, before_zero-text, right_5}
+use Rattle.greet.specs.Refusal.{protocol, truncated, plugin, after_zero, before_zero, first_difference, end_refusal, response_refusal}
+use Rattle.greet.proofs.Cuts.{IsText-by, has_zero-text, has_zero-none, after_zero-text, before_zero-text, right_5}
 
 -- ---- The leading bytes.
 
@@ -52,15 +52,15 @@ no_name lead name text = rw (has_zero-none name text) refl
 
 pub left_over : (lead name rest : List ℕ) → IsText name → (length rest == 0) ≡ false → end_refusal lead (name ++ 0 ∷ rest) ≡ Some truncated
 unfolding end_refusal
-left_over lead name rest text some = rw (has_zero-text name rest, behind_zero-text name rest text, some) refl
+left_over lead name rest text some = rw (has_zero-text name rest, after_zero-text name rest text, some) refl
 
 pub other_plugin : (lead name rest : List ℕ) → IsText name → (length rest == 0) ≡ true → bytes_eq name plugin_name ≡ false → end_refusal lead (name ++ 0 ∷ rest) ≡ Some plugin
 unfolding end_refusal
-other_plugin lead name rest text none other = rw (has_zero-text name rest, behind_zero-text name rest text, none, before_zero-text name rest text, other) refl
+other_plugin lead name rest text none other = rw (has_zero-text name rest, after_zero-text name rest text, none, before_zero-text name rest text, other) refl
 
 pub whole_name : (lead name rest : List ℕ) → IsText name → (length rest == 0) ≡ true → bytes_eq name plugin_name ≡ true → end_refusal lead (name ++ 0 ∷ rest) ≡ first_difference lead response_lead
 unfolding end_refusal
-whole_name lead name rest text none same = rw (has_zero-text name rest, behind_zero-text name rest text, none, before_zero-text name rest text, same) refl
+whole_name lead name rest text none same = rw (has_zero-text name rest, after_zero-text name rest text, none, before_zero-text name rest text, same) refl
 
 -- ---- The whole.
 
@@ -74,11 +74,11 @@ no_user payload text = rw (has_zero-none (drop 32 payload) text) refl
 
 pub no_size : (payload user : List ℕ) → drop 32 payload ≡ user ++ 0 ∷ [] → IsText user → response_refusal payload ≡ Some truncated
 unfolding response_refusal
-no_size payload user parts text = rw (parts, has_zero-text user [], behind_zero-text user [] text) refl
+no_size payload user parts text = rw (parts, has_zero-text user [], after_zero-text user [] text) refl
 
 pub short_answer : (payload user : List ℕ) (size : ℕ) (rest : List ℕ) → drop 32 payload ≡ user ++ 0 ∷ (size ∷ rest) → IsText user → length rest < size → response_refusal payload ≡ Some truncated
 unfolding response_refusal
-short_answer payload user size rest parts text short = rw (parts, has_zero-text user (size ∷ rest), behind_zero-text user (size ∷ rest) text, lt-ltb (suc (length rest)) (1 + size) (omega (arith, short))) refl
+short_answer payload user size rest parts text short = rw (parts, has_zero-text user (size ∷ rest), after_zero-text user (size ∷ rest) text, lt-ltb (suc (length rest)) (1 + size) (omega (arith, short))) refl
 
 drop_one_more : (n x : ℕ) (xs : List ℕ) → drop (1 + n) (x ∷ xs) ≡ drop n xs
 drop_one_more n x xs = let e : 1 + n ≡ suc n = omega arith in ap (λ k. drop k (x ∷ xs)) e
@@ -86,7 +86,7 @@ drop_one_more n x xs = let e : 1 + n ≡ suc n = omega arith in ap (λ k. drop k
 pub then_end : (payload user : List ℕ) (size : ℕ) (rest : List ℕ) → drop 32 payload ≡ user ++ 0 ∷ (size ∷ rest) → IsText user → size ≤ length rest → response_refusal payload ≡ end_refusal (take 32 payload) (drop size rest)
 unfolding response_refusal
 then_end payload user size rest parts text long =
-    rw (parts, has_zero-text user (size ∷ rest), behind_zero-text user (size ∷ rest) text, le-ltb (suc (length rest)) (1 + size) (omega (arith, long)), drop_one_more size size rest) refl
+    rw (parts, has_zero-text user (size ∷ rest), after_zero-text user (size ∷ rest) text, le-ltb (suc (length rest)) (1 + size) (omega (arith, long)), drop_one_more size size rest) refl
 
 pub is_response : (payload user auth : List ℕ) → take 32 payload ≡ response_lead → drop 32 payload ≡ user ++ 0 ∷ (length auth ∷ (auth ++ (plugin_name ++ 0 ∷ []))) → IsText user → length auth < 256 →
     IsResponse (record { user = user; auth = auth }) payload
@@ -116,7 +116,7 @@ one_value a b payload is_a is_b =
     let tb = length b.auth ∷ (b.auth ++ (plugin_name ++ 0 ∷ [])) in
     let same : a.user ++ 0 ∷ ta ≡ b.user ++ 0 ∷ tb = ap (drop 32) (sym (parts_of a payload is_a) ∙ parts_of b payload is_b) in
     let user = sym (before_zero-text a.user ta is_a.fits.0) ∙ ap before_zero same ∙ before_zero-text b.user tb is_b.fits.0 in
-    let behind : ta ≡ tb = sym (behind_zero-text a.user ta is_a.fits.0) ∙ ap behind_zero same ∙ behind_zero-text b.user tb is_b.fits.0 in
-    let size : length a.auth ≡ length b.auth = ap (λ l. get_or l 0 0) behind in
-    let auth : a.auth ≡ b.auth = sym (take_at a.auth (plugin_name ++ 0 ∷ []) (length a.auth) refl) ∙ (λ i. take (size i) (drop 1 (behind i))) ∙ take_at b.auth (plugin_name ++ 0 ∷ []) (length b.auth) refl in
+    let after : ta ≡ tb = sym (after_zero-text a.user ta is_a.fits.0) ∙ ap after_zero same ∙ after_zero-text b.user tb is_b.fits.0 in
+    let size : length a.auth ≡ length b.auth = ap (λ l. get_or l 0 0) after in
+    let auth : a.auth ≡ b.auth = sym (take_at a.auth (plugin_name ++ 0 ∷ []) (length a.auth) refl) ∙ (λ i. take (size i) (drop 1 (after i))) ∙ take_at b.auth (plugin_name ++ 0 ∷ []) (length b.auth) refl in
     λ i. record { user = user i; auth = auth i }

@@ -26,9 +26,9 @@ before_zero [] = []
 before_zero (b ∷ bytes) = if b == 0 then [] else b ∷ before_zero bytes
 
 -- the bytes after the first zero byte
-abbrev pub behind_zero : List ℕ → List ℕ
-behind_zero [] = []
-behind_zero (b ∷ bytes) = if b == 0 then bytes else behind_zero bytes
+abbrev pub after_zero : List ℕ → List ℕ
+after_zero [] = []
+after_zero (b ∷ bytes) = if b == 0 then bytes else after_zero bytes
 
 -- ---- Errors.
 
@@ -70,7 +70,7 @@ greeting_refusal [] = Some truncated
 greeting_refusal (first ∷ body) =
     if first == 0xFF then Some (error_of body)
     else if not (first == 10) then Some (protocol first)
-    else fields_refusal (behind_zero body)
+    else fields_refusal (after_zero body)
 
 -- ---- The response.
 
@@ -83,14 +83,14 @@ first_difference _ _ = None
 unfoldable pub end_refusal : List ℕ → List ℕ → Option Refusal
 end_refusal lead name =
     if not (has_zero name) then Some truncated
-    else if not (length (behind_zero name) == 0) then Some truncated
+    else if not (length (after_zero name) == 0) then Some truncated
     else if not (bytes_eq (before_zero name) plugin_name) then Some plugin
     else first_difference lead response_lead
 
 unfoldable pub response_refusal : List ℕ → Option Refusal
 response_refusal payload =
     let user = drop 32 payload in
-    let auth = behind_zero user in
+    let auth = after_zero user in
     let size = slice_index auth 0 in
     if not (has_zero user) then Some truncated
     else if nat_lt (length auth) (1 + size) then Some truncated
@@ -99,9 +99,9 @@ response_refusal payload =
 -- ---- The source's replies.
 
 -- the bytes after a length-encoded integer, if there is one at the front
-abbrev pub behind_int : List ℕ → Option (List ℕ)
-behind_int [] = None
-behind_int (first ∷ bytes) =
+abbrev pub after_int : List ℕ → Option (List ℕ)
+after_int [] = None
+after_int (first ∷ bytes) =
     if nat_le first 250 then Some bytes
     else if (first == 0xFC) && nat_le 2 (length bytes) then Some (drop 2 bytes)
     else if (first == 0xFD) && nat_le 3 (length bytes) then Some (drop 3 bytes)
@@ -115,7 +115,7 @@ has_counters (Some bytes) = nat_le 4 (length bytes)
 
 abbrev pub has_insert_id : Option (List ℕ) → Bool
 has_insert_id None = false
-has_insert_id (Some bytes) = has_counters (behind_int bytes)
+has_insert_id (Some bytes) = has_counters (after_int bytes)
 
 -- if an OK is expected
 unfoldable pub ok_refusal : List ℕ → Option Refusal
@@ -123,7 +123,7 @@ ok_refusal [] = Some truncated
 ok_refusal (first ∷ body) =
     if first == 0xFF then Some (error_of body)
     else if not (first == 0x00) then Some (unexpected first)
-    else if not (has_insert_id (behind_int body)) then Some truncated
+    else if not (has_insert_id (after_int body)) then Some truncated
     else None
 
 -- after the 0xFE of a switch
@@ -132,7 +132,7 @@ switch_refusal body =
     if length body == 0 then Some old_auth
     else if not (has_zero body) then Some truncated
     else if not (bytes_eq (before_zero body) plugin_name) then Some plugin
-    else if nat_lt (length (behind_zero body)) 20 then Some truncated
+    else if nat_lt (length (after_zero body)) 20 then Some truncated
     else None
 
 -- if the reply to an authentication is expected: an OK or a switch

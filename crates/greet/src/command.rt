@@ -1,7 +1,7 @@
 //! The replica's commands. MySQL Source Documentation, "Client/Server Protocol", the page `COM_QUERY`, and
 //! "Replication Protocol", the page `COM_BINLOG_DUMP_GTID`.
 
-ghost use Rattle.std.specs.Prelude.{◌≡◌, ◌≢◌, ◌<◌, ◌^◌, ◌+◌, [], ◌++◌, List, length, drop, IsTrue, ◌↔◌, IfOk, IfErr, MatchResult, OnOk, OnErr, Ok, Err};
+ghost use Rattle.std.specs.Prelude.{◌≡◌, ◌≢◌, ◌<◌, ◌^◌, ◌+◌, [], ◌++◌, List, length, drop, IsTrue, ◌↔◌, IfOk, IfErr, MatchResult, OnOk, OnErr, Ok, Err, vec_len, vec_capacity};
 ghost use Rattle.byteorder.specs.Endian.{little_bytes, little_number};
 ghost use Rattle.greet.specs.Message.{DumpValue, IsDump, FitsDump, dump_bytes, query_bytes};
 ghost use Rattle.greet.specs.Refusal.{dump_refusal, dump_name_size, dump_set_size};
@@ -18,10 +18,12 @@ const COM_BINLOG_DUMP_GTID: u8 = 0x1e;
 /// The position of the first event in a binary log file.
 const FIRST_POSITION: u64 = 4;
 
-/// Appends a COM_QUERY with this text. The only error is `Memory`, which leaves the vector as it was.
+/// Appends a COM_QUERY with this text. The only error is `Memory`: the vector lacks the room and cannot grow. It leaves
+/// the vector as it was.
 pub fn query(text: &[u8], out: &mut Vec<u8>) -> Result<(), GreetFault>
     ensures ok { OnOk result (out.new.items ≡ out.old.items ++ query_bytes text.now) }
     ensures err { OnErr result ((result ≡ Err GreetFault.Memory) × (out.new.items ≡ out.old.items)) }
+    ensures full { OnErr result (vec_capacity out.old < vec_len out.old + length (query_bytes text.now)) }
 {
     append(&[&[COM_QUERY], text], out)
 }
@@ -46,12 +48,13 @@ impl<'a> Dump<'a> {
         self.set.len() <= u32::MAX as usize
     }
 
-    /// Appends the command, with an empty file name and position 4. The only error is `Memory`, which leaves the vector
-    /// as it was.
+    /// Appends the command, with an empty file name and position 4. The only error is `Memory`: the vector lacks the
+    /// room and cannot grow. It leaves the vector as it was.
     pub fn write(&self, out: &mut Vec<u8>) -> Result<(), GreetFault>
         requires { FitsDump (dump_value self.now) }
         ensures ok { OnOk result (out.new.items ≡ out.old.items ++ dump_bytes (dump_value self.now) [] (little_bytes 8 4)) }
         ensures err { OnErr result ((result ≡ Err GreetFault.Memory) × (out.new.items ≡ out.old.items)) }
+        ensures full { OnErr result (vec_capacity out.old < vec_len out.old + length (dump_bytes (dump_value self.now) [] (little_bytes 8 4))) }
     {
         let size = self.set.len() as u32;
         append(

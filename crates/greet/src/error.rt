@@ -1,6 +1,6 @@
 //! ERR packets that a source sends.
 
-ghost use Rattle.std.specs.Prelude.{◌≡◌, Some};
+ghost use Rattle.std.specs.Prelude.{◌≡◌, ◌≤◌, length, Some};
 ghost use Rattle.greet.specs.Refusal.{error_of, state_of, message_of};
 ghost use Rattle.greet.specs.View.{Refuses};
 
@@ -17,7 +17,8 @@ const KEPT: usize = 512;
 /// The fault of an ERR, from the bytes after its first.
 #[tactic(auto, unfolding(crate::specs::Refusal::error_of))]
 pub(crate) fn server_error(alloc: Global, bytes: &[u8]) -> GreetFault
-    ensures { Refuses (Some (error_of bytes.now)) result }
+    ensures fault { Refuses (Some (error_of bytes.now)) result }
+    ensures memory { result ≡ GreetFault.Memory → 2 ≤ length bytes.now }
 {
     if bytes.len() < 2 {
         return GreetFault::Truncated;

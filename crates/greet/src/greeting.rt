@@ -1,10 +1,11 @@
 //! The source's greeting. MySQL Source Documentation, "Client/Server Protocol", the page
 //! `Protocol::HandshakeV10`.
 
-ghost use Rattle.std.specs.Prelude.{◌≡◌, ◌≤◌, ◌+◌, ◌*◌, ◌/◌, ◌^◌, replicate, ◌++◌, ◌∷◌, length, take, drop, slice_index, bit_and, ◌↔◌, IsTrue, IfOk, IfErr, MatchResult, OnOk, OnErr, Err};
+ghost use Rattle.std.specs.Prelude.{◌≡◌, ◌≢◌, ◌⊎◌, ◌<◌, ◌≤◌, ◌+◌, ◌*◌, ◌/◌, ◌^◌, replicate, ◌++◌, ◌∷◌, length, take, drop, slice_index, bit_and, ◌↔◌, IsTrue, IfOk, IfErr, MatchResult, OnOk, OnErr, Err, vec_len, vec_capacity};
 ghost use Rattle.byteorder.specs.Endian.{little_bytes, little_number};
 ghost use Rattle.greet.specs.Message.{GreetingValue, IsGreeting, FitsGreeting, greeting_bytes, needed};
-ghost use Rattle.greet.specs.Refusal.{greeting_refusal, fields_refusal, behind_zero};
+ghost use Rattle.greet.specs.Refusal.{greeting_refusal, fields_refusal, after_zero};
+ghost use Rattle.greet.specs.Complete.{HasErr, HasGreeting};
 ghost use Rattle.greet.specs.View.{greeting_value, Refuses};
 
 use crate::error::{ERR, server_error};
@@ -60,11 +61,13 @@ impl Greeting {
     /// The first of these is reported: an empty payload as `Truncated`; an ERR as `ServerError`, or as `Truncated` if
     /// it is shorter than three bytes; another protocol version as `Protocol`; a field up to the reserved bytes that is
     /// not there as `Truncated`; needed capability flags that are missing as `Capabilities`; a second part of the
-    /// scramble that is too short as `Truncated`. `Memory` if an allocation was refused.
+    /// scramble that is too short as `Truncated`. `Memory` if an allocation was refused, for an ERR or a whole greeting
+    /// alone: of these a text is kept.
     pub fn read(alloc: Global, payload: &[u8]) -> Result<Greeting, GreetFault>
         ensures found { IfOk result (λ greeting. IsGreeting (greeting_value greeting) payload.now) }
         ensures only { (g : GreetingValue) → IsGreeting g payload.now → MatchResult result (λ greeting. greeting_value greeting ≡ g) (λ fault. fault ≡ GreetFault.Memory) }
         ensures fault { IfErr result (Refuses (greeting_refusal payload.now)) }
+        ensures memory { result ≡ Err GreetFault.Memory → HasErr payload.now ⊎ HasGreeting payload.now }
     {
         match payload {
             [] => Err(GreetFault::Truncated),
@@ -74,11 +77,13 @@ impl Greeting {
         }
     }
 
-    /// Appends the greeting's payload. The only error is `Memory`, which leaves the vector as it was.
+    /// Appends the greeting's payload. The only error is `Memory`: the vector lacks the room and cannot grow. It leaves
+    /// the vector as it was.
     pub fn write(&self, out: &mut Vec<u8>) -> Result<(), GreetFault>
         requires { FitsGreeting (greeting_value self.now) }
         ensures ok { OnOk result (out.new.items ≡ out.old.items ++ greeting_bytes (greeting_value self.now)) }
         ensures err { OnErr result ((result ≡ Err GreetFault.Memory) × (out.new.items ≡ out.old.items)) }
+        ensures full { OnErr result (vec_capacity out.old < vec_len out.old + length (greeting_bytes (greeting_value self.now))) }
     {
         let [a, b, c, d] = self.thread.to_le_bytes();
         let (first, second) = self.scramble.split_at(8);
@@ -112,7 +117,8 @@ impl Greeting {
 /// Reads the bytes after the first.
 fn read_body(alloc: Global, body: &[u8]) -> Result<Greeting, GreetFault>
     ensures found { IfOk result (λ greeting. IsGreeting (greeting_value greeting) (10 ∷ body.now)) }
-    ensures fault { IfErr result (Refuses (fields_refusal (behind_zero body.now))) }
+    ensures fault { IfErr result (Refuses (fields_refusal (after_zero body.now))) }
+    ensures memory { result ≡ Err GreetFault.Memory → HasGreeting (10 ∷ body.now) }
 {
     let Some((version, fields)) = split_text(body) else {
         return Err(GreetFault::Truncated);
@@ -158,6 +164,7 @@ impl<'a> Fixed<'a> {
         ensures status { IfOk result (λ fixed. fixed.status ≡ little_number 2 (drop 16 fields.now)) }
         ensures size { IfOk result (λ fixed. fixed.size ≡ slice_index fields.now 20) }
         ensures fault { IfErr result (Refuses (fields_refusal fields.now)) }
+        ensures no_memory { IfErr result (λ fault. fault ≢ GreetFault.Memory) }
     {
         if fields.len() < FIXED {
             return Err(GreetFault::Truncated);

@@ -8,7 +8,7 @@ ghost use Rattle.std.specs.Prelude.{◌≡◌, ◌⊎◌, ℕ, ◌<◌, ◌^◌,
 ghost use Rattle.std.specs.List.{AllByRecursion};
 ghost use Rattle.byteorder.specs.Endian.{little_bytes};
 ghost use Rattle.greet.specs.Message.{GreetingValue, IsGreeting, FitsGreeting, greeting_bytes, ResponseValue, IsResponse, FitsResponse, response, IsSwitch, IsOkPacket, IsEofPacket, IsErrPacket, DumpValue, IsDump, FitsDump, dump_bytes};
-ghost use Rattle.greet.specs.Complete.{HasGreeting, HasResponse, HasSwitch, HasDump};
+ghost use Rattle.greet.specs.Complete.{HasGreeting, HasResponse, HasSwitch, HasDump, IsErrOf};
 ghost use Rattle.greet.specs.Refusal.{server_error, kept_message, greeting_refusal, response_refusal, reply_refusal, ok_refusal, eof_refusal, dump_refusal};
 
 /// A greeting has one meaning, is not refused, and is what is written of its value.
@@ -41,13 +41,17 @@ pub fn replies()
 {}
 
 /// An ERR has one meaning, and instead of any message of the source it is reported with its code, its state and the
-/// first 512 bytes of its message.
+/// first 512 bytes of its message. What is reported so is an ERR.
 pub fn errors()
     ensures one { (m n : ℕ) (s t : Option (List ℕ)) (a b payload : List ℕ) → IsErrPacket m s a payload → IsErrPacket n t b payload → (m ≡ n) × (s ≡ t) × (a ≡ b) }
     ensures greeting { (code : ℕ) (state : Option (List ℕ)) (message payload : List ℕ) → IsErrPacket code state message payload → greeting_refusal payload ≡ Some (server_error code state (take kept_message message)) }
     ensures reply { (code : ℕ) (state : Option (List ℕ)) (message payload : List ℕ) → IsErrPacket code state message payload → reply_refusal payload ≡ Some (server_error code state (take kept_message message)) }
     ensures ok { (code : ℕ) (state : Option (List ℕ)) (message payload : List ℕ) → IsErrPacket code state message payload → ok_refusal payload ≡ Some (server_error code state (take kept_message message)) }
     ensures eof { (code : ℕ) (state : Option (List ℕ)) (message payload : List ℕ) → IsErrPacket code state message payload → eof_refusal payload ≡ Some (server_error code state (take kept_message message)) }
+    ensures only_greeting { (code : ℕ) (state : Option (List ℕ)) (kept payload : List ℕ) → AllByRecursion (λ b. b < 256) payload → greeting_refusal payload ≡ Some (server_error code state kept) → IsErrOf code state kept payload }
+    ensures only_reply { (code : ℕ) (state : Option (List ℕ)) (kept payload : List ℕ) → AllByRecursion (λ b. b < 256) payload → reply_refusal payload ≡ Some (server_error code state kept) → IsErrOf code state kept payload }
+    ensures only_ok { (code : ℕ) (state : Option (List ℕ)) (kept payload : List ℕ) → AllByRecursion (λ b. b < 256) payload → ok_refusal payload ≡ Some (server_error code state kept) → IsErrOf code state kept payload }
+    ensures only_eof { (code : ℕ) (state : Option (List ℕ)) (kept payload : List ℕ) → AllByRecursion (λ b. b < 256) payload → eof_refusal payload ≡ Some (server_error code state kept) → IsErrOf code state kept payload }
 {}
 
 /// A dump command has one meaning, is not refused, and is what is written of its value.

@@ -1,8 +1,8 @@
 //! Parts of messages.
 
-ghost use Rattle.std.specs.Prelude.{◌≡◌, ◌++◌, ◌∷◌, true, false, take, drop, length, flat_map, IfSome, IfNone, IsTrue, ◌↔◌, OnOk, OnErr, Err};
+ghost use Rattle.std.specs.Prelude.{◌≡◌, ◌<◌, ◌+◌, ◌++◌, ◌∷◌, true, false, take, drop, length, flat_map, IfSome, IfNone, IsTrue, ◌↔◌, OnOk, OnErr, Err, vec_len, vec_capacity};
 ghost use Rattle.greet.specs.Message.{IsText};
-ghost use Rattle.greet.specs.Refusal.{has_zero, before_zero, behind_zero};
+ghost use Rattle.greet.specs.Refusal.{has_zero, before_zero, after_zero};
 
 use crate::fault::GreetFault;
 
@@ -26,10 +26,12 @@ pub(crate) fn is_text(bytes: &[u8]) -> bool
     !bytes.contains(&0)
 }
 
-/// Appends the parts, one after the other. The only error is `Memory`, which leaves the vector as it was.
+/// Appends the parts, one after the other. The only error is `Memory`: the vector lacks the room for
+/// them and cannot grow. It leaves the vector as it was.
 pub(crate) fn append(parts: &[&[u8]], out: &mut Vec<u8>) -> Result<(), GreetFault>
     ensures ok { OnOk result (out.new.items ≡ out.old.items ++ flat_map (λ part. part.now) parts.now) }
     ensures err { OnErr result ((result ≡ Err GreetFault.Memory) × (out.new.items ≡ out.old.items)) }
+    ensures full { OnErr result (vec_capacity out.old < vec_len out.old + length (flat_map (λ part. part.now) parts.now)) }
 {
     let len = out.len();
     for part in parts {

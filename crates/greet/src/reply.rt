@@ -3,8 +3,9 @@
 
 ghost use Rattle.std.specs.Prelude.{◌≡◌, ◌≢◌, ℕ, ◌++◌, ◌∷◌, List, true, false, IfOk, IfErr, IfSome, IfNone, MatchResult, ⊤, OnOk, OnErr, Ok, Err, Some, None};
 ghost use Rattle.greet.specs.Message.{IsOkPacket, IsSwitch, IsEofPacket};
-ghost use Rattle.greet.specs.Refusal.{reply_refusal, ok_refusal, eof_refusal, switch_refusal, behind_int, has_insert_id};
+ghost use Rattle.greet.specs.Refusal.{reply_refusal, ok_refusal, eof_refusal, switch_refusal, after_int, has_insert_id};
 ghost use Rattle.greet.specs.View.{Refuses};
+ghost use Rattle.greet.specs.Complete.{HasErr};
 
 use crate::error::{ERR, server_error};
 use crate::fault::GreetFault;
@@ -36,13 +37,15 @@ impl AuthReply {
     /// An empty payload, or an OK whose fields do not fit, is reported as `Truncated`, an ERR as `ServerError` (as
     /// `Truncated` if it is shorter than three bytes), and another first byte as `Unexpected`. For a switch the first
     /// of these is reported: one byte alone as `OldAuth`, a plugin name without its zero byte as `Truncated`, another
-    /// plugin as `Plugin`, and a scramble of fewer than 20 bytes as `Truncated`. `Memory` if an allocation was refused.
+    /// plugin as `Plugin`, and a scramble of fewer than 20 bytes as `Truncated`. `Memory` for an ERR alone, whose message
+    /// is kept: an allocation was refused.
     pub fn read(alloc: Global, payload: &[u8]) -> Result<AuthReply, GreetFault>
         ensures ok { result ≡ Ok AuthReply.Ok → IsOkPacket payload.now }
         ensures switch { (scramble : List ℕ) → result ≡ Ok (AuthReply.Switch scramble) → IsSwitch scramble payload.now }
         ensures only_ok { IsOkPacket payload.now → MatchResult result (λ reply. reply ≡ AuthReply.Ok) (λ fault. fault ≡ GreetFault.Memory) }
         ensures only_switch { (scramble : List ℕ) → IsSwitch scramble payload.now → MatchResult result (λ reply. reply ≡ AuthReply.Switch scramble) (λ fault. fault ≡ GreetFault.Memory) }
         ensures fault { IfErr result (Refuses (reply_refusal payload.now)) }
+        ensures memory { result ≡ Err GreetFault.Memory → HasErr payload.now }
     {
         let [first, body @ ..] = payload else {
             return Err(GreetFault::Truncated);
@@ -82,12 +85,13 @@ fn read_switch(body: &[u8]) -> Result<[u8; 20], GreetFault>
 /// Reads an OK.
 ///
 /// An empty payload, or an OK whose fields do not fit, is reported as `Truncated`, an ERR as `ServerError` (as
-/// `Truncated` if it is shorter than three bytes), and another first byte as `Unexpected`. `Memory` if an allocation
-/// was refused.
+/// `Truncated` if it is shorter than three bytes), and another first byte as `Unexpected`. `Memory` for an ERR alone,
+/// whose message is kept: an allocation was refused.
 pub fn read_ok(alloc: Global, payload: &[u8]) -> Result<(), GreetFault>
     ensures ok { OnOk result (IsOkPacket payload.now) }
     ensures only { IsOkPacket payload.now → MatchResult result (λ _. ⊤) (λ fault. fault ≡ GreetFault.Memory) }
     ensures fault { IfErr result (Refuses (ok_refusal payload.now)) }
+    ensures memory { result ≡ Err GreetFault.Memory → HasErr payload.now }
 {
     match payload {
         [] => Err(GreetFault::Truncated),
@@ -99,13 +103,13 @@ pub fn read_ok(alloc: Global, payload: &[u8]) -> Result<(), GreetFault>
 
 /// Checks the bytes after the first of an OK: two length-encoded integers and four bytes.
 fn read_counters(body: &[u8]) -> Result<(), GreetFault>
-    ensures ok { OnOk result (has_insert_id (behind_int body.now) ≡ true) }
-    ensures err { OnErr result ((result ≡ Err GreetFault.Truncated) × (has_insert_id (behind_int body.now) ≡ false)) }
+    ensures ok { OnOk result (has_insert_id (after_int body.now) ≡ true) }
+    ensures err { OnErr result ((result ≡ Err GreetFault.Truncated) × (has_insert_id (after_int body.now) ≡ false)) }
 {
-    let Some(body) = behind_int(body) else {
+    let Some(body) = after_int(body) else {
         return Err(GreetFault::Truncated);
     };
-    let Some(body) = behind_int(body) else {
+    let Some(body) = after_int(body) else {
         return Err(GreetFault::Truncated);
     };
     if body.len() < 4 {
@@ -115,9 +119,9 @@ fn read_counters(body: &[u8]) -> Result<(), GreetFault>
 }
 
 /// The bytes after the length-encoded integer at the front.
-fn behind_int(bytes: &[u8]) -> Option<&[u8]>
-    ensures some { IfSome result (λ rest. behind_int bytes.now ≡ Some rest.now) }
-    ensures none { IfNone result (behind_int bytes.now ≡ None) }
+fn after_int(bytes: &[u8]) -> Option<&[u8]>
+    ensures some { IfSome result (λ rest. after_int bytes.now ≡ Some rest.now) }
+    ensures none { IfNone result (after_int bytes.now ≡ None) }
 {
     let (_, size) = read_int(bytes)?;
     Some(&bytes[size..])
@@ -127,11 +131,12 @@ fn behind_int(bytes: &[u8]) -> Option<&[u8]>
 ///
 /// An empty payload, or an EOF that is cut short, is reported as `Truncated`, an ERR as `ServerError` (as `Truncated`
 /// if it is shorter than three bytes), and another first byte, or a payload of nine bytes or more, as `Unexpected`.
-/// `Memory` if an allocation was refused.
+/// `Memory` for an ERR alone, whose message is kept: an allocation was refused.
 pub fn read_eof(alloc: Global, payload: &[u8]) -> Result<(), GreetFault>
     ensures ok { OnOk result (IsEofPacket payload.now) }
     ensures only { IsEofPacket payload.now → MatchResult result (λ _. ⊤) (λ fault. fault ≡ GreetFault.Memory) }
     ensures fault { IfErr result (Refuses (eof_refusal payload.now)) }
+    ensures memory { result ≡ Err GreetFault.Memory → HasErr payload.now }
 {
     match payload {
         [] => Err(GreetFault::Truncated),

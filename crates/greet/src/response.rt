@@ -1,9 +1,10 @@
 //! The replica's response to a greeting. MySQL Source Documentation, "Client/Server Protocol", the page
 //! `Protocol::HandshakeResponse41`.
 
-ghost use Rattle.std.specs.Prelude.{◌≡◌, ◌≢◌, ◌++◌, ◌∷◌, [], length, ◌↔◌, Some, IsTrue, IfOk, IfErr, IfSome, IfNone, MatchResult, OnOk, OnErr, Err};
+ghost use Rattle.std.specs.Prelude.{◌≡◌, ◌≢◌, ◌<◌, ◌+◌, ◌++◌, ◌∷◌, [], length, ◌↔◌, Some, IsTrue, IfOk, IfErr, IfSome, IfNone, MatchResult, OnOk, OnErr, Err, vec_len, vec_capacity};
 ghost use Rattle.greet.specs.Message.{ResponseValue, IsResponse, FitsResponse, response, response_lead, plugin_name};
 ghost use Rattle.greet.specs.Refusal.{response_refusal, end_refusal, first_difference, protocol};
+ghost use Rattle.greet.specs.Complete.{HasResponse};
 ghost use Rattle.greet.specs.View.{response_value, Refuses};
 
 use crate::fault::GreetFault;
@@ -33,11 +34,13 @@ impl Response {
         is_text(&self.user) && self.auth.len() < 256
     }
 
-    /// Appends the payload. The only error is `Memory`, which leaves the vector as it was.
+    /// Appends the payload. The only error is `Memory`: the vector lacks the room and cannot grow. It leaves the vector
+    /// as it was.
     pub fn write(&self, out: &mut Vec<u8>) -> Result<(), GreetFault>
         requires { FitsResponse (response_value self.now) }
         ensures ok { OnOk result (out.new.items ≡ out.old.items ++ response (response_value self.now)) }
         ensures err { OnErr result ((result ≡ Err GreetFault.Memory) × (out.new.items ≡ out.old.items)) }
+        ensures full { OnErr result (vec_capacity out.old < vec_len out.old + length (response (response_value self.now))) }
     {
         let size = self.auth.len() as u8;
         append(
@@ -50,11 +53,12 @@ impl Response {
     ///
     /// The first of these is reported: a field that does not fit, or bytes left over, as `Truncated`; another plugin as
     /// `Plugin`; the first of the leading 32 bytes that differs from what the replica sends as `Protocol`. `Memory` if
-    /// an allocation was refused.
+    /// an allocation was refused, for a whole response alone.
     pub fn read(alloc: Global, payload: &[u8]) -> Result<Response, GreetFault>
         ensures found { IfOk result (λ read. IsResponse (response_value read) payload.now) }
         ensures only { (r : ResponseValue) → IsResponse r payload.now → MatchResult result (λ read. response_value read ≡ r) (λ fault. fault ≡ GreetFault.Memory) }
         ensures fault { IfErr result (Refuses (response_refusal payload.now)) }
+        ensures memory { result ≡ Err GreetFault.Memory → HasResponse payload.now }
     {
         let (user, auth) = read_parts(payload)?;
         let user = Vec::from_slice(alloc, user)?;
@@ -67,6 +71,7 @@ impl Response {
 fn read_parts(payload: &[u8]) -> Result<(&[u8], &[u8]), GreetFault>
     ensures found { IfOk result (λ parts. IsResponse (record { user = parts.0.now; auth = parts.1.now }) payload.now) }
     ensures fault { IfErr result (Refuses (response_refusal payload.now)) }
+    ensures no_memory { IfErr result (λ fault. fault ≢ GreetFault.Memory) }
 {
     if payload.len() < LEAD.len() {
         return Err(GreetFault::Truncated);
@@ -94,6 +99,7 @@ fn read_end(lead: &[u8], rest: &[u8]) -> Result<(), GreetFault>
     ensures lead { OnOk result (lead.now ≡ response_lead) }
     ensures rest { OnOk result (rest.now ≡ plugin_name ++ 0 ∷ []) }
     ensures fault { IfErr result (Refuses (end_refusal lead.now rest.now)) }
+    ensures no_memory { IfErr result (λ fault. fault ≢ GreetFault.Memory) }
 {
     let Some((name, rest)) = split_text(rest) else {
         return Err(GreetFault::Truncated);

@@ -30,13 +30,13 @@ use Rattle.gtid.proofs.OneLeastList.{one_least_list}
 -- and what is below the source and the groups is below the first span, whatever intervals there are
 record Stands (s : List ℕ) (intervals : List Interval) (groups : List Group) : Type 0 where
   among : Among s intervals groups
-  under : (t : List ℕ) → IsBelow t (sources groups) → slice_cmp nat_cmp t s ≡ Less → (others : List Interval) → others ≢ [] → IsUnder t (among.front ++ (map (span s) others ++ among.behind))
+  under : (t : List ℕ) → IsBelow t (sources groups) → slice_cmp nat_cmp t s ≡ Less → (others : List Interval) → others ≢ [] → IsUnder t (among.front ++ (map (span s) others ++ among.after))
 
 here : (s : List ℕ) (intervals : List Interval) (all groups : List Group) → spans_of all ≡ map (span s) intervals ++ spans_of groups → Ascend (sources groups) → IsBelow s (sources groups) → Stands s intervals all
 here s intervals all groups is ascend below = record {
   among = record {
     front = [];
-    behind = spans_of groups;
+    after = spans_of groups;
     spans_are = is;
     other_least = λ others least some. least_group s 0 others (spans_of groups) least (under_groups s groups below) (least_spans groups ascend);
   };
@@ -47,11 +47,11 @@ further : (f : Group) (groups : List Group) (s : List ℕ) (intervals : List Int
 further f groups s intervals below less there =
     let a = there.among in
     let first = spans_of_group f in
-    let moved : (others : List Interval) → first ++ (a.front ++ (map (span s) others ++ a.behind)) ≡ (first ++ a.front) ++ (map (span s) others ++ a.behind) = λ others. sym (append_assoc first a.front (map (span s) others ++ a.behind)) in
+    let moved : (others : List Interval) → first ++ (a.front ++ (map (span s) others ++ a.after)) ≡ (first ++ a.front) ++ (map (span s) others ++ a.after) = λ others. sym (append_assoc first a.front (map (span s) others ++ a.after)) in
     record {
       among = record {
         front = first ++ a.front;
-        behind = a.behind;
+        after = a.after;
         spans_are = ap (λ l. first ++ l) a.spans_are ∙ moved intervals;
         other_least = λ others least some.
             subst IsLeast (moved others) (least_group f.source 0 f.intervals.items _ f.least (there.under f.source below less others some) (a.other_least others least some));
@@ -86,17 +86,17 @@ among_gap groups k s ascend gap = (stands_gap groups k s ascend gap).among
 
 -- ---- The spans with one more number.
 
-around : (f : Interval → Span) (front : List Span) (xs ys : List Interval) (behind : List Span) → front ++ (map f (xs ++ ys) ++ behind) ≡ (front ++ map f xs) ++ (map f ys ++ behind)
-around f front xs ys behind =
-    ap (λ l. front ++ (l ++ behind)) (map-append f xs ys) ∙ ap (λ l. front ++ l) (append_assoc (map f xs) (map f ys) behind) ∙ sym (append_assoc front (map f xs) (map f ys ++ behind))
+around : (f : Interval → Span) (front : List Span) (xs ys : List Interval) (after : List Span) → front ++ (map f (xs ++ ys) ++ after) ≡ (front ++ map f xs) ++ (map f ys ++ after)
+around f front xs ys after =
+    ap (λ l. front ++ (l ++ after)) (map-append f xs ys) ∙ ap (λ l. front ++ l) (append_assoc (map f xs) (map f ys) after) ∙ sym (append_assoc front (map f xs) (map f ys ++ after))
 
-spread : (f : Interval → Span) (below above : Option Interval) (front : List Span) (xs ys : List Interval) (behind : List Span) →
-    front ++ (map f (xs ++ (one_or_none below ++ (one_or_none above ++ ys))) ++ behind)
-    ≡ (front ++ map f xs) ++ (one_or_none (option_map f below) ++ (one_or_none (option_map f above) ++ (map f ys ++ behind)))
-spread f None None front xs ys behind = around f front xs ys behind
-spread f None (Some y) front xs ys behind = around f front xs (y ∷ ys) behind
-spread f (Some x) None front xs ys behind = around f front xs (x ∷ ys) behind
-spread f (Some x) (Some y) front xs ys behind = around f front xs (x ∷ y ∷ ys) behind
+spread : (f : Interval → Span) (below above : Option Interval) (front : List Span) (xs ys : List Interval) (after : List Span) →
+    front ++ (map f (xs ++ (one_or_none below ++ (one_or_none above ++ ys))) ++ after)
+    ≡ (front ++ map f xs) ++ (one_or_none (option_map f below) ++ (one_or_none (option_map f above) ++ (map f ys ++ after)))
+spread f None None front xs ys after = around f front xs ys after
+spread f None (Some y) front xs ys after = around f front xs (y ∷ ys) after
+spread f (Some x) None front xs ys after = around f front xs (x ∷ ys) after
+spread f (Some x) (Some y) front xs ys after = around f front xs (x ∷ y ∷ ys) after
 
 joined_span : (s : List ℕ) (number : ℕ) (below above : Option Interval) → span s (joined_interval number below above) ≡ joined (s, number) (option_map (span s) below) (option_map (span s) above)
 joined_span s number None None = refl
@@ -110,26 +110,26 @@ shuffle true true y true b = refl
 shuffle true true y false b = refl
 shuffle true false y f b = refl
 
-in_around : (q : Id) (s : List ℕ) (front : List Span) (intervals : List Interval) (behind : List Span) →
-    list_any (is_in q) (front ++ (map (span s) intervals ++ behind)) ≡ (list_any (is_in q) front || ((bytes_eq q.0 s && has intervals q.1) || list_any (is_in q) behind))
-in_around q s front intervals behind =
-    list_any-append (is_in q) front (map (span s) intervals ++ behind)
-    ∙ ap (λ b. list_any (is_in q) front || b) (list_any-append (is_in q) (map (span s) intervals) behind ∙ ap (λ b. b || list_any (is_in q) behind) (in_group q s intervals))
+in_around : (q : Id) (s : List ℕ) (front : List Span) (intervals : List Interval) (after : List Span) →
+    list_any (is_in q) (front ++ (map (span s) intervals ++ after)) ≡ (list_any (is_in q) front || ((bytes_eq q.0 s && has intervals q.1) || list_any (is_in q) after))
+in_around q s front intervals after =
+    list_any-append (is_in q) front (map (span s) intervals ++ after)
+    ∙ ap (λ b. list_any (is_in q) front || b) (list_any-append (is_in q) (map (span s) intervals) after ∙ ap (λ b. b || list_any (is_in q) after) (in_group q s intervals))
 
 some_inside : (xs : List Interval) (y : Interval) (ys : List Interval) → xs ++ y ∷ ys ≢ []
 some_inside [] y ys is = absurd (cc is)
 some_inside (x ∷ xs) y ys is = absurd (cc is)
 
-with_number : (s : List ℕ) (number : ℕ) (front : List Span) (intervals now : List Interval) (behind spans : List Span) (ids : Ids) → IsLeastList spans ids → spans ≡ front ++ (map (span s) intervals ++ behind) →
-    IsLeast (front ++ (map (span s) now ++ behind)) → ((n : ℕ) → has now n ≡ (nat_eq n number || has intervals n)) → IsLeastList (front ++ (map (span s) now ++ behind)) (set.insert ids (s, number))
-with_number s number front intervals now behind spans ids of are least adds = record {
+with_number : (s : List ℕ) (number : ℕ) (front : List Span) (intervals now : List Interval) (after spans : List Span) (ids : Ids) → IsLeastList spans ids → spans ≡ front ++ (map (span s) intervals ++ after) →
+    IsLeast (front ++ (map (span s) now ++ after)) → ((n : ℕ) → has now n ≡ (nat_eq n number || has intervals n)) → IsLeastList (front ++ (map (span s) now ++ after)) (set.insert ids (s, number))
+with_number s number front intervals now after spans ids of are least adds = record {
   least = least;
   covers = λ q.
       set.contains-insert id_cmp_total ids (s, number) q
-      ∙ (λ i. tied q (s, number) i || (of.covers q ∙ ap (list_any (is_in q)) are ∙ in_around q s front intervals behind) i)
-      ∙ shuffle (bytes_eq q.0 s) (nat_eq q.1 number) (has intervals q.1) (list_any (is_in q) front) (list_any (is_in q) behind)
-      ∙ (λ i. list_any (is_in q) front || ((bytes_eq q.0 s && sym (adds q.1) i) || list_any (is_in q) behind))
-      ∙ sym (in_around q s front now behind);
+      ∙ (λ i. tied q (s, number) i || (of.covers q ∙ ap (list_any (is_in q)) are ∙ in_around q s front intervals after) i)
+      ∙ shuffle (bytes_eq q.0 s) (nat_eq q.1 number) (has intervals q.1) (list_any (is_in q) front) (list_any (is_in q) after)
+      ∙ (λ i. list_any (is_in q) front || ((bytes_eq q.0 s && sym (adds q.1) i) || list_any (is_in q) after))
+      ∙ sym (in_around q s front now after);
 }
 
 pub joins : (all groups : List Group) (ids : Ids) (s : List ℕ) (number : ℕ) (intervals : List Interval) (below above : Option Interval) (beside : Beside) → Ascend (sources all) → groups ≡ all → ids_of all ≡ ids →
@@ -138,13 +138,13 @@ pub joins : (all groups : List Group) (ids : Ids) (s : List ℕ) (number : ℕ) 
 joins all groups ids s number intervals below above beside ascend same is a t is_below is_above spans of =
     let f = span s in
     let j = joined_interval number below above in
-    let are : spans ≡ a.front ++ (map f intervals ++ a.behind) = one_least_list ids spans (spans_of groups) of (least_list_of (spans_of groups) groups all ids ascend refl same is) ∙ a.spans_are in
-    let rest = map f t.rest ++ a.behind in
+    let are : spans ≡ a.front ++ (map f intervals ++ a.after) = one_least_list ids spans (spans_of groups) of (least_list_of (spans_of groups) groups all ids ascend refl same is) ∙ a.spans_are in
+    let rest = map f t.rest ++ a.after in
     let made : f j ≡ joined (s, number) beside.below beside.above = joined_span s number below above ∙ (λ i. joined (s, number) (sym is_below i) (sym is_above i)) in
-    let new = with_number s number a.front intervals (t.front ++ j ∷ t.rest) a.behind spans ids of are (a.other_least (t.front ++ j ∷ t.rest) t.least (some_inside t.front j t.rest)) t.adds in
+    let new = with_number s number a.front intervals (t.front ++ j ∷ t.rest) a.after spans ids of are (a.other_least (t.front ++ j ∷ t.rest) t.least (some_inside t.front j t.rest)) t.adds in
     record {
       front = a.front ++ map f t.front;
       rest = rest;
-      spans_are = are ∙ ap (λ l. a.front ++ (map f l ++ a.behind)) t.intervals_are ∙ spread f below above a.front t.front t.rest a.behind ∙ (λ i. (a.front ++ map f t.front) ++ (one_or_none (sym is_below i) ++ (one_or_none (sym is_above i) ++ rest)));
-      joined_least = subst (λ l. IsLeastList l (set.insert ids (s, number))) (around f a.front t.front (j ∷ t.rest) a.behind ∙ ap (λ x. (a.front ++ map f t.front) ++ x ∷ rest) made) new;
+      spans_are = are ∙ ap (λ l. a.front ++ (map f l ++ a.after)) t.intervals_are ∙ spread f below above a.front t.front t.rest a.after ∙ (λ i. (a.front ++ map f t.front) ++ (one_or_none (sym is_below i) ++ (one_or_none (sym is_above i) ++ rest)));
+      joined_least = subst (λ l. IsLeastList l (set.insert ids (s, number))) (around f a.front t.front (j ∷ t.rest) a.after ∙ ap (λ x. (a.front ++ map f t.front) ++ x ∷ rest) made) new;
     }

@@ -6,14 +6,14 @@ use Rattle.std.proofs.lemmas.Bool.Decides.{nat_tests}
 use Rattle.gtid.specs.Encoding.{SidBlock}
 use Rattle.gtid.specs.Scan.{is_digit}
 use Rattle.gtid.specs.Text.{IsBlank, IsIntervalText, AreIntervalTexts, IsItem, IsList, first_some, list_fault, written_spans}
-use Rattle.gtid.specs.Reading.{at_most, appended, behind_number, Found, judge, collected}
+use Rattle.gtid.specs.Reading.{at_most, appended, after_number, Found, judge, collected}
 use Rattle.gtid.proofs.Judged.{saturated, found_in, judged_ok, judged_err, item_faults, item_spans}
 use Rattle.gtid.proofs.SourceRead.{read_source}
 use Rattle.gtid.specs.declared.fault.GtidFault.{GtidFault}
 use Rattle.gtid.specs.declared.fault.GtidFault.TheVariants.{Memory}
 use Rattle.gtid.specs.declared.span.Span.{Span}
 use Rattle.gtid.specs.Reading.{Part}
-use Rattle.gtid.specs.Reading.Part.{Source, First, Second, Behind}
+use Rattle.gtid.specs.Reading.Part.{Source, First, Second, After}
 
 -- ---- Blanks.
 
@@ -26,14 +26,14 @@ blanks_before : (digits : ℕ) (s blanks rest : List ℕ) → AllByRecursion IsB
 blanks_before digits s [] rest h = refl
 blanks_before digits s (b ∷ bs) rest h = blank_before digits b s (bs ++ rest) h.0 ∙ blanks_before digits s bs rest h.1
 
-blank_behind : (b : ℕ) (s bs : List ℕ) → IsBlank b → collected Behind s (b ∷ bs) ≡ collected Behind s bs
-blank_behind b s bs (inl is) = subst (λ c. collected Behind s (c ∷ bs) ≡ collected Behind s bs) (sym is) refl
-blank_behind b s bs (inr (inl is)) = subst (λ c. collected Behind s (c ∷ bs) ≡ collected Behind s bs) (sym is) refl
-blank_behind b s bs (inr (inr is)) = subst (λ c. collected Behind s (c ∷ bs) ≡ collected Behind s bs) (sym is) refl
+blank_after : (b : ℕ) (s bs : List ℕ) → IsBlank b → collected After s (b ∷ bs) ≡ collected After s bs
+blank_after b s bs (inl is) = subst (λ c. collected After s (c ∷ bs) ≡ collected After s bs) (sym is) refl
+blank_after b s bs (inr (inl is)) = subst (λ c. collected After s (c ∷ bs) ≡ collected After s bs) (sym is) refl
+blank_after b s bs (inr (inr is)) = subst (λ c. collected After s (c ∷ bs) ≡ collected After s bs) (sym is) refl
 
-blanks_behind : (s blanks rest : List ℕ) → AllByRecursion IsBlank blanks → collected Behind s (blanks ++ rest) ≡ collected Behind s rest
-blanks_behind s [] rest h = refl
-blanks_behind s (b ∷ bs) rest h = blank_behind b s (bs ++ rest) h.0 ∙ blanks_behind s bs rest h.1
+blanks_after : (s blanks rest : List ℕ) → AllByRecursion IsBlank blanks → collected After s (blanks ++ rest) ≡ collected After s rest
+blanks_after s [] rest h = refl
+blanks_after s (b ∷ bs) rest h = blank_after b s (bs ++ rest) h.0 ∙ blanks_after s bs rest h.1
 
 -- ---- Digits.
 
@@ -74,18 +74,18 @@ digits_second m n s (b ∷ bs) rest h =
 abbrev Pending : Part → ℕ × ℕ → Type 0
 Pending p i = ((p ≡ First (at_most i.0)) × (i.1 ≡ i.0)) ⊎ (p ≡ Second (at_most i.0) (at_most i.1))
 
-close_first : (n b : ℕ) (s bs : List ℕ) → is_digit b ≡ false → (b == 45) ≡ false → collected (First n) s (b ∷ bs) ≡ (s, (n, n)) ∷ collected (behind_number b) s bs
+close_first : (n b : ℕ) (s bs : List ℕ) → is_digit b ≡ false → (b == 45) ≡ false → collected (First n) s (b ∷ bs) ≡ (s, (n, n)) ∷ collected (after_number b) s bs
 close_first n b s bs e f = rw (e, f) refl
 
-close_second : (m n b : ℕ) (s bs : List ℕ) → is_digit b ≡ false → collected (Second m n) s (b ∷ bs) ≡ (s, (m, n)) ∷ collected (behind_number b) s bs
+close_second : (m n b : ℕ) (s bs : List ℕ) → is_digit b ≡ false → collected (Second m n) s (b ∷ bs) ≡ (s, (m, n)) ∷ collected (after_number b) s bs
 close_second m n b s bs e = rw e refl
 
 close : (p : Part) (i : ℕ × ℕ) (b : ℕ) (s bs : List ℕ) → is_digit b ≡ false → (b == 45) ≡ false → Pending p i →
-    collected p s (b ∷ bs) ≡ saturated s i ∷ collected (behind_number b) s bs
+    collected p s (b ∷ bs) ≡ saturated s i ∷ collected (after_number b) s bs
 close p i b s bs e f (inl (is, one)) =
     ap (λ (q : Part). collected q s (b ∷ bs)) is
     ∙ close_first (at_most i.0) b s bs e f
-    ∙ ap (λ (n : ℕ). (s, (at_most i.0, at_most n)) ∷ collected (behind_number b) s bs) (sym one)
+    ∙ ap (λ (n : ℕ). (s, (at_most i.0, at_most n)) ∷ collected (after_number b) s bs) (sym one)
 close p i b s bs e f (inr is) = ap (λ (q : Part). collected q s (b ∷ bs)) is ∙ close_second (at_most i.0) (at_most i.1) b s bs e
 
 close_end : (p : Part) (i : ℕ × ℕ) (s : List ℕ) → Pending p i → collected p s [] ≡ saturated s i ∷ []
@@ -150,23 +150,23 @@ some_intervals s rest fs closes digits text (j ∷ js) some (first, others, e, o
 -- What follows an item: the end of the text, or a comma and the next item.
 record Tail (s tail : List ℕ) (fs : List Found) : Type 0 where
   pub closes : Closes s tail fs
-  pub behind : collected Behind s tail ≡ fs
+  pub after : collected After s tail ≡ fs
 
 tail_end : (s : List ℕ) → Tail s [] []
-tail_end s = record { closes = λ p i pending. close_end p i s pending; behind = refl }
+tail_end s = record { closes = λ p i pending. close_end p i s pending; after = refl }
 
 tail_comma : (s others : List ℕ) → Tail s (44 ∷ others) (collected (Source 0) s others)
-tail_comma s others = record { closes = λ p i pending. close p i 44 s others refl refl pending; behind = refl }
+tail_comma s others = record { closes = λ p i pending. close p i 44 s others refl refl pending; after = refl }
 
-close_blank : (p : Part) (i : ℕ × ℕ) (b : ℕ) (s bs : List ℕ) → IsBlank b → Pending p i → collected p s (b ∷ bs) ≡ saturated s i ∷ collected Behind s bs
+close_blank : (p : Part) (i : ℕ × ℕ) (b : ℕ) (s bs : List ℕ) → IsBlank b → Pending p i → collected p s (b ∷ bs) ≡ saturated s i ∷ collected After s bs
 close_blank p i b s bs (inl is) pending = ap (λ (c : ℕ). collected p s (c ∷ bs)) is ∙ close p i 0x20 s bs refl refl pending
 close_blank p i b s bs (inr (inl is)) pending = ap (λ (c : ℕ). collected p s (c ∷ bs)) is ∙ close p i 0x0A s bs refl refl pending
 close_blank p i b s bs (inr (inr is)) pending = ap (λ (c : ℕ). collected p s (c ∷ bs)) is ∙ close p i 0x0D s bs refl refl pending
 
-closes_behind : (s tail : List ℕ) (fs : List Found) → Tail s tail fs → (bs : List ℕ) → AllByRecursion IsBlank bs → Closes s (bs ++ tail) fs
-closes_behind s tail fs t [] h = t.closes
-closes_behind s tail fs t (b ∷ bs) h = λ p i pending.
-    close_blank p i b s (bs ++ tail) h.0 pending ∙ ap (λ gs. saturated s i ∷ gs) (blanks_behind s bs tail h.1 ∙ t.behind)
+closes_after : (s tail : List ℕ) (fs : List Found) → Tail s tail fs → (bs : List ℕ) → AllByRecursion IsBlank bs → Closes s (bs ++ tail) fs
+closes_after s tail fs t [] h = t.closes
+closes_after s tail fs t (b ∷ bs) h = λ p i pending.
+    close_blank p i b s (bs ++ tail) h.0 pending ∙ ap (λ gs. saturated s i ∷ gs) (blanks_after s bs tail h.1 ∙ t.after)
 
 -- ---- Items.
 
@@ -175,12 +175,12 @@ read_item : (s text tail : List ℕ) (fs : List Found) (item : SidBlock) → len
 read_item s text tail fs item long h t =
     ap (λ (bs : List ℕ). collected (Source 0) s (bs ++ tail)) h.text_is
     ∙ ap (collected (Source 0) s)
-    (append_assoc (h.before ++ h.uuid ++ h.numbers) h.behind tail
-    ∙ append_assoc (h.before ++ h.uuid) h.numbers (h.behind ++ tail)
-    ∙ append_assoc h.before h.uuid (h.numbers ++ (h.behind ++ tail)))
-    ∙ blanks_before 0 s h.before (h.uuid ++ (h.numbers ++ (h.behind ++ tail))) h.blanks.0
-    ∙ read_source h.uuid item.source s (h.numbers ++ (h.behind ++ tail)) h.a_source h.a_uuid long
-    ∙ some_intervals item.source (h.behind ++ tail) fs (closes_behind item.source tail fs t h.behind h.blanks.1) 32 h.numbers item.intervals h.some h.intervals
+    (append_assoc (h.before ++ h.uuid ++ h.numbers) h.after tail
+    ∙ append_assoc (h.before ++ h.uuid) h.numbers (h.after ++ tail)
+    ∙ append_assoc h.before h.uuid (h.numbers ++ (h.after ++ tail)))
+    ∙ blanks_before 0 s h.before (h.uuid ++ (h.numbers ++ (h.after ++ tail))) h.blanks.0
+    ∙ read_source h.uuid item.source s (h.numbers ++ (h.after ++ tail)) h.a_source h.a_uuid long
+    ∙ some_intervals item.source (h.after ++ tail) fs (closes_after item.source tail fs t h.after h.blanks.1) 32 h.numbers item.intervals h.some h.intervals
 
 -- What is found in a text is what its items are.
 pub read_list : (items : List SidBlock) (text s : List ℕ) → length s ≡ 16 → IsList text items → collected (Source 0) s text ≡ flat_map found_in items

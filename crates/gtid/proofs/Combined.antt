@@ -61,7 +61,7 @@ pub record Joined (left right : List Interval) (m : Merged) (joined : List Inter
 
 -- the next of the remaining intervals, which begins at a place or after it
 pub record IsNext (m : Merged) (next : Interval) (m' : Merged) (place : ℕ) : Type 0 where
-  pub behind : place ≤ next.lo
+  pub after : place ≤ next.lo
   pub some : next.lo < next.hi
   pub in_range : next.hi < 2 ^ 63
   pub from : IsFrom next.lo m'
@@ -82,7 +82,7 @@ apart false false y = refl
 
 pub joined_first : {left right joined : List Interval} {m m' : Merged} {next : Interval} → IsNext m next m' 1 → left ≡ m.left.now → right ≡ m.right.now → joined ≡ [] → Joined left right m' joined next
 joined_first {left} {right} {joined} {m} {m'} {next} is left_is right_is none = record {
-  before = rw none is.behind;
+  before = rw none is.after;
   some = is.some;
   in_range = is.in_range;
   from = is.from;
@@ -96,8 +96,8 @@ joined_on {left} {right} {joined} {m} {m'} {last} {next} j is touch = record {
   before = j.before;
   some = omega (arith, j.some);
   in_range = omega (arith, j.in_range, is.in_range);
-  from = (from_more last.lo next.lo m'.left.now is.from.0 is.behind, from_more last.lo next.lo m'.right.now is.from.1 is.behind);
-  same = λ n. j.same n ∙ rw (is.same n, within_wider n last.lo last.hi next.lo next.hi is.behind touch) (wider (has joined n) (is_within n last) (is_within n next) (has_left m' n));
+  from = (from_more last.lo next.lo m'.left.now is.from.0 is.after, from_more last.lo next.lo m'.right.now is.from.1 is.after);
+  same = λ n. j.same n ∙ rw (is.same n, within_wider n last.lo last.hi next.lo next.hi is.after touch) (wider (has joined n) (is_within n last) (is_within n next) (has_left m' n));
 }
 
 -- the next one does not
@@ -131,8 +131,8 @@ cut_here : (n done lo : ℕ) (p x : Interval) (rest others : Bool) → lo ≡ ma
     (nat_le done n && ((is_within n p || rest) && not (is_within n x || others))) ≡ ((nat_le lo n && nat_lt n x.lo) || (nat_le x.hi n && ((is_within n p || rest) && not others)))
 cut_here n done lo p x rest others is gap some begins no_rest no_others = elim (cases_lt n x.lo) [
   | inl before ↦ let a = no_rest (omega arith) in let b = no_others (omega arith) in rw (a, b) (grind (arith, nat_tests))
-  | inr behind ↦ elim (cases_lt n x.hi) [
-    | inl within ↦ let b = no_others (omega arith) in rw (b, now_within x n behind within) (grind (arith, nat_tests))
+  | inr beyond ↦ elim (cases_lt n x.hi) [
+    | inl within ↦ let b = no_others (omega arith) in rw (b, now_within x n beyond within) (grind (arith, nat_tests))
     | inr over ↦ rw (outside x n over) (grind (arith, nat_tests))
   ]
 ]
@@ -145,9 +145,9 @@ piece_here n done lo p rest cuts is no_rest no_cuts = elim (cases_lt n p.hi) [
   | inr over ↦ rw (outside p n over) (grind (arith, nat_tests))
 ]
 
-behind_kept : (k a b c : Bool) → a ≡ (b || c) → (k || a) ≡ ((k || b) || c)
-behind_kept true a b c is = refl
-behind_kept false a b c is = is
+after_kept : (k a b c : Bool) → a ≡ (b || c) → (k || a) ≡ ((k || b) || c)
+after_kept true a b c is = refl
+after_kept false a b c is = is
 
 nothing_left : (k d : Bool) → (k || (d && false)) ≡ k
 nothing_left true d = refl
@@ -179,7 +179,7 @@ cut_on {left} {right} {kept} {kept'} {done} (p ∷ rest) (x ∷ others) lo d c s
       pieces_least = c.pieces_least;
       cuts_least = c.cuts_least.3;
       before = adds.least (max done (c.end + 1)) (max x.hi (c.end + 1)) (omega arith) (omega arith) (λ more. omega arith) c.before;
-      same = λ n. c.same n ∙ rw (adds.same n) (behind_kept (has kept n) _ _ _
+      same = λ n. c.same n ∙ rw (adds.same n) (after_kept (has kept n) _ _ _
           (cut_here n done lo p x (has rest n) (has others n) is gap some begins (none_before p.hi n rest c.pieces_least.3) (none_before x.hi n others c.cuts_least.3)));
     }
 
@@ -195,7 +195,7 @@ piece_on {left} {right} {kept} {kept'} {done} (p ∷ rest) cuts lo d c some_piec
       pieces_least = c.pieces_least.3;
       cuts_least = c.cuts_least;
       before = adds.least (max done (c.end + 1)) (max done (p.hi + 1)) (omega arith) (omega arith) (λ more. omega arith) c.before;
-      same = λ n. c.same n ∙ rw (adds.same n) (behind_kept (has kept n) _ _ _
+      same = λ n. c.same n ∙ rw (adds.same n) (after_kept (has kept n) _ _ _
           (piece_here n done lo p (has rest n) (has cuts n) is (none_before p.hi n rest c.pieces_least.3) (no_cut done n p.hi cuts d c.cuts_least none)));
     }
 

@@ -27,7 +27,7 @@ use Rattle.gtid.specs.Span.{is_in}
 use Rattle.gtid.specs.Reading.{IsLawfulSpan}
 use Rattle.gtid.specs.Merged.{AreLeastBefore}
 use Rattle.gtid.specs.Group.{Ascend, sources, IsBelow, AreBelow, is_of, is_listed}
-use Rattle.gtid.specs.Gathering.{start, Follows, Rise, span_sources, AreAbove, interval_of, IsTaken, IsOther}
+use Rattle.gtid.specs.Gathering.{start, Follows, Rise, span_sources, AreAbove, interval_of, IsFirst, IsOther}
 use Rattle.gtid.specs.declared.fault.GtidFault.{GtidFault}
 use Rattle.gtid.specs.declared.group.Group.{Group}
 use Rattle.gtid.specs.declared.interval.Interval.{Interval}
@@ -101,7 +101,7 @@ rise_from_sort {g = g} {f = f} spans sorted answers =
 -- ---- The intervals of one source.
 
 pub taken_first : (source : List ℕ) (spans : List Span) (d : Span) → 1 ≤ length spans → bytes_eq (get_or spans 0 d).source source ≡ true →
-    IsTaken source spans (interval_of (get_or spans 0 d)) (take (length spans - 1) (drop 1 spans))
+    IsFirst source spans (interval_of (get_or spans 0 d)) (take (length spans - 1) (drop 1 spans))
 taken_first source [] d some same = absurd (omega (arith, some))
 taken_first source (s ∷ spans) d some same = ((bytes_eq-Decides s.source source).0 same, refl, take_all (length (s ∷ spans) - 1) spans (omega arith))
 
@@ -109,18 +109,18 @@ not_below_itself : (s : List ℕ) → slice_cmp nat_cmp s s ≡ Less → ⊥
 not_below_itself s less = let equal = tied_itself nat_list_cmp_total s in cc (less, equal)
 
 -- What of a source's spans is joined, and what is left of all: the last interval may grow.
-pub record Joined (first : Span) (behind : List Span) (joined : List Interval) (last : Interval) (left : List Span) : Type 0 where
+pub record Joined (first : Span) (after : List Span) (joined : List Interval) (last : Interval) (left : List Span) : Type 0 where
   pub before : AreLeastBefore 0 last.lo joined
   pub some : last.lo < last.hi
   pub in_range : last.hi < 2 ^ 63
   pub lawful : AllByRecursion IsLawfulSpan left
   pub rise : Rise left
   pub follow : AllByRecursion (Follows first.source last.lo) left
-  pub fewer : length left ≤ length behind
-  pub same : (q : Id) → list_any (is_in q) (first ∷ behind) ≡ ((bytes_eq q.0 first.source && (has joined q.1 || is_within q.1 last)) || list_any (is_in q) left)
+  pub fewer : length left ≤ length after
+  pub same : (q : Id) → list_any (is_in q) (first ∷ after) ≡ ((bytes_eq q.0 first.source && (has joined q.1 || is_within q.1 last)) || list_any (is_in q) left)
 
-pub joined_first : {joined : List Interval} (first : Span) (behind : List Span) → AllByRecursion IsLawfulSpan (first ∷ behind) → Rise (first ∷ behind) → joined ≡ [] → Joined first behind joined (interval_of first) behind
-joined_first {joined} first behind lawful rise none = record {
+pub joined_first : {joined : List Interval} (first : Span) (after : List Span) → AllByRecursion IsLawfulSpan (first ∷ after) → Rise (first ∷ after) → joined ≡ [] → Joined first after joined (interval_of first) after
+joined_first {joined} first after lawful rise none = record {
   before = rw none lawful.0.0;
   some = lawful.0.1;
   in_range = lawful.0.2;
@@ -149,10 +149,10 @@ one_apart true false false x m = refl
 one_apart false j w x m = refl
 
 -- the next one touches the last one
-pub joined_on : {first : Span} {behind : List Span} {joined : List Interval} {last : Interval} (left : List Span) (next : Interval) (others : List Span) → Joined first behind joined last left →
-    IsTaken first.source left next others → next.lo ≤ last.hi → Joined first behind joined (record { lo = last.lo; hi = max last.hi next.hi }) others
+pub joined_on : {first : Span} {after : List Span} {joined : List Interval} {last : Interval} (left : List Span) (next : Interval) (others : List Span) → Joined first after joined last left →
+    IsFirst first.source left next others → next.lo ≤ last.hi → Joined first after joined (record { lo = last.lo; hi = max last.hi next.hi }) others
 joined_on [] next others j taken touch = absurd taken
-joined_on {first} {behind} {joined} {last} (s ∷ spans) next others j (same, is, rest) touch =
+joined_on {first} {after} {joined} {last} (s ∷ spans) next others j (same, is, rest) touch =
     let on : s.lo ≤ last.hi = subst (λ (i : Interval). i.lo ≤ last.hi) is touch in
     rw (is, rest)
     (record {
@@ -172,10 +172,10 @@ joined_on {first} {behind} {joined} {last} (s ∷ spans) next others j (same, is
     })
 
 -- the next one does not
-pub joined_apart : {first : Span} {behind : List Span} {joined joined' : List Interval} {last : Interval} (left : List Span) (next : Interval) (others : List Span) → Joined first behind joined last left →
-    IsTaken first.source left next others → last.hi < next.lo → joined' ≡ joined ++ last ∷ [] → Joined first behind joined' next others
+pub joined_apart : {first : Span} {after : List Span} {joined joined' : List Interval} {last : Interval} (left : List Span) (next : Interval) (others : List Span) → Joined first after joined last left →
+    IsFirst first.source left next others → last.hi < next.lo → joined' ≡ joined ++ last ∷ [] → Joined first after joined' next others
 joined_apart [] next others j taken gap push = absurd taken
-joined_apart {first} {behind} {joined} {joined'} {last} (s ∷ spans) next others j (same, is, rest) gap push =
+joined_apart {first} {after} {joined} {joined'} {last} (s ∷ spans) next others j (same, is, rest) gap push =
     let far : last.hi < s.lo = subst (λ (i : Interval). last.hi < i.lo) is gap in
     rw (is, rest)
     (record {
@@ -206,10 +206,10 @@ above_from source lo (s ∷ spans) follow rise other = let less = lower follow.0
     all_above t at (u ∷ us) less (inl more, h) = (nat_list_cmp_total.trans source t u.source less more, all_above t at us less h)
     all_above t at (u ∷ us) less (inr of, h) = (ap (λ v. slice_cmp nat_cmp source v) of.0 ∙ less, all_above t at us less h)
 
-pub record Joins (first : Span) (behind : List Span) (joined : List Interval) (left : List Span) : Type 0 where
+pub record Joins (first : Span) (after : List Span) (joined : List Interval) (left : List Span) : Type 0 where
   pub least : AreLeast 0 joined
   pub some : joined ≡ [] → ⊥
-  pub same : (q : Id) → list_any (is_in q) (first ∷ behind) ≡ ((bytes_eq q.0 first.source && has joined q.1) || list_any (is_in q) left)
+  pub same : (q : Id) → list_any (is_in q) (first ∷ after) ≡ ((bytes_eq q.0 first.source && has joined q.1) || list_any (is_in q) left)
   pub above : AreAbove first.source left
 
 or_nothing : (a b : Bool) → (a || (b || false)) ≡ (a || b)
@@ -221,9 +221,9 @@ not_nil : (xs : List Interval) (x : Interval) → xs ++ x ∷ [] ≡ [] → ⊥
 not_nil [] x e = Prim.cc
 not_nil (y ∷ xs) x e = Prim.cc
 
-pub joined_all : {first : Span} {behind : List Span} {joined joined' : List Interval} {last : Interval} {left : List Span} → Joined first behind joined last left → IsOther first.source left → joined' ≡ joined ++ last ∷ [] →
-    Joins first behind joined' left
-joined_all {first} {behind} {joined} {joined'} {last} {left} j other push = record {
+pub joined_all : {first : Span} {after : List Span} {joined joined' : List Interval} {last : Interval} {left : List Span} → Joined first after joined last left → IsOther first.source left → joined' ≡ joined ++ last ∷ [] →
+    Joins first after joined' left
+joined_all {first} {after} {joined} {joined'} {last} {left} j other push = record {
   least = rw push (least_from_before 0 (last.hi + 1) (joined ++ last ∷ []) (before_push 0 last.lo last.hi (last.hi + 1) joined j.before j.some j.in_range (omega arith)));
   some = λ none. not_nil joined last (sym push ∙ none);
   same = λ q. j.same q ∙ ap (λ b. (bytes_eq q.0 first.source && b) || list_any (is_in q) left) (sym (ap (λ l. has l q.1) push ∙ has-append joined (last ∷ []) q.1 ∙ or_nothing (has joined q.1) (is_within q.1 last)));
@@ -264,15 +264,15 @@ or_assoc true b c = refl
 or_assoc false b c = refl
 
 -- one source more
-pub gathered_push : {all : List Span} {groups : List Group} (first : Span) (behind : List Span) (g : Group) (groups' : List Group) (left : List Span) → Gathered all groups (first ∷ behind) →
-    g.source ≡ first.source → ((q : Id) → list_any (is_in q) (first ∷ behind) ≡ (is_of q g || list_any (is_in q) left)) → AreAbove first.source left → AllByRecursion IsLawfulSpan left → Rise left →
+pub gathered_push : {all : List Span} {groups : List Group} (first : Span) (after : List Span) (g : Group) (groups' : List Group) (left : List Span) → Gathered all groups (first ∷ after) →
+    g.source ≡ first.source → ((q : Id) → list_any (is_in q) (first ∷ after) ≡ (is_of q g || list_any (is_in q) left)) → AreAbove first.source left → AllByRecursion IsLawfulSpan left → Rise left →
     groups' ≡ groups ++ g ∷ [] → Gathered all groups' left
-gathered_push {all} {groups} first behind g groups' left m source same above lawful rise push =
+gathered_push {all} {groups} first after g groups' left m source same above lawful rise push =
     let ends : sources groups' ≡ sources groups ++ first.source ∷ [] = ap sources push ∙ sources_push groups g ∙ ap (λ t. sources groups ++ t ∷ []) source in
     record {
-      ascend = subst Ascend (sym ends) (ascend_push (sources groups) first.source m.ascend (below_head (sources groups) first.source (span_sources behind) m.below));
+      ascend = subst Ascend (sym ends) (ascend_push (sources groups) first.source m.ascend (below_head (sources groups) first.source (span_sources after) m.below));
       below = subst (λ ss. AreBelow ss (span_sources left)) (sym ends)
-          (below_push (sources groups) first.source (span_sources left) (below_through (sources groups) first.source (span_sources behind) (span_sources left) m.below above) above);
+          (below_push (sources groups) first.source (span_sources left) (below_through (sources groups) first.source (span_sources after) (span_sources left) m.below above) above);
       lawful = lawful;
       rise = rise;
       same = λ q.

@@ -1,5 +1,6 @@
 -- The spans of groups, grouped by source.
 use Rattle.std.proofs.Common.{◌≡◌, ◌≢◌, ℕ, suc, ◌+◌, ◌<◌, ◌^◌, length, arith, Option, Some, None, Bool, true, false, if◌then◌else◌, List, [], ◌∷◌, ◌++◌, map, refl, ap, sym, subst, ◌∙◌, Result, Ok, Err, OnOk}
+use Rattle.std.specs.Prelude.{OnErr}
 use Rattle.std.specs.declared.cmp.Ordering.TheVariants.{Less}
 use Rattle.std.specs.Ordering.{nat_cmp, is_lt}
 use Rattle.std.specs.Cmp.Lexicographic.{slice_cmp}
@@ -10,7 +11,7 @@ use Rattle.gtid.specs.Identifier.{Ids}
 use Rattle.gtid.specs.Interval.{AreLeast}
 use Rattle.gtid.specs.Group.{Ascend, sources, IsBelow, ids_of}
 use Rattle.gtid.specs.Spans.{span, spans_of}
-use Rattle.gtid.specs.Encoding.{SidBlock, AreIntervals, AreBlocks, is_above, join_block, grouped, blocks_bytes, IsEncoding, AppendsEncoding}
+use Rattle.gtid.specs.Encoding.{SidBlock, AreIntervals, AreBlocks, is_above, join_block, grouped, blocks_bytes, IsEncoding, AppendsEncoding, LacksRoom}
 use Rattle.gtid.specs.Blocks.{pair, block, of_group, blocks}
 use Rattle.gtid.specs.declared.interval.Interval.{Interval}
 use Rattle.gtid.specs.declared.group.Group.{Group}
@@ -24,26 +25,26 @@ abbrev pub IsOther : List ℕ → List SidBlock → Type 0
 IsOther s [] = Unit {0}
 IsOther s (b ∷ blocks) = bytes_eq s b.source ≡ false
 
-join_other : (s : List ℕ) (i : Interval) (behind : List SidBlock) → IsOther s behind → join_block (span s i) behind ≡ block s (i ∷ []) ∷ behind
+join_other : (s : List ℕ) (i : Interval) (after : List SidBlock) → IsOther s after → join_block (span s i) after ≡ block s (i ∷ []) ∷ after
 join_other s i [] other = refl
-join_other s i (b ∷ behind) other =
-    ap (λ c. if c then record { source = b.source; intervals = (i.lo, i.hi) ∷ b.intervals } ∷ behind else record { source = s; intervals = (i.lo, i.hi) ∷ [] } ∷ (b ∷ behind)) other
+join_other s i (b ∷ after) other =
+    ap (λ c. if c then record { source = b.source; intervals = (i.lo, i.hi) ∷ b.intervals } ∷ after else record { source = s; intervals = (i.lo, i.hi) ∷ [] } ∷ (b ∷ after)) other
 
-join_same : (s : List ℕ) (i : Interval) (intervals : List Interval) (behind : List SidBlock) → join_block (span s i) (block s intervals ∷ behind) ≡ block s (i ∷ intervals) ∷ behind
-join_same s i intervals behind =
-    ap (λ c. if c then record { source = s; intervals = (i.lo, i.hi) ∷ map pair intervals } ∷ behind else record { source = s; intervals = (i.lo, i.hi) ∷ [] } ∷ (block s intervals ∷ behind))
+join_same : (s : List ℕ) (i : Interval) (intervals : List Interval) (after : List SidBlock) → join_block (span s i) (block s intervals ∷ after) ≡ block s (i ∷ intervals) ∷ after
+join_same s i intervals after =
+    ap (λ c. if c then record { source = s; intervals = (i.lo, i.hi) ∷ map pair intervals } ∷ after else record { source = s; intervals = (i.lo, i.hi) ∷ [] } ∷ (block s intervals ∷ after))
     ((bytes_eq-Decides s s).1 refl)
 
-grouped_one : (s : List ℕ) (i : Interval) (intervals : List Interval) (rest : List Span) (behind : List SidBlock) → grouped rest ≡ behind → IsOther s behind →
-    grouped (map (span s) (i ∷ intervals) ++ rest) ≡ block s (i ∷ intervals) ∷ behind
-grouped_one s i [] rest behind is other = ap (join_block (span s i)) is ∙ join_other s i behind other
-grouped_one s i (j ∷ intervals) rest behind is other =
-    ap (join_block (span s i)) (grouped_one s j intervals rest behind is other) ∙ join_same s i (j ∷ intervals) behind
+grouped_one : (s : List ℕ) (i : Interval) (intervals : List Interval) (rest : List Span) (after : List SidBlock) → grouped rest ≡ after → IsOther s after →
+    grouped (map (span s) (i ∷ intervals) ++ rest) ≡ block s (i ∷ intervals) ∷ after
+grouped_one s i [] rest after is other = ap (join_block (span s i)) is ∙ join_other s i after other
+grouped_one s i (j ∷ intervals) rest after is other =
+    ap (join_block (span s i)) (grouped_one s j intervals rest after is other) ∙ join_same s i (j ∷ intervals) after
 
-pub grouped_some : (s : List ℕ) (intervals : List Interval) (rest : List Span) (behind : List SidBlock) → intervals ≢ [] → grouped rest ≡ behind → IsOther s behind →
-    grouped (map (span s) intervals ++ rest) ≡ block s intervals ∷ behind
-grouped_some s [] rest behind some is other = absurd (some refl)
-grouped_some s (i ∷ intervals) rest behind some is other = grouped_one s i intervals rest behind is other
+pub grouped_some : (s : List ℕ) (intervals : List Interval) (rest : List Span) (after : List SidBlock) → intervals ≢ [] → grouped rest ≡ after → IsOther s after →
+    grouped (map (span s) intervals ++ rest) ≡ block s intervals ∷ after
+grouped_some s [] rest after some is other = absurd (some refl)
+grouped_some s (i ∷ intervals) rest after some is other = grouped_one s i intervals rest after is other
 
 pub other_below : (s t : List ℕ) (e : Bool) → bytes_eq s t ≡ e → slice_cmp nat_cmp s t ≡ Less → bytes_eq s t ≡ false
 other_below s t false is less = is
@@ -77,21 +78,21 @@ some_length [] some = absurd (some refl)
 some_length (i ∷ intervals) some = omega arith
 
 -- the source before is below the first of these
-abbrev IsBehind : Option (List ℕ) → List (List ℕ) → Type 0
-IsBehind None ss = Unit {0}
-IsBehind (Some s) ss = IsBelow s ss
+abbrev IsAfter : Option (List ℕ) → List (List ℕ) → Type 0
+IsAfter None ss = Unit {0}
+IsAfter (Some s) ss = IsBelow s ss
 
-above_first : (before : Option (List ℕ)) (s : List ℕ) (ss : List (List ℕ)) → IsBehind before (s ∷ ss) → is_above before s ≡ true
-above_first None s ss behind = refl
-above_first (Some t) s ss behind = ap is_lt behind.0
+above_first : (before : Option (List ℕ)) (s : List ℕ) (ss : List (List ℕ)) → IsAfter before (s ∷ ss) → is_above before s ≡ true
+above_first None s ss after = refl
+above_first (Some t) s ss after = ap is_lt after.0
 
-lawful_blocks : (before : Option (List ℕ)) (groups : List Group) → IsBehind before (sources groups) → Ascend (sources groups) → AreBlocks before (blocks groups)
-lawful_blocks before [] behind ascend = tt
-lawful_blocks before (g ∷ groups) behind ascend =
+lawful_blocks : (before : Option (List ℕ)) (groups : List Group) → IsAfter before (sources groups) → Ascend (sources groups) → AreBlocks before (blocks groups)
+lawful_blocks before [] after ascend = tt
+lawful_blocks before (g ∷ groups) after ascend =
     let f = ascend_first g.source (sources groups) ascend in
     let count = pair_length g.intervals.items in (
       g.long,
-      above_first before g.source (sources groups) behind,
+      above_first before g.source (sources groups) after,
       omega (arith, some_length g.intervals.items g.some, count),
       omega (arith, few 0 g.intervals.items g.least (omega arith), count),
       pair_intervals 0 g.intervals.items g.least,
@@ -113,6 +114,18 @@ appends groups all ids old new ascend fits same is written = record {
   encodes = subst (λ x. IsEncoding x (blocks_bytes (blocks all))) is (encodes all ascend fits);
   appended = written ∙ ap (λ g. old ++ blocks_bytes (blocks g)) same;
 }
+
+lacks : (groups all : List Group) (ids : Ids) (len capacity : ℕ) → Ascend (sources all) → length all < 2 ^ 64 → groups ≡ all → ids_of all ≡ ids → capacity < len + length (blocks_bytes (blocks groups)) → LacksRoom ids len capacity
+lacks groups all ids len capacity ascend fits same is lacking = record {
+  bytes = blocks_bytes (blocks all);
+  encodes = subst (λ x. IsEncoding x (blocks_bytes (blocks all))) is (encodes all ascend fits);
+  lacks = subst (λ g. capacity < len + length (blocks_bytes (blocks g))) same lacking;
+}
+
+pub lacks_on_err : {T E : Type 0} (r : Result T E) (groups all : List Group) (ids : Ids) (len capacity : ℕ) → Ascend (sources all) → length all < 2 ^ 64 → groups ≡ all → ids_of all ≡ ids →
+    OnErr r (capacity < len + length (blocks_bytes (blocks groups))) → OnErr r (LacksRoom ids len capacity)
+lacks_on_err (Ok x) groups all ids len capacity ascend fits same is lacking = tt
+lacks_on_err (Err e) groups all ids len capacity ascend fits same is lacking = lacks groups all ids len capacity ascend fits same is lacking
 
 pub appends_on_ok : {T E : Type 0} (r : Result T E) (groups all : List Group) (ids : Ids) (old new : List ℕ) → Ascend (sources all) → length all < 2 ^ 64 → groups ≡ all → ids_of all ≡ ids →
     OnOk r (new ≡ old ++ blocks_bytes (blocks groups)) → OnOk r (AppendsEncoding ids old new)

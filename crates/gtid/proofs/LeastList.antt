@@ -37,9 +37,9 @@ under_leads a [] under = tt
 under_leads a (b ∷ spans) under = inl under
 
 pub least_group : (s : List ℕ) (end : ℕ) (intervals : List Interval) (rest : List Span) → AreLeast end intervals → IsUnder s rest → IsLeast rest → IsLeast (map (span s) intervals ++ rest)
-least_group s end [] rest least under behind = behind
-least_group s end (i ∷ intervals) rest least under behind =
-    least_cons (span s i) (map (span s) intervals ++ rest) least.1 (leads intervals least.3) (least_group s i.hi intervals rest least.3 under behind)
+least_group s end [] rest least under after = after
+least_group s end (i ∷ intervals) rest least under after =
+    least_cons (span s i) (map (span s) intervals ++ rest) least.1 (leads intervals least.3) (least_group s i.hi intervals rest least.3 under after)
   where
     leads : (intervals : List Interval) → AreLeast i.hi intervals → Leads (span s i) (map (span s) intervals ++ rest)
     leads [] least = under_leads (span s i) rest under

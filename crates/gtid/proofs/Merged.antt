@@ -95,7 +95,7 @@ untaken out s groups intervals rest above ascend below none all = rw (none, all)
 pub taken : (out : List Group) (s : List ℕ) (groups : List Group) (intervals : List Interval) (rest : List Group) →
     IsNoHigher s groups → Ascend (sources groups) → AreBelow (sources out) (sources groups) → Splits groups s intervals rest → Taken out s groups intervals rest
 taken out s [] intervals rest low ascend below split = untaken out s [] intervals rest tt ascend below split.0 split.1
-taken out s (g ∷ groups) intervals rest low ascend below (inl (same, of, behind)) = rw (of, behind)
+taken out s (g ∷ groups) intervals rest low ascend below (inl (same, of, after)) = rw (of, after)
     (record {
       listed = λ q. ap (λ t. (bytes_eq q.0 t && has g.intervals.items q.1) || is_listed q groups) same;
       above = subst (λ t. IsBelow t (sources groups)) same (ascend_first g.source (sources groups) ascend).0;

@@ -45,8 +45,8 @@ lawful_interval : (after : ℕ) (i : ℕ × ℕ) (x rest : List ℕ) → after <
 lawful_interval after i x rest above some fits is =
     let split : rest ≡ little_bytes 8 i.0 ++ (little_bytes 8 i.1 ++ x) = is ∙ append_assoc (little_bytes 8 i.0) (little_bytes 8 i.1) x in
     let lo : little_number 8 rest ≡ i.0 = ap (little_number 8) split ∙ little_number-reads_back 8 i.0 (little_bytes 8 i.1 ++ x) (omega arith) in
-    let behind : drop 8 rest ≡ little_bytes 8 i.1 ++ x = ap (drop 8) split in
-    let hi : little_number 8 (drop 8 rest) ≡ i.1 = ap (little_number 8) behind ∙ little_number-reads_back 8 i.1 x (omega arith) in
+    let beyond : drop 8 rest ≡ little_bytes 8 i.1 ++ x = ap (drop 8) split in
+    let hi : little_number 8 (drop 8 rest) ≡ i.1 = ap (little_number 8) beyond ∙ little_number-reads_back 8 i.1 x (omega arith) in
     let long : 16 ≤ length rest = omega (arith, ap length split) in
     (λ k. interval_table
     (not_less (length rest) 16 long k)
@@ -58,9 +58,9 @@ pub lawful_source : (before : Option (List ℕ)) (source : List ℕ) (size : ℕ
     rest ≡ source ++ (little_bytes 8 size ++ x) → source_fault before rest ≡ None
 lawful_source before source size x rest long above some fits split =
     let front : take 16 rest ≡ source = ap (λ l. take 16 l) split ∙ ap (λ k. take k (source ++ (little_bytes 8 size ++ x))) (sym long) ∙ take-append_seam source (little_bytes 8 size ++ x) in
-    let behind : drop 16 rest ≡ little_bytes 8 size ++ x =
+    let beyond : drop 16 rest ≡ little_bytes 8 size ++ x =
     ap (λ l. drop 16 l) split ∙ ap (λ k. drop k (source ++ (little_bytes 8 size ++ x))) (sym long) ∙ drop-append_seam source (little_bytes 8 size ++ x) in
-    let number : little_number 8 (drop 16 rest) ≡ size = ap (little_number 8) behind ∙ little_number-reads_back 8 size x fits in
+    let number : little_number 8 (drop 16 rest) ≡ size = ap (little_number 8) beyond ∙ little_number-reads_back 8 size x fits in
     let length_is : length rest ≡ 16 + length (little_bytes 8 size ++ x) = ap length split ∙ length-append source (little_bytes 8 size ++ x) ∙ ap (λ k. k + length (little_bytes 8 size ++ x)) long in
     let enough : 24 ≤ length rest = omega (arith, length_is) in
     (λ k. source_table
@@ -130,17 +130,17 @@ same_intervals a b (i ∷ l) (j ∷ m) x y p q long same =
 abbrev pub source_of : SidBlock → List ℕ
 source_of block = block.source
 
-abbrev behind_source : SidBlock → List ℕ → List ℕ
-behind_source p x = little_bytes 8 (length p.intervals) ++ (flat_map interval_bytes p.intervals ++ x)
+abbrev after_source : SidBlock → List ℕ → List ℕ
+after_source p x = little_bytes 8 (length p.intervals) ++ (flat_map interval_bytes p.intervals ++ x)
 
-parts : (p : SidBlock) (x : List ℕ) → block_bytes p ++ x ≡ p.source ++ behind_source p x
+parts : (p : SidBlock) (x : List ℕ) → block_bytes p ++ x ≡ p.source ++ after_source p x
 parts p x =
     append_assoc (p.source ++ little_bytes 8 (length p.intervals)) (flat_map interval_bytes p.intervals) x
     ∙ append_assoc p.source (little_bytes 8 (length p.intervals)) (flat_map interval_bytes p.intervals ++ x)
 
 same_block : (b c : Option (List ℕ)) (p q : SidBlock) (l m : List SidBlock) (x y : List ℕ) → AreBlocks b (p ∷ l) → AreBlocks c (q ∷ m) → block_bytes p ++ x ≡ block_bytes q ++ y → (p ≡ q) × (x ≡ y)
 same_block b c p q l m x y left right same =
-    let s = same_front p.source q.source (behind_source p x) (behind_source q y) (left.0 ∙ sym right.0) (sym (parts p x) ∙ same ∙ parts q y) in
+    let s = same_front p.source q.source (after_source p x) (after_source q y) (left.0 ∙ sym right.0) (sym (parts p x) ∙ same ∙ parts q y) in
     let n = same_number (length p.intervals) (length q.intervals) (flat_map interval_bytes p.intervals ++ x) (flat_map interval_bytes q.intervals ++ y) left.3 right.3 s.1 in
     let i = same_intervals 0 0 p.intervals q.intervals x y left.4 right.4 n.0 n.1 in
     ((λ k. record { source = s.0 k; intervals = i.0 k }), i.1)
@@ -177,7 +177,7 @@ pub no_block_fault : (before : Option (List ℕ)) (x source : List ℕ) (size : 
 no_block_fault before x source size intervals rest fault n long fits fewer so_far faulty =
     let inner = flat_map interval_bytes intervals ++ rest in
     let y = flat_map block_bytes n.more ++ x in
-    let s = same_front source n.next.source (little_bytes 8 size ++ inner) (behind_source n.next y) (long ∙ sym n.lawful.0) (n.rest_is ∙ parts n.next y) in
+    let s = same_front source n.next.source (little_bytes 8 size ++ inner) (after_source n.next y) (long ∙ sym n.lawful.0) (n.rest_is ∙ parts n.next y) in
     let k = same_number size (length n.next.intervals) inner (flat_map interval_bytes n.next.intervals ++ y) fits n.lawful.3 s.1 in
     no_interval_fault (pair_end 0 intervals) y rest fault (next_interval 0 0 intervals n.next.intervals rest y so_far n.lawful.4 (omega (arith, k.0, fewer)) k.1)
     (ap (λ e. interval_fault e rest) (sym (ends_at intervals)) ∙ faulty)

@@ -77,13 +77,13 @@ none_early q (b ∷ spans) least early =
     or_from (is_in q b) (list_any (is_in q) spans) (out_below q b early) (none_early q spans (tail_least b spans least) (early_next q b spans least early))
 
 -- up to the end of a span, the source's GTIDs are below what follows the span
-early_behind : (q : Id) (a : Span) (spans : List Span) → IsLeast (a ∷ spans) → q.0 ≡ a.source → q.1 ≤ a.hi → IsEarly q spans
-early_behind q a [] least of high = tt
-early_behind q a (b ∷ spans) (some, inl less, least) of high = inl (ap (λ s. slice_cmp nat_cmp s b.source) of ∙ less)
-early_behind q a (b ∷ spans) (some, inr (same, gap), least) of high = inr (of ∙ same, omega arith)
+early_after : (q : Id) (a : Span) (spans : List Span) → IsLeast (a ∷ spans) → q.0 ≡ a.source → q.1 ≤ a.hi → IsEarly q spans
+early_after q a [] least of high = tt
+early_after q a (b ∷ spans) (some, inl less, least) of high = inl (ap (λ s. slice_cmp nat_cmp s b.source) of ∙ less)
+early_after q a (b ∷ spans) (some, inr (same, gap), least) of high = inr (of ∙ same, omega arith)
 
-none_behind : (q : Id) (a : Span) (spans : List Span) → IsLeast (a ∷ spans) → q.0 ≡ a.source → q.1 ≤ a.hi → list_any (is_in q) spans ≡ false
-none_behind q a spans least of high = none_early q spans (tail_least a spans least) (early_behind q a spans least of high)
+none_after : (q : Id) (a : Span) (spans : List Span) → IsLeast (a ∷ spans) → q.0 ≡ a.source → q.1 ≤ a.hi → list_any (is_in q) spans ≡ false
+none_after q a spans least of high = none_early q spans (tail_least a spans least) (early_after q a spans least of high)
 
 first_in : (a : Span) (spans : List Span) → a.lo < a.hi → list_any (is_in (a.source, a.lo)) (a ∷ spans) ≡ true
 first_in a spans some = ap (λ b. b || list_any (is_in (a.source, a.lo)) spans) (inside (a.source, a.lo) a refl (omega arith) some)
@@ -104,7 +104,7 @@ not_shorter : (x y : Span) (a b : List Span) → IsLeast (x ∷ a) → Same (x �
 not_shorter x y a b left same source lo some less =
     let q : Id = (x.source, x.hi) in
     differ (sym (same q)) (ap (λ c. c || list_any (is_in q) b) (inside q y source (omega arith) less))
-    (or_from (is_in q x) (list_any (is_in q) a) (out_above q x (omega arith)) (none_behind q x a left refl (omega arith)))
+    (or_from (is_in q x) (list_any (is_in q) a) (out_above q x (omega arith)) (none_after q x a left refl (omega arith)))
 
 -- What follows the same first span is the same.
 same_tails : (x : Span) (a b : List Span) → IsLeast (x ∷ a) → IsLeast (x ∷ b) → Same (x ∷ a) (x ∷ b) → Same a b
@@ -122,7 +122,7 @@ same_tails x a b left right same q = by_first (is_in q x) refl
         let parts = in_first (bytes_eq q.0 x.source) true (nat_le x.lo q.1) (nat_lt q.1 x.hi) is in
         let of : q.0 ≡ x.source = (bytes_eq-Decides q.0 x.source).0 parts.0 in
         let high : q.1 ≤ x.hi = grind (arith, nat_tests, parts.2) in
-        none_behind q x a left of high ∙ sym (none_behind q x b right of high)
+        none_after q x a left of high ∙ sym (none_after q x b right of high)
 
 same_source : (x y : Span) (a b : List Span) (o : Ordering) → slice_cmp nat_cmp x.source y.source ≡ o → IsLeast (x ∷ a) → IsLeast (y ∷ b) → Same (x ∷ a) (y ∷ b) → x.source ≡ y.source
 same_source x y a b Less is left right same = absurd (not_first x a (y ∷ b) left right same (inl is))

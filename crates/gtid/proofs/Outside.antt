@@ -6,7 +6,7 @@ use Rattle.gtid.specs.Encoding.{SidBlock}
 use Rattle.gtid.specs.Text.{IsList, IsInGrammar, BeginsText, IsOutsideFrom}
 use Rattle.gtid.specs.Scan.{step, ends, stands_at, IsPlaced, run, IsPassed}
 use Rattle.gtid.specs.declared.grammar.State.{State}
-use Rattle.gtid.specs.declared.grammar.State.TheVariants.{Start, Item, Source, First, Lo, Second, Hi, Behind}
+use Rattle.gtid.specs.declared.grammar.State.TheVariants.{Start, Item, Source, First, Lo, Second, Hi, After}
 use Rattle.gtid.proofs.Scanned.{run_none, run_append, run_on, run_list, begins_none, tested_second, Ended}
 use Rattle.gtid.proofs.Recognized.{recognized, same_state}
 
@@ -24,7 +24,7 @@ ending First = 49 ∷ []
 ending Lo = []
 ending Second = 49 ∷ []
 ending Hi = []
-ending Behind = []
+ending After = []
 
 filling_stands : (place : ℕ) → stands_at place (if is_hyphen_place place then 45 else 48) ≡ true
 filling_stands place = by (is_hyphen_place place)
@@ -50,7 +50,7 @@ ended First placed = record { state = Lo; is = refl; end = refl }
 ended Lo placed = record { state = Lo; is = refl; end = refl }
 ended Second placed = record { state = Hi; is = refl; end = refl }
 ended Hi placed = record { state = Hi; is = refl; end = refl }
-ended Behind placed = record { state = Behind; is = refl; end = refl }
+ended After placed = record { state = After; is = refl; end = refl }
 
 begins_some : (front : List ℕ) (s : State) → run (Some Start) front ≡ Some s → IsPlaced s → BeginsText front
 begins_some front s ran placed =
@@ -89,9 +89,9 @@ take_front : (front left : List ℕ) → take (length front) (front ++ left) ≡
 take_front [] left = refl
 take_front (b ∷ front) left = ap (λ bs. b ∷ bs) (take_front front left)
 
-get_behind : (front left : List ℕ) (b : ℕ) → b ≡ get_or (front ++ b ∷ left) (length front) 0
-get_behind [] left b = refl
-get_behind (c ∷ front) left b = get_behind front left b
+get_after : (front left : List ℕ) (b : ℕ) → b ≡ get_or (front ++ b ∷ left) (length front) 0
+get_after [] left b = refl
+get_after (c ∷ front) left b = get_after front left b
 
 -- No step leads on.
 pub outside_here : (text left : List ℕ) (d : ℕ) (s : State) → IsPassed Start text s left → IsPlaced s → 1 ≤ length left → step s (get_or left 0 d) ≡ None → IsOutsideFrom text (length text - length left)
@@ -100,7 +100,7 @@ outside_here text (b ∷ rest) d s p placed some none =
     let long : length text ≡ length p.front + length (b ∷ rest) = ap length p.is ∙ length-append p.front (b ∷ rest) in
     let same : length p.front ≡ length text - length (b ∷ rest) = omega (arith, long) in
     subst (IsOutsideFrom text) same
-    (outside_at text (length p.front) b s (omega (arith, long)) (get_behind p.front rest b ∙ ap (λ t. get_or t (length p.front) 0) (sym p.is))
+    (outside_at text (length p.front) b s (omega (arith, long)) (get_after p.front rest b ∙ ap (λ t. get_or t (length p.front) 0) (sym p.is))
     (ap (λ t. run (Some Start) (take (length p.front) t)) p.is ∙ ap (run (Some Start)) (take_front p.front (b ∷ rest)) ∙ p.ran) placed none)
 
 passed_all : {s : State} (text left : List ℕ) → IsPassed Start text s left → length left < 1 → run (Some Start) text ≡ Some s

@@ -54,11 +54,11 @@ taken_below s (g ∷ groups) (suc k) fits before =
     ((before 0 g (omega arith) (omega arith), tt), taken_below s groups k (omega (arith, fits)) (λ i d le lt. before (suc i) d (omega arith) (omega (arith, lt))))
 
 dropped_above : (s : List ℕ) (groups : List Group) (k : ℕ) → AllWithin (λ g. compares s g ≡ Greater) groups k (length groups) → IsBelow s (sources (drop k groups))
-dropped_above s [] zero behind = tt
-dropped_above s [] (suc k) behind = tt
-dropped_above s (g ∷ groups) zero behind =
-    (nat_list_cmp_total.antisymm s g.source ∙ ap ordering_reverse (behind 0 g (omega arith) (omega arith)), dropped_above s groups 0 (λ i d le lt. behind (suc i) d (omega arith) (omega (arith, lt))))
-dropped_above s (g ∷ groups) (suc k) behind = dropped_above s groups k (λ i d le lt. behind (suc i) d (omega (arith, le)) (omega (arith, lt)))
+dropped_above s [] zero after = tt
+dropped_above s [] (suc k) after = tt
+dropped_above s (g ∷ groups) zero after =
+    (nat_list_cmp_total.antisymm s g.source ∙ ap ordering_reverse (after 0 g (omega arith) (omega arith)), dropped_above s groups 0 (λ i d le lt. after (suc i) d (omega arith) (omega (arith, lt))))
+dropped_above s (g ∷ groups) (suc k) after = dropped_above s groups k (λ i d le lt. after (suc i) d (omega (arith, le)) (omega (arith, lt)))
 
 -- what a binary search answers
 pub found : (s : List ℕ) (groups : List Group) (r : Result ℕ ℕ) → IsSearchInRange r (length groups) → IsBinarySearchResult (compares s) groups r → IfOk r (IsAt s groups)

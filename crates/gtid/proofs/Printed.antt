@@ -32,7 +32,7 @@ grows_by old now more new before is ascii = record {
 }
 
 pub grows_all : (old now new : List ℕ) → GrowsByAscii old now → GrowsByAscii now new → GrowsByAscii old new
-grows_all old now new before behind = grows_by old now behind.more new before behind.grown behind.ascii
+grows_all old now new before after = grows_by old now after.more new before after.grown after.ascii
 
 pub one_ascii : (b : ℕ) → b < 128 → IsAscii (b ∷ [])
 one_ascii b small zero = small

@@ -14,13 +14,13 @@ use Rattle.gtid.specs.declared.interval.Interval.{Interval}
 use Rattle.gtid.specs.declared.fault.GtidFault.{GtidFault}
 
 -- one item more, and its bytes
-pub more_spelled : {X Y : Type 0} (f : Y → List ℕ) (of : X → Y) (items : List X) (x : X) (behind : List ℕ) →
-    flat_map f (map of (items ++ x ∷ [])) ++ behind ≡ flat_map f (map of items) ++ (f (of x) ++ behind)
-more_spelled f of [] x behind = append_assoc (f (of x)) [] behind
-more_spelled f of (y ∷ items) x behind =
-    append_assoc (f (of y)) (flat_map f (map of (items ++ x ∷ []))) behind
-    ∙ ap (λ l. f (of y) ++ l) (more_spelled f of items x behind)
-    ∙ sym (append_assoc (f (of y)) (flat_map f (map of items)) (f (of x) ++ behind))
+pub more_spelled : {X Y : Type 0} (f : Y → List ℕ) (of : X → Y) (items : List X) (x : X) (beyond : List ℕ) →
+    flat_map f (map of (items ++ x ∷ [])) ++ beyond ≡ flat_map f (map of items) ++ (f (of x) ++ beyond)
+more_spelled f of [] x beyond = append_assoc (f (of x)) [] beyond
+more_spelled f of (y ∷ items) x beyond =
+    append_assoc (f (of y)) (flat_map f (map of (items ++ x ∷ []))) beyond
+    ∙ ap (λ l. f (of y) ++ l) (more_spelled f of items x beyond)
+    ∙ sym (append_assoc (f (of y)) (flat_map f (map of items)) (f (of x) ++ beyond))
 
 pub one_more : {X : Type 0} (items : List X) (x : X) (n : ℕ) → length items ≡ n → length (items ++ x ∷ []) ≡ n + 1
 one_more items x n is = length-append items (x ∷ []) ∙ ap (λ k. k + 1) is
@@ -66,13 +66,13 @@ pub record ReadIntervals (intervals : List Interval) (count after : ℕ) (rest b
 pub no_intervals : (intervals : List Interval) (bytes : List ℕ) → intervals ≡ [] → ReadIntervals intervals 0 0 bytes bytes
 no_intervals intervals bytes none = rw none (record { least = tt; counted = refl; ended = refl; split = refl })
 
-pub more_intervals : (intervals new : List Interval) (i : Interval) (count after : ℕ) (rest behind bytes : List ℕ) → ReadIntervals intervals count after rest bytes →
-    after < i.lo → i.lo < i.hi → i.hi < 2 ^ 63 → rest ≡ interval_bytes (pair i) ++ behind → new ≡ intervals ++ i ∷ [] → ReadIntervals new (count + 1) i.hi behind bytes
-more_intervals intervals new i count after rest behind bytes r above some in_range split is = rw is (record {
+pub more_intervals : (intervals new : List Interval) (i : Interval) (count after : ℕ) (rest beyond bytes : List ℕ) → ReadIntervals intervals count after rest bytes →
+    after < i.lo → i.lo < i.hi → i.hi < 2 ^ 63 → rest ≡ interval_bytes (pair i) ++ beyond → new ≡ intervals ++ i ∷ [] → ReadIntervals new (count + 1) i.hi beyond bytes
+more_intervals intervals new i count after rest beyond bytes r above some in_range split is = rw is (record {
   least = least_push 0 intervals i r.least (omega (arith, r.ended)) some in_range;
   counted = one_more intervals i count r.counted;
   ended = last_push 0 intervals i;
-  split = r.split ∙ ap (λ l. flat_map interval_bytes (map pair intervals) ++ l) split ∙ sym (more_spelled interval_bytes pair intervals i behind);
+  split = r.split ∙ ap (λ l. flat_map interval_bytes (map pair intervals) ++ l) split ∙ sym (more_spelled interval_bytes pair intervals i beyond);
 })
 
 pub interval_faults : (intervals : List Interval) (count size after : ℕ) (rest bytes : List ℕ) (fault : GtidFault) → ReadIntervals intervals count after rest bytes → count < size →
@@ -94,15 +94,15 @@ pub lawful_block : (before : Option (List ℕ)) (source : List ℕ) (intervals :
 lawful_block before source intervals size long above some fits count least =
     (long, above, omega (arith, length_map pair intervals, count), omega (arith, length_map pair intervals, count), intervals_of_least 0 intervals least, tt)
 
-block_faults : (before : Option (List ℕ)) (source : List ℕ) (size : ℕ) (behind bytes : List ℕ) (fault : GtidFault) → length source ≡ 16 → is_above before source ≡ true → size < 2 ^ 64 →
-    bytes ≡ source ++ little_bytes 8 size ++ behind → FaultsInIntervals size behind fault → FaultsInBlock before bytes fault
-block_faults before source size behind bytes fault long above fits split faulty =
-    record { source = source; size = size; behind = behind; above = (long, above); fits = fits; bytes_are = split; faulty = faulty }
+block_faults : (before : Option (List ℕ)) (source : List ℕ) (size : ℕ) (beyond bytes : List ℕ) (fault : GtidFault) → length source ≡ 16 → is_above before source ≡ true → size < 2 ^ 64 →
+    bytes ≡ source ++ little_bytes 8 size ++ beyond → FaultsInIntervals size beyond fault → FaultsInBlock before bytes fault
+block_faults before source size beyond bytes fault long above fits split faulty =
+    record { source = source; size = size; after = beyond; above = (long, above); fits = fits; bytes_are = split; faulty = faulty }
 
-pub faults_within : (before : Option (List ℕ)) (source : List ℕ) (size : ℕ) (behind bytes : List ℕ) (fault : GtidFault) → length source ≡ 16 → is_above before source ≡ true → size < 2 ^ 64 →
-    bytes ≡ source ++ little_bytes 8 size ++ behind → (fault ≡ Memory) ⊎ FaultsInIntervals size behind fault → (fault ≡ Memory) ⊎ IsBlockFault before bytes fault
-faults_within before source size behind bytes fault long above fits split (inl memory) = inl memory
-faults_within before source size behind bytes fault long above fits split (inr faulty) = inr (inr (block_faults before source size behind bytes fault long above fits split faulty))
+pub faults_within : (before : Option (List ℕ)) (source : List ℕ) (size : ℕ) (beyond bytes : List ℕ) (fault : GtidFault) → length source ≡ 16 → is_above before source ≡ true → size < 2 ^ 64 →
+    bytes ≡ source ++ little_bytes 8 size ++ beyond → (fault ≡ Memory) ⊎ FaultsInIntervals size beyond fault → (fault ≡ Memory) ⊎ IsBlockFault before bytes fault
+faults_within before source size beyond bytes fault long above fits split (inl memory) = inl memory
+faults_within before source size beyond bytes fault long above fits split (inr faulty) = inr (inr (block_faults before source size beyond bytes fault long above fits split faulty))
 
 abbrev source_of : SidBlock → List ℕ
 source_of block = block.source
@@ -130,13 +130,13 @@ pub record ReadGroups (groups : List Group) (count : ℕ) (before : Option (List
 pub no_groups_read : (groups : List Group) (bytes : List ℕ) → groups ≡ [] → ReadGroups groups 0 None bytes bytes
 no_groups_read groups bytes none = rw none (record { lawful = tt; counted = refl; last = refl; split = refl })
 
-pub more_groups : (groups new : List Group) (g : Group) (count : ℕ) (before : Option (List ℕ)) (rest behind bytes : List ℕ) → ReadGroups groups count before rest bytes →
-    AreBlocks before (of_group g ∷ []) → rest ≡ block_bytes (of_group g) ++ behind → new ≡ groups ++ g ∷ [] → ReadGroups new (count + 1) (Some g.source) behind bytes
-more_groups groups new g count before rest behind bytes r lawful split is = rw is (record {
+pub more_groups : (groups new : List Group) (g : Group) (count : ℕ) (before : Option (List ℕ)) (rest beyond bytes : List ℕ) → ReadGroups groups count before rest bytes →
+    AreBlocks before (of_group g ∷ []) → rest ≡ block_bytes (of_group g) ++ beyond → new ≡ groups ++ g ∷ [] → ReadGroups new (count + 1) (Some g.source) beyond bytes
+more_groups groups new g count before rest beyond bytes r lawful split is = rw is (record {
   lawful = subst (AreBlocks None) (sym (blocks_push groups g)) (lawful_push None (blocks groups) (of_group g) r.lawful (subst (λ b. AreBlocks b (of_group g ∷ [])) (sym r.last) lawful));
   counted = one_more groups g count r.counted;
   last = ap last_source (blocks_push groups g) ∙ last_source_push None (blocks groups) (of_group g);
-  split = r.split ∙ ap (λ l. flat_map block_bytes (blocks groups) ++ l) split ∙ sym (more_spelled block_bytes of_group groups g behind);
+  split = r.split ∙ ap (λ l. flat_map block_bytes (blocks groups) ++ l) split ∙ sym (more_spelled block_bytes of_group groups g beyond);
 })
 
 pub faults_too_short : (bytes : List ℕ) → length bytes < 8 → IsDecodeFault bytes Truncated
@@ -145,7 +145,7 @@ faults_too_short bytes short = no_count short
 flatten : (a b c d e f : List ℕ) → a ++ (b ++ ((c ++ d) ++ (e ++ f))) ≡ ((((a ++ b) ++ c) ++ d) ++ e) ++ f
 flatten a b c d e f = simp append_assoc
 
--- Behind lawful blocks, fewer than are to be, the next is at fault.
+-- After lawful blocks, fewer than are to be, the next is at fault.
 pub next_faults : (some : List SidBlock) (count : ℕ) (rest bytes : List ℕ) (fault : GtidFault) → AreBlocks None some → length some < count → count < 2 ^ 64 →
     bytes ≡ little_bytes 8 count ++ (flat_map block_bytes some ++ rest) → IsBlockFault (last_source some) rest fault → IsDecodeFault bytes fault
 next_faults some count rest bytes fault lawful fewer fits split (inl faulty) = at_source fault (record {
@@ -177,20 +177,20 @@ next_faults some count rest bytes fault lawful fewer fits split (inr b) =
       faulty = i.faulty;
     })
 
-group_faults : (groups : List Group) (done count : ℕ) (before : Option (List ℕ)) (rest behind bytes : List ℕ) (fault : GtidFault) → ReadGroups groups done before rest behind →
-    done < count → count < 2 ^ 64 → bytes ≡ little_bytes 8 count ++ behind → IsBlockFault before rest fault → IsDecodeFault bytes fault
-group_faults groups done count before rest behind bytes fault r fewer fits split faulty =
+group_faults : (groups : List Group) (done count : ℕ) (before : Option (List ℕ)) (rest beyond bytes : List ℕ) (fault : GtidFault) → ReadGroups groups done before rest beyond →
+    done < count → count < 2 ^ 64 → bytes ≡ little_bytes 8 count ++ beyond → IsBlockFault before rest fault → IsDecodeFault bytes fault
+group_faults groups done count before rest beyond bytes fault r fewer fits split faulty =
     next_faults (blocks groups) count rest bytes fault r.lawful (omega (arith, length_map of_group groups, r.counted)) fits (split ∙ ap (λ l. little_bytes 8 count ++ l) r.split)
     (subst (λ b. IsBlockFault b rest fault) (sym r.last) faulty)
 
-pub groups_fault : (groups : List Group) (done count : ℕ) (before : Option (List ℕ)) (rest behind bytes : List ℕ) (fault : GtidFault) → ReadGroups groups done before rest behind →
-    done < count → count < 2 ^ 64 → bytes ≡ little_bytes 8 count ++ behind → (fault ≡ Memory) ⊎ IsBlockFault before rest fault → (fault ≡ Memory) ⊎ IsDecodeFault bytes fault
-groups_fault groups done count before rest behind bytes fault r fewer fits split (inl memory) = inl memory
-groups_fault groups done count before rest behind bytes fault r fewer fits split (inr faulty) = inr (group_faults groups done count before rest behind bytes fault r fewer fits split faulty)
+pub groups_fault : (groups : List Group) (done count : ℕ) (before : Option (List ℕ)) (rest beyond bytes : List ℕ) (fault : GtidFault) → ReadGroups groups done before rest beyond →
+    done < count → count < 2 ^ 64 → bytes ≡ little_bytes 8 count ++ beyond → (fault ≡ Memory) ⊎ IsBlockFault before rest fault → (fault ≡ Memory) ⊎ IsDecodeFault bytes fault
+groups_fault groups done count before rest beyond bytes fault r fewer fits split (inl memory) = inl memory
+groups_fault groups done count before rest beyond bytes fault r fewer fits split (inr faulty) = inr (group_faults groups done count before rest beyond bytes fault r fewer fits split faulty)
 
-pub all_groups : (groups : List Group) (done count : ℕ) (before : Option (List ℕ)) (rest behind bytes : List ℕ) → ReadGroups groups done before rest behind → done ≡ count → bytes ≡ little_bytes 8 count ++ behind →
+pub all_groups : (groups : List Group) (done count : ℕ) (before : Option (List ℕ)) (rest beyond bytes : List ℕ) → ReadGroups groups done before rest beyond → done ≡ count → bytes ≡ little_bytes 8 count ++ beyond →
     bytes ≡ blocks_bytes (blocks groups) ++ rest
-all_groups groups done count before rest behind bytes r all split =
+all_groups groups done count before rest beyond bytes r all split =
     split
     ∙ (λ i. little_bytes 8 (sym (length_map of_group groups ∙ r.counted ∙ all) i) ++ r.split i)
     ∙ sym (append_assoc (little_bytes 8 (length (blocks groups))) (flat_map block_bytes (blocks groups)) rest)

@@ -8,7 +8,7 @@ use Rattle.gtid.specs.Encoding.{SidBlock}
 use Rattle.gtid.specs.Text.{IsBlank, IsIntervalText, AreIntervalTexts, IsItem, IsList, IsInGrammar}
 use Rattle.gtid.specs.Scan.{step, ends, stands_at, is_digit, is_blank, end_number}
 use Rattle.gtid.specs.declared.grammar.State.{State}
-use Rattle.gtid.specs.declared.grammar.State.TheVariants.{Start, Item, Source, First, Lo, Second, Hi, Behind}
+use Rattle.gtid.specs.declared.grammar.State.TheVariants.{Start, Item, Source, First, Lo, Second, Hi, After}
 use Rattle.gtid.proofs.SourceText.{StandFrom, spells}
 use Rattle.gtid.specs.Scan.{run}
 use Rattle.gtid.proofs.Scanned.{run_none, no_state}
@@ -60,8 +60,8 @@ record Upto (text : List ℕ) : Type 0 where
   pub text_is : text ≡ 45 ∷ others
   pub second : Digits 1 (Numbers 0) others
 
-abbrev BehindFirst : List ℕ → Type 0
-BehindFirst text = Numbers 0 text ⊎ Upto text
+abbrev AfterFirst : List ℕ → Type 0
+AfterFirst text = Numbers 0 text ⊎ Upto text
 
 -- the bytes of a UUID from a place on, and its intervals
 record Places (place : ℕ) (text : List ℕ) : Type 0 where
@@ -76,11 +76,11 @@ abbrev Completes : State → List ℕ → Type 0
 Completes Start text = IsInGrammar text
 Completes Item text = Listed text
 Completes (Source place) text = Places place text
-Completes First text = Digits 1 BehindFirst text
-Completes Lo text = Digits 0 BehindFirst text
+Completes First text = Digits 1 AfterFirst text
+Completes Lo text = Digits 0 AfterFirst text
 Completes Second text = Digits 1 (Numbers 0) text
 Completes Hi text = Digits 0 (Numbers 0) text
-Completes Behind text = Trail text
+Completes After text = Trail text
 
 -- ---- Bytes.
 
@@ -139,10 +139,10 @@ interval_more text first others rest i one e n = record {
   trail = n.trail;
 }
 
-colon_first : (text : List ℕ) → Digits 1 BehindFirst text → Numbers 1 (58 ∷ text)
+colon_first : (text : List ℕ) → Digits 1 AfterFirst text → Numbers 1 (58 ∷ text)
 colon_first text d = by d.follows
   where
-    by : BehindFirst d.rest → Numbers 1 (58 ∷ text)
+    by : AfterFirst d.rest → Numbers 1 (58 ∷ text)
     by (inl n) = interval_more (58 ∷ text) (58 ∷ d.digits) d.rest [] (number_of d.digits, number_of d.digits)
         (d.digits, (d.some, d.are_digits, refl), inl (refl, refl))
         (ap (λ bs. 58 ∷ bs) d.text_is) n
@@ -154,7 +154,7 @@ colon_first text d = by d.follows
         ∙ sym (append_assoc d.digits (45 ∷ u.second.digits) u.second.rest)))
         u.second.follows
 
-hyphen_first : (text : List ℕ) → Digits 1 (Numbers 0) text → BehindFirst (45 ∷ text)
+hyphen_first : (text : List ℕ) → Digits 1 (Numbers 0) text → AfterFirst (45 ∷ text)
 hyphen_first text d = inr (record { others = text; text_is = refl; second = d })
 
 -- ---- Items.
@@ -164,7 +164,7 @@ blank_item b text item blank h = record {
   before = b ∷ h.before;
   uuid = h.uuid;
   numbers = h.numbers;
-  behind = h.behind;
+  after = h.after;
   text_is = ap (λ bs. b ∷ bs) h.text_is;
   blanks = ((blank, h.blanks.0), h.blanks.1);
   a_source = h.a_source;
@@ -205,7 +205,7 @@ some_item uuid numbers blanks intervals long stand some are_texts are_blank =
         before = [];
         uuid = uuid;
         numbers = numbers;
-        behind = blanks;
+        after = blanks;
         text_is = refl;
         blanks = (tt, are_blank);
         a_source = s.is_source;
@@ -251,9 +251,9 @@ nothing P t e = absurd (no_state None t refl e)
 
 end_back : (b : ℕ) (text : List ℕ) (t : State) → end_number b ≡ Some t → Completes t text → Numbers 0 (b ∷ text)
 end_back b text =
-    choose (b == 58) First (if is_blank b then Some Behind else if b == 44 then Some Item else None) P
+    choose (b == 58) First (if is_blank b then Some After else if b == 44 then Some Item else None) P
     (λ is h. subst (λ c. Numbers 0 (c ∷ text)) (same_byte b 58 is) (fewer_numbers (58 ∷ text) (colon_first text h)))
-    (choose (is_blank b) Behind (if b == 44 then Some Item else None) P
+    (choose (is_blank b) After (if b == 44 then Some Item else None) P
     (λ is h. no_numbers (b ∷ text) (blank_trail b text (blank_is b is) h))
     (choose (b == 44) Item None P
     (λ is h. no_numbers (b ∷ text) (subst (λ c. Trail (c ∷ text)) (same_byte b 44 is) (comma_trail text h)))
@@ -272,7 +272,7 @@ place_back place b text stands p = record {
   numbers = p.numbers;
 }
 
-colon_back : (place b : ℕ) (text : List ℕ) → (place == 36) ≡ true → (b == 58) ≡ true → Digits 1 BehindFirst text → Places place (b ∷ text)
+colon_back : (place b : ℕ) (text : List ℕ) → (place == 36) ≡ true → (b == 58) ≡ true → Digits 1 AfterFirst text → Places place (b ∷ text)
 colon_back place b text last colon h = record {
   bytes = [];
   rest = b ∷ text;
@@ -313,15 +313,15 @@ back (Source place) b text = source_back (place == 36) refl
         (nothing (λ t. Completes t text → Places place (b ∷ text)))
     source_back false last = other
 back First b text =
-    choose (is_digit b) Lo None (λ t. Completes t text → Digits 1 BehindFirst (b ∷ text))
-    (λ is h. digit_more 1 BehindFirst b text (omega arith) is h)
-    (nothing (λ t. Completes t text → Digits 1 BehindFirst (b ∷ text)))
+    choose (is_digit b) Lo None (λ t. Completes t text → Digits 1 AfterFirst (b ∷ text))
+    (λ is h. digit_more 1 AfterFirst b text (omega arith) is h)
+    (nothing (λ t. Completes t text → Digits 1 AfterFirst (b ∷ text)))
 back Lo b text =
-    choose (is_digit b) Lo (if b == 45 then Some Second else end_number b) (λ t. Completes t text → Digits 0 BehindFirst (b ∷ text))
-    (λ is h. digit_more 0 BehindFirst b text (omega arith) is h)
-    (choose (b == 45) Second (end_number b) (λ t. Completes t text → Digits 0 BehindFirst (b ∷ text))
-    (λ is h. no_digits BehindFirst (b ∷ text) (subst (λ c. BehindFirst (c ∷ text)) (same_byte b 45 is) (hyphen_first text h)))
-    (λ t e h. no_digits BehindFirst (b ∷ text) (inl (end_back b text t e h))))
+    choose (is_digit b) Lo (if b == 45 then Some Second else end_number b) (λ t. Completes t text → Digits 0 AfterFirst (b ∷ text))
+    (λ is h. digit_more 0 AfterFirst b text (omega arith) is h)
+    (choose (b == 45) Second (end_number b) (λ t. Completes t text → Digits 0 AfterFirst (b ∷ text))
+    (λ is h. no_digits AfterFirst (b ∷ text) (subst (λ c. AfterFirst (c ∷ text)) (same_byte b 45 is) (hyphen_first text h)))
+    (λ t e h. no_digits AfterFirst (b ∷ text) (inl (end_back b text t e h))))
 back Second b text =
     choose (is_digit b) Hi None (λ t. Completes t text → Digits 1 (Numbers 0) (b ∷ text))
     (λ is h. digit_more 1 (Numbers 0) b text (omega arith) is h)
@@ -330,8 +330,8 @@ back Hi b text =
     choose (is_digit b) Hi (end_number b) (λ t. Completes t text → Digits 0 (Numbers 0) (b ∷ text))
     (λ is h. digit_more 0 (Numbers 0) b text (omega arith) is h)
     (λ t e h. no_digits (Numbers 0) (b ∷ text) (end_back b text t e h))
-back Behind b text =
-    choose (is_blank b) Behind (if b == 44 then Some Item else None) (λ t. Completes t text → Trail (b ∷ text))
+back After b text =
+    choose (is_blank b) After (if b == 44 then Some Item else None) (λ t. Completes t text → Trail (b ∷ text))
     (λ is h. blank_trail b text (blank_is b is) h)
     (choose (b == 44) Item None (λ t. Completes t text → Trail (b ∷ text))
     (λ is h. subst (λ c. Trail (c ∷ text)) (same_byte b 44 is) (comma_trail text h))
@@ -347,10 +347,10 @@ at_end Start end = record { items = []; is_list = tt }
 at_end Item end = absurd (true≢false (sym end))
 at_end (Source place) end = absurd (true≢false (sym end))
 at_end First end = absurd (true≢false (sym end))
-at_end Lo end = no_digits BehindFirst [] (inl (no_numbers [] no_trail))
+at_end Lo end = no_digits AfterFirst [] (inl (no_numbers [] no_trail))
 at_end Second end = absurd (true≢false (sym end))
 at_end Hi end = no_digits (Numbers 0) [] (no_numbers [] no_trail)
-at_end Behind end = no_trail
+at_end After end = no_trail
 
 pub same_state : (s t : State) → Some s ≡ Some t → s ≡ t
 same_state s t e = Prim.cc

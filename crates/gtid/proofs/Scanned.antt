@@ -9,7 +9,7 @@ use Rattle.gtid.specs.Encoding.{SidBlock}
 use Rattle.gtid.specs.Text.{IsBlank, IsNumeral, IsIntervalText, AreIntervalTexts, IsItem, IsList, BeginsText}
 use Rattle.gtid.specs.Scan.{step, ends, stands_at, is_digit, stepped, run, IsPassed}
 use Rattle.gtid.specs.declared.grammar.State.{State}
-use Rattle.gtid.specs.declared.grammar.State.TheVariants.{Start, Item, Source, First, Lo, Second, Hi, Behind}
+use Rattle.gtid.specs.declared.grammar.State.TheVariants.{Start, Item, Source, First, Lo, Second, Hi, After}
 use Rattle.gtid.proofs.SourceText.{StandFrom, source_length, source_stands}
 
 pub run_append : (o : Option State) (xs ys : List ℕ) → run o (xs ++ ys) ≡ run (run o xs) ys
@@ -75,13 +75,13 @@ record Closed (o : Option State) : Type 0 where
 record Numbered (o : Option State) : Type 0 where
   pub closed : Closed o
   pub colon : step closed.state 58 ≡ Some First
-  pub blank : (b : ℕ) → IsBlank b → step closed.state b ≡ Some Behind
+  pub blank : (b : ℕ) → IsBlank b → step closed.state b ≡ Some After
 
 numbered_lo : (o : Option State) → o ≡ Some Lo → Numbered o
-numbered_lo o is = record { closed = record { state = Lo; is = is; end = refl; comma = refl }; colon = refl; blank = blank_step Lo Behind refl refl refl }
+numbered_lo o is = record { closed = record { state = Lo; is = is; end = refl; comma = refl }; colon = refl; blank = blank_step Lo After refl refl refl }
 
 numbered_hi : (o : Option State) → o ≡ Some Hi → Numbered o
-numbered_hi o is = record { closed = record { state = Hi; is = is; end = refl; comma = refl }; colon = refl; blank = blank_step Hi Behind refl refl refl }
+numbered_hi o is = record { closed = record { state = Hi; is = is; end = refl; comma = refl }; colon = refl; blank = blank_step Hi After refl refl refl }
 
 run_interval : (s : State) → step s 58 ≡ Some First → (text : List ℕ) (i : ℕ × ℕ) → IsIntervalText text i → Numbered (run (Some s) text)
 run_interval s colon text i (digits, numeral, inl (e, one)) =
@@ -129,14 +129,14 @@ run_uuid : (s : State) → Opening s → (text : List ℕ) → length text ≡ 3
 run_uuid s open_here [] long stand = absurd (omega arith)
 run_uuid s open_here (b ∷ bs) long stand = ap (λ o. run o bs) (open_here.hex b stand.0) ∙ run_source bs 1 stand.1 (omega arith)
 
-run_behind : (o : Option State) → Numbered o → (bs : List ℕ) → AllByRecursion IsBlank bs → Closed (run o bs)
-run_behind o n [] h = n.closed
-run_behind o n (b ∷ bs) h = record {
-  state = Behind;
+run_after : (o : Option State) → Numbered o → (bs : List ℕ) → AllByRecursion IsBlank bs → Closed (run o bs)
+run_after o n [] h = n.closed
+run_after o n (b ∷ bs) h = record {
+  state = After;
   is =
       ap (λ p. run (stepped p b) bs) n.closed.is
       ∙ ap (λ p. run p bs) (n.blank b h.0)
-      ∙ run_stays Behind IsBlank (blank_step Behind Behind refl refl refl) bs h.1;
+      ∙ run_stays After IsBlank (blank_step After After refl refl refl) bs h.1;
   end = refl;
   comma = refl;
 }
@@ -149,11 +149,11 @@ run_item s open_here text item h =
     ∙ run_uuid s open_here h.uuid (source_length h.uuid item.source h.a_uuid) (source_stands h.uuid item.source h.a_uuid) in
     let numbers : run (Some s) (h.before ++ h.uuid ++ h.numbers) ≡ run (Some (Source 36)) h.numbers =
     run_append (Some s) (h.before ++ h.uuid) h.numbers ∙ ap (λ o. run o h.numbers) uuid in
-    let whole : run (Some s) text ≡ run (run (Some (Source 36)) h.numbers) h.behind =
+    let whole : run (Some s) text ≡ run (run (Some (Source 36)) h.numbers) h.after =
     ap (run (Some s)) h.text_is
-    ∙ run_append (Some s) (h.before ++ h.uuid ++ h.numbers) h.behind
-    ∙ ap (λ o. run o h.behind) numbers in
-    subst Closed (sym whole) (run_behind _ (some_intervals h.numbers item.intervals h.some h.intervals) h.behind h.blanks.1)
+    ∙ run_append (Some s) (h.before ++ h.uuid ++ h.numbers) h.after
+    ∙ ap (λ o. run o h.after) numbers in
+    subst Closed (sym whole) (run_after _ (some_intervals h.numbers item.intervals h.some h.intervals) h.after h.blanks.1)
 
 -- ---- Texts.
 

@@ -36,10 +36,10 @@ AreBytes bytes = AllByRecursion (λ b. b < 256) bytes
 next_byte : (i x m : ℕ) → x < 256 → byte_at (suc i) (x + 256 * m) ≡ byte_at i m
 next_byte zero x m small = omega arith
 next_byte (suc i) x m small =
-    let behind : (x + 256 * m) / 256 ≡ m = omega arith in
+    let beyond : (x + 256 * m) / 256 ≡ m = omega arith in
     ap (λ (p : ℕ). (x + 256 * m) / p % 256) (pow-succ' 256 (suc i))
     ∙ ap (λ (q : ℕ). q % 256) (sym (div-div-eq-div-mul (x + 256 * m) 256 (256 ^ suc i)))
-    ∙ ap (λ (q : ℕ). q / 256 ^ suc i % 256) behind
+    ∙ ap (λ (q : ℕ). q / 256 ^ suc i % 256) beyond
 
 next_bytes : (k i x m : ℕ) → x < 256 → bytes_low_first (suc i) k (x + 256 * m) ≡ bytes_low_first i k m
 next_bytes zero i x m small = refl
@@ -70,12 +70,12 @@ dropped_bytes zero bytes are = are
 dropped_bytes (suc n) [] are = tt
 dropped_bytes (suc n) (b ∷ bytes) are = dropped_bytes n bytes are.1
 
-bytes_behind : (front rest bytes : List ℕ) → bytes ≡ front ++ rest → AreBytes bytes → AreBytes rest
-bytes_behind front rest bytes split are = behind front (subst AreBytes split are)
+bytes_after : (front rest bytes : List ℕ) → bytes ≡ front ++ rest → AreBytes bytes → AreBytes rest
+bytes_after front rest bytes split are = beyond front (subst AreBytes split are)
   where
-    behind : (front : List ℕ) → AreBytes (front ++ rest) → AreBytes rest
-    behind [] are = are
-    behind (b ∷ front) are = behind front are.1
+    beyond : (front : List ℕ) → AreBytes (front ++ rest) → AreBytes rest
+    beyond [] are = are
+    beyond (b ∷ front) are = beyond front are.1
 
 -- ---- An interval at the front.
 
@@ -158,7 +158,7 @@ one_more size after bytes f (inr r) = inr (record {
 front_intervals : (size after : ℕ) (bytes : List ℕ) → AreBytes bytes → FrontIntervals size after bytes ⊎ FaultyIntervals size after bytes
 front_intervals zero after bytes are = inl (record { intervals = []; rest = bytes; lawful = tt; counted = refl; split = refl })
 front_intervals (suc size) after bytes are = elim (front_interval after bytes are) [
-  | inl f ↦ one_more size after bytes f (front_intervals size f.interval.1 f.rest (bytes_behind (interval_bytes f.interval) f.rest bytes f.split are))
+  | inl f ↦ one_more size after bytes f (front_intervals size f.interval.1 f.rest (bytes_after (interval_bytes f.interval) f.rest bytes f.split are))
   | inr f ↦ inr (record { intervals = []; rest = bytes; fault = f.fault; lawful = tt; fewer = omega arith; split = refl; faulty = f.is })
 ]
 
@@ -237,7 +237,7 @@ with_intervals before bytes s (inr r) = inr (record {
   is = inr (record {
     source = s.source;
     size = s.size;
-    behind = s.rest;
+    after = s.rest;
     above = s.above;
     fits = s.fits;
     bytes_are = s.split ∙ sym (append_assoc s.source (little_bytes 8 s.size) s.rest);
@@ -255,8 +255,8 @@ with_intervals before bytes s (inr r) = inr (record {
 front_block : (before : Option (List ℕ)) (bytes : List ℕ) → AreBytes bytes → FrontBlock before bytes ⊎ FaultyBlock before bytes
 front_block before bytes are = elim (front_source before bytes are) [
   | inl s ↦
-      let behind = bytes_behind (little_bytes 8 s.size) s.rest (little_bytes 8 s.size ++ s.rest) refl (bytes_behind s.source (little_bytes 8 s.size ++ s.rest) bytes s.split are) in
-      with_intervals before bytes s (front_intervals s.size 0 s.rest behind)
+      let beyond = bytes_after (little_bytes 8 s.size) s.rest (little_bytes 8 s.size ++ s.rest) refl (bytes_after s.source (little_bytes 8 s.size ++ s.rest) bytes s.split are) in
+      with_intervals before bytes s (front_intervals s.size 0 s.rest beyond)
   | inr s ↦ inr (record { fault = s.fault; is = inl s.is })
 ]
 
@@ -298,7 +298,7 @@ one_block_more count before bytes f (inr r) = inr (record {
 front_blocks : (count : ℕ) (before : Option (List ℕ)) (bytes : List ℕ) → AreBytes bytes → FrontBlocks count before bytes ⊎ FaultyBlocks count before bytes
 front_blocks zero before bytes are = inl (record { blocks = []; rest = bytes; lawful = tt; counted = refl; split = refl })
 front_blocks (suc count) before bytes are = elim (front_block before bytes are) [
-  | inl f ↦ one_block_more count before bytes f (front_blocks count (Some f.first.source) f.rest (bytes_behind (block_bytes f.first) f.rest bytes f.split are))
+  | inl f ↦ one_block_more count before bytes f (front_blocks count (Some f.first.source) f.rest (bytes_after (block_bytes f.first) f.rest bytes f.split are))
   | inr f ↦ inr (record { blocks = []; rest = bytes; fault = f.fault; lawful = tt; fewer = omega arith; split = refl; faulty = f.is })
 ]
 

@@ -16,7 +16,7 @@ use Rattle.gtid.specs.Scan.{step, begin, ends, end_number, stands_at, is_digit, 
 use Rattle.gtid.specs.declared.fault.GtidFault.{GtidFault}
 use Rattle.gtid.specs.declared.fault.GtidFault.TheVariants.{Text}
 use Rattle.gtid.specs.declared.grammar.State.{State}
-use Rattle.gtid.specs.declared.grammar.State.TheVariants.{Start, Item, Source, First, Lo, Second, Hi, Behind}
+use Rattle.gtid.specs.declared.grammar.State.TheVariants.{Start, Item, Source, First, Lo, Second, Hi, After}
 use Rattle.gtid.specs.declared.span.Span.{Span}
 use Rattle.gtid.proofs.Scanned.{run_on}
 use Rattle.gtid.proofs.Recognized.{choose, nothing}
@@ -49,8 +49,8 @@ placed_begin s b placed =
 
 placed_end : (b : ℕ) (t : State) → end_number b ≡ Some t → IsPlaced t
 placed_end b =
-    choose (b == 58) First (if is_blank b then Some Behind else if b == 44 then Some Item else None) IsPlaced (λ is. tt)
-    (choose (is_blank b) Behind (if b == 44 then Some Item else None) IsPlaced (λ is. tt)
+    choose (b == 58) First (if is_blank b then Some After else if b == 44 then Some Item else None) IsPlaced (λ is. tt)
+    (choose (is_blank b) After (if b == 44 then Some Item else None) IsPlaced (λ is. tt)
     (choose (b == 44) Item None IsPlaced (λ is. tt) (nothing IsPlaced)))
 
 placed_step : (s : State) (b : ℕ) → IsPlaced s → (t : State) → step s b ≡ Some t → IsPlaced t
@@ -68,8 +68,8 @@ placed_step Lo b placed =
     (choose (b == 45) Second (end_number b) IsPlaced (λ is. tt) (placed_end b))
 placed_step Second b placed = choose (is_digit b) Hi None IsPlaced (λ is. tt) (nothing IsPlaced)
 placed_step Hi b placed = choose (is_digit b) Hi (end_number b) IsPlaced (λ is. tt) (placed_end b)
-placed_step Behind b placed =
-    choose (is_blank b) Behind (if b == 44 then Some Item else None) IsPlaced (λ is. tt)
+placed_step After b placed =
+    choose (is_blank b) After (if b == 44 then Some Item else None) IsPlaced (λ is. tt)
     (choose (b == 44) Item None IsPlaced (λ is. tt) (nothing IsPlaced))
 
 -- ---- The scan of a text.

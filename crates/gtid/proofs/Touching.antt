@@ -7,7 +7,7 @@ use Rattle.std.specs.List.{AllWithin}
 use Rattle.gtid.specs.Interval.{has, AreLeast}
 use Rattle.gtid.specs.Beside.{one_or_none, joined_interval, Touches}
 use Rattle.gtid.specs.declared.interval.Interval.{Interval}
-use Rattle.gtid.proofs.Within.{Added, split_at, set_remove, between-by, added_alone, added_before, added_behind, apart, weaker, has_at}
+use Rattle.gtid.proofs.Within.{Added, split_at, set_remove, between-by, added_alone, added_before, added_after, apart, weaker, has_at}
 
 -- what it touches, and that it is new
 abbrev pub Touched : ℕ → Option Interval → Option Interval → List Interval → Type 0
@@ -46,7 +46,7 @@ touches_below intervals at number x None least within high is touch some none =
     let a = apart 0 intervals at (at + 1) d least (omega arith) h in
     let ends = ap (λ i. i.hi) (is ∙ get_or_default intervals at x d within) in
     not_at (get_or intervals (at + 1) d).lo (omega (arith, a, ends, touch)) (none d h) in
-    by_added number (Some x) None intervals _ (take at intervals) (drop (suc at) intervals) (split_at intervals at x within is) (set_split intervals at _ within) (added_behind intervals at number x least within high is touch gap)
+    by_added number (Some x) None intervals _ (take at intervals) (drop (suc at) intervals) (split_at intervals at x within is) (set_split intervals at _ within) (added_after intervals at number x least within high is touch gap)
   where
     not_at : (lo : ℕ) → number < lo → lo ≢ number + 1 → number + 1 < lo
     not_at lo above other = omega (arith, above, other)
@@ -54,6 +54,6 @@ touches_below intervals at number x None least within high is touch some none =
 -- before an interval that begins further on
 pub touches_gap : (intervals : List Interval) (at number : ℕ) (x : Interval) → AreLeast 0 intervals → at < length intervals → 1 ≤ number → number ≤ 2 ^ 63 - 2 → AllWithin (λ i. i.hi < number) intervals 0 at →
     ((d : Interval) → x ≡ get_or intervals at d) → number < x.hi → x.lo ≢ number + 1 → has intervals number ≡ false → Touches number None None intervals
-touches_gap intervals at number x least within low high front is behind other fresh =
-    let past : number < x.lo = leb-false x.lo number (has_at intervals at number x least (weaker intervals at number front) within (is x) behind ∙ fresh) in
+touches_gap intervals at number x least within low high front is after other fresh =
+    let past : number < x.lo = leb-false x.lo number (has_at intervals at number x least (weaker intervals at number front) within (is x) after ∙ fresh) in
     (touches_none intervals at number least (omega (arith, within)) low high front (λ d h. omega (arith, past, other, ap (λ i. i.lo) (is d)))).0

@@ -18,9 +18,9 @@ abbrev pub end_of : ℕ → List Interval → ℕ
 end_of end [] = end
 end_of end (i ∷ intervals) = end_of i.hi intervals
 
-least-behind : (end : ℕ) (xs ys : List Interval) → AreLeast end (xs ++ ys) → AreLeast (end_of end xs) ys
-least-behind end [] ys least = least
-least-behind end (x ∷ xs) ys (gap, some, small, least) = least-behind x.hi xs ys least
+least-after : (end : ℕ) (xs ys : List Interval) → AreLeast end (xs ++ ys) → AreLeast (end_of end xs) ys
+least-after end [] ys least = least
+least-after end (x ∷ xs) ys (gap, some, small, least) = least-after x.hi xs ys least
 
 least-with : (end : ℕ) (xs ys zs : List Interval) → AreLeast end (xs ++ ys) → AreLeast (end_of end xs) zs → AreLeast end (xs ++ zs)
 least-with end [] ys zs least new = new
@@ -96,8 +96,8 @@ pub has_at : (intervals : List Interval) (at n : ℕ) (x : Interval) → AreLeas
 has_at intervals at n x least front within is before =
     let rest = drop (suc at) intervals in
     let split = split_at intervals at x within is in
-    let behind : AreLeast x.hi rest = (least-behind 0 (take at intervals) (x ∷ rest) (subst (AreLeast 0) split least)).3 in
-    sym (ap (λ l. has l n) split ∙ has-append (take at intervals) (x ∷ rest) n ∙ rw (above_front intervals at n (omega arith) front, below_least x.hi rest n behind (omega arith), or-false, within_until n x before))
+    let after : AreLeast x.hi rest = (least-after 0 (take at intervals) (x ∷ rest) (subst (AreLeast 0) split least)).3 in
+    sym (ap (λ l. has l n) split ∙ has-append (take at intervals) (x ∷ rest) n ∙ rw (above_front intervals at n (omega arith) front, below_least x.hi rest n after (omega arith), or-false, within_until n x before))
 
 pub has_nowhere : (intervals : List Interval) (n : ℕ) → AllWithin (λ i. i.hi ≤ n) intervals 0 (length intervals) → false ≡ has intervals n
 has_nowhere intervals n front = sym (above_front intervals (length intervals) n (omega arith) front) ∙ ap (λ l. has l n) (take_all (length intervals) intervals (omega arith))
@@ -146,19 +146,19 @@ only_one n number = grind (arith, nat_tests)
 one_before : (n number : ℕ) (x : Interval) → x.lo ≡ number + 1 → number < x.hi → is_within n (record { lo = number; hi = x.hi }) ≡ (nat_eq n number || is_within n x)
 one_before n number x touch some = grind (arith, nat_tests)
 
-one_behind : (n number : ℕ) (x : Interval) → x.hi ≡ number → x.lo ≤ number → is_within n (record { lo = x.lo; hi = number + 1 }) ≡ (nat_eq n number || is_within n x)
-one_behind n number x touch some = grind (arith, nat_tests)
+one_after : (n number : ℕ) (x : Interval) → x.hi ≡ number → x.lo ≤ number → is_within n (record { lo = x.lo; hi = number + 1 }) ≡ (nat_eq n number || is_within n x)
+one_after n number x touch some = grind (arith, nat_tests)
 
 one_between : (n number : ℕ) (x y : Interval) → x.hi ≡ number → x.lo ≤ number → y.lo ≡ number + 1 → number < y.hi →
     is_within n (record { lo = x.lo; hi = y.hi }) ≡ (nat_eq n number || (is_within n x || is_within n y))
 one_between n number x y touch some next more = grind (arith, nat_tests)
 
 -- what begins after a gap
-behind_gap : (end gap : ℕ) (intervals : List Interval) (at : ℕ) → at ≤ length intervals → AreLeast end intervals → ((d : Interval) → at < length intervals → gap < (get_or intervals at d).lo) → AreLeast gap (drop at intervals)
-behind_gap end gap [] zero le least later = least
-behind_gap end gap [] (suc at) le least later = absurd (omega arith)
-behind_gap end gap (i ∷ intervals) zero le (a, some, small, least) later = (later i (omega arith), some, small, least)
-behind_gap end gap (i ∷ intervals) (suc at) le (a, some, small, least) later = behind_gap i.hi gap intervals at (omega arith) least (λ d h. later d (omega arith))
+after_gap : (end gap : ℕ) (intervals : List Interval) (at : ℕ) → at ≤ length intervals → AreLeast end intervals → ((d : Interval) → at < length intervals → gap < (get_or intervals at d).lo) → AreLeast gap (drop at intervals)
+after_gap end gap [] zero le least later = least
+after_gap end gap [] (suc at) le least later = absurd (omega arith)
+after_gap end gap (i ∷ intervals) zero le (a, some, small, least) later = (later i (omega arith), some, small, least)
+after_gap end gap (i ∷ intervals) (suc at) le (a, some, small, least) later = after_gap i.hi gap intervals at (omega arith) least (λ d h. later d (omega arith))
 
 pub weaker : (intervals : List Interval) (at n : ℕ) → AllWithin (λ i. i.hi < n) intervals 0 at → AllWithin (λ i. i.hi ≤ n) intervals 0 at
 weaker intervals at n front k d low high = let f = front k d low high in omega arith
@@ -166,7 +166,7 @@ weaker intervals at n front k d low high = let f = front k d low high in omega a
 pub added_alone : (intervals new : List Interval) (at number : ℕ) → AreLeast 0 intervals → at ≤ length intervals → 1 ≤ number → number ≤ 2 ^ 63 - 2 → AllWithin (λ i. i.hi < number) intervals 0 at →
     ((d : Interval) → at < length intervals → number + 1 < (get_or intervals at d).lo) → new ≡ insert intervals at (record { lo = number; hi = number + 1 }) → Added number intervals new
 added_alone intervals new at number least within low high front gap is =
-    let rest : AreLeast (number + 1) (drop at intervals) = behind_gap 0 (number + 1) intervals at within least gap in
+    let rest : AreLeast (number + 1) (drop at intervals) = after_gap 0 (number + 1) intervals at within least gap in
     let alone : Interval = record { lo = number; hi = number + 1 } in
     added-by number intervals new (take at intervals) (drop at intervals) (alone ∷ drop at intervals) (sym (take-append-drop at intervals)) is least
     (above_front intervals at number within (weaker intervals at number front))
@@ -179,7 +179,7 @@ pub added_before : (intervals : List Interval) (at number : ℕ) (x : Interval) 
 added_before intervals at number x least within low front is touch =
     let rest = drop (suc at) intervals in
     let split = split_at intervals at x within is in
-    let now = least-behind 0 (take at intervals) (x ∷ rest) (subst (AreLeast 0) split least) in
+    let now = least-after 0 (take at intervals) (x ∷ rest) (subst (AreLeast 0) split least) in
     added-by number intervals _ (take at intervals) (x ∷ rest) (record { lo = number; hi = x.hi } ∷ rest) split (set_split intervals at _ within) least
     (above_front intervals at number (omega arith) (weaker intervals at number front))
     (end_front 0 intervals at number (omega arith) (omega arith) front, omega (arith, now), now.2, now.3)
@@ -202,18 +202,18 @@ ends_before intervals at number x least within is touch k d low high =
     let e = ends_ascend intervals least k at x (omega arith) within in
     omega (arith, e, ap (λ i. i.hi) is, ap (λ i. i.hi) (get_or_default intervals k d x (omega arith)))
 
-pub added_behind : (intervals : List Interval) (at number : ℕ) (x : Interval) → AreLeast 0 intervals → at < length intervals → number ≤ 2 ^ 63 - 2 → x ≡ get_or intervals at x → x.hi ≡ number →
+pub added_after : (intervals : List Interval) (at number : ℕ) (x : Interval) → AreLeast 0 intervals → at < length intervals → number ≤ 2 ^ 63 - 2 → x ≡ get_or intervals at x → x.hi ≡ number →
     ((d : Interval) → at + 1 < length intervals → number + 1 < (get_or intervals (at + 1) d).lo) → Added number intervals (set intervals at (record { lo = x.lo; hi = number + 1 }))
-added_behind intervals at number x least within high is touch gap =
+added_after intervals at number x least within high is touch gap =
     let rest = drop (suc at) intervals in
     let split = split_at intervals at x within is in
-    let now = least-behind 0 (take at intervals) (x ∷ rest) (subst (AreLeast 0) split least) in
-    let far : AreLeast (number + 1) rest = behind_gap 0 (number + 1) intervals (suc at) (omega arith) least (λ d h. rw (add-one at) at (gap d (omega arith))) in
+    let now = least-after 0 (take at intervals) (x ∷ rest) (subst (AreLeast 0) split least) in
+    let far : AreLeast (number + 1) rest = after_gap 0 (number + 1) intervals (suc at) (omega arith) least (λ d h. rw (add-one at) at (gap d (omega arith))) in
     added-by number intervals _ (take at intervals) (x ∷ rest) (record { lo = x.lo; hi = number + 1 } ∷ rest) split (set_split intervals at _ within) least
     (above_front intervals at number (omega arith) (ends_before intervals at number x least within is touch))
     (now.0, omega (arith, now), omega arith, far)
     (none (is_above number x (omega arith)) (below_least x.hi rest number now.3 (omega (arith, now))))
-    (λ n. ap (λ b. b || has rest n) (one_behind n number x touch (omega (arith, now))) ∙ or-assoc (nat_eq n number) (is_within n x) (has rest n))
+    (λ n. ap (λ b. b || has rest n) (one_after n number x touch (omega (arith, now))) ∙ or-assoc (nat_eq n number) (is_within n x) (has rest n))
 
 pub set_remove : (intervals : List Interval) (at : ℕ) (v : Interval) → suc at < length intervals → set (remove intervals (suc at)) at v ≡ take at intervals ++ v ∷ drop (suc (suc at)) intervals
 set_remove [] at v h = absurd (omega arith)
@@ -226,7 +226,7 @@ between-by intervals at number x y least within is next touch touch_next =
     let rest = drop (suc (suc at)) intervals in
     let here : at < length intervals = omega arith in
     let split : intervals ≡ take at intervals ++ x ∷ y ∷ rest = split_at intervals at x here is ∙ ap (λ l. take at intervals ++ x ∷ l) (drop-cons intervals (suc at) y within ∙ ap (λ z. z ∷ rest) (sym next)) in
-    let now = least-behind 0 (take at intervals) (x ∷ y ∷ rest) (subst (AreLeast 0) split least) in
+    let now = least-after 0 (take at intervals) (x ∷ y ∷ rest) (subst (AreLeast 0) split least) in
     added-by number intervals _ (take at intervals) (x ∷ y ∷ rest) (record { lo = x.lo; hi = y.hi } ∷ rest) split (set_remove intervals at _ within) least
     (above_front intervals at number (omega arith) (ends_before intervals at number x least here is touch))
     (now.0, omega (arith, now), now.3.2, now.3.3)
@@ -246,7 +246,7 @@ nowhere : (intervals : List Interval) (at n : ℕ) → AreLeast 0 intervals → 
 nowhere intervals at n least within front gap =
     ap (λ l. has l n) (sym (take-append-drop at intervals))
     ∙ has-append (take at intervals) (drop at intervals) n
-    ∙ none (above_front intervals at n within front) (below_least n (drop at intervals) n (behind_gap 0 n intervals at within least gap) (omega arith))
+    ∙ none (above_front intervals at n within front) (below_least n (drop at intervals) n (after_gap 0 n intervals at within least gap) (omega arith))
 
 -- an interval against the first of the others that ends no earlier
 pub holds_all : (of : List Interval) (at : ℕ) (x other : Interval) → at < length of → other ≡ get_or of at other → x.hi ≤ other.hi → leb other.lo x.lo ≡ true →

@@ -43,6 +43,6 @@ pub record Touches (number : ℕ) (below above : Option Interval) (intervals : L
 -- The source's intervals among the spans of the groups. Other least intervals of the source may be in their place.
 pub record Among (source : List ℕ) (intervals : List Interval) (groups : List Group) : Type 0 where
   pub front : List Span
-  pub behind : List Span
-  pub spans_are : spans_of groups ≡ front ++ (map (span source) intervals ++ behind)
-  pub other_least : (others : List Interval) → AreLeast 0 others → others ≢ [] → IsLeast (front ++ (map (span source) others ++ behind))
+  pub after : List Span
+  pub spans_are : spans_of groups ≡ front ++ (map (span source) intervals ++ after)
+  pub other_least : (others : List Interval) → AreLeast 0 others → others ≢ [] → IsLeast (front ++ (map (span source) others ++ after))

@@ -17,11 +17,11 @@ pub record FaultsInIntervals (size : ℕ) (bytes : List ℕ) (fault : GtidFault)
 pub record FaultsInBlock (before : Option (List ℕ)) (bytes : List ℕ) (fault : GtidFault) : Type 0 where
   pub source : List ℕ
   pub size : ℕ
-  pub behind : List ℕ
+  pub after : List ℕ
   pub above : (length source ≡ 16) × (is_above before source ≡ true)
   pub fits : size < 2 ^ 64
-  pub bytes_are : bytes ≡ source ++ little_bytes 8 size ++ behind
-  pub faulty : FaultsInIntervals size behind fault
+  pub bytes_are : bytes ≡ source ++ little_bytes 8 size ++ after
+  pub faulty : FaultsInIntervals size after fault
 
 abbrev pub IsBlockFault : Option (List ℕ) → List ℕ → GtidFault → Type 0
 IsBlockFault before bytes fault = (source_fault before bytes ≡ Some fault) ⊎ FaultsInBlock before bytes fault

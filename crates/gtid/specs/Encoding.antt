@@ -1,6 +1,6 @@
 -- A set of GTIDs as bytes. MySQL Source Documentation, Replication Protocol, COM_BINLOG_DUMP_GTID (the field `data`).
 -- Numbers are eight bytes each, the lowest byte first; intervals end one past their last number.
-use Rattle.std.specs.Prelude.{◌≡◌, ℕ, ◌-◌, ◌<◌, ◌^◌, Bool, true, ◌||◌, not, List, [], ◌∷◌, ◌++◌, length, take, drop, map, nat_lt, nat_le, ◌==◌, if◌then◌else◌, Option, Some, None, option_map, find, flat_map}
+use Rattle.std.specs.Prelude.{◌≡◌, ℕ, ◌+◌, ◌-◌, ◌<◌, ◌^◌, Bool, true, ◌||◌, not, List, [], ◌∷◌, ◌++◌, length, take, drop, map, nat_lt, nat_le, ◌==◌, if◌then◌else◌, Option, Some, None, option_map, find, flat_map}
 use Rattle.std.specs.List.{last_or}
 use Rattle.std.specs.Str.{bytes_eq}
 use Rattle.std.specs.Ordering.{is_lt, nat_cmp}
@@ -115,6 +115,12 @@ pub record AppendsEncoding (ids : Ids) (old new : List ℕ) : Type 0 where
   pub bytes : List ℕ
   pub encodes : IsEncoding ids bytes
   pub appended : new ≡ old ++ bytes
+
+-- A vector of this length and this capacity lacks the room for the encoding of the set.
+pub record LacksRoom (ids : Ids) (len capacity : ℕ) : Type 0 where
+  pub bytes : List ℕ
+  pub encodes : IsEncoding ids bytes
+  pub lacks : capacity < len + length bytes
 
 -- After some lawful sources, fewer than the first number says, the next one is at fault.
 pub record FaultsAtSource (bytes : List ℕ) (fault : GtidFault) : Type 0 where

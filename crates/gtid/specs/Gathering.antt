@@ -33,9 +33,9 @@ abbrev pub interval_of : Span → Interval
 interval_of s = record { lo = s.lo; hi = s.hi }
 
 -- The first span is the source's, with this interval, and the rest are the spans after it.
-abbrev pub IsTaken : List ℕ → List Span → Interval → List Span → Type 0
-IsTaken source [] interval rest = ⊥
-IsTaken source (s ∷ spans) interval rest = (s.source ≡ source) × (interval ≡ interval_of s) × (rest ≡ spans)
+abbrev pub IsFirst : List ℕ → List Span → Interval → List Span → Type 0
+IsFirst source [] interval rest = ⊥
+IsFirst source (s ∷ spans) interval rest = (s.source ≡ source) × (interval ≡ interval_of s) × (rest ≡ spans)
 
 -- the first span, if there is one, is another source's
 abbrev pub IsOther : List ℕ → List Span → Type 0

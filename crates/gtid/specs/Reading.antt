@@ -20,7 +20,7 @@ pub data Part : Type 0 where
   -- in the second number, after the first one
   Second : ℕ → ℕ → Part
   -- after the intervals
-  Behind : Part
+  After : Part
 
 -- the number, or the greatest that eight bytes hold
 abbrev pub at_most : ℕ → ℕ
@@ -31,8 +31,8 @@ abbrev pub appended : ℕ → ℕ → ℕ
 appended n digit = at_most (at_most (n * 10) + (digit - 48))
 
 -- after a number, at a byte that is not a digit
-abbrev pub behind_number : ℕ → Part
-behind_number b = if b == 58 then First 0 else if b == 44 then Source 0 else Behind
+abbrev pub after_number : ℕ → Part
+after_number b = if b == 58 then First 0 else if b == 44 then Source 0 else After
 
 -- how many digits of a UUID have been read after one more byte, up to what one byte holds
 abbrev pub more_digits : ℕ → ℕ → ℕ
@@ -41,9 +41,9 @@ more_digits digits b = if is_hex_digit b then (if nat_lt (digits + 1) 256 then d
 -- the part after a byte
 abbrev pub advance : Part → ℕ → Part
 advance (Source digits) b = if b == 58 then First 0 else Source (more_digits digits b)
-advance (First lo) b = if is_digit b then First (appended lo b) else if b == 45 then Second lo 0 else behind_number b
-advance (Second lo hi) b = if is_digit b then Second lo (appended hi b) else behind_number b
-advance Behind b = if b == 44 then Source 0 else Behind
+advance (First lo) b = if is_digit b then First (appended lo b) else if b == 45 then Second lo 0 else after_number b
+advance (Second lo hi) b = if is_digit b then Second lo (appended hi b) else after_number b
+advance After b = if b == 44 then Source 0 else After
 
 -- the source, with a digit of the UUID in its place
 abbrev pub put : List ℕ → ℕ → ℕ → List ℕ
@@ -56,14 +56,14 @@ abbrev pub source_after : List ℕ → Part → ℕ → List ℕ
 source_after source (Source digits) b = put source digits b
 source_after source (First lo) b = source
 source_after source (Second lo hi) b = source
-source_after source Behind b = source
+source_after source After b = source
 
 -- the interval that ends before a byte
 abbrev pub interval_before : Part → ℕ → Option (ℕ × ℕ)
 interval_before (Source digits) b = None
 interval_before (First lo) b = if is_digit b || (b == 45) then None else Some (lo, lo)
 interval_before (Second lo hi) b = if is_digit b then None else Some (lo, hi)
-interval_before Behind b = None
+interval_before After b = None
 
 -- an interval of a source
 abbrev pub Found : Type 0
@@ -94,6 +94,6 @@ collected part source [] = ended part 44 source
 collected part source (b ∷ bs) = ended part b source ++ collected (advance part b) (source_after source part b) bs
 
 -- what is found after an interval
-abbrev pub behind_interval : List ℕ → List ℕ → List Found
-behind_interval source [] = []
-behind_interval source (b ∷ bs) = collected (behind_number b) source bs
+abbrev pub after_interval : List ℕ → List ℕ → List Found
+after_interval source [] = []
+after_interval source (b ∷ bs) = collected (after_number b) source bs

@@ -3,7 +3,7 @@
 use Rattle.std.specs.Prelude.{◌≡◌, ℕ, ◌+◌, ◌<◌, ◌≤◌, ◌==◌, ◌||◌, ◌&&◌, Bool, true, false, nat_le, Option, Some, None, List, [], ◌∷◌, ◌++◌, if◌then◌else◌}
 use Rattle.uuid.specs.Text.{is_hex_digit, is_hyphen_place}
 use Rattle.gtid.specs.declared.grammar.State.{State}
-use Rattle.gtid.specs.declared.grammar.State.TheVariants.{Start, Item, Source, First, Lo, Second, Hi, Behind}
+use Rattle.gtid.specs.declared.grammar.State.TheVariants.{Start, Item, Source, First, Lo, Second, Hi, After}
 
 abbrev pub is_blank : ℕ → Bool
 is_blank b = (b == 0x20) || (b == 0x0A) || (b == 0x0D)
@@ -21,7 +21,7 @@ begin state b = if is_hex_digit b then Some (Source 1) else if is_blank b then S
 
 -- after a number that may be an item's last, at a byte that is not a digit
 abbrev pub end_number : ℕ → Option State
-end_number b = if b == 58 then Some First else if is_blank b then Some Behind else if b == 44 then Some Item else None
+end_number b = if b == 58 then Some First else if is_blank b then Some After else if b == 44 then Some Item else None
 
 -- the state after a byte, if the byte may come next
 abbrev pub step : State → ℕ → Option State
@@ -35,7 +35,7 @@ step First b = if is_digit b then Some Lo else None
 step Lo b = if is_digit b then Some Lo else if b == 45 then Some Second else end_number b
 step Second b = if is_digit b then Some Hi else None
 step Hi b = if is_digit b then Some Hi else end_number b
-step Behind b = if is_blank b then Some Behind else if b == 44 then Some Item else None
+step After b = if is_blank b then Some After else if b == 44 then Some Item else None
 
 -- whether the text may end there
 abbrev pub ends : State → Bool
@@ -46,7 +46,7 @@ ends First = false
 ends Lo = true
 ends Second = false
 ends Hi = true
-ends Behind = true
+ends After = true
 
 -- At most the 36 bytes of a UUID were read.
 abbrev pub IsPlaced : State → Type 0
@@ -57,7 +57,7 @@ IsPlaced First = Unit {0}
 IsPlaced Lo = Unit {0}
 IsPlaced Second = Unit {0}
 IsPlaced Hi = Unit {0}
-IsPlaced Behind = Unit {0}
+IsPlaced After = Unit {0}
 
 -- the state after a byte, if there was one before it
 abbrev pub stepped : Option State → ℕ → Option State

@@ -65,9 +65,9 @@ pub record IsItem (text : List ℕ) (item : SidBlock) : Type 0 where
   pub before : List ℕ
   pub uuid : List ℕ
   pub numbers : List ℕ
-  pub behind : List ℕ
-  pub text_is : text ≡ before ++ uuid ++ numbers ++ behind
-  pub blanks : AllByRecursion IsBlank before × AllByRecursion IsBlank behind
+  pub after : List ℕ
+  pub text_is : text ≡ before ++ uuid ++ numbers ++ after
+  pub blanks : AllByRecursion IsBlank before × AllByRecursion IsBlank after
   pub a_source : IsSource item.source
   pub a_uuid : str_to_ascii_lowercase uuid ≡ hyphenated_text lower item.source
   pub some : 0 < length item.intervals

@@ -65,10 +65,10 @@ fn read_interval(after: u64, bytes: &[u8]) -> Result<(Interval, &[u8]), GtidFaul
     ensures split { IfOk result (λ read. bytes.now ≡ interval_bytes (pair read.0) ++ read.1.now) }
     ensures err { IfErr result (λ fault. interval_fault after bytes.now ≡ Some fault) }
 {
-    let Some((lo, behind)) = read_number(bytes) else {
+    let Some((lo, beyond)) = read_number(bytes) else {
         return Err(GtidFault::Truncated);
     };
-    let Some((hi, rest)) = read_number(behind) else {
+    let Some((hi, rest)) = read_number(beyond) else {
         return Err(GtidFault::Truncated);
     };
     if lo == 0 || hi > Gtid::GREATEST + 1 {
@@ -123,10 +123,10 @@ fn read_intervals(
     let mut after = 0;
     let mut rest = bytes;
     for _done in 0..size {
-        let (interval, behind) = read_interval(after, rest)?;
+        let (interval, beyond) = read_interval(after, rest)?;
         intervals.push(interval)?;
         after = interval.hi;
-        rest = behind;
+        rest = beyond;
     }
     Ok((intervals, rest))
 }
@@ -153,12 +153,12 @@ pub(crate) fn read_groups(alloc: Global, bytes: &[u8]) -> Result<(Vec<Group>, &[
     ensures split { IfOk result (λ read. bytes.now ≡ blocks_bytes (blocks read.0.items) ++ read.1.now) }
     ensures err { IfErr result (λ fault. (fault ≡ GtidFault.Memory) ⊎ IsDecodeFault bytes.now fault) }
 {
-    let Some((count, behind)) = read_number(bytes) else {
+    let Some((count, beyond)) = read_number(bytes) else {
         return Err(GtidFault::Truncated);
     };
     let mut groups = Vec::new(alloc);
     let mut before = None;
-    let mut rest = behind;
+    let mut rest = beyond;
     for _done in 0..count {
         let (group, after) = read_group(alloc, before, rest)?;
         before = Some(group.source);

@@ -6,7 +6,7 @@ ghost use Rattle.gtid.specs.Identifier.{Id, id_cmp};
 ghost use Rattle.gtid.specs.Span.{is_in};
 ghost use Rattle.gtid.specs.Reading.{IsLawfulSpan};
 ghost use Rattle.gtid.specs.Group.{Ascend, sources, is_of, is_listed};
-ghost use Rattle.gtid.specs.Gathering.{start, Rise, AreAbove, IsTaken, IsOther};
+ghost use Rattle.gtid.specs.Gathering.{start, Rise, AreAbove, IsFirst, IsOther};
 
 use crate::fault::GtidFault;
 use crate::group::Group;
@@ -49,28 +49,24 @@ fn gather_rising(alloc: Global, spans: &[Span]) -> Result<Vec<Group>, GtidFault>
 {
     let mut groups = Vec::new(alloc);
     let mut left = spans;
-    while let [first, behind @ ..] = left {
-        let (group, others) = join(alloc, *first, behind)?;
+    while let [first, after @ ..] = left {
+        let (group, others) = join(alloc, *first, after)?;
         left = others;
         groups.push(group)?;
     }
     Ok(groups)
 }
 
-/// The group of the first span's source, and the spans after that source. `behind` are the spans after the first.
-fn join<'a>(
-    alloc: Global,
-    first: Span,
-    behind: &'a [Span],
-) -> Result<(Group, &'a [Span]), GtidFault>
-    requires lawful { AllByRecursion IsLawfulSpan (first ∷ behind.now) }
-    requires rise { Rise (first ∷ behind.now) }
+/// The group of the first span's source, and the spans after that source. `after` are the spans after the first.
+fn join<'a>(alloc: Global, first: Span, after: &'a [Span]) -> Result<(Group, &'a [Span]), GtidFault>
+    requires lawful { AllByRecursion IsLawfulSpan (first ∷ after.now) }
+    requires rise { Rise (first ∷ after.now) }
     ensures source { IfOk result (λ joined. joined.0.source ≡ first.source) }
-    ensures listed { IfOk result (λ joined. (q : Id) → list_any (is_in q) (first ∷ behind.now) ≡ (is_of q joined.0 || list_any (is_in q) joined.1.now)) }
+    ensures listed { IfOk result (λ joined. (q : Id) → list_any (is_in q) (first ∷ after.now) ≡ (is_of q joined.0 || list_any (is_in q) joined.1.now)) }
     ensures lawful { IfOk result (λ joined. AllByRecursion IsLawfulSpan joined.1.now) }
     ensures rise { IfOk result (λ joined. Rise joined.1.now) }
     ensures above { IfOk result (λ joined. AreAbove first.source joined.1.now) }
-    ensures fewer { IfOk result (λ joined. length joined.1.now ≤ length behind.now) }
+    ensures fewer { IfOk result (λ joined. length joined.1.now ≤ length after.now) }
     ensures err { IfErr result (λ fault. fault ≡ GtidFault.Memory) }
 {
     let source = first.source;
@@ -79,8 +75,8 @@ fn join<'a>(
         lo: first.lo,
         hi: first.hi,
     };
-    let mut left = behind;
-    while let Some((next, others)) = take_one(&source, left) {
+    let mut left = after;
+    while let Some((next, others)) = first_of(&source, left) {
         left = others;
         if next.lo <= last.hi {
             last.hi = last.hi.max(next.hi);
@@ -98,8 +94,8 @@ fn join<'a>(
 }
 
 /// The interval of the first span and the spans after it, if the first span is the source's.
-fn take_one<'a>(source: &[u8; 16], spans: &'a [Span]) -> Option<(Interval, &'a [Span])>
-    ensures some { IfSome result (λ taken. IsTaken source.now spans.now taken.0 taken.1.now) }
+fn first_of<'a>(source: &[u8; 16], spans: &'a [Span]) -> Option<(Interval, &'a [Span])>
+    ensures some { IfSome result (λ taken. IsFirst source.now spans.now taken.0 taken.1.now) }
     ensures none { IfNone result (IsOther source.now spans.now) }
 {
     match spans {

@@ -24,7 +24,7 @@ enum State {
     /// A digit of an interval's second number.
     Hi,
     /// A blank after an item.
-    Behind,
+    After,
 }
 
 /// Whether the bytes are the text of a set; otherwise the length of the longest prefix that begins some text of a set.
@@ -147,8 +147,8 @@ fn step(state: State, byte: u8) -> Option<State>
             b'0'..=b'9' => Some(State::Hi),
             _ => end_number(byte),
         },
-        State::Behind => match byte {
-            b' ' | b'\n' | b'\r' => Some(State::Behind),
+        State::After => match byte {
+            b' ' | b'\n' | b'\r' => Some(State::After),
             b',' => Some(State::Item),
             _ => None,
         },
@@ -183,7 +183,7 @@ fn end_number(byte: u8) -> Option<State>
 {
     match byte {
         b':' => Some(State::First),
-        b' ' | b'\n' | b'\r' => Some(State::Behind),
+        b' ' | b'\n' | b'\r' => Some(State::After),
         b',' => Some(State::Item),
         _ => None,
     }
@@ -194,7 +194,7 @@ fn ends(state: State) -> bool
     ensures { result ≡ Scan.ends state }
 {
     match state {
-        State::Start | State::Lo | State::Hi | State::Behind => true,
+        State::Start | State::Lo | State::Hi | State::After => true,
         State::Item | State::Source(_) | State::First | State::Second => false,
     }
 }

@@ -166,7 +166,7 @@ fn place(intervals: &[Interval], number: u64) -> usize
     requires reaches { Reaches intervals.now number }
     ensures within { result < length intervals.now }
     ensures before { AllWithin (λ i. i.hi < number) intervals.now 0 result }
-    ensures behind { AllWithin (λ i. number ≤ i.hi) intervals.now result (length intervals.now) }
+    ensures after { AllWithin (λ i. number ≤ i.hi) intervals.now result (length intervals.now) }
 {
     let last = intervals.len() - 1;
     if intervals[last].lo <= number {

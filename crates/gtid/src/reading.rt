@@ -8,8 +8,8 @@ ghost use Rattle.gtid.specs.Scan.{BeginsWithNoDigit};
 ghost use Rattle.gtid.specs.Text;
 ghost use Rattle.gtid.specs.Text.{IsList, list_fault, written_fault, written_spans};
 ghost use Rattle.gtid.specs.Reading;
-ghost use Rattle.gtid.specs.Reading.{IsLawfulSpan, collected, behind_interval, judge};
-ghost use Rattle.gtid.specs.Reading.Part.{Source, First, Second, Behind};
+ghost use Rattle.gtid.specs.Reading.{IsLawfulSpan, collected, after_interval, judge};
+ghost use Rattle.gtid.specs.Reading.Part.{Source, First, Second, After};
 
 use crate::fault::GtidFault;
 use crate::grammar::take_digit;
@@ -25,17 +25,17 @@ pub(crate) fn read_spans(alloc: Global, text: &[u8]) -> Result<Vec<Span>, GtidFa
     let mut spans = Vec::new(alloc);
     let mut source = [0; 16];
     let mut left = text;
-    while let Some(behind) = read_source(left, &mut source) {
-        left = read_intervals(behind, source, &mut spans)?;
+    while let Some(after) = read_source(left, &mut source) {
+        left = read_intervals(after, source, &mut spans)?;
     }
     Ok(spans)
 }
 
 /// Reads a source up to its colon, and returns what follows the colon.
 fn read_source<'a>(text: &'a [u8], source: &mut [u8; 16]) -> Option<&'a [u8]>
-    ensures some { IfSome result (λ behind. collected (Source 0) source.old text.now ≡ collected (First 0) source.new behind.now) }
+    ensures some { IfSome result (λ after. collected (Source 0) source.old text.now ≡ collected (First 0) source.new after.now) }
     ensures none { IfNone result (collected (Source 0) source.old text.now ≡ []) }
-    ensures shorter { IfSome result (λ behind. length behind.now < length text.now) }
+    ensures shorter { IfSome result (λ after. length after.now < length text.now) }
 {
     let mut digits = 0;
     let mut left = text;
@@ -61,11 +61,11 @@ fn read_intervals<'a>(
     ensures err { IfErr result (λ fault. (fault ≡ GtidFault.Memory) ⊎ (judge spans.old.items (collected (First 0) source text.now) ≡ Err fault)) }
     ensures shorter { IfOk result (λ items. length items.now ≤ length text.now) }
 {
-    let mut behind = push_interval(text, source, spans)?;
-    while let [b':', rest @ ..] = behind {
-        behind = push_interval(rest, source, spans)?;
+    let mut after = push_interval(text, source, spans)?;
+    while let [b':', rest @ ..] = after {
+        after = push_interval(rest, source, spans)?;
     }
-    Ok(behind_comma(behind))
+    Ok(after_comma(after))
 }
 
 /// Appends an interval and returns what follows it. The text begins after the interval's colon.
@@ -74,32 +74,32 @@ fn push_interval<'a>(
     source: [u8; 16],
     spans: &mut Vec<Span>,
 ) -> Result<&'a [u8], GtidFault>
-    ensures ok { IfOk result (λ behind. judge spans.old.items (collected (First 0) source text.now) ≡ judge spans.new.items (behind_interval source behind.now)) }
+    ensures ok { IfOk result (λ after. judge spans.old.items (collected (First 0) source text.now) ≡ judge spans.new.items (after_interval source after.now)) }
     ensures err { IfErr result (λ fault. (fault ≡ GtidFault.Memory) ⊎ (judge spans.old.items (collected (First 0) source text.now) ≡ Err fault)) }
-    ensures shorter { IfOk result (λ behind. length behind.now ≤ length text.now) }
+    ensures shorter { IfOk result (λ after. length after.now ≤ length text.now) }
 {
-    let (lo, hi, behind) = read_interval(text);
+    let (lo, hi, after) = read_interval(text);
     if let Some(fault) = fault_of(lo, hi) {
         return Err(fault);
     }
     let hi = hi + 1;
     spans.push(Span { source, lo, hi })?;
-    Ok(behind)
+    Ok(after)
 }
 
 /// The two numbers of an interval, and what follows it. The text begins after the interval's colon. A single number
 /// stands for both.
 fn read_interval(text: &[u8]) -> (u64, u64, &[u8])
-    ensures found { (source : List ℕ) → collected (First 0) source text.now ≡ (source, (result.0, result.1)) ∷ behind_interval source result.2.now }
+    ensures found { (source : List ℕ) → collected (First 0) source text.now ≡ (source, (result.0, result.1)) ∷ after_interval source result.2.now }
     ensures shorter { length result.2.now ≤ length text.now }
 {
-    let (lo, behind) = read_number(text);
-    match behind {
+    let (lo, after) = read_number(text);
+    match after {
         [b'-', rest @ ..] => {
-            let (hi, behind) = read_number(rest);
-            (lo, hi, behind)
+            let (hi, after) = read_number(rest);
+            (lo, hi, after)
         }
-        _ => (lo, lo, behind),
+        _ => (lo, lo, after),
     }
 }
 
@@ -107,7 +107,7 @@ fn read_interval(text: &[u8]) -> (u64, u64, &[u8])
 fn read_number(text: &[u8]) -> (u64, &[u8])
     ensures first { (source : List ℕ) → collected (First 0) source text.now ≡ collected (First result.0) source result.1.now }
     ensures second { (lo : ℕ) (source : List ℕ) → collected (Second lo 0) source text.now ≡ collected (Second lo result.0) source result.1.now }
-    ensures behind { BeginsWithNoDigit result.1.now }
+    ensures after { BeginsWithNoDigit result.1.now }
     ensures shorter { length result.1.now ≤ length text.now }
 {
     let mut number = 0;
@@ -120,8 +120,8 @@ fn read_number(text: &[u8]) -> (u64, &[u8])
 }
 
 /// What follows the next comma.
-fn behind_comma(text: &[u8]) -> &[u8]
-    ensures items { (source : List ℕ) → collected Behind source text.now ≡ collected (Source 0) source result.now }
+fn after_comma(text: &[u8]) -> &[u8]
+    ensures items { (source : List ℕ) → collected After source text.now ≡ collected (Source 0) source result.now }
     ensures shorter { length result.now ≤ length text.now }
 {
     let mut left = text;

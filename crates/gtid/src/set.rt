@@ -1,6 +1,6 @@
 //! Sets of GTIDs.
 
-ghost use Rattle.std.specs.Prelude.{◌≡◌, ℕ, ◌≤◌, ◌⊎◌, true, false, not, length, take, string_bytes, MatchResult, IfOk, OnOk, IfErr, OnErr, Ok, Err, List, None};
+ghost use Rattle.std.specs.Prelude.{◌≡◌, ℕ, ◌≤◌, ◌⊎◌, true, false, not, length, take, string_bytes, MatchResult, IfOk, OnOk, IfErr, OnErr, Ok, Err, List, None, vec_len, vec_capacity};
 ghost use Rattle.std.specs.FinSet as set;
 ghost use Rattle.gtid.specs.Identifier.{Ids, id};
 ghost use Rattle.std.specs.List.{AllByRecursion};
@@ -8,7 +8,7 @@ ghost use Rattle.gtid.specs.Span.{Covers, IsLeastList};
 ghost use Rattle.gtid.specs.Reading.{IsLawfulSpan};
 ghost use Rattle.gtid.specs.Beside.{Joins};
 ghost use Rattle.gtid.specs.declared.span.Span.{Span};
-ghost use Rattle.gtid.specs.Encoding.{IsEncoding, IsDecodeFault, AppendsEncoding};
+ghost use Rattle.gtid.specs.Encoding.{IsEncoding, IsDecodeFault, AppendsEncoding, LacksRoom};
 ghost use Rattle.gtid.specs.Text.{IsRead, IsParseFault, AppendsText};
 
 use crate::beside::Beside;
@@ -152,10 +152,12 @@ impl GtidSet {
     }
 
     /// Appends the set as the data of COM_BINLOG_DUMP_GTID: the number of sources, and for each its 16 bytes, the
-    /// number of its intervals, and the intervals. The only error is `Memory`, which leaves the vector as it was.
+    /// number of its intervals, and the intervals. The only error is `Memory`: the vector lacks the room and cannot grow.
+    /// It leaves the vector as it was.
     pub fn encode(&self, out: &mut Vec<u8>) -> Result<(), GtidFault>
         ensures ok { OnOk result (AppendsEncoding self.now out.old.items out.new.items) }
         ensures err { OnErr result ((result ≡ Err GtidFault.Memory) × (out.new.items ≡ out.old.items)) }
+        ensures full { OnErr result (LacksRoom self.now (vec_len out.old) (vec_capacity out.old)) }
     {
         let len = out.len();
         let written = write_groups(&self.groups, out);

@@ -14,7 +14,7 @@ use Rattle.mrep.specs.Listing.{Lists, held_of, first_id, IsNoPayload, Stands, Is
 -- bytes after the rest are part of the rest
 lists-more : (offset : ℕ) (bytes more : List ℕ) (entries : List Entry) (rest : List ℕ) → Lists offset bytes entries rest → Lists offset (bytes ++ more) entries (rest ++ more)
 lists-more offset bytes more [] rest same = ap (λ b. b ++ more) same
-lists-more offset bytes more (e ∷ entries) rest (packing, others, payload, next, is, whole, at, long, behind) = (
+lists-more offset bytes more (e ∷ entries) rest (packing, others, payload, next, is, whole, at, long, after) = (
   packing,
   others ++ more,
   payload,
@@ -23,7 +23,7 @@ lists-more offset bytes more (e ∷ entries) rest (packing, others, payload, nex
   whole,
   at,
   long,
-  lists-more (offset + length packing) others more entries rest behind,
+  lists-more (offset + length packing) others more entries rest after,
 )
 
 -- and if they complete a payload, there is one more entry, and no rest
@@ -32,7 +32,7 @@ lists-push : (offset : ℕ) (bytes more : List ℕ) (entries : List Entry) (rest
     Lists offset (bytes ++ more) (entries ++ entry ∷ []) []
 lists-push offset bytes more [] rest entry payload next same whole at long =
     (rest ++ more, [], payload, next, ap (λ b. b ++ more) same ∙ sym (append-nil (rest ++ more)), whole, omega (arith, at, ap length same), long, refl)
-lists-push offset bytes more (e ∷ entries) rest entry payload next (packing, others, p, n, is, w, here, l, behind) whole at long = (
+lists-push offset bytes more (e ∷ entries) rest entry payload next (packing, others, p, n, is, w, here, l, after) whole at long = (
   packing,
   others ++ more,
   p,
@@ -41,7 +41,7 @@ lists-push offset bytes more (e ∷ entries) rest entry payload next (packing, o
   w,
   here,
   l,
-  lists-push (offset + length packing) others more entries rest entry payload next behind whole (omega (arith, at, ap length is, length-append packing others)) long,
+  lists-push (offset + length packing) others more entries rest entry payload next after whole (omega (arith, at, ap length is, length-append packing others)) long,
 )
 
 -- what was taken of a piece, and the listing's position

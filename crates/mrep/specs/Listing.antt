@@ -38,7 +38,7 @@ pub record Stands (l : Listing) (stream : List ℕ) (entries : List Entry) : Typ
   pub goes_on : l.assembler.ended ≡ false
 
 -- This many of the bytes were taken, and are held now or complete this payload.
-pub record Takes (old new : Listing) (bytes : List ℕ) (step : Step) : Type 0 where
+pub record Advances (old new : Listing) (bytes : List ℕ) (step : Step) : Type 0 where
   pub in_range : step.used ≤ length bytes
   pub progress : 0 < step.used
   pub begin : new.begin ≡ old.begin

@@ -16,13 +16,8 @@ fn needed<'a>(alloc: Global, name: &'a str, help: &'a str) -> Arg<'a> {
 
 /// A command that uses a database file.
 fn over<'a>(alloc: Global, name: &'a str, about: &'a str) -> Result<Command<'a>, AllocError> {
-    let db = needed(
-        alloc,
-        "db",
-        "The database file; a new one is made if it does not exist",
-    )
-    .long("db")
-    .value_name("F");
+    let help = "The database file; a new one is made if it does not exist";
+    let db = option(alloc, "db", "F", help).allow_hyphen_values(true);
     Command::new(alloc, name).about(about).arg(db)
 }
 
@@ -64,13 +59,14 @@ fn option<'a>(alloc: Global, name: &'a str, value: &'a str, help: &'a str) -> Ar
 /// The options for the source and the account.
 fn who<'a>(alloc: Global, command: Command<'a>) -> Result<Command<'a>, AllocError> {
     let port = "The source's port, from 1 to 65535";
+    let user = "The name of the replication account";
     let password = "The file with the password; one line feed at its end is ignored";
     let server_id = "The server id of the replica, from 1 to 4294967295";
     command
         .arg(option(alloc, "host", "H", "The source's host name or address"))?
         .arg(option(alloc, "port", "P", port))?
-        .arg(option(alloc, "user", "U", "The name of the replication account"))?
-        .arg(option(alloc, "password-file", "W", password))?
+        .arg(option(alloc, "user", "U", user).allow_hyphen_values(true))?
+        .arg(option(alloc, "password-file", "W", password).allow_hyphen_values(true))?
         .arg(option(alloc, "server-id", "I", server_id))
 }
 

@@ -2,11 +2,37 @@
 
 use crate::failure::Failure;
 use binlog::Follow;
-use sqlite::{Connection, File, FileStore};
+use sqlite::{Connection, Error, ErrorCode, File, FileStore};
+use sqlite_disk::Unknown;
+use std::alloc::AllocError;
+use std::fs::OpenOptions;
+use std::io::{ErrorKind, Read};
+use std::{fs, io};
 use store::{Store, StoreFault};
 
 /// A store in a database file.
 pub type FileOf = FileStore<File>;
+
+/// How an SQLite file begins (SQLite, "Database File Format", section 1.3).
+const MAGIC: [u8; 16] = *b"SQLite format 3\0";
+
+/// Where the page number of the first frame stands in a log, after the log's header (section 4.1), and where it ends.
+const FIRST_PAGE: usize = 32;
+
+const FIRST_PAGE_END: usize = FIRST_PAGE + 4;
+
+const LOCKED: &str = "database is locked: another process has it open";
+
+const NO_DATABASE: &str = "not an SQLite database";
+
+const DAMAGED: &str =
+    "the database is damaged: its pages or its schema cannot be read, or a row does not obey it";
+
+const READ_ONLY: &str =
+    "the file may only be read, and each command locks it for writing and keeps a log beside it";
+
+const NOT_USABLE: &str =
+    "unable to open database file: it has several names or is no file, sqlite3 has left a journal, or its log or folder cannot be written";
 
 /// Opens the store in a file, which is made if it does not exist. With a list of tables, the database is made for them
 /// or must have been; without one, its own list holds.
@@ -17,7 +43,7 @@ pub fn open<'a>(
 ) -> Result<Store<FileOf>, Failure<'a>> {
     match connect(rt, name, only) {
         Ok(store) => Ok(store),
-        Err(cause) => Err(Failure::Database { name, cause }),
+        Err(cause) => Err(refusal(rt, name, cause)),
     }
 }
 
@@ -26,7 +52,16 @@ fn connect(
     name: &str,
     only: Option<&Follow>,
 ) -> Result<Store<FileOf>, StoreFault> {
-    let conn = Connection::open(rt, name)?;
+    let log = missing_log(rt, name)?;
+    let conn = match Connection::open_from(rt, name, false, Unknown) {
+        Ok(conn) => conn,
+        Err((error, left)) => {
+            if left.is_some() {
+                remove_unused(rt, log);
+            }
+            return Err(StoreFault::Database(error));
+        }
+    };
     if !conn.is_autocommit() {
         return Err(StoreFault::Broken);
     }
@@ -37,10 +72,109 @@ fn connect(
     match opened {
         Ok(store) => Ok(store),
         Err((cause, conn)) => {
+            remove_unused(rt, log);
             let _ = conn.close();
             Err(cause)
         }
     }
+}
+
+/// The name of the log of a database file that is there, if it has no log yet.
+fn missing_log(rt: &HostRuntime, name: &str) -> Result<Option<String>, AllocError> {
+    let Ok(real) = fs::canonicalize(rt, name) else {
+        return Ok(None);
+    };
+    let log = format!(in rt.alloc(); "{}-wal", real.as_str())?;
+    Ok(match fs::exists(rt, log.as_str()) {
+        Ok(false) => Some(log),
+        _ => None,
+    })
+}
+
+/// Removes a log that was missing before the database was opened, if nothing was written to it. The database must still
+/// be locked, so that no other process has it open.
+fn remove_unused(rt: &HostRuntime, log: Option<String>) {
+    if let Some(log) = log
+        && let Ok(false) = has_frames(rt, log.as_str())
+    {
+        let _ = fs::remove_file(rt, log.as_str());
+    }
+}
+
+/// Whether a log has a first frame: its page number is there and is not 0.
+fn has_frames(rt: &HostRuntime, log: &str) -> io::Result<bool> {
+    let Some(head) = read_head::<FIRST_PAGE_END>(rt, log)? else {
+        return Ok(false);
+    };
+    Ok(head[FIRST_PAGE..] != [0; 4])
+}
+
+/// The first bytes of a file, if it has that many.
+fn read_head<const N: usize>(rt: &HostRuntime, name: &str) -> io::Result<Option<[u8; N]>> {
+    let mut file = fs::open(rt, name)?;
+    if file.metadata()?.len() < N as u64 {
+        return Ok(None);
+    }
+    let mut head = [0; N];
+    file.read_exact(&mut head)?;
+    Ok(Some(head))
+}
+
+/// The failure of a database file that could not be opened.
+fn refusal<'a>(rt: &HostRuntime, name: &'a str, cause: StoreFault) -> Failure<'a> {
+    let StoreFault::Database(Error::SqliteFailure(code)) = cause else {
+        return Failure::Database { name, cause };
+    };
+    let why = match code {
+        ErrorCode::CannotOpen => return cannot_open(rt, name),
+        ErrorCode::DatabaseBusy => LOCKED,
+        ErrorCode::NotADatabase | ErrorCode::DatabaseCorrupt => match is_database(rt, name) {
+            Ok(false) => NO_DATABASE,
+            _ => DAMAGED,
+        },
+        _ => return Failure::Database { name, cause },
+    };
+    Failure::Unusable { name, why }
+}
+
+/// Whether a file begins as an SQLite file.
+fn is_database(rt: &HostRuntime, name: &str) -> io::Result<bool> {
+    Ok(read_head::<16>(rt, name)? == Some(MAGIC))
+}
+
+/// The failure of a database file that the system does not open: the system's cause, if it refuses the file itself.
+fn cannot_open<'a>(rt: &HostRuntime, name: &'a str) -> Failure<'a> {
+    match try_open(rt, name) {
+        Ok(()) => Failure::Unusable {
+            name,
+            why: NOT_USABLE,
+        },
+        Err(cause) if is_protected(cause.kind()) && fs::open(rt, name).is_ok() => {
+            Failure::Unusable {
+                name,
+                why: READ_ONLY,
+            }
+        }
+        Err(cause) => Failure::File { name, cause },
+    }
+}
+
+fn is_protected(kind: ErrorKind) -> bool {
+    matches!(
+        kind,
+        ErrorKind::PermissionDenied | ErrorKind::ReadOnlyFilesystem
+    )
+}
+
+/// Opens a file as a database is opened, makes it if it is missing, and closes it.
+fn try_open(rt: &HostRuntime, name: &str) -> io::Result<()> {
+    let mut options = OpenOptions::new();
+    options.read(true).write(true);
+    if !fs::exists(rt, name)? {
+        options.create_new(true);
+    }
+    options.open(rt, name)?;
+    Ok(())
 }
 
 /// Closes the file.

@@ -4,6 +4,7 @@ ghost use Rattle.std.specs.Prelude.{◌≡◌, ◌≤◌};
 ghost use Rattle.mrep.specs.Failure.{IsFileStatus, IsStatus, database_status};
 ghost use Rattle.mrep.specs.declared.failure.Failure.TheVariants as variants;
 
+use crate::name::Shown;
 use clap::error::ErrorKind;
 use gtid::GtidFault;
 use replica::ConfigFault;
@@ -44,6 +45,8 @@ pub enum Failure<'a> {
     Host { name: &'a str, cause: io::Error },
     /// The database file of this name could not be opened, or the database failed.
     Database { name: &'a str, cause: StoreFault },
+    /// The database file of this name cannot be used, for this reason.
+    Unusable { name: &'a str, why: &'static str },
     /// The output could not be written.
     Output(io::Error),
     /// An allocation was refused.
@@ -95,11 +98,12 @@ impl Failure<'_> {
             Failure::Database { cause, .. } => database_status(*cause),
             Failure::File { cause, .. } | Failure::Host { cause, .. } | Failure::Output(cause) =>
                 status_of(cause),
+            Failure::Unusable { .. } => FILES,
             Failure::Memory => MEMORY,
         }
     }
 
-    /// Writes the message.
+    /// Writes the message. A reader of the output that has gone is none.
     pub fn write<E: Write>(&self, err: &mut E) -> io::Result<()> {
         match self {
             Failure::Words(error) => write!(err, "{error}"),
@@ -110,16 +114,23 @@ impl Failure<'_> {
             ),
             Failure::Table { word } => writeln!(
                 err,
-                "mrep: {word}: not a table: expected SCHEMA.TABLE, with `%` only before two hexadecimal digits"
+                "mrep: {}: not a table: expected SCHEMA.TABLE, with `%` only before two hexadecimal digits",
+                Shown(word)
             ),
             Failure::Number { word, largest } => {
-                writeln!(err, "mrep: {word}: not a number from 1 to {largest}")
+                writeln!(
+                    err,
+                    "mrep: {}: not a number from 1 to {largest}",
+                    Shown(word)
+                )
             }
-            Failure::User { word, cause } => writeln!(err, "mrep: {word}: {cause}"),
+            Failure::User { word, cause } => writeln!(err, "mrep: {}: {cause}", Shown(word)),
             Failure::File { name, cause } | Failure::Host { name, cause } => {
-                writeln!(err, "mrep: {name}: {cause}")
+                writeln!(err, "mrep: {}: {cause}", Shown(name))
             }
-            Failure::Database { name, cause } => writeln!(err, "mrep: {name}: {cause}"),
+            Failure::Database { name, cause } => writeln!(err, "mrep: {}: {cause}", Shown(name)),
+            Failure::Unusable { name, why } => writeln!(err, "mrep: {}: {why}", Shown(name)),
+            Failure::Output(cause) if cause.kind() == io::ErrorKind::BrokenPipe => Ok(()),
             Failure::Output(cause) => writeln!(err, "mrep: output: {cause}"),
             Failure::Memory => writeln!(err, "mrep: out of memory"),
         }

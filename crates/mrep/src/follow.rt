@@ -4,6 +4,7 @@ ghost use Rattle.std.specs.Prelude.{◌≤◌, IfOk};
 
 use crate::database::{FileOf, close, open};
 use crate::failure::{Failure, MEMORY};
+use crate::name::Shown;
 use crate::progress::Progress;
 use crate::reason::{write_cause, write_end};
 use crate::replay::{status_of, tables};
@@ -113,13 +114,13 @@ fn follow_into<'a, W: Write, E: Write>(
         Err(cause) => return Err(Failure::Host { name: host, cause }),
     };
     let (end, failure) = if words.progress {
-        let _ = writeln!(err, "mrep: connected to {host} port {port}");
+        let _ = writeln!(err, "mrep: connected to {} port {port}", Shown(host));
         follow_over(rt, Progress::new(stream, rt, err), config, store)
     } else {
         follow_over(rt, stream, config, store)
     };
     let _ = match failure {
-        Some(kind) => writeln!(err, "mrep: {host}: {kind}"),
+        Some(kind) => writeln!(err, "mrep: {}: {kind}", Shown(host)),
         None => write_cause(host, words.db, &end.reason, err),
     };
     ends.push(end)?;

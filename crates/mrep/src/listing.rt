@@ -37,7 +37,7 @@ pub struct Listing {
 }
 
 impl Listing {
-    ghost use Rattle.mrep.specs.Listing.{held_of, Takes, Refuses, Stands, Faults};
+    ghost use Rattle.mrep.specs.Listing.{held_of, Advances, Refuses, Stands, Faults};
     ghost use Rattle.std.specs.Prelude.{◌≡◌, ◌≢◌, ℕ, ◌+◌, ◌^◌, ◌≤◌, ◌<◌, ◌++◌, [], List, false, length, IfOk, IfErr, MatchResult};
     ghost use Rattle.mrep.specs.declared.listing.Entry.{Entry};
 
@@ -54,11 +54,11 @@ impl Listing {
         }
     }
 
-    /// Takes bytes of the header that is being collected, and gives the header to the assembler once it is complete.
+    /// Advances bytes of the header that is being collected, and gives the header to the assembler once it is complete.
     fn gather(&mut self, bytes: &[u8]) -> Result<Step, WireFault>
         requires between { (self.old.assembler.held ≡ []) × (self.old.assembler.ended ≡ false) }
         requires some { 0 < length bytes.now }
-        ensures takes { IfOk result (λ step. Takes self.old self.new bytes.now step) }
+        ensures takes { IfOk result (λ step. Advances self.old self.new bytes.now step) }
         ensures refuses { IfErr result (λ fault. Refuses self.old self.new bytes.now fault) }
     {
         let used = bytes.len().min(HEADER - self.header.len());
@@ -82,7 +82,7 @@ impl Listing {
         requires between { (self.old.assembler.held ≡ []) × (self.old.assembler.ended ≡ false) }
         requires fresh { self.old.header.items ≡ [] }
         requires whole { 4 ≤ length bytes.now }
-        ensures takes { IfOk result (λ step. Takes self.old self.new bytes.now step) }
+        ensures takes { IfOk result (λ step. Advances self.old self.new bytes.now step) }
         ensures refuses { IfErr result (λ fault. Refuses self.old self.new bytes.now fault) }
     {
         self.sequence = bytes[HEADER - 1];
@@ -91,10 +91,10 @@ impl Listing {
         Ok(step)
     }
 
-    /// Takes bytes up to the end of the current payload, or some of them.
+    /// Advances bytes up to the end of the current payload, or some of them.
     fn take(&mut self, bytes: &[u8]) -> Result<Step, WireFault>
         requires { 0 < length bytes.now }
-        ensures takes { IfOk result (λ step. Takes self.old self.new bytes.now step) }
+        ensures takes { IfOk result (λ step. Advances self.old self.new bytes.now step) }
         ensures refuses { IfErr result (λ fault. Refuses self.old self.new bytes.now fault) }
     {
         if !self.assembler.between() {
@@ -107,7 +107,7 @@ impl Listing {
         }
     }
 
-    /// Takes a piece of the stream, and appends the payloads that are complete now.
+    /// Advances a piece of the stream, and appends the payloads that are complete now.
     ///
     /// After a fault the entries of the payloads before it have been appended, and the listing has ended.
     pub fn feed(&mut self, piece: &[u8], entries: &mut Vec<Entry>) -> Result<(), WireFault>

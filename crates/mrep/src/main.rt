@@ -30,9 +30,32 @@ use std::io::BufWriter;
 use std::process::ExitCode;
 use std::{env, io};
 
+/// How much of the stack is used at the start, in frames of some 4 KiB: twice what a command has been seen to use.
+const FRAMES: u32 = 64;
+
+const FRAME: usize = 4096;
+
+/// Uses the stack, so that the system gives it its room at the start: a stack that cannot grow later, when memory has run out,
+/// would end the process by a signal, where an allocation that is refused ends it with a message. Answers 0 or 1; that
+/// its frames are all there at once is why it looks into its own after the call.
+#[inline(never)]
+fn use_stack(frames: u32, at: usize) -> u8 {
+    let mut room = [0u8; FRAME];
+    room[at % FRAME] = 1;
+    let below = if frames == 0 {
+        0
+    } else {
+        use_stack(frames - 1, at)
+    };
+    room[at.wrapping_add(below as usize).wrapping_add(1) % FRAME]
+}
+
 /// Runs the command with buffered output. It fails only if an argument is not UTF-8 or memory runs out.
 fn run(rt: &HostRuntime) -> io::Result<u8> {
     let words: Vec<String> = env::args(rt)?.collect(rt.alloc())?;
+    if use_stack(FRAMES, words.len()) > 1 {
+        return Err(io::ErrorKind::OutOfMemory.into());
+    }
     let mut out = BufWriter::new(rt.alloc(), rt.stdout())?;
     Ok(command(rt, words.as_slice(), &mut out, &mut rt.stderr()))
 }

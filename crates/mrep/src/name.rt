@@ -1,11 +1,32 @@
-//! Names of schemas and tables, as they are printed and as an argument gives them.
+//! Names of schemas and tables, as they are printed and as an argument gives them; and of files, as messages print them.
 
 use std::alloc::{AllocError, Global};
-use std::io;
 use std::io::Write;
+use std::{fmt, io};
 
 /// The character that begins a byte written as two digits.
 const MARK: u8 = b'%';
+
+/// A file, a host or another argument in a message: a control character and the backslash are printed as `\x` and two
+/// hexadecimal digits, every other character as it is.
+#[derive(Clone, Copy)]
+pub struct Shown<'a>(pub &'a str);
+
+impl fmt::Display for Shown<'_> {
+    fn fmt<W: fmt::Write>(&self, f: &mut fmt::Formatter<W>) -> fmt::Result {
+        for character in self.0.chars() {
+            match character {
+                '\0'..='\x1f' | '\\' | '\x7f'..='\u{9f}' => write!(
+                    f,
+                    "\\x{:02x}",
+                    character as u32
+                )?,
+                plain => f.write_char(plain)?,
+            }
+        }
+        Ok(())
+    }
+}
 
 /// Writes a name: digits, letters, `_` and `$` as they are, every other byte as `%` and two hexadecimal digits.
 pub fn write_name<W: Write>(name: &[u8], out: &mut W) -> io::Result<()> {
@@ -50,17 +71,17 @@ fn read_name(alloc: Global, text: &[u8]) -> Result<Option<Vec<u8>>, AllocError> 
     for _ in text {
         match rest {
             [] => break,
-            [MARK, high, low, behind @ ..] => {
+            [MARK, high, low, after @ ..] => {
                 let Some(byte) = byte_of(*high, *low) else {
                     return Ok(None);
                 };
                 name.push(byte)?;
-                rest = behind;
+                rest = after;
             }
             [MARK, ..] => return Ok(None),
-            [byte, behind @ ..] => {
+            [byte, after @ ..] => {
                 name.push(*byte)?;
-                rest = behind;
+                rest = after;
             }
         }
     }

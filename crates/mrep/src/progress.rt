@@ -18,19 +18,19 @@ pub struct Progress<'a, T, E> {
     err: &'a mut E,
     /// How many bytes have been read, and when the last line was written.
     count: u64,
-    told: Option<Instant>,
+    printed: Option<Instant>,
 }
 
 impl<'a, T, E: Write> Progress<'a, T, E> {
     /// The stream, before any read.
     pub fn new(stream: T, clock: &'a HostRuntime, err: &'a mut E) -> Progress<'a, T, E> {
-        let told = Instant::now(clock).ok();
+        let printed = Instant::now(clock).ok();
         Progress {
             stream,
             clock,
             err,
             count: 0,
-            told,
+            printed,
         }
     }
 
@@ -42,12 +42,12 @@ impl<'a, T, E: Write> Progress<'a, T, E> {
         let Ok(now) = Instant::now(self.clock) else {
             return;
         };
-        if let Some(told) = self.told
-            && now.duration_since(told) < Duration::from_secs(1)
+        if let Some(printed) = self.printed
+            && now.duration_since(printed) < Duration::from_secs(1)
         {
             return;
         }
-        self.told = Some(now);
+        self.printed = Some(now);
         let _ = writeln!(self.err, "mrep: {} bytes received", self.count);
     }
 }

@@ -4,6 +4,7 @@ ghost use Rattle.std.specs.Prelude.{◌≡◌, ◌≤◌};
 ghost use Rattle.mrep.specs.Reason.{status_of, first_status};
 
 use crate::failure::{DONE, FILES, MEMORY, REFUSED};
+use crate::name::Shown;
 use binlog::EventFaultKind;
 use gather::GatherFault;
 use greet::GreetFault;
@@ -114,6 +115,7 @@ pub fn write_cause<W: Write>(
     reason: &Reason,
     out: &mut W,
 ) -> io::Result<()> {
+    let (stream, file) = (Shown(stream), Shown(file));
     match reason {
         Reason::SourceError { message, .. } => write_message(stream, message, out),
         Reason::Wire(fault) => writeln!(out, "mrep: {stream}: {fault}"),
@@ -130,13 +132,14 @@ pub fn write_cause<W: Write>(
             )
         }
         Reason::Database(fault) => writeln!(out, "mrep: {file}: {fault}"),
-        _ => Ok(()),
+        Reason::Memory => writeln!(out, "mrep: {stream}: out of memory"),
+        Reason::EndOfInput | Reason::SourceEof | Reason::ReadFailed | Reason::WriteFailed => Ok(()),
     }
 }
 
 /// Writes the message of a source. Printable ASCII except the backslash is written as it is, any other byte as `\x` and
 /// two hexadecimal digits.
-fn write_message<W: Write>(stream: &str, message: &[u8], out: &mut W) -> io::Result<()> {
+fn write_message<W: Write>(stream: Shown<'_>, message: &[u8], out: &mut W) -> io::Result<()> {
     write!(out, "mrep: {stream}: the source says: ")?;
     for byte in message {
         match *byte {

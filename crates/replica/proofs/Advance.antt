@@ -49,19 +49,19 @@ module _ (settings : Settings) (a : ReaderState) (gatherer : Gatherer) (phase : 
   rest-now : g.reading.rest ++ more ≡ a.held ++ more
   rest-now = ap (λ (l : List ℕ). l ++ more) g.held
 
-  told_as : (fault : WireFault)
+  reported_as : (fault : WireFault)
       → ((want got : ℕ) → fault ≡ wire.Sequence want got → IsOutOfSequence a.due a.limit (a.held ++ more) want got) → (fault ≡ wire.TooLarge → IsTooLarge a.due a.limit (a.held ++ more)) → (fault ≡ wire.Ended → a.ended ≡ true)
       → HasEnded settings names was is old now (b ++ more) all (record { reason = reason_of fault; at = at; applied = applied })
-  told_as (wire.Sequence want got) sequence large ended =
+  reported_as (wire.Sequence want got) sequence large ended =
       ended-wire (wire.Sequence want got)
       (subst (λ l. IsOutOfSequence g.reading.id settings.limit l want got) (sym rest-now)
       (subst (λ n. IsOutOfSequence g.reading.id n (a.held ++ more) want got) g.limit (subst (λ n. IsOutOfSequence n a.limit (a.held ++ more) want got) g.id (sequence want got refl))))
-  told_as wire.TooLarge sequence large ended =
+  reported_as wire.TooLarge sequence large ended =
       ended-wire wire.TooLarge
       (subst (λ l. IsTooLarge g.reading.id settings.limit l) (sym rest-now)
       (subst (λ n. IsTooLarge g.reading.id n (a.held ++ more)) g.limit (subst (λ n. IsTooLarge n a.limit (a.held ++ more)) g.id (large refl))))
-  told_as wire.Memory sequence large ended = ended-memory
-  told_as wire.Ended sequence large ended = absurd (both (sym (ended refl) ∙ g.reads))
+  reported_as wire.Memory sequence large ended = ended-memory
+  reported_as wire.Ended sequence large ended = absurd (both (sym (ended refl) ∙ g.reads))
 
   -- no payload is whole yet
   goes_on-unfinished : IsUnfinished a.due a.limit (a.held ++ more) → GoesOn settings (record a { held = a.held ++ more }) gatherer phase at applied names was is old now (b ++ more) all
@@ -150,7 +150,7 @@ module _ {S : Type 0} (g : Ghosts S) (store : Store S g) (schema : Schema) (was 
   unfolding Stands
   over-fault session after more fault none config out ended_so sequence large ended s =
       let goes = going session store.following was s.is old s.now b o none s.stands in
-      let has = told_as session.config session.assembler session.gatherer session.phase session.at session.applied store.following was s.is old s.now b (o ++ session.out.items) more goes fault sequence large ended in
+      let has = reported_as session.config session.assembler session.gatherer session.phase session.at session.applied store.following was s.is old s.now b (o ++ session.out.items) more goes fault sequence large ended in
       record {
         is = s.is;
         now = s.now;
@@ -197,9 +197,9 @@ module _ {S : Type 0} (g : Ghosts S) (store : Store S g) (schema : Schema) (was 
         leaves = λ w. leaves_now session session.config.limit s.now none (s.leaves w);
       }
 
-pub none_behind : (v : Option Ended) → is_some v ≡ false → v ≡ None
-none_behind None e = refl
-none_behind (Some end) e = absurd (both e)
+pub none_after : (v : Option Ended) → is_some v ≡ false → v ≡ None
+none_after None e = refl
+none_after (Some end) e = absurd (both e)
 
 pub at_some : {X : Type 0} (P : X → Type 0) (v : Option X) (x : X) → v ≡ Some x → IfSome v P → P x
 at_some P v x e h = subst (λ (w : Option _). IfSome w P) e h

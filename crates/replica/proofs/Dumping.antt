@@ -13,7 +13,7 @@ use Rattle.gather.specs.Transaction.{DeliveryValue}
 use Rattle.gather.specs.declared.gatherer.Gatherer.{Gatherer}
 use Rattle.sqlite.specs.declared.error.Error.{Error}
 use Rattle.store.specs.State.{Content}
-use Rattle.store.specs.Take.{Takes, done}
+use Rattle.store.specs.Take.{HasOutcome, done}
 use Rattle.store.specs.declared.fault.StoreFault.{StoreFault}
 use Rattle.store.specs.declared.fault.StoreFault.TheVariants as fault
 use Rattle.store.specs.declared.store.Store.{Store}
@@ -25,16 +25,16 @@ use Rattle.replica.specs.declared.end.Ended.{Ended}
 use Rattle.replica.specs.declared.phase.Phase.{Phase}
 use Rattle.replica.specs.declared.session.Session.{Session}
 use Rattle.replica.specs.Settings.{Settings}
-use Rattle.replica.specs.Stream.{Payload, Hello, InDump, IsInDump, Answers, next_due, next_id, due_behind, due_from}
+use Rattle.replica.specs.Stream.{Payload, Hello, InDump, IsInDump, Answers, next_due, next_id, due_after, due_from}
 use Rattle.replica.specs.End.{Denies, EndsLog}
-use Rattle.replica.specs.Conn.{TakesAll, Why, NextEnds, BreaksStore}
+use Rattle.replica.specs.Conn.{AppliesAll, Why, NextEnds, BreaksStore}
 use Rattle.replica.specs.Sent.{Sent, SentFor}
 use Rattle.replica.specs.Standing.{GoesOn, HasEnded, Stands, HasPayload, due_of, end_of, place_of, MovesOn}
 use Rattle.replica.specs.Crash.{IsLeft}
 use Rattle.replica.specs.Turn.{GathersMore}
 use Rattle.replica.specs.Event.{GoesFurther, EndsOne, Rests, EndsSo}
 use Rattle.replica.specs.Over.{LeavesOnly, StandsOver, MeetsOver}
-use Rattle.replica.proofs.Push.{due_push, owes_push, takes_push, with_event}
+use Rattle.replica.proofs.Push.{due_push, responds_push, takes_push, with_event}
 use Rattle.replica.proofs.Turning.{stands_going, stands_ended, stops, ended, rest_length}
 
 either : (b : Bool) → (b ≡ false) ⊎ (b ≡ true)
@@ -51,17 +51,17 @@ was_whole true broken h whole = absurd (true-false (sym (h refl) ∙ whole))
 -- ---- an event goes on
 module _ (settings : Settings) (assembly : ReaderState) (gatherer : Gatherer) (waits : Phase) (at applied : ℕ) (names : Names) (was is : Bool) (old now : Content) (b all : List ℕ) (p : Payload)
     (h : HasPayload settings assembly gatherer waits at applied names was is old now b all p) (dump : due_of waits ≡ InDump) where
-  pub due_is : due_behind h.reading.payloads ≡ InDump
+  pub due_is : due_after h.reading.payloads ≡ InDump
   due_is = sym h.awaits ∙ dump
 
-  pub in_the_dump : IsInDump (due_behind h.reading.payloads)
+  pub in_the_dump : IsInDump (due_after h.reading.payloads)
   in_the_dump = subst IsInDump (sym due_is) tt
 
-  pub event_goes_on : (after_gatherer : Gatherer) (end n : ℕ) (more : List DeliveryValue) (after : Content) → GathersMore names h.reading.events h.reading.deliveries p more after_gatherer → TakesAll names now more n after
+  pub event_goes_on : (after_gatherer : Gatherer) (end n : ℕ) (more : List DeliveryValue) (after : Content) → GathersMore names h.reading.events h.reading.deliveries p more after_gatherer → AppliesAll names now more n after
       → end ≡ at + length h.reading.rest → end < 2 ^ 64 → (is ≡ true → after ≡ now) → GoesOn settings assembly after_gatherer waits end (applied + n) names was is old after b all
   event_goes_on after_gatherer end n more after gathered takes end_is within same =
       let r = h.reading in
-      let d = due_behind r.payloads in
+      let d = due_after r.payloads in
       let within_at : length r.front + length r.rest < 2 ^ 64 = omega (arith, end_is, within, h.at_is) in
       let answers : Answers names d p (gathered.event ∷ []) = subst (λ x. Answers names x p (gathered.event ∷ [])) (sym due_is) (gathered.event, gathered.carries, refl) in
       let same_id : assembly.due ≡ next_id d p assembly.due = ap (λ x. next_id x p assembly.due) (sym due_is) in
@@ -81,7 +81,7 @@ module _ (settings : Settings) (assembly : ReaderState) (gatherer : Gatherer) (w
           asked = λ i. h.took.asked (subst IsInDump due_after i);
         };
         sent = subst (λ l. Sent settings old.executed (r.payloads ++ p ∷ []) l) (append-nil all)
-            (owes_push settings old.executed Hello r.payloads all p [] h.sent (subst (λ x. Rattle.replica.specs.Sent.Owes settings old.executed x p []) (sym due_is) refl));
+            (responds_push settings old.executed Hello r.payloads all p [] h.sent (subst (λ x. Rattle.replica.specs.Sent.Responds settings old.executed x p []) (sym due_is) refl));
         store = h.store;
         kept = λ w. same (h.store ∙ w) ∙ h.kept w;
       }
@@ -90,7 +90,7 @@ module _ (settings : Settings) (assembly : ReaderState) (gatherer : Gatherer) (w
   pub log_ends : (end : ℕ) → end ≡ at + length h.reading.rest → end < 2 ^ 64 → Rattle.greet.specs.Message.IsEofPacket p → HasEnded settings names was is old now b all (record { reason = SourceEof; at = end; applied = applied })
   log_ends end end_is within eof =
       let r = h.reading in
-      let log : EndsLog settings.limit names (due_behind r.payloads) r.events (length r.front) r.id r.rest end = record {
+      let log : EndsLog settings.limit names (due_after r.payloads) r.events (length r.front) r.id r.rest end = record {
         payload = p;
         stops = stops settings assembly gatherer waits at applied names was is old now b all p h (omega (arith, end_is, within));
         in_dump = in_the_dump;
@@ -106,7 +106,7 @@ module _ (settings : Settings) (assembly : ReaderState) (gatherer : Gatherer) (w
 
   -- its payload is not the expected message
   pub denied_ends : (reason : Reason) → at + length h.reading.rest < 2 ^ 64 → Denies names InDump h.reading.events p reason
-      → Rattle.replica.specs.End.EndsWith settings.limit names (due_behind h.reading.payloads) h.reading.events (length h.reading.front) h.reading.id h.reading.rest reason
+      → Rattle.replica.specs.End.EndsWith settings.limit names (due_after h.reading.payloads) h.reading.events (length h.reading.front) h.reading.id h.reading.rest reason
   denied_ends reason within denied = record {
     payload = p;
     stops = stops settings assembly gatherer waits at applied names was is old now b all p h within;
@@ -217,16 +217,16 @@ module _ {S : Type 0} (g : Ghosts S) (settled : (h : Held S) (db : Trees) → Is
           leaves_only after schema m.now (IsLeft new.config.limit store.following old b m.now e) (subst (λ i. HoldsAs g i m.now after) is_whole rests.holds) (same is_whole) (inl refl))
 
       stopped : (reason : Reason) (broken : Bool) → reason ≢ EndOfInput
-          → Why s.config.limit store.following (due_behind m.meets.reading.payloads) m.meets.reading.events m.meets.reading.deliveries (length m.meets.reading.front) m.meets.reading.id m.meets.reading.rest was old m.now s.at reason
+          → Why s.config.limit store.following (due_after m.meets.reading.payloads) m.meets.reading.events m.meets.reading.deliveries (length m.meets.reading.front) m.meets.reading.id m.meets.reading.rest was old m.now s.at reason
           → BreaksStore reason was broken → HasEnded s.config store.following was broken old m.now b (o ++ s.out.items) (record { reason = reason; at = s.at; applied = s.applied })
       stopped reason broken more why breaks = ended s.config s.assembler s.gatherer s.phase s.at s.applied store.following was m.is old m.now b (o ++ s.out.items) p m.meets reason broken more why breaks
 
       denied : (reason : Reason) → Denies store.following InDump m.meets.reading.events p reason
-          → Rattle.replica.specs.End.EndsWith s.config.limit store.following (due_behind m.meets.reading.payloads) m.meets.reading.events (length m.meets.reading.front) m.meets.reading.id m.meets.reading.rest reason
+          → Rattle.replica.specs.End.EndsWith s.config.limit store.following (due_after m.meets.reading.payloads) m.meets.reading.events (length m.meets.reading.front) m.meets.reading.id m.meets.reading.rest reason
       denied reason d = denied_ends s.config s.assembler s.gatherer s.phase s.at s.applied store.following was m.is old m.now b (o ++ s.out.items) p m.meets dump reason room d
 
       next_ends : (d : DeliveryValue) → EndsOne g m.is m.now m.meets.reading.events m.meets.reading.deliveries p store after d
-          → NextEnds s.config.limit store.following (due_behind m.meets.reading.payloads) m.meets.reading.events m.meets.reading.deliveries (length m.meets.reading.front) m.meets.reading.id m.meets.reading.rest d
+          → NextEnds s.config.limit store.following (due_after m.meets.reading.payloads) m.meets.reading.events m.meets.reading.deliveries (length m.meets.reading.front) m.meets.reading.id m.meets.reading.rest d
       next_ends d e = record {
         payload = p;
         stops = stops s.config s.assembler s.gatherer s.phase s.at s.applied store.following was m.is old m.now b (o ++ s.out.items) p m.meets room;
@@ -237,7 +237,7 @@ module _ {S : Type 0} (g : Ghosts S) (settled : (h : Held S) (db : Trees) → Is
       }
 
       one_more : (cause : StoreFault) (error : Error) → cause ≡ fault.Database error → (d : DeliveryValue) → EndsOne g m.is m.now m.meets.reading.events m.meets.reading.deliveries p store after d → (left : Content)
-          → (left ≡ m.now) ⊎ Takes store.following m.now d (done left)
+          → (left ≡ m.now) ⊎ HasOutcome store.following m.now d (done left)
           → IsLeft s.config.limit store.following old b m.now (record { reason = Database cause; at = s.at; applied = s.applied }) left
       one_more cause error is d e left (inl same) = inl same
       one_more cause error is d e left (inr takes) = inr (record {

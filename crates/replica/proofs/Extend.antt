@@ -12,7 +12,7 @@ use Rattle.replica.specs.declared.end.Reason.{Reason}
 use Rattle.replica.specs.declared.end.Reason.TheVariants.{EndOfInput, SourceEof, SourceError, Wire, Greet, Event, Gather, Refused, Database, Memory, ReadFailed, WriteFailed}
 use Rattle.replica.specs.declared.end.Ended.{Ended}
 use Rattle.replica.specs.Settings.{Settings}
-use Rattle.replica.specs.Stream.{Payload, Due, Reading, due_behind}
+use Rattle.replica.specs.Stream.{Payload, Due, Reading, due_after}
 use Rattle.replica.specs.End.{HasNext, StopsAt, PassesEnd, EndsLog, EndsWith, StopsFor, IsWrong}
 use Rattle.replica.specs.Conn.{NextEnds, NextAnswers, Why, Conn}
 use Rattle.replica.specs.Sent.{Taken, SentFor}
@@ -35,7 +35,7 @@ extended limit names b more r = record {
 }
 
 abbrev pub next-append : (limit id : ℕ) (r : List ℕ) (p : Payload) (more : List ℕ) → HasNext limit id r p → HasNext limit id (r ++ more) p
-next-append limit id r p more n = record { packing = n.packing; more = n.more ++ more; behind = n.behind; whole = n.whole; bytes = front-append r n.packing n.more more n.bytes }
+next-append limit id r p more n = record { packing = n.packing; more = n.more ++ more; after = n.after; whole = n.whole; bytes = front-append r n.packing n.more more n.bytes }
 
 wrong-append : (id limit : ℕ) (r more : List ℕ) (fault : WireFault) → IsWrong id limit r fault → IsWrong id limit (r ++ more) fault
 wrong-append id limit r more (wire.Sequence want got) w = more_wrong more w
@@ -107,7 +107,7 @@ conn-append limit names was old b more new end h c =
     record {
       reading = extended limit names b more r;
       took = c.took;
-      why = why-append limit names (due_behind r.payloads) r.events (length r.front) r.id r.rest more r.deliveries was old new end.at end.reason h c.why;
+      why = why-append limit names (due_after r.payloads) r.events (length r.front) r.id r.rest more r.deliveries was old new end.at end.reason h c.why;
       kept = c.kept;
     }
 
@@ -119,7 +119,7 @@ taken-append limit names b more at payloads t =
       payloads_are = t.payloads_are;
       at_is = elim t.at_is [
         | inl h ↦ inl h
-        | inr h ↦ inr (log-append limit names (due_behind r.payloads) r.events (length r.front) r.id r.rest more at h)
+        | inr h ↦ inr (log-append limit names (due_after r.payloads) r.events (length r.front) r.id r.rest more at h)
       ];
     }
 
@@ -137,7 +137,7 @@ one_more-append limit names old b more new end left m =
       at_is = m.at_is;
       took = m.took;
       next = m.next;
-      ends = ends-append limit names (due_behind r.payloads) r.events (length r.front) r.id r.rest more r.deliveries m.next m.ends;
+      ends = ends-append limit names (due_after r.payloads) r.events (length r.front) r.id r.rest more r.deliveries m.next m.ends;
       takes = m.takes;
     }
 

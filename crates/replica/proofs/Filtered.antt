@@ -7,7 +7,7 @@ use Rattle.binlog.specs.Rows.{PairValue, inserted, deleted, updated}
 use Rattle.binlog.proofs.Admitted.{all_follow}
 use Rattle.gather.specs.Transaction.{ChangeValue, change_of}
 use Rattle.store.specs.State.{Bag, Content}
-use Rattle.store.specs.Take.{IsMade, is_followed, AreDone, Takes, done}
+use Rattle.store.specs.Take.{IsMade, is_followed, AreDone, HasOutcome, done}
 use Rattle.scripted_source.specs.Script.{PartValue, ScriptValue}
 use Rattle.replica.specs.Resume.{part_changes, transaction}
 
@@ -78,7 +78,7 @@ parts_within names (part ∷ parts) old new h =
     (parts_within names parts t.mid new t.second)
 
 pub whole_or_not : (names : Names) (script : ScriptValue) (old new : Content)
-    → (Takes names old (transaction set.empty script) (done new) → Takes names old (transaction names script) (done new)) × (Takes names old (transaction names script) (done new) → Takes names old (transaction set.empty script) (done new))
+    → (HasOutcome names old (transaction set.empty script) (done new) → HasOutcome names old (transaction names script) (done new)) × (HasOutcome names old (transaction names script) (done new) → HasOutcome names old (transaction set.empty script) (done new))
 whole_or_not names script old new = (
   (λ t. (t.0, parts_without names script.parts old.rows new.rows t.1, t.2)),
   (λ t. (t.0, parts_within names script.parts old.rows new.rows t.1, t.2)),

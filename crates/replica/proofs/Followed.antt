@@ -18,13 +18,13 @@ use Rattle.replica.specs.declared.end.Reason.TheVariants.{EndOfInput, SourceEof,
 use Rattle.replica.specs.declared.end.Ended.{Ended}
 use Rattle.replica.specs.declared.session.Session.{Session}
 use Rattle.replica.specs.Settings.{Settings}
-use Rattle.replica.specs.Stream.{Due, Reading, due_behind}
+use Rattle.replica.specs.Stream.{Due, Reading, due_after}
 use Rattle.replica.specs.Conn.{Why, Conn, BreaksStore, IsNoStreamFailure}
 use Rattle.replica.specs.Crash.{IsLeft}
 use Rattle.replica.specs.Sent.{SentFor}
 use Rattle.replica.specs.Standing.{Stands, GoesOn, HasEnded, end_of, room_of}
 use Rattle.replica.specs.Over.{StandsOver, HasRead, LeavesOnly}
-use Rattle.replica.specs.Follow.{IsInFull, IsOfStream, MaySendLess, Follows, IsFollowing, HandsOut, EndsInLast, told_as, sends_no_more_after, turns_left, while_going}
+use Rattle.replica.specs.Follow.{IsInFull, IsOfStream, MaySendLess, Follows, IsFollowing, HandsOut, EndsInLast, reported_as, sends_no_more_after, turns_left, while_going}
 use Rattle.replica.proofs.Stood.{conn_of, sent_of}
 use Rattle.replica.proofs.Runs.{begins, read_all}
 
@@ -90,19 +90,19 @@ abbrev pub IsLate : Reason → Type 0
 IsLate Memory = Unit {0}
 IsLate reason = IsOfStream reason
 
-told_late : (reason : Reason) (was is : Bool) → IsLate reason → is ≡ was → BreaksStore reason was is
-told_late EndOfInput was is s h = absurd s
-told_late SourceEof was is s h = absurd s
-told_late (SourceError code state message) was is s h = absurd s
-told_late (Wire fault) was is s h = absurd s
-told_late (Greet fault) was is s h = absurd s
-told_late (Event fault) was is s h = absurd s
-told_late (Gather fault) was is s h = absurd s
-told_late (Refused refusal) was is s h = absurd s
-told_late (Database cause) was is s h = absurd s
-told_late Memory was is s h = λ w. h ∙ w
-told_late ReadFailed was is s h = h
-told_late WriteFailed was is s h = h
+reported_late : (reason : Reason) (was is : Bool) → IsLate reason → is ≡ was → BreaksStore reason was is
+reported_late EndOfInput was is s h = absurd s
+reported_late SourceEof was is s h = absurd s
+reported_late (SourceError code state message) was is s h = absurd s
+reported_late (Wire fault) was is s h = absurd s
+reported_late (Greet fault) was is s h = absurd s
+reported_late (Event fault) was is s h = absurd s
+reported_late (Gather fault) was is s h = absurd s
+reported_late (Refused refusal) was is s h = absurd s
+reported_late (Database cause) was is s h = absurd s
+reported_late Memory was is s h = λ w. h ∙ w
+reported_late ReadFailed was is s h = h
+reported_late WriteFailed was is s h = h
 
 module _ (limit : ℕ) (names : Names) (due : Due) (es : List EventValue) (ds : List DeliveryValue) (taken id : ℕ) (rest : List ℕ) (was : Bool) (old new : Content) (at : ℕ) where
   abbrev pub why : Reason → Type 0
@@ -133,10 +133,10 @@ module _ (limit : ℕ) (names : Names) (due : Due) (es : List EventValue) (ds : 
 -- for each reading of the bytes, one reason implies the other
 abbrev pub Retells : ℕ → Names → Bool → Content → List ℕ → Content → ℕ → Reason → Reason → Type 0
 Retells limit names was old b new at reason other =
-    (r : Reading limit names b) → why limit names (due_behind r.payloads) r.events r.deliveries (length r.front) r.id r.rest was old new at reason → why limit names (due_behind r.payloads) r.events r.deliveries (length r.front) r.id r.rest was old new at other
+    (r : Reading limit names b) → why limit names (due_after r.payloads) r.events r.deliveries (length r.front) r.id r.rest was old new at reason → why limit names (due_after r.payloads) r.events r.deliveries (length r.front) r.id r.rest was old new at other
 
 conn-ended_with : (limit : ℕ) (names : Names) (was : Bool) (old : Content) (b : List ℕ) (new : Content) (end : Ended) (reason : Reason) → Retells limit names was old b new end.at end.reason reason
-    → Conn limit names was old b new end → Conn limit names was old b new (told_as reason end)
+    → Conn limit names was old b new end → Conn limit names was old b new (reported_as reason end)
 conn-ended_with limit names was old b new end reason f c = record {
   reading = c.reading;
   took = c.took;
@@ -146,14 +146,14 @@ conn-ended_with limit names was old b new end reason f c = record {
 
 module _ {S : Type 0} (g : Ghosts S) where
   ended_with : (limit : ℕ) (before store : Store S g) (was : Bool) (old : Content) (b : List ℕ) (end : Ended) (reason : Reason) → IsInFull end.reason → IsLate reason
-      → ((new : Content) → Retells limit before.following was old b new end.at end.reason reason) → HasRead g limit before store was old b end → HasRead g limit before store was old b (told_as reason end)
+      → ((new : Content) → Retells limit before.following was old b new end.at end.reason reason) → HasRead g limit before store was old b end → HasRead g limit before store was old b (reported_as reason end)
   ended_with limit before store was old b end reason full late f r = record {
     is = r.is;
     new = r.new;
     holds = r.holds;
     following = r.following;
     conn = conn-ended_with limit before.following was old b r.new end reason (f r.new) r.conn;
-    breaks = told_late reason was r.is late (as_it_was end.reason was r.is full r.breaks);
+    breaks = reported_late reason was r.is late (as_it_was end.reason was r.is full r.breaks);
     schema_is = r.schema_is;
     leaves = λ w. record {
       each = λ trees may.
@@ -187,7 +187,7 @@ module _ {S : Type 0} (g : Ghosts S) where
     is_due = subst (λ n. SentFor session.config n old.executed f.read end.at (f.sent ++ session.out.items)) names (sent_of session store.following was f.stands.is old f.stands.now f.read f.sent f.stands.stands)
 
     -- nothing can be read, since memory ran out
-    pub follows-memory : end.reason ≡ EndOfInput → Follows g session.config before store was old left0 left written0 written (told_as Memory end)
+    pub follows-memory : end.reason ≡ EndOfInput → Follows g session.config before store was old left0 left written0 written (reported_as Memory end)
     unfolding ended_with has_read
     follows-memory e =
         let full : IsInFull end.reason = subst (λ (v : Reason). IsInFull v) (sym e) tt in
@@ -200,7 +200,7 @@ module _ {S : Type 0} (g : Ghosts S) where
           last = f.last;
           unended = λ h. let no : Memory ≡ ReadFailed = h in cc;
           has_read = ended_with session.config.limit before store was old f.read end Memory full tt
-              (λ new r w. why_memory session.config.limit before.following (due_behind r.payloads) r.events r.deliveries (length r.front) r.id r.rest was old new end.at end.reason e w) has_read;
+              (λ new r w. why_memory session.config.limit before.following (due_after r.payloads) r.events r.deliveries (length r.front) r.id r.rest was old new end.at end.reason e w) has_read;
           in_full = λ h. absurd h;
           all_read = λ bad. let no : Memory ≡ EndOfInput = bad in cc;
           is_due = is_due;
@@ -237,7 +237,7 @@ module _ {S : Type 0} (g : Ghosts S) where
           (subst (λ n. SentFor session.config n old.executed f.read end.at (f.sent ++ (y ++ z))) names (hands.sent store.following was f.stands.is old f.stands.now f.read f.sent f.stands.stands))
 
       -- a write failed
-      pub follows-write_failed : sends_no_more_after end.reason ≡ false → IsNoStreamFailure end.reason → Follows g session.config before store was old left0 left' written0 written' (told_as WriteFailed end)
+      pub follows-write_failed : sends_no_more_after end.reason ≡ false → IsNoStreamFailure end.reason → Follows g session.config before store was old left0 left' written0 written' (reported_as WriteFailed end)
       unfolding ended_with has_read
       follows-write_failed gave n =
           let full = is_in_full end.reason gave n in
@@ -250,7 +250,7 @@ module _ {S : Type 0} (g : Ghosts S) where
             last = f.last;
             unended = λ h. let no : WriteFailed ≡ ReadFailed = h in cc;
             has_read = ended_with session.config.limit before store was old f.read end WriteFailed full tt
-                (λ new r w. why_write_failed session.config.limit before.following (due_behind r.payloads) r.events r.deliveries (length r.front) r.id r.rest was old new end.at end.reason full w) has_read;
+                (λ new r w. why_write_failed session.config.limit before.following (due_after r.payloads) r.events r.deliveries (length r.front) r.id r.rest was old new end.at end.reason full w) has_read;
             in_full = λ h. (end.reason, full, has_read.conn);
             all_read = λ e. let bad : WriteFailed ≡ EndOfInput = e in cc;
             is_due = is_due';
@@ -279,7 +279,7 @@ module _ {S : Type 0} (g : Ghosts S) where
         }
 
         -- a read failed
-        pub follows-read_failed : end.reason ≡ EndOfInput → Follows g session.config before store was old left0 left' written0 written' (told_as ReadFailed end)
+        pub follows-read_failed : end.reason ≡ EndOfInput → Follows g session.config before store was old left0 left' written0 written' (reported_as ReadFailed end)
         unfolding ended_with has_read
         follows-read_failed e =
             let full : IsInFull end.reason = subst (λ (v : Reason). IsInFull v) (sym e) tt in
@@ -291,9 +291,9 @@ module _ {S : Type 0} (g : Ghosts S) where
               writes = writes';
               last = f.last;
               unended = λ h. conn-ended_with session.config.limit before.following was old f.read has_read.new end EndOfInput
-                  (λ r w. subst (λ (v : Reason). why session.config.limit before.following (due_behind r.payloads) r.events r.deliveries (length r.front) r.id r.rest was old has_read.new end.at v) e w) has_read.conn;
+                  (λ r w. subst (λ (v : Reason). why session.config.limit before.following (due_after r.payloads) r.events r.deliveries (length r.front) r.id r.rest was old has_read.new end.at v) e w) has_read.conn;
               has_read = ended_with session.config.limit before store was old f.read end ReadFailed full tt
-                  (λ new r w. why_read_failed session.config.limit before.following (due_behind r.payloads) r.events r.deliveries (length r.front) r.id r.rest was old new end.at end.reason e w) has_read;
+                  (λ new r w. why_read_failed session.config.limit before.following (due_after r.payloads) r.events r.deliveries (length r.front) r.id r.rest was old new end.at end.reason e w) has_read;
               in_full = λ h. (end.reason, full, has_read.conn);
               all_read = λ bad. let no : ReadFailed ≡ EndOfInput = bad in cc;
               is_due = sent';
@@ -313,14 +313,14 @@ module _ {S : Type 0} (g : Ghosts S) where
 
   -- a session that goes on has read bytes that do not end the connection
   unended : (session : Session) (before store : Store S g) (schema : Schema) (was : Bool) (old : Content) (b o : List ℕ) → store.following ≡ before.following → session.ended ≡ None
-      → (s : StandsOver g session store schema was old b o) → Conn session.config.limit before.following was old b s.now (told_as EndOfInput (end_of session))
+      → (s : StandsOver g session store schema was old b o) → Conn session.config.limit before.following was old b s.now (reported_as EndOfInput (end_of session))
   unended session before store schema was old b o names going s =
       let conn : Conn session.config.limit before.following was old b s.now (end_of session) =
       subst (λ n. Conn session.config.limit n was old b s.now (end_of session)) names (conn_of session store.following was s.is old s.now b o s.stands) in
       let not_yet : Ended = record { reason = EndOfInput; at = session.at; applied = session.applied } in
-      let told : end_of session ≡ told_as EndOfInput (end_of session) =
-      ap (λ (v : Option Ended). unwrap_or v not_yet) going ∙ sym (ap (λ (v : Option Ended). told_as EndOfInput (unwrap_or v not_yet)) going) in
-      subst (λ (e : Ended). Conn session.config.limit before.following was old b s.now e) told conn
+      let reported : end_of session ≡ reported_as EndOfInput (end_of session) =
+      ap (λ (v : Option Ended). unwrap_or v not_yet) going ∙ sym (ap (λ (v : Option Ended). reported_as EndOfInput (unwrap_or v not_yet)) going) in
+      subst (λ (e : Ended). Conn session.config.limit before.following was old b s.now e) reported conn
 
   -- nothing has been read or sent
   pub following-begins : ((h : Held S) (db : Trees) → IsTrue (state g h).is_open → (state g h).may_leave db → db ≡ (state g h).committed.trees)
@@ -374,13 +374,13 @@ module _ {S : Type 0} (g : Ghosts S) where
       subst (λ (v : Ended). Follows g settings' before store was old left left' written written' v) e
       (subst (λ (v : Settings). Follows g v before store was old left left' written written' end) s f)
 
-pub some_behind : (o : Option (Bor Ended)) (e : Option Ended) → option_map (λ (r : Bor Ended). r.now) o ≡ e → is_some e ≡ is_some o
-some_behind None e h = sym (ap (λ (v : Option Ended). is_some v) h)
-some_behind (Some r) e h = sym (ap (λ (v : Option Ended). is_some v) h)
+pub some_after : (o : Option (Bor Ended)) (e : Option Ended) → option_map (λ (r : Bor Ended). r.now) o ≡ e → is_some e ≡ is_some o
+some_after None e h = sym (ap (λ (v : Option Ended). is_some v) h)
+some_after (Some r) e h = sym (ap (λ (v : Option Ended). is_some v) h)
 
-pub none_behind : (e : Option Ended) → is_some e ≡ false → e ≡ None
-none_behind None h = refl
-none_behind (Some e) h = cc
+pub none_after : (e : Option Ended) → is_some e ≡ false → e ≡ None
+none_after None h = refl
+none_after (Some e) h = cc
 
 pub same_turns : (before after : Session) → after.ended ≡ before.ended → room_of after ≡ room_of before → turns_left after ≡ turns_left before
 same_turns before after e r = ap (λ (v : Option Ended). while_going v (room_of after + 1)) e ∙ ap (λ (n : ℕ). while_going before.ended (n + 1)) r

@@ -11,7 +11,7 @@ pub mod Advance
 pub mod Histories
 pub mod Fed
 pub mod Runs
-pub mod Told
+pub mod Report
 pub mod OneEnd
 pub mod Followed
 pub mod Left

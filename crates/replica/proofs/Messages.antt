@@ -10,11 +10,11 @@ use Rattle.replica.specs.Stream.{Payload, Due, IsInDump, Reply, SecondReply, Que
 use Rattle.replica.specs.Message.{refusal_of, IsNoEvent}
 use Rattle.replica.specs.Sent.{auth_bytes}
 use Rattle.replica.specs.Standing.{due_of}
-use Rattle.replica.specs.Turn.{IsToldOf, EndsAt, EndsDump, IsAnswered, Sends}
+use Rattle.replica.specs.Turn.{IsReportOf, EndsAt, EndsDump, IsAnswered, Sends}
 use Rattle.replica.specs.Stream.{InDump}
 use Rattle.binlog.specs.Event.{EventValue}
 
-pub message_ends : (names : Names) (executed : Ids) (due : Due) (p : Payload) (reason : Reason) → IsNoEvent due p → IsToldOf (refusal_of due p) reason → EndsAt names executed due p reason
+pub message_ends : (names : Names) (executed : Ids) (due : Due) (p : Payload) (reason : Reason) → IsNoEvent due p → IsReportOf (refusal_of due p) reason → EndsAt names executed due p reason
 message_ends names executed due p EndOfInput n t = absurd t
 message_ends names executed due p SourceEof n t = absurd t
 message_ends names executed due p (SourceError code state message) n t = (n, t)
@@ -28,7 +28,7 @@ message_ends names executed due p Memory n t = tt
 message_ends names executed due p ReadFailed n t = absurd t
 message_ends names executed due p WriteFailed n t = absurd t
 
-pub dump_ends : (names : Names) (es : List EventValue) (p : Payload) (reason : Reason) → IsNoEvent InDump p → IsToldOf (refusal_of InDump p) reason → EndsDump names es p reason
+pub dump_ends : (names : Names) (es : List EventValue) (p : Payload) (reason : Reason) → IsNoEvent InDump p → IsReportOf (refusal_of InDump p) reason → EndsDump names es p reason
 dump_ends names es p EndOfInput n t = absurd t
 dump_ends names es p SourceEof n t = absurd t
 dump_ends names es p (SourceError code state message) n t = (n, t)

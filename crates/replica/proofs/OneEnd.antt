@@ -28,10 +28,10 @@ use Rattle.gather.proofs.NextEvents.{not_both, one as one_fault}
 use Rattle.gather.proofs.Shortening.{beginning}
 use Rattle.replica.specs.declared.end.Reason.{Reason}
 use Rattle.replica.specs.declared.end.Reason.TheVariants.{EndOfInput, SourceEof, SourceError, Wire, Greet, Event, Gather, Refused, Database, Memory, ReadFailed, WriteFailed}
-use Rattle.replica.specs.Stream.{Payload, Due, Hello, Reply, SecondReply, QueryReply, InDump, IsInDump, Carries, Answers, Talks, Reading, next_due, next_id, due_from, due_behind}
+use Rattle.replica.specs.Stream.{Payload, Due, Hello, Reply, SecondReply, QueryReply, InDump, IsInDump, Carries, Answers, Talks, Reading, next_due, next_id, due_from, due_after}
 use Rattle.replica.specs.Message.{refusal_of, begins_event, IsNoEvent, IsOfMessage}
-use Rattle.replica.specs.Told.{Told, Verdict, told_of, refusal_told}
-use Rattle.replica.specs.Told as told
+use Rattle.replica.specs.Report.{Report, Verdict, report_of, reported_refusal}
+use Rattle.replica.specs.Report as reported
 use Rattle.replica.specs.End.{HasNext, StopsAt, PassesEnd, EndsLog, EndsWith, StopsFor, IsWrong, Denies, End}
 use Rattle.replica.proofs.Bytes.{all_front, all_back, packed_bytes}
 
@@ -95,10 +95,10 @@ pub record Further (limit : ℕ) (names : Names) (due : Due) (id : ℕ) (x : Lis
   pub payload : Payload
   pub packing : List ℕ
   pub left : List ℕ
-  pub behind : ℕ
+  pub after : ℕ
   pub first : List EventValue
   pub others : List EventValue
-  pub whole : IsWholePayload id limit packing payload behind
+  pub whole : IsWholePayload id limit packing payload after
   pub rest_is : r ≡ packing ++ left
   pub answers : Answers names due payload first
   pub within : length x + length packing ≤ length y
@@ -131,7 +131,7 @@ grow limit names due m x x1 x2 y y1 y2 r es e1 e2 fs f1 f2 xs ys front esplit fs
   payload = f.payload;
   packing = f.packing;
   left = f.left;
-  behind = f.behind;
+  after = f.after;
   first = f.first;
   others = f.others;
   whole = f.whole;
@@ -148,7 +148,7 @@ ahead limit names due id m x es r q qs y fs n s a b h = record {
     payload = q;
     packing = b.0;
     left = b.1 ++ s;
-    behind = b.4;
+    after = b.4;
     first = b.2;
     others = b.3;
     whole = subst (λ k. IsWholePayload k limit b.0 q b.4) (sym a.2) b.7;
@@ -205,26 +205,26 @@ compare limit names due id (p ∷ ps) x es m r (q ∷ qs) y fs n s a b h =
 
 -- ---- What stops a reading, and a payload that would go on.
 -- bytes that begin with a whole payload are not unfinished, and none of their headers is wrong
-not_unfinished : (id limit : ℕ) (r packing left : List ℕ) (p : Payload) (behind : ℕ) → IsUnfinished id limit r → IsWholePayload id limit packing p behind → r ≡ packing ++ left → ⊥
-not_unfinished id limit r packing left p behind u w e =
-    u.not_whole (length packing) p behind (subst (λ l. IsWholePayload id limit l p behind) (sym (ap (λ l. take (length packing) l) e ∙ take-append_seam packing left)) w)
+not_unfinished : (id limit : ℕ) (r packing left : List ℕ) (p : Payload) (beyond : ℕ) → IsUnfinished id limit r → IsWholePayload id limit packing p beyond → r ≡ packing ++ left → ⊥
+not_unfinished id limit r packing left p beyond u w e =
+    u.not_whole (length packing) p beyond (subst (λ l. IsWholePayload id limit l p beyond) (sym (ap (λ l. take (length packing) l) e ∙ take-append_seam packing left)) w)
 
-not_wrong : (id limit : ℕ) (r packing left : List ℕ) (p : Payload) (behind : ℕ) (fault : WireFault) → IsWrong id limit r fault → IsWholePayload id limit packing p behind → r ≡ packing ++ left → ⊥
-not_wrong id limit r packing left p behind (wire.Sequence want got) h w e = wrong_or_whole left (subst (λ l. IsOutOfSequence id limit l want got) e h) w
-not_wrong id limit r packing left p behind wire.TooLarge h w e = large_or_whole left (subst (λ l. IsTooLarge id limit l) e h) w
-not_wrong id limit r packing left p behind wire.Memory h w e = absurd h
-not_wrong id limit r packing left p behind wire.Ended h w e = absurd h
+not_wrong : (id limit : ℕ) (r packing left : List ℕ) (p : Payload) (beyond : ℕ) (fault : WireFault) → IsWrong id limit r fault → IsWholePayload id limit packing p beyond → r ≡ packing ++ left → ⊥
+not_wrong id limit r packing left p beyond (wire.Sequence want got) h w e = wrong_or_whole left (subst (λ l. IsOutOfSequence id limit l want got) e h) w
+not_wrong id limit r packing left p beyond wire.TooLarge h w e = large_or_whole left (subst (λ l. IsTooLarge id limit l) e h) w
+not_wrong id limit r packing left p beyond wire.Memory h w e = absurd h
+not_wrong id limit r packing left p beyond wire.Ended h w e = absurd h
 
 -- the next payload is one
-same_next : (id limit : ℕ) (r packing left : List ℕ) (p q : Payload) (behind : ℕ) (n : HasNext limit id r q) → IsWholePayload id limit packing p behind → r ≡ packing ++ left → (q ≡ p) × (n.packing ≡ packing)
-same_next id limit r packing left p q behind n w e =
+same_next : (id limit : ℕ) (r packing left : List ℕ) (p q : Payload) (beyond : ℕ) (n : HasNext limit id r q) → IsWholePayload id limit packing p beyond → r ≡ packing ++ left → (q ≡ p) × (n.packing ≡ packing)
+same_next id limit r packing left p q beyond n w e =
     let k = none_begins n.more left n.whole.packing w.packing (sym n.bytes ∙ e) in
     (k.0, k.1)
 
-not_past : (limit : ℕ) (names : Names) (due : Due) (es : List EventValue) (taken id : ℕ) (r packing left : List ℕ) (p : Payload) (behind : ℕ) → PassesEnd limit names due es taken id r
-    → IsWholePayload id limit packing p behind → r ≡ packing ++ left → taken + length packing < 2 ^ 64 → ⊥
-not_past limit names due es taken id r packing left p behind past w e within =
-    let k = same_next id limit r packing left p past.payload behind past.next w e in
+not_past : (limit : ℕ) (names : Names) (due : Due) (es : List EventValue) (taken id : ℕ) (r packing left : List ℕ) (p : Payload) (beyond : ℕ) → PassesEnd limit names due es taken id r
+    → IsWholePayload id limit packing p beyond → r ≡ packing ++ left → taken + length packing < 2 ^ 64 → ⊥
+not_past limit names due es taken id r packing left p beyond past w e within =
+    let k = same_next id limit r packing left p past.payload beyond past.next w e in
     let long : 2 ^ 64 ≤ taken + length packing = subst (λ l. 2 ^ 64 ≤ taken + length l) k.1 past.beyond in
     absurd (omega arith)
 
@@ -289,20 +289,20 @@ module _ (limit : ℕ) (names : Names) (due : Due) (es : List EventValue) (taken
 
     with : (reason : Reason) → EndsWith limit names due es taken id r reason → ⊥
     with reason s =
-        let k = same_next id limit r f.packing f.left f.payload s.payload f.behind s.stops.next f.whole f.rest_is in
-        let of : AllByRecursion (λ b. b < 256) f.payload = packed_bytes id f.payload f.packing f.behind f.whole.packing (all_front (λ b. b < 256) f.packing f.left (subst (λ l. AllByRecursion (λ b. b < 256) l) f.rest_is bytes)) in
+        let k = same_next id limit r f.packing f.left f.payload s.payload f.after s.stops.next f.whole f.rest_is in
+        let of : AllByRecursion (λ b. b < 256) f.payload = packed_bytes id f.payload f.packing f.after f.whole.packing (all_front (λ b. b < 256) f.packing f.left (subst (λ l. AllByRecursion (λ b. b < 256) l) f.rest_is bytes)) in
         denied reason f.payload f.first f.others fs ds of f.answers f.events are (subst (λ v. Denies names due es v reason) k.0 s.denied)
 
     blocked : (at : ℕ) (reason : Reason) → StopsFor limit names due es taken id r at reason → ⊥
-    blocked at EndOfInput s = not_unfinished id limit r f.packing f.left f.payload f.behind s.1 f.whole f.rest_is
+    blocked at EndOfInput s = not_unfinished id limit r f.packing f.left f.payload f.after s.1 f.whole f.rest_is
     blocked at SourceEof s =
-        let k = same_next id limit r f.packing f.left f.payload s.payload f.behind s.stops.next f.whole f.rest_is in
+        let k = same_next id limit r f.packing f.left f.payload s.payload f.after s.stops.next f.whole f.rest_is in
         let e = in_dump names due f.payload f.first s.in_dump f.answers in
         no_eof names f.payload e.1.body e.1.payload_is (subst (λ v. IsEofPacket v) k.0 s.is_eof)
     blocked at (SourceError code state message) s = with (SourceError code state message) s.1
     blocked at (Wire fault) s = elim s.1 [
-      | inl w ↦ not_wrong id limit r f.packing f.left f.payload f.behind fault w f.whole f.rest_is
-      | inr w ↦ not_past limit names due es taken id r f.packing f.left f.payload f.behind w.1 f.whole f.rest_is fits
+      | inl w ↦ not_wrong id limit r f.packing f.left f.payload f.after fault w f.whole f.rest_is
+      | inr w ↦ not_past limit names due es taken id r f.packing f.left f.payload f.after w.1 f.whole f.rest_is fits
     ]
     blocked at (Greet fault) s = with (Greet fault) s.1
     blocked at (Event fault) s = with (Event fault) s.1
@@ -316,16 +316,16 @@ module _ (limit : ℕ) (names : Names) (due : Due) (es : List EventValue) (taken
   -- an end of the log is not an end of another kind
   ends_so : (reason : Reason) (other : ℕ) → EndsLog limit names due es taken id r other → EndsWith limit names due es taken id r reason → ⊥
   ends_so reason other l w =
-      let k = same_next id limit r l.stops.next.packing l.stops.next.more l.payload w.payload l.stops.next.behind w.stops.next l.stops.next.whole l.stops.next.bytes in
+      let k = same_next id limit r l.stops.next.packing l.stops.next.more l.payload w.payload l.stops.next.after w.stops.next l.stops.next.whole l.stops.next.bytes in
       eof_denied names due es l.payload reason l.in_dump l.is_eof (subst (λ v. Denies names due es v reason) k.0 w.denied)
 
   no_log : (other : ℕ) (at : ℕ) (reason : Reason) → EndsLog limit names due es taken id r other → StopsFor limit names due es taken id r at reason → (at ≡ taken) × (reason ≢ SourceEof) → ⊥
-  no_log other at EndOfInput l s h = not_unfinished id limit r l.stops.next.packing l.stops.next.more l.payload l.stops.next.behind s.1 l.stops.next.whole l.stops.next.bytes
+  no_log other at EndOfInput l s h = not_unfinished id limit r l.stops.next.packing l.stops.next.more l.payload l.stops.next.after s.1 l.stops.next.whole l.stops.next.bytes
   no_log other at SourceEof l s h = h.1 refl
   no_log other at (SourceError code state message) l s h = ends_so (SourceError code state message) other l s.1
   no_log other at (Wire fault) l s h = elim s.1 [
-    | inl w ↦ not_wrong id limit r l.stops.next.packing l.stops.next.more l.payload l.stops.next.behind fault w l.stops.next.whole l.stops.next.bytes
-    | inr w ↦ not_past limit names due es taken id r l.stops.next.packing l.stops.next.more l.payload l.stops.next.behind w.1 l.stops.next.whole l.stops.next.bytes l.stops.within
+    | inl w ↦ not_wrong id limit r l.stops.next.packing l.stops.next.more l.payload l.stops.next.after fault w l.stops.next.whole l.stops.next.bytes
+    | inr w ↦ not_past limit names due es taken id r l.stops.next.packing l.stops.next.more l.payload l.stops.next.after w.1 l.stops.next.whole l.stops.next.bytes l.stops.within
   ]
   no_log other at (Greet fault) l s h = ends_so (Greet fault) other l s.1
   no_log other at (Event fault) l s h = ends_so (Event fault) other l s.1
@@ -360,7 +360,7 @@ module _ (limit : ℕ) (names : Names) (due : Due) (es : List EventValue) (taken
     | inr l ↦ elim (place_of other also t) [
       | inl k ↦ absurd (no_log at other also l t k)
       | inr m ↦ (
-          let n = same_next id limit r m.stops.next.packing m.stops.next.more m.payload l.payload m.stops.next.behind l.stops.next m.stops.next.whole m.stops.next.bytes in
+          let n = same_next id limit r m.stops.next.packing m.stops.next.more m.payload l.payload m.stops.next.after l.stops.next m.stops.next.whole m.stops.next.bytes in
           l.at_is ∙ ap (λ p. taken + length p) n.1 ∙ sym m.at_is
           )
     ]
@@ -368,19 +368,19 @@ module _ (limit : ℕ) (names : Names) (due : Due) (es : List EventValue) (taken
 
 -- ---- One end.
 stops_same : (limit : ℕ) (names : Names) (ps qs : List Payload) (es fs : List EventValue) (x y : List ℕ) (m n : ℕ) (r s : List ℕ) (at : ℕ) (reason : Reason) → Same ps x es m r qs y fs n s
-    → StopsFor limit names (due_behind qs) fs (length y) n s at reason → StopsFor limit names (due_behind ps) es (length x) m r at reason
+    → StopsFor limit names (due_after qs) fs (length y) n s at reason → StopsFor limit names (due_after ps) es (length x) m r at reason
 stops_same limit names ps qs es fs x y m n r s at reason e h =
-    subst (λ v. StopsFor limit names (due_behind v) es (length x) m r at reason) (sym e.payloads)
-    (subst (λ v. StopsFor limit names (due_behind qs) v (length x) m r at reason) (sym e.events)
-    (subst (λ v. StopsFor limit names (due_behind qs) fs (length v) m r at reason) (sym e.front)
-    (subst (λ v. StopsFor limit names (due_behind qs) fs (length y) v r at reason) (sym e.id)
-    (subst (λ v. StopsFor limit names (due_behind qs) fs (length y) n v at reason) (sym e.rest) h))))
+    subst (λ v. StopsFor limit names (due_after v) es (length x) m r at reason) (sym e.payloads)
+    (subst (λ v. StopsFor limit names (due_after qs) v (length x) m r at reason) (sym e.events)
+    (subst (λ v. StopsFor limit names (due_after qs) fs (length v) m r at reason) (sym e.front)
+    (subst (λ v. StopsFor limit names (due_after qs) fs (length y) v r at reason) (sym e.id)
+    (subst (λ v. StopsFor limit names (due_after qs) fs (length y) n v at reason) (sym e.rest) h))))
 
 module _ (limit : ℕ) (names : Names) (b : List ℕ) (bytes : AllByRecursion (λ v. v < 256) b) where
-  no_further : (x y : Reading limit names b) (at : ℕ) (reason : Reason) → StopsFor limit names (due_behind x.payloads) x.events (length x.front) x.id x.rest at reason
-      → Further limit names (due_behind x.payloads) x.id x.front x.events x.rest y.front y.events → ⊥
+  no_further : (x y : Reading limit names b) (at : ℕ) (reason : Reason) → StopsFor limit names (due_after x.payloads) x.events (length x.front) x.id x.rest at reason
+      → Further limit names (due_after x.payloads) x.id x.front x.events x.rest y.front y.events → ⊥
   no_further x y at reason s f =
-      blocked limit names (due_behind x.payloads) x.events (length x.front) x.id x.rest x.front y.front y.events y.deliveries f refl (all_back (λ b. b < 256) x.front x.rest (subst (λ l. AllByRecursion (λ v. v < 256) l) x.bytes bytes))
+      blocked limit names (due_after x.payloads) x.events (length x.front) x.id x.rest x.front y.front y.events y.deliveries f refl (all_back (λ b. b < 256) x.front x.rest (subst (λ l. AllByRecursion (λ v. v < 256) l) x.bytes bytes))
       y.talk.within y.talk.delivers at reason s
 
   both_read : (x y : Reading limit names b) → Compared limit names Hello x.payloads x.front x.events x.id x.rest y.payloads y.front y.events y.id y.rest
@@ -391,7 +391,7 @@ module _ (limit : ℕ) (names : Names) (b : List ℕ) (bytes : AllByRecursion (�
       let x = e.reading in
       let y = f.reading in
       elim (both_read x y) [
-        | inl same ↦ one_place limit names (due_behind x.payloads) x.events (length x.front) x.id x.rest at other r s e.stops
+        | inl same ↦ one_place limit names (due_after x.payloads) x.events (length x.front) x.id x.rest at other r s e.stops
             (stops_same limit names x.payloads y.payloads x.events y.events x.front y.front x.id y.id x.rest y.rest other s same f.stops)
         | inr o ↦ elim o [ inl a ↦ absurd (no_further x y at r e.stops a.further) | inr a ↦ absurd (no_further y x other s f.stops a.further) ]
       ]
@@ -409,12 +409,12 @@ data Heard : Type 0 where
   Carrying : Heard
 
 abbrev of_refusal : Option Refusal → Heard
-of_refusal None = Final told.EndsLog
-of_refusal (Some refusal) = Final (told.IsRefused refusal)
+of_refusal None = Final reported.EndsLog
+of_refusal (Some refusal) = Final (reported.IsRefused refusal)
 
 abbrev of_event : Option EventFault → Heard
 of_event None = Carrying
-of_event (Some fault) = Final (told.HasFault fault)
+of_event (Some fault) = Final (reported.HasFault fault)
 
 abbrev in_dump_heard : Names → Payload → Heard
 in_dump_heard names [] = of_refusal (refusal_of InDump [])
@@ -454,7 +454,7 @@ eof_no_event SecondReply p eof = tt
 eof_no_event QueryReply p eof = tt
 eof_no_event InDump p eof = ap (λ l. begins_event l) eof.payload_is
 
-refused_for : (refusal : Option Refusal) (fault : GreetFault) → IsOfMessage fault → Refuses refusal fault → refusal ≡ Some (refusal_told fault)
+refused_for : (refusal : Option Refusal) (fault : GreetFault) → IsOfMessage fault → Refuses refusal fault → refusal ≡ Some (reported_refusal fault)
 refused_for refusal (greet.ServerError code state message) h r = absurd h
 refused_for refusal (greet.Protocol byte) h r = r
 refused_for refusal greet.Truncated h r = r
@@ -490,7 +490,7 @@ module _ (limit : ℕ) (names : Names) (due : Due) (es : List EventValue) (taken
     carries : Carries names p event
     fault : GatherFault
     is_fault : IsFault es event fault
-    verdict : v ≡ told.IsOutOfPlace fault
+    verdict : v ≡ reported.IsOutOfPlace fault
 
   abbrev SaysSo : Payload → Verdict → Type 0
   SaysSo p v = (heard names due p ≡ Final v) ⊎ Misplaces p v
@@ -500,12 +500,12 @@ module _ (limit : ℕ) (names : Names) (due : Due) (es : List EventValue) (taken
     stops : StopsAt limit names due es taken id r payload
     says : SaysSo payload v
 
-  abbrev Tells : Told → Type 0
-  Tells told.Nothing = IsUnfinished id limit r
-  Tells (told.IsWrongHeader fault) = IsWrong id limit r fault ⊎ ((fault ≡ wire.TooLarge) × PassesEnd limit names due es taken id r)
-  Tells (told.Says v) = EndsBy v
+  abbrev Tells : Report → Type 0
+  Tells reported.Nothing = IsUnfinished id limit r
+  Tells (reported.IsWrongHeader fault) = IsWrong id limit r fault ⊎ ((fault ≡ wire.TooLarge) × PassesEnd limit names due es taken id r)
+  Tells (reported.Says v) = EndsBy v
 
-  tells : (at : ℕ) (reason : Reason) → StopsFor limit names due es taken id r at reason → Tells (told_of reason)
+  tells : (at : ℕ) (reason : Reason) → StopsFor limit names due es taken id r at reason → Tells (report_of reason)
   tells at EndOfInput s = s.1
   tells at SourceEof s = record { payload = s.payload; stops = s.stops; says = inl (heard_refused names due s.payload None (eof_no_event due s.payload s.is_eof) (eof_none due s.payload s.in_dump s.is_eof)) }
   tells at (SourceError code state message) s = record { payload = s.1.payload; stops = s.1.stops; says = inl (heard_refused names due s.1.payload (Some (server_error code state message.items)) s.1.denied.0 s.1.denied.1) }
@@ -513,7 +513,7 @@ module _ (limit : ℕ) (names : Names) (due : Due) (es : List EventValue) (taken
   tells at (Greet fault) s = record {
     payload = s.1.payload;
     stops = s.1.stops;
-    says = inl (heard_refused names due s.1.payload (Some (refusal_told fault)) s.1.denied.0 (refused_for (refusal_of due s.1.payload) fault s.1.denied.1 s.1.denied.2));
+    says = inl (heard_refused names due s.1.payload (Some (reported_refusal fault)) s.1.denied.0 (refused_for (refusal_of due s.1.payload) fault s.1.denied.1 s.1.denied.2));
   }
   tells at (Event fault) s = record { payload = s.1.payload; stops = s.1.stops; says = inl (heard_event names due s.1.payload s.1.denied.1 (Some fault) s.1.denied.0 s.1.denied.2 s.1.denied.3) }
   tells at (Gather fault) s =
@@ -548,7 +548,7 @@ module _ (limit : ℕ) (names : Names) (due : Due) (es : List EventValue) (taken
           let same : h.event ≡ k.event = carries_same names p h.event k.event h.carries k.carries in
           let body : AllByRecursion (λ v. v < 256) (0x00 ∷ k.carries.body) = subst (λ l. AllByRecursion (λ v. v < 256) l) k.carries.payload_is fits in
           let f : h.fault ≡ k.fault = one_fault es k.event h.fault k.fault (record { names = names; bytes = k.carries.body; fits = body.1; is_event = k.carries.is_event }) (subst (λ e. IsFault es e h.fault) same h.is_fault) k.is_fault in
-          h.verdict ∙ ap (λ v. told.IsOutOfPlace v) f ∙ sym k.verdict
+          h.verdict ∙ ap (λ v. reported.IsOutOfPlace v) f ∙ sym k.verdict
           )
     ]
   ]
@@ -557,55 +557,55 @@ module _ (limit : ℕ) (names : Names) (due : Due) (es : List EventValue) (taken
   no_wrong fault v w e =
       let n = e.stops.next in
       elim w [
-        | inl h ↦ not_wrong id limit r n.packing n.more e.payload n.behind fault h n.whole n.bytes
-        | inr h ↦ not_past limit names due es taken id r n.packing n.more e.payload n.behind h.1 n.whole n.bytes e.stops.within
+        | inl h ↦ not_wrong id limit r n.packing n.more e.payload n.after fault h n.whole n.bytes
+        | inr h ↦ not_past limit names due es taken id r n.packing n.more e.payload n.after h.1 n.whole n.bytes e.stops.within
       ]
 
   none_wrong : (fault : WireFault) → IsUnfinished id limit r → IsWrong id limit r fault ⊎ ((fault ≡ wire.TooLarge) × PassesEnd limit names due es taken id r) → ⊥
   none_wrong fault u w = elim w [
     | inl h ↦ unfinished_right id limit r fault u h
-    | inr h ↦ (let n = h.1.next in not_unfinished id limit r n.packing n.more h.1.payload n.behind u n.whole n.bytes)
+    | inr h ↦ (let n = h.1.next in not_unfinished id limit r n.packing n.more h.1.payload n.after u n.whole n.bytes)
   ]
 
   none_whole : (v : Verdict) → IsUnfinished id limit r → EndsBy v → ⊥
-  none_whole v u e = let n = e.stops.next in not_unfinished id limit r n.packing n.more e.payload n.behind u n.whole n.bytes
+  none_whole v u e = let n = e.stops.next in not_unfinished id limit r n.packing n.more e.payload n.after u n.whole n.bytes
 
   same_wrong : (f g : WireFault) → IsWrong id limit r f ⊎ ((f ≡ wire.TooLarge) × PassesEnd limit names due es taken id r) → IsWrong id limit r g ⊎ ((g ≡ wire.TooLarge) × PassesEnd limit names due es taken id r) → f ≡ g
   same_wrong f g x y = elim x [
     | inl h ↦ elim y [
       | inl k ↦ one_wrong id limit r f g h k
-      | inr k ↦ (let n = k.1.next in absurd (not_wrong id limit r n.packing n.more k.1.payload n.behind f h n.whole n.bytes))
+      | inr k ↦ (let n = k.1.next in absurd (not_wrong id limit r n.packing n.more k.1.payload n.after f h n.whole n.bytes))
     ]
     | inr h ↦ elim y [
-      | inl k ↦ (let n = h.1.next in absurd (not_wrong id limit r n.packing n.more h.1.payload n.behind g k n.whole n.bytes))
+      | inl k ↦ (let n = h.1.next in absurd (not_wrong id limit r n.packing n.more h.1.payload n.after g k n.whole n.bytes))
       | inr k ↦ h.0 ∙ sym k.0
     ]
   ]
 
-  same_told : AllByRecursion (λ v. v < 256) r → (a b : Told) → Tells a → Tells b → a ≡ b
-  same_told fits told.Nothing told.Nothing x y = refl
-  same_told fits told.Nothing (told.IsWrongHeader g) x y = absurd (none_wrong g x y)
-  same_told fits told.Nothing (told.Says w) x y = absurd (none_whole w x y)
-  same_told fits (told.IsWrongHeader f) told.Nothing x y = absurd (none_wrong f y x)
-  same_told fits (told.IsWrongHeader f) (told.IsWrongHeader g) x y = ap (λ v. told.IsWrongHeader v) (same_wrong f g x y)
-  same_told fits (told.IsWrongHeader f) (told.Says w) x y = absurd (no_wrong f w x y)
-  same_told fits (told.Says v) told.Nothing x y = absurd (none_whole v y x)
-  same_told fits (told.Says v) (told.IsWrongHeader g) x y = absurd (no_wrong g v y x)
-  same_told fits (told.Says v) (told.Says w) x y =
+  same_reported : AllByRecursion (λ v. v < 256) r → (a b : Report) → Tells a → Tells b → a ≡ b
+  same_reported fits reported.Nothing reported.Nothing x y = refl
+  same_reported fits reported.Nothing (reported.IsWrongHeader g) x y = absurd (none_wrong g x y)
+  same_reported fits reported.Nothing (reported.Says w) x y = absurd (none_whole w x y)
+  same_reported fits (reported.IsWrongHeader f) reported.Nothing x y = absurd (none_wrong f y x)
+  same_reported fits (reported.IsWrongHeader f) (reported.IsWrongHeader g) x y = ap (λ v. reported.IsWrongHeader v) (same_wrong f g x y)
+  same_reported fits (reported.IsWrongHeader f) (reported.Says w) x y = absurd (no_wrong f w x y)
+  same_reported fits (reported.Says v) reported.Nothing x y = absurd (none_whole v y x)
+  same_reported fits (reported.Says v) (reported.IsWrongHeader g) x y = absurd (no_wrong g v y x)
+  same_reported fits (reported.Says v) (reported.Says w) x y =
       let n = y.stops.next in
-      let k = same_next id limit r n.packing n.more y.payload x.payload n.behind x.stops.next n.whole n.bytes in
-      let of : AllByRecursion (λ b. b < 256) y.payload = packed_bytes id y.payload n.packing n.behind n.whole.packing (all_front (λ b. b < 256) n.packing n.more (subst (λ l. AllByRecursion (λ b. b < 256) l) n.bytes fits)) in
-      ap (λ u. told.Says u) (same_verdict y.payload v w of (subst (λ p. SaysSo p v) k.0 x.says) y.says)
+      let k = same_next id limit r n.packing n.more y.payload x.payload n.after x.stops.next n.whole n.bytes in
+      let of : AllByRecursion (λ b. b < 256) y.payload = packed_bytes id y.payload n.packing n.after n.whole.packing (all_front (λ b. b < 256) n.packing n.more (subst (λ l. AllByRecursion (λ b. b < 256) l) n.bytes fits)) in
+      ap (λ u. reported.Says u) (same_verdict y.payload v w of (subst (λ p. SaysSo p v) k.0 x.says) y.says)
 
 module _ (limit : ℕ) (names : Names) (b : List ℕ) (bytes : AllByRecursion (λ v. v < 256) b) where
-  pub one_reason : (r s : Reason) (at other : ℕ) → End limit names b r at → End limit names b s other → told_of r ≡ told_of s
+  pub one_reason : (r s : Reason) (at other : ℕ) → End limit names b r at → End limit names b s other → report_of r ≡ report_of s
   one_reason r s at other e f =
       let x = e.reading in
       let y = f.reading in
       elim (both_read limit names b bytes x y) [
-        | inl same ↦ same_told limit names (due_behind x.payloads) x.events (length x.front) x.id x.rest (all_back (λ b. b < 256) x.front x.rest (subst (λ l. AllByRecursion (λ v. v < 256) l) x.bytes bytes)) (told_of r) (told_of s)
-            (tells limit names (due_behind x.payloads) x.events (length x.front) x.id x.rest at r e.stops)
-            (tells limit names (due_behind x.payloads) x.events (length x.front) x.id x.rest other s
+        | inl same ↦ same_reported limit names (due_after x.payloads) x.events (length x.front) x.id x.rest (all_back (λ b. b < 256) x.front x.rest (subst (λ l. AllByRecursion (λ v. v < 256) l) x.bytes bytes)) (report_of r) (report_of s)
+            (tells limit names (due_after x.payloads) x.events (length x.front) x.id x.rest at r e.stops)
+            (tells limit names (due_after x.payloads) x.events (length x.front) x.id x.rest other s
             (stops_same limit names x.payloads y.payloads x.events y.events x.front y.front x.id y.id x.rest y.rest other s same f.stops))
         | inr o ↦ elim o [ inl a ↦ absurd (no_further limit names b bytes x y at r e.stops a.further) | inr a ↦ absurd (no_further limit names b bytes y x other s f.stops a.further) ]
       ]

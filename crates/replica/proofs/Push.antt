@@ -11,9 +11,9 @@ use Rattle.replica.specs.declared.phase.Phase.{Phase}
 use Rattle.replica.specs.declared.phase.Phase.TheVariants as phases
 use Rattle.replica.specs.declared.phase.Login.TheVariants as login
 use Rattle.replica.specs.Settings.{Settings}
-use Rattle.replica.specs.Stream.{Payload, Due, Hello, Reply, SecondReply, QueryReply, InDump, begins_switch, next_due, next_id, due_from, due_behind, IsInDump, Answers, Talks, Reading}
-use Rattle.replica.specs.Conn.{TakesAll, IsDumpTooLong}
-use Rattle.replica.specs.Sent.{Owes, OwesFrom}
+use Rattle.replica.specs.Stream.{Payload, Due, Hello, Reply, SecondReply, QueryReply, InDump, begins_switch, next_due, next_id, due_from, due_after, IsInDump, Answers, Talks, Reading}
+use Rattle.replica.specs.Conn.{AppliesAll, IsDumpTooLong}
+use Rattle.replica.specs.Sent.{Responds, RespondsFrom}
 use Rattle.replica.specs.Standing.{due_of, first_id_of}
 
 -- ---- the expected message
@@ -46,15 +46,15 @@ id_of_phase (phases.Login login.SecondReply) = refl
 id_of_phase (phases.Login login.QueryReply) = refl
 id_of_phase phases.Dump = refl
 
-id_of_next : (d : Due) (p : Payload) (behind : ℕ) → (IsInDump d → ⊥) → id_of (next_due d p) ≡ next_id d p behind
-id_of_next Hello p behind n = refl
-id_of_next Reply p behind n = elim (begins_switch p) as (λ b. id_of (if b then SecondReply else QueryReply) ≡ (if b then 4 else 1)) [ true ↦ refl | false ↦ refl ]
-id_of_next SecondReply p behind n = refl
-id_of_next QueryReply p behind n = refl
-id_of_next InDump p behind n = absurd (n tt)
+id_of_next : (d : Due) (p : Payload) (after : ℕ) → (IsInDump d → ⊥) → id_of (next_due d p) ≡ next_id d p after
+id_of_next Hello p after n = refl
+id_of_next Reply p after n = elim (begins_switch p) as (λ b. id_of (if b then SecondReply else QueryReply) ≡ (if b then 4 else 1)) [ true ↦ refl | false ↦ refl ]
+id_of_next SecondReply p after n = refl
+id_of_next QueryReply p after n = refl
+id_of_next InDump p after n = absurd (n tt)
 
-pub id_is_next : (d : Due) (p : Payload) (behind : ℕ) (phase : Phase) → (IsInDump d → ⊥) → due_of phase ≡ next_due d p → first_id_of phase ≡ next_id d p behind
-id_is_next d p behind phase n is = id_of_phase phase ∙ ap id_of is ∙ id_of_next d p behind n
+pub id_is_next : (d : Due) (p : Payload) (after : ℕ) (phase : Phase) → (IsInDump d → ⊥) → due_of phase ≡ next_due d p → first_id_of phase ≡ next_id d p after
+id_is_next d p after phase n is = id_of_phase phase ∙ ap id_of is ∙ id_of_next d p after n
 
 pub could_ask : (d : Due) (p : Payload) (ids : Ids) → (IsInDump d → ⊥) → (d ≡ QueryReply → IsDumpTooLong ids → ⊥) → IsInDump (next_due d p) → IsDumpTooLong ids → ⊥
 could_ask Hello p ids n h i = absurd i
@@ -65,22 +65,22 @@ could_ask InDump p ids n h i = absurd (n tt)
 
 -- ---- the conversation
 module _ (limit : ℕ) (names : Names) where
-  pub talks_push : (d : Due) (id : ℕ) (ps : List Payload) (x : List ℕ) (es : List EventValue) (last : ℕ) (p : Payload) (y : List ℕ) (behind : ℕ) (first : List EventValue)
-      → Talks limit names d id ps x es last → IsWholePayload last limit y p behind → Answers names (due_from d ps) p first
-      → Talks limit names d id (ps ++ p ∷ []) (x ++ y) (es ++ first) (next_id (due_from d ps) p behind)
-  talks_push d id [] x es last p y behind first t w a = (
+  pub talks_push : (d : Due) (id : ℕ) (ps : List Payload) (x : List ℕ) (es : List EventValue) (last : ℕ) (p : Payload) (y : List ℕ) (after : ℕ) (first : List EventValue)
+      → Talks limit names d id ps x es last → IsWholePayload last limit y p after → Answers names (due_from d ps) p first
+      → Talks limit names d id (ps ++ p ∷ []) (x ++ y) (es ++ first) (next_id (due_from d ps) p after)
+  talks_push d id [] x es last p y after first t w a = (
     y,
     [],
     first,
     [],
-    behind,
+    after,
     ap (λ (l : List ℕ). l ++ y) t.0 ∙ sym (append-nil y),
     ap (λ (l : List EventValue). l ++ first) t.1 ∙ sym (append-nil first),
-    subst (λ n. IsWholePayload n limit y p behind) t.2 w,
+    subst (λ n. IsWholePayload n limit y p after) t.2 w,
     a,
     (refl, refl, refl),
   )
-  talks_push d id (q ∷ ps) x es last p y behind first t w a = (
+  talks_push d id (q ∷ ps) x es last p y after first t w a = (
     t.0,
     t.1 ++ y,
     t.2,
@@ -90,7 +90,7 @@ module _ (limit : ℕ) (names : Names) where
     ap (λ (l : List EventValue). l ++ first) t.6 ∙ append_assoc t.2 t.3 first,
     t.7,
     t.8,
-    talks_push (next_due d q) (next_id d q t.4) ps t.1 t.3 last p y behind first t.9 w a,
+    talks_push (next_due d q) (next_id d q t.4) ps t.1 t.3 last p y after first t.9 w a,
   )
 
   -- before the dump no payload carries an event
@@ -129,56 +129,56 @@ no_deliveries [] ds e d = no_blocks d.blocks ds (sym d.cut) d.each
 no_deliveries (x ∷ es) ds e d = absurd (cons-nil x es (sym e))
 
 -- ---- the bytes due in reply
-pub owes_push : (settings : Settings) (executed : Ids) (d : Due) (ps : List Payload) (o : List ℕ) (p : Payload) (y : List ℕ) → OwesFrom settings executed d ps o → Owes settings executed (due_from d ps) p y
-    → OwesFrom settings executed d (ps ++ p ∷ []) (o ++ y)
-owes_push settings executed d [] o p y h w = (y, [], ap (λ (l : List ℕ). l ++ y) h ∙ sym (append-nil y), w, refl)
-owes_push settings executed d (q ∷ ps) o p y h w = (h.0, h.1 ++ y, ap (λ (l : List ℕ). l ++ y) h.2 ∙ append_assoc h.0 h.1 y, h.3, owes_push settings executed (next_due d q) ps h.1 p y h.4 w)
+pub responds_push : (settings : Settings) (executed : Ids) (d : Due) (ps : List Payload) (o : List ℕ) (p : Payload) (y : List ℕ) → RespondsFrom settings executed d ps o → Responds settings executed (due_from d ps) p y
+    → RespondsFrom settings executed d (ps ++ p ∷ []) (o ++ y)
+responds_push settings executed d [] o p y h w = (y, [], ap (λ (l : List ℕ). l ++ y) h ∙ sym (append-nil y), w, refl)
+responds_push settings executed d (q ∷ ps) o p y h w = (h.0, h.1 ++ y, ap (λ (l : List ℕ). l ++ y) h.2 ∙ append_assoc h.0 h.1 y, h.3, responds_push settings executed (next_due d q) ps h.1 p y h.4 w)
 
 -- ---- what is taken
 pub takes_push : (names : Names) (old : Content) (ds : List DeliveryValue) (n : ℕ) (mid : Content) (more : List DeliveryValue) (m : ℕ) (new : Content)
-    → TakesAll names old ds n mid → TakesAll names mid more m new → TakesAll names old (ds ++ more) (n + m) new
+    → AppliesAll names old ds n mid → AppliesAll names mid more m new → AppliesAll names old (ds ++ more) (n + m) new
 takes_push names old [] n mid more m new h k =
     let sum : m ≡ n + m = omega (arith, h.0) in
-    subst (λ c. TakesAll names c more (n + m) new) h.1 (subst (λ i. TakesAll names mid more i new) sum k)
+    subst (λ c. AppliesAll names c more (n + m) new) h.1 (subst (λ i. AppliesAll names mid more i new) sum k)
 takes_push names old (d ∷ ds) n mid more m new (inl h) k =
     inl (h.0, h.1 + m, h.2, omega (arith, h.3), takes_push names h.0 ds h.1 mid more m new h.4 k)
 takes_push names old (d ∷ ds) n mid more m new (inr h) k = inr (h.0, takes_push names old ds n mid more m new h.1 k)
 
 -- ---- a reading and one payload more
-module _ (limit : ℕ) (names : Names) (b : List ℕ) (r : Reading limit names b) (p : Payload) (behind : ℕ) (w : IsWholePayload r.id limit r.rest p behind) (within : length r.front + length r.rest < 2 ^ 64) where
+module _ (limit : ℕ) (names : Names) (b : List ℕ) (r : Reading limit names b) (p : Payload) (after : ℕ) (w : IsWholePayload r.id limit r.rest p after) (within : length r.front + length r.rest < 2 ^ 64) where
   pub all_read : length (r.front ++ r.rest) < 2 ^ 64
   all_read = subst (λ n. n < 2 ^ 64) (sym (length-append r.front r.rest)) within
 
   -- a message before the dump
-  abbrev pub with_message : Answers names (due_behind r.payloads) p [] → Reading limit names b
+  abbrev pub with_message : Answers names (due_after r.payloads) p [] → Reading limit names b
   with_message a = record {
     payloads = r.payloads ++ p ∷ [];
     front = r.front ++ r.rest;
     events = r.events;
     deliveries = r.deliveries;
-    id = next_id (due_behind r.payloads) p behind;
+    id = next_id (due_after r.payloads) p after;
     rest = [];
     bytes = r.bytes ∙ sym (append-nil (r.front ++ r.rest));
     talk = record {
-      talks = subst (λ (l : List EventValue). Talks limit names Hello 0 (r.payloads ++ p ∷ []) (r.front ++ r.rest) l (next_id (due_behind r.payloads) p behind)) (append-nil r.events)
-          (talks_push limit names Hello 0 r.payloads r.front r.events r.id p r.rest behind [] r.talk.talks w a);
+      talks = subst (λ (l : List EventValue). Talks limit names Hello 0 (r.payloads ++ p ∷ []) (r.front ++ r.rest) l (next_id (due_after r.payloads) p after)) (append-nil r.events)
+          (talks_push limit names Hello 0 r.payloads r.front r.events r.id p r.rest after [] r.talk.talks w a);
       within = all_read;
       delivers = r.talk.delivers;
     };
   }
 
   -- an event
-  abbrev pub with_event : (e : EventValue) (more : List DeliveryValue) → Answers names (due_behind r.payloads) p (e ∷ []) → AreDeliveries (r.events ++ e ∷ []) (r.deliveries ++ more) → Reading limit names b
+  abbrev pub with_event : (e : EventValue) (more : List DeliveryValue) → Answers names (due_after r.payloads) p (e ∷ []) → AreDeliveries (r.events ++ e ∷ []) (r.deliveries ++ more) → Reading limit names b
   with_event e more a d = record {
     payloads = r.payloads ++ p ∷ [];
     front = r.front ++ r.rest;
     events = r.events ++ e ∷ [];
     deliveries = r.deliveries ++ more;
-    id = next_id (due_behind r.payloads) p behind;
+    id = next_id (due_after r.payloads) p after;
     rest = [];
     bytes = r.bytes ∙ sym (append-nil (r.front ++ r.rest));
     talk = record {
-      talks = talks_push limit names Hello 0 r.payloads r.front r.events r.id p r.rest behind (e ∷ []) r.talk.talks w a;
+      talks = talks_push limit names Hello 0 r.payloads r.front r.events r.id p r.rest after (e ∷ []) r.talk.talks w a;
       within = all_read;
       delivers = d;
     };

@@ -21,8 +21,8 @@ use Rattle.gather.proofs.Shortening as shortening
 use Rattle.gather.proofs.OneList.{one_list_of_deliveries}
 use Rattle.store.specs.State.{Content}
 use Rattle.replica.specs.declared.end.Ended.{Ended}
-use Rattle.replica.specs.Stream.{Due, Hello, InDump, IsInDump, Talks, Reading, due_behind}
-use Rattle.replica.specs.Conn.{TakesAll, IsDumpTooLong, Why, Conn, Begun}
+use Rattle.replica.specs.Stream.{Due, Hello, InDump, IsInDump, Talks, Reading, due_after}
+use Rattle.replica.specs.Conn.{AppliesAll, IsDumpTooLong, Why, Conn, TakesFirst}
 use Rattle.replica.proofs.Push.{takes_push}
 use Rattle.scripted_source.specs.Script.{ScriptValue}
 use Rattle.scripted_source.specs.Source.{Payload, ArePackings, CanSend, due, events_of, payloads_of, end_payloads, eof_payload, sent_payloads, is_once}
@@ -37,7 +37,7 @@ use Rattle.replica.proofs.Transactions.{all_one, halves, at_most, each_new, due_
 -- the remaining transactions lead to the last content, each of them new, and their scripts are those that are not in
 -- the set
 pub record Left (names : Names) (history : List ScriptValue) (j : ℕ) (held last : Content) : Type 0 where
-  pub takes : TakesAll names held (transactions names (drop j history)) (length (transactions names (drop j history))) last
+  pub takes : AppliesAll names held (transactions names (drop j history)) (length (transactions names (drop j history))) last
   pub due_are : due held.executed history ≡ drop j history
 
 count_of : (names : Names) (j : ℕ) (history : List ScriptValue) → j ≤ length history → length (transactions names (take j history)) ≡ j
@@ -55,37 +55,37 @@ left_of names history j held last within reached all =
     let n = length history in
     let parts : transactions names (take n history) ≡ xs ++ ys =
     ap (transactions names) (take-length history ∙ sym (take-append-drop j history)) ∙ map-append (transaction names) (take j history) (drop j history) in
-    let h = halves names empty_content xs ys n last (subst (λ l. TakesAll names empty_content l n last) parts all) in
+    let h = halves names empty_content xs ys n last (subst (λ l. AppliesAll names empty_content l n last) parts all) in
     let s = all_one names empty_content xs h.first j h.mid held h.takes_first reached in
     let size : length xs ≡ j = count_of names j history within in
     let both : length xs + length ys ≡ n = sym (length-append xs ys) ∙ ap length (sym parts) ∙ length-map (take n history) (transaction names) ∙ ap length (take-length history) in
     let second : h.second ≡ length ys = omega (arith, h.sum, s.count, size, both) in
-    let takes : TakesAll names held ys (length ys) last = subst (λ c. TakesAll names c ys (length ys) last) s.content (subst (λ k. TakesAll names h.mid ys k last) second h.takes_second) in
+    let takes : AppliesAll names held ys (length ys) last = subst (λ c. AppliesAll names c ys (length ys) last) s.content (subst (λ k. AppliesAll names h.mid ys k last) second h.takes_second) in
     let first = each_new names empty_content xs j held size reached in
     let later = each_new names held ys (length ys) last refl takes in
     record {
       takes = takes;
-      due_are = ap (due held.executed) (sym (take-append-drop j history)) ∙ due_past names held (take j history) (drop j history) first.behind later.not_before;
+      due_are = ap (due held.executed) (sym (take-append-drop j history)) ∙ due_past names held (take j history) (drop j history) first.after later.not_before;
     }
 
 -- some of the remaining transactions, without a gap
 pub reaches_on : (names : Names) (history : List ScriptValue) (j : ℕ) (held last : Content) (ds others : List DeliveryValue) (applied : ℕ) (new : Content) → Reaches names history j held → Left names history j held last
-    → transactions names (drop j history) ≡ ds ++ others → TakesAll names held ds applied new → Reaches names history (j + length ds) new
+    → transactions names (drop j history) ≡ ds ++ others → AppliesAll names held ds applied new → Reaches names history (j + length ds) new
 reaches_on names history j held last ds others applied new reached left parts takes =
     let ys = transactions names (drop j history) in
-    let h = halves names held ds others (length ys) last (subst (λ l. TakesAll names held l (length ys) last) parts left.takes) in
+    let h = halves names held ds others (length ys) last (subst (λ l. AppliesAll names held l (length ys) last) parts left.takes) in
     let s = all_one names held ds h.first applied h.mid new h.takes_first takes in
     let sizes : length ys ≡ length ds + length others = ap length parts ∙ length-append ds others in
     let most = at_most names held ds h.first h.mid h.takes_first in
     let rest = at_most names h.mid others h.second last h.takes_second in
     let count : applied ≡ length ds = omega (arith, s.count, sizes, most, rest, h.sum) in
     let xs = transactions names (take j history) in
-    let all : TakesAll names empty_content (xs ++ ds) (j + length ds) new =
-    takes_push names empty_content xs j held ds (length ds) new reached (subst (λ k. TakesAll names held ds k new) count takes) in
+    let all : AppliesAll names empty_content (xs ++ ds) (j + length ds) new =
+    takes_push names empty_content xs j held ds (length ds) new reached (subst (λ k. AppliesAll names held ds k new) count takes) in
     let list : transactions names (take (j + length ds) history) ≡ xs ++ ds =
     ap (transactions names) (take_both j (length ds) history) ∙ map-append (transaction names) (take j history) (take (length ds) (drop j history))
     ∙ ap (λ l. xs ++ l) (first_of_map (transaction names) (drop j history) ds others parts) in
-    subst (λ l. TakesAll names empty_content l (j + length ds) new) (sym list) all
+    subst (λ l. AppliesAll names empty_content l (j + length ds) new) (sym list) all
 
 -- ---- What the source sends.
 
@@ -118,7 +118,7 @@ ends_so limit names awaited es ds true front back all mid last old new in_dump i
     let sizes : length all ≡ length front + length a.0 = ap length is ∙ length-append front back ∙ ap (λ (l : List ℕ). length front + length l) whole in
     record {
       payload = eof_payload;
-      stops = record { next = record { packing = a.0; more = a.1; behind = a.2; whole = record { packing = a.4; within = short.0 }; bytes = a.3 }; within = omega (arith, sizes, small) };
+      stops = record { next = record { packing = a.0; more = a.1; after = a.2; whole = record { packing = a.4; within = short.0 }; bytes = a.3 }; within = omega (arith, sizes, small) };
       in_dump = subst IsInDump (sym in_dump) tt;
       is_eof = record { counters = 0 ∷ 0 ∷ 2 ∷ 0 ∷ []; ignored = []; payload_is = refl; size = refl; short = omega arith };
       at_is = sizes;
@@ -200,7 +200,7 @@ module _ (one_dump : (a b : DumpValue) (payload : List ℕ) → IsDump a payload
       };
     }
 
-    dump_is_due : due_behind payloads ≡ InDump
+    dump_is_due : due_after payloads ≡ InDump
     dump_is_due = dump_due r.greeting r.login r.query (payloads_of (events_of (drop j history))) r.opens.lets_in
 
     abbrev end : Ended
@@ -210,7 +210,7 @@ module _ (one_dump : (a b : DumpValue) (payload : List ℕ) → IsDump a payload
     conn = record {
       reading = reading;
       took = record { takes = left.takes; asked = λ _ long. not_long long };
-      why = ends_so limit names (due_behind payloads) events (transactions names (drop j history)) (is_once r.dump.flags) (opening ++ c.front) c.back (opening ++ answer) c.mid sends.last held last dump_is_due bytes_are small c.second
+      why = ends_so limit names (due_after payloads) events (transactions names (drop j history)) (is_once r.dump.flags) (opening ++ c.front) c.back (opening ++ answer) c.mid sends.last held last dump_is_due bytes_are small c.second
           (all_back (λ p. length p ≤ limit) (payloads_of (events_of (drop j history))) (end_payloads (is_once r.dump.flags)) sends.short.1.1.1);
       kept = λ broken. absurd (false≢true broken);
     }
@@ -219,7 +219,7 @@ module _ (one_dump : (a b : DumpValue) (payload : List ℕ) → IsDump a payload
     unfolding conn
     leads = record { end = end; conn = conn; delivers = refl; applied = refl; at = refl; reason_is = refl }
 
-    pub cut : AllByRecursion (λ b. b < 256) answer → (part more : List ℕ) (count applied : ℕ) (new : Content) → opening ++ answer ≡ part ++ more → Begun limit names held part count applied new → Reaches names history (j + count) new
+    pub cut : AllByRecursion (λ b. b < 256) answer → (part more : List ℕ) (count applied : ℕ) (new : Content) → opening ++ answer ≡ part ++ more → TakesFirst limit names held part count applied new → Reaches names history (j + count) new
     cut plain part more count applied new is b =
         let q = b.reading in
         let both : (opening ++ c.front) ++ c.back ≡ q.front ++ (q.rest ++ more) = sym bytes_are ∙ is ∙ ap (λ (l : List ℕ). l ++ more) q.bytes ∙ append_assoc q.front q.rest more in

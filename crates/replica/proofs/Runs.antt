@@ -16,7 +16,7 @@ use Rattle.replica.specs.Conn.{Conn, BreaksStore, History}
 use Rattle.replica.specs.Crash.{IsLeft, IsLeftOfAll}
 use Rattle.replica.specs.Pieces.{stream_of, streams_of}
 use Rattle.replica.specs.Standing.{Stands, end_of}
-use Rattle.replica.specs.Over.{StandsOver, LeavesOnly, HasRead, HasTaken}
+use Rattle.replica.specs.Over.{StandsOver, LeavesOnly, HasRead, HasReadAll}
 use Rattle.replica.proofs.Stood.{conn_of, store_of}
 use Rattle.replica.proofs.Histories.{conn-unread, history-append, here, stays}
 
@@ -68,7 +68,7 @@ module _ {S : Type 0} (g : Ghosts S) (settled : (h : Held S) (db : Trees) → Is
   }
 
   -- no connection was taken
-  pub taken_none : (limit : ℕ) (store : Store S g) (was : Bool) (content : Content) → HoldsAs g was content store → HasTaken g limit store (state g store.conn).now.schema was content [] []
+  pub taken_none : (limit : ℕ) (store : Store S g) (was : Bool) (content : Content) → HoldsAs g was content store → HasReadAll g limit store (state g store.conn).now.schema was content [] []
   taken_none limit store was content holds = record {
     is = was;
     new = content;
@@ -112,7 +112,7 @@ module _ {S : Type 0} (g : Ghosts S) where
 
   -- one connection more
   pub taken_more : (limit : ℕ) (before store : Store S g) (schema : Schema) (was : Bool) (old : Content) (bs : List (List ℕ)) (ends : List Ended) (b : List ℕ) (end : Ended) → (before.broken ≡ true → store ≡ before)
-      → (t : HasTaken g limit before schema was old bs ends) → HasRead g limit before store t.is t.new b end → HasTaken g limit store schema was old (bs ++ b ∷ []) (ends ++ end ∷ [])
+      → (t : HasReadAll g limit before schema was old bs ends) → HasRead g limit before store t.is t.new b end → HasReadAll g limit store schema was old (bs ++ b ∷ []) (ends ++ end ∷ [])
   taken_more limit before store schema was old bs ends b end broken t r = record {
     is = r.is;
     new = r.new;
@@ -153,8 +153,8 @@ module _ {S : Type 0} (g : Ghosts S) where
   -- as above, for the connections of a run
   pub taken_next : (limit : ℕ) (before store : Store S g) (schema : Schema) (was : Bool) (old : Content) (connections : List (Vec (Vec ℕ Global) Global)) (i : ℕ) (pieces : Vec (Vec ℕ Global) Global) (ends : List Ended) (end : Ended)
       → (before.broken ≡ true → store ≡ before) → take (i + 1) connections ≡ take i connections ++ pieces ∷ []
-      → (t : HasTaken g limit before schema was old (streams_of (take i connections)) ends) → HasRead g limit before store t.is t.new (stream_of pieces.items) end → HasTaken g limit store schema was old (streams_of (take (i + 1) connections)) (ends ++ end ∷ [])
+      → (t : HasReadAll g limit before schema was old (streams_of (take i connections)) ends) → HasRead g limit before store t.is t.new (stream_of pieces.items) end → HasReadAll g limit store schema was old (streams_of (take (i + 1) connections)) (ends ++ end ∷ [])
   taken_next limit before store schema was old connections i pieces ends end broken one t r =
-      subst (λ (bs : List (List ℕ)). HasTaken g limit store schema was old bs (ends ++ end ∷ []))
+      subst (λ (bs : List (List ℕ)). HasReadAll g limit store schema was old bs (ends ++ end ∷ []))
       (sym (ap streams_of one ∙ map-append (λ (p : Vec (Vec ℕ Global) Global). stream_of p.items) (take i connections) (pieces ∷ [])))
       (taken_more limit before store schema was old (streams_of (take i connections)) ends (stream_of pieces.items) end broken t r)

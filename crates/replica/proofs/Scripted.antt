@@ -100,7 +100,7 @@ are_changes names before [] can = refl
 are_changes names before (part ∷ parts) can =
     let f = admits names part.table.schema part.table.table in
     let map_event = map_seen f part.table in
-    let behind = before ++ map_event ∷ [] in (
+    let after = before ++ map_event ∷ [] in (
       [],
       flat_map (part_changes names) (part ∷ parts),
       no_changes before f part.table,
@@ -110,7 +110,7 @@ are_changes names before (part ∷ parts) can =
         flat_map (part_changes names) parts,
         (said f part.table, last_says before f part.table, row_changes f part can.0.fits),
         refl,
-        are_changes names (behind ++ rows (rows_of part) ∷ []) parts can.1,
+        are_changes names (after ++ rows (rows_of part) ∷ []) parts can.1,
       ),
     )
 

@@ -15,7 +15,7 @@ use Rattle.binlog.proofs.Written.{written, writes_format, writes_begin, no_other
 use Rattle.binlog.proofs.Events.{one_event}
 use Rattle.std.specs.FinSet as set
 use Rattle.gather.specs.Fault.{IsRead}
-use Rattle.replica.specs.Stream.{Due, Hello, Reply, SecondReply, QueryReply, InDump, begins_switch, next_due, next_id, due_from, due_behind, Carries, Answers, Talks}
+use Rattle.replica.specs.Stream.{Due, Hello, Reply, SecondReply, QueryReply, InDump, begins_switch, next_due, next_id, due_from, due_after, Carries, Answers, Talks}
 use Rattle.scripted_source.specs.Script.{ScriptValue, PartValue, part_events, end_event, script_events}
 use Rattle.scripted_source.specs.Source.{Payload, Opens, payload_of, payloads_of, eof_payload, end_payloads, ArePackings, events_of, CanSend, CanSendPart}
 use Rattle.replica.proofs.Bytes.{all_front, all_back, all_both, packed_bytes}
@@ -112,17 +112,17 @@ stays : (ps : List Payload) → due_from InDump ps ≡ InDump
 stays [] = refl
 stays (p ∷ ps) = stays ps
 
-pub dump_due : (greeting login query : Payload) (ps : List Payload) → IsOkPacket login → due_behind (greeting ∷ login ∷ query ∷ ps) ≡ InDump
+pub dump_due : (greeting login query : Payload) (ps : List Payload) → IsOkPacket login → due_after (greeting ∷ login ∷ query ∷ ps) ≡ InDump
 dump_due greeting login query ps ok =
     subst (λ (b : Bool). due_from (next_due (if b then SecondReply else QueryReply) query) ps ≡ InDump) (sym (no_switch login ok)) (stays ps)
 
 pub talks_all : (limit : ℕ) (names : Names) (greeting login query : Payload) (opening : List ℕ) (ps : List Payload) (x : List ℕ) (es : List EventValue) (last : ℕ) → (o : Opens greeting login query opening)
     → AllByRecursion (λ p. length p ≤ limit) (greeting ∷ login ∷ query ∷ []) → Talks limit names InDump 1 ps x es last → Talks limit names Hello 0 (greeting ∷ login ∷ query ∷ ps) (opening ++ x) es last
 talks_all limit names greeting login query opening ps x es last o short t =
-    let behind : Talks limit names QueryReply 1 (query ∷ ps) (o.third ++ x) es last =
+    let beyond : Talks limit names QueryReply 1 (query ∷ ps) (o.third ++ x) es last =
     (o.third, x, [], es, o.after_query, refl, refl, record { packing = o.packs_query; within = short.1.1.0 }, (o.confirms, refl), t) in
     let reply : Talks limit names (if begins_switch login then SecondReply else QueryReply) (if begins_switch login then 4 else 1) (query ∷ ps) (o.third ++ x) es last =
-    subst (λ (b : Bool). Talks limit names (if b then SecondReply else QueryReply) (if b then 4 else 1) (query ∷ ps) (o.third ++ x) es last) (sym (no_switch login o.lets_in)) behind in
+    subst (λ (b : Bool). Talks limit names (if b then SecondReply else QueryReply) (if b then 4 else 1) (query ∷ ps) (o.third ++ x) es last) (sym (no_switch login o.lets_in)) beyond in
     let same : opening ++ x ≡ o.first ++ (o.second ++ (o.third ++ x)) =
     ap (λ (l : List ℕ). l ++ x) o.bytes_are ∙ append_assoc o.first (o.second ++ o.third) x ∙ ap (λ (l : List ℕ). o.first ++ l) (append_assoc o.second o.third x) in (
       o.first,
@@ -146,10 +146,10 @@ pub record Begins (fs es : List EventValue) : Type 0 where
 
 -- the bytes do not begin with a payload that is expected
 abbrev pub IsBlocked : ℕ → Names → Due → ℕ → List ℕ → Type 0
-IsBlocked limit names due id r = (p : Payload) (packing left : List ℕ) (behind : ℕ) (first : List EventValue) → r ≡ packing ++ left → IsWholePayload id limit packing p behind → Answers names due p first → ⊥
+IsBlocked limit names due id r = (p : Payload) (packing left : List ℕ) (beyond : ℕ) (first : List EventValue) → r ≡ packing ++ left → IsWholePayload id limit packing p beyond → Answers names due p first → ⊥
 
 joined : (es e1 e2 fs f1 f2 others : List EventValue) → es ≡ e1 ++ e2 → fs ≡ f1 ++ f2 → e1 ≡ f1 → e2 ≡ f2 ++ others → es ≡ fs ++ others
-joined es e1 e2 fs f1 f2 others x y first behind = x ∙ ap (λ l. l ++ e2) first ∙ ap (λ l. f1 ++ l) behind ∙ sym (append_assoc f1 f2 others) ∙ ap (λ l. l ++ others) (sym y)
+joined es e1 e2 fs f1 f2 others x y first beyond = x ∙ ap (λ l. l ++ e2) first ∙ ap (λ l. f1 ++ l) beyond ∙ sym (append_assoc f1 f2 others) ∙ ap (λ l. l ++ others) (sym y)
 
 pub beginning : (limit : ℕ) (names : Names) (due : Due) (id : ℕ) (ps : List Payload) (x : List ℕ) (es : List EventValue) (m : ℕ) (r : List ℕ) (qs : List Payload) (y : List ℕ) (fs : List EventValue) (n : ℕ) (s : List ℕ)
     → Talks limit names due id ps x es m → Talks limit names due id qs y fs n → x ++ r ≡ y ++ s → IsBlocked limit names (due_from due ps) m r → Begins fs es
@@ -174,8 +174,8 @@ beginning limit names due id (p ∷ ps) x es m r (q ∷ qs) y fs n s a b h block
 
 -- ---- Nothing more after the events.
 
-no_bytes : (id : ℕ) (p packing left : List ℕ) (behind : ℕ) → [] ≡ packing ++ left → IsPacking id p packing behind → ⊥
-no_bytes id p packing left behind is packs =
+no_bytes : (id : ℕ) (p packing left : List ℕ) (beyond : ℕ) → [] ≡ packing ++ left → IsPacking id p packing beyond → ⊥
+no_bytes id p packing left beyond is packs =
     let none : 0 ≡ length packing + length left = ap length is ∙ length-append packing left in
     let some : length packing ≡ packing_length (length p) = length_packing packs in
     absurd (omega (arith, none, some))
@@ -184,10 +184,10 @@ no_event : (names : Names) (p : Payload) (e : EventValue) → p ≡ eof_payload 
 no_event names p e is c = let first = first_of 0xFE 0x00 (0 ∷ 0 ∷ 2 ∷ 0 ∷ []) c.body (sym is ∙ c.payload_is) in absurd (omega (arith, first))
 
 pub ends_there : (limit : ℕ) (names : Names) (once : Bool) (id : ℕ) (r : List ℕ) (last : ℕ) → ArePackings id (end_payloads once) r last → IsBlocked limit names InDump id r
-ends_there limit names true id r last a p packing left behind first is whole answers =
+ends_there limit names true id r last a p packing left beyond first is whole answers =
     let w = none_begins left a.1 whole.packing a.4 (sym is ∙ a.3) in
     no_event names p answers.0 w.0 answers.1
-ends_there limit names false id r last a p packing left behind first is whole answers = no_bytes id p packing left behind (sym a.0 ∙ is) whole.packing
+ends_there limit names false id r last a p packing left beyond first is whole answers = no_bytes id p packing left beyond (sym a.0 ∙ is) whole.packing
 
 -- ---- Their bytes.
 

@@ -11,8 +11,8 @@ use Rattle.gtid.proofs.Sets.{id_cmp_total}
 use Rattle.binlog.specs.Filter.{Names}
 use Rattle.gather.specs.Transaction.{ChangeValue, insert, delete, update, DeliveryValue}
 use Rattle.store.specs.State.{TableRow, row_of, Bag, Content}
-use Rattle.store.specs.Take.{IsAdded, IsRemoved, IsMade, is_followed, AreDone, is_executed, Takes, done}
-use Rattle.replica.specs.Conn.{TakesAll}
+use Rattle.store.specs.Take.{IsAdded, IsRemoved, IsMade, is_followed, AreDone, is_executed, HasOutcome, done}
+use Rattle.replica.specs.Conn.{AppliesAll}
 use Rattle.scripted_source.specs.Script.{ScriptValue}
 use Rattle.scripted_source.specs.Source.{due}
 use Rattle.replica.specs.Resume.{transactions}
@@ -61,7 +61,7 @@ one_done names (change ∷ changes) old new other a b =
     let mid : a.0 ≡ b.0 = one_by (is_followed names change) change old a.0 b.0 a.1 b.1 in
     one_done names changes b.0 new other (subst (λ m. AreDone names changes m new) mid a.2) b.2
 
-one_taken : (names : Names) (old : Content) (d : DeliveryValue) (new other : Content) → Takes names old d (done new) → Takes names old d (done other) → new ≡ other
+one_taken : (names : Names) (old : Content) (d : DeliveryValue) (new other : Content) → HasOutcome names old d (done new) → HasOutcome names old d (done other) → new ≡ other
 one_taken names old d new other a b =
     let rows = one_done names d.changes old.rows new.rows other.rows a.1 b.1 in
     let executed = a.2 ∙ sym b.2 in
@@ -71,11 +71,11 @@ pub record Same (m n : ℕ) (a b : Content) : Type 0 where
   pub count : m ≡ n
   pub content : a ≡ b
 
-pub all_one : (names : Names) (old : Content) (ds : List DeliveryValue) (m n : ℕ) (a b : Content) → TakesAll names old ds m a → TakesAll names old ds n b → Same m n a b
+pub all_one : (names : Names) (old : Content) (ds : List DeliveryValue) (m n : ℕ) (a b : Content) → AppliesAll names old ds m a → AppliesAll names old ds n b → Same m n a b
 all_one names old [] m n a b x y = record { count = x.0 ∙ sym y.0; content = x.1 ∙ sym y.1 }
 all_one names old (d ∷ ds) m n a b (inl x) (inl y) =
     let mid : x.0 ≡ y.0 = one_taken names old d x.0 y.0 x.2 y.2 in
-    let s = all_one names y.0 ds x.1 y.1 a b (subst (λ c. TakesAll names c ds x.1 a) mid x.4) y.4 in
+    let s = all_one names y.0 ds x.1 y.1 a b (subst (λ c. AppliesAll names c ds x.1 a) mid x.4) y.4 in
     record { count = x.3 ∙ ap (λ k. k + 1) s.count ∙ sym y.3; content = s.content }
 all_one names old (d ∷ ds) m n a b (inl x) (inr y) = absurd (false≢true (sym x.2.0 ∙ y.0))
 all_one names old (d ∷ ds) m n a b (inr x) (inl y) = absurd (false≢true (sym y.2.0 ∙ x.0))
@@ -87,11 +87,11 @@ pub record Halves (names : Names) (old : Content) (xs ys : List DeliveryValue) (
   pub mid : Content
   pub first : ℕ
   pub second : ℕ
-  pub takes_first : TakesAll names old xs first mid
-  pub takes_second : TakesAll names mid ys second new
+  pub takes_first : AppliesAll names old xs first mid
+  pub takes_second : AppliesAll names mid ys second new
   pub sum : n ≡ first + second
 
-pub halves : (names : Names) (old : Content) (xs ys : List DeliveryValue) (n : ℕ) (new : Content) → TakesAll names old (xs ++ ys) n new → Halves names old xs ys n new
+pub halves : (names : Names) (old : Content) (xs ys : List DeliveryValue) (n : ℕ) (new : Content) → AppliesAll names old (xs ++ ys) n new → Halves names old xs ys n new
 halves names old [] ys n new t = record { mid = old; first = 0; second = n; takes_first = (refl, refl); takes_second = t; sum = omega arith }
 halves names old (d ∷ xs) ys n new (inl t) =
     let h = halves names t.0 xs ys t.1 new t.4 in
@@ -100,7 +100,7 @@ halves names old (d ∷ xs) ys n new (inr t) =
     let h = halves names old xs ys n new t.1 in
     record { mid = h.mid; first = h.first; second = h.second; takes_first = inr (t.0, h.takes_first); takes_second = h.takes_second; sum = h.sum }
 
-pub at_most : (names : Names) (old : Content) (ds : List DeliveryValue) (n : ℕ) (new : Content) → TakesAll names old ds n new → n ≤ length ds
+pub at_most : (names : Names) (old : Content) (ds : List DeliveryValue) (n : ℕ) (new : Content) → AppliesAll names old ds n new → n ≤ length ds
 at_most names old [] n new t = omega (arith, t.0)
 at_most names old (d ∷ ds) n new (inl t) = let h = at_most names t.0 ds t.1 new t.4 in omega (arith, t.3, h)
 at_most names old (d ∷ ds) n new (inr t) = let h = at_most names old ds n new t.1 in omega (arith, h)
@@ -129,21 +129,21 @@ HasIt content d = is_executed content d ≡ true
 
 pub record New (old : Content) (ds : List DeliveryValue) (new : Content) : Type 0 where
   pub not_before : AllByRecursion (HasNot old) ds
-  pub behind : AllByRecursion (HasIt new) ds
+  pub after : AllByRecursion (HasIt new) ds
   pub stays : (d : DeliveryValue) → HasIt old d → HasIt new d
 
 all_not : (old mid : Content) (ds : List DeliveryValue) → ((d : DeliveryValue) → HasIt old d → HasIt mid d) → AllByRecursion (HasNot mid) ds → AllByRecursion (HasNot old) ds
 all_not old mid [] f h = tt
 all_not old mid (d ∷ ds) f h = (before (is_executed old d) (is_executed mid d) (f d) h.0, all_not old mid ds f h.1)
 
-pub each_new : (names : Names) (old : Content) (ds : List DeliveryValue) (n : ℕ) (new : Content) → length ds ≡ n → TakesAll names old ds n new → New old ds new
-each_new names old [] n new all t = record { not_before = tt; behind = tt; stays = λ d h. ap (λ c. is_executed c d) t.1 ∙ h }
+pub each_new : (names : Names) (old : Content) (ds : List DeliveryValue) (n : ℕ) (new : Content) → length ds ≡ n → AppliesAll names old ds n new → New old ds new
+each_new names old [] n new all t = record { not_before = tt; after = tt; stays = λ d h. ap (λ c. is_executed c d) t.1 ∙ h }
 each_new names old (d ∷ ds) n new all (inl t) =
     let rest : length ds ≡ t.1 = omega (arith, all, t.3) in
     let h = each_new names t.0 ds t.1 new rest t.4 in
     let own : HasIt t.0 d = ap (λ ids. set.contains ids (d.source, d.number)) t.2.2 ∙ itself old.executed (d.source, d.number) in
     let grows : (x : DeliveryValue) → HasIt old x → HasIt t.0 x = λ x is. ap (λ ids. set.contains ids (x.source, x.number)) t.2.2 ∙ still old.executed (d.source, d.number) (x.source, x.number) is in
-    record { not_before = (t.2.0, all_not old t.0 ds grows h.not_before); behind = (h.stays d own, h.behind); stays = λ x is. h.stays x (grows x is) }
+    record { not_before = (t.2.0, all_not old t.0 ds grows h.not_before); after = (h.stays d own, h.after); stays = λ x is. h.stays x (grows x is) }
 each_new names old (d ∷ ds) n new all (inr t) = let h = at_most names old ds n new t.1 in absurd (omega (arith, all, h))
 
 -- ---- The scripts that are not in the set.

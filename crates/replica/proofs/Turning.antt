@@ -18,13 +18,13 @@ use Rattle.replica.specs.declared.phase.Login.{Login}
 use Rattle.replica.specs.declared.phase.Login.TheVariants as login
 use Rattle.replica.specs.declared.session.Session.{Session}
 use Rattle.replica.specs.Settings.{Settings}
-use Rattle.replica.specs.Stream.{Payload, Due, Hello, QueryReply, IsInDump, next_due, next_id, due_behind, Reading}
+use Rattle.replica.specs.Stream.{Payload, Due, Hello, QueryReply, IsInDump, next_due, next_id, due_after, Reading}
 use Rattle.replica.specs.End.{HasNext, StopsAt, PassesEnd, StopsFor}
-use Rattle.replica.specs.Conn.{TakesAll, Why, BreaksStore}
+use Rattle.replica.specs.Conn.{AppliesAll, Why, BreaksStore}
 use Rattle.replica.specs.Sent.{Sent, SentFor}
 use Rattle.replica.specs.Standing.{GoesOn, HasEnded, Stands, HasPayload, due_at, due_of, first_id_of, room_of}
 use Rattle.replica.specs.Turn.{IsAnswered, EndsAt}
-use Rattle.replica.proofs.Push.{due_push, id_is_next, could_ask, no_events, no_deliveries, owes_push, with_message}
+use Rattle.replica.proofs.Push.{due_push, id_is_next, could_ask, no_events, no_deliveries, responds_push, with_message}
 
 -- ---- sessions that go on, and that have ended
 pub stands_going : (s : Session) (names : Names) (was is : Bool) (old now : Content) (b o : List ℕ) → s.ended ≡ None
@@ -65,9 +65,9 @@ module _ (settings : Settings) (assembly : ReaderState) (gatherer : Gatherer) (w
   pub rest_length : length h.reading.rest ≡ packing_length (length p)
   rest_length = length_packing h.whole.packing
 
-  abbrev pub stops : at + length h.reading.rest < 2 ^ 64 → StopsAt settings.limit names (due_behind h.reading.payloads) h.reading.events (length h.reading.front) h.reading.id h.reading.rest p
+  abbrev pub stops : at + length h.reading.rest < 2 ^ 64 → StopsAt settings.limit names (due_after h.reading.payloads) h.reading.events (length h.reading.front) h.reading.id h.reading.rest p
   stops within = record {
-    next = record { packing = h.reading.rest; more = []; behind = assembly.due; whole = h.whole; bytes = sym (append-nil h.reading.rest) };
+    next = record { packing = h.reading.rest; more = []; after = assembly.due; whole = h.whole; bytes = sym (append-nil h.reading.rest) };
     within = subst (λ n. n + length h.reading.rest < 2 ^ 64) h.at_is within;
   }
 
@@ -76,7 +76,7 @@ module _ (settings : Settings) (assembly : ReaderState) (gatherer : Gatherer) (w
 
   -- it ends here, after the payloads taken
   pub ended : (reason : Reason) (broken : Bool) → reason ≢ EndOfInput
-      → Why settings.limit names (due_behind h.reading.payloads) h.reading.events h.reading.deliveries (length h.reading.front) h.reading.id h.reading.rest was old now at reason
+      → Why settings.limit names (due_after h.reading.payloads) h.reading.events h.reading.deliveries (length h.reading.front) h.reading.id h.reading.rest was old now at reason
       → BreaksStore reason was broken → HasEnded settings names was broken old now b all (record { reason = reason; at = at; applied = applied })
   ended reason broken more why store = record {
     conn = record { reading = h.reading; took = h.took; why = why; kept = h.kept };
@@ -94,7 +94,7 @@ module _ (settings : Settings) (assembly : ReaderState) (gatherer : Gatherer) (w
           refl,
           record {
             payload = p;
-            next = record { packing = h.reading.rest; more = []; behind = assembly.due; whole = h.whole; bytes = sym (append-nil h.reading.rest) };
+            next = record { packing = h.reading.rest; more = []; after = assembly.due; whole = h.whole; bytes = sym (append-nil h.reading.rest) };
             beyond = subst (λ n. 2 ^ 64 ≤ n + length h.reading.rest) h.at_is beyond;
           },
         ),
@@ -107,7 +107,7 @@ module _ (settings : Settings) (assembly : ReaderState) (gatherer : Gatherer) (w
       let r = h.reading in
       let es : r.events ≡ [] = no_events settings.limit names Hello 0 r.payloads r.front r.events r.id r.talk.talks (λ i. n (subst IsInDump (sym h.awaits) i)) in
       let ds : r.deliveries ≡ [] = no_deliveries r.events r.deliveries es r.talk.delivers in
-      (subst (λ l. TakesAll names old l applied now) ds h.took.takes).1
+      (subst (λ l. AppliesAll names old l applied now) ds h.took.takes).1
 
   -- a message before the dump goes on
   pub message_goes_on : (next : Phase) (end : ℕ) (more : List ℕ) (out new : List ℕ) (o : List ℕ) → (IsInDump (due_of waits) → ⊥) → end ≡ at + length h.reading.rest → end < 2 ^ 64 → all ≡ o ++ out
@@ -115,10 +115,10 @@ module _ (settings : Settings) (assembly : ReaderState) (gatherer : Gatherer) (w
       → GoesOn settings (record assembly { due = first_id_of next }) gatherer next end applied names was is old now b (o ++ new)
   message_goes_on next end more out new o n end_is within all_is a due =
       let r = h.reading in
-      let d = due_behind r.payloads in
+      let d = due_after r.payloads in
       let within_at : length r.front + length r.rest < 2 ^ 64 = omega (arith, end_is, within, h.at_is) in
       let answers = subst (λ x. Rattle.replica.specs.Stream.Answers names x p []) h.awaits a.answers in
-      let is_due = subst (λ x. Rattle.replica.specs.Sent.Owes settings old.executed x p a.replies.bytes) h.awaits a.replies.is_due in
+      let is_due = subst (λ x. Rattle.replica.specs.Sent.Responds settings old.executed x p a.replies.bytes) h.awaits a.replies.is_due in
       let no_dump : IsInDump d → ⊥ = λ i. n (subst IsInDump (sym h.awaits) i) in
       let due_next : due_of next ≡ next_due d p = due ∙ ap (λ x. next_due x p) h.awaits in
       record {
@@ -136,7 +136,7 @@ module _ (settings : Settings) (assembly : ReaderState) (gatherer : Gatherer) (w
           asked = λ i. could_ask d p old.executed no_dump (λ q. a.short (h.awaits ∙ q)) (subst IsInDump (due_push Hello r.payloads p) i);
         };
         sent = subst (λ l. Sent settings old.executed (r.payloads ++ p ∷ []) l) (ap (λ l. l ++ a.replies.bytes) all_is ∙ append_assoc o out a.replies.bytes ∙ ap (λ l. o ++ l) (sym a.replies.appended))
-            (owes_push settings old.executed Hello r.payloads all p a.replies.bytes h.sent is_due);
+            (responds_push settings old.executed Hello r.payloads all p a.replies.bytes h.sent is_due);
         store = h.store;
         kept = h.kept;
       }

@@ -11,29 +11,29 @@ use Rattle.sqlite.specs.declared.error.Error.{Error}
 use Rattle.store.specs.declared.fault.StoreFault.{StoreFault}
 use Rattle.store.specs.declared.fault.StoreFault.TheVariants as fault
 use Rattle.store.specs.State.{Content}
-use Rattle.store.specs.Take.{Takes, done, repeat, refused, is_executed}
+use Rattle.store.specs.Take.{HasOutcome, done, repeat, refused, is_executed}
 use Rattle.store.specs.declared.row_change.Refusal.TheVariants as why
 use Rattle.replica.specs.declared.end.Refusal.{Refusal}
 use Rattle.replica.specs.declared.end.Refusal.TheVariants.{NoSuchRow, CountFull}
 use Rattle.replica.specs.declared.end.Reason.{Reason}
 use Rattle.replica.specs.declared.end.Reason.TheVariants.{EndOfInput, SourceEof, SourceError, Wire, Greet, Event, Gather, Refused, Database, Memory, ReadFailed, WriteFailed}
 use Rattle.replica.specs.declared.end.Ended.{Ended}
-use Rattle.replica.specs.Stream.{Payload, Due, QueryReply, IsInDump, Carries, Reading, due_behind}
+use Rattle.replica.specs.Stream.{Payload, Due, QueryReply, IsInDump, Carries, Reading, due_after}
 use Rattle.replica.specs.End.{StopsAt, EndsLog, StopsFor}
 
 -- ---- Transactions in order.
 
 -- Taking the transactions in order refuses none, leads from old to new, and `applied` of them are new.
-abbrev pub TakesAll : Names → Content → List DeliveryValue → ℕ → Content → Type 0
-TakesAll names old [] applied new = (applied ≡ 0) × (new ≡ old)
-TakesAll names old (d ∷ ds) applied new =
-    ((mid : Content) × (more : ℕ) × Takes names old d (done mid) × (applied ≡ more + 1) × TakesAll names mid ds more new)
-    ⊎ (Takes names old d repeat × TakesAll names old ds applied new)
+abbrev pub AppliesAll : Names → Content → List DeliveryValue → ℕ → Content → Type 0
+AppliesAll names old [] applied new = (applied ≡ 0) × (new ≡ old)
+AppliesAll names old (d ∷ ds) applied new =
+    ((mid : Content) × (more : ℕ) × HasOutcome names old d (done mid) × (applied ≡ more + 1) × AppliesAll names mid ds more new)
+    ⊎ (HasOutcome names old d repeat × AppliesAll names old ds applied new)
 
 -- The transaction is refused for this reason.
 abbrev pub IsRefusedBy : Names → Content → DeliveryValue → Refusal → Type 0
-IsRefusedBy names content d (NoSuchRow at) = Takes names content d (refused at why.NoSuchRow)
-IsRefusedBy names content d (CountFull at) = Takes names content d (refused at why.CountFull)
+IsRefusedBy names content d (NoSuchRow at) = HasOutcome names content d (refused at why.NoSuchRow)
+IsRefusedBy names content d (CountFull at) = HasOutcome names content d (refused at why.CountFull)
 
 -- ---- The dump command.
 
@@ -48,8 +48,8 @@ abbrev pub CouldAsk : Due → Ids → Type 0
 CouldAsk due executed = IsInDump due → IsDumpTooLong executed → ⊥
 
 -- The transactions that were taken, if this message is expected after them.
-pub record Took (names : Names) (old : Content) (ds : List DeliveryValue) (due : Due) (applied : ℕ) (new : Content) : Type 0 where
-  pub takes : TakesAll names old ds applied new
+pub record HasApplied (names : Names) (old : Content) (ds : List DeliveryValue) (due : Due) (applied : ℕ) (new : Content) : Type 0 where
+  pub takes : AppliesAll names old ds applied new
   pub asked : CouldAsk due old.executed
 
 -- ---- A connection.
@@ -112,15 +112,15 @@ module _ (limit : ℕ) (names : Names) (due : Due) (es : List EventValue) (ds : 
 -- failed, nothing changes.
 pub record Conn (limit : ℕ) (names : Names) (was_broken : Bool) (old : Content) (b : List ℕ) (new : Content) (end : Ended) : Type 0 where
   pub reading : Reading limit names b
-  pub took : Took names old reading.deliveries (due_behind reading.payloads) end.applied new
-  pub why : Why limit names (due_behind reading.payloads) reading.events reading.deliveries (length reading.front) reading.id reading.rest was_broken old new end.at end.reason
+  pub took : HasApplied names old reading.deliveries (due_after reading.payloads) end.applied new
+  pub why : Why limit names (due_after reading.payloads) reading.events reading.deliveries (length reading.front) reading.id reading.rest was_broken old new end.at end.reason
   pub kept : was_broken ≡ true → new ≡ old
 
 -- Taking the first `count` transactions of the bytes refuses none, and leads from old to new.
-pub record Begun (limit : ℕ) (names : Names) (old : Content) (b : List ℕ) (count applied : ℕ) (new : Content) : Type 0 where
+pub record TakesFirst (limit : ℕ) (names : Names) (old : Content) (b : List ℕ) (count applied : ℕ) (new : Content) : Type 0 where
   pub reading : Reading limit names b
   pub counted : length reading.deliveries ≡ count
-  pub took : Took names old reading.deliveries (due_behind reading.payloads) applied new
+  pub took : HasApplied names old reading.deliveries (due_after reading.payloads) applied new
 
 -- Whether the store has failed after a connection with this end: after an end by the database it has, after running out
 -- of memory it may have, and no other end changes it.

@@ -11,15 +11,15 @@ use Rattle.binlog.specs.Event.{EventValue, event_fault}
 use Rattle.gather.specs.Fault.{IsFault}
 use Rattle.replica.specs.declared.end.Reason.{Reason}
 use Rattle.replica.specs.declared.end.Reason.TheVariants.{EndOfInput, SourceEof, SourceError, Wire, Greet, Event, Gather, Refused, Database, Memory, ReadFailed, WriteFailed}
-use Rattle.replica.specs.Stream.{Payload, Due, IsInDump, Carries, Reading, due_behind}
+use Rattle.replica.specs.Stream.{Payload, Due, IsInDump, Carries, Reading, due_after}
 use Rattle.replica.specs.Message.{refusal_of, IsNoEvent, IsOfMessage}
 
 -- The bytes begin with the packing of a payload within the limit, from this sequence id.
 pub record HasNext (limit id : ℕ) (rest : List ℕ) (p : Payload) : Type 0 where
   pub packing : List ℕ
   pub more : List ℕ
-  pub behind : ℕ
-  pub whole : IsWholePayload id limit packing p behind
+  pub after : ℕ
+  pub whole : IsWholePayload id limit packing p after
   pub bytes : rest ≡ packing ++ more
 
 -- The reason for which a payload that is not the expected message ends the connection. It is a fault of the payload's
@@ -85,7 +85,7 @@ module _ (limit : ℕ) (names : Names) (due : Due) (es : List EventValue) (taken
 
 -- the reading of these bytes stops at this offset, for this reason
 abbrev pub Stops : (limit : ℕ) (names : Names) (b : List ℕ) → Reading limit names b → ℕ → Reason → Type 0
-Stops limit names b r at reason = StopsFor limit names (due_behind r.payloads) r.events (length r.front) r.id r.rest at reason
+Stops limit names b r at reason = StopsFor limit names (due_after r.payloads) r.events (length r.front) r.id r.rest at reason
 
 -- The end of a connection that its bytes cause.
 pub record End (limit : ℕ) (names : Names) (b : List ℕ) (reason : Reason) (at : ℕ) : Type 0 where

@@ -6,14 +6,14 @@ use Rattle.binlog.specs.Event.{EventValue}
 use Rattle.gather.specs.Transaction.{DeliveryValue, AreDeliveries}
 use Rattle.gather.specs.declared.gatherer.Gatherer.{Gatherer}
 use Rattle.store.specs.State.{Content}
-use Rattle.store.specs.Take.{Takes, done, is_executed}
+use Rattle.store.specs.Take.{HasOutcome, done, is_executed}
 use Rattle.store.specs.declared.fault.StoreFault.{StoreFault}
 use Rattle.store.specs.declared.store.Store.{Store}
 use Rattle.store.specs.Store.{HoldsAs, AreOf, database, names_of}
 use Rattle.replica.specs.declared.end.Reason.{Reason}
 use Rattle.replica.specs.declared.end.Reason.TheVariants.{Refused, Database, Memory}
 use Rattle.replica.specs.Stream.{Payload, Carries}
-use Rattle.replica.specs.Conn.{TakesAll, IsRefusedBy, FailsFor}
+use Rattle.replica.specs.Conn.{AppliesAll, IsRefusedBy, FailsFor}
 use Rattle.replica.specs.Turn.{GathersMore, EndsDump}
 
 module _ {S : Type 0} (g : Ghosts S) (is : Bool) (now : Content) (es : List EventValue) (ds : List DeliveryValue) (p : Payload) (old new : Store S g) where
@@ -22,7 +22,7 @@ module _ {S : Type 0} (g : Ghosts S) (is : Bool) (now : Content) (es : List Even
     pub more : List DeliveryValue
     pub gathered : GathersMore (names_of g old) es ds p more gatherer
     pub after : Content
-    pub takes : TakesAll (names_of g old) now more (if applied then 1 else 0) after
+    pub takes : AppliesAll (names_of g old) now more (if applied then 1 else 0) after
     pub holds : HoldsAs g is after new
     pub schema : is ≡ false → (database g new).now.schema ≡ (database g old).now.schema
     pub kept : is ≡ true → after ≡ now
@@ -43,7 +43,7 @@ module _ {S : Type 0} (g : Ghosts S) (is : Bool) (now : Content) (es : List Even
     pub rests : Rests true
     pub fails : FailsFor is (is_executed now d) cause
     pub leaves : is ≡ false → (trees : Trees) → (database g new).may_leave trees
-        → (left : Content) × AreOf (database g old).now.schema (names_of g old) left trees × ((left ≡ now) ⊎ Takes (names_of g old) now d (done left))
+        → (left : Content) × AreOf (database g old).now.schema (names_of g old) left trees × ((left ≡ now) ⊎ HasOutcome (names_of g old) now d (done left))
 
   -- The connection ends: because of the payload, since memory ran out, because a transaction is refused, or since the
   -- database failed.

@@ -43,12 +43,12 @@ IsOfStream WriteFailed = Unit {0}
 IsOfStream _ = ⊥
 
 -- the end with another reason
-abbrev pub told_as : Reason → Ended → Ended
-told_as reason end = record { reason = reason; at = end.at; applied = end.applied }
+abbrev pub reported_as : Reason → Ended → Ended
+reported_as reason end = record { reason = reason; at = end.at; applied = end.applied }
 
 -- The content, the offset and the count are exactly those of the bytes.
 abbrev pub EndsInFull : ℕ → Names → Bool → Content → List ℕ → Content → Ended → Type 0
-EndsInFull limit names was old b new end = (reason : Reason) × IsInFull reason × Conn limit names was old b new (told_as reason end)
+EndsInFull limit names was old b new end = (reason : Reason) × IsInFull reason × Conn limit names was old b new (reported_as reason end)
 
 -- The connection had not ended before the last piece was read, of at most 65,536 bytes.
 pub record EndsInLast (limit : ℕ) (names : Names) (was : Bool) (old : Content) (read : List ℕ) : Type 0 where
@@ -58,7 +58,7 @@ pub record EndsInLast (limit : ℕ) (names : Names) (was : Bool) (old : Content)
   pub piece : length last ≤ 65536
   pub now : Content
   pub end : Ended
-  pub unended : Conn limit names was old front now (told_as EndOfInput end)
+  pub unended : Conn limit names was old front now (reported_as EndOfInput end)
 
 module _ {S : Type 0} (g : Ghosts S) where
   -- A store that held this content, and had failed or not, has followed a stream to this end. The stream had these
@@ -74,7 +74,7 @@ module _ {S : Type 0} (g : Ghosts S) where
     pub last : EndsInLast settings.limit (names_of g before) was old read
     pub in_full : IsOfStream end.reason → EndsInFull settings.limit (names_of g before) was old read has_read.new end
     -- a read fails only if the bytes read do not end the connection
-    pub unended : end.reason ≡ ReadFailed → Conn settings.limit (names_of g before) was old read has_read.new (told_as EndOfInput end)
+    pub unended : end.reason ≡ ReadFailed → Conn settings.limit (names_of g before) was old read has_read.new (reported_as EndOfInput end)
     pub all_read : end.reason ≡ EndOfInput → IsAtEnd left'
     pub is_due : SentFor settings (names_of g before) old.executed read end.at (sent ++ pending)
     pub all_sent : MaySendLess end.reason ⊎ (pending ≡ [])

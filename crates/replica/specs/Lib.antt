@@ -10,7 +10,7 @@ pub mod Standing
 pub mod Crash
 pub mod Over
 pub mod Pieces
-pub mod Told
+pub mod Report
 pub mod Failing
 pub mod Follow
 pub mod Resume

@@ -57,7 +57,7 @@ module _ {S : Type 0} (g : Ghosts S) where
 
   -- A store that held this content under this schema, and had failed or not, has taken these connections with these
   -- ends.
-  pub record HasTaken (limit : ℕ) (store : Store S g) (schema : Schema) (was : Bool) (old : Content) (bs : List (List ℕ)) (ends : List Ended) : Type 0 where
+  pub record HasReadAll (limit : ℕ) (store : Store S g) (schema : Schema) (was : Bool) (old : Content) (bs : List (List ℕ)) (ends : List Ended) : Type 0 where
     pub is : Bool
     pub new : Content
     pub holds : HoldsAs g is new store

@@ -11,7 +11,7 @@ use Rattle.store.specs.State.{Content}
 use Rattle.replica.specs.declared.end.Reason.{Reason}
 use Rattle.replica.specs.declared.end.Reason.TheVariants.{EndOfInput, SourceEof}
 use Rattle.replica.specs.declared.end.Ended.{Ended}
-use Rattle.replica.specs.Conn.{TakesAll, Conn}
+use Rattle.replica.specs.Conn.{AppliesAll, Conn}
 use Rattle.scripted_source.specs.Script.{PartValue, ScriptValue}
 use Rattle.scripted_source.specs.Source.{Payload, Opens, Asks, IsAnswer, is_once, sent_payloads, due}
 
@@ -34,7 +34,7 @@ empty_content = record { executed = set.empty; rows = λ row. 0 }
 -- The first transactions, this many, are each new and can be taken, in their order from the empty content, and lead to
 -- this content.
 abbrev pub Reaches : Names → List ScriptValue → ℕ → Content → Type 0
-Reaches names history count content = TakesAll names empty_content (transactions names (take count history)) count content
+Reaches names history count content = AppliesAll names empty_content (transactions names (take count history)) count content
 
 -- ---- The law.
 

@@ -9,7 +9,7 @@ use Rattle.gtid.specs.Identifier.{Ids}
 use Rattle.gtid.specs.Encoding.{IsEncoding}
 use Rattle.binlog.specs.Filter.{Names}
 use Rattle.replica.specs.Settings.{Settings}
-use Rattle.replica.specs.Stream.{Payload, Due, Hello, Reply, SecondReply, QueryReply, InDump, next_due, Reading, due_behind}
+use Rattle.replica.specs.Stream.{Payload, Due, Hello, Reply, SecondReply, QueryReply, InDump, next_due, Reading, due_after}
 use Rattle.replica.specs.End.{EndsLog}
 
 -- the response to a scramble: empty for the empty password
@@ -55,27 +55,27 @@ module _ (settings : Settings) (executed : Ids) where
     pub packs : IsPacked 0 (dump_bytes (record { flags = flags_of settings.once; server_id = settings.server_id; set = set }) [] (little_bytes 8 4)) y
 
   -- The bytes due in reply to a payload that was expected.
-  abbrev pub Owes : Due → Payload → List ℕ → Type 0
-  Owes Hello p y = LogsIn p y
-  Owes Reply p y = LogsInAgain p y ⊎ Queries p y
-  Owes SecondReply p y = Queries p y
-  Owes QueryReply p y = Asks p y
-  Owes InDump p y = y ≡ []
+  abbrev pub Responds : Due → Payload → List ℕ → Type 0
+  Responds Hello p y = LogsIn p y
+  Responds Reply p y = LogsInAgain p y ⊎ Queries p y
+  Responds SecondReply p y = Queries p y
+  Responds QueryReply p y = Asks p y
+  Responds InDump p y = y ≡ []
 
   -- The bytes due in reply to these payloads, one after the other.
-  abbrev pub OwesFrom : Due → List Payload → List ℕ → Type 0
-  OwesFrom due [] o = o ≡ []
-  OwesFrom due (p ∷ ps) o = (y : List ℕ) × (z : List ℕ) × (o ≡ y ++ z) × Owes due p y × OwesFrom (next_due due p) ps z
+  abbrev pub RespondsFrom : Due → List Payload → List ℕ → Type 0
+  RespondsFrom due [] o = o ≡ []
+  RespondsFrom due (p ∷ ps) o = (y : List ℕ) × (z : List ℕ) × (o ≡ y ++ z) × Responds due p y × RespondsFrom (next_due due p) ps z
 
   -- The bytes due in reply to the payloads of a conversation.
   abbrev pub Sent : List Payload → List ℕ → Type 0
-  Sent ps o = OwesFrom Hello ps o
+  Sent ps o = RespondsFrom Hello ps o
 
 -- The payloads that have been taken from a connection that is read up to this offset.
 pub record Taken (limit : ℕ) (names : Names) (b : List ℕ) (at : ℕ) (payloads : List Payload) : Type 0 where
   pub reading : Reading limit names b
   pub payloads_are : payloads ≡ reading.payloads
-  pub at_is : (at ≡ length reading.front) ⊎ EndsLog limit names (due_behind reading.payloads) reading.events (length reading.front) reading.id reading.rest at
+  pub at_is : (at ≡ length reading.front) ⊎ EndsLog limit names (due_after reading.payloads) reading.events (length reading.front) reading.id reading.rest at
 
 -- The bytes are those that a replica with these settings must send in reply to the payloads that the connection has
 -- taken.

@@ -14,8 +14,8 @@ use Rattle.replica.specs.declared.phase.Phase.{Phase}
 use Rattle.replica.specs.declared.phase.Phase.TheVariants as phase
 use Rattle.replica.specs.declared.session.Session.{Session}
 use Rattle.replica.specs.Settings.{Settings}
-use Rattle.replica.specs.Stream.{Payload, Due, Hello, Reply, SecondReply, QueryReply, InDump, Reading, due_behind}
-use Rattle.replica.specs.Conn.{Took, Conn, BreaksStore}
+use Rattle.replica.specs.Stream.{Payload, Due, Hello, Reply, SecondReply, QueryReply, InDump, Reading, due_after}
+use Rattle.replica.specs.Conn.{HasApplied, Conn, BreaksStore}
 use Rattle.replica.specs.Sent.{Sent, SentFor}
 
 -- the message that a session expects before the dump
@@ -44,9 +44,9 @@ pub record GoesOn (settings : Settings) (assembly : ReaderState) (gatherer : Gat
   pub id : assembly.due ≡ reading.id
   pub reads : assembly.ended ≡ false
   pub unfinished : IsUnfinished reading.id settings.limit assembly.held
-  pub awaits : due_of waits ≡ due_behind reading.payloads
+  pub awaits : due_of waits ≡ due_after reading.payloads
   pub gathers : Gathers reading.events reading.deliveries gatherer
-  pub took : Took names old reading.deliveries (due_behind reading.payloads) applied now
+  pub took : HasApplied names old reading.deliveries (due_after reading.payloads) applied now
   pub sent : Sent settings old.executed reading.payloads all
   pub store : is ≡ was
   pub kept : was ≡ true → now ≡ old
@@ -74,9 +74,9 @@ pub record HasPayload (settings : Settings) (assembly : ReaderState) (gatherer :
   pub limit : assembly.limit ≡ settings.limit
   pub held : assembly.held ≡ []
   pub reads : assembly.ended ≡ false
-  pub awaits : due_of waits ≡ due_behind reading.payloads
+  pub awaits : due_of waits ≡ due_after reading.payloads
   pub gathers : Gathers reading.events reading.deliveries gatherer
-  pub took : Took names old reading.deliveries (due_behind reading.payloads) applied now
+  pub took : HasApplied names old reading.deliveries (due_after reading.payloads) applied now
   pub sent : Sent settings old.executed reading.payloads all
   pub store : is ≡ was
   pub kept : was ≡ true → now ≡ old

@@ -48,8 +48,8 @@ due_from due [] = due
 due_from due (p ∷ ps) = due_from (next_due due p) ps
 
 -- the message that is expected after these payloads
-abbrev pub due_behind : List Payload → Due
-due_behind ps = due_from Hello ps
+abbrev pub due_after : List Payload → Due
+due_after ps = due_from Hello ps
 
 abbrev pub IsInDump : Due → Type 0
 IsInDump Hello = ⊥
@@ -79,9 +79,9 @@ Answers names InDump p es = (e : EventValue) × Carries names p e × (es ≡ e �
 abbrev pub Talks : ℕ → Names → Due → ℕ → List Payload → List ℕ → List EventValue → ℕ → Type 0
 Talks limit names due id [] x es last = (x ≡ []) × (es ≡ []) × (last ≡ id)
 Talks limit names due id (p ∷ ps) x es last =
-    (y : List ℕ) × (z : List ℕ) × (first : List EventValue) × (others : List EventValue) × (behind : ℕ)
-    × (x ≡ y ++ z) × (es ≡ first ++ others) × IsWholePayload id limit y p behind × Answers names due p first
-    × Talks limit names (next_due due p) (next_id due p behind) ps z others last
+    (y : List ℕ) × (z : List ℕ) × (first : List EventValue) × (others : List EventValue) × (after : ℕ)
+    × (x ≡ y ++ z) × (es ≡ first ++ others) × IsWholePayload id limit y p after × Answers names due p first
+    × Talks limit names (next_due due p) (next_id due p after) ps z others last
 
 -- x is a prefix of a conversation, of fewer than 2 ^ 64 bytes, with these payloads. They have these events, which are
 -- lawful and have these transactions.

@@ -27,7 +27,7 @@ use Rattle.replica.specs.Settings.{Settings}
 use Rattle.replica.specs.Stream.{Payload, Due, QueryReply, InDump, Answers, Carries}
 use Rattle.replica.specs.End.{Denies}
 use Rattle.replica.specs.Conn.{IsDumpTooLong}
-use Rattle.replica.specs.Sent.{Owes, IsPacked, flags_of}
+use Rattle.replica.specs.Sent.{Responds, IsPacked, flags_of}
 
 -- The packing of the payload from the sequence id was appended.
 pub record Sends (id : ℕ) (p : Payload) (old new : List ℕ) : Type 0 where
@@ -38,7 +38,7 @@ pub record Sends (id : ℕ) (p : Payload) (old new : List ℕ) : Type 0 where
 -- The bytes due in reply to the message were appended.
 pub record Replies (settings : Settings) (executed : Ids) (due : Due) (p : Payload) (old new : List ℕ) : Type 0 where
   pub bytes : List ℕ
-  pub is_due : Owes settings executed due p bytes
+  pub is_due : Responds settings executed due p bytes
   pub appended : new ≡ old ++ bytes
 
 -- The message before the dump is the expected one, and the bytes due in reply to it were appended.
@@ -71,11 +71,11 @@ pub record AsksFor (settings : Settings) (executed : Ids) (old new : List ℕ) :
   pub sends : Sends 0 (dump_bytes (record { flags = flags_of settings.once; server_id = settings.server_id; set = set }) [] (little_bytes 8 4)) old new
 
 -- The reason for a refusal of a message, or that memory ran out.
-abbrev pub IsToldOf : Option Refusal → Reason → Type 0
-IsToldOf refusal Memory = Unit {0}
-IsToldOf refusal (SourceError code state message) = refusal ≡ Some (server_error code state message.items)
-IsToldOf refusal (Greet f) = IsOfMessage f × Refuses refusal f
-IsToldOf refusal _ = ⊥
+abbrev pub IsReportOf : Option Refusal → Reason → Type 0
+IsReportOf refusal Memory = Unit {0}
+IsReportOf refusal (SourceError code state message) = refusal ≡ Some (server_error code state message.items)
+IsReportOf refusal (Greet f) = IsOfMessage f × Refuses refusal f
+IsReportOf refusal _ = ⊥
 
 -- Why the connection ends at a payload of the dump that does not end a transaction: memory ran out, the log ends, or
 -- what is wrong with the payload.

@@ -7,7 +7,7 @@ ghost use Rattle.store.specs.State.{Content};
 ghost use Rattle.store.specs.Store.{HoldsAs, database, names_of, IsBroken};
 ghost use Rattle.replica.specs.Conn.{IsNoStreamFailure};
 ghost use Rattle.replica.specs.Pieces.{stream_of, streams_of};
-ghost use Rattle.replica.specs.Over.{HasRead, HasTaken};
+ghost use Rattle.replica.specs.Over.{HasRead, HasReadAll};
 
 use crate::config::Config;
 use crate::end::{Ended, Reason};
@@ -66,7 +66,7 @@ pub fn run<S: Alter>(
     // The content of the store afterwards and the ends are those of taking each connection in order, however it was cut
     // into pieces. A crash leaves that content, or that with one more transaction if the database failed.
     ensures history { IfOk result (λ ends. HasCleanDisk (database S.Store store.new) → (was : Bool) (old : Content) → HoldsAs S.Store was old store.old
-        → HasTaken S.Store config.now.limit store.new (database S.Store store.old).now.schema was old (streams_of connections.now) ends.items) }
+        → HasReadAll S.Store config.now.limit store.new (database S.Store store.old).now.schema was old (streams_of connections.now) ends.items) }
     ensures following { names_of S.Store store.new ≡ names_of S.Store store.old }
     // A store that has failed stays as it is.
     ensures broken { IsBroken S.Store store.old → store.new ≡ store.old }

@@ -18,7 +18,7 @@ ghost use Rattle.replica.specs.Conn.{IsNoStreamFailure};
 ghost use Rattle.replica.specs.Event.{TakesEvent};
 
 use crate::end::{Reason, Refusal};
-use crate::message::told;
+use crate::message::reported;
 use binlog::{Event, Follow, read_event_only};
 use gather::{Delivery, GatherFault, Gatherer};
 use greet::read_eof;
@@ -34,7 +34,7 @@ fn no_event(alloc: Global, payload: &[u8]) -> Reason
 {
     match read_eof(alloc, payload) {
         Ok(()) => Reason::SourceEof,
-        Err(fault) => told(fault),
+        Err(fault) => reported(fault),
     }
 }
 
@@ -86,7 +86,7 @@ fn outcome(answer: Result<Applied, StoreFault>) -> Result<bool, Reason>
     }
 }
 
-/// Takes a payload of the dump: reads its event and, if that ends a transaction, applies the transaction to the store.
+/// HasOutcome a payload of the dump: reads its event and, if that ends a transaction, applies the transaction to the store.
 /// Returns whether one was applied.
 pub(crate) fn take_event<S: Alter>(
     alloc: Global,

@@ -12,7 +12,7 @@ ghost use Rattle.gather.specs.Transaction.{change_of};
 ghost use Rattle.scripted_source.specs.Script.{PartValue, ScriptValue};
 ghost use Rattle.scripted_source.specs.Source.{is_once};
 ghost use Rattle.store.specs.State.{Content};
-ghost use Rattle.store.specs.Take.{Takes, done};
+ghost use Rattle.store.specs.Take.{HasOutcome, done};
 ghost use Rattle.store.specs.Store.{HoldsAs, database, names_of};
 ghost use Rattle.replica.specs.declared.end.Reason.{Reason};
 ghost use Rattle.replica.specs.declared.end.Reason.TheVariants.{EndOfInput, Wire};
@@ -20,9 +20,9 @@ ghost use Rattle.wire.specs.declared.fault.WireFault.TheVariants as wire;
 ghost use Rattle.replica.specs.declared.end.Ended.{Ended};
 ghost use Rattle.replica.specs.Stream.{Reading};
 ghost use Rattle.replica.specs.End.{End};
-ghost use Rattle.replica.specs.Told.{told_of};
-ghost use Rattle.replica.specs.Conn.{Conn, Begun, BreaksStore, IsDumpTooLong, IsOfBytes};
-ghost use Rattle.replica.specs.Crash.{IsLeft, LeavesBegun};
+ghost use Rattle.replica.specs.Report.{report_of};
+ghost use Rattle.replica.specs.Conn.{Conn, TakesFirst, BreaksStore, IsDumpTooLong, IsOfBytes};
+ghost use Rattle.replica.specs.Crash.{IsLeft, LeavesFirst};
 ghost use Rattle.replica.specs.Sent.{SentFor};
 ghost use Rattle.replica.specs.Standing.{Stands, end_of};
 ghost use Rattle.replica.specs.Over.{StandsOver};
@@ -52,7 +52,7 @@ pub fn stood(_session: &Session)
         → SentFor _session.now.config names old.executed b (end_of _session.now).at (o ++ _session.now.out.items) }
     // The store holds what the first transactions of the bytes, some number of them, make of what it held.
     ensures state { (names : Names) (was is : Bool) (old now : Content) (b o : List ℕ) → Stands _session.now names was is old now b o
-        → (count : ℕ) × Begun _session.now.config.limit names old b count (end_of _session.now).applied now }
+        → (count : ℕ) × TakesFirst _session.now.config.limit names old b count (end_of _session.now).applied now }
     // An end caused by the bytes is the end of these bytes, except for a dump command that would be too long.
     ensures reason { (names : Names) (was is : Bool) (old now : Content) (b o : List ℕ) → Stands _session.now names was is old now b o → IsOfBytes (end_of _session.now).reason
         → End _session.now.config.limit names b (end_of _session.now).reason (end_of _session.now).at ⊎ (((end_of _session.now).reason ≡ Wire wire.TooLarge) × IsDumpTooLong old.executed) }
@@ -62,14 +62,14 @@ pub fn stood(_session: &Session)
 
 /// What a crash leaves of a connection is what the first of its transactions, some number of them, make of what the
 /// store held: all those that were taken, and at most one more, if the database failed.
-pub fn left_begun()
+pub fn left_transactions()
     ensures { (limit : ℕ) (names : Names) (was : Bool) (old : Content) (b : List ℕ) (new : Content) (end : Ended) (left : Content) → Conn limit names was old b new end
-        → IsLeft limit names old b new end left → LeavesBegun limit names old b new end left }
+        → IsLeft limit names old b new end left → LeavesFirst limit names old b new end left }
 {}
 
 /// Where a connection ends because of its bytes, and what that end reports, is determined by the bytes.
 pub fn one_end()
-    ensures told { (limit : ℕ) (names : Names) (b : List ℕ) (r s : Reason) (at other : ℕ) → AllByRecursion (λ byte. byte < 256) b → End limit names b r at → End limit names b s other → told_of r ≡ told_of s }
+    ensures reported { (limit : ℕ) (names : Names) (b : List ℕ) (r s : Reason) (at other : ℕ) → AllByRecursion (λ byte. byte < 256) b → End limit names b r at → End limit names b s other → report_of r ≡ report_of s }
     ensures at { (limit : ℕ) (names : Names) (b : List ℕ) (r s : Reason) (at other : ℕ) → AllByRecursion (λ byte. byte < 256) b → End limit names b r at → End limit names b s other → at ≡ other }
 {}
 
@@ -86,7 +86,7 @@ pub fn resuming(_opening: &[u8], _answer: &[u8])
     ensures leads { (limit : ℕ) (names : Names) (history : List ScriptValue) (j : ℕ) (held last : Content) (request : List ℕ) → (r : Resumes limit names history j held last request _opening.now _answer.now)
         → Leads limit names held last (_opening.now ++ _answer.now) (transactions names (drop j history)) (end_of_log (is_once r.dump.flags)) }
     ensures cut { (limit : ℕ) (names : Names) (history : List ScriptValue) (j : ℕ) (held last : Content) (request : List ℕ) → (r : Resumes limit names history j held last request _opening.now _answer.now)
-        → (part more : List ℕ) (count applied : ℕ) (new : Content) → _opening.now ++ _answer.now ≡ part ++ more → Begun limit names held part count applied new → Reaches names history (j + count) new }
+        → (part more : List ℕ) (count applied : ℕ) (new : Content) → _opening.now ++ _answer.now ≡ part ++ more → TakesFirst limit names held part count applied new → Reaches names history (j + count) new }
 {
     greet::laws::dumps();
 }
@@ -100,7 +100,7 @@ pub fn stopped_anywhere(_opening: &[u8], _answer: &[u8])
         → (i : ℕ) × Reaches names history (j + i) new × ((left ≡ new) ⊎ Reaches names history (j + (i + 1)) left) }
 {
     resuming(_opening, _answer);
-    left_begun();
+    left_transactions();
 }
 
 /// The transactions of a history, as a connection has them, leave out the changes of tables that are not followed; with
@@ -109,5 +109,5 @@ pub fn stopped_anywhere(_opening: &[u8], _answer: &[u8])
 pub fn filtered()
     ensures all { (part : PartValue) → part_changes set.empty part ≡ map (change_of part.table) part.pairs }
     ensures taken { (names : Names) (script : ScriptValue) (old new : Content) →
-        Takes names old (transaction set.empty script) (done new) ↔ Takes names old (transaction names script) (done new) }
+        HasOutcome names old (transaction set.empty script) (done new) ↔ HasOutcome names old (transaction names script) (done new) }
 {}

@@ -8,7 +8,7 @@ ghost use Rattle.gtid.specs.Identifier.{Ids};
 ghost use Rattle.replica.specs.Stream.{next_due, next_id, Hello, Reply, SecondReply, QueryReply, InDump};
 ghost use Rattle.replica.specs.Conn.{IsNoStreamFailure};
 ghost use Rattle.replica.specs.Standing.{due_at, due_of};
-ghost use Rattle.replica.specs.Turn.{IsAnswered, EndsAt, IsToldOf};
+ghost use Rattle.replica.specs.Turn.{IsAnswered, EndsAt, IsReportOf};
 
 use crate::config::Config;
 use crate::end::Reason;
@@ -18,8 +18,8 @@ use greet::{AuthReply, GreetFault, Greeting, read_ok};
 use gtid::GtidSet;
 
 /// Maps a greet fault to a reason.
-pub(crate) fn told(fault: GreetFault) -> Reason
-    ensures told { (refusal : Option Refusal) → Refuses refusal fault → IsToldOf refusal result }
+pub(crate) fn reported(fault: GreetFault) -> Reason
+    ensures reported { (refusal : Option Refusal) → Refuses refusal fault → IsReportOf refusal result }
     ensures neither { IsNoStreamFailure result }
 {
     match fault {
@@ -37,7 +37,7 @@ pub(crate) fn told(fault: GreetFault) -> Reason
     }
 }
 
-/// Takes the greeting, and returns the phase after it.
+/// HasOutcome the greeting, and returns the phase after it.
 fn take_greeting(config: &Config, payload: &[u8], out: &mut Vec<u8>) -> Result<Phase, Reason>
     ensures ok { (names : Names) (executed : Ids) → OnOk result (IsAnswered config.now names executed Hello payload.now out.old.items out.new.items) }
     ensures due { IfOk result (λ phase. due_of phase ≡ Reply) }
@@ -50,11 +50,11 @@ fn take_greeting(config: &Config, payload: &[u8], out: &mut Vec<u8>) -> Result<P
             log_in(config, &greeting.scramble, out)?;
             Ok(Phase::Login(Login::Reply))
         }
-        Err(fault) => Err(told(fault)),
+        Err(fault) => Err(reported(fault)),
     }
 }
 
-/// Takes the reply to the login, and returns the phase after it.
+/// HasOutcome the reply to the login, and returns the phase after it.
 fn take_reply(config: &Config, payload: &[u8], out: &mut Vec<u8>) -> Result<Phase, Reason>
     ensures ok { (names : Names) (executed : Ids) → OnOk result (IsAnswered config.now names executed Reply payload.now out.old.items out.new.items) }
     ensures due { IfOk result (λ phase. due_of phase ≡ next_due Reply payload.now) }
@@ -71,11 +71,11 @@ fn take_reply(config: &Config, payload: &[u8], out: &mut Vec<u8>) -> Result<Phas
             log_in_again(config, &scramble, out)?;
             Ok(Phase::Login(Login::SecondReply))
         }
-        Err(fault) => Err(told(fault)),
+        Err(fault) => Err(reported(fault)),
     }
 }
 
-/// Takes the reply to the login after a switch, and returns the phase after it.
+/// HasOutcome the reply to the login after a switch, and returns the phase after it.
 fn take_second_reply(config: &Config, payload: &[u8], out: &mut Vec<u8>) -> Result<Phase, Reason>
     ensures ok { (names : Names) (executed : Ids) → OnOk result (IsAnswered config.now names executed SecondReply payload.now out.old.items out.new.items) }
     ensures due { IfOk result (λ phase. due_of phase ≡ QueryReply) }
@@ -88,11 +88,11 @@ fn take_second_reply(config: &Config, payload: &[u8], out: &mut Vec<u8>) -> Resu
             turn_checksums_off(config.alloc(), out)?;
             Ok(Phase::Login(Login::QueryReply))
         }
-        Err(fault) => Err(told(fault)),
+        Err(fault) => Err(reported(fault)),
     }
 }
 
-/// Takes the reply to the query, and returns the phase after it.
+/// HasOutcome the reply to the query, and returns the phase after it.
 fn take_query_reply(
     config: &Config,
     executed: &GtidSet,
@@ -110,11 +110,11 @@ fn take_query_reply(
             ask(config, executed, out)?;
             Ok(Phase::Dump)
         }
-        Err(fault) => Err(told(fault)),
+        Err(fault) => Err(reported(fault)),
     }
 }
 
-/// Takes a message before the dump, and returns the phase after it.
+/// HasOutcome a message before the dump, and returns the phase after it.
 pub(crate) fn answer(
     login: Login,
     config: &Config,

@@ -62,7 +62,7 @@ impl Session {
 
     /// Ends the connection after the payloads taken. The EOF at the end of the log, which ends at `end`, is one of
     /// them.
-    fn end_behind(&mut self, reason: Reason, end: u64)
+    fn end_after(&mut self, reason: Reason, end: u64)
         requires { self.old.at < end }
         ensures config { self.new.config ≡ self.old.config }
         ensures out { self.new.out ≡ self.old.out }
@@ -74,12 +74,12 @@ impl Session {
         self.end(reason);
     }
 
-    /// Takes a message before the dump, which ends at the offset `end`.
+    /// HasOutcome a message before the dump, which ends at the offset `end`.
     fn take_message(&mut self, login: Login, executed: &GtidSet, payload: &[u8], end: u64)
         requires going { self.old.ended ≡ None }
         requires at_login { self.old.phase ≡ phase.Login login }
         requires between { (self.old.assembler.held ≡ []) × (self.old.assembler.ended ≡ false) }
-        requires behind { self.old.at < end }
+        requires after { self.old.at < end }
         ensures config { self.new.config ≡ self.old.config }
         ensures neither { IsNoStreamFailure (end_of self.new).reason }
         ensures further { self.new.ended ≡ None → (self.new.at ≡ end) × (self.new.assembler.held ≡ []) }
@@ -96,12 +96,12 @@ impl Session {
         }
     }
 
-    /// Takes a payload of the dump, which ends at the offset `end`.
+    /// HasOutcome a payload of the dump, which ends at the offset `end`.
     fn take_dump<S: Alter>(&mut self, store: &mut Store<S>, payload: &[u8], end: u64)
         requires going { self.old.ended ≡ None }
         requires in_dump { self.old.phase ≡ phase.Dump }
         requires between { self.old.assembler.held ≡ [] }
-        requires behind { self.old.at < end }
+        requires after { self.old.at < end }
         ensures clean { HasCleanDisk (database S.Store store.new) → HasCleanDisk (database S.Store store.old) }
         ensures following { names_of S.Store store.new ≡ names_of S.Store store.old }
         ensures broken { IsBroken S.Store store.old → store.new ≡ store.old }
@@ -113,11 +113,11 @@ impl Session {
     {
         match take_event(self.config.alloc(), &mut self.gatherer, store, payload) {
             Ok(applied) => self.go_on(end, applied),
-            Err(reason) => self.end_behind(reason, end),
+            Err(reason) => self.end_after(reason, end),
         }
     }
 
-    /// Takes a payload that has come.
+    /// HasOutcome a payload that has come.
     pub(crate) fn take<S: Alter>(&mut self, store: &mut Store<S>, payload: &[u8])
         requires going { self.old.ended ≡ None }
         requires between { (self.old.assembler.held ≡ []) × (self.old.assembler.ended ≡ false) }

@@ -10,7 +10,7 @@ use Rattle.wire.specs.declared.packet.TheConstants.{LARGEST_PAYLOAD}
 use Rattle.wire.proofs.OnePacking.{none_begins}
 use Rattle.wire.proofs.OneReading.{wrong_or_whole, large_or_whole}
 use Rattle.scripted_source.specs.declared.fault.ForgeFault.TheVariants.{Memory}
-use Rattle.scripted_source.specs.Source.{TakesPayload, told_of_packets}
+use Rattle.scripted_source.specs.Source.{TakesPayload, packets_fault}
 
 abbrev start : ℕ → ReaderState
 start id = record { limit = LARGEST_PAYLOAD; due = id; held = []; ended = false }
@@ -39,7 +39,7 @@ not_unfinished s id bytes payload rest is unfinished t =
 
 pub only_memory : (s : ReaderState) (id : ℕ) (bytes payload rest : List ℕ) (fault : WireFault) → s ≡ start id
     → ((want got : ℕ) → fault ≡ wire.Sequence want got → IsOutOfSequence s.due s.limit (s.held ++ bytes) want got)
-    → (fault ≡ wire.TooLarge → IsTooLarge s.due s.limit (s.held ++ bytes)) → (fault ≡ wire.Ended → s.ended ≡ true) → TakesPayload id bytes payload rest → told_of_packets fault ≡ Memory
+    → (fault ≡ wire.TooLarge → IsTooLarge s.due s.limit (s.held ++ bytes)) → (fault ≡ wire.Ended → s.ended ≡ true) → TakesPayload id bytes payload rest → packets_fault fault ≡ Memory
 only_memory s id bytes payload rest (wire.Sequence want got) is sequence large ended t =
     let bad : IsOutOfSequence id LARGEST_PAYLOAD bytes want got = subst (λ (v : ReaderState). IsOutOfSequence v.due v.limit (v.held ++ bytes) want got) is (sequence want got refl) in
     absurd (wrong_or_whole rest (subst (λ l. IsOutOfSequence id LARGEST_PAYLOAD l want got) t.bytes_are bad) t.whole)

@@ -138,10 +138,10 @@ sending_ends id now old out at all parts i over s =
 
 -- ---- A script.
 
-if_appends_behind : {E : Type 0} (r : Result ℕ E) (id : ℕ) (ps qs rs : List Payload) (old a b new : List ℕ) (m n : ℕ) → AppendsPackings id ps old a m → AppendsPackings m qs a b n
+if_appends_after : {E : Type 0} (r : Result ℕ E) (id : ℕ) (ps qs rs : List Payload) (old a b new : List ℕ) (m n : ℕ) → AppendsPackings id ps old a m → AppendsPackings m qs a b n
     → IfOk r (λ k. AppendsPackings n rs b new k) → IfOk r (λ k. AppendsPackings id (ps ++ (qs ++ rs)) old new k)
-if_appends_behind (Ok k) id ps qs rs old a b new m n x y z = appends_more id ps (qs ++ rs) old a new m k x (appends_more m qs rs a b new n k y z)
-if_appends_behind (Err e) id ps qs rs old a b new m n x y z = tt
+if_appends_after (Ok k) id ps qs rs old a b new m n x y z = appends_more id ps (qs ++ rs) old a new m k x (appends_more m qs rs a b new n k y z)
+if_appends_after (Err e) id ps qs rs old a b new m n x y z = tt
 
 pub script_sent : {E : Type 0} (r : Result ℕ E) (id m n : ℕ) (script : ScriptValue) (old a b new : List ℕ)
     → AppendsPackings id (payloads_of (gtid script.source script.number ∷ begin ∷ [])) old a m
@@ -153,7 +153,7 @@ script_sent r id m n script old a b new x y z =
     let end = end_event script.ending script.number in
     let head = payloads_of (gtid script.source script.number ∷ begin ∷ []) in
     subst (λ (l : List Payload). IfOk r (λ next. AppendsPackings id (head ++ l) old new next)) (sym (map-append payload_of parts (end ∷ [])))
-    (if_appends_behind r id head (payloads_of parts) (payloads_of (end ∷ [])) old a b new m n x y z)
+    (if_appends_after r id head (payloads_of parts) (payloads_of (end ∷ [])) old a b new m n x y z)
 
 -- ---- The scripts that are not in a set.
 

@@ -209,14 +209,14 @@ IsAnswerFault history request TooLarge = IsUnsendable history request TooLarge
 IsAnswerFault history request Memory = Unit {0}
 
 -- the fault for a set that cannot be read, or that memory ran out
-abbrev pub told_of_set : GtidFault → ForgeFault
-told_of_set gtid_fault.Memory = Memory
-told_of_set _ = Request
+abbrev pub set_fault : GtidFault → ForgeFault
+set_fault gtid_fault.Memory = Memory
+set_fault _ = Request
 
 -- the fault for bytes that are not packets, or that memory ran out
-abbrev pub told_of_packets : WireFault → ForgeFault
-told_of_packets wire_fault.Memory = Memory
-told_of_packets _ = Request
+abbrev pub packets_fault : WireFault → ForgeFault
+packets_fault wire_fault.Memory = Memory
+packets_fault _ = Request
 
 -- ---- What a replica sends.
 

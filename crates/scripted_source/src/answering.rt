@@ -8,7 +8,7 @@ ghost use Rattle.gtid.specs.Identifier.{Ids};
 ghost use Rattle.gtid.specs.Encoding.{IsEncoding};
 ghost use Rattle.binlog.specs.Event.{format};
 ghost use Rattle.scripted_source.specs.Script.{script_values, script_events};
-ghost use Rattle.scripted_source.specs.Source.{AppendsPackings, told_of_set, payloads_of, end_payloads, Asks, AsksFor, HasRequest, CanSend, due, IsScriptsFault, IsAnswer, IsAnswerFault};
+ghost use Rattle.scripted_source.specs.Source.{AppendsPackings, set_fault, payloads_of, end_payloads, Asks, AsksFor, HasRequest, CanSend, due, IsScriptsFault, IsAnswer, IsAnswerFault};
 ghost use Rattle.scripted_source.specs.declared.fault.ForgeFault.TheVariants.{Request, Memory};
 
 use crate::fault::ForgeFault;
@@ -20,8 +20,8 @@ use gtid::{GtidFault, GtidSet};
 use std::alloc::Global;
 
 /// Maps a fault of reading the set: any is `Request`, except `Memory`.
-fn told_of_set(fault: GtidFault) -> ForgeFault
-    ensures { result ≡ told_of_set fault }
+fn set_fault(fault: GtidFault) -> ForgeFault
+    ensures { result ≡ set_fault fault }
 {
     match fault {
         GtidFault::Memory => ForgeFault::Memory,
@@ -42,7 +42,7 @@ fn read_set(alloc: Global, bytes: &[u8]) -> Result<GtidSet, ForgeFault>
             }
             Ok(set)
         }
-        Err(fault) => Err(told_of_set(fault)),
+        Err(fault) => Err(set_fault(fault)),
     }
 }
 

@@ -4,7 +4,7 @@
 ghost use Rattle.std.specs.Prelude.{◌≡◌, ◌⊎◌, ◌↔◌, List, ℕ, MatchResult, IfOk, IfErr, IsTrue, OnOk, OnErr, Err, ⊤};
 ghost use Rattle.greet.specs.Complete.{HasResponse};
 ghost use Rattle.gtid.specs.Identifier.{Ids};
-ghost use Rattle.scripted_source.specs.Source.{TakesPayload, told_of_packets, checksum_query, IsLastSent, AreLastSent, AreSent};
+ghost use Rattle.scripted_source.specs.Source.{TakesPayload, packets_fault, checksum_query, IsLastSent, AreLastSent, AreSent};
 ghost use Rattle.scripted_source.specs.declared.fault.ForgeFault.TheVariants.{Request, Memory};
 
 use crate::answering::read_request;
@@ -18,8 +18,8 @@ use wire::{Assembler, LARGEST_PAYLOAD, Step, WireFault};
 const CHECKSUM_QUERY: &[u8] = b"\x03SET @master_binlog_checksum='NONE'";
 
 /// Maps a fault of reading packets: any is `Request`, except `Memory`.
-fn told_of_packets(fault: WireFault) -> ForgeFault
-    ensures { result ≡ told_of_packets fault }
+fn packets_fault(fault: WireFault) -> ForgeFault
+    ensures { result ≡ packets_fault fault }
 {
     match fault {
         WireFault::Memory => ForgeFault::Memory,
@@ -44,7 +44,7 @@ fn take(alloc: Global, sequence: u8, bytes: &[u8]) -> Result<(Vec<u8>, &[u8]), F
                 None => Err(ForgeFault::Request),
             }
         }
-        Err(fault) => Err(told_of_packets(fault)),
+        Err(fault) => Err(packets_fault(fault)),
     }
 }
 

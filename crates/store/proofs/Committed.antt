@@ -21,6 +21,7 @@ first_inside g h content rest = record {
   meta_apart = rest.meta_apart;
   held_apart = rest.held_apart;
   stands = rest.stands;
+  sound = rest.sound;
 }
 
 pub rests_unless : (t m n : State) (r : Result (Unit {0}) Error) → t.now ≡ t.committed → KeepsCommit t m → m.in_transaction ≡ true → IfErr r (FailsToCommit m n) → OnErr r (Rests t n)
@@ -28,4 +29,4 @@ rests_unless t m n (Ok u) settled kept inside failed = tt
 rests_unless t m n (Err e) settled kept inside failed = rests_failed t m n e settled kept inside failed
 
 pub may_stand : (names : Names) (content : Content) (m : State) (db : Trees) → HasMade m names content → db ≡ m.now.trees → MayStandFor names content db
-may_stand names content m db made is = record { db = m.now; trees_are = is; stands = made.stands }
+may_stand names content m db made is = record { db = m.now; trees_are = is; stands = made.stands; sound = made.working.sound; spans_apart = made.working.spans_apart }

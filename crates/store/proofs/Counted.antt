@@ -1,5 +1,5 @@
 -- Queries outside a transaction.
-use Rattle.std.proofs.Common.{◌≡◌, inl, inr, ℕ, List, [], ◌∷◌, map, filter, Option, Some, None, Ok, Err, Result, unwrap_or, IfOk, IfErr, OnOk, sym, ap, subst, ◌∙◌}
+use Rattle.std.proofs.Common.{◌≡◌, inl, inr, ℕ, List, [], ◌∷◌, map, filter, Option, Some, None, Ok, Err, Result, unwrap_or, IfOk, IfErr, OnOk, IsTrue, sym, ap, subst, ◌∙◌}
 use Rattle.std.specs.List.Sorted.{IsPermutation}
 use Rattle.sqlite_value.specs.Order.{Row, column}
 use Rattle.sqlite_resolve.specs.declared.compiled.Compiled.{Compiled}
@@ -73,3 +73,7 @@ row_count s names content schema table cells bytes is rest = ap (λ bag. bag (ro
 
 pub rest_unchanged : (old new : State) (names : Names) (content : Content) → IsUnchanged old new → IsAtRest old names content → IsAtRest new names content
 rest_unchanged old new names content same rest = rest_same old new names content same.0.is_open same.0.now_is same.0.committed_is rest
+
+-- a reading that failed
+pub rest_read : (old new : State) (names : Names) (content : Content) → IsAtRest old names content → Rests old new → IsTrue new.is_open → IsAtRest new names content
+rest_read old new names content rest rests is_open = let r = rests is_open in rest_same old new names content is_open r.0 r.1 rest

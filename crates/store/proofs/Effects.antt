@@ -117,6 +117,7 @@ module _ (old new : State) (was : IsWorking old) where
       held_apart = subst HasRowids (sym (rows_new edit h)) shaped;
       spans_apart = subst HasRowids (sym (spans_stay edit h at)) was.spans_apart;
       lawful = subst (AllByRecursion IsHeldRow) (sym (rows_new edit h)) lawful;
+      sound = h.sound;
     };
     schema = h.schema_is ∙ sym was.laid_out.is;
     committed = h.shown.committed_is ∙ ap (λ b. cond b old.committed new.now) was.inside;

@@ -46,18 +46,22 @@ module _ (old mid new : State) (names : Names) (d : DeliveryValue) (content : Co
             refl,
           );
           stands = record {
-            laid_out = on.working.laid_out;
-            says = subst (SaysLayout (pos 2)) (sym on.meta) stands.says;
-            meta = subst (AllByRecursion IsMetaRow) (sym on.meta) stands.meta;
-            follow = subst (λ rows. AreNames rows names) (sym on.follow) stands.follow;
-            held = on.working.lawful;
-            executed = record {
-              spans = done.spans;
-              least = done.shows.least;
-              lawful = gtids_more content.executed (d.source, d.number) stands.executed.lawful is;
-              rows_are = done.shows.rows_are;
+            stands = record {
+              laid_out = on.working.laid_out;
+              says = subst (SaysLayout (pos 2)) (sym on.meta) stands.says;
+              meta = subst (AllByRecursion IsMetaRow) (sym on.meta) stands.meta;
+              follow = subst (λ rows. AreNames rows names) (sym on.follow) stands.follow;
+              held = on.working.lawful;
+              executed = record {
+                spans = done.spans;
+                least = done.shows.least;
+                lawful = gtids_more content.executed (d.source, d.number) stands.executed.lawful is;
+                rows_are = done.shows.rows_are;
+              };
+              rows = refl;
             };
-            rows = refl;
+            sound = on.working.sound;
+            spans_apart = on.working.spans_apart;
           };
         },
       )

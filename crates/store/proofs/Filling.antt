@@ -89,6 +89,7 @@ module _ (s : State) (names : Names) (was : IsNaming names s) where
       held_apart = rw held_is no_rowids;
       spans_apart = rw spans_is no_rowids;
       lawful = rw held_is tt;
+      sound = was.sound;
     };
     stands = record {
       laid_out = new_laid_out;

@@ -1,10 +1,14 @@
 -- What a call inside a transaction keeps.
-use Rattle.std.proofs.Common.{◌⊎◌, inl, inr, ℕ, List, Ok, Err, Result, Some, None, false, IfErr, OnOk, ◌∙◌}
+use Rattle.std.proofs.Common.{◌⊎◌, inl, inr, ℕ, List, Ok, Err, Result, Some, None, false, IfOk, IfErr, OnOk, IsTrue, ◌≡◌, subst, ◌∙◌}
+use Rattle.std.proofs.lemmas.Bool.{cases_Bool}
 use Rattle.sqlite_value.specs.Order.{Row}
 use Rattle.sqlite_resolve.specs.declared.compiled.Compiled.{Compiled}
 use Rattle.sqlite.specs.declared.error.Error.{Error}
-use Rattle.sqlite.specs.State.{State, Survives, KeepsCommit, IsUnchanged, IsRolledBack, IsNotRun, FailsToQuery, FailsToShow, IsTooLate, ExecutesInside, ExecutesIn, CommitsShowing}
+use Rattle.sqlite.specs.State.{State, Survives, KeepsCommit, IsUnchanged, IsRolledBack, IsNotRun, FailsToQuery, FailsToShow, IsTooLate, Shown, ShowsRows, ExecutesInside, ExecutesIn, CommitsShowing}
+use Rattle.sqlite_trees.specs.declared.store.Store.{Ghosts}
+use Rattle.sqlite.specs.Held.{Held, state}
 use Rattle.sqlite.specs.Listing.{understood}
+use Rattle.store.specs.Inside.{WasOpen}
 use Rattle.sqlite.proofs.Callers.{IsPlain, never_commits}
 use Rattle.sqlite.proofs.StateLemmas.{survives_then}
 
@@ -65,3 +69,35 @@ query_survives sql params old new plain s = record {
   closes = s.closes;
   crash = λ clean db left. elim (s.crash clean db left) [ inl was ↦ inl was | inr made ↦ absurd (never_commits sql params old db plain made) ];
 }
+
+-- ---- a connection that is open was open
+
+open_showing : (old new : State) (sql : List ℕ) (c : Compiled) (params : Row) (rows : List Row) (r : _) → ShowsRows old new sql c params rows r → IsTrue old.is_open
+open_showing old new sql c params rows None h = h.3.0.was_open
+open_showing old new sql c params rows (Some what) h = h.1.shown.was_open
+
+-- a query that answers found the connection open
+pub open_shown : (sql : List ℕ) (params : Row) (old new : State) (rows : List Row) → Shown sql params old new rows → IsTrue old.is_open
+unfolding Shown
+open_shown sql params old new rows h = open_showing old new sql h.0 _ rows h.0.returning h.2
+
+pub live_query : {X : Type 0} (items : X → List Row) (sql : List ℕ) (params : Row) (old new : State) (r : Result X Error) → IfOk r (λ x. Shown sql params old new (items x)) → OnOk r (IsTrue old.is_open)
+live_query items sql params old new (Ok x) ok = open_shown sql params old new (items x) ok
+live_query items sql params old new (Err e) ok = tt
+
+pub opened_shown : {X : Type 0} (items : X → List Row) (sql : List ℕ) (params : Row) (old new : State) (r : Result X Error) → IfOk r (λ x. Shown sql params old new (items x))
+    → IfErr r (λ e. FailsToQuery sql params old new e ⊎ IsTooLate sql params old new e) → WasOpen old new
+opened_shown items sql params old new (Ok x) ok err is_open = open_shown sql params old new (items x) ok
+opened_shown items sql params old new (Err e) ok err is_open = (kept_failed sql params old new e err).was_open is_open
+
+pub opened_query : {X : Type 0} (items : X → List Row) (sql : List ℕ) (params : Row) (old new : State) (r : Result X Error) → IfOk r (λ x. Shown sql params old new (items x))
+    → IfErr r (FailsToQuery sql params old new) → WasOpen old new
+opened_query items sql params old new (Ok x) ok err is_open = open_shown sql params old new (items x) ok
+opened_query items sql params old new (Err e) ok err is_open = (kept_failed sql params old new e (inl err)).was_open is_open
+
+pub opened_executed : {S : Type 0} {P : Type 0} (g : Ghosts S) (h k : Held S) (sql : List ℕ) (params : Row) (r : Result ℕ Error) → (h.in_transaction ≡ false → P × (k ≡ h))
+    → (IsTrue h.in_transaction → ExecutesInside 0 sql params (state g h) (state g k) r) → WasOpen (state g h) (state g k)
+opened_executed {S = S} g h k sql params r ended runs is_open = elim (cases_Bool h.in_transaction) [
+  | inl inside ↦ (kept_executed 0 sql params (state g h) (state g k) r (runs inside)).was_open is_open
+  | inr out ↦ subst (λ (x : Held S). IsTrue (state g x).is_open) (ended out).1 is_open
+]

@@ -1,5 +1,5 @@
 -- Which tables a known schema has, and one reading after another.
-use Rattle.std.proofs.Common.{◌≡◌, ℤ, Bool, true, false, ◌||◌, Result, Ok, Err, IfOk, IfErr, arith, refl, sym, ap, subst, ◌∙◌}
+use Rattle.std.proofs.Common.{◌≡◌, ℤ, pos, Bool, true, false, ◌||◌, Result, Ok, Err, IfOk, IfErr, arith, refl, sym, ap, subst, ◌∙◌}
 use Rattle.std.proofs.lemmas.Bool.{false≢true, true≢false, and_parts}
 use Rattle.sqlite_trees.specs.Tree.{Trees}
 use Rattle.sqlite_schema.specs.declared.schema.Schema.{Schema}
@@ -21,8 +21,11 @@ use Rattle.store.proofs.Entered.{rests_after}
 
 -- ---- known schemas
 
-none_meta : (tables_of no_schema).meta ≡ false
+pub none_meta : (tables_of no_schema).meta ≡ false
 none_meta = refl
+
+pub none_any : has_any (tables_of no_schema) ≡ false
+none_any = refl
 
 none_first : has_first (tables_of no_schema) ≡ false
 none_first = refl
@@ -34,30 +37,30 @@ first_second : has_second (tables_of first_layout) ≡ false
 unfolding same_name
 first_second = refl
 
-pub meta_first : (schema : Schema) → IsKnown schema → (tables_of schema).meta ≡ true → IsMetaFirst schema
-meta_first schema (blank is) there = absurd (false≢true (sym none_meta ∙ ap (λ s. (tables_of s).meta) (sym is) ∙ there))
-meta_first schema (first is) there = first_meta_first schema is
-meta_first schema (second laid none) there = laid_meta_first schema laid
-meta_first schema (lacking meta one two) there = meta
+pub meta_first : (db : Stored) → IsKnown db → (tables_of db.schema).meta ≡ true → IsMetaFirst db.schema
+meta_first db (blank is) there = absurd (false≢true (sym none_meta ∙ ap (λ s. (tables_of s).meta) (sym is) ∙ there))
+meta_first db (first is) there = first_meta_first db.schema is
+meta_first db (second laid none) there = laid_meta_first db.schema laid
+meta_first db (lacking meta one two) there = meta
 
-pub known_first : (schema : Schema) → IsKnown schema → has_first (tables_of schema) ≡ true → schema ≡ first_layout
-known_first schema (blank is) there = absurd (false≢true (sym none_first ∙ ap (λ s. has_first (tables_of s)) (sym is) ∙ there))
-known_first schema (first is) there = is
-known_first schema (second laid none) there = absurd (false≢true (sym none ∙ (and_parts _ _ there).0))
-known_first schema (lacking meta one two) there = absurd (false≢true (sym one ∙ there))
+pub known_first : (db : Stored) → IsKnown db → SaysLayout (pos 1) (first_meta_rows db) → has_first (tables_of db.schema) ≡ true → db.schema ≡ first_layout
+known_first db (blank is) says there = absurd (false≢true (sym none_first ∙ ap (λ s. has_first (tables_of s)) (sym is) ∙ there))
+known_first db (first is) says there = is
+known_first db (second laid none) says there = absurd (none (and_parts _ _ there).0 says)
+known_first db (lacking meta one two) says there = absurd (false≢true (sym (one says) ∙ there))
 
-pub known_second : (schema : Schema) → IsKnown schema → has_second (tables_of schema) ≡ true → IsLaidOut schema
-known_second schema (blank is) there = absurd (false≢true (sym none_second ∙ ap (λ s. has_second (tables_of s)) (sym is) ∙ there))
-known_second schema (first is) there = absurd (false≢true (sym first_second ∙ ap (λ s. has_second (tables_of s)) (sym is) ∙ there))
-known_second schema (second laid none) there = laid
-known_second schema (lacking meta one two) there = absurd (false≢true (sym two ∙ there))
+pub known_second : (db : Stored) → IsKnown db → SaysLayout (pos 2) (first_meta_rows db) → has_second (tables_of db.schema) ≡ true → IsLaidOut db.schema
+known_second db (blank is) says there = absurd (false≢true (sym none_second ∙ ap (λ s. has_second (tables_of s)) (sym is) ∙ there))
+known_second db (first is) says there = absurd (false≢true (sym first_second ∙ ap (λ s. has_second (tables_of s)) (sym is) ∙ there))
+known_second db (second laid none) says there = laid
+known_second db (lacking meta one two) says there = absurd (false≢true (sym (two says) ∙ there))
 
 -- ---- one reading after another
 pub ready_after : (old mid : State) → IsUnchanged old mid → IsReady old → IsReady mid
 ready_after old mid same ready = record {
   is_open = same.0.is_open;
   settled = same.0.now_is ∙ ready.settled ∙ sym same.0.committed_is;
-  known = subst (λ (db : Stored). IsKnown db.schema) (sym same.0.now_is) ready.known;
+  known = subst IsKnown (sym same.0.now_is) ready.known;
 }
 
 module _ (any : Bool) (only : Names) (old mid new : State) (same : IsUnchanged old mid) where
@@ -108,7 +111,7 @@ laid_after_second old mid same laid = subst (λ (db : Stored). IsLaidOut db.sche
 pub says_after : (n : ℤ) (old mid : State) → IsUnchanged old mid → SaysLayout n (first_meta_rows old.now) → SaysLayout n (first_meta_rows mid.now)
 says_after n old mid same says = subst (λ (db : Stored). SaysLayout n (first_meta_rows db)) (sym same.0.now_is) says
 
-meta_there : (schema : Schema) → IsMetaFirst schema → (tables_of schema).meta ≡ true
+pub meta_there : (schema : Schema) → IsMetaFirst schema → (tables_of schema).meta ≡ true
 unfolding same_name
 meta_there schema m = ap (λ s. (tables_of s).meta) m.is
 
@@ -118,8 +121,11 @@ any_there t is = ap (λ b. b || (t.executed || (t.held || (t.spans || t.follow))
 no_meta_first : (schema : Schema) → has_any (tables_of schema) ≡ false → IsMetaFirst schema → ⊥
 no_meta_first schema none m = true≢false (sym (any_there (tables_of schema) (meta_there schema m)) ∙ none)
 
-pub known_none : (schema : Schema) → IsKnown schema → has_any (tables_of schema) ≡ false → schema ≡ no_schema
-known_none schema (blank is) none = is
-known_none schema (first is) none = absurd (no_meta_first schema none (first_meta_first schema is))
-known_none schema (second laid other) none = absurd (no_meta_first schema none (laid_meta_first schema laid))
-known_none schema (lacking meta one two) none = absurd (no_meta_first schema none meta)
+pub known_none : (db : Stored) → IsKnown db → has_any (tables_of db.schema) ≡ false → db.schema ≡ no_schema
+known_none db (blank is) none = is
+known_none db (first is) none = absurd (no_meta_first db.schema none (first_meta_first db.schema is))
+known_none db (second laid other) none = absurd (no_meta_first db.schema none (laid_meta_first db.schema laid))
+known_none db (lacking meta one two) none = absurd (no_meta_first db.schema none meta)
+
+pub meta_after : (old mid : State) → IsUnchanged old mid → (tables_of old.now.schema).meta ≡ true → (tables_of mid.now.schema).meta ≡ true
+meta_after old mid same there = ap (λ (db : Stored). (tables_of db.schema).meta) same.0.now_is ∙ there

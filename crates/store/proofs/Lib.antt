@@ -38,3 +38,9 @@ pub mod Entered
 pub mod Lives
 pub mod Known
 pub mod Listings
+pub mod SameSchema
+pub mod OneState
+pub mod Reopened
+pub mod Ordered
+pub mod Ascending
+pub mod Keyed

@@ -1,23 +1,18 @@
 -- The rows of held in order, and the rows that a list hands out.
-use Rattle.std.proofs.Common.{◌≡◌, ◌⊎◌, inl, inr, ℕ, suc, ◌+◌, ◌<◌, ◌≤◌, pos, true, false, List, [], ◌∷◌, ◌++◌, map, drop, length, get_or, codes, Option, Some, None, Err, refl, sym, ap, subst, ◌∙◌, arith}
+use Rattle.std.proofs.Common.{◌≡◌, ◌⊎◌, inl, inr, ℕ, ◌+◌, ◌<◌, ◌≤◌, pos, true, false, List, [], ◌∷◌, ◌++◌, map, drop, length, get_or, codes, Option, Some, None, Err, refl, sym, ap, subst, ◌∙◌, arith}
 use Rattle.std.specs.List.{AllByRecursion, sum_by}
 use Rattle.std.specs.List.Sorted.{IsPermutation, IsStrictlySortedBy}
-use Rattle.std.specs.Cmp.{IsTotalOrder, on_total}
 use Rattle.std.specs.declared.cmp.Ordering.TheVariants.{Less, Equal}
 use Rattle.std.proofs.lemmas.Bool.{cases_Bool, and_parts, and_from, false_from_ne_true}
-use Rattle.std.proofs.lemmas.Cmp.{then_total, nat_list_cmp_total, tied_itself}
-use Rattle.std.proofs.Math.Seq.{drop-cons}
+use Rattle.std.proofs.lemmas.Cmp.{tied_itself}
 use Rattle.std.proofs.lemmas.List.{at_drop_all, at_drop_more}
 use Rattle.std.proofs.lemmas.List.Sorted.{sum_by-IsPermutation}
 use Rattle.std.proofs.lemmas.List.Sums.{sum_by-cons}
 use Rattle.std.proofs.lemmas.Slice.Eq.{bytes_eq-Decides}
 use Rattle.sqlite_trees.proofs.ListLemmas.{all-permutation}
-use Rattle.sqlite_value.specs.declared.keys.Collation.TheVariants.{Binary}
 use Rattle.sqlite_value.specs.declared.value.Value.{Value}
 use Rattle.sqlite_value.specs.declared.value.Value.TheVariants.{Int, Blob}
-use Rattle.sqlite_value.specs.Keys.{ascending}
 use Rattle.sqlite_value.specs.Order.{Row, column}
-use Rattle.sqlite_sql.specs.Term.{col}
 use Rattle.sqlite_tied.specs.Compute.{everything}
 use Rattle.sqlite_schema.specs.declared.schema.Table.{Table}
 use Rattle.sqlite_schema.specs.declared.schema.Index.{Index}
@@ -32,44 +27,49 @@ use Rattle.store.specs.declared.fault.StoreFault.{StoreFault}
 use Rattle.store.specs.declared.fault.StoreFault.TheVariants.{NoSuchRow, CountFull, Database, Memory, Damaged, Layout, Broken, Follows}
 use Rattle.store.specs.declared.listing.List.{List as Listing}
 use Rattle.store.specs.State.{TableRow, row_of, Bag, has_image}
-use Rattle.store.specs.Layout.{Origin, made, migrated, layout, held_at, held_tree, IsLaidOut, tree_at}
+use Rattle.store.specs.Layout.{Origin, made, migrated, layout, held_at, IsLaidOut, tree_at}
 use Rattle.store.specs.Load.{AsksAll}
 use Rattle.store.specs.Rows.{Key, key_for, IsHeldRow, is_at, share, count, bag_of, blob_in, number_in}
 use Rattle.store.specs.Listing.{Entry, key_cmp, row_cmp, entry_rows, AreRows, shown_entry, without_rowids, IsToCome, Gives, Hands, listed_text, HasKey, KeysRise}
 use Rattle.store.proofs.Bags.{image_has, has_its_image}
+use Rattle.sqlite_rules.specs.Lists.{Has}
+use Rattle.sqlite_schema.specs.declared.command.Command.TheVariants.{Select}
+use Rattle.sqlite.specs.Listing.{reads_listing}
+use Rattle.sqlite.proofs.Callers.{IsPlain, command_of}
+use Rattle.store.specs.Load.{whole}
+use Rattle.store.proofs.Keyed.{key_total}
+use Rattle.store.proofs.Ordered.{key_order}
 use Rattle.store.proofs.Steps.{first_step}
 
 -- ---- What the text means.
 
-listed_laid : (o : Origin) (others : List Table) (indexes : List Index) (views : List View) → AsksAll (layout o others indexes views) listed_text (held_tree o)
+listed_is : (o : Origin) (others : List Table) (indexes : List Index) (views : List View)
+    → (command_of (understood (layout o others indexes views) listed_text) ≡ Select (record { lets = []; body = whole (tree_at (layout o others indexes views) 1) 5 key_order }) (codes "rowid" ∷ codes "schema_name" ∷ codes "table_name" ∷ codes "image" ∷ codes "n" ∷ []))
+    × IsPlain (understood (layout o others indexes views) listed_text) × (reads_listing (layout o others indexes views) listed_text ≡ false)
 unfolding understood everything
-listed_laid made others indexes views = record {
-  table = held_at made;
-  there = inr (inl refl);
-  tree_is = refl;
-  rowid_apart = refl;
-  filled = refl;
-  order = (col 1 1, ascending Binary) ∷ (col 1 2, ascending Binary) ∷ (col 1 3, ascending Binary) ∷ [];
-  names = codes "rowid" ∷ codes "schema_name" ∷ codes "table_name" ∷ codes "image" ∷ codes "n" ∷ [];
-  is = refl;
-  plain = (refl, refl);
-  elsewhere = refl;
-}
-listed_laid migrated others indexes views = record {
-  table = held_at migrated;
-  there = inr (inl refl);
-  tree_is = refl;
-  rowid_apart = refl;
-  filled = refl;
-  order = (col 1 1, ascending Binary) ∷ (col 1 2, ascending Binary) ∷ (col 1 3, ascending Binary) ∷ [];
-  names = codes "rowid" ∷ codes "schema_name" ∷ codes "table_name" ∷ codes "image" ∷ codes "n" ∷ [];
-  is = refl;
-  plain = (refl, refl);
-  elsewhere = refl;
-}
+listed_is made others indexes views = (refl, (refl, refl), refl)
+listed_is migrated others indexes views = (refl, (refl, refl), refl)
 
 pub listed_asks : (schema : Schema) (l : IsLaidOut schema) → AsksAll schema listed_text (tree_at schema 1)
-listed_asks schema l = subst (λ s. AsksAll s listed_text (tree_at s 1)) (sym l.is) (listed_laid l.origin l.others l.indexes l.views)
+listed_asks schema l =
+    let it = listed_is l.origin l.others l.indexes l.views in
+    let names = codes "rowid" ∷ codes "schema_name" ∷ codes "table_name" ∷ codes "image" ∷ codes "n" ∷ [] in
+    record {
+      table = held_at l.origin;
+      there = subst (λ (s : Schema). Has s.tables (held_at l.origin)) (sym l.is) (inr (inl refl));
+      tree_is = sym (ap (λ s. tree_at s 1) l.is);
+      rowid_apart = refl;
+      filled = refl;
+      order = key_order;
+      names = names;
+      is = subst (λ s. command_of (understood s listed_text) ≡ Select (record { lets = []; body = whole (tree_at s 1) 5 key_order }) names) (sym l.is) it.0;
+      plain = subst (λ s. IsPlain (understood s listed_text)) (sym l.is) it.1;
+      elsewhere = subst (λ s. reads_listing s listed_text ≡ false) (sym l.is) it.2;
+    }
+
+pub listed_order : (schema : Schema) (l : IsLaidOut schema) → (listed_asks schema l).order ≡ key_order
+unfolding listed_asks
+listed_order schema l = refl
 
 pub listed_survives : (old new : State) → IsLaidOut old.now.schema → Survives old new (λ _. (tree : ℕ) → ¬ AsksAll old.now.schema listed_text tree) → Survives old new (λ _. ⊥)
 listed_survives old new l s = first_step old new listed_text (tree_at old.now.schema 1) (listed_asks old.now.schema l) s
@@ -103,13 +103,6 @@ given_entry row e key n cells a b has counts is a_is b_is same lawful =
     let c_e : cells ≡ e.0.cells = one_list cells e.0.cells key.image is (record { has_image = lawful; bytes_are = ap (λ (x : Key). x.image) k }) in
     let n_e : n ≡ e.1 = ap number_in (sym counts ∙ s.1) in
     λ i. (record { schema = a_e i; table = b_e i; cells = c_e i }, n_e i)
-
--- ---- A row that does not have a key.
-
-pub no_key_at : (last : Option Key) (rows : List Row) (i : ℕ) (row : Row) → i < length rows → row ≡ get_or rows i row → ((key : Key) → ¬ HasKey key row) → ¬ KeysRise last (drop i rows)
-no_key_at last rows i row less is none rise =
-    let here : KeysRise last (row ∷ drop (suc i) rows) = subst (λ r. KeysRise last (r ∷ drop (suc i) rows)) (sym is) (subst (KeysRise last) (drop-cons rows i row less) rise) in
-    none here.0 here.1
 
 -- ---- The next entry.
 
@@ -154,9 +147,6 @@ module _ (l : Listing) where
   refused Follows e entries gives come = absurd gives
 
 -- ---- The entries of the rows of held.
-
-key_total : IsTotalOrder key_cmp
-key_total = then_total (on_total (λ (k : Key). k.schema) nat_list_cmp_total) (then_total (on_total (λ (k : Key). k.table) nat_list_cmp_total) (on_total (λ (k : Key). k.image) nat_list_cmp_total))
 
 not_below : (a b : Key) → a ≡ b → key_cmp a b ≡ Less → ⊥
 not_below a b same less =
@@ -263,15 +253,15 @@ all_counted last (row ∷ rows) h rise =
 
 -- ---- Each row of the bag is among them.
 
-split : (P : Entry → Type 0) (before : List Entry) (e : Entry) (behind : List Entry) → AllByRecursion P (before ++ e ∷ behind) → P e
-split P [] e behind all = all.0
-split P (x ∷ before) e behind all = split P before e behind all.1
+split : (P : Entry → Type 0) (before : List Entry) (e : Entry) (after : List Entry) → AllByRecursion P (before ++ e ∷ after) → P e
+split P [] e after all = all.0
+split P (x ∷ before) e after all = split P before e after all.1
 
 pub record IsThere (r : TableRow) (entries : List Entry) : Type 0 where
   pub before : List Entry
   pub n : ℕ
-  pub behind : List Entry
-  pub is : entries ≡ before ++ (r, n) ∷ behind
+  pub after : List Entry
+  pub is : entries ≡ before ++ (r, n) ∷ after
 
 one_row : (a b : TableRow) → HasImage a.cells → HasImage b.cells → key_for a ≡ key_for b → a ≡ b
 one_row a b a_has b_has same =
@@ -283,11 +273,11 @@ one_row a b a_has b_has same =
 there : (r : TableRow) (rows : List Row) (h : AllByRecursion IsHeldRow rows) → HasImage r.cells → 1 ≤ count rows (key_for r) → IsThere r (entries_in rows h)
 there r [] h has some = absurd (omega (arith, some))
 there r (row ∷ rows) h has some = elim (cases_Bool (is_at (key_for r) row)) [
-  | inl at ↦ let same : (entry_in row h.0).0 ≡ r = one_row (entry_in row h.0).0 r h.0.6.is_image.has_image has (at_same (key_for r) (key_for (entry_in row h.0).0) row (has_key row h.0) at) in record { before = []; n = h.0.2; behind = entries_in rows h.1; is = ap (λ x. (x, h.0.2) ∷ entries_in rows h.1) same }
+  | inl at ↦ let same : (entry_in row h.0).0 ≡ r = one_row (entry_in row h.0).0 r h.0.6.is_image.has_image has (at_same (key_for r) (key_for (entry_in row h.0).0) row (has_key row h.0) at) in record { before = []; n = h.0.2; after = entries_in rows h.1; is = ap (λ x. (x, h.0.2) ∷ entries_in rows h.1) same }
   | inr off ↦
       let none : share (key_for r) row ≡ 0 = no_share (key_for r) row off in
       let rest = there r rows h.1 has (omega (arith, none, some)) in
-      record { before = entry_in row h.0 ∷ rest.before; n = rest.n; behind = rest.behind; is = ap (λ es. entry_in row h.0 ∷ es) rest.is }
+      record { before = entry_in row h.0 ∷ rest.before; n = rest.n; after = rest.after; is = ap (λ es. entry_in row h.0 ∷ es) rest.is }
 ]
 
 -- ---- Together.
@@ -332,8 +322,8 @@ module _ (held rows : List Row) (bag : Bag) (is : bag ≡ bag_of (count held)) (
           counted = counted;
           all = λ r some.
               let t = there r rows h (has r some) (subst (λ n. 1 ≤ n) (bag_is r (has r some)) some) in
-              let n : t.n ≡ bag r = (split (λ (e : Entry). (e.1 ≡ bag e.0) × (1 ≤ e.1)) t.before (r, t.n) t.behind (subst (AllByRecursion (λ (e : Entry). (e.1 ≡ bag e.0) × (1 ≤ e.1))) t.is counted)).0 in
-              (t.before, t.behind, t.is ∙ ap (λ m. t.before ++ (r, m) ∷ t.behind) n);
+              let n : t.n ≡ bag r = (split (λ (e : Entry). (e.1 ≡ bag e.0) × (1 ≤ e.1)) t.before (r, t.n) t.after (subst (AllByRecursion (λ (e : Entry). (e.1 ≡ bag e.0) × (1 ≤ e.1))) t.is counted)).0 in
+              (t.before, t.after, t.is ∙ ap (λ m. t.before ++ (r, m) ∷ t.after) n);
         };
         shown = all_shown rows h;
         images = all_lawful rows h;

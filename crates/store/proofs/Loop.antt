@@ -1,8 +1,8 @@
 -- The loop over the changes.
-use Rattle.std.proofs.Common.{◌≡◌, ◌+◌, ◌<◌, ◌≤◌, ℕ, List, [], ◌∷◌, ◌++◌, take, get_or, length, slice_get, Some, None, refl, sym, ap, subst, ◌∙◌, add-one}
+use Rattle.std.proofs.Common.{◌≡◌, ◌+◌, ◌<◌, ℕ, List, [], ◌∷◌, ◌++◌, take, get_or, length, slice_get, Some, None, refl, sym, ap, subst, ◌∙◌, add-one}
 use Rattle.std.proofs.Math.Seq.{take-suc}
 use Rattle.std.proofs.Math.ListN.{get_or-map}
-use Rattle.std.proofs.lemmas.List.{length-map, take_all}
+use Rattle.std.proofs.lemmas.List.{length-map}
 use Rattle.std.proofs.lemmas.Option.{slice_get-get_or}
 use Rattle.sqlite.specs.State.{State}
 use Rattle.binlog.specs.Filter.{Names}
@@ -13,7 +13,7 @@ use Rattle.store.specs.declared.row_change.Refusal.{Refusal}
 use Rattle.store.specs.State.{Bag}
 use Rattle.store.specs.Take.{IsDone, AreDone}
 use Rattle.store.specs.Rows.{bag_of, count, held_rows}
-use Rattle.store.specs.Inside.{IsWorking, Goes, Does, DoesAll}
+use Rattle.store.specs.Inside.{Does, DoesAll}
 use Rattle.store.proofs.Bags.{goes_after}
 
 done_last : (names : Names) (changes : List ChangeValue) (change : ChangeValue) (old mid new : Bag) → AreDone names changes old mid → IsDone names change mid new → AreDone names (changes ++ change ∷ []) old new

@@ -4,7 +4,7 @@ use Rattle.std.specs.List.{AllByRecursion}
 use Rattle.std.proofs.lemmas.Bool.{lt-ltb}
 use Rattle.std.proofs.lemmas.Bool.Decides.{nat_tests}
 use Rattle.sqlite_value.specs.Order.{Row}
-use Rattle.sqlite.specs.Effect.{Database}
+use Rattle.sqlite.specs.Effect.{Database, IsDatabase}
 use Rattle.sqlite.specs.State.{State, IsUnchanged}
 use Rattle.store.specs.declared.row_change.Refusal.TheVariants.{NoSuchRow, CountFull}
 use Rattle.store.specs.Layout.{IsLaidOut}
@@ -21,6 +21,7 @@ working_same old mid h was = record {
   held_apart = subst (λ (d : Database). HasRowids (held_rows d)) (sym h.0.now_is) was.held_apart;
   spans_apart = subst (λ (d : Database). HasRowids (span_rows d)) (sym h.0.now_is) was.spans_apart;
   lawful = subst (λ (d : Database). AllByRecursion IsHeldRow (held_rows d)) (sym h.0.now_is) was.lawful;
+  sound = subst IsDatabase (sym h.0.now_is) was.sound;
 }
 
 pub goes_since : (old mid new : State) → IsUnchanged old mid → GoesOn mid new → GoesOn old new

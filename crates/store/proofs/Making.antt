@@ -122,6 +122,7 @@ marks old new count was h =
       held = ap (λ (t : Trees). t 2) same ∙ sourced.tables.1.0 (λ e. absurd (omega arith)) ∙ was.empty.1.0;
       spans = ap (λ (t : Trees). t 4) same ∙ sourced.tables.1.1.0 (λ e. absurd (omega arith)) ∙ was.empty.1.1.0;
       follow = rw follow_is (record { lawful = tt; names_are = refl });
+      sound = w.sound;
     }
 
 pub done_layout : (old new : State) (r : Result ℕ Error) → IsMaking new_layout old → ExecutesInside 0 layout_text [] old new r → OnOk r (IsNaming set.empty new)
@@ -179,6 +180,7 @@ names_one old new names name count was h =
       held = ap (λ (t : Trees). t 2) same ∙ sourced.tables.1.0 (λ e. absurd (omega arith)) ∙ was.held;
       spans = ap (λ (t : Trees). t 4) same ∙ sourced.tables.1.1.0 (λ e. absurd (omega arith)) ∙ was.spans;
       follow = rw follow_is (named_put (db 6) names name free was.follow);
+      sound = w.sound;
     }
 
 pub done_name : (old new : State) (names : Names) (name : Name) (r : Result ℕ Error) → IsNaming names old → ExecutesInside 0 add_name_text (Blob name.0 ∷ Blob name.1 ∷ []) old new r → OnOk r (IsNaming (set.insert names name) new)

@@ -64,6 +64,7 @@ first_begun content s was = record {
   held = was.stands.rules.held;
   rows = was.stands.rows;
   lawful = subst AreGtids (sym was.stands.executed) (lawful_rows _ was.stands.rules.executed);
+  sound = was.sound;
 }
 
 -- ---- the database
@@ -89,6 +90,7 @@ module _ (content : Content) (s : State) (was : IsMigrating migrated_layout (pos
     held_apart = rw (rows_at 1) was.held_apart;
     spans_apart = rw spans_none no_rowids;
     lawful = rw (rows_at 1) was.held;
+    sound = was.sound;
   }
 
   module _ (new : State) (spans : List Span) (least : IsLeastList spans content.executed) (h : HasLeft s new spans []) where

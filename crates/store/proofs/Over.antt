@@ -6,7 +6,7 @@ use Rattle.sqlite_rules.proofs.ListLemmas.{all_has}
 use Rattle.gtid.specs.Identifier.{Ids}
 use Rattle.gtid.specs.Span.{IsLeastList}
 use Rattle.gtid.specs.declared.span.Span.{Span}
-use Rattle.store.specs.Inside.{EndsBefore, BeginsBehind}
+use Rattle.store.specs.Inside.{EndsBefore, BeginsAfter}
 use Rattle.store.specs.Rows.{span, AreLeast}
 use Rattle.store.proofs.SameSpans.{same_spans}
 use Rattle.store.proofs.SortedSpans.{sorted_are}
@@ -33,6 +33,6 @@ module _ (ids : Ids) (sorted spans : List Span) (is : IsLeastList sorted ids) (l
   ends_before source n None all = passed (EndsElse source n) all
   ends_before source n (Some lo) has = still (span source lo n) has
 
-  pub begins_behind : (source : List ℕ) (n : ℕ) (found : Option ℕ) → BeginsBehind source n sorted found → BeginsBehind source n spans found
-  begins_behind source n None all = passed (BeginsElse source (n + 1)) all
-  begins_behind source n (Some hi) has = still (span source (n + 1) hi) has
+  pub begins_after : (source : List ℕ) (n : ℕ) (found : Option ℕ) → BeginsAfter source n sorted found → BeginsAfter source n spans found
+  begins_after source n None all = passed (BeginsElse source (n + 1)) all
+  begins_after source n (Some hi) has = still (span source (n + 1) hi) has

@@ -4,7 +4,7 @@ use Rattle.std.specs.Result.{IsErr}
 use Rattle.sqlite_trees.specs.declared.store.Store as store
 use Rattle.sqlite_trees.specs.Tree.{Trees}
 use Rattle.sqlite.specs.declared.error.Error.{Error}
-use Rattle.sqlite.specs.Effect.{Database}
+use Rattle.sqlite.specs.Effect.{Database, IsDatabase}
 use Rattle.sqlite.specs.State.{State, KeepsCommit, IsRolledBack, Shows}
 use Rattle.sqlite.specs.Steps.{FailsToCommit}
 use Rattle.sqlite.specs.Held.{Held, state}
@@ -14,7 +14,7 @@ use Rattle.store.specs.declared.row_change.Refusal.{Refusal}
 use Rattle.store.specs.State.{Content}
 use Rattle.store.specs.Rows.{StandsFor, HasRowids, held_rows, span_rows}
 use Rattle.store.specs.Inside.{IsWorking, GoesOn}
-use Rattle.store.specs.Apply.{IsApplied, IsAtRest, Rests, HasTaken, Runs, MayCommit}
+use Rattle.store.specs.Apply.{IsApplied, IsAtRest, Rests, HasApplied, Runs, MayCommit}
 
 pub begun_working : {S : Type 0} (g : store.Ghosts S) (h : Held S) (names : Names) (content : Content) → IsAtRest (state g h) names content → IsWorking (state g (record h { in_transaction = true }))
 begun_working g h names content rest = record {
@@ -24,6 +24,7 @@ begun_working g h names content rest = record {
   held_apart = rest.held_apart;
   spans_apart = rest.spans_apart;
   lawful = rest.stands.held;
+  sound = rest.sound;
 }
 
 -- ---- given up
@@ -45,7 +46,7 @@ module _ (names : Names) (content : Content) (d : DeliveryValue) where
 
   -- ---- taken
 
-  pub has_taken : (t m n : State) → GoesOn t m × IsApplied names content d m.now.schema m.now.trees → Shows m n m.now m.now false → HasTaken names content d n × (n.now.schema ≡ t.now.schema)
+  pub has_taken : (t m n : State) → GoesOn t m × IsApplied names content d m.now.schema m.now.trees → Shows m n m.now m.now false → HasApplied names content d n × (n.now.schema ≡ t.now.schema)
   has_taken t m n it h = (
     record {
       after = it.1.after;
@@ -55,7 +56,8 @@ module _ (names : Names) (content : Content) (d : DeliveryValue) where
         settled = h.now_is ∙ sym h.committed_is;
         held_apart = subst (λ (db : Database). HasRowids (held_rows db)) (sym h.now_is) it.0.working.held_apart;
         spans_apart = subst (λ (db : Database). HasRowids (span_rows db)) (sym h.now_is) it.0.working.spans_apart;
-        stands = subst (λ (db : Database). StandsFor db names it.1.after) (sym h.now_is) it.1.stands;
+        stands = subst (λ (db : Database). StandsFor db names it.1.after) (sym h.now_is) it.1.stands.stands;
+        sound = subst IsDatabase (sym h.now_is) it.0.working.sound;
       };
     },
     ap (λ (db : Database). db.schema) h.now_is ∙ it.0.schema,

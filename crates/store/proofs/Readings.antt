@@ -1,5 +1,5 @@
 -- What a query for a whole table answers.
-use Rattle.std.proofs.Common.{◌≡◌, ◌<◌, ◌≤◌, ◌+◌, inl, inr, ℕ, suc, zero, List, [], ◌∷◌, map, flat_map, length, drop, Bool, true, false, not, ◌&&◌, ◌||◌, cond, None, Ok, Err, Result, IfOk, OnOk, IfErr, refl, sym, ap, subst, ◌∙◌, arith}
+use Rattle.std.proofs.Common.{◌≡◌, ◌<◌, ◌≤◌, ◌+◌, inl, inr, ℕ, suc, zero, List, [], ◌∷◌, map, flat_map, length, drop, Bool, true, false, not, ◌&&◌, ◌||◌, cond, None, Ok, Err, Result, IfOk, OnOk, IfErr, refl, sym, ap, subst, subst₂, ◌∙◌, arith}
 use Rattle.std.specs.List.{AllByRecursion}
 use Rattle.std.specs.Prelude.{unwrap_or}
 use Rattle.std.specs.List.Sorted.{IsPermutation}
@@ -9,7 +9,10 @@ use Rattle.sqlite_value.specs.declared.value.Value.TheVariants.{Null}
 use Rattle.sqlite_value.specs.declared.keys.Key.{Key}
 use Rattle.sqlite_value.specs.Order.{Row, column}
 use Rattle.sqlite_sql.specs.Term.{Term, eval_all}
-use Rattle.sqlite_sql.specs.Query.{IsAnswerAs, output, Output}
+use Rattle.sqlite_sql.specs.Query.{IsAnswerAs, output, Output, output_cmp, key_cmp}
+use Rattle.std.specs.Ordering.{is_lt}
+use Rattle.sqlite_trees.proofs.ListLemmas.{all-permutation}
+use Rattle.store.proofs.Ascending.{AscendsBy, ascends_of}
 use Rattle.sqlite_sql.specs.Program.{overlay}
 use Rattle.sqlite_schema.specs.declared.schema.Column.{Column}
 use Rattle.sqlite_schema.specs.declared.schema.Constraint.TheVariants.{Datatype, NotNull}
@@ -17,13 +20,17 @@ use Rattle.sqlite_schema.specs.declared.command.Command.TheVariants.{Select}
 use Rattle.sqlite_schema.specs.Rules.{are_typed, are_present}
 use Rattle.sqlite_sql.specs.Ops.{is_null}
 use Rattle.sqlite_rules.proofs.ListLemmas.{all_has}
+use Rattle.sqlite_rules.specs.Lists.{Has}
+use Rattle.sqlite_schema.specs.declared.schema.Table.{Table}
+use Rattle.sqlite_schema.specs.declared.schema.Schema.{Schema}
+use Rattle.sqlite_catalog.specs.Listing.{IsSound}
 use Rattle.sqlite_trees.specs.Tree.{Trees}
 use Rattle.sqlite.specs.declared.error.Error.{Error}
 use Rattle.sqlite.specs.Effect.{IsDatabase}
 use Rattle.sqlite.specs.State.{State, IsLive, Shown, IsUnchanged, IsRolledBack, IsNotRun, FailsToQuery, Survives, CommitsShowing}
 use Rattle.sqlite.specs.Given.{IsPlain}
 use Rattle.sqlite.proofs.Callers.{reads_as, never_commits}
-use Rattle.store.specs.Load.{AsksAll, IsFilled, columns_from, whole, Rested}
+use Rattle.store.specs.Load.{AsksAll, IsFilled, columns_from, whole, Rested, Ascends, by_order}
 use Rattle.store.specs.Apply.{Rests}
 use Rattle.store.proofs.Statements.{unchanged}
 use Rattle.store.proofs.Keeps.{kept_query}
@@ -56,9 +63,9 @@ no_shorter at [] row filled h = absurd filled
 no_shorter at (c ∷ []) row filled h = let there = not_past row (at + 1) (subst (λ b. (not b || not (is_null (column row (at + 1)))) ≡ true) filled (and_left _ _ h)) in omega arith
 no_shorter at (c ∷ d ∷ cs) row filled h = let more = no_shorter (at + 1) (d ∷ cs) row filled (and_right _ _ h) in omega arith
 
-behind : (row : Row) (n : ℕ) → n < length row → length (drop 1 row) ≤ n → length row ≡ n + 1
-behind [] n long short = absurd (omega arith)
-behind (v ∷ row) n long short = omega arith
+after : (row : Row) (n : ℕ) → n < length row → length (drop 1 row) ≤ n → length row ≡ n + 1
+after [] n long short = absurd (omega arith)
+after (v ∷ row) n long short = omega arith
 
 -- ---- What is shown of a row.
 
@@ -95,23 +102,55 @@ whole_answers tree width order db lost params rows a =
     ap (map (λ (o : Output). o.1)) kept ∙ map_twice (output q) (λ (o : Output). o.1) _ ∙ map_twice _ _ (db tree) in
     subst (IsPermutation (map (λ r. eval_all (columns_from 0 width) (params ∷ r ∷ [])) (db tree))) (sym a.shown) (subst (λ l. IsPermutation l (map (λ (o : Output). o.1) a.ordered)) first same)
 
+-- the rows of an answer are in its order
+module _ (width : ℕ) (order : List (Term × Key)) where
+  abbrev IsOwn : Output → Type 0
+  IsOwn o = o.0 ≡ eval_all (map (λ (k : Term × Key). k.0) order) ([] ∷ o.1 ∷ [])
+
+  each_own : (tree : ℕ) (rows : List Row) → AllByRecursion (λ row. length row ≡ width) rows → AllByRecursion IsOwn (map (output (whole tree width order)) (map (λ r. [] ∷ r ∷ []) rows))
+  each_own tree [] all = tt
+  each_own tree (r ∷ rows) all = (
+    ap (λ (x : Row). eval_all (map (λ (k : Term × Key). k.0) order) ([] ∷ x ∷ [])) (sym (ap (λ k. eval_all (columns_from 0 k) ([] ∷ r ∷ [])) (sym all.0) ∙ shown_whole [] r)),
+    each_own tree rows all.1,
+  )
+
+  shown_ascend : (tree : ℕ) (os : List Output) → AllByRecursion IsOwn os → AscendsBy (output_cmp (whole tree width order)) os → Ascends (by_order order) (map (λ (o : Output). o.1) os)
+  shown_ascend tree [] own h = tt
+  shown_ascend tree (o ∷ []) own h = tt
+  shown_ascend tree (o ∷ p ∷ os) own h = (
+    subst₂ (λ x y. is_lt (key_cmp 0 (map (λ (k : Term × Key). k.1) order) x y) ≡ false) own.1.0 own.0 h.0,
+    shown_ascend tree (p ∷ os) own.1 h.1,
+  )
+
+  pub whole_ascends : (tree : ℕ) (db : Trees) (lost : Value) (rows : List Row) → AllByRecursion (λ row. length row ≡ width) (db tree) → IsAnswerAs lost (whole tree width order) db [] rows → Ascends (by_order order) rows
+  whole_ascends tree db lost rows long a =
+      let q = whole tree width order in
+      let staged : a.staged ≡ map (λ r. [] ∷ r ∷ []) (db tree) = a.grouped ∙ each_matched [] (db tree) in
+      let kept : a.kept ≡ map (output q) (map (λ r. [] ∷ r ∷ []) (db tree)) = a.distinct ∙ ap (map (output q)) staged in
+      let own : AllByRecursion IsOwn a.ordered = all-permutation IsOwn a.kept a.ordered a.same (subst (AllByRecursion IsOwn) (sym kept) (each_own tree (db tree) long)) in
+      subst (Ascends (by_order order)) (sym a.shown) (shown_ascend tree a.ordered own (ascends_of (output_cmp q) a.ordered a.sorted))
+
 nothing_given : (b : Bool) (x : List Row) → unwrap_or (cond b None None) x ≡ x
 nothing_given true x = refl
 nothing_given false x = refl
 
+-- the rows of a table have as many values as there are columns
+pub row_lengths : (schema : Schema) (db : Trees) (table : Table) → Has schema.tables table → table.key ≡ None → IsFilled table.columns → IsSound schema db
+    → AllByRecursion (λ row. length row ≡ suc (length table.columns)) (db table.tree)
+row_lengths schema db table there apart filled sound = go (db table.tree)
+    (all_has _ schema.tables table (sound.obeys.rules Datatype) there) (all_has _ schema.tables table (sound.obeys.rules NotNull) there)
+  where
+    go : (rows : List Row) → AllByRecursion (λ row. Rattle.sqlite_schema.specs.Rules.passes Datatype schema db table row ≡ true) rows
+        → AllByRecursion (λ row. Rattle.sqlite_schema.specs.Rules.passes NotNull schema db table row ≡ true) rows → AllByRecursion (λ row. length row ≡ suc (length table.columns)) rows
+    go [] typed present = tt
+    go (row ∷ rows) typed present =
+        let low = no_shorter 0 table.columns row filled (subst (λ k. are_present k 0 table.columns row ≡ true) apart present.0) in
+        let high = no_longer 0 table.columns (drop 1 row) (subst (λ k. are_typed k 0 table.columns (drop 1 row) ≡ true) apart (and_left _ _ typed.0)) in
+        (after row (length table.columns) (omega (arith, low)) high ∙ (omega arith), go rows typed.1 present.1)
+
 module _ (sql : List ℕ) (tree : ℕ) (old new : State) (asks : AsksAll old.now.schema sql tree) where
-  -- the rows of the table have as many values as there are columns
   lengths : IsDatabase old.now → AllByRecursion (λ row. length row ≡ suc (length asks.table.columns)) (old.now.trees asks.table.tree)
-  lengths sound = go (old.now.trees asks.table.tree)
-      (all_has _ old.now.schema.tables asks.table (sound.obeys.rules Datatype) asks.there) (all_has _ old.now.schema.tables asks.table (sound.obeys.rules NotNull) asks.there)
-    where
-      go : (rows : List Row) → AllByRecursion (λ row. Rattle.sqlite_schema.specs.Rules.passes Datatype old.now.schema old.now.trees asks.table row ≡ true) rows
-          → AllByRecursion (λ row. Rattle.sqlite_schema.specs.Rules.passes NotNull old.now.schema old.now.trees asks.table row ≡ true) rows → AllByRecursion (λ row. length row ≡ suc (length asks.table.columns)) rows
-      go [] typed present = tt
-      go (row ∷ rows) typed present =
-          let low = no_shorter 0 asks.table.columns row asks.filled (subst (λ k. are_present k 0 asks.table.columns row ≡ true) asks.rowid_apart present.0) in
-          let high = no_longer 0 asks.table.columns (drop 1 row) (subst (λ k. are_typed k 0 asks.table.columns (drop 1 row) ≡ true) asks.rowid_apart (and_left _ _ typed.0)) in
-          (behind row (length asks.table.columns) (omega (arith, low)) high ∙ (omega arith), go rows typed.1 present.1)
+  lengths sound = row_lengths old.now.schema old.now.trees asks.table asks.there asks.rowid_apart asks.filled sound
 
   no_tables : (t : ℕ) → overlay old.now.trees [] t ≡ old.now.trees t
   no_tables t = nothing_given _ (old.now.trees t)
@@ -124,6 +163,15 @@ module _ (sql : List ℕ) (tree : ℕ) (old new : State) (asks : AsksAll old.now
       let answered = whole_answers tree width asks.order (overlay old.now.trees []) Null [] (items x) (got.answer Null) in
       subst (λ l. IsPermutation l (items x)) (ap (map (λ (r : Row). eval_all (columns_from 0 width) ([] ∷ r ∷ []))) (no_tables tree) ∙ all_shown [] width (old.now.trees tree) (subst (λ t. AllByRecursion (λ (row : Row). length row ≡ width) (old.now.trees t)) asks.tree_is (lengths sound))) answered
   all_rows items (Err e) live same shown = shown
+
+  pub all_ascend : {X : Type 0} (items : X → List Row) (r : Result X Error) → IsLive old → OnOk r (IsUnchanged old new) → IfOk r (λ x. Shown sql [] old new (items x)) → IfOk r (λ x. Ascends (by_order asks.order) (items x))
+  all_ascend items (Ok x) live same shown =
+      let width = suc (length asks.table.columns) in
+      let sound = (live same.0.was_open).0 in
+      let got = reads_as sql [] old new old.now.schema refl (Select _ _) asks.is asks.plain asks.elsewhere (items x) shown in
+      let long : AllByRecursion (λ (row : Row). length row ≡ width) (overlay old.now.trees [] tree) = subst (AllByRecursion (λ (row : Row). length row ≡ width)) (sym (no_tables tree)) (subst (λ t. AllByRecursion (λ (row : Row). length row ≡ width) (old.now.trees t)) asks.tree_is (lengths sound)) in
+      whole_ascends width asks.order tree (overlay old.now.trees []) Null (items x) long (got.answer Null)
+  all_ascend items (Err e) live same shown = shown
 
   pub all_same : {X : Type 0} (items : X → List Row) (r : Result X Error) → IfOk r (λ x. Shown sql [] old new (items x)) → OnOk r (IsUnchanged old new)
   all_same items (Ok x) shown = unchanged sql [] old new (items x) old.now.schema refl asks.plain shown

@@ -102,6 +102,7 @@ module _ (old new : State) (was : IsWorking old) where
       held_apart = subst HasRowids (sym (held_stays edit h at)) was.held_apart;
       spans_apart = subst HasRowids (sym (rows_new edit h)) shaped;
       lawful = subst (AllByRecursion IsHeldRow) (sym (held_stays edit h at)) was.lawful;
+      sound = h.sound;
     };
     schema = h.schema_is ∙ sym was.laid_out.is;
     committed = h.shown.committed_is ∙ ap (λ b. cond b old.committed new.now) was.inside;

@@ -163,14 +163,14 @@ clear_before source n (t ∷ spans) out none =
       clear_before source n spans p.1 none.1,
     )
 
-pub clear_behind : (source : List ℕ) (n : ℕ) (spans : List Span) → AllByRecursion (λ t. is_in (source, n) t ≡ false) spans → AllByRecursion (λ t. source ≡ t.source → t.lo ≢ n + 1) spans → AllByRecursion (IsClear source (n + 1) (n + 1)) spans
-clear_behind source n [] out none = tt
-clear_behind source n (t ∷ spans) out none = (
+pub clear_after : (source : List ℕ) (n : ℕ) (spans : List Span) → AllByRecursion (λ t. is_in (source, n) t ≡ false) spans → AllByRecursion (λ t. source ≡ t.source → t.lo ≢ n + 1) spans → AllByRecursion (IsClear source (n + 1) (n + 1)) spans
+clear_after source n [] out none = tt
+clear_after source n (t ∷ spans) out none = (
   λ same. elim (below_or_above source n t out.0 same) [
     | inl below ↦ inl (omega (arith, below))
     | inr above ↦ inr (let other : t.lo ≢ n + 1 = none.0 same in omega (arith, above, other))
   ],
-  clear_behind source n spans out.1 none.1,
+  clear_after source n spans out.1 none.1,
 )
 
 -- ---- one span for both parts and the number
@@ -187,13 +187,13 @@ gathered true false false r w rest is = ap (λ x. x || rest) is
 module _ (source : List ℕ) (lo n hi : ℕ) (ids : Ids) (spans middle rest : List Span) (low : lo ≤ n) (high : n + 1 ≤ hi) (covers : Covers spans ids)
     (one : Split source lo n spans middle) (two : Split source (n + 1) hi middle rest) where
   clear_both : (left : List Span) → AllByRecursion IsSome left → AllByRecursion (IsClear source lo n) left → AllByRecursion (IsClear source (n + 1) hi) left → AllByRecursion (IsClear source lo hi) left
-  clear_both [] some before behind = tt
-  clear_both (t ∷ left) some before behind = (
+  clear_both [] some before beyond = tt
+  clear_both (t ∷ left) some before beyond = (
     λ same. elim (before.0 same) [
       | inl below ↦ inl below
-      | inr above ↦ elim (behind.0 same) [ inl under ↦ absurd (omega (arith, above, under, some.0)) | inr over ↦ inr over ]
+      | inr above ↦ elim (beyond.0 same) [ inl under ↦ absurd (omega (arith, above, under, some.0)) | inr over ↦ inr over ]
     ],
-    clear_both left some.1 before.1 behind.1,
+    clear_both left some.1 before.1 beyond.1,
   )
 
   pub joined : AreLeast (span source lo hi ∷ rest) (set.insert ids (source, n))

@@ -19,11 +19,11 @@ use Rattle.gtid.specs.Span.{is_in}
 use Rattle.gtid.specs.Identifier.{Ids}
 use Rattle.gtid.specs.declared.span.Span.{Span}
 use Rattle.store.specs.Rows.{span_rows, span, stored_span, shown_spans, begins_at, touches, AreLeast}
-use Rattle.store.specs.Inside.{Moves, Remains, EndsBefore, BeginsBehind, Records}
+use Rattle.store.specs.Inside.{Moves, Remains, EndsBefore, BeginsAfter, Records}
 use Rattle.store.proofs.Effects.{own_bytes, own_id}
 use Rattle.store.proofs.Made.{goes_then}
 use Rattle.store.proofs.RowLemmas.{equal_is}
-use Rattle.store.proofs.SpanLists.{IsSome, IsClear, Split, removed, untouched, clear_before, clear_behind, each_out, joined, nowhere}
+use Rattle.store.proofs.SpanLists.{IsSome, IsClear, Split, removed, untouched, clear_before, clear_after, each_out, joined, nowhere}
 
 pub all_bytes : (bytes : List ℕ) → ((i : ℕ) → get_or bytes i 0 < 256) → AllByRecursion (λ b. b < 256) bytes
 all_bytes [] h = tt
@@ -91,22 +91,22 @@ step_before source n ids (Some lo) spans least out has =
     record { low = omega (arith, long); step = one_out source lo n spans has least.some least.apart }
 
 -- where the span ends, and what is left without the one after the number
-pub record Behind (source : List ℕ) (n : ℕ) (o : Option ℕ) (spans : List Span) : Type 1 where
+pub record After (source : List ℕ) (n : ℕ) (o : Option ℕ) (spans : List Span) : Type 1 where
   pub high : n + 1 ≤ unwrap_or o (n + 1)
   pub step : Step source (n + 1) (unwrap_or o (n + 1)) (n + 1) (is_some o) spans
 
-pub step_behind : (source : List ℕ) (n lo : ℕ) (ids : Ids) (o : Option ℕ) (spans middle : List Span) → AreLeast spans ids → set.contains ids (source, n) ≡ false → BeginsBehind source n spans o
-    → Split source lo n spans middle → Behind source n o middle
-step_behind source n lo ids None spans middle least out begins one = record {
+pub step_after : (source : List ℕ) (n lo : ℕ) (ids : Ids) (o : Option ℕ) (spans middle : List Span) → AreLeast spans ids → set.contains ids (source, n) ≡ false → BeginsAfter source n spans o
+    → Split source lo n spans middle → After source n o middle
+step_after source n lo ids None spans middle least out begins one = record {
   high = omega arith;
   step = record {
     rest = middle;
     leaves = λ rows same. same;
     split = untouched source (n + 1) middle one.some one.apart
-        (clear_behind source n middle (one.kept (λ t. is_in (source, n) t ≡ false) (each_out (source, n) spans (nowhere (source, n) ids spans least.covers out))) (one.kept (λ t. source ≡ t.source → t.lo ≢ n + 1) begins));
+        (clear_after source n middle (one.kept (λ t. is_in (source, n) t ≡ false) (each_out (source, n) spans (nowhere (source, n) ids spans least.covers out))) (one.kept (λ t. source ≡ t.source → t.lo ≢ n + 1) begins));
   };
 }
-step_behind source n lo ids (Some hi) spans middle least out begins one =
+step_after source n lo ids (Some hi) spans middle least out begins one =
     let long : n + 1 < hi = all_has IsSome spans (span source (n + 1) hi) least.some begins in
     let has : Has middle (span source (n + 1) hi) = elim (one.still (span source (n + 1) hi) begins) [
       | inl same ↦ absurd (omega (arith, same.1, long))
@@ -125,12 +125,12 @@ moves_put a b c d middle rest new (Ok n) first second third = record {
 moves_put a b c d middle rest new (Err e) first second third = tt
 
 module _ (source : List ℕ) (n : ℕ) (ids : Ids) (spans : List Span) (before after : Option ℕ) (least : AreLeast spans ids) (out : set.contains ids (source, n) ≡ false)
-    (ends : EndsBefore source n spans before) (begins : BeginsBehind source n spans after) where
+    (ends : EndsBefore source n spans before) (begins : BeginsAfter source n spans after) where
   pub one : Before source n before spans
   one = step_before source n ids before spans least out ends
 
-  pub two : Behind source n after one.step.rest
-  two = step_behind source n (unwrap_or before n) ids after spans one.step.rest least out begins one.step.split
+  pub two : After source n after one.step.rest
+  two = step_after source n (unwrap_or before n) ids after spans one.step.rest least out begins one.step.split
 
   pub recorded : (a d : State) (r : Result ℕ Error) → OnOk r (Moves a d (stored_span (span source (unwrap_or before n) (unwrap_or after (n + 1))) ∷ map stored_span two.step.rest)) → OnOk r (Records a d (set.insert ids (source, n)))
   recorded a d (Ok k) moved = record {

@@ -78,7 +78,7 @@ not_apart : (spans : List Span) → apart_from None spans ≡ false → IsDistin
 not_apart [] h up = absurd (cc)
 not_apart (a ∷ spans) h up = touching a spans h up
 
-bytes_flip : (a b : List ℕ) → bytes_eq a b ≡ bytes_eq b a
+pub bytes_flip : (a b : List ℕ) → bytes_eq a b ≡ bytes_eq b a
 bytes_flip a b = elim (cases_Bool (bytes_eq a b)) [
   | inl one ↦ one ∙ sym ((bytes_eq-Decides b a).1 (sym ((bytes_eq-Decides a b).0 one)))
   | inr off ↦ off ∙ sym (false_from_ne_true _ (λ back. let one = (bytes_eq-Decides a b).1 (sym ((bytes_eq-Decides b a).0 back)) in cc))
@@ -106,7 +106,7 @@ set_covers spans sorted rules (Err e) same ok err = subst (λ f. Judges {X = Ids
 
 -- ---- Rows of spans.
 
-lawful_rows : (rows : List Row) → AllByRecursion IsSpanRow rows → AllByRecursion IsLawfulSpan (map span_in rows)
+pub lawful_rows : (rows : List Row) → AllByRecursion IsSpanRow rows → AllByRecursion IsLawfulSpan (map span_in rows)
 lawful_rows [] all = tt
 lawful_rows (row ∷ rows) all =
     let it = all.0 in
@@ -146,18 +146,18 @@ are_gtids (row ∷ rows) all q h =
       | inr off ↦ are_gtids rows all.1 q (rw off at h)
     ]
 
+-- rows that keep the rules are the least intervals of the set that they cover
+pub spans_are : (rows : List Row) (ids : Ids) → AllByRecursion IsSpanRow rows → IsDistinct touches (map span_in rows) → Covers (map span_in rows) ids → AreSpans rows ids
+spans_are rows ids all up c = record {
+  spans = map span_in rows;
+  least = record { some = some_spans _ (lawful_rows rows all); apart = up; covers = c };
+  lawful = λ q there. are_gtids rows all q (sym (c q) ∙ there);
+  rows_are = subst (λ l. IsPermutation l (shown_spans rows)) (sym (shown_rows rows all)) (IsPermutation-refl (shown_spans rows));
+}
+
 pub spans_judged : (rows : List Row) (spans : List Span) (r : Result Ids StoreFault) → AllByRecursion IsSpanRow rows → HasRowids rows → spans ≡ map span_in rows → OnOk r (IsDistinct touches spans)
     → Judges r (Covers spans) (IsDistinct touches spans) → Judges r (λ ids. AreSpans rows ids × HasRowids rows) (AllByRecursion IsSpanRow rows × IsDistinct touches (map span_in rows))
-spans_judged rows spans (Ok ids) all rowids is up covers =
-    let c : Covers (map span_in rows) ids = subst (λ l. Covers l ids) is covers in (
-      record {
-        spans = map span_in rows;
-        least = record { some = some_spans _ (lawful_rows rows all); apart = subst (IsDistinct touches) is up; covers = c };
-        lawful = λ q there. are_gtids rows all q (sym (c q) ∙ there);
-        rows_are = subst (λ l. IsPermutation l (shown_spans rows)) (sym (shown_rows rows all)) (IsPermutation-refl (shown_spans rows));
-      },
-      rowids,
-    )
+spans_judged rows spans (Ok ids) all rowids is up covers = (spans_are rows ids all (subst (IsDistinct touches) is up) (subst (λ l. Covers l ids) is covers), rowids)
 spans_judged rows spans (Err Damaged) all rowids is up off = λ rules. off (subst (IsDistinct touches) (sym is) rules.1)
 spans_judged rows spans (Err Memory) all rowids is up h = tt
 spans_judged rows spans (Err (Database e)) all rowids is up h = tt

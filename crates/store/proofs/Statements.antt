@@ -21,7 +21,7 @@ use Rattle.sqlite_rules.specs.Cast.{cast}
 use Rattle.sqlite_rules.specs.Edit.{Edit, edit_of, taken_by, Applies}
 use Rattle.sqlite_rules.specs.declared.error.Rowids.TheVariants.{Chosen, Given}
 use Rattle.sqlite.specs.declared.error.Error.{Error}
-use Rattle.sqlite.specs.Effect.{Database}
+use Rattle.sqlite.specs.Effect.{Database, IsDatabase}
 use Rattle.sqlite.specs.Rows.{Written}
 use Rattle.sqlite.specs.Does.{Tally, Does}
 use Rattle.sqlite.specs.Listing.{understood}
@@ -65,6 +65,7 @@ pub record Applied (schema : Schema) (old new : State) (edit : Edit) : Type 0 wh
   pub step : Applies schema Enforced old.now.trees edit new.now.trees
   pub schema_is : new.now.schema ≡ schema
   pub shown : Shows old new new.now (cond old.in_transaction old.committed new.now) old.in_transaction
+  pub sound : IsDatabase new.now
 
 module _ (o : Origin) (others : List Table) (indexes : List Index) (views : List View) where
   abbrev schema : Schema
@@ -109,6 +110,7 @@ module _ (o : Origin) (others : List Table) (indexes : List Index) (views : List
           step = subst (Applies (layout o others indexes views) Enforced db (edit_of db (held_at o) [] Chosen 0 ((Null ∷ Blob key.schema ∷ Blob key.table ∷ Blob key.image ∷ Int (pos 1) ∷ []) ∷ []))) (sym (ap (λ (d : Database). d.trees) now ∙ trees)) sourced;
           schema_is = ap (λ (d : Database). d.schema) now;
           shown = w.shown;
+          sound = w.sound;
         }
 
     pub adds_span : (source : List ℕ) (lo hi : ℤ) (count : ℕ) → Executes add_span_text (Blob source ∷ Int lo ∷ Int hi ∷ []) old new (Ok count)
@@ -132,6 +134,7 @@ module _ (o : Origin) (others : List Table) (indexes : List Index) (views : List
           step = subst (Applies (layout o others indexes views) Enforced db (edit_of db (spans_at o) [] Chosen 0 ((Null ∷ Blob source ∷ Int lo ∷ Int hi ∷ []) ∷ []))) (sym (ap (λ (d : Database). d.trees) now ∙ trees)) sourced;
           schema_is = ap (λ (d : Database). d.schema) now;
           shown = w.shown;
+          sound = w.sound;
         }
 
     pub drops_span : AllByRecursion (IsApart (layout o others indexes views) (spans_tree o)) others → (source : List ℕ) (lo : ℤ) (count : ℕ) → Executes drop_span_text (Blob source ∷ Int lo ∷ []) old new (Ok count)
@@ -156,6 +159,7 @@ module _ (o : Origin) (others : List Table) (indexes : List Index) (views : List
             step = subst (Applies (layout o others indexes views) Enforced db edit) (sym (ap (λ (d : Database). d.trees) now ∙ trees)) step;
             schema_is = ap (λ (d : Database). d.schema) now;
             shown = w.shown;
+            sound = w.sound;
           },
         )
 
@@ -181,6 +185,7 @@ module _ (o : Origin) (others : List Table) (indexes : List Index) (views : List
               step = subst (Applies (layout o others indexes views) Enforced db edit) (sym (ap (λ (d : Database). d.trees) now ∙ trees)) step;
               schema_is = ap (λ (d : Database). d.schema) now;
               shown = w.shown;
+              sound = w.sound;
             },
           )
 
@@ -206,5 +211,6 @@ module _ (o : Origin) (others : List Table) (indexes : List Index) (views : List
               step = subst (Applies (layout o others indexes views) Enforced db edit) (sym (ap (λ (d : Database). d.trees) now ∙ trees)) step;
               schema_is = ap (λ (d : Database). d.schema) now;
               shown = w.shown;
+              sound = w.sound;
             },
           )

@@ -3,9 +3,9 @@ use Rattle.std.proofs.Common.{◌≡◌, inl, inr, List, ℕ, refl, sym, subst, 
 use Rattle.std.proofs.Common.{pos, map}
 use Rattle.std.specs.List.{AllByRecursion}
 use Rattle.std.specs.FinSet as set
-use Rattle.sqlite.specs.Effect.{Database as Db}
+use Rattle.sqlite.specs.Effect.{Database as Db, IsDatabase}
 use Rattle.sqlite_trees.specs.Tree.{Trees}
-use Rattle.sqlite.specs.State.{State, HasCleanDisk, IsUnchanged, Survives}
+use Rattle.sqlite.specs.State.{State, HasCleanDisk, IsLive, IsUnchanged, Survives}
 use Rattle.sqlite.proofs.StateLemmas.{survives_then}
 use Rattle.store.specs.declared.fault.StoreFault.{StoreFault}
 use Rattle.gtid.specs.Identifier.{Ids}
@@ -74,10 +74,10 @@ fault_by f back h = seen_by f (λ off o. off (back o)) h
 
 -- ---- What was loaded.
 
-pub first_loaded : (s t : State) (ids : Ids) → s.now.schema ≡ first_layout → s.now ≡ s.committed → SaysLayout (pos 1) (first_meta_rows s.now) → IsUnchanged s t
+pub first_loaded : (s t : State) (ids : Ids) → IsLive s → s.now.schema ≡ first_layout → s.now ≡ s.committed → SaysLayout (pos 1) (first_meta_rows s.now) → IsUnchanged s t
     → AllByRecursion IsMetaRow (first_meta_rows s.now) × HasRowids (first_meta_rows s.now) → AllByRecursion IsExecutedRow (executed_rows s.now) × (ids ≡ set.from_list (map id_in (executed_rows s.now)))
     → AllByRecursion IsHeldRow (first_held_rows s.now) × HasRowids (first_held_rows s.now) → IsFirstLoaded t ids
-first_loaded s t ids made settled says same meta executed held =
+first_loaded s t ids live made settled says same meta executed held =
     let content : Content = record { executed = ids; rows = bag_of (count (first_held_rows s.now)) } in
     record {
       content = content;
@@ -94,13 +94,14 @@ first_loaded s t ids made settled says same meta executed held =
           executed = executed.1;
           rows = refl;
         });
+        sound = subst IsDatabase (sym same.0.now_is) (live same.0.was_open).0;
       };
     }
 
-pub loaded : (s t : State) (ids : Ids) (names : Names) → IsLaidOut s.now.schema → s.now ≡ s.committed → SaysLayout (pos 2) (meta_rows s.now) → IsUnchanged s t
+pub loaded : (s t : State) (ids : Ids) (names : Names) → IsLive s → IsLaidOut s.now.schema → s.now ≡ s.committed → SaysLayout (pos 2) (meta_rows s.now) → IsUnchanged s t
     → AllByRecursion IsMetaRow (meta_rows s.now) × HasRowids (meta_rows s.now) → AreNames (follow_rows s.now) names → AreSpans (span_rows s.now) ids × HasRowids (span_rows s.now)
     → AllByRecursion IsHeldRow (held_rows s.now) × HasRowids (held_rows s.now) → IsLoaded t ids names
-loaded s t ids names laid settled says same meta follow spans held =
+loaded s t ids names live laid settled says same meta follow spans held =
     let content : Content = record { executed = ids; rows = bag_of (count (held_rows s.now)) } in
     record {
       content = content;
@@ -119,5 +120,6 @@ loaded s t ids names laid settled says same meta follow spans held =
           executed = spans.0;
           rows = refl;
         });
+        sound = subst IsDatabase (sym same.0.now_is) (live same.0.was_open).0;
       };
     }

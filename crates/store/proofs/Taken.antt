@@ -1,10 +1,11 @@
 -- The executed set in memory during a transaction.
 use Rattle.std.proofs.Common.{◌≡◌, ◌⊎◌, inl, inr, ℕ, List, true, false, IsTrue, Ok, Err, Result, refl, sym, ap, subst, subst₂, ◌∙◌}
 use Rattle.std.specs.FinSet as set
+use Rattle.std.proofs.lemmas.Bool.{false≢true, cases_Bool}
 use Rattle.sqlite_value.specs.Order.{Row}
 use Rattle.sqlite_trees.specs.Tree.{Trees}
 use Rattle.sqlite.specs.declared.error.Error.{Error}
-use Rattle.sqlite.specs.Effect.{Database as Stored}
+use Rattle.sqlite.specs.Effect.{Database as Stored, IsDatabase}
 use Rattle.sqlite_trees.specs.declared.store.Store.{Ghosts}
 use Rattle.sqlite.specs.Held.{Held, state}
 use Rattle.sqlite.specs.State.{State, IsNotRun, Survives}
@@ -22,11 +23,12 @@ use Rattle.store.specs.declared.fault.StoreFault.{StoreFault}
 use Rattle.store.specs.declared.fault.StoreFault.TheVariants.{NoSuchRow, CountFull, Database, Memory, Damaged, Layout, Broken, Follows}
 use Rattle.store.specs.declared.span_rows.Beside.{Beside}
 use Rattle.store.specs.declared.store.Store.{Store}
-use Rattle.store.specs.Store.{Holds, Applies, AreOf, Leaves, breaks}
+use Rattle.store.specs.Inside.{WasOpen}
+use Rattle.store.specs.Store.{Holds, Applies, AppliesShut, AreOf, Leaves, breaks}
 use Rattle.store.specs.State.{Content}
-use Rattle.store.specs.Take.{Takes, is_executed, refused}
+use Rattle.store.specs.Take.{HasOutcome, is_executed, refused}
 use Rattle.store.specs.Rows.{StandsFor, HasRowids, held_rows, span_rows, AreLeast}
-use Rattle.store.specs.Apply.{LiesBeside, IsAtRest, Rests, HasTaken, HasMoved, Comes, MayMove, IsTold}
+use Rattle.store.specs.Apply.{LiesBeside, IsAtRest, Rests, HasApplied, HasMoved, Comes, MayMove, IsReported, FailsShut}
 
 -- ---- the connection as it was
 pub rest_same : (a b : State) (names : Names) (content : Content) → IsTrue b.is_open → b.now ≡ a.now → b.committed ≡ a.committed → IsAtRest a names content → IsAtRest b names content
@@ -36,12 +38,30 @@ rest_same a b names content is_open now committed rest = record {
   held_apart = subst (λ (db : Stored). HasRowids (held_rows db)) (sym now) rest.held_apart;
   spans_apart = subst (λ (db : Stored). HasRowids (span_rows db)) (sym now) rest.spans_apart;
   stands = subst (λ (db : Stored). StandsFor db names content) (sym now) rest.stands;
+  sound = subst IsDatabase (sym now) rest.sound;
 }
 
-pub told_failed : (sql : List ℕ) (params : Row) (at : ℕ) (reason : Refusal) (old new : State) (e : Error) → IsNotRun old new sql params e → IsTold at reason old new (Database e)
+pub reported_failed : (sql : List ℕ) (params : Row) (at : ℕ) (reason : Refusal) (old new : State) (e : Error) → IsNotRun old new sql params e → IsReported at reason old new (Database e)
 unfolding IsNotRun
-told_failed sql params at reason old new e (inl h) is_open = (h.1.0.was_open, λ settled. (h.1.0.now_is, h.1.0.committed_is))
-told_failed sql params at reason old new e (inr h) is_open = (h.3.was_open is_open, λ settled. let u = h.3.undone is_open in (u.0 ∙ sym settled, u.1))
+reported_failed sql params at reason old new e (inl h) is_open = (h.1.0.was_open, λ settled. (h.1.0.now_is, h.1.0.committed_is))
+reported_failed sql params at reason old new e (inr h) is_open = (h.3.was_open is_open, λ settled. let u = h.3.undone is_open in (u.0 ∙ sym settled, u.1))
+
+-- ---- a connection that was shut
+pub shut_after : (old new : State) → WasOpen old new → old.is_open ≡ false → new.is_open ≡ false
+shut_after old new opened shut = elim (cases_Bool new.is_open) [
+  | inl is_open ↦ absurd (false≢true (sym shut ∙ opened is_open))
+  | inr out ↦ out
+]
+
+pub refused_shut : (at : ℕ) (reason : Refusal) (old mid new : State) (was now : Ids) (fault : StoreFault) → WasOpen old mid → old.is_open ≡ false → IsReported at reason mid new fault → now ≡ was → FailsShut new was now (Err fault)
+refused_shut at reason old mid new was now (NoSuchRow n) opened shut reported same = absurd (false≢true (sym shut ∙ opened reported.2.0.was_open))
+refused_shut at reason old mid new was now (CountFull n) opened shut reported same = absurd (false≢true (sym shut ∙ opened reported.2.0.was_open))
+refused_shut at reason old mid new was now (Database e) opened shut reported same = (shut_after old new (λ is_open. opened (reported is_open).0) shut, same)
+refused_shut at reason old mid new was now Memory opened shut reported same = absurd reported
+refused_shut at reason old mid new was now Damaged opened shut reported same = absurd reported
+refused_shut at reason old mid new was now (Layout n) opened shut reported same = absurd reported
+refused_shut at reason old mid new was now Broken opened shut reported same = absurd reported
+refused_shut at reason old mid new was now Follows opened shut reported same = absurd reported
 
 -- ---- the spans next to the number
 pub beside_known : (spans : List Span) (executed ids : Ids) (gtid : Gtid) (beside : Beside) → executed ≡ ids → AreLeast spans ids
@@ -50,7 +70,7 @@ beside_known spans executed ids gtid beside same least lies = lies (subst (AreLe
 
 -- ---- what it comes to
 module _ (names : Names) (content : Content) (d : DeliveryValue) where
-  pub moved : (old new : State) (executed now : Ids) → executed ≡ content.executed → now ≡ set.insert executed (d.source, d.number) → HasTaken names content d new × (new.now.schema ≡ old.now.schema) → HasMoved names content d old new now
+  pub moved : (old new : State) (executed now : Ids) → executed ≡ content.executed → now ≡ set.insert executed (d.source, d.number) → HasApplied names content d new × (new.now.schema ≡ old.now.schema) → HasMoved names content d old new now
   moved old new executed now same is taken = record {
     taken = taken.0;
     schema = taken.1;
@@ -58,26 +78,26 @@ module _ (names : Names) (content : Content) (d : DeliveryValue) where
   }
 
   pub came : (old mid new : State) (executed : Ids) (at : ℕ) (reason : Refusal) (fault : StoreFault) → executed ≡ content.executed → IsAtRest old names content
-      → Takes names content d (refused at reason) × Rests old mid → IsTold at reason mid new fault → Comes names content d old new executed (Err fault)
-  came old mid new executed at reason (NoSuchRow n) same rest h told =
-      let at_rest : IsAtRest new names content = let r = h.1 told.2.0.was_open in rest_same old new names content told.2.0.is_open (told.2.0.now_is ∙ r.0) (told.2.0.committed_is ∙ r.1) rest in
-      (subst (λ p. Takes names content d (refused p why.NoSuchRow)) (sym told.0) (subst (λ w. Takes names content d (refused at w)) told.1 h.0), at_rest, same, ap (λ (db : Stored). db.schema) (told.2.0.now_is ∙ (h.1 told.2.0.was_open).0))
-  came old mid new executed at reason (CountFull n) same rest h told =
-      let at_rest : IsAtRest new names content = let r = h.1 told.2.0.was_open in rest_same old new names content told.2.0.is_open (told.2.0.now_is ∙ r.0) (told.2.0.committed_is ∙ r.1) rest in
-      (subst (λ p. Takes names content d (refused p why.CountFull)) (sym told.0) (subst (λ w. Takes names content d (refused at w)) told.1 h.0), at_rest, same, ap (λ (db : Stored). db.schema) (told.2.0.now_is ∙ (h.1 told.2.0.was_open).0))
-  came old mid new executed at reason (Database e) same rest h told = (
+      → HasOutcome names content d (refused at reason) × Rests old mid → IsReported at reason mid new fault → Comes names content d old new executed (Err fault)
+  came old mid new executed at reason (NoSuchRow n) same rest h reported =
+      let at_rest : IsAtRest new names content = let r = h.1 reported.2.0.was_open in rest_same old new names content reported.2.0.is_open (reported.2.0.now_is ∙ r.0) (reported.2.0.committed_is ∙ r.1) rest in
+      (subst (λ p. HasOutcome names content d (refused p why.NoSuchRow)) (sym reported.0) (subst (λ w. HasOutcome names content d (refused at w)) reported.1 h.0), at_rest, same, ap (λ (db : Stored). db.schema) (reported.2.0.now_is ∙ (h.1 reported.2.0.was_open).0))
+  came old mid new executed at reason (CountFull n) same rest h reported =
+      let at_rest : IsAtRest new names content = let r = h.1 reported.2.0.was_open in rest_same old new names content reported.2.0.is_open (reported.2.0.now_is ∙ r.0) (reported.2.0.committed_is ∙ r.1) rest in
+      (subst (λ p. HasOutcome names content d (refused p why.CountFull)) (sym reported.0) (subst (λ w. HasOutcome names content d (refused at w)) reported.1 h.0), at_rest, same, ap (λ (db : Stored). db.schema) (reported.2.0.now_is ∙ (h.1 reported.2.0.was_open).0))
+  came old mid new executed at reason (Database e) same rest h reported = (
     (λ is_open.
-        let t = told is_open in
+        let t = reported is_open in
         let r = h.1 t.0 in
         let s = t.1 (r.0 ∙ rest.settled ∙ sym r.1) in
         (s.0 ∙ r.0, s.1 ∙ r.1)),
     same,
   )
-  came old mid new executed at reason Memory same rest h told = absurd told
-  came old mid new executed at reason Damaged same rest h told = absurd told
-  came old mid new executed at reason (Layout n) same rest h told = absurd told
-  came old mid new executed at reason Broken same rest h told = absurd told
-  came old mid new executed at reason Follows same rest h told = absurd told
+  came old mid new executed at reason Memory same rest h reported = absurd reported
+  came old mid new executed at reason Damaged same rest h reported = absurd reported
+  came old mid new executed at reason (Layout n) same rest h reported = absurd reported
+  came old mid new executed at reason Broken same rest h reported = absurd reported
+  came old mid new executed at reason Follows same rest h reported = absurd reported
 
   pub given_up : (old mid new : State) (r : Result Applied StoreFault) → Survives old mid (λ _. ⊥) → Survives mid new (λ _. ⊥) → Survives old new (MayMove names content d old r)
   given_up old mid new r one two = survives_then old mid new (λ _. ⊥) (λ _. ⊥) (MayMove names content d old r) (λ _ db none. absurd none) (λ _ db none. absurd none) one two
@@ -142,13 +162,26 @@ module _ {S : Type 0} (g : Ghosts S) (content : Content) (d : DeliveryValue) (ol
   same_schema (Err Broken) whole broken it = absurd it
   same_schema (Err Follows) whole broken it = absurd it
 
+  -- on a connection that was shut
+  pub applied_shut : (r : Result Applied StoreFault) (was : Ids) → was ≡ content.executed → is_executed content d ≡ false → new.broken ≡ breaks r → FailsShut (state g new.conn) was new.executed r → AppliesShut g content d old new r
+  applied_shut (Ok Done) was same out broken it = absurd it
+  applied_shut (Ok Repeat) was same out broken it = absurd it
+  applied_shut (Err (NoSuchRow at)) was same out broken it = absurd it
+  applied_shut (Err (CountFull at)) was same out broken it = absurd it
+  applied_shut (Err (Database e)) was same out broken it = (out, record { broken = broken; executed = it.1 ∙ same; rest = λ is_open. absurd (false≢true (sym it.0 ∙ is_open)) })
+  applied_shut (Err Memory) was same out broken it = (out, record { broken = broken; executed = it.1 ∙ same; rest = λ is_open. absurd (false≢true (sym it.0 ∙ is_open)) })
+  applied_shut (Err Damaged) was same out broken it = absurd it
+  applied_shut (Err (Layout n)) was same out broken it = absurd it
+  applied_shut (Err Broken) was same out broken it = absurd it
+  applied_shut (Err Follows) was same out broken it = absurd it
+
 -- ---- what a crash leaves
 module _ {S : Type 0} (g : Ghosts S) (names : Names) (content : Content)
     (settled : (h : Held S) (db : Trees) → IsTrue (state g h).is_open → (state g h).may_leave db → db ≡ (state g h).committed.trees) where
   pub stays : (h : Held S) (db : Trees) → (r : IsAtRest (state g h) names content) → (state g h).may_leave db → AreOf h.schema names content db
   stays h db r left =
       let trees : db ≡ (state g h).now.trees = settled h db r.is_open left ∙ sym (ap (λ (b : Stored). b.trees) r.settled) in
-      subst (λ t. AreOf h.schema names content t) (sym trees) r.stands
+      subst (λ t. AreOf h.schema names content t) (sym trees) (record { stands = r.stands; sound = r.sound; spans_apart = r.spans_apart })
 
   pub left_whole : (d : DeliveryValue) (old new : Held S) (r : Result Applied StoreFault) (executed : Ids) (trees : Trees) → IsAtRest (state g old) names content → Comes names content d (state g old) (state g new) executed r
       → (state g old).may_leave trees ⊎ MayMove names content d (state g old) r trees → (state g new).may_leave trees → Leaves old.schema names content d r trees
@@ -158,7 +191,7 @@ module _ {S : Type 0} (g : Ghosts S) (names : Names) (content : Content)
       record {
         after = it.taken.after;
         takes = it.taken.takes;
-        stands = subst₂ (λ s t. StandsFor (record { schema = s; trees = t }) names it.taken.after) it.schema (sym trees_are) rest_new.stands;
+        stands = subst₂ (λ s t. AreOf s names it.taken.after t) it.schema (sym trees_are) (record { stands = rest_new.stands; sound = rest_new.sound; spans_apart = rest_new.spans_apart });
       }
   left_whole d old new (Ok Done) executed trees rest it (inr may) left = may
   left_whole d old new (Ok Repeat) executed trees rest it was left = absurd it

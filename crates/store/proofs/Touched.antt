@@ -17,12 +17,12 @@ use Rattle.gtid.proofs.Sets.{id_cmp_total, tied}
 use Rattle.gtid.proofs.SomeLeastList.{some_least_list}
 use Rattle.store.specs.declared.span_rows.Beside.{Beside}
 use Rattle.store.specs.Rows.{AreLeast, span}
-use Rattle.store.specs.Inside.{EndsBefore, BeginsBehind}
+use Rattle.store.specs.Inside.{EndsBefore, BeginsAfter}
 use Rattle.store.specs.Apply.{LiesBeside}
 use Rattle.store.proofs.SpanLists.{IsSome, IsClear, touches_flip, clear_of}
 use Rattle.store.proofs.SortedSpans.{all_before, apart_before, rest_least, sorted_are}
 use Rattle.store.proofs.SameSpans.{Lies, lies, lies_in, one_or_clear}
-use Rattle.store.proofs.Over.{EndsElse, BeginsElse, all_from, ends_before, begins_behind}
+use Rattle.store.proofs.Over.{EndsElse, BeginsElse, all_from, ends_before, begins_after}
 
 -- ---- A span in the middle of a list.
 
@@ -41,19 +41,19 @@ has_split (f ∷ front) more b t (inl is) = inr (inl is)
 has_split (f ∷ front) more b t (inr has) = elim (has_split front more b t has) [ inl is ↦ inl is | inr there ↦ inr (inr there) ]
 
 -- a span after the first, and a span before the one that is the first of the rest
-clear_behind : (f b : Span) (more : List Span) → IsLeast (f ∷ more) → Has more b → IsClear f.source f.lo f.hi b
-clear_behind f b more least has = clear_of f b (apart_before f b (all_has (IsBefore f) more b (all_before f more least) has))
+clear_after : (f b : Span) (more : List Span) → IsLeast (f ∷ more) → Has more b → IsClear f.source f.lo f.hi b
+clear_after f b more least has = clear_of f b (apart_before f b (all_has (IsBefore f) more b (all_before f more least) has))
 
 clear_first : (f b : Span) (more : List Span) → IsLeast (f ∷ more) → Has more b → IsClear b.source b.lo b.hi f
 clear_first f b more least has = clear_of b f (touches_flip b f ∙ apart_before f b (all_has (IsBefore f) more b (all_before f more least) has))
 
 mid_clear : (front more : List Span) (b t : Span) → IsLeast (front ++ b ∷ more) → Has (front ++ more) t → IsClear b.source b.lo b.hi t
-mid_clear [] more b t least has = clear_behind b t more least has
+mid_clear [] more b t least has = clear_after b t more least has
 mid_clear (f ∷ front) more b t least (inl is) = subst (IsClear b.source b.lo b.hi) (sym is) (clear_first f b (front ++ b ∷ more) least (has_mid front more b))
 mid_clear (f ∷ front) more b t least (inr has) = mid_clear front more b t (rest_least f (front ++ b ∷ more) least) has
 
 second_clear : (front rest : List Span) (b y t : Span) → IsLeast (front ++ b ∷ y ∷ rest) → Has (front ++ rest) t → IsClear y.source y.lo y.hi t
-second_clear [] rest b y t least has = clear_behind y t rest (rest_least b (y ∷ rest) least) has
+second_clear [] rest b y t least has = clear_after y t rest (rest_least b (y ∷ rest) least) has
 second_clear (f ∷ front) rest b y t least (inl is) =
     subst (IsClear y.source y.lo y.hi) (sym is) (clear_first f y (front ++ b ∷ y ∷ rest) least (has_more front (y ∷ rest) b y (has_mid front rest y)))
 second_clear (f ∷ front) rest b y t least (inr has) = second_clear front rest b y t (rest_least f (front ++ b ∷ y ∷ rest) least) has
@@ -148,13 +148,13 @@ module _ (ids : Ids) (source : List ℕ) (n : ℕ) (new : set.contains ids (sour
   found_before : (x : Span) → Has a x → x.source ≡ source → x.hi ≡ n → Has a (span source x.lo n)
   found_before x has of is = subst (Has a) (λ i. record { source = of i; lo = x.lo; hi = is i }) has
 
-  found_behind : (x : Span) → Has a x → x.source ≡ source → x.lo ≡ n + 1 → Has a (span source (n + 1) x.hi)
-  found_behind x has of is = subst (Has a) (λ i. record { source = of i; lo = is i; hi = x.hi }) has
+  found_after : (x : Span) → Has a x → x.source ≡ source → x.lo ≡ n + 1 → Has a (span source (n + 1) x.hi)
+  found_after x has of is = subst (Has a) (λ i. record { source = of i; lo = is i; hi = x.hi }) has
 
 -- ---- What the number touches.
 
 abbrev Found : List ℕ → ℕ → Option Span → Option Span → List Span → Type 0
-Found source n below above spans = EndsBefore source n spans (option_map (λ s. s.lo) below) × BeginsBehind source n spans (option_map (λ s. s.hi) above)
+Found source n below above spans = EndsBefore source n spans (option_map (λ s. s.lo) below) × BeginsAfter source n spans (option_map (λ s. s.hi) above)
 
 found : (ids : Ids) (source : List ℕ) (n : ℕ) (below above : Option Span) (front rest : List Span) → set.contains ids (source, n) ≡ false →
     IsLeastList (front ++ (one_or_none below ++ (one_or_none above ++ rest))) ids → IsLeastList (front ++ joined (source, n) below above ∷ rest) (set.insert ids (source, n)) →
@@ -209,7 +209,7 @@ found ids source n None (Some y) front rest new old with_it =
         | inl is ↦ (λ of at. let hi = ap (λ (z : Span). z.hi) is in omega (arith, hi, at, long_j))
         | inr there ↦ ends_else ids source n new a b la lb j has_j refl refl t (has_more front rest j t there)
       ]),
-      found_behind ids source n new a b la lb j has_j refl y has_y in_j.0 begins,
+      found_after ids source n new a b la lb j has_j refl y has_y in_j.0 begins,
     )
 found ids source n (Some x) (Some y) front rest new old with_it =
     let a = front ++ x ∷ y ∷ rest in
@@ -230,7 +230,7 @@ found ids source n (Some x) (Some y) front rest new old with_it =
     let gap : x.hi < y.lo = elim (mid_clear front (y ∷ rest) x y old.least (has_mid front rest y) (in_x.0 ∙ sym in_y.0)) [ inl below ↦ absurd (omega (arith, below, low, some_y)) | inr above ↦ above ] in (
       found_before ids source n new a b la lb j has_j refl x has_x in_x.0
           (ends_at ids source n new a b la lb j has_j refl x has_x in_x.0 (omega (arith, some_x)) (omega (arith, gap, some_y))),
-      found_behind ids source n new a b la lb j has_j refl y has_y in_y.0
+      found_after ids source n new a b la lb j has_j refl y has_y in_y.0
           (begins_at ids source n new a b la lb j has_j refl y has_y in_y.0 (omega (arith, gap, some_x)) (omega (arith, some_y))),
     )
 
@@ -245,5 +245,5 @@ lies_beside gtid ids touched beside spans least new joins before after =
     let f = found ids gtid.source gtid.number touched.below touched.above j.front j.rest new is j.joined_least in
     record {
       before = ends_before ids sorted spans is least gtid.source gtid.number beside.before (subst (EndsBefore gtid.source gtid.number sorted) (sym before) f.0);
-      behind = begins_behind ids sorted spans is least gtid.source gtid.number beside.after (subst (BeginsBehind gtid.source gtid.number sorted) (sym after) f.1);
+      after = begins_after ids sorted spans is least gtid.source gtid.number beside.after (subst (BeginsAfter gtid.source gtid.number sorted) (sym after) f.1);
     }

@@ -1,7 +1,9 @@
 -- A transaction of the source as one transaction of the database.
-use Rattle.std.specs.Prelude.{◌≡◌, ℕ, IsTrue, List, Option, Some, None, Result, Ok, Err}
+use Rattle.std.specs.Prelude.{false, ◌≡◌, ℕ, IsTrue, List, Option, Some, None, Result, Ok, Err}
 use Rattle.sqlite_schema.specs.declared.schema.Schema.{Schema}
 use Rattle.sqlite_trees.specs.Tree.{Trees}
+use Rattle.sqlite_catalog.specs.Listing.{IsSound}
+use Rattle.sqlite.specs.Effect.{IsDatabase}
 use Rattle.sqlite.specs.State.{State, IsUnchanged}
 use Rattle.gtid.specs.declared.identifier.Gtid.{Gtid}
 use Rattle.gtid.specs.declared.span.Span.{Span}
@@ -16,25 +18,31 @@ use Rattle.store.specs.declared.fault.StoreFault.{StoreFault}
 use Rattle.store.specs.declared.fault.StoreFault.TheVariants.{NoSuchRow, CountFull, Database, Memory}
 use Rattle.store.specs.declared.span_rows.Beside.{Beside}
 use Rattle.store.specs.State.{Content}
-use Rattle.store.specs.Take.{Takes, done, refused}
+use Rattle.store.specs.Take.{HasOutcome, done, refused}
 use Rattle.store.specs.Rows.{StandsFor, HasRowids, held_rows, span_rows}
-use Rattle.store.specs.Inside.{GoesOn, EndsBefore, BeginsBehind}
+use Rattle.store.specs.Inside.{GoesOn, EndsBefore, BeginsAfter}
 
 -- These are the ends of the spans next to the transaction's number.
 pub record LiesBeside (spans : List Span) (gtid : Gtid) (beside : Beside) : Type 0 where
   pub before : EndsBefore gtid.source gtid.number spans beside.before
-  pub behind : BeginsBehind gtid.source gtid.number spans beside.after
+  pub after : BeginsAfter gtid.source gtid.number spans beside.after
+
+-- The trees list this schema and obey it, and under it they stand for the content.
+pub record AreOf (schema : Schema) (names : Names) (content : Content) (trees : Trees) : Type 0 where
+  pub stands : StandsFor (record { schema = schema; trees = trees }) names content
+  pub sound : IsSound schema trees
+  pub spans_apart : HasRowids (span_rows (record { schema = schema; trees = trees }))
 
 -- The database stands for what the transaction makes of the content.
 pub record IsApplied (names : Names) (content : Content) (d : DeliveryValue) (schema : Schema) (trees : Trees) : Type 0 where
   pub after : Content
-  pub takes : Takes names content d (done after)
-  pub stands : StandsFor (record { schema = schema; trees = trees }) names after
+  pub takes : HasOutcome names content d (done after)
+  pub stands : AreOf schema names after trees
 
 -- what making the changes and recording the GTID does inside the database's transaction
 abbrev pub Fills : Names → Content → DeliveryValue → State → State → Option (ℕ × Refusal) → Type 0
 Fills names content d old new None = GoesOn old new × IsApplied names content d new.now.schema new.now.trees
-Fills names content d old new (Some why) = Takes names content d (refused why.0 why.1)
+Fills names content d old new (Some why) = HasOutcome names content d (refused why.0 why.1)
 
 -- The connection is open, in no transaction that has changed anything, and this is what its database stands for.
 pub record IsAtRest (s : State) (names : Names) (content : Content) : Type 0 where
@@ -43,20 +51,21 @@ pub record IsAtRest (s : State) (names : Names) (content : Content) : Type 0 whe
   pub held_apart : HasRowids (held_rows s.now)
   pub spans_apart : HasRowids (span_rows s.now)
   pub stands : StandsFor s.now names content
+  pub sound : IsDatabase s.now
 
 -- Nothing has changed, if the connection is still open.
 abbrev pub Rests : State → State → Type 0
 Rests old new = IsTrue new.is_open → (new.now ≡ old.now) × (new.committed ≡ old.committed)
 
 -- The connection is at rest with what the transaction makes of the content.
-pub record HasTaken (names : Names) (content : Content) (d : DeliveryValue) (new : State) : Type 0 where
+pub record HasApplied (names : Names) (content : Content) (d : DeliveryValue) (new : State) : Type 0 where
   pub after : Content
-  pub takes : Takes names content d (done after)
+  pub takes : HasOutcome names content d (done after)
   pub rest : IsAtRest new names after
 
 abbrev pub Runs : {E : Type 0} → Names → Content → DeliveryValue → State → State → Result (Option (ℕ × Refusal)) E → Type 0
-Runs names content d old new (Ok None) = HasTaken names content d new × (new.now.schema ≡ old.now.schema)
-Runs names content d old new (Ok (Some why)) = Takes names content d (refused why.0 why.1) × Rests old new
+Runs names content d old new (Ok None) = HasApplied names content d new × (new.now.schema ≡ old.now.schema)
+Runs names content d old new (Ok (Some why)) = HasOutcome names content d (refused why.0 why.1) × Rests old new
 Runs names content d old new (Err e) = Rests old new
 
 -- What may be committed: what the transaction makes of the content, or nothing if it is refused.
@@ -69,14 +78,14 @@ MayCommit names content d old (Err e) trees = IsApplied names content d old.now.
 
 -- The connection is at rest with what the transaction makes of the content, and the set is that of the new content.
 pub record HasMoved (names : Names) (content : Content) (d : DeliveryValue) (old new : State) (executed : Ids) : Type 0 where
-  pub taken : HasTaken names content d new
+  pub taken : HasApplied names content d new
   pub schema : new.now.schema ≡ old.now.schema
   pub set : executed ≡ taken.after.executed
 
 -- Nothing has changed, and the change with this index is refused.
 abbrev pub IsGivenUp : Names → Content → DeliveryValue → State → State → Ids → ℕ → Refusal → Type 0
 IsGivenUp names content d old new executed at reason =
-    Takes names content d (refused at reason) × IsAtRest new names content × (executed ≡ content.executed) × (new.now.schema ≡ old.now.schema)
+    HasOutcome names content d (refused at reason) × IsAtRest new names content × (executed ≡ content.executed) × (new.now.schema ≡ old.now.schema)
 
 -- The outcome of a transaction that is not in the executed set.
 abbrev pub Comes : Names → Content → DeliveryValue → State → State → Ids → Result Applied StoreFault → Type 0
@@ -95,8 +104,14 @@ MayMove names content d old (Err (Database e)) trees = IsApplied names content d
 MayMove names content d old _ trees = ⊥
 
 -- A refused change is reported and the connection is as it was, or a failure of the database is reported.
-abbrev pub IsTold : ℕ → Refusal → State → State → StoreFault → Type 0
-IsTold at reason old new (NoSuchRow n) = (n ≡ at) × (reason ≡ why.NoSuchRow) × IsUnchanged old new
-IsTold at reason old new (CountFull n) = (n ≡ at) × (reason ≡ why.CountFull) × IsUnchanged old new
-IsTold at reason old new (Database e) = IsTrue new.is_open → IsTrue old.is_open × (old.now ≡ old.committed → (new.now ≡ old.now) × (new.committed ≡ old.committed))
-IsTold at reason old new _ = ⊥
+abbrev pub IsReported : ℕ → Refusal → State → State → StoreFault → Type 0
+IsReported at reason old new (NoSuchRow n) = (n ≡ at) × (reason ≡ why.NoSuchRow) × IsUnchanged old new
+IsReported at reason old new (CountFull n) = (n ≡ at) × (reason ≡ why.CountFull) × IsUnchanged old new
+IsReported at reason old new (Database e) = IsTrue new.is_open → IsTrue old.is_open × (old.now ≡ old.committed → (new.now ≡ old.now) × (new.committed ≡ old.committed))
+IsReported at reason old new _ = ⊥
+
+-- On a connection that is shut the transaction fails, and nothing changes.
+abbrev pub FailsShut : State → Ids → Ids → Result Applied StoreFault → Type 0
+FailsShut new old_set set (Err (Database e)) = (new.is_open ≡ false) × (set ≡ old_set)
+FailsShut new old_set set (Err Memory) = (new.is_open ≡ false) × (set ≡ old_set)
+FailsShut new old_set set _ = ⊥

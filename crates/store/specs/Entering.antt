@@ -3,7 +3,7 @@ use Rattle.std.specs.Prelude.{◌≡◌, ◌≢◌, ◌⊎◌, ℕ, ℤ, pos, Bo
 use Rattle.sqlite_schema.specs.declared.schema.Schema.{Schema}
 use Rattle.sqlite_schema.specs.Names.{table_named}
 use Rattle.sqlite_trees.specs.Tree.{Trees}
-use Rattle.sqlite.specs.Effect.{Database}
+use Rattle.sqlite.specs.Effect.{Database, IsDatabase}
 use Rattle.sqlite.specs.State.{State}
 use Rattle.gtid.specs.Identifier.{Ids}
 use Rattle.binlog.specs.Filter.{Names}
@@ -12,7 +12,7 @@ use Rattle.store.specs.declared.fault.StoreFault.TheVariants.{Database as Db, Me
 use Rattle.store.specs.declared.tables.Tables.{Tables}
 use Rattle.store.specs.State.{Content}
 use Rattle.store.specs.Layout.{no_schema, first_layout, IsLaidOut}
-use Rattle.store.specs.Rows.{StandsFor, StandsForFirst, SaysLayout, KeepsRules, KeepsFirstRules, first_meta_rows}
+use Rattle.store.specs.Rows.{StandsFor, StandsForFirst, SaysLayout, KeepsRules, KeepsFirstRules, HasRowids, first_meta_rows, span_rows}
 use Rattle.store.specs.Apply.{IsAtRest, Rests}
 use Rattle.store.specs.Load.{IsMetaFirst}
 use Rattle.store.specs.Open.{nothing, all, MayStandFor}
@@ -41,18 +41,19 @@ has_second t = t.held && (t.spans && t.follow)
 abbrev pub has_any : Tables → Bool
 has_any t = t.meta || (t.executed || (t.held || (t.spans || t.follow)))
 
--- The tables are those of a layout as they were made, or not all of them are there.
-pub data IsKnown (schema : Schema) : Type 0 where
-  blank : schema ≡ no_schema → IsKnown schema
-  first : schema ≡ first_layout → IsKnown schema
-  second : IsLaidOut schema → (tables_of schema).executed ≡ false → IsKnown schema
-  lacking : IsMetaFirst schema → has_first (tables_of schema) ≡ false → has_second (tables_of schema) ≡ false → IsKnown schema
+-- The tables are those of a layout as they were made, or not all tables of the layout that `meta` names are there. A table
+-- named `executed` may stand beside layout 2.
+pub data IsKnown (db : Database) : Type 0 where
+  blank : db.schema ≡ no_schema → IsKnown db
+  first : db.schema ≡ first_layout → IsKnown db
+  second : IsLaidOut db.schema → ((tables_of db.schema).executed ≡ true → ¬ SaysLayout (pos 1) (first_meta_rows db)) → IsKnown db
+  lacking : IsMetaFirst db.schema → (SaysLayout (pos 1) (first_meta_rows db) → has_first (tables_of db.schema) ≡ false) → (SaysLayout (pos 2) (first_meta_rows db) → has_second (tables_of db.schema) ≡ false) → IsKnown db
 
 -- The connection is open and in no transaction that has changed anything, and its tables are known.
 pub record IsReady (s : State) : Type 0 where
   pub is_open : IsTrue s.is_open
   pub settled : s.now ≡ s.committed
-  pub known : IsKnown s.now.schema
+  pub known : IsKnown s.now
 
 -- ---- What a database stands for.
 
@@ -67,11 +68,15 @@ IsOf only names db content = (((db.schema ≡ no_schema) × (content ≡ nothing
 
 pub data IsDamaged (db : Database) : Type 0 where
   no_meta : (tables_of db.schema).meta ≡ false → has_any (tables_of db.schema) ≡ true → IsDamaged db
-  no_layout : ((n : ℤ) → ¬ SaysLayout n (first_meta_rows db)) → IsDamaged db
-  lacks_first : SaysLayout (pos 1) (first_meta_rows db) → has_first (tables_of db.schema) ≡ false → IsDamaged db
-  lacks_second : SaysLayout (pos 2) (first_meta_rows db) → has_second (tables_of db.schema) ≡ false → IsDamaged db
-  breaks_first : SaysLayout (pos 1) (first_meta_rows db) → ¬ KeepsFirstRules db → IsDamaged db
-  breaks_second : SaysLayout (pos 2) (first_meta_rows db) → ¬ KeepsRules db → IsDamaged db
+  no_layout : (tables_of db.schema).meta ≡ true → ((n : ℤ) → ¬ SaysLayout n (first_meta_rows db)) → IsDamaged db
+  lacks_first : (tables_of db.schema).meta ≡ true → SaysLayout (pos 1) (first_meta_rows db) → has_first (tables_of db.schema) ≡ false → IsDamaged db
+  lacks_second : (tables_of db.schema).meta ≡ true → SaysLayout (pos 2) (first_meta_rows db) → has_second (tables_of db.schema) ≡ false → IsDamaged db
+  breaks_first : (tables_of db.schema).meta ≡ true → SaysLayout (pos 1) (first_meta_rows db) → ¬ KeepsFirstRules db → IsDamaged db
+  breaks_second : (tables_of db.schema).meta ≡ true → SaysLayout (pos 2) (first_meta_rows db) → ¬ KeepsRules db → IsDamaged db
+
+-- The database has this layout, which is none of the two.
+abbrev pub IsOther : Database → ℤ → Type 0
+IsOther db n = ((tables_of db.schema).meta ≡ true) × SaysLayout n (first_meta_rows db) × (n ≢ pos 1) × (n ≢ pos 2)
 
 -- Any names will do, or these alone.
 abbrev pub IsWanted : Bool → Names → Names → Type 0
@@ -81,7 +86,7 @@ IsWanted any only names = any ≡ false → names ≡ only
 -- of memory have no cause in what the database stands for.
 abbrev pub IsWhy : Bool → Names → Database → StoreFault → Type 0
 IsWhy any only db Damaged = IsDamaged db
-IsWhy any only db (Layout n) = SaysLayout n (first_meta_rows db) × (n ≢ pos 1) × (n ≢ pos 2)
+IsWhy any only db (Layout n) = IsOther db n
 IsWhy any only db Follows = (any ≡ false) × (names : Names) × (content : Content) × IsStored names db content × (names ≢ only)
 IsWhy any only db (Db e) = Unit {0}
 IsWhy any only db Memory = Unit {0}
@@ -107,3 +112,20 @@ pub record MayEnter (only : Names) (old : State) (trees : Trees) : Type 0 where
   pub content : Content
   pub of : IsOf only names old.now content
   pub may : MayStandFor names content trees
+
+-- ---- What a crash leaves.
+
+-- Under some schema, which they list and obey, the trees stand for this content and these names. If they have no table
+-- yet, they are to be made for these names.
+pub record IsLeft (only names : Names) (content : Content) (trees : Trees) : Type 0 where
+  pub db : Database
+  pub trees_are : trees ≡ db.trees
+  pub sound : IsDatabase db
+  pub of : IsOf only names db content
+  pub spans_apart : IsLaidOut db.schema → HasRowids (span_rows db)
+
+-- The connection is open and in no transaction that has changed anything, and it reads what a crash left.
+pub record ReadsLeft (only names : Names) (content : Content) (s : State) : Type 0 where
+  pub is_open : IsTrue s.is_open
+  pub settled : s.now ≡ s.committed
+  pub left : IsLeft only names content s.now.trees

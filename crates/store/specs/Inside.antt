@@ -5,6 +5,7 @@ use Rattle.sqlite_value.specs.Order.{Row}
 use Rattle.sqlite_rules.specs.Lists.{Has}
 use Rattle.gtid.specs.Identifier.{Ids}
 use Rattle.gtid.specs.declared.span.Span.{Span}
+use Rattle.sqlite.specs.Effect.{IsDatabase}
 use Rattle.sqlite.specs.State.{State}
 use Rattle.binlog.specs.Filter.{Names}
 use Rattle.gather.specs.Transaction.{ChangeValue}
@@ -22,6 +23,11 @@ pub record IsWorking (s : State) : Type 0 where
   pub held_apart : HasRowids (held_rows s.now)
   pub spans_apart : HasRowids (span_rows s.now)
   pub lawful : AllByRecursion IsHeldRow (held_rows s.now)
+  pub sound : IsDatabase s.now
+
+-- A connection that is open now was open before.
+abbrev pub WasOpen : State → State → Type 0
+WasOpen old new = IsTrue new.is_open → IsTrue old.is_open
 
 -- The transaction goes on, and nothing is committed.
 pub record GoesOn (old new : State) : Type 0 where
@@ -62,9 +68,9 @@ EndsBefore source n spans None = AllByRecursion (λ t. source ≡ t.source → t
 EndsBefore source n spans (Some lo) = Has spans (span source lo n)
 
 -- Where the span ends that begins just after the number, if there is one.
-abbrev pub BeginsBehind : List ℕ → ℕ → List Span → Option ℕ → Type 0
-BeginsBehind source n spans None = AllByRecursion (λ t. source ≡ t.source → t.lo ≢ n + 1) spans
-BeginsBehind source n spans (Some hi) = Has spans (span source (n + 1) hi)
+abbrev pub BeginsAfter : List ℕ → ℕ → List Span → Option ℕ → Type 0
+BeginsAfter source n spans None = AllByRecursion (λ t. source ≡ t.source → t.lo ≢ n + 1) spans
+BeginsAfter source n spans (Some hi) = Has spans (span source (n + 1) hi)
 
 -- The rows of spans are these, the least intervals of the set.
 pub record Shows (rows : List Row) (spans : List Span) (ids : Ids) : Type 0 where

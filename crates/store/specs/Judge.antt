@@ -15,14 +15,14 @@ abbrev pub span_of_id : Id → Span
 span_of_id q = span q.0 q.1 (q.1 + 1)
 
 -- The rowid is above the last one, if there is one.
-abbrev pub IsBehind : Option ℤ → ℤ → Type 0
-IsBehind None id = Unit {0}
-IsBehind (Some last) id = last <ℤ id
+abbrev pub IsAfter : Option ℤ → ℤ → Type 0
+IsAfter None id = Unit {0}
+IsAfter (Some last) id = last <ℤ id
 
 -- the rowids are integers and ascend
 abbrev pub Rise : Option ℤ → List Row → Type 0
 Rise last [] = Unit {0}
-Rise last (row ∷ rows) = (id : ℤ) × (rowid row ≡ Int id) × IsBehind last id × Rise (Some id) rows
+Rise last (row ∷ rows) = (id : ℤ) × (rowid row ≡ Int id) × IsAfter last id × Rise (Some id) rows
 
 -- a statement failed, or an allocation was refused
 abbrev pub IsCause : StoreFault → Type 0

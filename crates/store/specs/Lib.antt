@@ -12,3 +12,4 @@ pub mod Migrating
 pub mod Load
 pub mod Judge
 pub mod Entering
+pub mod Faults

@@ -1,5 +1,5 @@
 -- The rows of a bag in order.
-use Rattle.std.specs.Prelude.{◌≡◌, ℕ, ◌≤◌, List, [], ◌∷◌, ◌++◌, map, drop, Option, Some, None, Result, Ok, Err, IsTrue, codes, pos}
+use Rattle.std.specs.Prelude.{◌≡◌, ℕ, ◌≤◌, List, [], ◌∷◌, ◌++◌, map, drop, Option, Some, None, Result, Ok, Err, codes, pos}
 use Rattle.std.specs.List.{AllByRecursion}
 use Rattle.std.specs.List.Sorted.{IsStrictlySortedBy}
 use Rattle.std.specs.Ordering.{nat_cmp, ordering_then}
@@ -14,11 +14,10 @@ use Rattle.store.specs.declared.fault.StoreFault.{StoreFault}
 use Rattle.store.specs.declared.fault.StoreFault.TheVariants.{Database, Memory}
 use Rattle.store.specs.declared.listing.Listed.{Listed}
 use Rattle.store.specs.declared.listing.List.{List as Listing}
-use Rattle.store.specs.declared.held_rows.RowKey.{RowKey}
 use Rattle.store.specs.declared.store.Store.{Store}
 use Rattle.store.specs.State.{TableRow, row_of, Bag, Content}
-use Rattle.store.specs.Rows.{Key, key_in, key_for}
-use Rattle.store.specs.Store.{Holds, database}
+use Rattle.store.specs.Rows.{Key, key_for}
+use Rattle.store.specs.Store.{Holds, Keeps}
 
 -- a row, and how often it is there
 abbrev pub Entry : Type 0
@@ -39,7 +38,7 @@ entry_rows entries = map (λ (e : Entry). e.0) entries
 pub record AreRows (bag : Bag) (entries : List Entry) : Type 0 where
   pub ascend : IsStrictlySortedBy row_cmp (entry_rows entries)
   pub counted : AllByRecursion (λ (e : Entry). (e.1 ≡ bag e.0) × (1 ≤ e.1)) entries
-  pub all : (r : TableRow) → 1 ≤ bag r → (before : List Entry) × (behind : List Entry) × (entries ≡ before ++ (r, bag r) ∷ behind)
+  pub all : (r : TableRow) → 1 ≤ bag r → (before : List Entry) × (after : List Entry) × (entries ≡ before ++ (r, bag r) ∷ after)
 
 -- ---- Rows that are still to be handed out.
 
@@ -91,16 +90,11 @@ abbrev pub KeysRise : Option Key → List Row → Type 0
 KeysRise last [] = Unit {0}
 KeysRise last (row ∷ rows) = (key : Key) × HasKey key row × IsAbove last key × KeysRise (Some key) rows
 
-abbrev pub key_found : Option RowKey → Option Key
-key_found None = None
-key_found (Some key) = Some (key_in key)
-
 -- ---- What a store lists.
 
 module _ {S : Type 0} (g : Ghosts S) where
-  -- The rows of the content are still to come, and the store holds the same content; after a failure too, if the
-  -- connection is still open.
+  -- The rows of the content are still to come, and the store holds the same content. After a failure it keeps it.
   abbrev pub Lists : Content → Store S g → Result Listing StoreFault → Type 0
   Lists content new (Ok listing) = (entries : List Entry) × AreRows content.rows entries × IsToCome listing entries × Holds g new content
-  Lists content new (Err (Database e)) = IsTrue (database g new).is_open → Holds g new content
+  Lists content new (Err (Database e)) = Keeps g new content
   Lists content new (Err _) = ⊥

@@ -3,7 +3,10 @@ use Rattle.std.specs.Prelude.{◌≡◌, ℕ, suc, zero, pos, negsuc, true, fals
 use Rattle.sqlite_value.specs.declared.value.Value.TheVariants.{Int}
 use Rattle.sqlite_value.specs.declared.keys.Key.{Key}
 use Rattle.sqlite_sql.specs.Term.{Term, lit, col}
-use Rattle.sqlite_sql.specs.Query.{Query, inner, end}
+use Rattle.sqlite_sql.specs.Query.{Query, inner, end, sort_cmp}
+use Rattle.sqlite_value.specs.Order.{Row}
+use Rattle.std.specs.Ordering.{is_lt}
+use Rattle.std.specs.declared.cmp.Ordering.{Ordering}
 use Rattle.sqlite_schema.specs.declared.schema.Schema.{Schema}
 use Rattle.sqlite_schema.specs.declared.schema.Table.{Table}
 use Rattle.sqlite_schema.specs.declared.schema.Index.{Index}
@@ -62,6 +65,16 @@ whole tree width order = record {
   limit = lit (Int (negsuc 0));
   offset = lit (Int (pos 0));
 }
+
+-- the order of rows by ORDER BY
+abbrev pub by_order : List (Term × Key) → Row → Row → Ordering
+by_order order a b = sort_cmp order ([] ∷ a ∷ []) ([] ∷ b ∷ [])
+
+-- No row is less than the one before it.
+abbrev pub Ascends : (Row → Row → Ordering) → List Row → Type 0
+Ascends cmp [] = Unit {0}
+Ascends cmp (a ∷ []) = Unit {0}
+Ascends cmp (a ∷ b ∷ rows) = (is_lt (cmp b a) ≡ false) × Ascends cmp (b ∷ rows)
 
 -- The last column of the table is never NULL.
 abbrev pub IsFilled : List Column → Type 0

@@ -6,6 +6,7 @@ use Rattle.sqlite_value.specs.Order.{Row}
 use Rattle.sqlite_sql.specs.Term.{Term, lit, col}
 use Rattle.sqlite_schema.specs.declared.schema.Schema.{Schema}
 use Rattle.sqlite_catalog.specs.Change.{created}
+use Rattle.sqlite.specs.Effect.{IsDatabase}
 use Rattle.sqlite.specs.State.{State}
 use Rattle.binlog.specs.Filter.{Names}
 use Rattle.store.specs.State.{Content}
@@ -64,6 +65,7 @@ pub record IsNaming (names : Names) (s : State) : Type 0 where
   pub held : s.now.trees 2 ≡ []
   pub spans : s.now.trees 4 ≡ []
   pub follow : AreNames (s.now.trees 6) names
+  pub sound : IsDatabase s.now
 
 -- The database of the transaction stands for this content.
 pub record HasMade (s : State) (names : Names) (content : Content) : Type 0 where

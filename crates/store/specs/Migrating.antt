@@ -9,6 +9,7 @@ use Rattle.sqlite_sql.specs.Term.{Term, lit, col, op2}
 use Rattle.sqlite_sql.specs.Query.{Query}
 use Rattle.sqlite_schema.specs.declared.schema.Schema.{Schema}
 use Rattle.sqlite_catalog.specs.Change.{created, without_table}
+use Rattle.sqlite.specs.Effect.{IsDatabase}
 use Rattle.sqlite.specs.State.{State}
 use Rattle.gtid.specs.Identifier.{AreGtids}
 use Rattle.gtid.specs.declared.span.Span.{Span}
@@ -52,6 +53,7 @@ pub record IsFirstInside (content : Content) (s : State) : Type 0 where
   pub meta_apart : HasRowids (first_meta_rows s.now)
   pub held_apart : HasRowids (first_held_rows s.now)
   pub stands : StandsForFirst s.now content
+  pub sound : IsDatabase s.now
 
 -- There are these tables, meta says this layout, these trees are empty, and meta and held are those of the content.
 pub record IsMigrating (schema : Schema) (layout : ℤ) (bare : List ℕ) (content : Content) (s : State) : Type 0 where
@@ -66,6 +68,7 @@ pub record IsMigrating (schema : Schema) (layout : ℤ) (bare : List ℕ) (conte
   pub held : AllByRecursion IsHeldRow (s.now.trees 4)
   pub rows : content.rows ≡ bag_of (count (s.now.trees 4))
   pub lawful : AreGtids content.executed
+  pub sound : IsDatabase s.now
 
 -- Some of these spans are stored in addition to the earlier rows, and the rest are left.
 pub record HasLeft (old new : State) (spans rest : List Span) : Type 0 where

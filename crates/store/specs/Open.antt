@@ -2,13 +2,13 @@
 use Rattle.std.specs.Prelude.{◌≡◌, IsTrue}
 use Rattle.std.specs.FinSet as set
 use Rattle.sqlite_trees.specs.Tree.{Trees}
-use Rattle.sqlite.specs.Effect.{Database}
+use Rattle.sqlite.specs.Effect.{Database, IsDatabase}
 use Rattle.sqlite.specs.State.{State}
 use Rattle.gtid.specs.Identifier.{Ids}
 use Rattle.binlog.specs.Filter.{Names}
 use Rattle.store.specs.State.{Content}
 use Rattle.store.specs.Layout.{no_schema}
-use Rattle.store.specs.Rows.{StandsFor, StandsForFirst, HasRowids, first_meta_rows, first_held_rows}
+use Rattle.store.specs.Rows.{StandsFor, StandsForFirst, HasRowids, span_rows, first_meta_rows, first_held_rows}
 
 -- nothing is executed, and there is no row
 abbrev pub nothing : Content
@@ -32,12 +32,15 @@ pub record IsFirstAtRest (s : State) (content : Content) : Type 0 where
   pub meta_apart : HasRowids (first_meta_rows s.now)
   pub held_apart : HasRowids (first_held_rows s.now)
   pub stands : StandsForFirst s.now content
+  pub sound : IsDatabase s.now
 
--- Under some schema the trees stand for this content.
+-- Under some schema, which they list and obey, the trees stand for this content.
 pub record MayStandFor (names : Names) (content : Content) (trees : Trees) : Type 0 where
   pub db : Database
   pub trees_are : trees ≡ db.trees
   pub stands : StandsFor db names content
+  pub sound : IsDatabase db
+  pub spans_apart : HasRowids (span_rows db)
 
 -- If the database had layout 1, was at rest and had this executed set, the trees stand for the same content.
 abbrev pub MayMigrate : State → Ids → Trees → Type 0

@@ -14,9 +14,9 @@ use Rattle.store.specs.declared.fault.StoreFault.{StoreFault}
 use Rattle.store.specs.declared.fault.StoreFault.TheVariants.{NoSuchRow, CountFull, Database, Memory}
 use Rattle.store.specs.declared.store.Store.{Store}
 use Rattle.store.specs.State.{Content, TableRow}
-use Rattle.store.specs.Take.{Takes, is_executed, done, repeat, refused}
-use Rattle.store.specs.Rows.{StandsFor}
+use Rattle.store.specs.Take.{HasOutcome, is_executed, done, repeat, refused}
 use Rattle.store.specs.Apply.{IsAtRest, IsApplied}
+pub use Rattle.store.specs.Apply.{AreOf}
 use Rattle.store.specs.Entering.{IsOf, IsWanted}
 
 module _ {S : Type 0} (g : Ghosts S) where
@@ -44,6 +44,13 @@ module _ {S : Type 0} (g : Ghosts S) where
     pub executed : store.executed ≡ content.executed
     pub rest : IsAtRest (database store) store.following content
 
+  -- The store is whole and its set in memory stands for this content, and so do its tables if the connection is still
+  -- open. A fault of the disk shuts it.
+  pub record Keeps (store : Store S g) (content : Content) : Type 0 where
+    pub whole : IsWhole store
+    pub executed : store.executed ≡ content.executed
+    pub rest : IsTrue (database store).is_open → IsAtRest (database store) store.following content
+
   -- The store has failed: its set in memory stands for this content, and so do its tables if the connection is still
   -- open.
   pub record HasFailed (store : Store S g) (content : Content) : Type 0 where
@@ -56,27 +63,37 @@ module _ {S : Type 0} (g : Ghosts S) where
   HoldsAs broken content store = MatchBool broken (HasFailed store content) (Holds store content)
 
   -- The store holds what the transaction makes of the content.
-  pub record HoldsTaken (names : Names) (content : Content) (d : DeliveryValue) (new : Store S g) : Type 0 where
+  pub record HoldsApplied (names : Names) (content : Content) (d : DeliveryValue) (new : Store S g) : Type 0 where
     pub after : Content
-    pub takes : Takes names content d (done after)
+    pub takes : HasOutcome names content d (done after)
     pub holds : Holds new after
 
   -- The outcome of applying a transaction to a store that holds this content.
   abbrev pub Applies : Content → DeliveryValue → Store S g → Store S g → Result Applied StoreFault → Type 0
-  Applies content d old new (Ok Done) = HoldsTaken old.following content d new
-  Applies content d old new (Ok Repeat) = Takes old.following content d repeat × (new ≡ old)
-  Applies content d old new (Err (NoSuchRow at)) = Takes old.following content d (refused at why.NoSuchRow) × Holds new content
-  Applies content d old new (Err (CountFull at)) = Takes old.following content d (refused at why.CountFull) × Holds new content
+  Applies content d old new (Ok Done) = HoldsApplied old.following content d new
+  Applies content d old new (Ok Repeat) = HasOutcome old.following content d repeat × (new ≡ old)
+  Applies content d old new (Err (NoSuchRow at)) = HasOutcome old.following content d (refused at why.NoSuchRow) × Holds new content
+  Applies content d old new (Err (CountFull at)) = HasOutcome old.following content d (refused at why.CountFull) × Holds new content
   Applies content d old new (Err (Database e)) = (is_executed content d ≡ false) × HasFailed new content
   Applies content d old new (Err Memory) = (is_executed content d ≡ false) × HasFailed new content × (connection new ≡ connection old)
   Applies content d old new (Err _) = ⊥
 
-  -- The number of copies of a row is answered, and the store holds the same content; after a failure too, if the
-  -- connection is still open.
+  -- The number of copies of a row is answered, and the store holds the same content. After a failure it keeps it.
   abbrev pub Counts : Content → TableRow → Store S g → Result ℕ StoreFault → Type 0
   Counts content row new (Ok n) = (n ≡ content.rows row) × Holds new content
-  Counts content row new (Err (Database e)) = IsTrue (database new).is_open → Holds new content
+  Counts content row new (Err (Database e)) = Keeps new content
   Counts content row new (Err _) = ⊥
+
+  -- The outcome of applying a transaction, and of a reading, if the connection was shut.
+  abbrev pub AppliesShut : Content → DeliveryValue → Store S g → Store S g → Result Applied StoreFault → Type 0
+  AppliesShut content d old new (Ok Repeat) = HasOutcome old.following content d repeat × (new ≡ old)
+  AppliesShut content d old new (Err (Database e)) = (is_executed content d ≡ false) × HasFailed new content
+  AppliesShut content d old new (Err Memory) = (is_executed content d ≡ false) × HasFailed new content
+  AppliesShut content d old new _ = ⊥
+
+  abbrev pub ReadsShut : {X : Type 0} → Content → Store S g → Result X StoreFault → Type 0
+  ReadsShut content new (Err (Database e)) = Keeps new content
+  ReadsShut content new _ = ⊥
 
   -- The store holds what the database stood for.
   pub record Opens (any : Bool) (only : Names) (old : State) (store : Store S g) : Type 0 where
@@ -84,10 +101,6 @@ module _ {S : Type 0} (g : Ghosts S) where
     pub of : IsOf only store.following old.now content
     pub wanted : IsWanted any only store.following
     pub holds : Holds store content
-
--- Under this schema the trees stand for the content.
-abbrev pub AreOf : Schema → Names → Content → Trees → Type 0
-AreOf schema names content trees = StandsFor (record { schema = schema; trees = trees }) names content
 
 -- What a crash leaves of a transaction that a store has applied.
 abbrev pub Leaves : Schema → Names → Content → DeliveryValue → Result Applied StoreFault → Trees → Type 0

@@ -82,8 +82,8 @@ is_executed content d = set.contains content.executed (d.source, d.number)
 
 -- A transaction in the set changes nothing. For any other, its changes are done in order and it enters the set, or one
 -- change, with this index, is refused.
-abbrev pub Takes : Names → Content → DeliveryValue → Outcome → Type 0
-Takes names old d (done new) =
+abbrev pub HasOutcome : Names → Content → DeliveryValue → Outcome → Type 0
+HasOutcome names old d (done new) =
     (is_executed old d ≡ false) × AreDone names d.changes old.rows new.rows × (new.executed ≡ set.insert old.executed (d.source, d.number))
-Takes names old d repeat = is_executed old d ≡ true
-Takes names old d (refused at why) = (is_executed old d ≡ false) × IsRefusedAt names d.changes old.rows at why
+HasOutcome names old d repeat = is_executed old d ≡ true
+HasOutcome names old d (refused at why) = (is_executed old d ≡ false) × IsRefusedAt names d.changes old.rows at why

@@ -1,6 +1,6 @@
 //! Applying a transaction of the source.
 
-ghost use Rattle.std.specs.Prelude.{◌≡◌, ◌≢◌, true, false, Err, IsTrue};
+ghost use Rattle.std.specs.Prelude.{◌≡◌, ◌≢◌, true, false, Err, IsTrue, IfErr};
 ghost use Rattle.std.specs.FinSet as set;
 ghost use Rattle.sqlite.specs.State.{HasCleanDisk, Survives};
 ghost use Rattle.sqlite.specs.Held.{state};
@@ -8,13 +8,14 @@ ghost use Rattle.gtid.specs.Identifier.{id};
 ghost use Rattle.gather.specs.View.{delivery_value};
 ghost use Rattle.store.specs.State.{Content};
 ghost use Rattle.store.specs.Take.{is_executed};
-ghost use Rattle.store.specs.Apply.{IsAtRest, Comes, MayMove, IsTold};
-ghost use Rattle.store.specs.Store.{Holds, Applies, Leaves, breaks, database, names_of, IsBroken, IsWhole};
+ghost use Rattle.store.specs.Apply.{IsAtRest, Comes, MayMove, IsReported, FailsShut};
+ghost use Rattle.store.specs.Faults.{IsApplyFault};
+ghost use Rattle.store.specs.Store.{Holds, Keeps, Applies, AppliesShut, Leaves, breaks, database, names_of, IsBroken, IsWhole};
 ghost use Rattle.store.specs.declared.fault.StoreFault.TheVariants.{Broken, Memory};
 
 use crate::changes::run;
 use crate::fault::{Applied, StoreFault};
-use crate::neighbors::around;
+use crate::neighbours::around;
 use crate::row_change::Refusal;
 use crate::store::Store;
 use binlog::Follow;
@@ -27,9 +28,10 @@ use std::mem;
 fn refuse<S: Alter>(conn: &mut Connection<S>, at: usize, why: Refusal) -> StoreFault
     requires { conn.old.in_transaction ≡ false }
     ensures autocommit { conn.new.in_transaction ≡ false }
-    ensures told { HasCleanDisk (state S.Store conn.new) → IsTold at why (state S.Store conn.old) (state S.Store conn.new) result }
+    ensures reported { HasCleanDisk (state S.Store conn.new) → IsReported at why (state S.Store conn.old) (state S.Store conn.new) result }
     ensures survives { Survives (state S.Store conn.old) (state S.Store conn.new) (λ _. ⊥) }
     ensures other { result ≢ Memory }
+    ensures fault { IsApplyFault result }
 {
     if let Err(error) = conn.prepare("SELECT n FROM held") {
         return StoreFault::Database(error);
@@ -53,7 +55,9 @@ fn take<S: Alter>(
     ensures comes { HasCleanDisk (state S.Store conn.new) → (content : Content) → IsAtRest (state S.Store conn.old) follow.now content → executed ≡ content.executed → Comes follow.now content (delivery_value delivery.now) (state S.Store conn.old) (state S.Store conn.new) result.0 result.1 }
     ensures crash { (content : Content) → IsAtRest (state S.Store conn.old) follow.now content → executed ≡ content.executed → Survives (state S.Store conn.old) (state S.Store conn.new) (MayMove follow.now content (delivery_value delivery.now) (state S.Store conn.old) result.1) }
     ensures lives { Survives (state S.Store conn.old) (state S.Store conn.new) (λ _. Unit {0}) }
+    ensures shut { HasCleanDisk (state S.Store conn.new) → (state S.Store conn.old).is_open ≡ false → FailsShut (state S.Store conn.new) executed result.0 result.1 }
     ensures memory { result.1 ≡ Err Memory → conn.new ≡ conn.old }
+    ensures fault { IfErr result.1 IsApplyFault }
 {
     let beside = around(&executed, delivery.gtid);
     let reserved = match executed.reserve(delivery.gtid) {
@@ -93,12 +97,14 @@ impl<S: Alter> Store<S> {
     /// - `Broken` after one of these two.
     pub fn apply(&mut self, delivery: &Delivery) -> Result<Applied, StoreFault>
         ensures applies { HasCleanDisk (database S.Store self.new) → (content : Content) → Holds S.Store self.old content → Applies S.Store content (delivery_value delivery.now) self.old self.new result }
+        ensures shut { HasCleanDisk (database S.Store self.new) → (content : Content) → Keeps S.Store self.old content → (database S.Store self.old).is_open ≡ false → AppliesShut S.Store content (delivery_value delivery.now) self.old self.new result }
         ensures broken { IsBroken S.Store self.old → (result ≡ Err Broken) × (self.new ≡ self.old) }
         ensures following { names_of S.Store self.new ≡ names_of S.Store self.old }
         ensures schema { HasCleanDisk (database S.Store self.new) → (content : Content) → Holds S.Store self.old content → IsWhole S.Store self.new → (database S.Store self.new).now.schema ≡ (database S.Store self.old).now.schema }
         ensures clean { HasCleanDisk (database S.Store self.new) → HasCleanDisk (database S.Store self.old) }
         ensures crash { HasCleanDisk (database S.Store self.new) → (content : Content) → Holds S.Store self.old content → (trees : _) → (database S.Store self.new).may_leave trees
             → Leaves (database S.Store self.old).now.schema (names_of S.Store self.old) content (delivery_value delivery.now) result trees }
+        ensures fault { IfErr result IsApplyFault }
     {
         if self.broken {
             return Err(StoreFault::Broken);

@@ -1,13 +1,13 @@
 //! The changes of a transaction of the source, as one transaction of the database.
 
-ghost use Rattle.std.specs.Prelude.{◌≡◌, false, IfOk};
+ghost use Rattle.std.specs.Prelude.{◌≡◌, false, IfOk, IsTrue, Ok, None};
 ghost use Rattle.sqlite.specs.State.{HasCleanDisk, Survives, KeepsCommit};
 ghost use Rattle.sqlite.specs.Held.{state};
 ghost use Rattle.gather.specs.View.{delivery_value};
 ghost use Rattle.store.specs.State.{Content};
 ghost use Rattle.store.specs.Take.{is_executed};
 ghost use Rattle.store.specs.Rows.{StandsFor};
-ghost use Rattle.store.specs.Inside.{IsWorking};
+ghost use Rattle.store.specs.Inside.{IsWorking, WasOpen};
 ghost use Rattle.store.specs.Apply.{LiesBeside, Fills, IsAtRest, Runs, MayCommit};
 
 use crate::row_change::{Refusal, make_all};
@@ -28,6 +28,7 @@ fn fill<S: Alter>(
         → LiesBeside stands.executed.spans delivery.now.gtid beside.now → IfOk result (Fills follow.now content (delivery_value delivery.now) (state S.Store tx.old.conn.now) (state S.Store tx.new.conn.now)) }
     ensures kept { HasCleanDisk (state S.Store tx.new.conn.now) → IsWorking (state S.Store tx.old.conn.now) → KeepsCommit (state S.Store tx.old.conn.now) (state S.Store tx.new.conn.now) }
     ensures survives { Survives (state S.Store tx.old.conn.now) (state S.Store tx.new.conn.now) (λ _. ⊥) }
+    ensures opened { HasCleanDisk (state S.Store tx.new.conn.now) → WasOpen (state S.Store tx.old.conn.now) (state S.Store tx.new.conn.now) }
 {
     if let Some(refused) = make_all(tx, follow, delivery.changes.as_slice())? {
         return Ok(Some(refused));
@@ -47,6 +48,8 @@ pub(crate) fn run<S: Alter>(
     ensures autocommit { conn.new.in_transaction ≡ false }
     ensures runs { HasCleanDisk (state S.Store conn.new) → (content : Content) → (rest : IsAtRest (state S.Store conn.old) follow.now content) → is_executed content (delivery_value delivery.now) ≡ false
         → LiesBeside rest.stands.executed.spans delivery.now.gtid beside.now → Runs follow.now content (delivery_value delivery.now) (state S.Store conn.old) (state S.Store conn.new) result }
+    ensures opened { HasCleanDisk (state S.Store conn.new) → WasOpen (state S.Store conn.old) (state S.Store conn.new) }
+    ensures done { HasCleanDisk (state S.Store conn.new) → result ≡ Ok None → IsTrue (state S.Store conn.new).is_open }
     ensures lives { Survives (state S.Store conn.old) (state S.Store conn.new) (λ _. Unit {0}) }
     ensures crash { (content : Content) → (rest : IsAtRest (state S.Store conn.old) follow.now content) → is_executed content (delivery_value delivery.now) ≡ false
         → LiesBeside rest.stands.executed.spans delivery.now.gtid beside.now → Survives (state S.Store conn.old) (state S.Store conn.new) (MayCommit follow.now content (delivery_value delivery.now) (state S.Store conn.old) result) }

@@ -2,7 +2,7 @@
 
 ghost use Rattle.std.specs.Prelude.{◌≡◌, Bool, false};
 ghost use Rattle.store.specs.State.{Content};
-ghost use Rattle.store.specs.Store.{HoldsAs, connection, names_of};
+ghost use Rattle.store.specs.Store.{HoldsAs, Keeps, connection, names_of};
 
 use crate::store::Store;
 use binlog::Follow;
@@ -12,7 +12,8 @@ use sqlite::{Alter, Connection};
 impl<S: Alter> Store<S> {
     /// The executed set. It takes no memory. A store that has failed answers it too.
     pub fn executed(&self) -> &GtidSet
-        ensures { (broken : Bool) (content : Content) → HoldsAs S.Store broken content self.now → result.now ≡ content.executed }
+        ensures value { (broken : Bool) (content : Content) → HoldsAs S.Store broken content self.now → result.now ≡ content.executed }
+        ensures kept { (content : Content) → Keeps S.Store self.now content → result.now ≡ content.executed }
     {
         &self.executed
     }

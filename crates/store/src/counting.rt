@@ -1,14 +1,16 @@
 //! The number of copies of a row.
 
-ghost use Rattle.std.specs.Prelude.{◌≡◌, true, false, Err, IfOk, OnOk, IsPermutation, map, filter, [], ◌∷◌};
+ghost use Rattle.std.specs.Prelude.{◌≡◌, true, false, Err, IfOk, IfErr, OnOk, IsPermutation, map, filter, [], ◌∷◌, IsTrue};
 ghost use Rattle.sqlite.specs.State.{HasCleanDisk, Survives, IsUnchanged};
 ghost use Rattle.sqlite.specs.Held.{state};
 ghost use Rattle.sqlite_value.specs.Order.{column};
 ghost use Rattle.store.specs.State.{Content, row_of};
 ghost use Rattle.store.specs.Layout.{IsLaidOut};
 ghost use Rattle.store.specs.Rows.{key_in, is_at, held_rows, count};
+ghost use Rattle.store.specs.Inside.{WasOpen};
 ghost use Rattle.store.specs.Apply.{Rests};
-ghost use Rattle.store.specs.Store.{Holds, Counts, AreOf, database, names_of, IsBroken};
+ghost use Rattle.store.specs.Faults.{IsReadFault};
+ghost use Rattle.store.specs.Store.{Holds, Keeps, Counts, ReadsShut, AreOf, database, names_of, IsBroken};
 ghost use Rattle.store.specs.declared.fault.StoreFault.TheVariants.{Broken};
 
 use crate::fault::StoreFault;
@@ -26,6 +28,8 @@ fn find<S: Alter>(conn: &mut Connection<S>, row: &RowKey<'_>) -> Result<Vec<Row>
     ensures same { HasCleanDisk (state S.Store conn.new) → IsLaidOut (state S.Store conn.old).now.schema → OnOk result (IsUnchanged (state S.Store conn.old) (state S.Store conn.new)) }
     ensures rests { HasCleanDisk (state S.Store conn.new) → IsLaidOut (state S.Store conn.old).now.schema → (state S.Store conn.old).now ≡ (state S.Store conn.old).committed → Rests (state S.Store conn.old) (state S.Store conn.new) }
     ensures survives { IsLaidOut (state S.Store conn.old).now.schema → Survives (state S.Store conn.old) (state S.Store conn.new) (λ _. ⊥) }
+    ensures opened { HasCleanDisk (state S.Store conn.new) → WasOpen (state S.Store conn.old) (state S.Store conn.new) }
+    ensures live { HasCleanDisk (state S.Store conn.new) → OnOk result (IsTrue (state S.Store conn.old).is_open) }
 {
     conn.query_all(
         "SELECT n FROM held WHERE schema_name = ?1 AND table_name = ?2 AND image = ?3",
@@ -45,6 +49,8 @@ fn count<S: Alter>(conn: &mut Connection<S>, row: &RowKey<'_>) -> Result<u64, Er
     ensures same { HasCleanDisk (state S.Store conn.new) → IsLaidOut (state S.Store conn.old).now.schema → OnOk result (IsUnchanged (state S.Store conn.old) (state S.Store conn.new)) }
     ensures rests { HasCleanDisk (state S.Store conn.new) → IsLaidOut (state S.Store conn.old).now.schema → (state S.Store conn.old).now ≡ (state S.Store conn.old).committed → Rests (state S.Store conn.old) (state S.Store conn.new) }
     ensures survives { IsLaidOut (state S.Store conn.old).now.schema → Survives (state S.Store conn.old) (state S.Store conn.new) (λ _. ⊥) }
+    ensures opened { HasCleanDisk (state S.Store conn.new) → WasOpen (state S.Store conn.old) (state S.Store conn.new) }
+    ensures live { HasCleanDisk (state S.Store conn.new) → OnOk result (IsTrue (state S.Store conn.old).is_open) }
 {
     let rows = find(conn, row)?;
     let found = one_count(rows.as_slice())?;
@@ -58,10 +64,12 @@ impl<S: Alter> Store<S> {
     /// The faults: `Database` if the database failed, and `Broken` after an earlier failure of `apply`.
     pub fn count(&mut self, schema: &[u8], table: &[u8], image: &Image) -> Result<u64, StoreFault>
         ensures counts { HasCleanDisk (database S.Store self.new) → (content : Content) → Holds S.Store self.old content → Counts S.Store content (row_of schema.now table.now image.now) self.new result }
+        ensures shut { HasCleanDisk (database S.Store self.new) → (content : Content) → Keeps S.Store self.old content → (database S.Store self.old).is_open ≡ false → ReadsShut S.Store content self.new result }
         ensures broken { IsBroken S.Store self.old → (result ≡ Err Broken) × (self.new ≡ self.old) }
         ensures following { names_of S.Store self.new ≡ names_of S.Store self.old }
         ensures crash { HasCleanDisk (database S.Store self.new) → (content : Content) → Holds S.Store self.old content → (trees : _) → (database S.Store self.new).may_leave trees
             → AreOf (database S.Store self.old).now.schema (names_of S.Store self.old) content trees }
+        ensures fault { IfErr result IsReadFault }
     {
         if self.broken {
             return Err(StoreFault::Broken);

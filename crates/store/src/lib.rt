@@ -30,7 +30,7 @@ mod listing;
 mod load;
 mod make;
 mod migrate;
-mod neighbors;
+mod neighbours;
 mod opening;
 mod row_change;
 mod rules;

@@ -1,6 +1,6 @@
 //! Listing the rows of a store in order.
 
-ghost use Rattle.std.specs.Prelude.{◌≡◌, ℕ, pos, true, false, None, Err, IfOk, OnOk, MatchBool, MatchOption, IsPermutation, drop, List as Sequence};
+ghost use Rattle.std.specs.Prelude.{◌≡◌, ℕ, pos, true, false, None, Err, IfOk, IfErr, OnOk, MatchOption, IsPermutation, drop, IsTrue, List as Sequence};
 ghost use Rattle.sqlite.specs.State.{HasCleanDisk, Survives, IsUnchanged};
 ghost use Rattle.sqlite.specs.Held.{state};
 ghost use Rattle.gather.specs.Image.{HasImage};
@@ -8,10 +8,14 @@ ghost use Rattle.sqlite_value.specs.Order.{column};
 ghost use Rattle.sqlite_value.specs.declared.value.Value.TheVariants.{Int};
 ghost use Rattle.store.specs.State.{Content};
 ghost use Rattle.store.specs.Layout.{IsLaidOut};
-ghost use Rattle.store.specs.Rows.{Key, key_in, held_rows};
+ghost use Rattle.std.specs.List.{AllByRecursion};
+ghost use Rattle.sqlite.specs.Effect.{IsDatabase};
+ghost use Rattle.store.specs.Rows.{Key, key_in, HasRowids, IsHeldRow, held_rows};
+ghost use Rattle.store.specs.Inside.{WasOpen};
 ghost use Rattle.store.specs.Apply.{Rests};
-ghost use Rattle.store.specs.Store.{Holds, AreOf, database, names_of, IsBroken};
-ghost use Rattle.store.specs.Listing.{Entry, shown_entry, key_cmp, HasKey, IsAbove, KeysRise, key_found, IsToCome, Gives, Hands, Lists};
+ghost use Rattle.store.specs.Faults.{IsReadFault};
+ghost use Rattle.store.specs.Store.{Holds, Keeps, AreOf, ReadsShut, database, names_of, IsBroken};
+ghost use Rattle.store.specs.Listing.{Entry, shown_entry, HasKey, KeysRise, IsToCome, Gives, Hands, Lists};
 ghost use Rattle.store.specs.declared.fault.StoreFault.TheVariants.{Broken};
 
 use crate::fault::StoreFault;
@@ -22,7 +26,6 @@ use gather::Image;
 use sqlite::types::ValueRef;
 use sqlite::{Alter, Connection, Error, ErrorCode, Row};
 use std::alloc::Global;
-use std::cmp::Ordering;
 
 /// A row that a store holds, with the number of its copies.
 #[derive(Debug, Drop)]
@@ -63,66 +66,22 @@ fn key_at(row: &Row) -> Option<RowKey<'_>>
     })
 }
 
-/// Compares two keys.
-fn compare(a: &RowKey<'_>, b: &RowKey<'_>) -> Ordering
-    ensures { result ≡ key_cmp (key_in a.now) (key_in b.now) }
-{
-    match a.schema.cmp(b.schema) {
-        Ordering::Equal => match a.table.cmp(b.table) {
-            Ordering::Equal => a.image.cmp(b.image),
-            unlike => unlike,
-        },
-        unlike => unlike,
-    }
-}
-
-/// Whether a key is above the last one, if there is one.
-fn is_above(last: &Option<RowKey<'_>>, key: &RowKey<'_>) -> bool
-    ensures { MatchBool result (IsAbove (key_found last.now) (key_in key.now)) (¬ IsAbove (key_found last.now) (key_in key.now)) }
-{
-    match last {
-        Some(last) => compare(last, key).is_lt(),
-        None => true,
-    }
-}
-
-/// Whether the keys ascend.
-fn ascend(rows: &[Row]) -> bool
-    ensures { MatchBool result (KeysRise None rows.now) (¬ KeysRise None rows.now) }
-{
-    let mut last = None;
-    for row in rows {
-        let Some(key) = key_at(row) else {
-            return false;
-        };
-        if !is_above(&last, &key) {
-            return false;
-        }
-        last = Some(key);
-    }
-    true
-}
-
-/// The rows of `held` in the order of their keys. In no file that the `sqlite` crate opens do they come in another
-/// order.
+/// The rows of `held` in the order of their keys.
 fn rows_in_order<S: Alter>(conn: &mut Connection<S>) -> Result<Vec<Row>, Error>
     requires { conn.old.in_transaction ≡ false }
     ensures autocommit { conn.new.in_transaction ≡ false }
     ensures rows { HasCleanDisk (state S.Store conn.new) → IsLaidOut (state S.Store conn.old).now.schema → IfOk result (λ rows. IsPermutation (held_rows (state S.Store conn.old).now) rows.items) }
-    ensures rise { IfOk result (λ rows. KeysRise None rows.items) }
+    ensures rise { HasCleanDisk (state S.Store conn.new) → IsLaidOut (state S.Store conn.old).now.schema → AllByRecursion IsHeldRow (held_rows (state S.Store conn.old).now) → HasRowids (held_rows (state S.Store conn.old).now) → IsDatabase (state S.Store conn.old).now → IfOk result (λ rows. KeysRise None rows.items) }
     ensures same { HasCleanDisk (state S.Store conn.new) → IsLaidOut (state S.Store conn.old).now.schema → OnOk result (IsUnchanged (state S.Store conn.old) (state S.Store conn.new)) }
     ensures rests { HasCleanDisk (state S.Store conn.new) → IsLaidOut (state S.Store conn.old).now.schema → (state S.Store conn.old).now ≡ (state S.Store conn.old).committed → Rests (state S.Store conn.old) (state S.Store conn.new) }
     ensures survives { IsLaidOut (state S.Store conn.old).now.schema → Survives (state S.Store conn.old) (state S.Store conn.new) (λ _. ⊥) }
+    ensures opened { HasCleanDisk (state S.Store conn.new) → WasOpen (state S.Store conn.old) (state S.Store conn.new) }
+    ensures live { HasCleanDisk (state S.Store conn.new) → OnOk result (IsTrue (state S.Store conn.old).is_open) }
 {
-    let rows = read_all(
+    read_all(
         conn,
         "SELECT rowid, schema_name, table_name, image, n FROM held ORDER BY schema_name, table_name, image",
-    )?;
-    if ascend(&rows) {
-        Ok(rows)
-    } else {
-        Err(Error::SqliteFailure(ErrorCode::DatabaseCorrupt))
-    }
+    )
 }
 
 /// The number of copies in a row of `held`.
@@ -140,19 +99,20 @@ fn count_at(row: &Row) -> Option<u64>
 
 /// The row that a row of `held` stores. The only error for such a row is `Memory`.
 fn listed_in(alloc: Global, row: &Row) -> Result<Listed, StoreFault>
-    ensures { (entry : Entry) → shown_entry entry ≡ drop 1 row.now → HasImage entry.0.cells → Gives entry result }
+    ensures gives { (entry : Entry) → shown_entry entry ≡ drop 1 row.now → HasImage entry.0.cells → Gives entry result }
+    ensures fault { IfErr result IsReadFault }
 {
     let Some(key) = key_at(row) else {
-        return Err(StoreFault::Damaged);
+        return Err(StoreFault::Database(Error::SqliteFailure(ErrorCode::DatabaseCorrupt)));
     };
     let Some(count) = count_at(row) else {
-        return Err(StoreFault::Damaged);
+        return Err(StoreFault::Database(Error::SqliteFailure(ErrorCode::DatabaseCorrupt)));
     };
     let Ok(found) = Image::read(alloc, key.image) else {
         return Err(StoreFault::Memory);
     };
     let Some(image) = found else {
-        return Err(StoreFault::Damaged);
+        return Err(StoreFault::Database(Error::SqliteFailure(ErrorCode::DatabaseCorrupt)));
     };
     Ok(Listed {
         schema: Vec::from_slice(alloc, key.schema)?,
@@ -165,7 +125,8 @@ fn listed_in(alloc: Global, row: &Row) -> Result<Listed, StoreFault>
 impl List {
     /// The next row, or `None` after the last one. The only error is `Memory`, which ends the list.
     pub fn next(&mut self) -> Result<Option<Listed>, StoreFault>
-        ensures { (entries : Sequence Entry) → IsToCome self.old entries → Hands entries self.new result }
+        ensures hands { (entries : Sequence Entry) → IsToCome self.old entries → Hands entries self.new result }
+        ensures fault { IfErr result IsReadFault }
     {
         let Some(row) = self.rows.get(self.at) else {
             return Ok(None);
@@ -191,10 +152,12 @@ impl<S: Alter> Store<S> {
     /// the rows in memory.
     pub fn list(&mut self) -> Result<List, StoreFault>
         ensures lists { HasCleanDisk (database S.Store self.new) → (content : Content) → Holds S.Store self.old content → Lists S.Store content self.new result }
+        ensures shut { HasCleanDisk (database S.Store self.new) → (content : Content) → Keeps S.Store self.old content → (database S.Store self.old).is_open ≡ false → ReadsShut S.Store content self.new result }
         ensures broken { IsBroken S.Store self.old → (result ≡ Err Broken) × (self.new ≡ self.old) }
         ensures following { names_of S.Store self.new ≡ names_of S.Store self.old }
         ensures crash { HasCleanDisk (database S.Store self.new) → (content : Content) → Holds S.Store self.old content → (trees : _) → (database S.Store self.new).may_leave trees
             → AreOf (database S.Store self.old).now.schema (names_of S.Store self.old) content trees }
+        ensures fault { IfErr result IsReadFault }
     {
         if self.broken {
             return Err(StoreFault::Broken);

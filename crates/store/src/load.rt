@@ -1,13 +1,14 @@
 //! Reading the tables of a database that is opened.
 
-ghost use Rattle.std.specs.Prelude.{◌≡◌, ℕ, ℤ, false, pos, map, IfOk, IfErr, OnOk, MatchOption, IsPermutation};
+ghost use Rattle.std.specs.Prelude.{◌≡◌, ℕ, ℤ, false, pos, map, IfOk, IfErr, OnOk, MatchOption, IsPermutation, IsTrue};
 ghost use Rattle.std.specs.List.{AllByRecursion, IsDistinct};
 ghost use Rattle.std.specs.FinSet as set;
 ghost use Rattle.sqlite.specs.State.{HasCleanDisk, IsUnchanged, Survives};
 ghost use Rattle.sqlite.specs.Held.{state};
+ghost use Rattle.store.specs.Inside.{WasOpen};
 ghost use Rattle.store.specs.Layout.{IsLaidOut, first_layout};
 ghost use Rattle.store.specs.Rows.{SaysLayout, meta_rows, first_meta_rows, HasRowids, IsMetaRow, IsHeldRow, IsFollowRow, IsSpanRow, IsExecutedRow, AreNames, AreSpans, KeepsRules, KeepsFirstRules, touches, span_in, id_in};
-ghost use Rattle.store.specs.Load.{AsksAll, IsMetaFirst, Rested, OnSeen, Judges, IsLoadFault, all_meta_text, all_held_text, all_spans_text, all_follow_text, all_executed_text, IsLoaded, IsFirstLoaded};
+ghost use Rattle.store.specs.Load.{AsksAll, Ascends, by_order, IsMetaFirst, Rested, OnSeen, Judges, IsLoadFault, all_meta_text, all_held_text, all_spans_text, all_follow_text, all_executed_text, IsLoaded, IsFirstLoaded};
 
 use crate::fault::StoreFault;
 use crate::rules::layout_in;
@@ -29,9 +30,12 @@ pub(crate) fn read_all<S: Alter>(conn: &mut Connection<S>, sql: &str) -> Result<
     requires { conn.old.in_transaction ≡ false }
     ensures autocommit { conn.new.in_transaction ≡ false }
     ensures rows { HasCleanDisk (state S.Store conn.new) → (tree : ℕ) → AsksAll (state S.Store conn.old).now.schema sql.now tree → IfOk result (λ rows. IsPermutation ((state S.Store conn.old).now.trees tree) rows.items) }
+    ensures ascend { HasCleanDisk (state S.Store conn.new) → (tree : ℕ) → (asks : AsksAll (state S.Store conn.old).now.schema sql.now tree) → IfOk result (λ rows. Ascends (by_order asks.order) rows.items) }
     ensures same { HasCleanDisk (state S.Store conn.new) → (tree : ℕ) → AsksAll (state S.Store conn.old).now.schema sql.now tree → OnOk result (IsUnchanged (state S.Store conn.old) (state S.Store conn.new)) }
     ensures rested { HasCleanDisk (state S.Store conn.new) → (tree : ℕ) → AsksAll (state S.Store conn.old).now.schema sql.now tree → Rested (state S.Store conn.old) (state S.Store conn.new) }
     ensures crash { Survives (state S.Store conn.old) (state S.Store conn.new) (λ _. (tree : ℕ) → ¬ AsksAll (state S.Store conn.old).now.schema sql.now tree) }
+    ensures opened { HasCleanDisk (state S.Store conn.new) → WasOpen (state S.Store conn.old) (state S.Store conn.new) }
+    ensures live { HasCleanDisk (state S.Store conn.new) → OnOk result (IsTrue (state S.Store conn.old).is_open) }
 {
     // For the prover: it names the schema in the proof. The call does nothing at run time.
     conn.schema();
@@ -145,6 +149,8 @@ pub(crate) fn load<S: Alter>(alloc: Global, conn: &mut Connection<S>) -> Result<
     ensures crash { IsLaidOut (state S.Store conn.old).now.schema → Survives (state S.Store conn.old) (state S.Store conn.new) (λ _. ⊥) }
     ensures fault { IfErr result IsLoadFault }
 {
+    // For the prover: what the connection shows is a database. The call does nothing at run time.
+    conn.schema();
     load_meta(conn)?;
     let following = load_follow(alloc, conn)?;
     let executed = load_spans(alloc, conn)?;
@@ -169,6 +175,8 @@ pub(crate) fn load_first<S: Alter>(
     ensures crash { (state S.Store conn.old).now.schema ≡ first_layout → Survives (state S.Store conn.old) (state S.Store conn.new) (λ _. ⊥) }
     ensures fault { IfErr result IsLoadFault }
 {
+    // For the prover: what the connection shows is a database. The call does nothing at run time.
+    conn.schema();
     load_meta(conn)?;
     let executed = load_executed(alloc, conn)?;
     load_held(alloc, conn)?;

@@ -1,14 +1,17 @@
 //! Opening a database.
 
-ghost use Rattle.std.specs.Prelude.{◌≡◌, ◌≢◌, false, true, pos, Err, IfOk, IfErr, IsTrue};
-ghost use Rattle.sqlite.specs.State.{HasCleanDisk, Survives};
+ghost use Rattle.std.specs.Prelude.{◌≡◌, ◌≢◌, false, true, pos, Err, IfOk, IfErr, IsTrue, MatchResult};
+ghost use Rattle.sqlite.specs.State.{HasCleanDisk, IsLive, Survives};
 ghost use Rattle.sqlite.specs.Held.{state};
 ghost use Rattle.store.specs.declared.fault.StoreFault.TheVariants.{Memory, Damaged};
 ghost use Rattle.store.specs.Layout.{no_schema, first_layout, IsLaidOut};
 ghost use Rattle.store.specs.Rows.{SaysLayout, first_meta_rows};
 ghost use Rattle.store.specs.Open.{all};
-ghost use Rattle.store.specs.Store.{Opens, database};
-ghost use Rattle.store.specs.Entering.{IsReady, IsEntered, IsTurned, IsWanted, MayEnter, tables_of, has_any, has_first, has_second};
+ghost use Rattle.store.specs.Store.{Holds, Opens, database, names_of};
+ghost use Rattle.binlog.specs.Filter.{Names};
+ghost use Rattle.store.specs.State.{Content};
+ghost use Rattle.store.specs.Faults.{IsOpenFault, IsFailure};
+ghost use Rattle.store.specs.Entering.{IsReady, IsLeft, ReadsLeft, IsEntered, IsTurned, IsWanted, MayEnter, tables_of, has_any, has_first, has_second};
 
 use crate::fault::StoreFault;
 use crate::load::{Loaded, layout_of, load, load_first};
@@ -69,6 +72,7 @@ fn enter_new<S: Alter>(
     ensures entered { HasCleanDisk (state S.Store conn.new) → IsReady (state S.Store conn.old) → (state S.Store conn.old).now.schema ≡ no_schema → IfOk result (λ l. IsEntered any only.now (state S.Store conn.old) (state S.Store conn.new) l.executed l.following) }
     ensures turned { HasCleanDisk (state S.Store conn.new) → IsReady (state S.Store conn.old) → (state S.Store conn.old).now.schema ≡ no_schema → IfErr result (IsTurned any only.now (state S.Store conn.old) (state S.Store conn.new)) }
     ensures crash { IsReady (state S.Store conn.old) → (state S.Store conn.old).now.schema ≡ no_schema → Survives (state S.Store conn.old) (state S.Store conn.new) (MayEnter only.now (state S.Store conn.old)) }
+    ensures fault { IfErr result (IsOpenFault any) }
 {
     let following = copy(alloc, only)?;
     make(conn, &following)?;
@@ -88,9 +92,10 @@ fn enter_first<S: Alter>(
     requires { conn.old.in_transaction ≡ false }
     ensures autocommit { conn.new.in_transaction ≡ false }
     ensures entered { HasCleanDisk (state S.Store conn.new) → IsReady (state S.Store conn.old) → (state S.Store conn.old).now.schema ≡ first_layout → SaysLayout (pos 1) (first_meta_rows (state S.Store conn.old).now) → IfOk result (λ l. IsEntered any only.now (state S.Store conn.old) (state S.Store conn.new) l.executed l.following) }
-    ensures turned { HasCleanDisk (state S.Store conn.new) → IsReady (state S.Store conn.old) → (state S.Store conn.old).now.schema ≡ first_layout → SaysLayout (pos 1) (first_meta_rows (state S.Store conn.old).now) → IfErr result (IsTurned any only.now (state S.Store conn.old) (state S.Store conn.new)) }
+    ensures turned { HasCleanDisk (state S.Store conn.new) → IsReady (state S.Store conn.old) → (state S.Store conn.old).now.schema ≡ first_layout → SaysLayout (pos 1) (first_meta_rows (state S.Store conn.old).now) → (tables_of (state S.Store conn.old).now.schema).meta ≡ true → IfErr result (IsTurned any only.now (state S.Store conn.old) (state S.Store conn.new)) }
     ensures lives { Survives (state S.Store conn.old) (state S.Store conn.new) (λ _. Unit {0}) }
     ensures crash { IsReady (state S.Store conn.old) → (state S.Store conn.old).now.schema ≡ first_layout → SaysLayout (pos 1) (first_meta_rows (state S.Store conn.old).now) → Survives (state S.Store conn.old) (state S.Store conn.new) (MayEnter only.now (state S.Store conn.old)) }
+    ensures fault { IfErr result (IsOpenFault any) }
 {
     let executed = load_first(alloc, conn)?;
     let following = Follow::all(alloc);
@@ -116,9 +121,10 @@ fn enter_second<S: Alter>(
     requires { conn.old.in_transaction ≡ false }
     ensures autocommit { conn.new.in_transaction ≡ false }
     ensures entered { HasCleanDisk (state S.Store conn.new) → IsReady (state S.Store conn.old) → IsLaidOut (state S.Store conn.old).now.schema → SaysLayout (pos 2) (first_meta_rows (state S.Store conn.old).now) → IfOk result (λ l. IsEntered any only.now (state S.Store conn.old) (state S.Store conn.new) l.executed l.following) }
-    ensures turned { HasCleanDisk (state S.Store conn.new) → IsReady (state S.Store conn.old) → IsLaidOut (state S.Store conn.old).now.schema → SaysLayout (pos 2) (first_meta_rows (state S.Store conn.old).now) → IfErr result (IsTurned any only.now (state S.Store conn.old) (state S.Store conn.new)) }
+    ensures turned { HasCleanDisk (state S.Store conn.new) → IsReady (state S.Store conn.old) → IsLaidOut (state S.Store conn.old).now.schema → SaysLayout (pos 2) (first_meta_rows (state S.Store conn.old).now) → (tables_of (state S.Store conn.old).now.schema).meta ≡ true → IfErr result (IsTurned any only.now (state S.Store conn.old) (state S.Store conn.new)) }
     ensures lives { Survives (state S.Store conn.old) (state S.Store conn.new) (λ _. Unit {0}) }
     ensures crash { IsLaidOut (state S.Store conn.old).now.schema → Survives (state S.Store conn.old) (state S.Store conn.new) (λ _. ⊥) }
+    ensures fault { IfErr result (IsOpenFault any) }
 {
     let loaded = load(alloc, conn)?;
     if differs(&loaded.following, any, only) {
@@ -154,6 +160,7 @@ fn enter_old<S: Alter>(
     ensures entered { HasCleanDisk (state S.Store conn.new) → IsReady (state S.Store conn.old) → tables ≡ tables_of (state S.Store conn.old).now.schema → tables.meta ≡ true → IfOk result (λ l. IsEntered any only.now (state S.Store conn.old) (state S.Store conn.new) l.executed l.following) }
     ensures turned { HasCleanDisk (state S.Store conn.new) → IsReady (state S.Store conn.old) → tables ≡ tables_of (state S.Store conn.old).now.schema → tables.meta ≡ true → IfErr result (IsTurned any only.now (state S.Store conn.old) (state S.Store conn.new)) }
     ensures crash { IsReady (state S.Store conn.old) → tables ≡ tables_of (state S.Store conn.old).now.schema → tables.meta ≡ true → Survives (state S.Store conn.old) (state S.Store conn.new) (MayEnter only.now (state S.Store conn.old)) }
+    ensures fault { IfErr result (IsOpenFault any) }
 {
     match layout_of(conn)? {
         Some(1) => {
@@ -187,6 +194,8 @@ fn enter<S: Alter>(
     ensures turned { HasCleanDisk (state S.Store conn.new) → IsReady (state S.Store conn.old) → IfErr result (IsTurned any only.now (state S.Store conn.old) (state S.Store conn.new)) }
     ensures headless { (tables_of (state S.Store conn.old).now.schema).meta ≡ false → has_any (tables_of (state S.Store conn.old).now.schema) ≡ true → (result ≡ Err Damaged) × (conn.new ≡ conn.old) }
     ensures crash { IsReady (state S.Store conn.old) → Survives (state S.Store conn.old) (state S.Store conn.new) (MayEnter only.now (state S.Store conn.old)) }
+    ensures live { IsLive (state S.Store conn.old) }
+    ensures fault { IfErr result (IsOpenFault any) }
 {
     let tables = tables_of(conn.schema());
     if !has_any(tables) {
@@ -219,6 +228,9 @@ fn open_with<S: Alter>(
     ensures autocommit { IfErr result (λ e. e.1.in_transaction ≡ false) }
     ensures crash { IfOk result (λ store. IsReady (state S.Store conn) → Survives (state S.Store conn) (database S.Store store) (MayEnter only.now (state S.Store conn))) }
     ensures left { IfErr result (λ e. IsReady (state S.Store conn) → Survives (state S.Store conn) (state S.Store e.1) (MayEnter only.now (state S.Store conn))) }
+    ensures reopens { (names : Names) (content : Content) → ReadsLeft only.now names content (state S.Store conn) → IsWanted any only.now names → MatchResult result (λ store. HasCleanDisk (database S.Store store) → Holds S.Store store content × (names_of S.Store store ≡ names)) (λ e. HasCleanDisk (state S.Store e.1) → IsFailure e.0) }
+    ensures leaves { (names : Names) (content : Content) → ReadsLeft only.now names content (state S.Store conn) → MatchResult result (λ store. Survives (state S.Store conn) (database S.Store store) (IsLeft only.now names content)) (λ e. Survives (state S.Store conn) (state S.Store e.1) (IsLeft only.now names content)) }
+    ensures fault { IfErr result (λ e. IsOpenFault any e.0) }
 {
     match enter(alloc, &mut conn, any, only) {
         Ok(loaded) => {
@@ -257,6 +269,9 @@ impl<S: Alter> Store<S> {
         ensures autocommit { IfErr result (λ e. e.1.in_transaction ≡ false) }
         ensures crash { IfOk result (λ store. IsReady (state S.Store conn) → Survives (state S.Store conn) (database S.Store store) (MayEnter all (state S.Store conn))) }
         ensures left { IfErr result (λ e. IsReady (state S.Store conn) → Survives (state S.Store conn) (state S.Store e.1) (MayEnter all (state S.Store conn))) }
+        ensures reopens { (names : Names) (content : Content) → ReadsLeft all names content (state S.Store conn) → MatchResult result (λ store. HasCleanDisk (database S.Store store) → Holds S.Store store content × (names_of S.Store store ≡ names)) (λ e. HasCleanDisk (state S.Store e.1) → IsFailure e.0) }
+        ensures leaves { (names : Names) (content : Content) → ReadsLeft all names content (state S.Store conn) → MatchResult result (λ store. Survives (state S.Store conn) (database S.Store store) (IsLeft all names content)) (λ e. Survives (state S.Store conn) (state S.Store e.1) (IsLeft all names content)) }
+        ensures fault { IfErr result (λ e. IsOpenFault true e.0) }
     {
         let only = Follow::all(alloc);
         open_with(alloc, conn, true, &only)
@@ -277,6 +292,9 @@ impl<S: Alter> Store<S> {
         ensures autocommit { IfErr result (λ e. e.1.in_transaction ≡ false) }
         ensures crash { IfOk result (λ store. IsReady (state S.Store conn) → Survives (state S.Store conn) (database S.Store store) (MayEnter follow.now (state S.Store conn))) }
         ensures left { IfErr result (λ e. IsReady (state S.Store conn) → Survives (state S.Store conn) (state S.Store e.1) (MayEnter follow.now (state S.Store conn))) }
+        ensures reopens { (names : Names) (content : Content) → ReadsLeft follow.now names content (state S.Store conn) → IsWanted false follow.now names → MatchResult result (λ store. HasCleanDisk (database S.Store store) → Holds S.Store store content × (names_of S.Store store ≡ names)) (λ e. HasCleanDisk (state S.Store e.1) → IsFailure e.0) }
+        ensures leaves { (names : Names) (content : Content) → ReadsLeft follow.now names content (state S.Store conn) → MatchResult result (λ store. Survives (state S.Store conn) (database S.Store store) (IsLeft follow.now names content)) (λ e. Survives (state S.Store conn) (state S.Store e.1) (IsLeft follow.now names content)) }
+        ensures fault { IfErr result (λ e. IsOpenFault false e.0) }
     {
         open_with(alloc, conn, false, follow)
     }

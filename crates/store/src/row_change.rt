@@ -7,7 +7,7 @@ ghost use Rattle.store.specs.Rows.{IsStored, key_in, held_rows, count};
 ghost use Rattle.gather.specs.Transaction.{insert, delete};
 ghost use Rattle.gather.specs.View.{change_value, change_values};
 ghost use Rattle.store.specs.Take.{is_followed};
-ghost use Rattle.store.specs.Inside.{IsWorking, added, taken, Counted, Makes, Does, DoesAll};
+ghost use Rattle.store.specs.Inside.{IsWorking, WasOpen, added, taken, Counted, Makes, Does, DoesAll};
 
 use crate::held_rows::{RowKey, delete, insert, read, update};
 use binlog::{Follow, TableDef};
@@ -34,6 +34,7 @@ pub(crate) fn add<S: Alter>(
     ensures counted { HasCleanDisk (state S.Store tx.new.conn.now) → IsWorking (state S.Store tx.old.conn.now) → IsStored row.now.image.now → IfOk result (Counted (state S.Store tx.old.conn.now) (state S.Store tx.new.conn.now) (added (key_in row.now) (count (held_rows (state S.Store tx.old.conn.now).now)))) }
     ensures kept { HasCleanDisk (state S.Store tx.new.conn.now) → IsWorking (state S.Store tx.old.conn.now) → KeepsCommit (state S.Store tx.old.conn.now) (state S.Store tx.new.conn.now) }
     ensures survives { Survives (state S.Store tx.old.conn.now) (state S.Store tx.new.conn.now) (λ _. ⊥) }
+    ensures opened { HasCleanDisk (state S.Store tx.new.conn.now) → WasOpen (state S.Store tx.old.conn.now) (state S.Store tx.new.conn.now) }
 {
     let Some(n) = read(tx, row)? else {
         insert(tx, row)?;
@@ -55,6 +56,7 @@ pub(crate) fn take<S: Alter>(
     ensures counted { HasCleanDisk (state S.Store tx.new.conn.now) → IsWorking (state S.Store tx.old.conn.now) → IfOk result (Counted (state S.Store tx.old.conn.now) (state S.Store tx.new.conn.now) (taken (key_in row.now) (count (held_rows (state S.Store tx.old.conn.now).now)))) }
     ensures kept { HasCleanDisk (state S.Store tx.new.conn.now) → IsWorking (state S.Store tx.old.conn.now) → KeepsCommit (state S.Store tx.old.conn.now) (state S.Store tx.new.conn.now) }
     ensures survives { Survives (state S.Store tx.old.conn.now) (state S.Store tx.new.conn.now) (λ _. ⊥) }
+    ensures opened { HasCleanDisk (state S.Store tx.new.conn.now) → WasOpen (state S.Store tx.old.conn.now) (state S.Store tx.new.conn.now) }
 {
     let Some(n) = read(tx, row)? else {
         return Ok(Some(Refusal::NoSuchRow));
@@ -80,6 +82,7 @@ fn add_row<S: Alter>(
     ensures makes { HasCleanDisk (state S.Store tx.new.conn.now) → IsWorking (state S.Store tx.old.conn.now) → IfOk result (Makes (insert table.now.schema.items table.now.table.items image.now) (state S.Store tx.old.conn.now) (state S.Store tx.new.conn.now)) }
     ensures kept { HasCleanDisk (state S.Store tx.new.conn.now) → IsWorking (state S.Store tx.old.conn.now) → KeepsCommit (state S.Store tx.old.conn.now) (state S.Store tx.new.conn.now) }
     ensures survives { Survives (state S.Store tx.old.conn.now) (state S.Store tx.new.conn.now) (λ _. ⊥) }
+    ensures opened { HasCleanDisk (state S.Store tx.new.conn.now) → WasOpen (state S.Store tx.old.conn.now) (state S.Store tx.new.conn.now) }
 {
     let row = RowKey {
         schema: table.schema.as_slice(),
@@ -90,7 +93,7 @@ fn add_row<S: Alter>(
 }
 
 /// Removes one copy of a row of a table.
-fn take_row<S: Alter>(
+fn remove_row<S: Alter>(
     tx: &mut Transaction<'_, S>,
     table: &TableDef,
     image: &Image,
@@ -99,6 +102,7 @@ fn take_row<S: Alter>(
     ensures makes { HasCleanDisk (state S.Store tx.new.conn.now) → IsWorking (state S.Store tx.old.conn.now) → IfOk result (Makes (delete table.now.schema.items table.now.table.items image.now) (state S.Store tx.old.conn.now) (state S.Store tx.new.conn.now)) }
     ensures kept { HasCleanDisk (state S.Store tx.new.conn.now) → IsWorking (state S.Store tx.old.conn.now) → KeepsCommit (state S.Store tx.old.conn.now) (state S.Store tx.new.conn.now) }
     ensures survives { Survives (state S.Store tx.old.conn.now) (state S.Store tx.new.conn.now) (λ _. ⊥) }
+    ensures opened { HasCleanDisk (state S.Store tx.new.conn.now) → WasOpen (state S.Store tx.old.conn.now) (state S.Store tx.new.conn.now) }
 {
     let row = RowKey {
         schema: table.schema.as_slice(),
@@ -114,16 +118,17 @@ fn make<S: Alter>(tx: &mut Transaction<'_, S>, change: &Change) -> Result<Option
     ensures makes { HasCleanDisk (state S.Store tx.new.conn.now) → IsWorking (state S.Store tx.old.conn.now) → IfOk result (Makes (change_value change.now) (state S.Store tx.old.conn.now) (state S.Store tx.new.conn.now)) }
     ensures kept { HasCleanDisk (state S.Store tx.new.conn.now) → IsWorking (state S.Store tx.old.conn.now) → KeepsCommit (state S.Store tx.old.conn.now) (state S.Store tx.new.conn.now) }
     ensures survives { Survives (state S.Store tx.old.conn.now) (state S.Store tx.new.conn.now) (λ _. ⊥) }
+    ensures opened { HasCleanDisk (state S.Store tx.new.conn.now) → WasOpen (state S.Store tx.old.conn.now) (state S.Store tx.new.conn.now) }
 {
     match change {
         Change::Insert { table, after } => add_row(tx, table, after),
-        Change::Delete { table, before } => take_row(tx, table, before),
+        Change::Delete { table, before } => remove_row(tx, table, before),
         Change::Update {
             table,
             before,
             after,
         } => {
-            if let Some(why) = take_row(tx, table, before)? {
+            if let Some(why) = remove_row(tx, table, before)? {
                 return Ok(Some(why));
             }
             add_row(tx, table, after)
@@ -152,6 +157,7 @@ fn step<S: Alter>(
     ensures does { HasCleanDisk (state S.Store tx.new.conn.now) → IsWorking (state S.Store tx.old.conn.now) → IfOk result (Does follow.now (change_value change.now) (state S.Store tx.old.conn.now) (state S.Store tx.new.conn.now)) }
     ensures kept { HasCleanDisk (state S.Store tx.new.conn.now) → IsWorking (state S.Store tx.old.conn.now) → KeepsCommit (state S.Store tx.old.conn.now) (state S.Store tx.new.conn.now) }
     ensures survives { Survives (state S.Store tx.old.conn.now) (state S.Store tx.new.conn.now) (λ _. ⊥) }
+    ensures opened { HasCleanDisk (state S.Store tx.new.conn.now) → WasOpen (state S.Store tx.old.conn.now) (state S.Store tx.new.conn.now) }
 {
     if !is_followed(follow, change) {
         return Ok(None);
@@ -169,6 +175,7 @@ pub(crate) fn make_all<S: Alter>(
     ensures does { HasCleanDisk (state S.Store tx.new.conn.now) → IsWorking (state S.Store tx.old.conn.now) → IfOk result (DoesAll follow.now (change_values changes.now) (state S.Store tx.old.conn.now) (state S.Store tx.new.conn.now)) }
     ensures kept { HasCleanDisk (state S.Store tx.new.conn.now) → IsWorking (state S.Store tx.old.conn.now) → KeepsCommit (state S.Store tx.old.conn.now) (state S.Store tx.new.conn.now) }
     ensures survives { Survives (state S.Store tx.old.conn.now) (state S.Store tx.new.conn.now) (λ _. ⊥) }
+    ensures opened { HasCleanDisk (state S.Store tx.new.conn.now) → WasOpen (state S.Store tx.old.conn.now) (state S.Store tx.new.conn.now) }
 {
     for at in 0..changes.len() {
         if let Some(why) = step(tx, follow, &changes[at])? {

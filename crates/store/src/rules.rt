@@ -10,7 +10,7 @@ ghost use Rattle.std.specs.Prelude.{codes, ℤ};
 ghost use Rattle.sqlite_value.specs.Order.{column};
 ghost use Rattle.sqlite_value.specs.declared.value.Value.TheVariants.{Int};
 ghost use Rattle.binlog.specs.FilterView.{names_of};
-ghost use Rattle.store.specs.Judge.{span_of_id, IsBehind, IsCause, IsOnly, layouts};
+ghost use Rattle.store.specs.Judge.{span_of_id, IsAfter, IsCause, IsOnly, layouts};
 
 use crate::fault::StoreFault;
 use crate::span_rows::is_source;
@@ -130,8 +130,8 @@ pub(crate) fn are_held(alloc: Global, rows: &[Row]) -> Result<bool, StoreFault>
 // ---- rowids
 
 /// Whether a rowid is above the last one, if there is one.
-fn is_behind(last: Option<i64>, id: i64) -> bool
-    ensures { result ≡ true → IsBehind last id }
+fn is_after(last: Option<i64>, id: i64) -> bool
+    ensures { result ≡ true → IsAfter last id }
 {
     match last {
         Some(last) => last < id,
@@ -148,7 +148,7 @@ pub(crate) fn ascend(rows: &[Row]) -> Result<bool, Error>
         let ValueRef::Int(id) = row.get_ref(0)? else {
             return Ok(false);
         };
-        if !is_behind(last, id) {
+        if !is_after(last, id) {
             return Ok(false);
         }
         last = Some(id);

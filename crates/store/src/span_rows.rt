@@ -6,7 +6,7 @@ ghost use Rattle.sqlite.specs.Held.{state};
 ghost use Rattle.sqlite_value.specs.Order.{Row as Stored};
 ghost use Rattle.sqlite_value.specs.declared.value.Value.TheVariants.{Int, Blob};
 ghost use Rattle.store.specs.Rows.{span_rows, shown_spans};
-ghost use Rattle.store.specs.Inside.{IsWorking, GoesOn, Moves, Begins, Remains, EndsBefore, BeginsBehind, Shows, Records};
+ghost use Rattle.store.specs.Inside.{IsWorking, WasOpen, GoesOn, Moves, Begins, Remains, EndsBefore, BeginsAfter, Shows, Records};
 ghost use Rattle.std.specs.FinSet as set;
 ghost use Rattle.std.specs.List.{AllByRecursion};
 ghost use Rattle.gtid.specs.Identifier.{Ids, id, IsSource, IsGtid};
@@ -27,6 +27,7 @@ pub(crate) fn add_span<S: Alter>(
     ensures moves { HasCleanDisk (state S.Store tx.new.conn.now) → IsWorking (state S.Store tx.old.conn.now) → OnOk result (Moves (state S.Store tx.old.conn.now) (state S.Store tx.new.conn.now) ((Blob source.now ∷ Int lo ∷ Int hi ∷ []) ∷ shown_spans (span_rows (state S.Store tx.old.conn.now).now))) }
     ensures kept { HasCleanDisk (state S.Store tx.new.conn.now) → IsWorking (state S.Store tx.old.conn.now) → KeepsCommit (state S.Store tx.old.conn.now) (state S.Store tx.new.conn.now) }
     ensures survives { Survives (state S.Store tx.old.conn.now) (state S.Store tx.new.conn.now) (λ _. ⊥) }
+    ensures opened { HasCleanDisk (state S.Store tx.new.conn.now) → WasOpen (state S.Store tx.old.conn.now) (state S.Store tx.new.conn.now) }
 {
     tx.execute(
         "INSERT INTO spans VALUES (?1, ?2, ?3)",
@@ -45,6 +46,7 @@ pub(crate) fn drop_span<S: Alter>(
     ensures goes { HasCleanDisk (state S.Store tx.new.conn.now) → IsWorking (state S.Store tx.old.conn.now) → OnOk result (GoesOn (state S.Store tx.old.conn.now) (state S.Store tx.new.conn.now)) }
     ensures kept { HasCleanDisk (state S.Store tx.new.conn.now) → IsWorking (state S.Store tx.old.conn.now) → KeepsCommit (state S.Store tx.old.conn.now) (state S.Store tx.new.conn.now) }
     ensures survives { Survives (state S.Store tx.old.conn.now) (state S.Store tx.new.conn.now) (λ _. ⊥) }
+    ensures opened { HasCleanDisk (state S.Store tx.new.conn.now) → WasOpen (state S.Store tx.old.conn.now) (state S.Store tx.new.conn.now) }
 {
     tx.execute(
         "DELETE FROM spans WHERE source = ?1 AND lo = ?2",
@@ -64,6 +66,7 @@ fn drop_if<S: Alter>(
     ensures goes { HasCleanDisk (state S.Store tx.new.conn.now) → IsWorking (state S.Store tx.old.conn.now) → OnOk result (GoesOn (state S.Store tx.old.conn.now) (state S.Store tx.new.conn.now)) }
     ensures kept { HasCleanDisk (state S.Store tx.new.conn.now) → IsWorking (state S.Store tx.old.conn.now) → KeepsCommit (state S.Store tx.old.conn.now) (state S.Store tx.new.conn.now) }
     ensures survives { Survives (state S.Store tx.old.conn.now) (state S.Store tx.new.conn.now) (λ _. ⊥) }
+    ensures opened { HasCleanDisk (state S.Store tx.new.conn.now) → WasOpen (state S.Store tx.old.conn.now) (state S.Store tx.new.conn.now) }
 {
     if !there {
         return Ok(());
@@ -91,6 +94,7 @@ fn put_span<S: Alter>(
         → ((rows : List Stored) → IsPermutation middle rows → Remains source.now (pos next) after rows rest) → OnOk result (Moves (state S.Store tx.old.conn.now) (state S.Store tx.new.conn.now) ((Blob source.now ∷ Int (pos lo) ∷ Int (pos hi) ∷ []) ∷ rest)) }
     ensures kept { HasCleanDisk (state S.Store tx.new.conn.now) → IsWorking (state S.Store tx.old.conn.now) → KeepsCommit (state S.Store tx.old.conn.now) (state S.Store tx.new.conn.now) }
     ensures survives { Survives (state S.Store tx.old.conn.now) (state S.Store tx.new.conn.now) (λ _. ⊥) }
+    ensures opened { HasCleanDisk (state S.Store tx.new.conn.now) → WasOpen (state S.Store tx.old.conn.now) (state S.Store tx.new.conn.now) }
 {
     drop_if(tx, source, lo as i64, before)?;
     drop_if(tx, source, next as i64, after)?;
@@ -130,9 +134,10 @@ pub(crate) fn record<S: Alter>(
     ensures same_reference { tx.new.conn.ghost_name ≡ tx.old.conn.ghost_name }
     ensures lawful { IsGtid (id gtid) }
     ensures records { HasCleanDisk (state S.Store tx.new.conn.now) → IsWorking (state S.Store tx.old.conn.now) → (ids : Ids) → (spans : List Span) → Shows (span_rows (state S.Store tx.old.conn.now).now) spans ids → set.contains ids (id gtid) ≡ false
-        → EndsBefore gtid.source gtid.number spans beside.now.before → BeginsBehind gtid.source gtid.number spans beside.now.after → OnOk result (Records (state S.Store tx.old.conn.now) (state S.Store tx.new.conn.now) (set.insert ids (id gtid))) }
+        → EndsBefore gtid.source gtid.number spans beside.now.before → BeginsAfter gtid.source gtid.number spans beside.now.after → OnOk result (Records (state S.Store tx.old.conn.now) (state S.Store tx.new.conn.now) (set.insert ids (id gtid))) }
     ensures kept { HasCleanDisk (state S.Store tx.new.conn.now) → IsWorking (state S.Store tx.old.conn.now) → KeepsCommit (state S.Store tx.old.conn.now) (state S.Store tx.new.conn.now) }
     ensures survives { Survives (state S.Store tx.old.conn.now) (state S.Store tx.new.conn.now) (λ _. ⊥) }
+    ensures opened { HasCleanDisk (state S.Store tx.new.conn.now) → WasOpen (state S.Store tx.old.conn.now) (state S.Store tx.new.conn.now) }
 {
     is_source(gtid.source);
     let next = gtid.number + 1;

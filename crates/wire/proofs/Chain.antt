@@ -86,15 +86,15 @@ at_or_before due limit n room id rest room_is id_is (inr (size', body, rest_is, 
     let k : n ≡ m = omega arith in
     let f : n * full_chunk ≡ m * full_chunk = ap (λ x. x * full_chunk) k in
     (e.1 ∙ id_is ∙ ap (λ x. (due + x) % 256) k, omega (arith, e.0, f), inr (omega (arith, e.0, ap length e.2)))
-at_or_before due limit n room id rest room_is id_is is_open m size got front more header sized (suc d) at (p, o, front_is, full, behind) =
+at_or_before due limit n room id rest room_is id_is is_open m size got front more header sized (suc d) at (p, o, front_is, full, after) =
     let e = peel (due + m) p o size got more (full_fits p full) sized (sym front_is ∙ header) in
     let f : n * full_chunk ≡ (m + suc d) * full_chunk = ap (λ x. x * full_chunk) at in
     (e.1, omega (arith, e.0, full, f), inl (e.0 ∙ full))
 
 -- no header is after the open rest
-none_behind : (id j room : ℕ) (rest front : List ℕ) (d : ℕ) → IsOpen id room rest → Chain j (suc d) rest front → ⊥
-none_behind id j room rest front d (inl short) (p, o, rest_is, full, behind) = omega (arith, ap length rest_is, short)
-none_behind id j room rest front d (inr (size, body, header, fits, sized, short)) (p, o, rest_is, full, behind) =
+none_after : (id j room : ℕ) (rest front : List ℕ) (d : ℕ) → IsOpen id room rest → Chain j (suc d) rest front → ⊥
+none_after id j room rest front d (inl short) (p, o, rest_is, full, after) = omega (arith, ap length rest_is, short)
+none_after id j room rest front d (inr (size, body, header, fits, sized, short)) (p, o, rest_is, full, after) =
     let e = peel j p o size id body (full_fits p full) sized (sym rest_is ∙ header) in
     omega (arith, e.0, ap length e.2, length-append p o, short)
 
@@ -103,7 +103,7 @@ pub front_is_right : (due limit n room id : ℕ) (bytes rest : List ℕ) → Cha
 front_is_right due limit n room id bytes rest chain room_is id_is is_open m size got front more other header sized = elim (order m n) [
   | inl h ↦ at_or_before due limit n room id rest room_is id_is is_open m size got front more header sized h.0 h.1
       (chain_split due m h.0 n (due + m) bytes front rest other h.1 refl chain)
-  | inr h ↦ absurd (none_behind id (due + n) room rest front h.0 is_open (chain_split due n (suc h.0) m (due + n) bytes rest front chain h.1 refl other))
+  | inr h ↦ absurd (none_after id (due + n) room rest front h.0 is_open (chain_split due n (suc h.0) m (due + n) bytes rest front chain h.1 refl other))
 ]
 
 -- full packets have been read, and the rest is still to be read

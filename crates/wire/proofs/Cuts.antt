@@ -22,9 +22,9 @@ IsBytes-rest b bytes h i = h (suc i)
 pub IsBytes-drop : (n : ℕ) (bytes : List ℕ) → IsBytes bytes → IsBytes (drop n bytes)
 IsBytes-drop n bytes fits i = rw get_or-drop (fits (n + i))
 
-pub IsBytes-behind : (front rest : List ℕ) → IsBytes (front ++ rest) → IsBytes rest
-IsBytes-behind [] rest h = h
-IsBytes-behind (b ∷ front) rest h = IsBytes-behind front rest (IsBytes-rest b (front ++ rest) h)
+pub IsBytes-after : (front rest : List ℕ) → IsBytes (front ++ rest) → IsBytes rest
+IsBytes-after [] rest h = h
+IsBytes-after (b ∷ front) rest h = IsBytes-after front rest (IsBytes-rest b (front ++ rest) h)
 
 -- ---- Numbers.
 
@@ -66,11 +66,11 @@ pub one : (n : ℕ) (xs : List ℕ) → n < length xs → drop n xs ≡ get_or x
 one n xs short = drop-cons xs n 0 short
 
 -- what follows a front
-pub behind : (n m : ℕ) (front rest : List ℕ) → length front ≡ n → drop (n + m) (front ++ rest) ≡ drop m rest
-behind n m front rest long = ap (λ k. drop (k + m) (front ++ rest)) (sym long) ∙ drop-append-add front rest m
+pub after : (n m : ℕ) (front rest : List ℕ) → length front ≡ n → drop (n + m) (front ++ rest) ≡ drop m rest
+after n m front rest long = ap (λ k. drop (k + m) (front ++ rest)) (sym long) ∙ drop-append-add front rest m
 
 pub drop_front : (front rest : List ℕ) → drop (length front) (front ++ rest) ≡ rest
-drop_front front rest = let e : length front ≡ length front + 0 = omega arith in ap (λ k. drop k (front ++ rest)) e ∙ behind (length front) 0 front rest refl
+drop_front front rest = let e : length front ≡ length front + 0 = omega arith in ap (λ k. drop k (front ++ rest)) e ∙ after (length front) 0 front rest refl
 
 -- ---- One byte or two, and the rest.
 

@@ -26,7 +26,7 @@ Agree due m size id n size' id' =
 
 before_it : (due m size id : ℕ) (front others : List ℕ) (more : List ℕ) (d : ℕ) → front ≡ little_bytes 3 size ++ id ∷ more → size < 2 ^ 24 →
     Chain (due + m) (suc d) front others → (size ≡ full_chunk) × (id ≡ (due + m) % 256)
-before_it due m size id front others more d header sized (p, o, front_is, full, behind) =
+before_it due m size id front others more d header sized (p, o, front_is, full, after) =
     let e = peel (due + m) p o size id more (full_fits p full) sized (sym front_is ∙ header) in
     (e.0 ∙ full, e.1)
 
@@ -126,11 +126,11 @@ one_ending due limit bytes TooLarge TooLarge a b = refl
 -- a stream has one reading
 pub one_reading : (due limit : ℕ) (stream : List ℕ) (a b : List (List ℕ)) (e f : Ending) → IsStream due limit stream a e → IsStream due limit stream b f → (a ≡ b) × (e ≡ f)
 one_reading due limit stream [] [] e f x y = (refl, one_ending due limit stream e f x y)
-one_reading due limit stream [] (q ∷ qs) e f x (bytes, rest, next, is, whole, behind) = absurd (ends_or_whole bytes rest e x is whole)
-one_reading due limit stream (p ∷ ps) [] e f (bytes, rest, next, is, whole, behind) y = absurd (ends_or_whole bytes rest f y is whole)
-one_reading due limit stream (p ∷ ps) (q ∷ qs) e f (bytes, rest, next, is, whole, behind) (bytes', rest', next', is', whole', behind') =
+one_reading due limit stream [] (q ∷ qs) e f x (bytes, rest, next, is, whole, after) = absurd (ends_or_whole bytes rest e x is whole)
+one_reading due limit stream (p ∷ ps) [] e f (bytes, rest, next, is, whole, after) y = absurd (ends_or_whole bytes rest f y is whole)
+one_reading due limit stream (p ∷ ps) (q ∷ qs) e f (bytes, rest, next, is, whole, after) (bytes', rest', next', is', whole', after') =
     let s = none_begins rest rest' whole.packing whole'.packing (sym is ∙ is') in
-    let r = one_reading next limit rest ps qs e f behind (subst (λ n. IsStream n limit rest qs f) (sym s.3) (subst (λ b. IsStream next' limit b qs f) (sym s.2) behind')) in
+    let r = one_reading next limit rest ps qs e f after (subst (λ n. IsStream n limit rest qs f) (sym s.3) (subst (λ b. IsStream next' limit b qs f) (sym s.2) after')) in
     ((λ i. s.0 i ∷ r.0 i), r.1)
 
 -- a header stays as it is when more bytes come

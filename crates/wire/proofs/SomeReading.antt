@@ -19,9 +19,9 @@ bytes-drop zero xs all = all
 bytes-drop (suc n) [] all = tt
 bytes-drop (suc n) (x ∷ xs) all = bytes-drop n xs all.1
 
-bytes-behind : (xs ys : List ℕ) → AllByRecursion IsByte (xs ++ ys) → AllByRecursion IsByte ys
-bytes-behind [] ys all = all
-bytes-behind (x ∷ xs) ys all = bytes-behind xs ys all.1
+bytes-after : (xs ys : List ℕ) → AllByRecursion IsByte (xs ++ ys) → AllByRecursion IsByte ys
+bytes-after [] ys all = all
+bytes-after (x ∷ xs) ys all = bytes-after xs ys all.1
 
 equal_or_not : (m n : ℕ) → (m ≡ n) ⊎ (m ≢ n)
 equal_or_not m n = elim (cases_lt m n) [
@@ -156,7 +156,7 @@ reading : (fuel due limit : ℕ) (stream : List ℕ) → AllByRecursion IsByte s
 reading zero due limit stream all enough = absurd (omega (arith, enough))
 reading (suc fuel) due limit stream all enough = elim (front_of due limit stream all) [
   | inl f ↦ let (front, rest, payload, next, is, whole, less) = f in
-      let r = reading fuel next limit rest (bytes-behind front rest (subst (AllByRecursion IsByte) is all)) (omega (arith, less, enough)) in
+      let r = reading fuel next limit rest (bytes-after front rest (subst (AllByRecursion IsByte) is all)) (omega (arith, less, enough)) in
       (payload ∷ r.0, r.1, (front, rest, next, is, whole, r.2))
   | inr e ↦ ([], e.0, e.1)
 ]

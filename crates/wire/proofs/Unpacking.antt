@@ -6,7 +6,7 @@ use Rattle.byteorder.specs.Endian.{little_bytes}
 use Rattle.wire.specs.Packet.{full_chunk, packet, packets}
 use Rattle.wire.specs.Header.{IsHeader}
 use Rattle.wire.specs.Payload.{HasHeader, IsOutOfSequence, IsTooLarge, IsUnfinished, IsWholePayload}
-use Rattle.wire.specs.Held.{full_chunks, at_hand, held_of, IsInHeader, IsInChunk, IsUnpacking, IsComplete, Takes}
+use Rattle.wire.specs.Held.{full_chunks, at_hand, held_of, IsInHeader, IsInChunk, IsUnpacking, IsComplete, Consumes}
 use Rattle.wire.specs.declared.unpacker.Unpacker.{Unpacker}
 use Rattle.wire.proofs.Packets.{packets-push}
 use Rattle.wire.proofs.Chunks.{full_chunks_full, length-full_chunks, concat-full_chunks, full_chunks-append, full_chunks-more}
@@ -190,7 +190,7 @@ length-held_of u (inr h) =
     )
 
 -- bytes taken, and then more of them
-pub taken_more : {old mid new : Unpacker} {bytes : List ℕ} {n m : ℕ} → Takes old mid bytes n → Takes mid new (drop n bytes) m → Takes old new bytes (n + m)
+pub taken_more : {old mid new : Unpacker} {bytes : List ℕ} {n m : ℕ} → Consumes old mid bytes n → Consumes mid new (drop n bytes) m → Consumes old new bytes (n + m)
 taken_more {old} {mid} {new} {bytes} {n} {m} a b = record {
   in_range = omega (arith, a.in_range, b.in_range, length-drop n bytes);
   limit = b.limit ∙ a.limit;

@@ -44,7 +44,7 @@ abbrev pub IsComplete : Unpacker → Type 0
 IsComplete u = (u.filled ≡ 4) × (u.left ≡ 0)
 
 -- `used` of the bytes were taken, and nothing was wrong with them.
-pub record Takes (old new : Unpacker) (bytes : List ℕ) (used : ℕ) : Type 0 where
+pub record Consumes (old new : Unpacker) (bytes : List ℕ) (used : ℕ) : Type 0 where
   pub in_range : used ≤ length bytes
   pub limit : new.limit ≡ old.limit
   pub due : new.due ≡ old.due

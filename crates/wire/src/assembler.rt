@@ -72,7 +72,7 @@ impl Assembler {
         self.unpacker.due = sequence;
     }
 
-    /// Takes bytes up to the end of the current payload, or all of them.
+    /// Consumes bytes up to the end of the current payload, or all of them.
     ///
     /// `Sequence` and `TooLarge` are reported as soon as the four bytes of the wrong header have come,
     /// `Sequence` if the header is wrong in both ways. `Memory` is reported if the room for the bytes

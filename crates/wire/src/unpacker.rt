@@ -64,7 +64,7 @@ fn read_header(header: &[u8], id: u8, room: usize) -> Result<usize, WireFault>
 impl Unpacker {
     ghost use Rattle.std.specs.Prelude.{◌≡◌, ◌≢◌, ℕ, ◌+◌, ◌%◌, ◌≤◌, ◌<◌, ◌++◌, [], ◌↔◌, length, take, IfOk, IfErr, IsTrue};
     ghost use Rattle.wire.specs.Payload.{IsOutOfSequence, IsTooLarge, IsWholePayload, NeedsRoom};
-    ghost use Rattle.wire.specs.Held.{held_of, IsInHeader, IsInChunk, IsUnpacking, IsComplete, Takes};
+    ghost use Rattle.wire.specs.Held.{held_of, IsInHeader, IsInChunk, IsUnpacking, IsComplete, Consumes};
 
     /// Between payloads: the next packet must have the sequence id `due`.
     pub(crate) fn new(alloc: Global, limit: usize, due: u8) -> Unpacker
@@ -99,12 +99,12 @@ impl Unpacker {
         self.filled == HEADER && self.left == 0
     }
 
-    /// Takes bytes of the current header. Once it is complete it is checked, and room is made for its
+    /// Consumes bytes of the current header. Once it is complete it is checked, and room is made for its
     /// chunk.
     fn take_header(&mut self, bytes: &[u8]) -> Result<usize, WireFault>
         requires header { IsInHeader self.old }
         requires limit { self.old.limit ≤ LARGEST_PAYLOAD }
-        ensures ok { IfOk result (λ used. Takes self.old self.new bytes.now used) }
+        ensures ok { IfOk result (λ used. Consumes self.old self.new bytes.now used) }
         ensures progress { IfOk result (λ used. 0 < length bytes.now → 0 < used) }
         ensures limit { self.new.limit ≡ self.old.limit }
         ensures sequence { (want got : ℕ) → result ≡ Err (WireFault.Sequence want got) → IsOutOfSequence self.old.due self.old.limit (held_of self.old ++ bytes.now) want got }
@@ -123,12 +123,12 @@ impl Unpacker {
         Ok(used)
     }
 
-    /// Takes bytes of the current chunk, for which there is room.
+    /// Consumes bytes of the current chunk, for which there is room.
     fn take_chunk(&mut self, bytes: &[u8]) -> usize
         requires chunk { IsInChunk self.old }
         requires open { 0 < self.old.left }
         requires limit { self.old.limit ≤ LARGEST_PAYLOAD }
-        ensures takes { Takes self.old self.new bytes.now result }
+        ensures takes { Consumes self.old self.new bytes.now result }
         ensures progress { 0 < length bytes.now → 0 < result }
     {
         let used = self.left.min(bytes.len());
@@ -141,12 +141,12 @@ impl Unpacker {
         used
     }
 
-    /// Takes bytes up to the end of the payload, or all of them, and returns how many.
+    /// Consumes bytes up to the end of the payload, or all of them, and returns how many.
     pub(crate) fn advance(&mut self, bytes: &[u8]) -> Result<usize, WireFault>
         requires stands { IsUnpacking self.old }
         requires open { IsComplete self.old → ⊥ }
         requires limit { self.old.limit ≤ LARGEST_PAYLOAD }
-        ensures ok { IfOk result (λ used. Takes self.old self.new bytes.now used) }
+        ensures ok { IfOk result (λ used. Consumes self.old self.new bytes.now used) }
         ensures end { IfOk result (λ used. used < length bytes.now → IsComplete self.new) }
         ensures progress { IfOk result (λ used. IsComplete self.new → 0 < used) }
         ensures limit { self.new.limit ≡ self.old.limit }

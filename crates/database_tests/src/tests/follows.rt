@@ -63,8 +63,8 @@ fn follow_into(
 ) -> Result<(Outcome, Vec<u8>), Fail> {
     let config = config(alloc, password, LARGEST_PAYLOAD)?;
     let stream = Stream::new(bytes, Vec::new(alloc), given.gives, given.takes)
-        .fail_to_read_behind(given.readable)
-        .fail_to_write_behind(given.writable);
+        .fail_to_read_after(given.readable)
+        .fail_to_write_after(given.writable);
     let mut counted = Counted::new(stream);
     let end = follow(alloc, &mut counted, store, config);
     let (reads, writes) = (counted.failed_reads(), counted.failed_writes());
@@ -221,7 +221,7 @@ const ANSWERS: [(usize, [u8; 20]); 3] = [
     (300, [0, 179, 114, 174, 0, 173, 134, 167, 55, 72, 144, 178, 21, 179, 90, 245, 30, 184, 212, 38]),
 ];
 
-/// They stand behind the header, the user name and their length.
+/// They stand after the header, the user name and their length.
 #[test]
 fn logs_in_with_a_password(rt: HostRuntime) -> Result<(), Fail> {
     for (length, answer) in ANSWERS {

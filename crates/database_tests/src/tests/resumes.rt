@@ -3,7 +3,7 @@
 use super::fixtures::{attempt, held};
 use super::sessions::ends;
 use super::sources::{history, request};
-use super::streams::{HISTORY, joined};
+use super::streams::{cut, joined, three_transactions};
 use gtid::GtidSet;
 use scripted_source::{Ending, Script, answer};
 use sqlite::{Alter, Connection, MemStore};
@@ -15,7 +15,7 @@ use store::Store;
 fn stream(alloc: Global, history: &[Script], set: &GtidSet) -> Result<Vec<u8>, Fail> {
     let request = request(alloc, 4, set)?;
     let answered = answer(alloc, history, &request)?;
-    joined(alloc, &[&HISTORY[..100], &answered])
+    joined(alloc, &[cut(100).0, &answered])
 }
 
 /// Reads a part of a stream, asks again and reads the answer. Returns what the store held after the part, the number of
@@ -68,8 +68,10 @@ fn expected(read: usize) -> (&'static str, usize) {
 #[test]
 fn a_history_is_resumed_after_every_cut(rt: HostRuntime) -> Result<(), Fail> {
     let history = history(rt.alloc())?;
+    let whole = three_transactions(rt.alloc())?;
     for read in 0..=890 {
-        let (first, length, last) = resumed_anew(rt.alloc(), None, &history, &HISTORY[..read])?;
+        let part = whole.get(..read).unwrap_or(&[]);
+        let (first, length, last) = resumed_anew(rt.alloc(), None, &history, part)?;
         assert_eq!(rt; (first.as_str(), length), expected(read));
         assert_eq!(rt; last.as_str(), "1-3 0 1 0");
     }

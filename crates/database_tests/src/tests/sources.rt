@@ -1,6 +1,6 @@
 //! A scripted source.
 
-use super::streams::{HISTORY, SENT, joined};
+use super::streams::{HISTORY_END, ONE_TRANSACTION, SENT, cut, joined};
 use binlog::{ColumnKind, ColumnType, OwnedCell, OwnedPair, RowsKind, TableDef};
 use greet::Dump;
 use gtid::{Gtid, GtidSet};
@@ -68,7 +68,7 @@ fn script(
     })
 }
 
-/// The transactions of `streams::HISTORY`.
+/// The transactions of `streams::three_transactions`.
 pub(super) fn history(alloc: Global) -> Result<Vec<Script>, Fail> {
     let changes = [
         (1, RowsKind::Write, insert(alloc, 7, b"ab")?),
@@ -127,7 +127,7 @@ fn a_source_opens(rt: HostRuntime) -> Result<(), Fail> {
         *byte = at as u8 + 1;
     }
     let bytes = opening(rt.alloc(), &scramble)?;
-    assert_eq!(rt; bytes.as_slice(), &HISTORY[..100]);
+    assert_eq!(rt; bytes.as_slice(), cut(100).0);
     Ok(())
 }
 
@@ -137,10 +137,12 @@ fn a_source_answers(rt: HostRuntime) -> Result<(), Fail> {
     let alloc = rt.alloc();
     let mut history = history(alloc)?;
     let bytes = answered(alloc, &history, 4, &[])??;
-    assert_eq!(rt; bytes.as_slice(), &HISTORY[100..]);
+    let begun = &ONE_TRANSACTION[100..365];
+    let want = joined(alloc, &[begun, &HISTORY_END])?;
+    assert_eq!(rt; bytes.as_slice(), want.as_slice());
     let bytes = answered(alloc, &history, 5, &[2, 3])??;
     let eof = b"\x05\0\0\x07\xfe\0\0\x02\0";
-    let want = joined(alloc, &[&HISTORY[100..441], eof])?;
+    let want = joined(alloc, &[begun, &HISTORY_END[..76], eof])?;
     assert_eq!(rt; bytes.as_slice(), want.as_slice());
     for script in &mut history {
         script.ending = Ending::Commit;
@@ -148,7 +150,7 @@ fn a_source_answers(rt: HostRuntime) -> Result<(), Fail> {
     let bytes = answered(alloc, &history, 4, &[2, 3])??;
     let commit =
         b"\x28\0\0\x06\0\0\0\0\0\x02\x01\0\0\0\x27\0\0\0\0\0\0\0\0\0\0\0\0\0\0\0\0\0\0\0\0\0\0\0COMMIT";
-    let want = joined(alloc, &[&HISTORY[100..409], commit])?;
+    let want = joined(alloc, &[begun, &HISTORY_END[..44], commit])?;
     assert_eq!(rt; bytes.as_slice(), want.as_slice());
     Ok(())
 }

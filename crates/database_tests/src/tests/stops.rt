@@ -2,7 +2,7 @@
 
 use super::fixtures::{attempt, delivery};
 use super::sessions::ends;
-use super::streams::HISTORY;
+use super::streams::three_transactions;
 use sqlite::{Alter, Connection, FileStore, Files, Options};
 use sqlite_disk::{Crash, Disk, Fuse, Memory};
 use std::alloc::Global;
@@ -159,7 +159,7 @@ fn work<S: Alter>(alloc: Global, job: Job, store: &mut Store<S>) -> Result<u64, 
             Ok(_) => Ok(1),
             Err(_) => Ok(0),
         },
-        Job::Run => match ends(alloc, store, &[&HISTORY])?.as_slice() {
+        Job::Run => match ends(alloc, store, &[&three_transactions(alloc)?])?.as_slice() {
             [end] => Ok(end.applied.saturating_add(1)),
             _ => Ok(1),
         },
@@ -238,12 +238,12 @@ fn is_left(job: Job, done: u64, left: &str) -> bool {
 /// or after one more, and those after all steps once the job is done again.
 fn stop_at(alloc: Global, job: Job, calls: (u64, u64)) -> Result<bool, Fail> {
     let (done, files) = stop(alloc, job, calls)?;
-    let (left, behind) = reopen(alloc, job, files)?;
+    let (left, after) = reopen(alloc, job, files)?;
     let last = states(job).last().copied().unwrap_or("");
-    if is_left(job, done, left.as_str()) && behind.as_str() == last {
+    if is_left(job, done, left.as_str()) && after.as_str() == last {
         return Ok(done.saturating_add(1) == states(job).len() as u64);
     }
-    Err(Fail::new(format!(in alloc; "{calls:?}: {done} done, {left} and then {behind}")?))
+    Err(Fail::new(format!(in alloc; "{calls:?}: {done} done, {left} and then {after}")?))
 }
 
 /// Interrupts the job at each call of one disk, until it is done.

@@ -37,13 +37,13 @@ impl<'a> Stream<'a> {
     }
 
     /// Makes it fail to read once this many bytes were read.
-    pub(super) fn fail_to_read_behind(mut self, count: usize) -> Stream<'a> {
+    pub(super) fn fail_to_read_after(mut self, count: usize) -> Stream<'a> {
         self.readable = count;
         self
     }
 
     /// Makes it fail to write once this many bytes were written.
-    pub(super) fn fail_to_write_behind(mut self, count: usize) -> Stream<'a> {
+    pub(super) fn fail_to_write_after(mut self, count: usize) -> Stream<'a> {
         self.writable = count;
         self
     }

@@ -37,41 +37,6 @@ fn headers(rt: HostRuntime) {
     }
 }
 
-/// The length of a header that is cut short, and the offset of the field that does not fit.
-static CUT_HEADERS: [(usize, usize); 10] = [
-    (0, 0),
-    (3, 0),
-    (4, 4),
-    (5, 5),
-    (8, 5),
-    (9, 9),
-    (12, 9),
-    (13, 13),
-    (17, 17),
-    (18, 17),
-];
-
-/// Where the header of so many zero bytes is cut short.
-fn cut_at(length: usize) -> Option<usize> {
-    match Header::read([0; 19].get(..length)?) {
-        Err(
-            EventFault {
-                kind: EventFaultKind::Truncated,
-                at,
-            },
-        ) => Some(at),
-        _ => None,
-    }
-}
-
-/// A header cut short is reported at the first byte of the field that does not fit.
-#[test]
-fn cut_headers(rt: HostRuntime) {
-    for (length, at) in &CUT_HEADERS {
-        assert_eq!(rt; cut_at(*length), Some(*at));
-    }
-}
-
 /// A QUERY event with a status of two bytes and a schema of three.
 const QUERY: &[u8] = b"\x01\x02\x03\x04\x05\x06\x07\x08\x03\0\0\x02\0\x09\x09abc\0COMMIT";
 
@@ -165,73 +130,6 @@ fn written_events(rt: HostRuntime) {
         let bytes = event(rt.alloc(), *code, 0, body).expect(&rt, "an event");
         let again = written(rt.alloc(), &bytes).expect(&rt, "an event");
         assert_eq!(rt; again.as_slice(), bytes.as_slice());
-    }
-}
-
-/// A type, a body, the number of its bytes that come, and the offset of the first field that does not fit.
-static CUT: [(u8, &[u8], usize, usize); 47] = [
-    (15, FORMAT, 1, 19),
-    (15, FORMAT, 2, 21),
-    (15, FORMAT, 51, 21),
-    (15, FORMAT, 52, 71),
-    (15, FORMAT, 56, 75),
-    (15, FORMAT, 57, 76),
-    (15, FORMAT, 58, 77),
-    (15, FORMAT, 61, 77),
-    (2, QUERY, 3, 19),
-    (2, QUERY, 7, 23),
-    (2, QUERY, 8, 27),
-    (2, QUERY, 10, 28),
-    (2, QUERY, 12, 30),
-    (2, QUERY, 14, 32),
-    (2, QUERY, 17, 34),
-    (2, QUERY, 18, 37),
-    (33, FIRST, 0, 19),
-    (33, FIRST, 1, 20),
-    (33, FIRST, 16, 20),
-    (33, FIRST, 17, 36),
-    (33, FIRST, 24, 36),
-    (16, XID, 7, 19),
-    (4, ROTATE, 7, 19),
-    (19, MAP, 0, 19),
-    (19, MAP, 5, 19),
-    (19, MAP, 6, 25),
-    (19, MAP, 8, 27),
-    (19, MAP, 9, 28),
-    (19, MAP, 12, 28),
-    (19, MAP, 13, 32),
-    (19, MAP, 14, 33),
-    (19, MAP, 15, 34),
-    (19, MAP, 20, 39),
-    (19, MAP, 21, 40),
-    (19, MAP, 22, 41),
-    (19, MAP, 23, 41),
-    (19, MAP, 24, 43),
-    (19, MAP, 25, 44),
-    (19, MAP, 26, 44),
-    (19, MAP, 27, 46),
-    (30, ROWS, 0, 19),
-    (30, ROWS, 6, 25),
-    (30, ROWS, 8, 27),
-    (30, ROWS, 9, 27),
-    (30, ROWS, 10, 29),
-    (30, ROWS, 11, 30),
-    (31, ROWS, 12, 31),
-];
-
-fn early(alloc: Global, code: u8, body: &[u8], len: usize) -> Option<EventFault> {
-    read_event(&event(alloc, code, 0, body.get(..len)?)?).err()
-}
-
-/// Events cut short: the fault is at the first byte of the field that does not fit.
-#[test]
-fn cut_events(rt: HostRuntime) {
-    for (code, body, len, at) in &CUT {
-        let fault = EventFault {
-            kind: EventFaultKind::Truncated,
-            at: *at,
-        };
-        assert_eq!(rt; early(rt.alloc(), *code, body, *len), Some(fault));
     }
 }
 

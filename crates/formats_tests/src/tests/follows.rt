@@ -102,7 +102,7 @@ static MAPS: [(&[(&[u8], &[u8])], usize, &[(usize, u8)], Option<EventFault>); 5]
     (OTHER, 20, &[], Some(EARLY)),
 ];
 
-/// The fault of a table map, for a reader with this list, or whether it is passed over with its number 1.
+/// The fault of a table map, for a reader with this list, or whether it is skipped with its number 1.
 fn read(
     alloc: Global,
     tables: &[(&[u8], &[u8])],

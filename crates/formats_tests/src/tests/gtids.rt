@@ -12,228 +12,11 @@ const A: [u8; 16] = [
 /// 00000000-0000-0000-0000-0000000000ff, below A.
 const B: [u8; 16] = [0, 0, 0, 0, 0, 0, 0, 0, 0, 0, 0, 0, 0, 0, 0, 0xff];
 
-/// A number, and whether it is that of a GTID.
-static NUMBERS: [(u64, bool); 5] = [
-    (0, false),
-    (1, true),
-    (9_223_372_036_854_775_806, true),
-    (9_223_372_036_854_775_807, false),
-    (u64::MAX, false),
-];
-
-/// A GTID is made of a number from 1 to 2^63 - 2.
-#[test]
-fn gtids(rt: HostRuntime) {
-    for (number, lawful) in &NUMBERS {
-        assert_eq!(rt; Gtid::new(A, *number).is_some(), *lawful);
-    }
-}
-
 /// The text of a set.
 fn printed(alloc: Global, set: &GtidSet) -> Option<String> {
     let mut text = String::new(alloc);
     set.print(&mut text).ok()?;
     Some(text)
-}
-
-/// A text, and what is printed of its set.
-static TEXTS: [(&str, &str); 10] = [
-    ("", ""),
-    (" \r\n", ""),
-    (
-        "3E11FA47-71CA-11E1-9E33-C80AA9429562:1",
-        "3e11fa47-71ca-11e1-9e33-c80aa9429562:1",
-    ),
-    (
-        "3e11fa47-71ca-11e1-9e33-c80aa9429562:5:1-3 ,\n3e11fa47-71ca-11e1-9e33-c80aa9429562:4",
-        "3e11fa47-71ca-11e1-9e33-c80aa9429562:1-5",
-    ),
-    (
-        "3e11fa47-71ca-11e1-9e33-c80aa9429562:1-4:2-3:4-6:6",
-        "3e11fa47-71ca-11e1-9e33-c80aa9429562:1-6",
-    ),
-    (
-        "3e11fa47-71ca-11e1-9e33-c80aa9429562:1-2:3-4",
-        "3e11fa47-71ca-11e1-9e33-c80aa9429562:1-4",
-    ),
-    (
-        "3e11fa47-71ca-11e1-9e33-c80aa9429562:3:2:1",
-        "3e11fa47-71ca-11e1-9e33-c80aa9429562:1-3",
-    ),
-    (
-        "3e11fa47-71ca-11e1-9e33-c80aa9429562:0000000000000000000000000000007",
-        "3e11fa47-71ca-11e1-9e33-c80aa9429562:7",
-    ),
-    (
-        "3e11fa47-71ca-11e1-9e33-c80aa9429562:1-9223372036854775806",
-        "3e11fa47-71ca-11e1-9e33-c80aa9429562:1-9223372036854775806",
-    ),
-    // Sources are in the order of their bytes.
-    (
-        "3e11fa47-71ca-11e1-9e33-c80aa9429562:1,00000000-0000-0000-0000-0000000000ff:7",
-        "00000000-0000-0000-0000-0000000000ff:7,3e11fa47-71ca-11e1-9e33-c80aa9429562:1",
-    ),
-];
-
-/// What is printed of the set of a text.
-fn parsed(alloc: Global, text: &str) -> Option<String> {
-    printed(alloc, &GtidSet::parse(alloc, text).ok()?)
-}
-
-/// Texts are read in many forms and printed in one.
-#[test]
-fn texts(rt: HostRuntime) {
-    for (text, want) in &TEXTS {
-        let found = parsed(rt.alloc(), text).expect(&rt, "a set");
-        assert_eq!(rt; found.as_str(), *want);
-    }
-}
-
-/// A text that is refused.
-static REFUSED: [(&str, GtidFault); 20] = [
-    (
-        "3e11fa47-71ca-11e1-9e33-c80aa9429562:3-1",
-        GtidFault::Interval,
-    ),
-    ("3e11fa47-71ca-11e1-9e33-c80aa9429562:0", GtidFault::Number),
-    (
-        "3e11fa47-71ca-11e1-9e33-c80aa9429562:0-1",
-        GtidFault::Number,
-    ),
-    (
-        "3e11fa47-71ca-11e1-9e33-c80aa9429562:3-1:0",
-        GtidFault::Interval,
-    ),
-    (
-        "3e11fa47-71ca-11e1-9e33-c80aa9429562:0:3-1",
-        GtidFault::Number,
-    ),
-    (
-        "3e11fa47-71ca-11e1-9e33-c80aa9429562:9223372036854775807",
-        GtidFault::Number,
-    ),
-    (
-        "3e11fa47-71ca-11e1-9e33-c80aa9429562:1-99999999999999999999999999999999999999999999999999",
-        GtidFault::Number,
-    ),
-    ("3e11fa47-71ca-11e1-9e33-c80aa9429562", GtidFault::Text(36)),
-    ("3e11fa47-71ca-11e1-9e33-c80aa9429562:", GtidFault::Text(37)),
-    (
-        "3e11fa47-71ca-11e1-9e33-c80aa9429562:1,",
-        GtidFault::Text(39),
-    ),
-    (
-        "3e11fa47-71ca-11e1-9e33-c80aa9429562:1-",
-        GtidFault::Text(39),
-    ),
-    (
-        "3e11fa47-71ca-11e1-9e33-c80aa9429562:1-3-4",
-        GtidFault::Text(40),
-    ),
-    (
-        "3e11fa47-71ca-11e1-9e33-c80aa9429562:1 2",
-        GtidFault::Text(39),
-    ),
-    (
-        "3e11fa47-71ca-11e1-9e33-c80aa9429562 :1",
-        GtidFault::Text(36),
-    ),
-    (
-        "3e11fa47-71ca-11e1-9e33-c80aa9429562:0,x",
-        GtidFault::Text(39),
-    ),
-    (",", GtidFault::Text(0)),
-    (" ,", GtidFault::Text(1)),
-    ("3e11fa47x", GtidFault::Text(8)),
-    ("3e11fa4-", GtidFault::Text(7)),
-    ("é", GtidFault::Text(0)),
-];
-
-fn refused(alloc: Global, text: &str) -> Option<GtidFault> {
-    GtidSet::parse(alloc, text).err()
-}
-
-/// Texts with each fault.
-#[test]
-fn faults(rt: HostRuntime) {
-    for (text, fault) in &REFUSED {
-        assert_eq!(rt; refused(rt.alloc(), text), Some(*fault));
-    }
-}
-
-/// GTIDs in the order in which they are added, and the text of their set.
-static ADDED: [(&[([u8; 16], u64)], &str); 9] = [
-    (&[(A, 2)], "3e11fa47-71ca-11e1-9e33-c80aa9429562:2"),
-    (
-        &[(A, 2), (A, 4)],
-        "3e11fa47-71ca-11e1-9e33-c80aa9429562:2:4",
-    ),
-    (
-        &[(A, 2), (A, 4), (A, 3)],
-        "3e11fa47-71ca-11e1-9e33-c80aa9429562:2-4",
-    ),
-    (
-        &[(A, 2), (A, 4), (A, 3), (A, 1), (A, 5), (A, 3)],
-        "3e11fa47-71ca-11e1-9e33-c80aa9429562:1-5",
-    ),
-    (
-        &[(A, 1), (A, 2), (A, 3), (A, 5)],
-        "3e11fa47-71ca-11e1-9e33-c80aa9429562:1-3:5",
-    ),
-    (
-        &[(A, 9_223_372_036_854_775_806)],
-        "3e11fa47-71ca-11e1-9e33-c80aa9429562:9223372036854775806",
-    ),
-    (
-        &[(A, 9), (A, 7), (A, 5), (A, 3), (A, 1)],
-        "3e11fa47-71ca-11e1-9e33-c80aa9429562:1:3:5:7:9",
-    ),
-    (
-        &[(A, 1), (B, 7)],
-        "00000000-0000-0000-0000-0000000000ff:7,3e11fa47-71ca-11e1-9e33-c80aa9429562:1",
-    ),
-    (
-        &[
-            ([9; 16], 2),
-            ([9; 16], 4),
-            ([9; 16], 3),
-            ([7; 16], 1),
-            ([9; 16], 9),
-            ([9; 16], 2),
-        ],
-        "07070707-0707-0707-0707-070707070707:1,09090909-0909-0909-0909-090909090909:2-4:9",
-    ),
-];
-
-/// The text of the set of these GTIDs.
-fn inserted(alloc: Global, gtids: &[([u8; 16], u64)]) -> Option<String> {
-    let mut set = GtidSet::new(alloc);
-    for (source, number) in gtids {
-        set.insert(Gtid::new(*source, *number)?).ok()?;
-    }
-    printed(alloc, &set)
-}
-
-/// The text of the set of these GTIDs, each added in room that was made for it, after it was given up once.
-fn reserved(alloc: Global, gtids: &[([u8; 16], u64)]) -> Option<String> {
-    let mut set = GtidSet::new(alloc);
-    for (source, number) in gtids {
-        let gtid = Gtid::new(*source, *number)?;
-        let before = set.reserve(gtid).ok()?.release();
-        set = before.reserve(gtid).ok()?.insert();
-    }
-    printed(alloc, &set)
-}
-
-/// GTIDs are added in any order, with room made before or not.
-#[test]
-fn added(rt: HostRuntime) {
-    for (gtids, want) in &ADDED {
-        let text = inserted(rt.alloc(), gtids).expect(&rt, "memory");
-        assert_eq!(rt; text.as_str(), *want);
-        let text = reserved(rt.alloc(), gtids).expect(&rt, "memory");
-        assert_eq!(rt; text.as_str(), *want);
-    }
 }
 
 /// The least intervals of the set of spans that come in any order, overlap and touch.
@@ -292,72 +75,6 @@ fn spans(rt: HostRuntime) {
         },
     ];
     assert_eq!(rt; found.as_slice(), want.as_slice());
-}
-
-/// The numbers 1 to 3, 5 and 9 of A.
-const SOME: &str = "3e11fa47-71ca-11e1-9e33-c80aa9429562:1-3:5:9";
-
-/// The `lo` and the `hi` of an interval.
-type Bounds = (u64, u64);
-
-/// A GTID, whether it is in `SOME`, the spans before and behind it, and the span that it makes with them.
-static NEIGHBOURS: [(
-    [u8; 16],
-    u64,
-    (bool, Option<Bounds>, Option<Bounds>, Bounds),
-); 11] = [
-    (A, 1, (true, None, None, (1, 2))),
-    (A, 2, (true, None, None, (2, 3))),
-    (A, 4, (false, Some((1, 4)), Some((5, 6)), (1, 6))),
-    (A, 5, (true, None, None, (5, 6))),
-    (A, 6, (false, Some((5, 6)), None, (5, 7))),
-    (A, 7, (false, None, None, (7, 8))),
-    (A, 8, (false, None, Some((9, 10)), (8, 10))),
-    (A, 10, (false, Some((9, 10)), None, (9, 11))),
-    (A, 12, (false, None, None, (12, 13))),
-    (B, 4, (false, None, None, (4, 5))),
-    (
-        A,
-        Gtid::GREATEST,
-        (
-            false,
-            None,
-            None,
-            (9_223_372_036_854_775_806, 9_223_372_036_854_775_807),
-        ),
-    ),
-];
-
-fn bounds(span: Option<Span>) -> Option<Bounds> {
-    let span = span?;
-    Some((span.lo, span.hi))
-}
-
-/// Whether a GTID is in the set of a text, and its neighbours there.
-fn neighbours(
-    alloc: Global,
-    text: &str,
-    source: [u8; 16],
-    number: u64,
-) -> Option<(bool, Option<Bounds>, Option<Bounds>, Bounds)> {
-    let set = GtidSet::parse(alloc, text).ok()?;
-    let gtid = Gtid::new(source, number)?;
-    let beside = set.beside(gtid);
-    let joined = beside.joined(gtid);
-    Some((
-        set.contains(gtid),
-        bounds(beside.below),
-        bounds(beside.above),
-        (joined.lo, joined.hi),
-    ))
-}
-
-/// The members of a set, and the neighbours of a number.
-#[test]
-fn members(rt: HostRuntime) {
-    for (source, number, want) in &NEIGHBOURS {
-        assert_eq!(rt; neighbours(rt.alloc(), SOME, *source, *number), Some(*want));
-    }
 }
 
 /// Two sets, their union, their difference, and whether the first is a subset of the second.
@@ -505,4 +222,21 @@ fn encodings(rt: HostRuntime) {
         let (read, length) = decoded(rt.alloc(), bytes).expect(&rt, "a set");
         assert_eq!(rt; (read.as_str(), length), (*text, *size));
     }
+}
+
+/// Whether 4 is new in the numbers 1 to 3 and 5, the text of the set with it, and how many bytes that takes.
+fn inserted(alloc: Global) -> Option<(bool, String, usize)> {
+    let mut set = GtidSet::parse(alloc, "3e11fa47-71ca-11e1-9e33-c80aa9429562:1-3:5").ok()?;
+    let is_new = set.insert(Gtid::new(A, 4)?).ok()?;
+    let mut out = Vec::new(alloc);
+    set.encode(&mut out).ok()?;
+    Some((is_new, printed(alloc, &set)?, out.len()))
+}
+
+/// A number between two intervals joins them.
+#[test]
+fn joins(rt: HostRuntime) {
+    let (is_new, text, size) = inserted(rt.alloc()).expect(&rt, "memory");
+    let want = (true, "3e11fa47-71ca-11e1-9e33-c80aa9429562:1-5", 48);
+    assert_eq!(rt; (is_new, text.as_str(), size), want);
 }

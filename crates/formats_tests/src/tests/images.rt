@@ -58,28 +58,6 @@ fn images(rt: HostRuntime) {
     }
 }
 
-/// A number, its width, and whether it has an image.
-static NUMBERS: [(u64, u8, bool); 6] = [
-    (0, 0, false),
-    (0, 9, false),
-    (255, 1, true),
-    (256, 1, false),
-    (u64::MAX, 7, false),
-    (u64::MAX, 8, true),
-];
-
-/// A number has an image if it fits its width of 1 to 8 bytes.
-#[test]
-fn numbers(rt: HostRuntime) {
-    for (value, width, want) in &NUMBERS {
-        let cell = Cell::Number {
-            value: *value,
-            width: *width,
-        };
-        assert_eq!(rt; made(rt.alloc(), &[cell]).is_some(), *want);
-    }
-}
-
 /// The length of the image of so many null cells.
 fn length(alloc: Global, count: usize) -> Option<usize> {
     let mut cells = Vec::new(alloc);

@@ -228,26 +228,3 @@ fn faults(rt: HostRuntime) {
         assert_eq!(rt; answer(rt.alloc(), *limit, *due, pieces), *fault);
     }
 }
-
-/// A second header, and its fault after a full packet of a payload of at most 16,777,220 bytes.
-static SECOND: [([u8; 4], Option<WireFault>); 3] = [
-    ([6, 0, 0, 1], Some(WireFault::TooLarge)),
-    ([5, 0, 0, 1], None),
-    ([5, 0, 0, 5], Some(WireFault::Sequence { want: 1, got: 5 })),
-];
-
-/// The fault of a second header, after a first packet.
-fn second(alloc: Global, first: &[u8], header: &[u8]) -> Option<WireFault> {
-    answer(alloc, 16_777_220, 0, &[first, header])
-}
-
-/// The limit is on the second packet of a payload together with the first, and its id must follow the
-/// first's.
-#[test]
-fn second_packet(rt: HostRuntime) {
-    let (_, packing, _) = packing(rt.alloc(), 16_777_216, 0).expect(&rt, "memory");
-    let first = packing.get(..16_777_219).expect(&rt, "two packets");
-    for (header, fault) in &SECOND {
-        assert_eq!(rt; second(rt.alloc(), first, header), *fault);
-    }
-}

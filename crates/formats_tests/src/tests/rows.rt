@@ -183,26 +183,6 @@ fn rows_of_events(rt: HostRuntime) {
     }
 }
 
-/// The fault of rows of one column in a table of two.
-fn other_table(alloc: Global) -> Option<EventFault> {
-    let bytes = edited(alloc, 30, ROWS, WHOLE, &[(29, 1)])?;
-    let table = table(alloc, MAP)?;
-    let Ok(Event::Rows(rows)) = read_event(&bytes) else {
-        return None;
-    };
-    rows.rows(&table).err()
-}
-
-/// Rows of another number of columns than the table's.
-#[test]
-fn rows_of_another_table(rt: HostRuntime) {
-    let fault = EventFault {
-        kind: EventFaultKind::Columns,
-        at: 29,
-    };
-    assert_eq!(rt; other_table(rt.alloc()), Some(fault));
-}
-
 /// The kind of an event, that of a change, the length of the VARCHAR in (LONG, VARCHAR), the rows before and after
 /// the change, and its bytes, if it has any.
 static WRITTEN: [(

@@ -126,7 +126,7 @@ static ANSWERS: [(bool, &[u8], &[&[u8]], Option<GatherFault>); 55] = [
     (false, b"f1bNw", &[], Some(GatherFault::Event(COLUMNS))),
     (false, b"f1bINw", &[], Some(GatherFault::Event(COLUMNS))),
     (false, b"f1bIe", &[], Some(GatherFault::Event(CUT))),
-    // Behind a fault nothing is taken.
+    // After a fault nothing is taken.
     (false, b"f1bbb", &[], Some(GatherFault::Ended)),
     (false, b"f1bbn", &[], Some(GatherFault::Ended)),
     (false, b"f1bbf", &[], Some(GatherFault::Ended)),
@@ -222,58 +222,5 @@ fn transactions(rt: HostRuntime) {
         let (found, last) = answers(rt.alloc(), &follow, letters).expect(&rt, "events");
         assert_eq!(rt; found.as_slice(), want.as_slice());
         assert_eq!(rt; last, *fault);
-    }
-}
-
-const STATEMENT: EventFault = EventFault {
-    kind: EventFaultKind::Statement,
-    at: 33,
-};
-
-const NUMBER: EventFault = EventFault {
-    kind: EventFaultKind::Number,
-    at: 36,
-};
-
-const TRAILING: EventFault = EventFault {
-    kind: EventFaultKind::Trailing,
-    at: 27,
-};
-
-/// Faults and their texts.
-static TEXTS: [(GatherFault, &str); 9] = [
-    (GatherFault::NoFormat, "no format description has come"),
-    (GatherFault::Misplaced(2), "an event of type 2 out of place"),
-    (
-        GatherFault::UnknownTable(1),
-        "no table map has the number 1",
-    ),
-    (GatherFault::Ended, "the events have ended with a fault"),
-    (GatherFault::Event(COLUMNS), "wrong number of columns at 29"),
-    (GatherFault::Event(CUT), "the event ends early at 45"),
-    (
-        GatherFault::Event(STATEMENT),
-        "a statement that is neither BEGIN nor COMMIT at 33",
-    ),
-    (
-        GatherFault::Event(NUMBER),
-        "a transaction number outside 1 to 9223372036854775806 at 36",
-    ),
-    (
-        GatherFault::Event(TRAILING),
-        "bytes after the event's end at 27",
-    ),
-];
-
-fn told(alloc: Global, fault: GatherFault) -> Option<String> {
-    format!(in alloc; "{fault}").ok()
-}
-
-/// Faults as they are printed.
-#[test]
-fn texts(rt: HostRuntime) {
-    for (fault, want) in &TEXTS {
-        let text = told(rt.alloc(), *fault).expect(&rt, "memory");
-        assert_eq!(rt; text.as_str(), *want);
     }
 }

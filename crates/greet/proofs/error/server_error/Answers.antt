@@ -6,9 +6,9 @@ use Rattle.byteorder.specs.Numbers.{little_from-take}
 use Rattle.greet.specs.Refusal.{error_of, server_error, state_of, message_of, kept_message}
 use Rattle.greet.proofs.error.server_error.Goals as goal
 
-pub returns-in-Ok : goal.returns-in-Ok
+pub returns-in-Ok-clause-fault : goal.returns-in-Ok-clause-fault
 unfolding error_of
-returns-in-Ok c =
+returns-in-Ok-clause-fault c =
     let code : little_number 2 c.args.bytes.now ≡ c.read_u16-code.result = sym (c.read_u16-code.ensures ∙ ap (little_number 2) c.split_at.ensures.front ∙ little_from-take 0 2 2 c.args.bytes.now (omega arith)) in
     let text : drop 2 c.args.bytes.now ≡ c.split_at.result.1.now = sym c.split_at.ensures.back in
     let state : state_of (drop 2 c.args.bytes.now) ≡ c.split_state-state.result.0 = ap state_of text ∙ sym c.split_state-state.ensures.state in

@@ -5,6 +5,7 @@ use Rattle.greet.specs.Refusal.{eof_refusal}
 use Rattle.wire.proofs.Cuts.{first_and_rest}
 use Rattle.greet.proofs.Cuts.{begun_by}
 use Rattle.greet.proofs.Replies.{is_eof, eof_nothing}
+use Rattle.greet.proofs.ErrBytes.{some_err}
 use Rattle.greet.proofs.reply.read_eof.Goals as goal
 
 pub returns-in-empty-clause-fault : goal.returns-in-empty-clause-fault
@@ -14,7 +15,7 @@ pub returns-in-255-clause-fault : goal.returns-in-255-clause-fault
 unfolding eof_refusal
 returns-in-255-clause-fault c =
     let first : get_or c.args.payload.now 0 0 ≡ 255 = omega arith in
-    rw (begun_by 255 c.args.payload.now c.in-255.len_at_least first) c.server_error.ensures
+    rw (begun_by 255 c.args.payload.now c.in-255.len_at_least first) c.server_error.ensures.fault
 
 pub returns-in-254-clause-fault : goal.returns-in-254-clause-fault
 unfolding eof_refusal
@@ -45,3 +46,8 @@ returns-in-len1-up-clause-fault c =
     let no_error : get_or c.args.payload.now 0 0 ≡ 255 → ⊥ = omega arith in
     let no_eof : get_or c.args.payload.now 0 0 ≡ 254 → ⊥ = omega arith in
     ap eof_refusal (first_and_rest c.args.payload.now c.in-len1-up.len_at_least) ∙ rw (ne_eqb _ _ no_error, ne_eqb _ _ no_eof) refl
+
+pub returns-in-255-clause-memory : goal.returns-in-255-clause-memory
+returns-in-255-clause-memory c is =
+    let first : get_or c.args.payload.now 0 0 ≡ 255 = omega arith in
+    some_err _ c.args.payload.now (begun_by 255 c.args.payload.now c.in-255.len_at_least first) (λ i. omega (arith, c.type_inv.payload i)) (c.server_error.ensures.memory (cc))

@@ -8,6 +8,7 @@ use Rattle.wire.proofs.Cuts.{IsBytes, IsBytes-rest, first_and_rest}
 use Rattle.greet.proofs.Cuts.{begun_by}
 use Rattle.greet.proofs.Replies.{counted_ok, counted_fault, ok_nothing, ok_not_refused}
 use Rattle.greet.proofs.Readers.{answered_alone}
+use Rattle.greet.proofs.ErrBytes.{some_err}
 use Rattle.greet.proofs.reply.read_ok.Goals as goal
 
 pub returns-in-empty-clause-fault : goal.returns-in-empty-clause-fault
@@ -17,7 +18,7 @@ pub returns-in-255-clause-fault : goal.returns-in-255-clause-fault
 unfolding ok_refusal
 returns-in-255-clause-fault c =
     let first : get_or c.args.payload.now 0 0 ≡ 255 = omega arith in
-    rw (begun_by 255 c.args.payload.now c.in-255.len_at_least first) c.server_error.ensures
+    rw (begun_by 255 c.args.payload.now c.in-255.len_at_least first) c.server_error.ensures.fault
 
 pub returns-in-0-clause-ok : goal.returns-in-0-clause-ok
 returns-in-0-clause-ok c =
@@ -41,3 +42,8 @@ returns-in-len1-up-clause-fault c =
     let no_error : get_or c.args.payload.now 0 0 ≡ 255 → ⊥ = omega arith in
     let no_ok : get_or c.args.payload.now 0 0 ≡ 0 → ⊥ = omega arith in
     ap ok_refusal (first_and_rest c.args.payload.now c.in-len1-up.len_at_least) ∙ rw (ne_eqb _ _ no_error, ne_eqb _ _ no_ok) refl
+
+pub returns-in-255-clause-memory : goal.returns-in-255-clause-memory
+returns-in-255-clause-memory c is =
+    let first : get_or c.args.payload.now 0 0 ≡ 255 = omega arith in
+    some_err _ c.args.payload.now (begun_by 255 c.args.payload.now c.in-255.len_at_least first) (λ i. omega (arith, c.type_inv.payload i)) (c.server_error.ensures.memory (cc))

@@ -7,22 +7,22 @@ pub returns-in_default-clause-err : goal.returns-in_default-clause-err
 returns-in_default-clause-err c = inr (faults_too_short c.args.bytes.now c.in_default.ensures.none)
 
 pub loop-done-init : goal.loop-done-init
-loop-done-init c = no_groups_read c.new-groups.result.items c.in-Some.behind.now c.new-groups.ensures.items
+loop-done-init c = no_groups_read c.new-groups.result.items c.in-Some.beyond.now c.new-groups.ensures.items
 
 pub returns-in_err-group-clause-err : goal.returns-in_err-group-clause-err
 returns-in_err-group-clause-err c =
     let p = err_from_is_err_and c.from_residual.result c.from_residual.ensures.1 in
     rw (p.1, p.2)
-    (groups_fault c.loop-done.groups.items c.loop-done._done c.in-Some.count c.loop-done.before c.loop-done.rest.now c.in-Some.behind.now c.args.bytes.now _ c.loop-done.invariant c.loop-done-test.true (omega arith) c.in-Some.ensures.split
+    (groups_fault c.loop-done.groups.items c.loop-done._done c.in-Some.count c.loop-done.before c.loop-done.rest.now c.in-Some.beyond.now c.args.bytes.now _ c.loop-done.invariant c.loop-done-test.true (omega arith) c.in-Some.ensures.split
     c.in_err-group.ensures.err)
 
 pub loop-done-preserved : goal.loop-done-preserved
 loop-done-preserved c =
-    more_groups c.loop-done.groups.items c.push.new.self.items c.in_ok-group.group c.loop-done._done c.loop-done.before c.loop-done.rest.now c.in_ok-group.after.now c.in-Some.behind.now c.loop-done.invariant
+    more_groups c.loop-done.groups.items c.push.new.self.items c.in_ok-group.group c.loop-done._done c.loop-done.before c.loop-done.rest.now c.in_ok-group.after.now c.in-Some.beyond.now c.loop-done.invariant
     c.in_ok-group.ensures.lawful c.in_ok-group.ensures.split c.in_ok-push.ensures.items
 
 pub returns-clause-lawful : goal.returns-clause-lawful
 returns-clause-lawful c = c.loop-done.invariant.lawful
 
 pub returns-clause-split : goal.returns-clause-split
-returns-clause-split c = all_groups c.loop-done.groups.items c.loop-done._done c.in-Some.count c.loop-done.before c.loop-done.rest.now c.in-Some.behind.now c.args.bytes.now c.loop-done.invariant (omega arith) c.in-Some.ensures.split
+returns-clause-split c = all_groups c.loop-done.groups.items c.loop-done._done c.in-Some.count c.loop-done.before c.loop-done.rest.now c.in-Some.beyond.now c.args.bytes.now c.loop-done.invariant (omega arith) c.in-Some.ensures.split

@@ -13,7 +13,7 @@ returns-in_err-interval-clause-err c =
 
 pub loop-done-preserved : goal.loop-done-preserved
 loop-done-preserved c =
-    more_intervals c.loop-done.intervals.items c.push.new.self.items c.in_ok-interval.interval c.loop-done._done c.loop-done.after c.loop-done.rest.now c.in_ok-interval.behind.now c.args.bytes.now
+    more_intervals c.loop-done.intervals.items c.push.new.self.items c.in_ok-interval.interval c.loop-done._done c.loop-done.after c.loop-done.rest.now c.in_ok-interval.beyond.now c.args.bytes.now
     c.loop-done.invariant c.in_ok-interval.ensures.above c.in_ok-interval.ensures.some c.in_ok-interval.ensures.in_range c.in_ok-interval.ensures.split c.in_ok-push.ensures.items
 
 pub returns-clause-least : goal.returns-clause-least

@@ -2,7 +2,7 @@ use Rattle.gtid.proofs.Gathered.{joined_first, joined_on, joined_apart, joined_a
 use Rattle.gtid.proofs.gathering.join.Goals as goal
 
 pub loop-next-init : goal.loop-next-init
-loop-next-init c = joined_first c.args.first c.args.behind.now c.requires.lawful c.requires.rise c.new-joined.ensures.items
+loop-next-init c = joined_first c.args.first c.args.after.now c.requires.lawful c.requires.rise c.new-joined.ensures.items
 
 pub loop-next-preserved-then-next-last : goal.loop-next-preserved-then-next-last
 loop-next-preserved-then-next-last c =

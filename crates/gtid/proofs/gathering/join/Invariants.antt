@@ -3,7 +3,7 @@ use Rattle.gtid.proofs.Gathered.{Joined}
 use Rattle.gtid.proofs.gathering.join.Given as goal
 
 abbrev pub invariant-loop-next : goal.invariant-loop-next
-invariant-loop-next l = Joined l.fn.first l.fn.behind l.joined.items l.last l.left
+invariant-loop-next l = Joined l.fn.first l.fn.after l.joined.items l.last l.left
 
 abbrev pub decreases-loop-next : goal.decreases-loop-next
 decreases-loop-next l = length l.left

@@ -61,5 +61,5 @@ returns-clause-touches c fresh =
     let split = point_at l at n (IsPartitionPoint-from_clause (λ i. ltb i.hi n) l at c.partition_point-at.ensures.partitioned (IsPartitionedBy-ltb (λ i. i.hi) l n (ends_ascend l c.requires.least)) (λ a r f k. search rules)) in
     let here = got c.get.result refl c.get.ensures.lookup.3 c.in-Some.ensures in
     let ends = split.1 at x (omega arith) here.0 in
-    let behind : n < x.hi = omega (arith, ends, ap (λ i. i.hi) (here.1 x), c.if-first-number.false) in
-    touches_gap l at n x c.requires.least here.0 c.requires.number.0 c.requires.number.1 split.0 here.1 behind c.if-first-number-2.false fresh
+    let after : n < x.hi = omega (arith, ends, ap (λ i. i.hi) (here.1 x), c.if-first-number.false) in
+    touches_gap l at n x c.requires.least here.0 c.requires.number.0 c.requires.number.1 split.0 here.1 after c.if-first-number-2.false fresh

@@ -2,7 +2,7 @@ use Rattle.std.proofs.Common.{◌≡◌, ◌+◌, ◌<◌, ◌∙◌, length, ge
 use Rattle.std.proofs.lemmas.List.Edits.{get_or-remove_below}
 use Rattle.std.specs.List.{remove}
 use Rattle.gtid.specs.declared.interval.Interval.{Interval}
-use Rattle.gtid.proofs.Within.{Added, apart, added_behind, added_between, got, got_none}
+use Rattle.gtid.proofs.Within.{Added, apart, added_after, added_between, got, got_none}
 use Rattle.gtid.proofs.interval.extend.Goals as goal
 use Rattle.gtid.proofs.interval.extend.Goals.{in-Some, in_default, in_default-via-in-Some+else-following-number, in_default-via-in_default}
 
@@ -29,6 +29,6 @@ returns c =
                 omega (arith, apart 0 old at (at + 1) d c.requires.least (omega arith) h, c.requires.end d, ap (λ i. i.lo) (here.1 d)))
             | in_default-via-in_default w' ↦ absurd (omega (arith, got_none c.get.result c.deref.ensures.value c.get.ensures.lookup.3 w'.in_default.ensures))
           ] in
-          rw (items, w.joined-is) (added_behind old at number x c.requires.least (omega arith) c.requires.number is (ap (λ i. i.hi) is ∙ touch) gap))
+          rw (items, w.joined-is) (added_after old at number x c.requires.least (omega arith) c.requires.number is (ap (λ i. i.hi) is ∙ touch) gap))
     ] in
     record { least = added.least; new = added.fresh; adds = added.adds }

@@ -33,8 +33,8 @@ returns-clause-before c =
     let n = c.args.number in
     (point_at l c.partition_point.result n (IsPartitionPoint-from_clause (λ i. ltb i.hi n) l c.partition_point.result c.partition_point.ensures.partitioned (IsPartitionedBy-ltb (λ i. i.hi) l n (ends_ascend l c.requires.least)) (λ a r f k. search rules))).0
 
-pub returns-clause-behind : goal.returns-clause-behind
-returns-clause-behind c =
+pub returns-clause-after : goal.returns-clause-after
+returns-clause-after c =
     let l = c.args.intervals.now in
     let n = c.args.number in
     (point_at l c.partition_point.result n (IsPartitionPoint-from_clause (λ i. ltb i.hi n) l c.partition_point.result c.partition_point.ensures.partitioned (IsPartitionedBy-ltb (λ i. i.hi) l n (ends_ascend l c.requires.least)) (λ a r f k. search rules))).1

@@ -5,7 +5,7 @@ use Rattle.store.specs.State.{Content}
 use Rattle.store.specs.Store.{HoldsAs}
 use Rattle.replica.specs.Conn.{IsNoStreamFailure}
 use Rattle.replica.specs.Pieces.{streams_of}
-use Rattle.replica.specs.Over.{HasTaken}
+use Rattle.replica.specs.Over.{HasReadAll}
 use Rattle.replica.proofs.connections.run.Given as goal
 
 abbrev pub invariant-loop-pieces : goal.invariant-loop-pieces
@@ -14,7 +14,7 @@ invariant-loop-pieces g l = record {
   count : vec_len l.ends ≡ l.pieces-index;
   clean : HasCleanDisk (state g.S.Store l.store.conn) → HasCleanDisk (state g.S.Store l.fn.store.conn);
   taken : HasCleanDisk (state g.S.Store l.store.conn) → (was : Bool) (old : Content) → HoldsAs g.S.Store was old l.fn.store
-      → HasTaken g.S.Store l.config.limit l.store (state g.S.Store l.fn.store.conn).now.schema was old (streams_of (take l.pieces-index l.connections)) l.ends.items;
+      → HasReadAll g.S.Store l.config.limit l.store (state g.S.Store l.fn.store.conn).now.schema was old (streams_of (take l.pieces-index l.connections)) l.ends.items;
   following : l.store.following ≡ l.fn.store.following;
   broken : l.fn.store.broken ≡ true → l.store ≡ l.fn.store;
   neither : All (λ end. IsNoStreamFailure end.reason) l.ends.items;

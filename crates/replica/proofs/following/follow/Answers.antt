@@ -1,5 +1,5 @@
 use Rattle.std.proofs.Common.{length, arith, ◌≡◌, ◌≢◌, ◌++◌, true, Option, None, is_some, unwrap_or, sym, ap, ◌∙◌, subst, refl, rules}
-use Rattle.replica.specs.Follow.{told_as}
+use Rattle.replica.specs.Follow.{reported_as}
 use Rattle.std.proofs.KnownBytes.{Appends-kept, Keeps-trans}
 use Rattle.replica.specs.declared.end.Ended.{Ended}
 use Rattle.replica.specs.declared.end.Reason.TheVariants.{EndOfInput, Memory, WriteFailed, ReadFailed}
@@ -9,14 +9,14 @@ use Rattle.store.specs.Store.{database}
 use Rattle.replica.specs.Conn.{IsNoStreamFailure}
 use Rattle.replica.specs.Standing.{end_of}
 use Rattle.replica.specs.Follow.{Follows}
-use Rattle.replica.proofs.Followed.{follows-memory, follows-sends_no_more, follows-write_failed, follows-ended, follows-read_failed, following-begins, following-sent, following-read, follows-same, some_behind, none_behind, ended_early, over-out, length_kept}
+use Rattle.replica.proofs.Followed.{follows-memory, follows-sends_no_more, follows-write_failed, follows-ended, follows-read_failed, following-begins, following-sent, following-read, follows-same, some_after, none_after, ended_early, over-out, length_kept}
 use Rattle.replica.proofs.following.follow.Goals as goal
 
 pub returns-in_default-clause-follows : goal.returns-in_default-clause-follows
 returns-in_default-clause-follows g c clean was old holds =
     let session = c.new-session.result in
     let reason : (end_of session).reason ≡ EndOfInput = ap (λ (v : Option Ended). (unwrap_or v (record { reason = EndOfInput; at = session.at; applied = session.applied })).reason) c.new-session.ensures.ended in
-    follows-same g.S.Store session.config c.args.config c.args.store.now c.args.store.now was old (g.T.Read.remaining c.args.stream.now.stream) (g.T.Read.remaining c.args.stream.now.stream) (g.T.Write.contents c.args.stream.now.stream) (g.T.Write.contents c.args.stream.now.stream) (told_as Memory (end_of session)) c.ended_with.result c.new-session.ensures.config (sym c.ended_with.ensures)
+    follows-same g.S.Store session.config c.args.config c.args.store.now c.args.store.now was old (g.T.Read.remaining c.args.stream.now.stream) (g.T.Read.remaining c.args.stream.now.stream) (g.T.Write.contents c.args.stream.now.stream) (g.T.Write.contents c.args.stream.now.stream) (reported_as Memory (end_of session)) c.ended_with.result c.new-session.ensures.config (sym c.ended_with.ensures)
     (follows-memory g.S.Store session c.args.store.now c.args.store.now was old (g.T.Read.remaining c.args.stream.now.stream) (g.T.Read.remaining c.args.stream.now.stream) (g.T.Write.contents c.args.stream.now.stream) (g.T.Write.contents c.args.stream.now.stream) refl
     (following-begins g.S.Store (λ h db is_open may. g.met.S.Store.settled h.store db is_open may) session c.args.store.now was old (g.T.Read.remaining c.args.stream.now.stream) (g.T.Write.contents c.args.stream.now.stream) c.new-session.ensures.ended holds (c.new-session.ensures.stands c.args.store.now.following was old)) reason)
 
@@ -46,8 +46,8 @@ returns-then-not-send_pending-clause-follows g c clean was old holds =
     let session = c.turns.session in
     let inv = c.turns.invariant in
     let sent = c.send_pending.ensures.sent in
-    follows-same g.S.Store session.config c.args.config c.args.store.now c.turns.store was old (g.T.Read.remaining c.args.stream.now.stream) (g.T.Read.remaining c.send_pending.new.stream.stream) (g.T.Write.contents c.args.stream.now.stream) (g.T.Write.contents c.send_pending.new.stream.stream) (told_as WriteFailed (end_of session)) c.ended_with-then-not-send_pending.result inv.config
-    (sym (c.ended_with-then-not-send_pending.ensures ∙ ap (λ (e : Ended). told_as WriteFailed e) sent.4.end))
+    follows-same g.S.Store session.config c.args.config c.args.store.now c.turns.store was old (g.T.Read.remaining c.args.stream.now.stream) (g.T.Read.remaining c.send_pending.new.stream.stream) (g.T.Write.contents c.args.stream.now.stream) (g.T.Write.contents c.send_pending.new.stream.stream) (reported_as WriteFailed (end_of session)) c.ended_with-then-not-send_pending.result inv.config
+    (sym (c.ended_with-then-not-send_pending.ensures ∙ ap (λ (e : Ended). reported_as WriteFailed e) sent.4.end))
     (follows-write_failed g.S.Store session c.args.store.now c.turns.store was old (g.T.Read.remaining c.args.stream.now.stream) (g.T.Read.remaining c.turns.stream.stream) (g.T.Write.contents c.args.stream.now.stream) (g.T.Write.contents c.turns.stream.stream) inv.names (inv.following clean was old holds)
     c.send_pending.new.session (g.T.Read.remaining c.send_pending.new.stream.stream) (g.T.Write.contents c.send_pending.new.stream.stream) sent.0 sent.1 c.send_pending.ensures.apart sent.2 sent.4 (sym c.sends_no_more.ensures ∙ c.if-sends_no_more.false) inv.neither)
 
@@ -58,7 +58,7 @@ returns-then-is_some-clause-follows g c clean was old holds =
     let sent = c.send_pending.ensures.sent in
     let after = c.send_pending.new.session in
     let f = inv.following clean was old holds in
-    let some : is_some after.ended ≡ true = some_behind c.ended.result after.ended c.ended.ensures ∙ sym c.is_some.ensures ∙ c.if-is_some.true in
+    let some : is_some after.ended ≡ true = some_after c.ended.result after.ended c.ended.ensures ∙ sym c.is_some.ensures ∙ c.if-is_some.true in
     let s = over-out g.S.Store session after c.turns.store (database g.S.Store c.args.store.now).now.schema was old f.read f.sent (sent.0 ++ sent.1) sent.4 f.stands in
     let early : (end_of session).reason ≢ EndOfInput = λ h. ended_early after c.turns.store.following was s.is old s.now f.read (f.sent ++ (sent.0 ++ sent.1)) some s.stands (ap (λ (e : Ended). e.reason) sent.4.end ∙ h) in
     follows-same g.S.Store session.config c.args.config c.args.store.now c.turns.store was old (g.T.Read.remaining c.args.stream.now.stream) (g.T.Read.remaining c.send_pending.new.stream.stream) (g.T.Write.contents c.args.stream.now.stream) (g.T.Write.contents c.send_pending.new.stream.stream) (end_of session) c.finish-then-is_some.result inv.config (sym (c.finish-then-is_some.ensures.end ∙ sent.4.end))
@@ -67,7 +67,7 @@ returns-then-is_some-clause-follows g c clean was old holds =
 
 pub read_piece-requires-clause-going : goal.read_piece-requires-clause-going
 read_piece-requires-clause-going g c =
-    none_behind c.send_pending.new.session.ended (some_behind c.ended.result c.send_pending.new.session.ended c.ended.ensures ∙ sym c.is_some.ensures ∙ c.if-is_some.false)
+    none_after c.send_pending.new.session.ended (some_after c.ended.result c.send_pending.new.session.ended c.ended.ensures ∙ sym c.is_some.ensures ∙ c.if-is_some.false)
 
 pub turns-preserved : goal.turns-preserved
 turns-preserved g c =
@@ -76,7 +76,7 @@ turns-preserved g c =
     let sent = c.send_pending.ensures.sent in
     let after = c.send_pending.new.session in
     let read = c.read_piece.ensures.read c.in-Read.is in
-    let going : after.ended ≡ None = none_behind after.ended (some_behind c.ended.result after.ended c.ended.ensures ∙ sym c.is_some.ensures ∙ c.if-is_some.false) in
+    let going : after.ended ≡ None = none_after after.ended (some_after c.ended.result after.ended c.ended.ensures ∙ sym c.is_some.ensures ∙ c.if-is_some.false) in
     let long : length c.deref_mut.result.now ≡ 65536 = search (rules, inv.piece) in
     let neither : IsNoStreamFailure (end_of after).reason = subst (λ (e : Ended). IsNoStreamFailure e.reason) (sym sent.4.end) inv.neither in
     record {
@@ -121,12 +121,12 @@ returns-in-Failed-clause-follows g c clean was old holds =
     let not_read : c.read_piece.result ≢ turn.Read = λ h. let bad : turn.Failed ≡ turn.Read = sym c.in-Failed.is ∙ h in cc in
     let still = c.read_piece.ensures.still not_read in
     let f = inv.following (c.read_piece.ensures.clean clean) was old holds in
-    let none : after.ended ≡ None = none_behind after.ended (some_behind c.ended.result after.ended c.ended.ensures ∙ sym c.is_some.ensures ∙ c.if-is_some.false) in
+    let none : after.ended ≡ None = none_after after.ended (some_after c.ended.result after.ended c.ended.ensures ∙ sym c.is_some.ensures ∙ c.if-is_some.false) in
     let at_end : (end_of session).reason ≡ EndOfInput =
     ap (λ (e : Ended). e.reason) (sym sent.4.end ∙ ap (λ (v : Option Ended). unwrap_or v (record { reason = EndOfInput; at = after.at; applied = after.applied })) none) in
     subst (λ s. Follows g.S.Store c.args.config c.args.store.now s was old (g.T.Read.remaining c.args.stream.now.stream) (g.T.Read.remaining c.read_piece.new.stream.stream) (g.T.Write.contents c.args.stream.now.stream) (g.T.Write.contents c.read_piece.new.stream.stream) c.ended_with-in-Failed.result) (sym still.1)
-    (follows-same g.S.Store session.config c.args.config c.args.store.now c.turns.store was old (g.T.Read.remaining c.args.stream.now.stream) (g.T.Read.remaining c.read_piece.new.stream.stream) (g.T.Write.contents c.args.stream.now.stream) (g.T.Write.contents c.read_piece.new.stream.stream) (told_as ReadFailed (end_of session)) c.ended_with-in-Failed.result inv.config
-    (sym (c.ended_with-in-Failed.ensures ∙ ap (λ (s : Session). told_as ReadFailed (end_of s)) still.0 ∙ ap (λ (e : Ended). told_as ReadFailed e) sent.4.end))
+    (follows-same g.S.Store session.config c.args.config c.args.store.now c.turns.store was old (g.T.Read.remaining c.args.stream.now.stream) (g.T.Read.remaining c.read_piece.new.stream.stream) (g.T.Write.contents c.args.stream.now.stream) (g.T.Write.contents c.read_piece.new.stream.stream) (reported_as ReadFailed (end_of session)) c.ended_with-in-Failed.result inv.config
+    (sym (c.ended_with-in-Failed.ensures ∙ ap (λ (s : Session). reported_as ReadFailed (end_of s)) still.0 ∙ ap (λ (e : Ended). reported_as ReadFailed e) sent.4.end))
     (follows-read_failed g.S.Store session c.args.store.now c.turns.store was old (g.T.Read.remaining c.args.stream.now.stream) (g.T.Read.remaining c.turns.stream.stream) (g.T.Write.contents c.args.stream.now.stream) (g.T.Write.contents c.turns.stream.stream) inv.names f
     after (g.T.Read.remaining c.read_piece.new.stream.stream) (g.T.Write.contents c.read_piece.new.stream.stream) sent.0 sent.1 (Keeps-trans (g.T.Read.remaining c.turns.stream.stream) (g.T.Read.remaining c.send_pending.new.stream.stream) (g.T.Read.remaining c.read_piece.new.stream.stream) c.send_pending.ensures.apart still.2) (Appends-kept (g.T.Write.contents c.turns.stream.stream) (g.T.Write.contents c.send_pending.new.stream.stream) (g.T.Write.contents c.read_piece.new.stream.stream) sent.0 sent.2 c.read_piece.ensures.apart)
     sent.4 (sent.3 c.if-not-send_pending.false) at_end))

@@ -1,6 +1,6 @@
 use Rattle.replica.specs.Standing.{end_of}
 use Rattle.replica.proofs.Stood as stood
-use Rattle.replica.proofs.Told as told
+use Rattle.replica.proofs.Report as reported
 use Rattle.replica.proofs.laws.stood.Goals as goal
 
 pub returns-clause-conn : goal.returns-clause-conn
@@ -15,12 +15,12 @@ returns-clause-store c = stood.store_of c.args._session.now
 pub returns-clause-state : goal.returns-clause-state
 returns-clause-state c names was is old now b o s =
     let session = c.args._session.now in
-    told.begun_of session.config.limit names was old b now (end_of session) (stood.conn_of session names was is old now b o s)
+    reported.begun_of session.config.limit names was old b now (end_of session) (stood.conn_of session names was is old now b o s)
 
 pub returns-clause-reason : goal.returns-clause-reason
 returns-clause-reason c names was is old now b o s h =
     let session = c.args._session.now in
-    told.end_by session.config.limit names was old b now (end_of session) (stood.conn_of session names was is old now b o s) h
+    reported.end_by session.config.limit names was old b now (end_of session) (stood.conn_of session names was is old now b o s) h
 
 pub returns-clause-ended : goal.returns-clause-ended
-returns-clause-ended c = told.ended_where c.args._session.now
+returns-clause-ended c = reported.ended_where c.args._session.now

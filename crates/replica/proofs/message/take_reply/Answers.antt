@@ -5,7 +5,7 @@ use Rattle.replica.proofs.Messages.{message_ends, answered_again, switch_due}
 use Rattle.replica.proofs.message.take_reply.Goals as goal
 
 pub returns-in-Err-clause-err : goal.returns-in-Err-clause-err
-returns-in-Err-clause-err c names executed = message_ends names executed Reply c.args.payload.now c.told.result tt (c.told.ensures.told (refusal_of Reply c.args.payload.now) c.in-Err.ensures.fault)
+returns-in-Err-clause-err c names executed = message_ends names executed Reply c.args.payload.now c.reported.result tt (c.reported.ensures.reported (refusal_of Reply c.args.payload.now) c.in-Err.ensures.fault)
 
 pub returns-in_ok-log_in_again-in-Ok-Switch-clause-ok : goal.returns-in_ok-log_in_again-in-Ok-Switch-clause-ok
 returns-in_ok-log_in_again-in-Ok-Switch-clause-ok c names executed =

@@ -1,7 +1,7 @@
 use Rattle.std.proofs.Common.{◌≡◌, ◌∙◌, length, ap, sym, subst, arith}
 use Rattle.std.proofs.Math.Seq.{take-length}
 use Rattle.gtid.specs.Encoding.{IsEncoding}
-use Rattle.scripted_source.specs.Source.{told_of_set}
+use Rattle.scripted_source.specs.Source.{set_fault}
 use Rattle.scripted_source.proofs.answering.read_set.Goals as goal
 
 pub returns-then-used-bytes-clause-only : goal.returns-then-used-bytes-clause-only
@@ -19,4 +19,4 @@ returns-else-used-bytes-clause-only c ids is =
 pub returns-in-Err-clause-only : goal.returns-in-Err-clause-only
 returns-in-Err-clause-only c ids is =
     let bytes = c.args.bytes.now in
-    c.told_of_set.ensures ∙ ap told_of_set (c.in-Err.ensures.only ids (length bytes) (omega arith) (subst (IsEncoding ids) (sym (take-length bytes)) is))
+    c.set_fault.ensures ∙ ap set_fault (c.in-Err.ensures.only ids (length bytes) (omega arith) (subst (IsEncoding ids) (sym (take-length bytes)) is))

@@ -19,4 +19,4 @@ returns-in-Ok-clause-only c payload rest t =
 pub returns-clause-only : goal.returns-clause-only
 returns-clause-only c payload rest t =
     let s = starts c.new-assembler.result c.expect.new.self c.args.sequence c.new-assembler.ensures c.expect.ensures in
-    c.told_of_packets.ensures ∙ only_memory c.expect.new.self c.args.sequence c.args.bytes.now payload rest c.in-Err.fault s (λ want got e. c.in-Err.ensures.sequence want got (ap Err e)) (λ e. c.in-Err.ensures.too_large (ap Err e)) (λ e. c.in-Err.ensures.ended.0 (ap Err e)) t
+    c.packets_fault.ensures ∙ only_memory c.expect.new.self c.args.sequence c.args.bytes.now payload rest c.in-Err.fault s (λ want got e. c.in-Err.ensures.sequence want got (ap Err e)) (λ e. c.in-Err.ensures.too_large (ap Err e)) (λ e. c.in-Err.ensures.ended.0 (ap Err e)) t

@@ -1,4 +1,5 @@
-use Rattle.std.proofs.Common.{◌≡◌, false, Err, ap, subst, ◌∙◌, arith}
+use Rattle.std.proofs.Common.{◌≡◌, false, Ok, Err, ap, sym, subst, ◌∙◌, arith}
+use Rattle.std.proofs.lemmas.Bool.{false≢true}
 use Rattle.std.specs.FinSet as set
 use Rattle.sqlite.specs.State.{HasCleanDisk}
 use Rattle.sqlite.specs.Held.{state}
@@ -6,7 +7,7 @@ use Rattle.gtid.specs.Identifier.{id}
 use Rattle.gather.specs.View.{delivery_value}
 use Rattle.store.specs.Take.{is_executed}
 use Rattle.store.specs.Apply.{LiesBeside}
-use Rattle.store.proofs.Taken.{beside_known, moved, came, given_up, fault_in}
+use Rattle.store.proofs.Taken.{beside_known, moved, came, given_up, fault_in, shut_after, refused_shut}
 use Rattle.store.proofs.apply.take.Goals as goal
 
 pub returns-in-Ok-None-clause-comes : goal.returns-in-Ok-None-clause-comes
@@ -38,7 +39,7 @@ returns-in-Ok-Some-clause-comes g c clean content rest same =
     beside_known rest.stands.executed.spans c.args.executed content.executed c.args.delivery.now.gtid c.around-beside.result same rest.stands.executed.least (λ least. c.around-beside.ensures rest.stands.executed.spans least c.requires.new) in
     let ran = rw c.in-Ok-Some.field-0-is at (c.in-Ok-Some.ensures.runs early content rest out beside) in
     let kept : c.release.result ≡ content.executed = c.release.ensures ∙ ap (λ p. p.0) c.in-Ok.ensures.ok ∙ same in
-    came c.args.follow.now content d old mid new c.release.result c.in-Ok-Some.at c.in-Ok-Some.why c.refuse.result kept rest ran (c.refuse.ensures.told clean)
+    came c.args.follow.now content d old mid new c.release.result c.in-Ok-Some.at c.in-Ok-Some.why c.refuse.result kept rest ran (c.refuse.ensures.reported clean)
 
 pub returns-in-Ok-Some-clause-crash : goal.returns-in-Ok-Some-clause-crash
 returns-in-Ok-Some-clause-crash g c content rest same =
@@ -71,3 +72,17 @@ returns-in-Err-run-clause-crash g c content rest same =
 
 pub returns-in-Ok-Some-clause-memory : goal.returns-in-Ok-Some-clause-memory
 returns-in-Ok-Some-clause-memory g c is = absurd (c.refuse.ensures.other (ap fault_in is))
+
+pub returns-in-Ok-None-clause-shut : goal.returns-in-Ok-None-clause-shut
+returns-in-Ok-None-clause-shut g c clean shut = absurd (false≢true (sym shut ∙ c.run.ensures.opened clean (c.in-Ok-None.ensures.done clean (ap Ok c.in-Ok-None.field-0-is))))
+
+pub returns-in-Ok-Some-clause-shut : goal.returns-in-Ok-Some-clause-shut
+returns-in-Ok-Some-clause-shut g c clean shut =
+    let mid = state g.S.Store c.run.new.conn in
+    let early : HasCleanDisk mid = omega (arith, c.refuse.ensures.survives.clean, clean) in
+    refused_shut c.in-Ok-Some.at c.in-Ok-Some.why (state g.S.Store c.args.conn.now) mid (state g.S.Store c.refuse.new.conn) c.args.executed c.release.result c.refuse.result (c.run.ensures.opened early) shut (c.refuse.ensures.reported clean)
+    (c.release.ensures ∙ ap (λ p. p.0) c.in-Ok.ensures.ok)
+
+pub returns-in-Err-run-clause-shut : goal.returns-in-Err-run-clause-shut
+returns-in-Err-run-clause-shut g c clean shut =
+    (shut_after (state g.S.Store c.args.conn.now) (state g.S.Store c.run.new.conn) (c.run.ensures.opened clean) shut, c.release-in-Err-run.ensures ∙ ap (λ p. p.0) c.in-Ok.ensures.ok)

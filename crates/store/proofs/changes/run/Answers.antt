@@ -6,7 +6,7 @@ use Rattle.sqlite.proofs.Callers.{survives_begin}
 use Rattle.sqlite.proofs.StateLemmas.{survives_then}
 use Rattle.sqlite_trees.specs.Tree.{Trees}
 use Rattle.gather.specs.View.{delivery_value}
-use Rattle.store.specs.Apply.{Fills, Runs, MayCommit, HasTaken, IsApplied}
+use Rattle.store.specs.Apply.{Fills, Runs, MayCommit, HasApplied, IsApplied}
 use Rattle.store.proofs.Ran.{begun_working, rests_rolled, rests_failed, runs_err, has_taken, leaves, may_commit_err}
 use Rattle.store.proofs.changes.run.Goals as goal
 
@@ -74,7 +74,7 @@ returns-clause-runs g c clean content rest out beside =
     let late : HasCleanDisk n = subst (λ k. HasCleanDisk (state g.S.Store k)) (sym same) clean in
     let early : HasCleanDisk m = omega (arith, c.commit.ensures.survives.clean, late) in
     let fills : Fills names content d t m None = rw c.in_default.is at ((rw c.transaction-tx.ensures.begun at c.in_ok-refused.ensures.fills) early working content rest.stands out beside) in
-    subst (λ k. HasTaken names content d (state g.S.Store k) × ((state g.S.Store k).now.schema ≡ (state g.S.Store h).now.schema)) same (has_taken names content d t m n fills (c.in_ok-commit.ensures.ok late).1)
+    subst (λ k. HasApplied names content d (state g.S.Store k) × ((state g.S.Store k).now.schema ≡ (state g.S.Store h).now.schema)) same (has_taken names content d t m n fills (c.in_ok-commit.ensures.ok late).1)
 
 pub returns-clause-crash : goal.returns-clause-crash
 returns-clause-crash g c content rest out beside =

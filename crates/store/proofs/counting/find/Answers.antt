@@ -3,6 +3,7 @@ use Rattle.sqlite.specs.Held.{state}
 use Rattle.store.specs.Layout.{read_text}
 use Rattle.store.specs.Rows.{key_in}
 use Rattle.store.proofs.Selects.{key_params}
+use Rattle.store.proofs.Keeps.{opened_query, live_query}
 use Rattle.store.proofs.Counted.{find_read, find_same, find_survives, rests_read}
 use Rattle.store.proofs.counting.find.Goals as goal
 
@@ -21,3 +22,9 @@ returns-clause-rests g c clean laid_out settled =
 pub returns-clause-survives : goal.returns-clause-survives
 returns-clause-survives g c laid_out =
     find_survives (state g.S.Store c.args.conn.now) (state g.S.Store c.query_all.new.self) (key_in c.args.row.now) laid_out c.query_all.ensures.survives
+
+pub returns-clause-opened : goal.returns-clause-opened
+returns-clause-opened g c clean = opened_query (λ v. v.items) _ _ (state g.S.Store c.args.conn.now) (state g.S.Store c.query_all.new.self) c.query_all.result (c.query_all.ensures.ok clean) (c.query_all.ensures.err clean)
+
+pub returns-clause-live : goal.returns-clause-live
+returns-clause-live g c clean = live_query (λ v. v.items) _ _ (state g.S.Store c.args.conn.now) (state g.S.Store c.query_all.new.self) c.query_all.result (c.query_all.ensures.ok clean)

@@ -129,7 +129,7 @@ returns-clause-loads g c clean laid settled says =
     let same2 = unchanged_then (state g.S.Store c.args.conn.now) (state g.S.Store c.load_meta.new.conn) (state g.S.Store c.load_follow.new.conn) same1 (c.in_ok-following.ensures.same clean2 (tree_at (state g.S.Store c.args.conn.now).now.schema 3) (still_asks (state g.S.Store c.args.conn.now) (state g.S.Store c.load_meta.new.conn) all_follow_text (tree_at (state g.S.Store c.args.conn.now).now.schema 3) same1 (follow_asks _ laid))) in
     let same3 = unchanged_then (state g.S.Store c.args.conn.now) (state g.S.Store c.load_follow.new.conn) (state g.S.Store c.load_spans.new.conn) same2 (c.in_ok-executed.ensures.same clean3 (tree_at (state g.S.Store c.args.conn.now).now.schema 2) (still_asks (state g.S.Store c.args.conn.now) (state g.S.Store c.load_follow.new.conn) all_spans_text (tree_at (state g.S.Store c.args.conn.now).now.schema 2) same2 (spans_asks _ laid))) in
     let same4 = unchanged_then (state g.S.Store c.args.conn.now) (state g.S.Store c.load_spans.new.conn) (state g.S.Store c.load_held.new.conn) same3 (c.in_ok-load_held.ensures.same clean (tree_at (state g.S.Store c.args.conn.now).now.schema 1) (still_asks (state g.S.Store c.args.conn.now) (state g.S.Store c.load_spans.new.conn) all_held_text (tree_at (state g.S.Store c.args.conn.now).now.schema 1) same3 (held_asks _ laid))) in
-    loaded (state g.S.Store c.args.conn.now) (state g.S.Store c.load_held.new.conn) c.in_ok-executed.executed c.in_ok-following.following laid settled says same4
+    loaded (state g.S.Store c.args.conn.now) (state g.S.Store c.load_held.new.conn) c.in_ok-executed.executed c.in_ok-following.following c.schema.ensures.live laid settled says same4
     (c.in_ok-load_meta.ensures.judged clean1 (tree_at (state g.S.Store c.args.conn.now).now.schema 0) (laid_meta_asks _ laid))
     (subst (λ (db : Database). AreNames (db.trees (tree_at (state g.S.Store c.args.conn.now).now.schema 3)) c.in_ok-following.following) same1.0.now_is (c.in_ok-following.ensures.judged clean2 (tree_at (state g.S.Store c.args.conn.now).now.schema 3) (still_asks (state g.S.Store c.args.conn.now) (state g.S.Store c.load_meta.new.conn) all_follow_text (tree_at (state g.S.Store c.args.conn.now).now.schema 3) same1 (follow_asks _ laid))))
     (subst (λ (db : Database). AreSpans (db.trees (tree_at (state g.S.Store c.args.conn.now).now.schema 2)) c.in_ok-executed.executed × HasRowids (db.trees (tree_at (state g.S.Store c.args.conn.now).now.schema 2))) same2.0.now_is (c.in_ok-executed.ensures.judged clean3 (tree_at (state g.S.Store c.args.conn.now).now.schema 2) (still_asks (state g.S.Store c.args.conn.now) (state g.S.Store c.load_follow.new.conn) all_spans_text (tree_at (state g.S.Store c.args.conn.now).now.schema 2) same2 (spans_asks _ laid))))

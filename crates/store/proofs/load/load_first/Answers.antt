@@ -91,7 +91,7 @@ returns-clause-loads g c clean made settled says =
     let same1 = c.in_ok-load_meta.ensures.same clean1 0 (meta_first_asks _ (first_meta_first _ made)) in
     let same2 = unchanged_then (state g.S.Store c.args.conn.now) (state g.S.Store c.load_meta.new.conn) (state g.S.Store c.load_executed.new.conn) same1 (c.in_ok-executed.ensures.same clean2 2 (still_asks (state g.S.Store c.args.conn.now) (state g.S.Store c.load_meta.new.conn) all_executed_text 2 same1 (first_executed _ made))) in
     let same3 = unchanged_then (state g.S.Store c.args.conn.now) (state g.S.Store c.load_executed.new.conn) (state g.S.Store c.load_held.new.conn) same2 (c.in_ok-load_held.ensures.same clean 4 (still_asks (state g.S.Store c.args.conn.now) (state g.S.Store c.load_executed.new.conn) all_held_text 4 same2 (first_held _ made))) in
-    first_loaded (state g.S.Store c.args.conn.now) (state g.S.Store c.load_held.new.conn) c.in_ok-executed.executed made settled says same3
+    first_loaded (state g.S.Store c.args.conn.now) (state g.S.Store c.load_held.new.conn) c.in_ok-executed.executed c.schema.ensures.live made settled says same3
     (c.in_ok-load_meta.ensures.judged clean1 0 (meta_first_asks _ (first_meta_first _ made)))
     (subst (λ (db : Database). AllByRecursion IsExecutedRow (db.trees 2) × (c.in_ok-executed.executed ≡ set.from_list (map id_in (db.trees 2)))) same1.0.now_is (c.in_ok-executed.ensures.judged clean2 2 (still_asks (state g.S.Store c.args.conn.now) (state g.S.Store c.load_meta.new.conn) all_executed_text 2 same1 (first_executed _ made))))
     (subst (λ (db : Database). AllByRecursion IsHeldRow (db.trees 4) × HasRowids (db.trees 4)) same2.0.now_is (c.in_ok-load_held.ensures.judged clean 4 (still_asks (state g.S.Store c.args.conn.now) (state g.S.Store c.load_executed.new.conn) all_held_text 4 same2 (first_held _ made))))

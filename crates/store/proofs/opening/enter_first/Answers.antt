@@ -6,7 +6,7 @@ use Rattle.store.proofs.Entered.{rests_after, entered_first, other_first, may_fi
 use Rattle.store.proofs.opening.enter_first.Goals as goal
 
 pub returns-then-differs-clause-turned : goal.returns-then-differs-clause-turned
-returns-then-differs-clause-turned g c clean ready laid says =
+returns-then-differs-clause-turned g c clean ready laid says there =
     let old = state g.S.Store c.args.conn.now in
     let mid = state g.S.Store c.load_first.new.conn in
     other_first c.args.any c.args.only.now c.all-following.result c.in_ok-executed.executed old mid mid
@@ -30,7 +30,7 @@ returns-in-Ok-clause-crash g c ready laid says =
     (c.in_ok-executed.ensures.crash laid) c.migrate.ensures.crash (λ early. c.in_ok-executed.ensures.same early laid) (λ early. c.in_ok-executed.ensures.loads early laid ready.settled says)
 
 pub returns-in-Err-clause-turned : goal.returns-in-Err-clause-turned
-returns-in-Err-clause-turned g c clean ready laid says =
+returns-in-Err-clause-turned g c clean ready laid says there =
     let old = state g.S.Store c.args.conn.now in
     let mid = state g.S.Store c.load_first.new.conn in
     let new = state g.S.Store c.migrate.new.conn in

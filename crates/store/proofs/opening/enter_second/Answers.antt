@@ -7,7 +7,7 @@ use Rattle.store.proofs.Entered.{entered_second, other_second}
 use Rattle.store.proofs.opening.enter_second.Goals as goal
 
 pub returns-then-differs-clause-turned : goal.returns-then-differs-clause-turned
-returns-then-differs-clause-turned g c clean ready laid says =
+returns-then-differs-clause-turned g c clean ready laid says there =
     let old = state g.S.Store c.args.conn.now in
     let new = state g.S.Store c.load.new.conn in
     let there : SaysLayout (pos 2) (meta_rows old.now) = subst (λ t. SaysLayout (pos 2) (old.now.trees t)) (sym (meta_place old.now.schema laid)) says in

@@ -23,5 +23,8 @@ loop-at-preserved g c = record {
       let early : HasCleanDisk mid = omega (arith, c.step.ensures.survives.clean) in
       let way = c.loop-at.invariant.under_way early was in
       kept_then (state g.S.Store c.args.tx.now.conn.now) mid (state g.S.Store c.step.new.tx.conn.now) (c.loop-at.invariant.kept early was) (c.in_ok-why.ensures.kept clean way.0.on.working);
+  opened = λ clean is_open.
+      let early : HasCleanDisk (state g.S.Store c.loop-at.tx.conn.now) = omega (arith, c.step.ensures.survives.clean) in
+      c.loop-at.invariant.opened early (c.step.ensures.opened clean is_open);
   survives = inside_then (state g.S.Store c.args.tx.now.conn.now) (state g.S.Store c.loop-at.tx.conn.now) (state g.S.Store c.step.new.tx.conn.now) c.loop-at.invariant.survives c.step.ensures.survives;
 }

@@ -2,7 +2,7 @@ use Rattle.std.proofs.Common.{◌≡◌, ◌∙◌, ℕ, List, take, drop, sym, 
 use Rattle.std.proofs.lemmas.List.{take_rest}
 use Rattle.byteorder.specs.Endian.{little_number}
 use Rattle.binlog.specs.Body.{IsGtid}
-use Rattle.binlog.proofs.Bodies.{is_gtid, gtid_told}
+use Rattle.binlog.proofs.Bodies.{is_gtid, gtid_reported}
 use Rattle.binlog.proofs.body.gtid_event.read_gtid.Goals as goal
 
 pub returns-in-Some-clause-found : goal.returns-in-Some-clause-found
@@ -15,7 +15,7 @@ returns-in-Some-clause-found c =
 
 pub returns-in-Some-clause-only : goal.returns-in-Some-clause-only
 returns-in-Some-clause-only c source number is =
-    let t = gtid_told source number c.args.bytes.now is in (
+    let t = gtid_reported source number c.args.bytes.now is in (
       c.in-Some.ensures.parts.0 ∙ c.copy_from_slice.ensures.after ∙ t.source_is,
       c.in-Some.ensures.parts.1 ∙ c.read_u64-number.ensures ∙ ap (little_number 8) (take_rest c.args.bytes.now 36) ∙ t.number_is,
     )

@@ -8,7 +8,7 @@ use Rattle.binlog.specs.Fault.{number_at}
 use Rattle.binlog.specs.Rows.{RowsValue, IsRows, presents_size, presents_fault}
 use Rattle.binlog.specs.declared.fault.EventFaultKind.TheVariants.{Columns}
 use Rattle.binlog.proofs.Counts.{is_counted}
-use Rattle.binlog.proofs.RowsHead.{AreParts, count_place, columns_of, rows_place, stated, is_rows, rows_told, not_uncounted, rows_then, only_line}
+use Rattle.binlog.proofs.RowsHead.{AreParts, count_place, columns_of, rows_place, stated, is_rows, rows_reported, not_uncounted, rows_then, only_line}
 use Rattle.binlog.proofs.body.rows.read_rows.Goals as goal
 
 -- the extra length, as the code reads it
@@ -18,33 +18,33 @@ extra_is bytes read cast a b = a ∙ b ∙ ap (little_number 2) (take_rest bytes
 pub returns-then-extra-lt2-clause-only : goal.returns-then-extra-lt2-clause-only
 returns-then-extra-lt2-clause-only c r same is =
     let e = extra_is c.args.bytes.now _ _ c.from-extra.ensures c.read_u16.ensures in
-    let extra = (rows_told r c.args.bytes.now is).are.extra in
+    let extra = (rows_reported r c.args.bytes.now is).are.extra in
     omega (arith, extra, e, c.if-extra-lt2.true)
 
 pub returns-then-bytes-columns_at-clause-only : goal.returns-then-bytes-columns_at-clause-only
 returns-then-bytes-columns_at-clause-only c r same is =
     let e = extra_is c.args.bytes.now _ _ c.from-extra.ensures c.read_u16.ensures in
-    let fits = (rows_told r c.args.bytes.now is).are.extra_fits in
+    let fits = (rows_reported r c.args.bytes.now is).are.extra_fits in
     omega (arith, fits, e, c.if-bytes-columns_at.true)
 
 pub returns-in_err-columns-clause-only : goal.returns-in_err-columns-clause-only
 returns-in_err-columns-clause-only c r same is =
     let e = extra_is c.args.bytes.now _ _ c.from-extra.ensures c.read_u16.ensures in
-    let none = not_uncounted r.kind c.args.bytes.now (rows_told r c.args.bytes.now is).are in
+    let none = not_uncounted r.kind c.args.bytes.now (rows_reported r c.args.bytes.now is).are in
     absurd (none-some _ (sym none ∙ ap (λ n. no_count c.args.bytes.now (27 + n) Columns) (sym e) ∙ c.in_err-columns.ensures.fault))
 
 pub returns-then-columns-lt1-clause-only : goal.returns-then-columns-lt1-clause-only
 returns-then-columns-lt1-clause-only c r same is =
     let e = extra_is c.args.bytes.now _ _ c.from-extra.ensures c.read_u16.ensures in
     let n : c.in_ok-columns.columns ≡ columns_of c.args.bytes.now = c.in_ok-columns.ensures.value.0 ∙ ap (λ n. count_at c.args.bytes.now (27 + n)) e in
-    let low = (rows_told r c.args.bytes.now is).are.columns.0 in
+    let low = (rows_reported r c.args.bytes.now is).are.columns.0 in
     omega (arith, n, low, c.if-columns-lt1.true)
 
 pub returns-then-columns-gt4096-clause-only : goal.returns-then-columns-gt4096-clause-only
 returns-then-columns-gt4096-clause-only c r same is =
     let e = extra_is c.args.bytes.now _ _ c.from-extra.ensures c.read_u16.ensures in
     let n : c.in_ok-columns.columns ≡ columns_of c.args.bytes.now = c.in_ok-columns.ensures.value.0 ∙ ap (λ n. count_at c.args.bytes.now (27 + n)) e in
-    let high = (rows_told r c.args.bytes.now is).are.columns.1 in
+    let high = (rows_reported r c.args.bytes.now is).are.columns.1 in
     omega (arith, n, high, c.if-columns-gt4096.true)
 
 pub returns-in_err-bytes_at-clause-only : goal.returns-in_err-bytes_at-clause-only
@@ -52,7 +52,7 @@ returns-in_err-bytes_at-clause-only c r same is =
     let e = extra_is c.args.bytes.now _ _ c.from-extra.ensures c.read_u16.ensures in
     let n : c.in_ok-columns.columns ≡ columns_of c.args.bytes.now = c.in_ok-columns.ensures.value.0 ∙ ap (λ n. count_at c.args.bytes.now (27 + n)) e in
     let w : c.in_ok-columns.width ≡ count_width c.args.bytes.now (count_place c.args.bytes.now) = c.in_ok-columns.ensures.value.1 ∙ ap (λ n. count_width c.args.bytes.now (27 + n)) e in
-    let none = (rows_told r c.args.bytes.now is).are.presents in
+    let none = (rows_reported r c.args.bytes.now is).are.presents in
     absurd (none-some _ (sym none ∙ (λ i. presents_fault (same i) c.args.bytes.now (27 + sym e i + sym w i) (sym n i)) ∙ c.in_err-bytes_at.ensures.fault))
 
 pub returns-in_err-bytes_at-clause-fault : goal.returns-in_err-bytes_at-clause-fault
@@ -109,4 +109,4 @@ pub returns-clause-found : goal.returns-clause-found
 returns-clause-found c = subst (λ (v : RowsValue). IsRows v (drop 19 c.args.bytes.now)) (value c) (is_rows c.args.kind c.args.bytes.now (λ i. omega (arith, c.type_inv.bytes i)) (parts c))
 
 pub returns-clause-only : goal.returns-clause-only
-returns-clause-only c r same is = sym (value c) ∙ ap (λ k. stated k c.args.bytes.now) (sym same) ∙ (rows_told r c.args.bytes.now is).is
+returns-clause-only c r same is = sym (value c) ∙ ap (λ k. stated k c.args.bytes.now) (sym same) ∙ (rows_reported r c.args.bytes.now is).is

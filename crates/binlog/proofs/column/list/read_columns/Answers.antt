@@ -2,7 +2,7 @@ use Rattle.std.proofs.Common.{◌≡◌, List, length, drop, sym, ap, subst, ◌
 use Rattle.binlog.specs.Table.{AreColumns, codes_at, metadata_place}
 use Rattle.binlog.specs.Columns.{columns_of, columns_at}
 use Rattle.binlog.specs.declared.column.kind.ColumnKind.{ColumnKind}
-use Rattle.binlog.proofs.WholeColumns.{standing, as_many, columns_told, not_both}
+use Rattle.binlog.proofs.WholeColumns.{standing, as_many, columns_reported, not_both}
 use Rattle.binlog.proofs.column.list.read_columns.Goals as goal
 
 pub returns-in_err-codes-clause-only : goal.returns-in_err-codes-clause-only
@@ -23,4 +23,4 @@ returns-clause-found c =
 
 pub returns-clause-only : goal.returns-clause-only
 returns-clause-only c kinds is =
-    c.encoded.ensures ∙ (λ i. columns_of (c.in_ok-codes.ensures.codes i) (c.in_ok-codes.ensures.metadata i)) ∙ (columns_told kinds c.args.bytes.now c.args.at is).columns
+    c.encoded.ensures ∙ (λ i. columns_of (c.in_ok-codes.ensures.codes i) (c.in_ok-codes.ensures.metadata i)) ∙ (columns_reported kinds c.args.bytes.now c.args.at is).columns

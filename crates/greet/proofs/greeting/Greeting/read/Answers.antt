@@ -1,13 +1,15 @@
-use Rattle.std.proofs.Common.{◌≡◌, get_or, sym, ap, ◌∙◌, subst, refl, arith}
+use Rattle.std.proofs.Common.{◌≡◌, get_or, sym, ap, ◌∙◌, subst, refl, arith, inl, inr}
 use Rattle.std.proofs.lemmas.Bool.{ne_eqb}
 use Rattle.std.specs.Prelude.{IfOk, IfErr}
 use Rattle.greet.specs.Message.{IsGreeting}
 use Rattle.greet.specs.Refusal.{greeting_refusal}
+use Rattle.greet.specs.Complete.{HasGreeting}
 use Rattle.greet.specs.View.{greeting_value, Refuses}
 use Rattle.wire.proofs.Cuts.{first_and_rest}
 use Rattle.greet.proofs.Cuts.{begun_by}
 use Rattle.greet.proofs.Greetings.{nothing, not_refused, one_value}
 use Rattle.greet.proofs.Readers.{answered}
+use Rattle.greet.proofs.ErrBytes.{some_err}
 use Rattle.greet.proofs.greeting.Greeting.read.Goals as goal
 
 pub returns-in-empty-clause-fault : goal.returns-in-empty-clause-fault
@@ -17,7 +19,7 @@ pub returns-in-255-clause-fault : goal.returns-in-255-clause-fault
 unfolding greeting_refusal
 returns-in-255-clause-fault c =
     let first : get_or c.args.payload.now 0 0 ≡ 255 = omega arith in
-    rw (begun_by 255 c.args.payload.now c.in-255.len_at_least first) c.server_error.ensures
+    rw (begun_by 255 c.args.payload.now c.in-255.len_at_least first) c.server_error.ensures.fault
 
 pub returns-in-10-clause-fault : goal.returns-in-10-clause-fault
 unfolding greeting_refusal
@@ -37,3 +39,13 @@ returns-in-len1-up-clause-fault c =
     let no_error : get_or c.args.payload.now 0 0 ≡ 255 → ⊥ = omega arith in
     let no_greeting : get_or c.args.payload.now 0 0 ≡ 10 → ⊥ = omega arith in
     ap greeting_refusal (first_and_rest c.args.payload.now c.in-len1-up.len_at_least) ∙ rw (ne_eqb _ _ no_error, ne_eqb _ _ no_greeting) refl
+
+pub returns-in-255-clause-memory : goal.returns-in-255-clause-memory
+returns-in-255-clause-memory c is =
+    let first : get_or c.args.payload.now 0 0 ≡ 255 = omega arith in
+    inl (some_err _ c.args.payload.now (begun_by 255 c.args.payload.now c.in-255.len_at_least first) (λ i. omega (arith, c.type_inv.payload i)) (c.server_error.ensures.memory (cc)))
+
+pub returns-in-10-clause-memory : goal.returns-in-10-clause-memory
+returns-in-10-clause-memory c is =
+    let first : get_or c.args.payload.now 0 0 ≡ 10 = omega arith in
+    inr (subst HasGreeting (sym (begun_by 10 c.args.payload.now c.in-10.len_at_least first)) (c.read_body.ensures.memory is))

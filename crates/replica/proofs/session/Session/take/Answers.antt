@@ -35,5 +35,5 @@ returns-in-Login g c =
       room = λ none. let f = c.take_message.ensures.further none in room_left s c.take_message.new.self c.in-Some.end n f.0 f.1 c.requires.between.0 ends (omega (arith, c.in-Some.ensures));
       takes = λ clean schema was old b o m.
           over_same g.S.Store (λ h db is_open may. g.met.S.Store.settled h.store db is_open may) s c.take_message.new.self c.args.store.now schema was old b o c.args.payload.now m
-          (c.take_message.ensures.takes c.args.store.now.following was m.is old m.now b o (c.executed.ensures m.is m.now m.holds) ends m.meets);
+          (c.take_message.ensures.takes c.args.store.now.following was m.is old m.now b o (c.executed.ensures.value m.is m.now m.holds) ends m.meets);
     }

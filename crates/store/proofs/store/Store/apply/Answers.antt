@@ -3,7 +3,7 @@ use Rattle.std.specs.FinSet as set
 use Rattle.gtid.specs.Identifier.{id}
 use Rattle.gather.specs.View.{delivery_value}
 use Rattle.store.specs.Take.{is_executed}
-use Rattle.store.proofs.Taken.{applied, left_whole, same_schema}
+use Rattle.store.proofs.Taken.{applied, applied_shut, left_whole, same_schema}
 use Rattle.store.proofs.store.Store.apply.Goals as goal
 
 pub returns-clause-applies : goal.returns-clause-applies
@@ -26,3 +26,10 @@ returns-clause-schema g c clean content was whole =
     let same = c.replace-executed.ensures.value ∙ was.executed in
     same_schema g.S.Store content (delivery_value c.args.delivery.now) c.args.self.now (record c.args.self.now { conn = c.take-executed.new.conn; executed = c.take-executed.result.0; broken = c.breaks-self.result; autocommit = c.self-1.given.0 }) c.take-executed.result.1 whole c.breaks-self.ensures
     (c.take-executed.ensures.comes clean content was.rest same)
+
+pub returns-clause-shut : goal.returns-clause-shut
+returns-clause-shut g c clean content was shut =
+    let d = delivery_value c.args.delivery.now in
+    let out : is_executed content d ≡ false = subst (λ ids. set.contains ids (id c.args.delivery.now.gtid) ≡ false) was.executed (sym c.contains.ensures ∙ c.if-contains.false) in
+    applied_shut g.S.Store content d c.args.self.now (record c.args.self.now { conn = c.take-executed.new.conn; executed = c.take-executed.result.0; broken = c.breaks-self.result; autocommit = c.self-1.given.0 }) c.take-executed.result.1
+    c.replace-executed.result (c.replace-executed.ensures.value ∙ was.executed) out c.breaks-self.ensures (c.take-executed.ensures.shut clean shut)

@@ -1,6 +1,7 @@
 use Rattle.std.proofs.Common.{◌∙◌, sym}
+use Rattle.std.proofs.lemmas.Bool.{false≢true}
 use Rattle.sqlite.specs.Held.{state}
-use Rattle.store.proofs.Counted.{row_count, rest_unchanged}
+use Rattle.store.proofs.Counted.{row_count, rest_unchanged, rest_read}
 use Rattle.store.proofs.store.Store.count.Goals as goal
 
 pub returns-in-Ok-clause-counts : goal.returns-in-Ok-clause-counts
@@ -11,3 +12,13 @@ returns-in-Ok-clause-counts g c clean content was =
       c.in-Ok.ensures.counts clean was.rest.stands.laid_out ∙ sym (row_count old names content c.args.schema.now c.args.table.now c.args.image.now c.bytes.result.now c.bytes.ensures was.rest),
       record { whole = was.whole; executed = was.executed; rest = rest_unchanged old new names content (c.in-Ok.ensures.same clean was.rest.stands.laid_out) was.rest },
     )
+
+pub returns-in-Err-clause-counts : goal.returns-in-Err-clause-counts
+returns-in-Err-clause-counts g c clean content was =
+    record { whole = was.whole; executed = was.executed; rest = λ is_open. rest_read (state g.S.Store c.args.self.now.conn) (state g.S.Store c.count.new.conn) c.args.self.now.following content was.rest (c.count.ensures.rests clean was.rest.stands.laid_out was.rest.settled) is_open }
+
+pub returns-in-Ok-clause-shut : goal.returns-in-Ok-clause-shut
+returns-in-Ok-clause-shut g c clean content was shut = absurd (false≢true (sym shut ∙ c.in-Ok.ensures.live clean))
+
+pub returns-in-Err-clause-shut : goal.returns-in-Err-clause-shut
+returns-in-Err-clause-shut g c clean content was shut = record { whole = was.whole; executed = was.executed; rest = λ is_open. absurd (false≢true (sym shut ∙ c.count.ensures.opened clean is_open)) }

@@ -1,0 +1,17 @@
+-- Parts that are appended one after the other.
+use Rattle.std.proofs.Common.{◌≡◌, ℕ, zero, suc, ◌+◌, ◌<◌, ◌≤◌, Bool, true, false, List, [], ◌∷◌, ◌++◌, length, get_or, take, flat_map, Result, Ok, Err, sym, arith}
+use Rattle.std.specs.Prelude.{OnErr}
+use Rattle.std.specs.Result.{is_err}
+use Rattle.std.proofs.lemmas.List.{length-append}
+
+-- the parts before one of them, and that one, are no longer than all
+pub parts_fit : {X : Type 0} (f : X → List ℕ) (xs : List X) (i : ℕ) (d : X) → i < length xs → length (flat_map f (take i xs)) + length (f (get_or xs i d)) ≤ length (flat_map f xs)
+parts_fit f [] i d lt = absurd (omega (arith, lt))
+parts_fit f (x ∷ xs) zero d lt = omega (arith, length-append (f x) (flat_map f xs))
+parts_fit f (x ∷ xs) (suc i) d lt =
+    let h = parts_fit f xs i d (omega (arith, lt)) in
+    omega (arith, h, length-append (f x) (flat_map f (take i xs)), length-append (f x) (flat_map f xs))
+
+pub at_error : {T E P : Type 0} (r : Result T E) → is_err r ≡ true → OnErr r P → P
+at_error (Ok x) is p = absurd cc
+at_error (Err e) is p = p

@@ -1,0 +1,49 @@
+-- What an end reports.
+use Rattle.std.proofs.Common.{◌≡◌, ◌↔◌, ◌⊎◌, ap, ℕ, Bool, List, ◌++◌, length, refl, inl, inr, Some, None, MatchOption, unwrap_or}
+use Rattle.wire.specs.declared.fault.WireFault.TheVariants as wire
+use Rattle.binlog.specs.Filter.{Names}
+use Rattle.store.specs.State.{Content}
+use Rattle.replica.specs.declared.end.Reason.{Reason}
+use Rattle.replica.specs.declared.end.Reason.TheVariants.{EndOfInput, SourceEof, SourceError, Wire, Greet, Event, Gather, Refused, Database, Memory, ReadFailed, WriteFailed}
+use Rattle.replica.specs.declared.end.Ended.{Ended}
+use Rattle.replica.specs.declared.session.Session.{Session}
+use Rattle.replica.specs.Stream.{Reading, due_after}
+use Rattle.replica.specs.End.{End, StopsFor}
+use Rattle.replica.specs.Conn.{Conn, TakesFirst, Why, IsOfBytes, IsDumpTooLong}
+use Rattle.replica.specs.Standing.{GoesOn, HasEnded, Stands, end_of}
+
+pub begun_of : (limit : ℕ) (names : Names) (was : Bool) (old : Content) (b : List ℕ) (new : Content) (end : Ended) → Conn limit names was old b new end → (count : ℕ) × TakesFirst limit names old b count end.applied new
+begun_of limit names was old b new end c = (length c.reading.deliveries, record { reading = c.reading; counted = refl; took = c.took })
+
+stops_of : (limit : ℕ) (names : Names) (was : Bool) (old new : Content) (b : List ℕ) (r : Reading limit names b) (at : ℕ) (reason : Reason) → IsOfBytes reason
+    → Why limit names (due_after r.payloads) r.events r.deliveries (length r.front) r.id r.rest was old new at reason
+    → StopsFor limit names (due_after r.payloads) r.events (length r.front) r.id r.rest at reason ⊎ ((reason ≡ Wire wire.TooLarge) × IsDumpTooLong old.executed)
+stops_of limit names was old new b r at EndOfInput h w = inl w
+stops_of limit names was old new b r at SourceEof h w = inl w
+stops_of limit names was old new b r at (SourceError code state message) h w = inl w
+stops_of limit names was old new b r at (Wire fault) h w = elim w [ inl s ↦ inl s | inr s ↦ inr (ap Wire s.0, s.3) ]
+stops_of limit names was old new b r at (Greet fault) h w = inl w
+stops_of limit names was old new b r at (Event fault) h w = inl w
+stops_of limit names was old new b r at (Gather fault) h w = inl w
+stops_of limit names was old new b r at (Refused refusal) h w = absurd h
+stops_of limit names was old new b r at (Database cause) h w = absurd h
+stops_of limit names was old new b r at Memory h w = absurd h
+stops_of limit names was old new b r at ReadFailed h w = absurd h
+stops_of limit names was old new b r at WriteFailed h w = absurd h
+
+pub end_by : (limit : ℕ) (names : Names) (was : Bool) (old : Content) (b : List ℕ) (new : Content) (end : Ended) → Conn limit names was old b new end → IsOfBytes end.reason
+    → End limit names b end.reason end.at ⊎ ((end.reason ≡ Wire wire.TooLarge) × IsDumpTooLong old.executed)
+end_by limit names was old b new end c h = elim (stops_of limit names was old new b c.reading end.at end.reason h c.why) [
+  | inl s ↦ inl (record { reading = c.reading; stops = s })
+  | inr s ↦ inr s
+]
+
+-- a session that has ended has not ended by the end of the input
+pub ended_where : (session : Session) (names : Names) (was is : Bool) (old now : Content) (b o : List ℕ) → Stands session names was is old now b o → (session.ended ≡ None) ↔ ((end_of session).reason ≡ EndOfInput)
+unfolding Stands
+ended_where session names was is old now b o s = elim session.ended as (λ v.
+    MatchOption v (GoesOn session.config session.assembler session.gatherer session.phase session.at session.applied names was is old now b (o ++ session.out.items)) (λ end. HasEnded session.config names was is old now b (o ++ session.out.items) end)
+    → (v ≡ None) ↔ ((unwrap_or v (record { reason = EndOfInput; at = session.at; applied = session.applied })).reason ≡ EndOfInput)) [
+      | None ↦ λ g. (λ e. refl, λ e. refl)
+      | Some end ↦ λ h. (λ e. cc, λ e. absurd (h.more e))
+    ] s

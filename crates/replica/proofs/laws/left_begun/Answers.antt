@@ -1,5 +1,0 @@
-use Rattle.replica.proofs.Left as lemma
-use Rattle.replica.proofs.laws.left_begun.Goals as goal
-
-pub returns : goal.returns
-returns c limit names was old b new end left = lemma.left_begun limit names old b new end left was

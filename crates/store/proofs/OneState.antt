@@ -1,0 +1,297 @@
+-- A database stands for one content at most, and then it is neither damaged nor of another layout.
+use Rattle.std.proofs.Common.{◌≡◌, ◌<◌, ◌≤◌, ◌-◌, ◌^◌, inl, inr, ◌≢◌, ◌+◌, ℕ, zero, suc, ℤ, pos, negsuc, Bool, true, false, ◌||◌, ◌&&◌, bytes_eq, nat_eq, nat_le, nat_lt, ◌++◌, List, [], ◌∷◌, length, map, IsTrue, refl, sym, ap, ap₂, subst, subst₂, ◌∙◌, arith}
+use Rattle.std.specs.List.{AllByRecursion, IsDistinct, list_any}
+use Rattle.std.specs.List.Sorted.{IsPermutation}
+use Rattle.std.specs.FinSet as set
+use Rattle.std.proofs.lemmas.Bool.{false≢true, cases_Bool}
+use Rattle.std.specs.Ordering.{eq_by_cmp}
+use Rattle.std.proofs.lemmas.List.Folds.{list_any-append}
+use Rattle.std.proofs.lemmas.Bool.Decides.{nat_tests}
+use Rattle.std.proofs.lemmas.Grind.{common_steps}
+use Rattle.std.proofs.lemmas.List.Sorted.{IsPermutation-sym, IsPermutation-trans, IsPermutation-map, list_any-IsPermutation}
+use Rattle.std.proofs.lemmas.Map.Keys.{IsDistinct-IsPermutation}
+use Rattle.std.proofs.lemmas.Slice.Eq.{bytes_eq-Decides}
+use Rattle.sqlite_value.specs.Order.{Row, column}
+use Rattle.sqlite_trees.specs.Tree.{rowid}
+use Rattle.sqlite_trees.specs.View.{is_int}
+use Rattle.sqlite_trees.proofs.ListLemmas.{all-permutation}
+use Rattle.sqlite_schema.specs.declared.schema.Schema.{Schema}
+use Rattle.sqlite_schema.specs.Names.{same_name}
+use Rattle.sqlite_rules.specs.Edit.{id_in}
+use Rattle.sqlite_rules.proofs.TableLemmas.{int_is}
+use Rattle.sqlite_catalog.specs.Listing.{IsSound}
+use Rattle.sqlite.specs.Effect.{Database, IsDatabase}
+use Rattle.gtid.specs.Identifier.{Id, Ids, IsSource, IsGtid, id_cmp}
+use Rattle.gtid.specs.Span.{is_in, Covers}
+use Rattle.gtid.specs.Reading.{IsLawfulSpan}
+use Rattle.gtid.specs.declared.span.Span.{Span}
+use Rattle.gtid.proofs.Sets.{id_cmp_total, id_cmp-same, tied}
+use Rattle.binlog.specs.Filter.{Names}
+use Rattle.store.specs.State.{Content}
+use Rattle.store.specs.Layout.{Origin, made, migrated, layout, spans_at, spans_tree, tree_at, no_schema, first_layout, IsLaidOut}
+use Rattle.store.specs.Rows.{SaysLayout, StandsFor, StandsForFirst, KeepsRules, AreSpans, HasRowids, IsSpanRow, first_meta_rows, first_held_rows, executed_rows, follow_rows, held_rows, span_rows, bag_of, count, id_in as id_at, name_in, span, span_in, stored_span, shown_span, shown_spans, touches, blob_in, number_in}
+use Rattle.store.specs.Entering.{IsStored, IsOf, IsDamaged, no_meta, no_layout, lacks_first, lacks_second, breaks_first, breaks_second, IsOther, IsKnown, blank, first, second, tables_of, has_any, has_first, has_second}
+use Rattle.store.proofs.Wholes.{meta_place, laid_meta_first, first_meta_first}
+use Rattle.store.proofs.Known.{meta_there, none_meta, none_any, known_first, known_second}
+use Rattle.store.proofs.Readings.{row_lengths}
+use Rattle.store.proofs.SpanRows
+use Rattle.store.proofs.SpanRows.{flips}
+
+-- ---- One number under the key `layout`.
+
+pub one_number : (rows : List Row) (m n : ℤ) → SaysLayout m rows → SaysLayout n rows → m ≡ n
+one_number rows m n p q = let both = sym p ∙ q in cc
+
+pub two_layouts : (rows : List Row) → SaysLayout (pos 1) rows → SaysLayout (pos 2) rows → ⊥
+two_layouts rows p q =
+    let same : pos 1 ≡ pos 2 = one_number rows (pos 1) (pos 2) p q in
+    let n : ◌≡◌ {A = ℕ} 1 2 = cc in
+    absurd (omega (arith, n))
+
+pub says_second : (db : Database) (names : Names) (content : Content) → StandsFor db names content → SaysLayout (pos 2) (first_meta_rows db)
+says_second db names content h = subst (λ t. SaysLayout (pos 2) (db.trees t)) (meta_place db.schema h.laid_out) h.says
+
+-- ---- One set of the rows of spans.
+
+abbrev span_shown : Row → Span
+span_shown r = span (blob_in (column r 0)) (number_in (column r 1)) (number_in (column r 2))
+
+shown_back : (spans : List Span) → map span_shown (map stored_span spans) ≡ spans
+shown_back [] = refl
+shown_back (s ∷ spans) = ap (λ l. s ∷ l) (shown_back spans)
+
+one_set : (rows : List Row) (a b : Ids) → AreSpans rows a → AreSpans rows b → a ≡ b
+one_set rows a b p q =
+    let same : IsPermutation (map stored_span p.spans) (map stored_span q.spans) = IsPermutation-trans _ _ _ p.rows_are (IsPermutation-sym _ _ q.rows_are) in
+    let spans : IsPermutation p.spans q.spans = subst₂ IsPermutation (shown_back p.spans) (shown_back q.spans) (IsPermutation-map span_shown _ _ same) in
+    set.same_set id_cmp_total id_cmp-same a b (λ x. p.least.covers x ∙ list_any-IsPermutation (is_in x) p.spans q.spans spans ∙ sym (q.least.covers x))
+
+-- ---- One content.
+
+pub same_content : (a b : Content) → a.executed ≡ b.executed → a.rows ≡ b.rows → a ≡ b
+same_content a b p q = λ i. record { executed = p i; rows = q i }
+
+never_both : (db : Database) (n : Names) (a b : Content) → StandsFor db n a → StandsForFirst db b → ⊥
+never_both db n a b p q = two_layouts (first_meta_rows db) q.says (says_second db n a p)
+
+pub one_stored : (db : Database) (n m : Names) (a b : Content) → IsStored n db a → IsStored m db b → (n ≡ m) × (a ≡ b)
+one_stored db n m a b (inl p) (inl q) = (p.follow.names_are ∙ sym q.follow.names_are, same_content a b (one_set (span_rows db) a.executed b.executed p.executed q.executed) (p.rows ∙ sym q.rows))
+one_stored db n m a b (inl p) (inr q) = absurd (never_both db n a b p q.1)
+one_stored db n m a b (inr p) (inl q) = absurd (never_both db m b a q p.1)
+one_stored db n m a b (inr p) (inr q) = (p.0 ∙ sym q.0, same_content a b (p.1.executed ∙ sym q.1.executed) (p.1.rows ∙ sym q.1.rows))
+
+-- ---- Which tables are there.
+
+pub stored_meta : (db : Database) (n : Names) (a : Content) → IsStored n db a → (tables_of db.schema).meta ≡ true
+stored_meta db n a (inl p) = meta_there db.schema (laid_meta_first db.schema p.laid_out)
+stored_meta db n a (inr p) = meta_there db.schema (first_meta_first db.schema p.1.laid_out)
+
+pub blank_meta : (schema : Schema) → schema ≡ no_schema → (tables_of schema).meta ≡ true → ⊥
+blank_meta schema is there = false≢true (sym none_meta ∙ ap (λ s. (tables_of s).meta) (sym is) ∙ there)
+
+laid_second : (schema : Schema) → IsLaidOut schema → has_second (tables_of schema) ≡ true
+unfolding same_name
+laid_second schema l = ap (λ s. has_second (tables_of s)) l.is ∙ go l.origin
+  where
+    go : (o : Origin) → has_second (tables_of (layout o l.others l.indexes l.views)) ≡ true
+    go made = refl
+    go migrated = refl
+
+first_first : has_first (tables_of first_layout) ≡ true
+unfolding same_name
+first_first = refl
+
+pub one_of : (only : Names) (db : Database) (n m : Names) (a b : Content) → IsOf only n db a → IsOf only m db b → (n ≡ m) × (a ≡ b)
+one_of only db n m a b (inl p) (inl q) = (p.1 ∙ sym q.1, p.0.1 ∙ sym q.0.1)
+one_of only db n m a b (inl p) (inr q) = absurd (blank_meta db.schema p.0.0 (stored_meta db m b q))
+one_of only db n m a b (inr p) (inl q) = absurd (blank_meta db.schema q.0.0 (stored_meta db n a p))
+one_of only db n m a b (inr p) (inr q) = one_stored db n m a b p q
+
+pub known_of : (only : Names) (db : Database) (n : Names) (a : Content) → IsOf only n db a → IsKnown db
+known_of only db n a (inl p) = blank p.0.0
+known_of only db n a (inr (inl p)) = second p.laid_out (λ there says. two_layouts (first_meta_rows db) says (says_second db n a p))
+known_of only db n a (inr (inr p)) = first p.1.laid_out
+
+-- ---- The rules that its rows keep.
+
+-- what is stored of a lawful span
+abbrev IsShown : Row → Type 0
+IsShown shown = (s : Span) × (shown ≡ stored_span s) × IsSource s.source × (1 ≤ s.lo) × (s.lo < s.hi) × (s.hi ≤ 2 ^ 63 - 1)
+
+le_is : (a b : ℕ) → a ≤ b → nat_le a b ≡ true
+le_is a b h = grind (arith, common_steps, nat_tests)
+
+lt_is : (a b : ℕ) → a < b → nat_lt a b ≡ true
+lt_is a b h = grind (arith, common_steps, nat_tests)
+
+in_itself : (s : Span) (n : ℕ) → s.lo ≤ n → n < s.hi → is_in (s.source, n) s ≡ true
+in_itself s n low high = rw ((bytes_eq-Decides s.source s.source).1 refl, le_is s.lo n low, lt_is n s.hi high) refl
+
+or_right : (a b : Bool) → b ≡ true → (a || b) ≡ true
+or_right true b h = refl
+or_right false b h = h
+
+lawful_shown : (spans : List Span) → ((q : Id) → list_any (is_in q) spans ≡ true → IsGtid q) → AllByRecursion (λ s. s.lo < s.hi) spans → AllByRecursion IsShown (map stored_span spans)
+lawful_shown [] gtids some = tt
+lawful_shown (s ∷ spans) gtids some =
+    let low : IsGtid (s.source, s.lo) = gtids (s.source, s.lo) (ap (λ b. b || list_any (is_in (s.source, s.lo)) spans) (in_itself s s.lo (omega arith) some.0)) in
+    let high : IsGtid (s.source, s.hi - 1) = gtids (s.source, s.hi - 1) (ap (λ b. b || list_any (is_in (s.source, s.hi - 1)) spans) (in_itself s (s.hi - 1) (omega (arith, some.0)) (omega (arith, some.0)))) in
+    ((s, refl, low.0, low.1, some.0, omega (arith, high.2)), lawful_shown spans (λ q there. gtids q (or_right _ _ there)) some.1)
+
+one_row : (r : Row) → IsShown (shown_span r) → length r ≡ 4 → IsTrue (is_int (rowid r)) → IsSpanRow r
+one_row [] h long keyed = absurd (omega arith)
+one_row (v ∷ []) h long keyed = absurd (omega arith)
+one_row (v ∷ x ∷ []) h long keyed = absurd (omega arith)
+one_row (v ∷ x ∷ y ∷ []) h long keyed = absurd (omega arith)
+one_row (v ∷ x ∷ y ∷ z ∷ []) h long keyed = (id_in v, h.0, ap₂ (λ a l. a ∷ l) (int_is v keyed) h.1, h.2, h.3, h.4, h.5)
+one_row (v ∷ x ∷ y ∷ z ∷ w ∷ more) h long keyed = absurd (omega arith)
+
+lawful_rows : (rows : List Row) → AllByRecursion IsShown (shown_spans rows) → AllByRecursion (λ r. length r ≡ 4) rows → AllByRecursion (λ r. IsTrue (is_int (rowid r))) rows → AllByRecursion IsSpanRow rows
+lawful_rows [] shown long keyed = tt
+lawful_rows (r ∷ rows) shown long keyed = (one_row r shown.0 long.0 keyed.0, lawful_rows rows shown.1 long.1 keyed.1)
+
+spans_of_rows : (rows : List Row) → map span_shown (shown_spans rows) ≡ map span_in rows
+spans_of_rows [] = refl
+spans_of_rows (r ∷ rows) = ap (λ l. span_in r ∷ l) (spans_of_rows rows)
+
+pub rules_kept : (db : Database) (n : Names) (a : Content) → IsDatabase db → HasRowids (span_rows db) → StandsFor db n a → KeepsRules db
+rules_kept db n a sound rowids h =
+    let l = h.laid_out in
+    let e = h.executed in
+    let place : span_rows db ≡ db.trees (spans_tree l.origin) = ap (λ s. db.trees (tree_at s 2)) l.is in
+    let long : AllByRecursion (λ r. length r ≡ 4) (span_rows db) = subst (AllByRecursion (λ (r : Row). length r ≡ 4)) (sym place)
+    (row_lengths (layout l.origin l.others l.indexes l.views) db.trees (spans_at l.origin) (inr (inr (inl refl))) refl refl (subst (λ s. IsSound s db.trees) l.is sound)) in
+    let shown : AllByRecursion IsShown (shown_spans (span_rows db)) = all-permutation IsShown (map stored_span e.spans) (shown_spans (span_rows db)) e.rows_are
+    (lawful_shown e.spans (λ q there. e.lawful q (e.least.covers q ∙ there)) e.least.some) in
+    record {
+      meta = h.meta;
+      follow = h.follow.lawful;
+      spans = lawful_rows (span_rows db) shown long rowids.keyed;
+      apart = subst (IsDistinct touches) (spans_of_rows (span_rows db))
+          (IsDistinct-IsPermutation touches flips (map span_shown (map stored_span e.spans)) (map span_shown (shown_spans (span_rows db))) (IsPermutation-map span_shown _ _ e.rows_are)
+          (subst (IsDistinct touches) (sym (shown_back e.spans)) e.least.apart));
+      held = h.held;
+    }
+
+-- ---- It is not damaged, and of no other layout.
+
+pub not_damaged : (only : Names) (db : Database) (n : Names) (a : Content) → IsDatabase db → (IsLaidOut db.schema → HasRowids (span_rows db)) → IsOf only n db a → IsDamaged db → ⊥
+not_damaged only db n a sound rowids (inl p) (no_meta none any) = false≢true (sym none_any ∙ ap (λ s. has_any (tables_of s)) (sym p.0.0) ∙ any)
+not_damaged only db n a sound rowids (inl p) (no_layout there off) = blank_meta db.schema p.0.0 there
+not_damaged only db n a sound rowids (inl p) (lacks_first there says lacks) = blank_meta db.schema p.0.0 there
+not_damaged only db n a sound rowids (inl p) (lacks_second there says lacks) = blank_meta db.schema p.0.0 there
+not_damaged only db n a sound rowids (inl p) (breaks_first there says off) = blank_meta db.schema p.0.0 there
+not_damaged only db n a sound rowids (inl p) (breaks_second there says off) = blank_meta db.schema p.0.0 there
+not_damaged only db n a sound rowids (inr p) (no_meta none any) = false≢true (sym none ∙ stored_meta db n a p)
+not_damaged only db n a sound rowids (inr (inl p)) (no_layout there off) = off (pos 2) (says_second db n a p)
+not_damaged only db n a sound rowids (inr (inl p)) (lacks_first there says lacks) = two_layouts (first_meta_rows db) says (says_second db n a p)
+not_damaged only db n a sound rowids (inr (inl p)) (lacks_second there says lacks) = false≢true (sym lacks ∙ laid_second db.schema p.laid_out)
+not_damaged only db n a sound rowids (inr (inl p)) (breaks_first there says off) = two_layouts (first_meta_rows db) says (says_second db n a p)
+not_damaged only db n a sound rowids (inr (inl p)) (breaks_second there says off) = off (rules_kept db n a sound (rowids p.laid_out) p)
+not_damaged only db n a sound rowids (inr (inr p)) (no_layout there off) = off (pos 1) p.1.says
+not_damaged only db n a sound rowids (inr (inr p)) (lacks_first there says lacks) = false≢true (sym lacks ∙ ap (λ s. has_first (tables_of s)) p.1.laid_out ∙ first_first)
+not_damaged only db n a sound rowids (inr (inr p)) (lacks_second there says lacks) = two_layouts (first_meta_rows db) p.1.says says
+not_damaged only db n a sound rowids (inr (inr p)) (breaks_first there says off) = off p.1.rules
+not_damaged only db n a sound rowids (inr (inr p)) (breaks_second there says off) = two_layouts (first_meta_rows db) p.1.says says
+
+pub not_other : (only : Names) (db : Database) (n : Names) (a : Content) (k : ℤ) → IsOf only n db a → IsOther db k → ⊥
+not_other only db n a k (inl p) o = blank_meta db.schema p.0.0 o.0
+not_other only db n a k (inr (inl p)) o = o.3 (one_number (first_meta_rows db) k (pos 2) o.1 (says_second db n a p))
+not_other only db n a k (inr (inr p)) o = o.2 (one_number (first_meta_rows db) k (pos 1) o.1 p.1.says)
+
+pub never_two : (db : Database) (k : ℤ) → IsDamaged db → IsOther db k → ⊥
+never_two db k (no_meta none any) o = false≢true (sym none ∙ o.0)
+never_two db k (no_layout there off) o = off k o.1
+never_two db k (lacks_first there says lacks) o = o.2 (one_number (first_meta_rows db) k (pos 1) o.1 says)
+never_two db k (lacks_second there says lacks) o = o.3 (one_number (first_meta_rows db) k (pos 2) o.1 says)
+never_two db k (breaks_first there says off) o = o.2 (one_number (first_meta_rows db) k (pos 1) o.1 says)
+never_two db k (breaks_second there says off) o = o.3 (one_number (first_meta_rows db) k (pos 2) o.1 says)
+
+-- ---- It is one of the three.
+
+-- the GTIDs of a source from a number on, so many
+run : List ℕ → ℕ → ℕ → List Id
+run source lo zero = []
+run source lo (suc n) = (source, lo) ∷ run source (lo + 1) n
+
+-- those of spans
+runs : List Span → List Id
+runs [] = []
+runs (s ∷ spans) = run s.source s.lo (s.hi - s.lo) ++ runs spans
+
+none_past : (lo q : ℕ) → (nat_le lo q && nat_lt q (lo + 0)) ≡ false
+none_past lo q = grind (arith, common_steps, nat_tests)
+
+one_more : (lo q n : ℕ) → (nat_eq q lo || (nat_le (lo + 1) q && nat_lt q (lo + 1 + n))) ≡ (nat_le lo q && nat_lt q (lo + suc n))
+one_more lo q n = grind (arith, common_steps, nat_tests)
+
+no_one : (b : Bool) → (b && false) ≡ false
+no_one true = refl
+no_one false = refl
+
+of_one_source : (b c d e : Bool) → (c || d) ≡ e → ((b && c) || (b && d)) ≡ (b && e)
+of_one_source true c d e h = h
+of_one_source false c d e h = refl
+
+in_run : (q : Id) (source : List ℕ) (lo n : ℕ) → list_any (eq_by_cmp id_cmp q) (run source lo n) ≡ is_in q (span source lo (lo + n))
+unfolding run
+in_run q source lo zero = sym (ap (λ b. bytes_eq q.0 source && b) (none_past lo q.1) ∙ no_one (bytes_eq q.0 source))
+in_run q source lo (suc n) =
+    rw (tied q (source, lo), in_run q source (lo + 1) n) (of_one_source (bytes_eq q.0 source) (nat_eq q.1 lo) (nat_le (lo + 1) q.1 && nat_lt q.1 (lo + 1 + n)) _ (one_more lo q.1 n))
+
+in_runs : (q : Id) (spans : List Span) → AllByRecursion (λ s. s.lo < s.hi) spans → list_any (eq_by_cmp id_cmp q) (runs spans) ≡ list_any (is_in q) spans
+unfolding runs
+in_runs q [] some = refl
+in_runs q (s ∷ spans) some =
+    let end : s.lo + (s.hi - s.lo) ≡ s.hi = omega (arith, some.0) in
+    list_any-append (eq_by_cmp id_cmp q) (run s.source s.lo (s.hi - s.lo)) (runs spans)
+    ∙ ap₂ (λ b c. b || c) (in_run q s.source s.lo (s.hi - s.lo) ∙ ap (λ n. is_in q (span s.source s.lo n)) end) (in_runs q spans some.1)
+
+covered : (spans : List Span) → AllByRecursion (λ s. s.lo < s.hi) spans → Covers spans (set.from_list (runs spans))
+covered spans some q = set.contains-from_list id_cmp_total (runs spans) q ∙ in_runs q spans some
+
+some_lawful : (spans : List Span) → AllByRecursion IsLawfulSpan spans → AllByRecursion (λ s. s.lo < s.hi) spans
+some_lawful [] all = tt
+some_lawful (s ∷ spans) all = (all.0.1, some_lawful spans all.1)
+
+pub some_state : (db : Database) → IsKnown db → has_any (tables_of db.schema) ≡ true → ((n : Names) (a : Content) → ¬ IsStored n db a) → ¬ IsDamaged db → ((k : ℤ) → ¬ IsOther db k) → ⊥
+some_state db known any none sound alike = elim (cases_Bool (tables_of db.schema).meta) [
+  | inl there ↦ sound (no_layout there (λ n says. one_of_all there n says))
+  | inr off ↦ sound (no_meta off any)
+]
+  where
+    other : (tables_of db.schema).meta ≡ true → (n : ℤ) → SaysLayout n (first_meta_rows db) → n ≢ pos 1 → n ≢ pos 2 → ⊥
+    other there n says one two = alike n (there, says, one, two)
+
+    at_first : (tables_of db.schema).meta ≡ true → SaysLayout (pos 1) (first_meta_rows db) → ⊥
+    at_first there says = elim (cases_Bool (has_first (tables_of db.schema))) [
+      | inr lacks ↦ sound (lacks_first there says lacks)
+      | inl all ↦ sound (breaks_first there says (λ rules. none set.empty (record { executed = set.from_list (map id_at (executed_rows db)); rows = bag_of (count (first_held_rows db)) })
+          (inr (refl, record { laid_out = known_first db known says all; says = says; rules = rules; executed = refl; rows = refl }))))
+    ]
+
+    at_second : (tables_of db.schema).meta ≡ true → SaysLayout (pos 2) (first_meta_rows db) → ⊥
+    at_second there says = elim (cases_Bool (has_second (tables_of db.schema))) [
+      | inr lacks ↦ sound (lacks_second there says lacks)
+      | inl all ↦ (
+          let laid = known_second db known says all in
+          sound (breaks_second there says (λ rules.
+          let some = some_lawful (map span_in (span_rows db)) (SpanRows.lawful_rows (span_rows db) rules.spans) in
+          let ids = set.from_list {R = id_cmp} (runs (map span_in (span_rows db))) in
+          none (set.from_list (map name_in (follow_rows db))) (record { executed = ids; rows = bag_of (count (held_rows db)) }) (inl (record {
+            laid_out = laid;
+            says = subst (λ t. SaysLayout (pos 2) (db.trees t)) (sym (meta_place db.schema laid)) says;
+            meta = rules.meta;
+            follow = record { lawful = rules.follow; names_are = refl };
+            held = rules.held;
+            executed = SpanRows.spans_are (span_rows db) ids rules.spans rules.apart (covered (map span_in (span_rows db)) some);
+            rows = refl;
+          })))))
+    ]
+
+    one_of_all : (tables_of db.schema).meta ≡ true → (n : ℤ) → SaysLayout n (first_meta_rows db) → ⊥
+    one_of_all there (pos zero) says = other there (pos 0) says (λ e. let k : ◌≡◌ {A = ℕ} 0 1 = cc in absurd (omega (arith, k))) (λ e. let k : ◌≡◌ {A = ℕ} 0 2 = cc in absurd (omega (arith, k)))
+    one_of_all there (pos (suc zero)) says = at_first there says
+    one_of_all there (pos (suc (suc zero))) says = at_second there says
+    one_of_all there (pos (suc (suc (suc m)))) says = other there (pos (suc (suc (suc m)))) says (λ e. let k : suc (suc (suc m)) ≡ 1 = cc in absurd (omega (arith, k))) (λ e. let k : suc (suc (suc m)) ≡ 2 = cc in absurd (omega (arith, k)))
+    one_of_all there (negsuc m) says = other there (negsuc m) says (λ e. absurd (cc)) (λ e. absurd (cc))

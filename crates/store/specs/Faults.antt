@@ -1,0 +1,48 @@
+-- Which faults each call reports, whatever the database is.
+use Rattle.std.specs.Prelude.{◌≡◌, Bool, false}
+use Rattle.store.specs.declared.fault.StoreFault.{StoreFault}
+use Rattle.store.specs.declared.fault.StoreFault.TheVariants.{NoSuchRow, CountFull, Database, Memory, Damaged, Layout, Broken, Follows}
+
+-- Opening finds that the tables are damaged, of another layout, or made for other names than the given ones, or fails.
+abbrev pub IsOpenFault : Bool → StoreFault → Type 0
+IsOpenFault any (NoSuchRow at) = ⊥
+IsOpenFault any (CountFull at) = ⊥
+IsOpenFault any (Database e) = Unit {0}
+IsOpenFault any Memory = Unit {0}
+IsOpenFault any Damaged = Unit {0}
+IsOpenFault any (Layout n) = Unit {0}
+IsOpenFault any Broken = ⊥
+IsOpenFault any Follows = any ≡ false
+
+-- A transaction is refused at a change, or fails, or the store has failed before.
+abbrev pub IsApplyFault : StoreFault → Type 0
+IsApplyFault (NoSuchRow at) = Unit {0}
+IsApplyFault (CountFull at) = Unit {0}
+IsApplyFault (Database e) = Unit {0}
+IsApplyFault Memory = Unit {0}
+IsApplyFault Damaged = ⊥
+IsApplyFault (Layout n) = ⊥
+IsApplyFault Broken = Unit {0}
+IsApplyFault Follows = ⊥
+
+-- Reading fails, or the store has failed before.
+abbrev pub IsReadFault : StoreFault → Type 0
+IsReadFault (NoSuchRow at) = ⊥
+IsReadFault (CountFull at) = ⊥
+IsReadFault (Database e) = Unit {0}
+IsReadFault Memory = Unit {0}
+IsReadFault Damaged = ⊥
+IsReadFault (Layout n) = ⊥
+IsReadFault Broken = Unit {0}
+IsReadFault Follows = ⊥
+
+-- A statement failed, or an allocation was refused.
+abbrev pub IsFailure : StoreFault → Type 0
+IsFailure (NoSuchRow at) = ⊥
+IsFailure (CountFull at) = ⊥
+IsFailure (Database e) = Unit {0}
+IsFailure Memory = Unit {0}
+IsFailure Damaged = ⊥
+IsFailure (Layout n) = ⊥
+IsFailure Broken = ⊥
+IsFailure Follows = ⊥
