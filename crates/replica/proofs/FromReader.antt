@@ -1,5 +1,5 @@
 -- A connection while it is being read.
-use Rattle.std.proofs.Common.{◌≡◌, ℕ, ◌+◌, Bool, List, [], ◌++◌, true, Option, None, Some, is_some, option_map, MatchOption, unwrap_or, refl, sym, ap, ◌∙◌, subst, append_assoc}
+use Rattle.std.proofs.Common.{◌≡◌, ℕ, ◌+◌, Bool, List, [], ◌++◌, true, false, Option, None, Some, is_some, option_map, MatchOption, unwrap_or, refl, sym, ap, ◌∙◌, subst, append_assoc}
 use Rattle.std.specs.Io.KnownBytes.{Consumes, Keeps}
 use Rattle.std.proofs.KnownBytes.{Consumes-trans, Consumes-kept}
 use Rattle.sqlite_trees.specs.declared.store.Store.{Ghosts}
@@ -39,20 +39,22 @@ module _ {S : Type 0} (g : Ghosts S) where
     pub consumes : Consumes left left' read
     pub limit_is : session.config.limit ≡ limit
     pub following : store.following ≡ entry.following
+    pub broken : entry.broken ≡ true → store ≡ entry
     pub clean : HasCleanDisk (state g store.conn) → HasCleanDisk (state g entry.conn)
     pub stands : HasCleanDisk (state g store.conn) → (was : Bool) (old : Content) → HoldsAs g was old entry → StandsOver g session store (state g entry.conn).now.schema was old (first ++ read) []
 
   -- more bytes were taken, and the session was fed with them
   pub taking_more : (limit : ℕ) (first : List ℕ) (entry : Store S g) (session : Session) (store : Store S g) (left left' : Option (List ℕ)) (after : Session) (new : Store S g) (left'' : Option (List ℕ)) (piece : List ℕ)
-      → IsTaking limit first entry session store left left' → Consumes left' left'' piece → after.config ≡ session.config → new.following ≡ store.following
+      → IsTaking limit first entry session store left left' → Consumes left' left'' piece → after.config ≡ session.config → new.following ≡ store.following → (store.broken ≡ true → new ≡ store)
       → (HasCleanDisk (state g new.conn) → HasCleanDisk (state g store.conn))
       → (HasCleanDisk (state g new.conn) → (schema : Schema) (was : Bool) (old : Content) (b o : List ℕ) → StandsOver g session store schema was old b o → StandsOver g after new schema was old (b ++ piece) o)
       → IsTaking limit first entry after new left left''
-  taking_more limit first entry session store left left' after new left'' piece t consumes config following clean leads = record {
+  taking_more limit first entry session store left left' after new left'' piece t consumes config following broken clean leads = record {
     read = t.read ++ piece;
     consumes = Consumes-trans left left' left'' t.read piece t.consumes consumes;
     limit_is = ap (λ s. s.limit) config ∙ t.limit_is;
     following = following ∙ t.following;
+    broken = λ h. broken (ap (λ (s : Store S g). s.broken) (t.broken h) ∙ h) ∙ t.broken h;
     clean = λ h. t.clean (clean h);
     stands = λ h was old holds. subst (λ (l : List ℕ). StandsOver g after new (state g entry.conn).now.schema was old l []) (append_assoc first t.read piece)
         (leads h (state g entry.conn).now.schema was old (first ++ t.read) [] (t.stands (clean h) was old holds));
@@ -87,3 +89,14 @@ no_end session names was is old now b o some s same =
       | None ↦ λ bad _ _. cc
       | Some end ↦ λ _ h same. h.more same
     ] some s same
+
+pub not_ended : {A : Type 0} (f : A → Ended) (o : Option A) (ended : Option Ended) → option_map f o ≡ ended → is_some o ≡ false → is_some ended ≡ false
+not_ended f o ended same none = subst (λ (v : Option Ended). is_some v ≡ false) same (still_some f o ∙ none)
+
+-- a session that has not ended would be ended by the end of the input
+pub going_on : (session : Session) → is_some session.ended ≡ false → (end_of session).reason ≡ EndOfInput
+going_on session none =
+    elim session.ended as (λ v. is_some v ≡ false → (unwrap_or v (record { reason = EndOfInput; at = session.at; applied = session.applied })).reason ≡ EndOfInput) [
+      | None ↦ λ _. refl
+      | Some end ↦ λ bad. cc
+    ] none

@@ -16,6 +16,7 @@ pub mod OneEnd
 pub mod Followed
 pub mod Left
 pub mod FromReader
+pub mod Captured
 pub mod Scripted
 pub mod Talking
 pub mod Transactions

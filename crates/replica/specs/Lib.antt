@@ -2,6 +2,7 @@ pub mod Settings
 pub mod Stream
 pub mod Message
 pub mod End
+pub mod Capture
 pub mod Conn
 pub mod Sent
 pub mod Turn

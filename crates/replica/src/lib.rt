@@ -19,6 +19,7 @@
 //! how it ends (`Conn.antt`, `End.antt`), and the bytes due in reply (`Sent.antt`). [`laws`] states what follows.
 #![tactic(auto)]
 
+mod captures;
 mod config;
 mod connections;
 mod counted;
@@ -34,6 +35,7 @@ mod phase;
 mod reader;
 mod session;
 
+pub use captures::{Capture, Halt, Observer};
 pub use config::{Config, ConfigFault};
 pub use connections::{NoMemory, run};
 pub use counted::{Counted, Duplex};

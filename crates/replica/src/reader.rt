@@ -6,7 +6,7 @@ ghost use Rattle.std.specs.Io.KnownBytes.{ReadConsumes, IsAtEnd};
 ghost use Rattle.sqlite.specs.State.{HasCleanDisk};
 ghost use Rattle.sqlite.specs.Held.{state};
 ghost use Rattle.store.specs.State.{Content};
-ghost use Rattle.store.specs.Store.{HoldsAs, database};
+ghost use Rattle.store.specs.Store.{HoldsAs, IsBroken, database, names_of};
 ghost use Rattle.replica.specs.declared.end.Reason.TheVariants.{EndOfInput};
 ghost use Rattle.replica.specs.declared.end.Ended.{Ended as End};
 ghost use Rattle.replica.specs.Over.{HasReadOf};
@@ -45,14 +45,20 @@ pub fn read_stream<R: Read, S: Alter>(
     piece: &mut [u8],
 ) -> io::Result<Ended>
     requires { 0 < length piece.old }
+    ensures piece { length piece.new ≡ length piece.old }
     // The end and the content of the store are those of exactly the bytes that were read.
     ensures read { IfOk result (λ end. HasCleanDisk (database S.Store store.new) → (was : Bool) (old : Content) → HoldsAs S.Store was old store.old
         → HasReadOf S.Store config.limit store.old store.new was old first.now (R.remaining reader.old) (R.remaining reader.new) end) }
     // If the input has ended, nothing is left unread.
     ensures all { IfOk result (λ end. HasCleanDisk (database S.Store store.new) → (was : Bool) (old : Content) → HoldsAs S.Store was old store.old
         → end.reason ≡ EndOfInput → IsAtEnd (R.remaining reader.new)) }
+    // The bytes that were read before the error did not end the connection.
     ensures failed { IfErr result (λ _. HasCleanDisk (database S.Store store.new) → (was : Bool) (old : Content) → HoldsAs S.Store was old store.old
-        → (end : End) × HasReadOf S.Store config.limit store.old store.new was old first.now (R.remaining reader.old) (R.remaining reader.new) end) }
+        → (end : End) × (end.reason ≡ EndOfInput) × HasReadOf S.Store config.limit store.old store.new was old first.now (R.remaining reader.old) (R.remaining reader.new) end) }
+    ensures following { names_of S.Store store.new ≡ names_of S.Store store.old }
+    // A store that has failed stays as it is.
+    ensures broken { IsBroken S.Store store.old → store.new ≡ store.old }
+    ensures clean { HasCleanDisk (database S.Store store.new) → HasCleanDisk (database S.Store store.old) }
 {
     let mut session = Session::new(config);
     let _ = session.feed(store, first);

@@ -7,7 +7,7 @@ use Rattle.replica.specs.declared.end.Ended.{Ended}
 use Rattle.replica.specs.Standing.{end_of}
 use Rattle.replica.specs.Over.{StandsOver}
 use Rattle.replica.proofs.Runs.{begins}
-use Rattle.replica.proofs.FromReader.{taking_more, taken, no_end, is_ended, Keeps-from_none}
+use Rattle.replica.proofs.FromReader.{taking_more, taken, no_end, is_ended, not_ended, going_on, Keeps-from_none}
 use Rattle.replica.proofs.reader.read_stream.Goals as goal
 
 pub loop-reader-init : goal.loop-reader-init
@@ -18,6 +18,7 @@ loop-reader-init g c = record {
     consumes = Consumes-nil (g.R.Read.remaining c.args.reader.now);
     limit_is = ap (λ s. s.limit) (c.feed.ensures.config ∙ c.new-session.ensures.config);
     following = c.feed.ensures.following;
+    broken = c.feed.ensures.broken;
     clean = c.feed.ensures.clean;
     stands = λ h was old holds. subst (λ (l : List ℕ). StandsOver g.S.Store c.feed.new.self c.feed.new.store (state g.S.Store c.args.store.now.conn).now.schema was old l []) (sym (append-nil c.args.first.now))
         (c.feed.ensures.stands h (state g.S.Store c.args.store.now.conn).now.schema was old [] []
@@ -30,7 +31,7 @@ loop-reader-preserved g c = record {
   some = search rules;
   taking = taking_more g.S.Store c.args.config.limit c.args.first.now c.args.store.now c.loop-reader.session c.loop-reader.store (g.R.Read.remaining c.args.reader.now) (g.R.Read.remaining c.loop-reader.reader)
       c.feed-in-Ok.new.self c.feed-in-Ok.new.store (g.R.Read.remaining c.read_some.new.reader) (take c.in-Ok.count c.read_some.new.piece) c.loop-reader.invariant.taking c.in-Ok.ensures.bytes.0
-      c.feed-in-Ok.ensures.config c.feed-in-Ok.ensures.following c.feed-in-Ok.ensures.clean c.feed-in-Ok.ensures.stands;
+      c.feed-in-Ok.ensures.config c.feed-in-Ok.ensures.following c.feed-in-Ok.ensures.broken c.feed-in-Ok.ensures.clean c.feed-in-Ok.ensures.stands;
 }
 
 pub returns-in-Ok-eq0-clause-read : goal.returns-in-Ok-eq0-clause-read
@@ -43,6 +44,7 @@ returns-in-Ok-eq0-clause-read g c clean was old holds =
 pub returns-in-Err-clause-failed : goal.returns-in-Err-clause-failed
 returns-in-Err-clause-failed g c clean was old holds = (
   end_of c.loop-reader.session,
+  going_on c.loop-reader.session (not_ended (λ e. e.now) c.ended.result c.loop-reader.session.ended c.ended.ensures c.loop-reader-test.ensures),
   taken g.S.Store c.args.config.limit c.args.first.now c.args.store.now c.loop-reader.session c.loop-reader.store (g.R.Read.remaining c.args.reader.now) (g.R.Read.remaining c.loop-reader.reader)
       (g.R.Read.remaining c.read_some.new.reader) was old (end_of c.loop-reader.session) c.loop-reader.invariant.taking c.in-Err.ensures.bytes refl clean holds,
 )

@@ -1,0 +1,85 @@
+use Rattle.std.proofs.Common.{rules, ◌≡◌, ◌++◌, ◌∷◌, [], ◌+◌, ℕ, List, slice_get, take, length, refl, sym, ap, ◌∙◌, subst, subst₂, map-id}
+use Rattle.std.proofs.lemmas.List.{take_more, length_push}
+use Rattle.std.proofs.Math.Seq.{take-length}
+use Rattle.std.proofs.lemmas.Option.{slice_get_read}
+use Rattle.std.proofs.lemmas.Iterator.Consumers.{YieldsList-turn, YieldsList-end}
+use Rattle.std.proofs.lemmas.Iterator.Adapters.{YieldsList-from_vec}
+use Rattle.sqlite.specs.Held.{state}
+use Rattle.replica.specs.declared.captures.Capture.{Capture}
+use Rattle.replica.specs.declared.end.Ended.{Ended}
+use Rattle.replica.specs.Over.{HasReadAll}
+use Rattle.replica.specs.Capture.{AreRead, AreReadUpTo}
+use Rattle.replica.proofs.Captured.{no_captures, captures_more, breaks_off}
+use Rattle.replica.proofs.captures.read_captures.Goals as goal
+
+pub loop-capture-init : goal.loop-capture-init
+loop-capture-init g c = record {
+  piece = search rules;
+  count = search rules;
+  room = search rules;
+  clean = λ h. h;
+  following = refl;
+  broken = λ h. refl;
+  taken = λ h was old holds.
+      subst (λ (l : List Ended). AreRead g.R.Read.remaining (HasReadAll g.S.Store c.args.config.now.limit c.args.store.now (state g.S.Store c.args.store.now.conn).now.schema was old) [] l) (search rules)
+      (no_captures g.S.Store g.R.Read.remaining (λ h db is_open may. g.met.S.Store.settled h.store db is_open may) c.args.config.now.limit c.args.store.now was old holds);
+}
+
+pub returns-in-Err-clause-reads : goal.returns-in-Err-clause-reads
+returns-in-Err-clause-reads g c clean was old holds =
+    let inv = c.loop-capture.invariant in
+    let all = c.args.captures.items in
+    let turn = YieldsList-turn (YieldsList-from_vec {s = c.into_iter-capture-iterator.result} all (search rules) (search rules)) c.loop-capture.yielded c.loop-capture.capture-iterator c.loop-capture.yielded_by c.next.result c.next.new.self c.in-Some.capture c.in-Some.is
+    c.next.ensures.steps in
+    let t = inv.taken (c.read_capture.ensures.clean clean) was old holds in
+    subst (λ n. AreReadUpTo g.R.Read.remaining (HasReadAll g.S.Store c.args.config.now.limit c.read_capture.new.store (state g.S.Store c.args.store.now.conn).now.schema was old) (take n all) (slice_get all n) c.loop-capture.ends.items) (sym inv.count)
+    (breaks_off g.S.Store g.R.Read.remaining c.args.config.now.limit c.loop-capture.store c.read_capture.new.store (state g.S.Store c.args.store.now.conn).now.schema was old (take (length c.loop-capture.yielded) all) c.loop-capture.ends.items
+    (slice_get all (length c.loop-capture.yielded)) c.in-Some.capture c.read_capture.ensures.broken (slice_get_read all (length all) (length c.loop-capture.yielded) c.in-Some.capture refl turn.0 turn.1) t
+    (c.in-Err.ensures.failed clean t.holds.is t.holds.new t.holds.holds))
+
+pub returns-then-not-goes_on-clause-reads : goal.returns-then-not-goes_on-clause-reads
+returns-then-not-goes_on-clause-reads g c clean was old holds =
+    let inv = c.loop-capture.invariant in
+    let all = c.args.captures.items in
+    let turn = YieldsList-turn (YieldsList-from_vec {s = c.into_iter-capture-iterator.result} all (search rules) (search rules)) c.loop-capture.yielded c.loop-capture.capture-iterator c.loop-capture.yielded_by c.next.result c.next.new.self c.in-Some.capture c.in-Some.is
+    c.next.ensures.steps in
+    let t = inv.taken (c.read_capture.ensures.clean clean) was old holds in
+    let ends = c.push_reserved.ensures.items in
+    let count : length c.push_reserved.new.self.items ≡ length c.loop-capture.yielded + 1 = ap length ends ∙ length_push c.loop-capture.ends.items c.in-Ok.end ∙ ap (λ n. n + 1) inv.count in
+    let more : take (length c.push_reserved.new.self.items) all ≡ take (length c.loop-capture.yielded) all ++ c.in-Some.capture ∷ [] =
+    ap (λ n. take n all) count ∙ take_more all (length c.loop-capture.yielded) c.in-Some.capture turn.0 ∙ ap (λ (p : Capture g.row.R.Denot). take (length c.loop-capture.yielded) all ++ p ∷ []) (sym turn.1) in
+    subst₂ (λ (l : List (Capture g.row.R.Denot)) (es : List Ended). AreRead g.R.Read.remaining (HasReadAll g.S.Store c.args.config.now.limit c.read_capture.new.store (state g.S.Store c.args.store.now.conn).now.schema was old) l es) (sym more) (sym ends)
+    (captures_more g.S.Store g.R.Read.remaining c.args.config.now.limit c.loop-capture.store c.read_capture.new.store (state g.S.Store c.args.store.now.conn).now.schema was old (take (length c.loop-capture.yielded) all) c.loop-capture.ends.items
+    c.in-Some.capture c.in-Ok.end c.read_capture.ensures.broken t (c.in-Ok.ensures.read clean t.holds.is t.holds.new t.holds.holds))
+
+pub loop-capture-preserved : goal.loop-capture-preserved
+loop-capture-preserved g c =
+    let inv = c.loop-capture.invariant in
+    let all = c.args.captures.items in
+    let turn = YieldsList-turn (YieldsList-from_vec {s = c.into_iter-capture-iterator.result} all (search rules) (search rules)) c.loop-capture.yielded c.loop-capture.capture-iterator c.loop-capture.yielded_by c.next.result c.next.new.self c.in-Some.capture c.in-Some.is
+    c.next.ensures.steps in
+    let ends = c.push_reserved.ensures.items in
+    let next = length_push c.loop-capture.yielded c.in-Some.capture in
+    let more : take (length (c.loop-capture.yielded ++ c.in-Some.capture ∷ [])) all ≡ take (length c.loop-capture.yielded) all ++ c.in-Some.capture ∷ [] =
+    ap (λ n. take n all) next ∙ take_more all (length c.loop-capture.yielded) c.in-Some.capture turn.0 ∙ ap (λ (p : Capture g.row.R.Denot). take (length c.loop-capture.yielded) all ++ p ∷ []) (sym turn.1) in
+    record {
+      piece = search rules;
+      count = ap length ends ∙ length_push c.loop-capture.ends.items c.in-Ok.end ∙ ap (λ n. n + 1) inv.count ∙ sym next;
+      room = search rules;
+      clean = λ h. inv.clean (c.read_capture.ensures.clean h);
+      following = c.read_capture.ensures.following ∙ inv.following;
+      broken = search rules;
+      taken = λ clean was old holds.
+          let t = inv.taken (c.read_capture.ensures.clean clean) was old holds in
+          subst₂ (λ (l : List (Capture g.row.R.Denot)) (es : List Ended). AreRead g.R.Read.remaining (HasReadAll g.S.Store c.args.config.now.limit c.read_capture.new.store (state g.S.Store c.args.store.now.conn).now.schema was old) l es) (sym more) (sym ends)
+          (captures_more g.S.Store g.R.Read.remaining c.args.config.now.limit c.loop-capture.store c.read_capture.new.store (state g.S.Store c.args.store.now.conn).now.schema was old (take (length c.loop-capture.yielded) all)
+          c.loop-capture.ends.items c.in-Some.capture c.in-Ok.end c.read_capture.ensures.broken t (c.in-Ok.ensures.read clean t.holds.is t.holds.new t.holds.holds));
+    }
+
+pub returns-clause-reads : goal.returns-clause-reads
+returns-clause-reads g c clean was old holds =
+    let inv = c.loop-capture.invariant in
+    let all = c.args.captures.items in
+    let end = YieldsList-end (YieldsList-from_vec {s = c.into_iter-capture-iterator.result} all (search rules) (search rules)) c.loop-capture.yielded c.loop-capture.capture-iterator c.loop-capture.yielded_by c.next.result c.next.new.self c.in-None.is c.next.ensures.steps in
+    subst (λ (l : List (Capture g.row.R.Denot)). AreRead g.R.Read.remaining (HasReadAll g.S.Store c.args.config.now.limit c.loop-capture.store (state g.S.Store c.args.store.now.conn).now.schema was old) l c.loop-capture.ends.items)
+    (ap (λ n. take n all) end.1 ∙ take-length all) (inv.taken clean was old holds)

@@ -1,0 +1,20 @@
+use Rattle.std.proofs.Common.{◌≡◌, ◌<◌, ◌≤◌, Bool, true, length, take, vec_capacity}
+use Rattle.sqlite.specs.State.{HasCleanDisk}
+use Rattle.sqlite.specs.Held.{state}
+use Rattle.store.specs.State.{Content}
+use Rattle.store.specs.Store.{HoldsAs}
+use Rattle.replica.specs.Over.{HasReadAll}
+use Rattle.replica.specs.Capture.{AreRead}
+use Rattle.replica.proofs.captures.read_captures.Given as goal
+
+abbrev pub invariant-loop-capture : goal.invariant-loop-capture
+invariant-loop-capture g l = record {
+  piece : 0 < length l.piece;
+  count : length l.ends.items ≡ length l.yielded;
+  room : length l.fn.captures.items ≤ vec_capacity l.ends;
+  clean : HasCleanDisk (state g.S.Store l.store.conn) → HasCleanDisk (state g.S.Store l.fn.store.conn);
+  following : l.store.following ≡ l.fn.store.following;
+  broken : l.fn.store.broken ≡ true → l.store ≡ l.fn.store;
+  taken : HasCleanDisk (state g.S.Store l.store.conn) → (was : Bool) (old : Content) → HoldsAs g.S.Store was old l.fn.store
+      → AreRead g.R.Read.remaining (HasReadAll g.S.Store l.config.limit l.store (state g.S.Store l.fn.store.conn).now.schema was old) (take (length l.yielded) l.fn.captures.items) l.ends.items;
+}

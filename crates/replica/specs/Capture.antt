@@ -1,0 +1,72 @@
+-- Captured connections that were read in order.
+use Rattle.std.specs.Prelude.{◌≡◌, ℕ, Bool, List, [], ◌∷◌, ◌++◌, length, take, slice_get, Option, Some, Result, Ok, Err, option_to_list}
+use Rattle.std.specs.Io.KnownBytes.{Consumes, IsAtEnd}
+use Rattle.sqlite_trees.specs.declared.store.Store.{Ghosts}
+use Rattle.store.specs.State.{Content}
+use Rattle.store.specs.declared.store.Store.{Store}
+use Rattle.replica.specs.declared.captures.Capture.{Capture}
+use Rattle.replica.specs.declared.captures.Halt.{Halt}
+use Rattle.replica.specs.declared.captures.Halt.TheVariants.{Reader, Observer}
+use Rattle.replica.specs.declared.end.Reason.TheVariants.{EndOfInput}
+use Rattle.replica.specs.declared.end.Ended.{Ended}
+use Rattle.replica.specs.Over.{HasRead}
+
+module _ {R : Type 0} (left : R → Option (List ℕ)) where
+  -- These bytes came of the capture: its first byte, and the next ones of its reader.
+  pub record ComesOf (capture : Capture R) (b : List ℕ) : Type 0 where
+    pub rest : Option (List ℕ)
+    pub read : List ℕ
+    pub consumes : Consumes (left capture.reader) rest read
+    pub bytes : b ≡ option_to_list capture.first ++ read
+
+  -- The capture was read as a connection of these bytes with this end; if its input ended, these are all its bytes.
+  pub record IsReadAs (capture : Capture R) (b : List ℕ) (end : Ended) : Type 0 where
+    pub comes : ComesOf capture b
+    pub all : end.reason ≡ EndOfInput → IsAtEnd comes.rest
+
+  -- each of the captures, in order
+  abbrev pub AreReadAs : List (Capture R) → List (List ℕ) → List Ended → Type 0
+  AreReadAs [] [] [] = Unit {0}
+  AreReadAs (capture ∷ captures) (b ∷ bs) (end ∷ ends) = IsReadAs capture b end × AreReadAs captures bs ends
+  AreReadAs _ _ _ = ⊥
+
+module _ {R : Type 0} (left : R → Option (List ℕ)) (P : List (List ℕ) → List Ended → Type 0) where
+  -- These captures were read, in order, each once, and this holds of their bytes and ends.
+  pub record AreRead (captures : List (Capture R)) (ends : List Ended) : Type 0 where
+    pub bs : List (List ℕ)
+    pub are_read : AreReadAs left captures bs ends
+    pub holds : P bs ends
+
+  -- After these captures the reader of the next one failed, before its connection had ended. What it had given was taken
+  -- too.
+  pub record AreReadUpTo (captures : List (Capture R)) (next : Option (Capture R)) (ends : List Ended) : Type 0 where
+    pub bs : List (List ℕ)
+    pub are_read : AreReadAs left captures bs ends
+    pub capture : Capture R
+    pub is_next : next ≡ Some capture
+    pub b : List ℕ
+    pub end : Ended
+    pub comes : ComesOf left capture b
+    pub unended : end.reason ≡ EndOfInput
+    pub holds : P (bs ++ b ∷ []) (ends ++ end ∷ [])
+
+  -- All captures were read; or the reader of the one after those with an end failed; or those with an end were read.
+  abbrev pub Reads : List (Capture R) → List Ended → Result (Unit {0}) Halt → Type 0
+  Reads captures ends (Ok x) = AreRead captures ends
+  Reads captures ends (Err (Reader e)) = AreReadUpTo (take (length ends) captures) (slice_get captures (length ends)) ends
+  Reads captures ends (Err Observer) = AreRead (take (length ends) captures) ends
+
+module _ {S : Type 0} (g : Ghosts S) {R : Type 0} (left : R → Option (List ℕ)) where
+  -- A store that held this content, and had failed or not, has read this capture with this end.
+  pub record HasReadOne (limit : ℕ) (before after : Store S g) (was : Bool) (old : Content) (capture : Capture R) (end : Ended) : Type 0 where
+    pub b : List ℕ
+    pub is_read : IsReadAs left capture b end
+    pub has_read : HasRead g limit before after was old b end
+
+  -- The reader of the capture failed, and what it had given did not end the connection.
+  pub record HasBrokenOff (limit : ℕ) (before after : Store S g) (was : Bool) (old : Content) (capture : Capture R) : Type 0 where
+    pub b : List ℕ
+    pub end : Ended
+    pub comes : ComesOf left capture b
+    pub unended : end.reason ≡ EndOfInput
+    pub has_read : HasRead g limit before after was old b end

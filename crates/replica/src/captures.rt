@@ -1,0 +1,101 @@
+//! Captured connections, read in order.
+
+ghost use Rattle.std.specs.Prelude.{◌≡◌, ◌<◌, ◌≤◌, [], Bool, true, length, vec_capacity, IfOk, IfErr};
+ghost use Rattle.sqlite.specs.State.{HasCleanDisk};
+ghost use Rattle.sqlite.specs.Held.{state};
+ghost use Rattle.store.specs.State.{Content};
+ghost use Rattle.store.specs.Store.{HoldsAs, IsBroken, database, names_of};
+ghost use Rattle.replica.specs.Capture.{HasReadOne, HasBrokenOff, Reads};
+ghost use Rattle.replica.specs.Over.{HasReadAll};
+
+use crate::config::Config;
+use crate::end::{Ended, Reason};
+use crate::reader::read_stream;
+use sqlite::Alter;
+use std::io;
+use std::io::Read;
+use store::Store;
+
+/// A captured connection: its first byte, if that has been read, and a reader that gives the others.
+#[derive(Drop)]
+pub struct Capture<R> {
+    pub first: Option<u8>,
+    pub reader: R,
+}
+
+/// What is done with the end of each connection, as soon as it has ended.
+pub trait Observer {
+    /// Returns whether the next connection is to be read.
+    fn ended(&mut self, end: &Ended) -> bool;
+}
+
+/// Why connections are left unread.
+#[derive(Drop)]
+pub enum Halt {
+    /// A reader failed before its connection had ended.
+    Reader(io::Error),
+    /// [`Observer::ended`] returned `false`.
+    Observer,
+}
+
+/// Reads a captured connection to its end.
+fn read_capture<R: Read + Drop, S: Alter>(
+    config: &Config,
+    store: &mut Store<S>,
+    capture: Capture<R>,
+    piece: &mut [u8],
+) -> io::Result<Ended>
+    requires { 0 < length piece.old }
+    ensures piece { length piece.new ≡ length piece.old }
+    ensures read { IfOk result (λ end. HasCleanDisk (database S.Store store.new) → (was : Bool) (old : Content) → HoldsAs S.Store was old store.old
+        → HasReadOne S.Store R.Read.remaining config.now.limit store.old store.new was old capture end) }
+    ensures failed { IfErr result (λ _. HasCleanDisk (database S.Store store.new) → (was : Bool) (old : Content) → HoldsAs S.Store was old store.old
+        → HasBrokenOff S.Store R.Read.remaining config.now.limit store.old store.new was old capture) }
+    ensures following { names_of S.Store store.new ≡ names_of S.Store store.old }
+    ensures broken { IsBroken S.Store store.old → store.new ≡ store.old }
+    ensures clean { HasCleanDisk (database S.Store store.new) → HasCleanDisk (database S.Store store.old) }
+{
+    let Capture { first, mut reader } = capture;
+    match config.copy() {
+        Ok(config) => read_stream(config, store, first.as_slice(), &mut reader, piece),
+        Err(_) => Ok(Ended {
+            reason: Reason::Memory,
+            at: 0,
+            applied: 0,
+        }),
+    }
+}
+
+/// Reads captured connections in order, and reports each as soon as it has ended. `ends` has the ends of those that were
+/// reported.
+pub(crate) fn read_captures<R: Read + Drop, S: Alter, W: Observer>(
+    config: &Config,
+    store: &mut Store<S>,
+    captures: Vec<Capture<R>>,
+    piece: &mut [u8],
+    ends: &mut Vec<Ended>,
+    observer: &mut W,
+) -> Result<(), Halt>
+    requires piece { 0 < length piece.old }
+    requires none { ends.old.items ≡ [] }
+    requires room { length captures.items ≤ vec_capacity ends.old }
+    // The content of the store and the ends are those of taking the captures in order, each once.
+    ensures reads { HasCleanDisk (database S.Store store.new) → (was : Bool) (old : Content) → HoldsAs S.Store was old store.old
+        → Reads R.Read.remaining (HasReadAll S.Store config.now.limit store.new (database S.Store store.old).now.schema was old) captures.items ends.new.items result }
+    ensures following { names_of S.Store store.new ≡ names_of S.Store store.old }
+    ensures broken { IsBroken S.Store store.old → store.new ≡ store.old }
+    ensures clean { HasCleanDisk (database S.Store store.new) → HasCleanDisk (database S.Store store.old) }
+{
+    for capture in captures {
+        let end = match read_capture(config, store, capture, piece) {
+            Ok(end) => end,
+            Err(cause) => return Err(Halt::Reader(cause)),
+        };
+        let goes_on = observer.ended(&end);
+        ends.push_reserved(end);
+        if !goes_on {
+            return Err(Halt::Observer);
+        }
+    }
+    Ok(())
+}
