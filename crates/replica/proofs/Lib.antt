@@ -17,6 +17,7 @@ pub mod Followed
 pub mod Left
 pub mod FromReader
 pub mod Captured
+pub mod Filed
 pub mod Scripted
 pub mod Talking
 pub mod Transactions

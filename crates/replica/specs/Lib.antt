@@ -15,3 +15,5 @@ pub mod Report
 pub mod Failing
 pub mod Follow
 pub mod Resume
+pub mod File
+pub mod Replay

@@ -1,0 +1,80 @@
+//! Databases in files.
+
+ghost use Rattle.std.specs.Prelude.{◌≡◌, false, IfOk, IfErr, MatchResult};
+ghost use Rattle.sqlite_wal.specs.Files.{image_at};
+ghost use Rattle.sqlite.specs.State.{HasCleanDisk};
+ghost use Rattle.sqlite.specs.Held.{state};
+ghost use Rattle.sqlite.specs.Files.{over_files, file_state};
+ghost use Rattle.binlog.specs.Filter.{Names};
+ghost use Rattle.store.specs.State.{Content};
+ghost use Rattle.store.specs.Store.{Holds, database, names_of};
+ghost use Rattle.store.specs.Entering.{ReadsLeft, IsWanted};
+ghost use Rattle.store.specs.Faults.{IsFailure};
+ghost use Rattle.replica.specs.File.{only_of, is_any, FilesHold, LeavesContent, IsRefused};
+
+use binlog::Follow;
+use sqlite::{Alter, Connection, Error, FileFrom, FileStore, Leftover, Start};
+use sqlite_disk::Disk;
+use std::alloc::Global;
+use store::{Store, StoreFault};
+
+/// Why the database in a file was not opened.
+pub enum Unopened<D: Disk> {
+    /// An allocation was refused, and nothing was done.
+    Memory,
+    /// The files could not be opened, or hold no database; what is left of them, if the system has opened them.
+    Files(Error, Option<Leftover<D>>),
+    /// The database was refused. Its connection is still there, and the file is locked.
+    Database(StoreFault, Connection<FileStore<D>>),
+}
+
+/// Opens a database for the given tables, or with its own list.
+fn open_store<S: Alter>(
+    alloc: Global,
+    conn: Connection<S>,
+    only: Option<&Follow>,
+) -> Result<Store<S>, (StoreFault, Connection<S>)>
+    requires { conn.in_transaction ≡ false }
+    ensures reopens { (names : Names) (content : Content) → ReadsLeft (only_of only.entry) names content (state S.Store conn) → IsWanted (is_any only.entry) (only_of only.entry) names
+        → MatchResult result (λ store. HasCleanDisk (database S.Store store) → Holds S.Store store content × (names_of S.Store store ≡ names)) (λ e. HasCleanDisk (state S.Store e.1) → IsFailure e.0) }
+    ensures leaves { (names : Names) (content : Content) → ReadsLeft (only_of only.entry) names content (state S.Store conn)
+        → MatchResult result (λ store. LeavesContent (only_of only.entry) names content (database S.Store store)) (λ e. LeavesContent (only_of only.entry) names content (state S.Store e.1)) }
+    ensures clean { MatchResult result (λ store. HasCleanDisk (database S.Store store) → HasCleanDisk (state S.Store conn)) (λ e. HasCleanDisk (state S.Store e.1) → HasCleanDisk (state S.Store conn)) }
+{
+    match only {
+        Some(follow) => Store::open_only(alloc, conn, follow),
+        None => Store::open(alloc, conn),
+    }
+}
+
+/// Opens the database in a file, which is made if it is not there. It is opened for the given tables, for which a new
+/// one is made and an older one must have been made; without a list, its own list holds.
+///
+/// `start` stands for what the files held before: the clauses say of each content of them what follows from it. They say
+/// nothing of which file the path names, and of a file that another program writes.
+pub fn open_file<P: Start>(
+    rt: &HostRuntime,
+    path: &str,
+    start: P,
+    only: Option<&Follow>,
+) -> Result<Store<FileStore<FileFrom<P>>>, Unopened<FileFrom<P>>>
+    // If the files held a database that stands for a content, the store holds that content; if there was none, the empty
+    // one.
+    ensures opens { IfOk result (λ store. HasCleanDisk (database over_files store) → (names : Names) (content : Content) → FilesHold (only_of only.entry) names content (image_at P.Start) → IsWanted (is_any only.entry) (only_of only.entry) names
+        → Holds over_files store content × (names_of over_files store ≡ names)) }
+    // A crash after it leaves that content.
+    ensures leaves { IfOk result (λ store. (names : Names) (content : Content) → FilesHold (only_of only.entry) names content (image_at P.Start) → LeavesContent (only_of only.entry) names content (database over_files store)) }
+    // A database that stands for a content is refused only if the database fails or memory runs out, and is left with that
+    // content.
+    ensures refused { IfErr result (λ e. (names : Names) (content : Content) → FilesHold (only_of only.entry) names content (image_at P.Start) → IsWanted (is_any only.entry) (only_of only.entry) names
+        → IsRefused (only_of only.entry) names content e) }
+{
+    let conn = match Connection::open_from(rt, path, false, start) {
+        Ok(conn) => conn,
+        Err((cause, left)) => return Err(Unopened::Files(cause, left)),
+    };
+    match open_store(rt.alloc(), conn, only) {
+        Ok(store) => Ok(store),
+        Err((cause, conn)) => Err(Unopened::Database(cause, conn)),
+    }
+}

@@ -1,0 +1,63 @@
+//! Replaying captured connections into a database file.
+
+ghost use Rattle.std.specs.Prelude.{IfOk};
+ghost use Rattle.sqlite_wal.specs.Files.{image_at};
+ghost use Rattle.binlog.specs.Filter.{Names};
+ghost use Rattle.store.specs.State.{Content};
+ghost use Rattle.store.specs.Entering.{IsWanted};
+ghost use Rattle.replica.specs.File.{only_of, is_any, FilesHold};
+ghost use Rattle.replica.specs.Replay.{Replays};
+
+use crate::captures::{Capture, Halt, Observer, read_captures};
+use crate::config::Config;
+use crate::end::Ended;
+use crate::file::{Unopened, open_file};
+use binlog::Follow;
+use sqlite::{Error, FileFrom, FileStore, Files, Start};
+use sqlite_disk::Disk;
+use std::io::Read;
+
+/// How many bytes are read at once, at most: 64 KiB.
+const PIECE: usize = 65_536;
+
+/// What a replay has done.
+pub struct Replayed<D: Disk> {
+    /// How the connections ended that were read to their end.
+    pub ends: Vec<Ended>,
+    /// Why the others were not, if there are others.
+    pub read: Result<(), Halt>,
+    /// The files, which are closed; or why they could not be closed, and what is left of them.
+    pub closed: Result<Files<D>, (Error, FileStore<D>)>,
+}
+
+/// Opens the database in a file, reads captured connections into it in order, and closes it. Each end is reported as soon
+/// as its connection has ended. Memory is allocated first: 64 KiB, and room for the ends.
+///
+/// `start` stands for what the files held before (see [`open_file`]).
+pub fn replay<P: Start, R: Read + Drop, W: Observer>(
+    rt: &HostRuntime,
+    path: &str,
+    start: P,
+    only: Option<&Follow>,
+    config: &Config,
+    captures: Vec<Capture<R>>,
+    observer: &mut W,
+) -> Result<Replayed<FileFrom<P>>, Unopened<FileFrom<P>>>
+    // If the files held a database that stands for a content, or none was there, the ends are those of taking the
+    // connections in order, each once, from that content, and the closed files hold a database that stands for the content
+    // that they lead to.
+    ensures replays { IfOk result (λ done. (names : Names) (content : Content) → FilesHold (only_of only.entry) names content (image_at P.Start) → IsWanted (is_any only.entry) (only_of only.entry) names
+        → Replays R.Read.remaining config.now.limit names content captures.items done) }
+{
+    let alloc = rt.alloc();
+    let Ok(mut ends) = Vec::with_capacity(alloc, captures.len()) else {
+        return Err(Unopened::Memory);
+    };
+    let Ok(mut piece) = vec![in alloc; 0; PIECE] else {
+        return Err(Unopened::Memory);
+    };
+    let mut store = open_file(rt, path, start, only)?;
+    let read = read_captures(config, &mut store, captures, &mut piece, &mut ends, observer);
+    let closed = store.close().close_files();
+    Ok(Replayed { ends, read, closed })
+}
