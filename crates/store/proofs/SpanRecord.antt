@@ -1,5 +1,5 @@
 -- The spans next to a number and the number become one span.
-use Rattle.std.proofs.Common.{get_or, suc, ◌≡◌, inl, inr, ℕ, ◌-◌, ◌<◌, ◌≤◌, ◌^◌, pos, List, [], ◌∷◌, ◌++◌, map, true, false, Some, None, Option, IfSome, Ok, Err, Result, OnOk, refl, sym, ap, subst, ◌∙◌, arith}
+use Rattle.std.proofs.Common.{get_or, suc, ◌≡◌, inl, inr, ℕ, ◌-◌, ◌<◌, ◌≤◌, ◌^◌, pos, List, [], ◌∷◌, ◌++◌, map, true, false, Some, None, Option, IfSome, Ok, Err, Result, OnOk, sym, ap, subst, ◌∙◌, arith}
 use Rattle.std.specs.List.{AllByRecursion, IsDistinct}
 use Rattle.std.specs.List.Sorted.{IsPermutation}
 use Rattle.std.specs.FinSet as set
@@ -21,7 +21,7 @@ use Rattle.gtid.specs.Identifier.{Id, Ids}
 use Rattle.gtid.specs.declared.beside.Beside.{Beside}
 use Rattle.gtid.specs.declared.span.Span.{Span}
 use Rattle.store.specs.Rows.{span_rows, stored_span, shown_spans, begins_at, touches}
-use Rattle.store.specs.Inside.{IsWorking, Moves, Begins, Lists, Shows, Records}
+use Rattle.store.specs.Inside.{Moves, Begins, Lists, Shows, Records}
 use Rattle.store.proofs.Effects.{own_bytes, own_id}
 use Rattle.store.proofs.Made.{goes_then}
 use Rattle.store.proofs.RowLemmas.{equal_is}
@@ -64,10 +64,6 @@ one_out front x rest rows h =
       all = IsPermutation-trans (stored_span x ∷ map stored_span (front ++ rest)) (map stored_span (front ++ x ∷ rest)) (shown_spans rows)
           (IsPermutation-sym (map stored_span (front ++ x ∷ rest)) (map stored_span (x ∷ (front ++ rest))) (IsPermutation-map stored_span (front ++ x ∷ rest) (x ∷ (front ++ rest)) first)) h.rows_are;
     }
-
--- nothing is removed
-pub none_out : (s : State) (front rest : List Span) → IsWorking s → Lists (span_rows s.now) (front ++ rest) → Moves s s (map stored_span (front ++ rest))
-none_out s front rest was h = record { on = record { working = was; schema = refl; committed = refl; meta = refl; follow = refl }; held = refl; stored = h.rows_are }
 
 -- ---- a number and its neighbours
 
