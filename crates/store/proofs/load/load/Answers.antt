@@ -15,21 +15,18 @@ use Rattle.store.proofs.load.load.Goals as goal
 pub returns-in_err-following-clause-loads : goal.returns-in_err-following-clause-loads
 returns-in_err-following-clause-loads g c clean laid settled says =
     let s0 = state g.S.Store c.args.conn.now in
-    let s1 = state g.S.Store c.load_follow.new.conn in
     let p = err_from_is_err_and c.from_residual.result c.from_residual.ensures.1 in
     rw (p.1, p.2) (fault_by c.in_err-following.field-0.0 (λ rules. rules.follow) (c.in_err-following.ensures.judged clean (tree_at s0.now.schema 3) (follow_asks _ laid)))
 
 pub returns-in_err-following-clause-same : goal.returns-in_err-following-clause-same
 returns-in_err-following-clause-same g c clean laid =
     let s0 = state g.S.Store c.args.conn.now in
-    let s1 = state g.S.Store c.load_follow.new.conn in
     let p = err_from_is_err_and c.from_residual.result c.from_residual.ensures.1 in
     rw (p.1, p.2) (seen_by c.in_err-following.field-0.0 (λ same. same) (c.in_err-following.ensures.same clean (tree_at s0.now.schema 3) (follow_asks _ laid)))
 
 pub returns-in_err-following-clause-rested : goal.returns-in_err-following-clause-rested
 returns-in_err-following-clause-rested g c clean laid =
     let s0 = state g.S.Store c.args.conn.now in
-    let s1 = state g.S.Store c.load_follow.new.conn in
     c.load_follow.ensures.rested clean (tree_at s0.now.schema 3) (follow_asks _ laid)
 
 pub returns-in_err-following-clause-crash : goal.returns-in_err-following-clause-crash

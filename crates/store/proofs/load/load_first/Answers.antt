@@ -13,22 +13,16 @@ use Rattle.store.proofs.load.load_first.Goals as goal
 
 pub returns-in_err-executed-clause-loads : goal.returns-in_err-executed-clause-loads
 returns-in_err-executed-clause-loads g c clean made settled says =
-    let s0 = state g.S.Store c.args.conn.now in
-    let s1 = state g.S.Store c.load_executed.new.conn in
     let p = err_from_is_err_and c.from_residual.result c.from_residual.ensures.1 in
     rw (p.1, p.2) (fault_by c.in_err-executed.field-0.0 (λ rules. rules.executed) (c.in_err-executed.ensures.judged clean 2 (first_executed _ made)))
 
 pub returns-in_err-executed-clause-same : goal.returns-in_err-executed-clause-same
 returns-in_err-executed-clause-same g c clean made =
-    let s0 = state g.S.Store c.args.conn.now in
-    let s1 = state g.S.Store c.load_executed.new.conn in
     let p = err_from_is_err_and c.from_residual.result c.from_residual.ensures.1 in
     rw (p.1, p.2) (seen_by c.in_err-executed.field-0.0 (λ same. same) (c.in_err-executed.ensures.same clean 2 (first_executed _ made)))
 
 pub returns-in_err-executed-clause-rested : goal.returns-in_err-executed-clause-rested
 returns-in_err-executed-clause-rested g c clean made =
-    let s0 = state g.S.Store c.args.conn.now in
-    let s1 = state g.S.Store c.load_executed.new.conn in
     c.load_executed.ensures.rested clean 2 (first_executed _ made)
 
 pub returns-in_err-executed-clause-crash : goal.returns-in_err-executed-clause-crash

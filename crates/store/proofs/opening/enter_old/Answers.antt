@@ -193,6 +193,5 @@ returns-else-not-meta-2-clause-crash g c ready tables has =
     let meta = c.in_ok-meta.ensures.says early mf in
     let one : c.in-Some-eq2.field-0 ≡ pos 2 = search rules in
     let says = says_at (first_meta_rows old.now) c.in_ok-meta.meta c.in-Some-eq2.field-0 (pos 2) meta c.in-Some-eq2.is one in
-    let states = states_at (first_meta_rows old.now) c.in_ok-meta.meta (pos 2) meta says c.if-not-meta-2.false in
     let laid = known_second old.now ready.known says all in
     c.enter_second.ensures.crash (laid_after_second old mid same laid))
