@@ -1,5 +1,5 @@
 -- The spans around the intervals of a source, and the set with one more number.
-use Rattle.std.proofs.Common.{◌≡◌, ◌≢◌, ℕ, zero, suc, ◌<◌, Bool, true, false, nat_eq, ◌&&◌, ◌||◌, List, [], ◌∷◌, ◌++◌, map, length, slice_index_or, refl, ap, sym, subst, ◌∙◌, arith, Option, Some, None}
+use Rattle.std.proofs.Common.{◌≡◌, ◌≢◌, ℕ, zero, suc, ◌<◌, Bool, true, false, nat_eq, ◌&&◌, ◌||◌, List, [], ◌∷◌, ◌++◌, map, length, slice_index_or, refl, ap, sym, subst, ◌∙◌, arith, Option, Some, None, IfSome, inl, inr, subst₂}
 use Rattle.std.specs.declared.cmp.Ordering.TheVariants.{Less}
 use Rattle.std.specs.Ordering.{nat_cmp}
 use Rattle.std.specs.Cmp.Lexicographic.{slice_cmp}
@@ -7,12 +7,14 @@ use Rattle.std.specs.FinSet as set
 use Rattle.std.specs.List.{list_any}
 use Rattle.std.specs.Option.{option_map}
 use Rattle.std.specs.Str.{bytes_eq}
+use Rattle.std.proofs.lemmas.Bool.{cases_Bool}
 use Rattle.std.proofs.lemmas.List.{append_assoc, map-append}
 use Rattle.std.proofs.lemmas.List.Folds.{list_any-append}
 use Rattle.gtid.specs.Identifier.{Id, Ids}
-use Rattle.gtid.specs.Interval.{has}
+use Rattle.gtid.specs.Interval.{has, AreLeast}
 use Rattle.gtid.specs.Group.{Ascend, sources, IsBelow, IsGap, ids_of}
 use Rattle.gtid.specs.Span.{is_in, IsLeast, IsLeastList}
+use Rattle.gtid.specs.Reading.{IsLawfulSpan}
 use Rattle.gtid.specs.Spans.{span, spans_of_group, spans_of}
 use Rattle.gtid.specs.Beside.{one_or_none, joined, joined_interval, Joins, Touches, Among}
 use Rattle.gtid.specs.declared.beside.Beside.{Beside}
@@ -148,3 +150,27 @@ joins all groups ids s number intervals below above beside ascend same is a t is
       spans_are = are ∙ ap (λ l. a.front ++ (map f l ++ a.after)) t.intervals_are ∙ spread f below above a.front t.front t.rest a.after ∙ (λ i. (a.front ++ map f t.front) ++ (one_or_none (sym is_below i) ++ (one_or_none (sym is_above i) ++ rest)));
       joined_least = subst (λ l. IsLeastList l (set.insert ids (s, number))) (around f a.front t.front (j ∷ t.rest) a.after ∙ ap (λ x. (a.front ++ map f t.front) ++ x ∷ rest) made) new;
     }
+
+-- ---- What lies beside a number.
+
+lawful_at : (s : List ℕ) (end : ℕ) (front : List Interval) (x : Interval) (rest : List Interval) → AreLeast end (front ++ x ∷ rest) → IsLawfulSpan (span s x)
+lawful_at s end [] x rest h = (omega (arith, h.0), h.1, h.2)
+lawful_at s end (f ∷ front) x rest h = lawful_at s f.hi front x rest h.3
+
+abbrev pub AreLawful : Option Span → Option Span → Type 0
+AreLawful below above = IfSome below IsLawfulSpan × IfSome above IsLawfulSpan
+
+both_lawful : (s : List ℕ) (below above : Option Interval) (front rest : List Interval) → AreLeast 0 (front ++ (one_or_none below ++ (one_or_none above ++ rest))) → AreLawful (option_map (span s) below) (option_map (span s) above)
+both_lawful s None None front rest h = (tt, tt)
+both_lawful s None (Some y) front rest h = (tt, lawful_at s 0 front y rest h)
+both_lawful s (Some x) None front rest h = (lawful_at s 0 front x rest h, tt)
+both_lawful s (Some x) (Some y) front rest h = (lawful_at s 0 front x (y ∷ rest) h, lawful_at s 0 (front ++ x ∷ []) y rest (subst (AreLeast 0) (sym (append_assoc front (x ∷ []) (y ∷ rest))) h))
+
+-- the neighbours of a number that is in none of the intervals, or of one that is
+pub beside_lawful : (s : List ℕ) (number : ℕ) (intervals : List Interval) (below above : Option Interval) (beside : Beside) → AreLeast 0 intervals → (has intervals number ≡ false → Touches number below above intervals) →
+    (has intervals number ≡ true → (below ≡ None) × (above ≡ None)) → beside.below ≡ option_map (span s) below → beside.above ≡ option_map (span s) above → AreLawful beside.below beside.above
+beside_lawful s number intervals below above beside least touches there is_below is_above =
+    subst₂ AreLawful (sym is_below) (sym is_above) (elim (cases_Bool (has intervals number)) [
+      | inl in_it ↦ (let none = there in_it in subst₂ (λ b a. AreLawful (option_map (span s) b) (option_map (span s) a)) (sym none.0) (sym none.1) (tt, tt))
+      | inr fresh ↦ (let t = touches fresh in both_lawful s below above t.front t.rest (subst (AreLeast 0) t.intervals_are least))
+    ])

@@ -1,6 +1,6 @@
 //! Sets of GTIDs.
 
-ghost use Rattle.std.specs.Prelude.{◌≡◌, ℕ, ◌≤◌, ◌⊎◌, true, false, not, length, take, string_bytes, MatchResult, IfOk, OnOk, IfErr, OnErr, Ok, Err, List, None, vec_len, vec_capacity};
+ghost use Rattle.std.specs.Prelude.{◌≡◌, ℕ, ◌≤◌, ◌⊎◌, true, false, not, length, take, string_bytes, MatchResult, IfOk, OnOk, IfErr, OnErr, Ok, Err, List, None, IfSome, vec_len, vec_capacity};
 ghost use Rattle.std.specs.FinSet as set;
 ghost use Rattle.gtid.specs.Identifier.{Ids, id};
 ghost use Rattle.std.specs.List.{AllByRecursion};
@@ -141,10 +141,13 @@ impl GtidSet {
     }
 
     /// The neighbours of a GTID that is not in the set: the span of its source that ends just before it, and the one
-    /// that begins just after it. Adding the GTID joins them. For a GTID in the set there are none. It takes no memory.
+    /// that begins just after it. Adding the GTID joins them. For a GTID in the set there are none. Neither is empty or has a
+    /// number outside 1 to 2^63 - 2. It takes no memory.
     pub fn beside(&self, gtid: Gtid) -> Beside
         ensures joins { set.contains self.now (id gtid) ≡ false → (spans : List Span) → IsLeastList spans self.now → Joins self.now (id gtid) result spans }
         ensures there { set.contains self.now (id gtid) ≡ true → (result.below ≡ None) × (result.above ≡ None) }
+        ensures below { IfSome result.below IsLawfulSpan }
+        ensures above { IfSome result.above IsLawfulSpan }
     {
         let intervals = intervals_of(&self.groups, &gtid.source);
         let (below, above) = interval::beside(intervals, gtid.number);

@@ -7,7 +7,7 @@ use Rattle.std.proofs.lemmas.Slice.Eq.{bytes_eq-Decides}
 use Rattle.sqlite.specs.State.{State}
 use Rattle.binlog.specs.Cell.{CellValue, null_cell, number_cell, bytes_cell}
 use Rattle.gather.specs.Image.{IsImage, HasImage, HasCellImage, image}
-use Rattle.gather.specs.Transaction.{insert, delete, update}
+use Rattle.gather.specs.Transaction.{insert, delete}
 use Rattle.gather.proofs.WholeImages.{one_list}
 use Rattle.store.specs.declared.row_change.Refusal.{Refusal}
 use Rattle.store.specs.declared.row_change.Refusal.TheVariants.{NoSuchRow, CountFull}
@@ -138,9 +138,3 @@ taken_if schema table cells bytes is old new (Err e) h = tt
 
 pub goes_after : (old mid new : State) → Goes old mid → Goes mid new → Goes old new
 goes_after old mid new one two = record { on = goes_then old mid new one.on two.on; spans = two.spans ∙ one.spans }
-
-pub makes_update : {X : Type 0} (schema table : List ℕ) (before after : List CellValue) (old mid new : State) (r : Result (Option Refusal) X)
-    → Makes (delete schema table before) old mid None → IfOk r (Makes (insert schema table after) mid new) → IfOk r (Makes (update schema table before after) old new)
-makes_update schema table before after old mid new (Ok None) one two = (goes_after old mid new one.0 two.0, (bag_of (count (held_rows mid.now)), one.1, two.1))
-makes_update schema table before after old mid new (Ok (Some why)) one two = inr (bag_of (count (held_rows mid.now)), one.1, two)
-makes_update schema table before after old mid new (Err e) one two = tt

@@ -1,6 +1,6 @@
 -- The changes and then the record of a transaction.
 use Rattle.std.specs.List.{AllByRecursion}
-use Rattle.std.proofs.Common.{inl, inr, pos, ◌≡◌, ℕ, true, false, ◌&&◌, ◌||◌, nat_eq, bytes_eq, Some, None, refl, sym, ap, subst, subst₂, ◌∙◌}
+use Rattle.std.proofs.Common.{inl, inr, pos, ◌≡◌, true, false, ◌&&◌, ◌||◌, nat_eq, bytes_eq, None, refl, sym, ap, subst, subst₂, ◌∙◌}
 use Rattle.std.specs.FinSet as set
 use Rattle.std.proofs.lemmas.Bool.{cases_Bool, and_parts, eqb-true}
 use Rattle.std.proofs.lemmas.Slice.Eq.{bytes_eq-Decides}
@@ -9,9 +9,8 @@ use Rattle.gtid.specs.Identifier.{Id, Ids, IsGtid, AreGtids}
 use Rattle.gtid.proofs.Sets.{id_cmp_total, tied}
 use Rattle.binlog.specs.Filter.{Names}
 use Rattle.gather.specs.Transaction.{DeliveryValue}
-use Rattle.store.specs.declared.row_change.Refusal.{Refusal}
 use Rattle.store.specs.State.{Content}
-use Rattle.store.specs.Take.{is_executed, AreDone, IsRefusedAt}
+use Rattle.store.specs.Take.{is_executed, AreDone}
 use Rattle.store.specs.Rows.{StandsFor, SaysLayout, IsMetaRow, AreNames, bag_of, count, held_rows, span_rows}
 use Rattle.store.specs.Inside.{GoesOn, Goes, DoesAll, Shows, Records}
 use Rattle.store.specs.Apply.{Fills}
@@ -65,6 +64,3 @@ module _ (old mid new : State) (names : Names) (d : DeliveryValue) (content : Co
           };
         },
       )
-
-  pub unfilled : (why : ℕ × Refusal) → DoesAll names d.changes old mid (Some why) → Fills names content d old mid (Some why)
-  unfilled why does = (out, subst (λ bag. IsRefusedAt names d.changes bag why.0 why.1) (sym stands.rows) does)

@@ -12,7 +12,8 @@ use Rattle.binlog.specs.Filter.{Name, Names, name_cmp}
 use Rattle.binlog.specs.FilterView.{names_of}
 use Rattle.binlog.proofs.Admitted.{name_cmp_total, name_cmp-same}
 use Rattle.store.specs.Layout.{IsLaidOut, made, tree_at}
-use Rattle.store.specs.Rows.{AreSpans, AreLeast, HasRowids, bag_of, count, meta_rows, held_rows, span_rows}
+use Rattle.gtid.specs.Span.{IsLeastList}
+use Rattle.store.specs.Rows.{AreSpans, HasRowids, bag_of, count, meta_rows, held_rows, span_rows}
 use Rattle.store.specs.State.{has_image}
 use Rattle.store.specs.Open.{nothing}
 use Rattle.store.specs.Making.{IsNaming, HasMade, new_layout, layout_row}
@@ -45,9 +46,8 @@ no_rows = same_function nothing.rows (bag_of (count [])) (λ r. go (has_image r.
     go true = refl
     go false = refl
 
-none_least : AreLeast [] set.empty
-unfolding IsDistinct
-none_least = record { some = tt; apart = tt; covers = λ q. set.contains-empty id_cmp q }
+none_least : IsLeastList [] set.empty
+none_least = record { least = tt; covers = λ q. set.contains-empty id_cmp q }
 
 pub no_spans : AreSpans [] set.empty
 no_spans = record {

@@ -1,6 +1,6 @@
 -- Which tables a known schema has, and one reading after another.
-use Rattle.std.proofs.Common.{◌≡◌, ℤ, pos, Bool, true, false, ◌||◌, Result, Ok, Err, IfOk, IfErr, arith, refl, sym, ap, subst, ◌∙◌}
-use Rattle.std.proofs.lemmas.Bool.{false≢true, true≢false, and_parts}
+use Rattle.std.proofs.Common.{◌≡◌, ℤ, pos, Bool, true, false, not, MatchBool, Some, List, ◌||◌, Result, Ok, Err, IfOk, IfErr, arith, refl, sym, ap, subst, ◌∙◌}
+use Rattle.std.proofs.lemmas.Bool.{false≢true, true≢false, and_parts, not-false, not-true}
 use Rattle.sqlite_trees.specs.Tree.{Trees}
 use Rattle.sqlite_schema.specs.declared.schema.Schema.{Schema}
 use Rattle.sqlite_schema.specs.Names.{same_name}
@@ -12,12 +12,16 @@ use Rattle.binlog.specs.Filter.{Names}
 use Rattle.store.specs.declared.fault.StoreFault.{StoreFault}
 use Rattle.store.specs.declared.tables.Tables.{Tables}
 use Rattle.store.specs.Layout.{no_schema, first_layout, IsLaidOut}
-use Rattle.store.specs.Rows.{SaysLayout, first_meta_rows}
-use Rattle.store.specs.Load.{IsMetaFirst}
+use Rattle.std.specs.List.{AllByRecursion}
+use Rattle.sqlite_value.specs.Order.{Row}
+use Rattle.store.specs.declared.tables.Meta.{Meta}
+use Rattle.store.specs.Judge.{IsMeta, IsOnly, layouts}
+use Rattle.store.specs.Rows.{SaysLayout, first_meta_rows, meta_rows, IsMetaRow}
+use Rattle.store.specs.Load.{IsMetaFirst, StatesLayout}
 use Rattle.store.specs.Entering.{IsReady, IsKnown, blank, first, second, lacking, IsOf, IsWhy, IsEntered, IsTurned, MayEnter, tables_of, has_any, has_first, has_second}
-use Rattle.store.proofs.Wholes.{laid_meta_first, first_meta_first}
+use Rattle.store.proofs.Wholes.{laid_meta_first, first_meta_first, meta_place}
 use Rattle.store.proofs.Lives.{narrowed}
-use Rattle.store.proofs.Entered.{rests_after}
+use Rattle.store.proofs.Entered.{rests_after, weaken}
 
 -- ---- known schemas
 
@@ -108,8 +112,8 @@ laid_after_first old mid same is = ap (λ (db : Stored). db.schema) same.0.now_i
 pub laid_after_second : (old mid : State) → IsUnchanged old mid → IsLaidOut old.now.schema → IsLaidOut mid.now.schema
 laid_after_second old mid same laid = subst (λ (db : Stored). IsLaidOut db.schema) (sym same.0.now_is) laid
 
-pub says_after : (n : ℤ) (old mid : State) → IsUnchanged old mid → SaysLayout n (first_meta_rows old.now) → SaysLayout n (first_meta_rows mid.now)
-says_after n old mid same says = subst (λ (db : Stored). SaysLayout n (first_meta_rows db)) (sym same.0.now_is) says
+pub states_after : (n : ℤ) (old mid : State) → IsUnchanged old mid → StatesLayout n (first_meta_rows old.now) → StatesLayout n (first_meta_rows mid.now)
+states_after n old mid same states = subst (λ (db : Stored). StatesLayout n (first_meta_rows db)) (sym same.0.now_is) states
 
 pub meta_there : (schema : Schema) → IsMetaFirst schema → (tables_of schema).meta ≡ true
 unfolding same_name
@@ -129,3 +133,29 @@ known_none db (lacking meta one two) none = absurd (no_meta_first db.schema none
 
 pub meta_after : (old mid : State) → IsUnchanged old mid → (tables_of old.now.schema).meta ≡ true → (tables_of mid.now.schema).meta ≡ true
 meta_after old mid same there = ap (λ (db : Stored). (tables_of db.schema).meta) same.0.now_is ∙ there
+
+-- ---- what the rows of meta say
+
+pub there : (old : State) (tables : Tables) → tables ≡ tables_of old.now.schema → tables.meta ≡ true → (tables_of old.now.schema).meta ≡ true
+there old tables is has = ap (λ t. t.meta) (sym is) ∙ has
+
+pub meta_is_first : (old : State) (tables : Tables) → IsReady old → tables ≡ tables_of old.now.schema → tables.meta ≡ true → IsMetaFirst old.now.schema
+meta_is_first old tables ready is has = meta_first old.now ready.known (there old tables is has)
+
+pub says_at : (rows : List Row) (m : Meta) (k n : ℤ) → IsMeta rows m → m.layout ≡ Some k → k ≡ n → SaysLayout n rows
+says_at rows m k n h is one = subst (λ x. SaysLayout x rows) one (subst (IsOnly (layouts rows)) is h.layout)
+
+abbrev Judged : List Row → Bool → Type 0
+Judged rows b = MatchBool b (AllByRecursion IsMetaRow rows) (¬ AllByRecursion IsMetaRow rows)
+
+pub states_at : (rows : List Row) (m : Meta) (n : ℤ) → IsMeta rows m → SaysLayout n rows → not m.lawful ≡ false → StatesLayout n rows
+states_at rows m n h says is = record { says = says; lawful = subst (Judged rows) (not-false m.lawful is) h.lawful; apart = h.apart }
+
+pub breaks_meta : (rows : List Row) (m : Meta) → IsMeta rows m → not m.lawful ≡ true → ¬ AllByRecursion IsMetaRow rows
+breaks_meta rows m h is = subst (Judged rows) (not-true m.lawful is) h.lawful
+
+pub breaks_meta_second : (db : Stored) → IsLaidOut db.schema → (m : Meta) → IsMeta (first_meta_rows db) m → not m.lawful ≡ true → ¬ AllByRecursion IsMetaRow (meta_rows db)
+breaks_meta_second db laid m h is all = breaks_meta (first_meta_rows db) m h is (subst (λ t. AllByRecursion IsMetaRow (db.trees t)) (meta_place db.schema laid) all)
+
+pub may_none : (only : Names) (old mid : State) → Survives old mid (λ _. ⊥) → Survives old mid (MayEnter only old)
+may_none only old mid s = weaken old mid (λ _. ⊥) (MayEnter only old) (λ _ none. absurd none) s

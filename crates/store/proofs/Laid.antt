@@ -1,22 +1,21 @@
 -- The layout that the rows of meta state.
-use Rattle.std.proofs.Common.{ℤ, List, codes, Option, None, Some, Ok, Err, Result, IfOk, OnOk, MatchOption, subst}
+use Rattle.std.proofs.Common.{ℤ, List, codes, Option, None, Some, Ok, Err, Result, OnOk, subst}
 use Rattle.std.specs.List.Sorted.{IsPermutation}
 use Rattle.std.proofs.lemmas.List.Sorted.{IsPermutation-map, IsPermutation-sym}
 use Rattle.sqlite_trees.proofs.ListLemmas.{IsPermutation-filter}
 use Rattle.sqlite_value.specs.declared.value.Value.TheVariants.{Int}
 use Rattle.sqlite_value.specs.Order.{Row, column}
 use Rattle.sqlite.proofs.Callers.{one_permutation}
-use Rattle.store.specs.Rows.{SaysLayout, is_text}
+use Rattle.store.specs.Rows.{is_text}
 use Rattle.store.specs.Judge.{layouts, IsOnly}
 
 same_layouts : (rows answer : List Row) → IsPermutation rows answer → IsPermutation (layouts rows) (layouts answer)
 same_layouts rows answer same = IsPermutation-map (λ (row : Row). column row 2) _ _ (IsPermutation-filter (λ row. is_text (codes "layout") (column row 1)) rows answer same)
 
-pub says_table : {E : Type 0} (rows answer : List Row) (r : Result (Option ℤ) E) → IsPermutation rows answer → IfOk r (IsOnly (layouts answer))
-    → IfOk r (λ said. MatchOption said ((n : ℤ) → ¬ SaysLayout n rows) (λ n. SaysLayout n rows))
-says_table rows answer (Ok None) same only = λ n says. only n (one_permutation (Int n) _ (subst (λ l. IsPermutation l (layouts answer)) says (same_layouts rows answer same)))
-says_table rows answer (Ok (Some n)) same only = one_permutation (Int n) _ (subst (λ l. IsPermutation l (layouts rows)) only (IsPermutation-sym _ _ (same_layouts rows answer same)))
-says_table rows answer (Err e) same only = only
+-- the number in rows in another order
+pub only_back : (rows answer : List Row) (said : Option ℤ) → IsPermutation rows answer → IsOnly (layouts answer) said → IsOnly (layouts rows) said
+only_back rows answer None same only = λ n says. only n (one_permutation (Int n) _ (subst (λ l. IsPermutation l (layouts answer)) says (same_layouts rows answer same)))
+only_back rows answer (Some n) same only = one_permutation (Int n) _ (subst (λ l. IsPermutation l (layouts rows)) only (IsPermutation-sym _ _ (same_layouts rows answer same)))
 
 pub on_any : {X E P : Type 0} (r : Result X E) → P → OnOk r P
 on_any (Ok x) p = p

@@ -9,11 +9,7 @@ pub mod SpanEffects
 pub mod Made
 pub mod Bags
 pub mod Loop
-pub mod SpanLists
-pub mod SameSpans
 pub mod SortedSpans
-pub mod Over
-pub mod Touched
 pub mod SpanRecord
 pub mod Filled
 pub mod Ran

@@ -1,5 +1,5 @@
 -- From the answer of a query for a whole table to the table.
-use Rattle.std.proofs.Common.{◌≡◌, List, map, Ok, Err, Result, refl, sym, ap, ◌∙◌}
+use Rattle.std.proofs.Common.{◌≡◌, Bool, true, false, MatchBool, List, map, Ok, Err, Result, IfOk, refl, sym, ap, ◌∙◌}
 use Rattle.std.specs.List.{AllByRecursion, IsDistinct}
 use Rattle.std.specs.Ordering.{is_eq, ordering_reverse, eq_by_cmp}
 use Rattle.std.specs.Cmp.{IsTotalOrder}
@@ -20,7 +20,10 @@ use Rattle.binlog.proofs.Admitted.{name_cmp_total, name_cmp-same}
 use Rattle.store.specs.declared.fault.StoreFault.{StoreFault}
 use Rattle.store.specs.declared.fault.StoreFault.TheVariants.{NoSuchRow, CountFull, Database, Memory, Damaged, Layout, Broken, Follows}
 use Rattle.store.specs.Rows.{alike, HasRowids, IsMetaRow, IsHeldRow, IsFollowRow, IsSpanRow, IsExecutedRow, AreNames, AreSpans, touches, shown_span, span_in, id_in, name_in}
+use Rattle.store.specs.declared.tables.Meta.{Meta}
+use Rattle.store.specs.Judge.{IsMeta}
 use Rattle.store.specs.Load.{Judges, OnSeen}
+use Rattle.store.proofs.Laid.{only_back}
 use Rattle.store.proofs.SpanRows.{flips}
 
 pub on_seen : {X P : Type 0} (r : Result X StoreFault) → P → OnSeen r P
@@ -64,8 +67,13 @@ module _ (rows answer : List Row) (same : IsPermutation rows answer) where
   apart : HasRowids answer → HasRowids rows
   apart h = record { apart = IsDistinct-IsPermutation alike turns answer rows back h.apart; keyed = all-permutation _ answer rows back h.keyed }
 
-  pub meta_table : {X : Type 0} (r : Result X StoreFault) → Judges r (λ _. AllByRecursion IsMetaRow answer × HasRowids answer) (AllByRecursion IsMetaRow answer) → Judges r (λ _. AllByRecursion IsMetaRow rows × HasRowids rows) (AllByRecursion IsMetaRow rows)
-  meta_table r h = judged_by r (λ x it. (all-permutation IsMetaRow answer rows back it.0, apart it.1)) (all-permutation IsMetaRow rows answer same) h
+  lawful_back : (b : Bool) → MatchBool b (AllByRecursion IsMetaRow answer) (¬ AllByRecursion IsMetaRow answer) → MatchBool b (AllByRecursion IsMetaRow rows) (¬ AllByRecursion IsMetaRow rows)
+  lawful_back true h = all-permutation IsMetaRow answer rows back h
+  lawful_back false h = λ all. h (all-permutation IsMetaRow rows answer same all)
+
+  pub meta_table : {E : Type 0} (r : Result Meta E) → IfOk r (IsMeta answer) → IfOk r (IsMeta rows)
+  meta_table (Ok m) h = record { layout = only_back rows answer m.layout same h.layout; lawful = lawful_back m.lawful h.lawful; apart = apart h.apart }
+  meta_table (Err e) h = h
 
   pub held_table : {X : Type 0} (r : Result X StoreFault) → Judges r (λ _. AllByRecursion IsHeldRow answer × HasRowids answer) (AllByRecursion IsHeldRow answer) → Judges r (λ _. AllByRecursion IsHeldRow rows × HasRowids rows) (AllByRecursion IsHeldRow rows)
   held_table r h = judged_by r (λ x it. (all-permutation IsHeldRow answer rows back it.0, apart it.1)) (all-permutation IsHeldRow rows answer same) h

@@ -19,7 +19,6 @@ use Rattle.store.specs.Making.{HasMade}
 use Rattle.store.specs.Migrating.{migrated_layout, IsFirstInside, IsMigrating, HasLeft}
 use Rattle.store.proofs.Made.{goes_then}
 use Rattle.store.proofs.RowLemmas.{equal_is}
-use Rattle.store.proofs.SortedSpans.{sorted_are}
 use Rattle.store.proofs.Filling.{no_rowids}
 
 -- ---- the spans, one after another
@@ -106,7 +105,7 @@ module _ (content : Content) (s : State) (was : IsMigrating migrated_layout (pos
         meta = rw (h.on.meta ∙ rows_at 0) was.meta;
         follow = rw (h.on.follow ∙ follow_none) (record { lawful = tt; names_are = refl });
         held = h.on.working.lawful;
-        executed = record { spans = spans; least = sorted_are spans content.executed least; lawful = was.lawful; rows_are = rows_are };
+        executed = record { spans = spans; least = least; lawful = was.lawful; rows_are = rows_are };
         rows = was.rows ∙ ap (λ l. bag_of (count l)) (sym (h.held ∙ rows_at 1));
       };
     }

@@ -36,6 +36,7 @@ use Rattle.store.proofs.Known.{meta_there, none_meta, none_any, known_first, kno
 use Rattle.store.proofs.Readings.{row_lengths}
 use Rattle.store.proofs.SpanRows
 use Rattle.store.proofs.SpanRows.{flips}
+use Rattle.store.proofs.SortedSpans.{all_some, all_distinct}
 
 -- ---- One number under the key `layout`.
 
@@ -162,14 +163,14 @@ rules_kept db n a sound rowids h =
     let long : AllByRecursion (λ r. length r ≡ 4) (span_rows db) = subst (AllByRecursion (λ (r : Row). length r ≡ 4)) (sym place)
     (row_lengths (layout l.origin l.others l.indexes l.views) db.trees (spans_at l.origin) (inr (inr (inl refl))) refl refl (subst (λ s. IsSound s db.trees) l.is sound)) in
     let shown : AllByRecursion IsShown (shown_spans (span_rows db)) = all-permutation IsShown (map stored_span e.spans) (shown_spans (span_rows db)) e.rows_are
-    (lawful_shown e.spans (λ q there. e.lawful q (e.least.covers q ∙ there)) e.least.some) in
+    (lawful_shown e.spans (λ q there. e.lawful q (e.least.covers q ∙ there)) (all_some e.spans e.least.least)) in
     record {
       meta = h.meta;
       follow = h.follow.lawful;
       spans = lawful_rows (span_rows db) shown long rowids.keyed;
       apart = subst (IsDistinct touches) (spans_of_rows (span_rows db))
           (IsDistinct-IsPermutation touches flips (map span_shown (map stored_span e.spans)) (map span_shown (shown_spans (span_rows db))) (IsPermutation-map span_shown _ _ e.rows_are)
-          (subst (IsDistinct touches) (sym (shown_back e.spans)) e.least.apart));
+          (subst (IsDistinct touches) (sym (shown_back e.spans)) (all_distinct e.spans e.least.least)));
       held = h.held;
     }
 

@@ -1,17 +1,39 @@
--- Least intervals in order are least intervals.
-use Rattle.std.proofs.Common.{◌≡◌, inl, inr, ◌<◌, nat_le, ◌&&◌, bytes_eq, List, [], ◌∷◌, false, sym, subst, ◌∙◌, arith}
+-- Spans of which no two touch, in order: the least intervals of a set.
+use Rattle.std.proofs.Common.{◌≡◌, ◌⊎◌, inl, inr, ℕ, ◌<◌, nat_le, ◌&&◌, bytes_eq, List, [], ◌∷◌, ◌++◌, false, refl, sym, ap, subst, ◌∙◌, arith}
 use Rattle.std.specs.List.{AllByRecursion, IsDistinct}
-use Rattle.std.specs.Ordering.{nat_cmp}
-use Rattle.std.specs.declared.cmp.Ordering.TheVariants.{Less}
+use Rattle.std.specs.FinSet as set
+use Rattle.std.specs.Ordering.{nat_cmp, ordering_reverse}
+use Rattle.std.specs.declared.cmp.Ordering.{Ordering}
+use Rattle.std.specs.declared.cmp.Ordering.TheVariants.{Less, Equal, Greater}
 use Rattle.std.specs.Cmp.Lexicographic.{slice_cmp, nat_list_cmp_total}
-use Rattle.std.proofs.lemmas.Bool.{and_parts, false_from_ne_true, leb-true}
+use Rattle.std.proofs.lemmas.Bool.{cases_Bool, and_parts, false_from_ne_true, leb-true, leb-false}
+use Rattle.std.specs.List.Sorted.{IsPermutation}
+use Rattle.std.proofs.lemmas.List.Sorted.{IsPermutation-refl, IsPermutation-trans, IsPermutation-cons, IsPermutation-insert}
+use Rattle.sqlite_trees.proofs.ListLemmas.{all-permutation}
 use Rattle.std.proofs.lemmas.Cmp.{tied_itself}
 use Rattle.std.proofs.lemmas.Slice.Eq.{bytes_eq-Decides}
-use Rattle.gtid.specs.Identifier.{Ids}
-use Rattle.gtid.specs.Span.{IsBefore, IsLeast, IsLeastList}
+use Rattle.gtid.specs.Span.{IsBefore, IsLeast}
 use Rattle.gtid.specs.declared.span.Span.{Span}
-use Rattle.store.specs.Rows.{touches, AreLeast}
-use Rattle.store.proofs.SpanLists.{IsSome}
+use Rattle.store.specs.Rows.{touches}
+
+abbrev pub IsSome : Span → Type 0
+IsSome s = s.lo < s.hi
+
+-- the span of this source lies below or above, with a gap
+abbrev pub IsClear : List ℕ → ℕ → ℕ → Span → Type 0
+IsClear source lo hi t = source ≡ t.source → (t.hi < lo) ⊎ (hi < t.lo)
+
+clear_of : (b t : Span) → touches b t ≡ false → IsClear b.source b.lo b.hi t
+clear_of b t apart same =
+    let inner : (nat_le b.lo t.hi && nat_le t.lo b.hi) ≡ false = rw ((bytes_eq-Decides b.source t.source).1 same) at apart in
+    elim (cases_Bool (nat_le b.lo t.hi)) [
+      | inl low ↦ inr (leb-false t.lo b.hi (rw low at inner))
+      | inr high ↦ inl (leb-false b.lo t.hi high)
+    ]
+
+pub all_clear : (b : Span) (rest : List Span) → AllByRecursion (λ t. touches b t ≡ false) rest → AllByRecursion (IsClear b.source b.lo b.hi) rest
+all_clear b [] all = tt
+all_clear b (t ∷ rest) all = (clear_of b t all.0, all_clear b rest all.1)
 
 before_next : (a b c : Span) → b.lo < b.hi → IsBefore a b → IsBefore b c → IsBefore a c
 before_next a b c some (inl less) (inl next) = inl (nat_list_cmp_total.trans a.source b.source c.source less next)
@@ -49,7 +71,7 @@ pub rest_least : (a : Span) (spans : List Span) → IsLeast (a ∷ spans) → Is
 rest_least a [] h = tt
 rest_least a (b ∷ spans) h = h.2
 
-all_some : (spans : List Span) → IsLeast spans → AllByRecursion IsSome spans
+pub all_some : (spans : List Span) → IsLeast spans → AllByRecursion IsSome spans
 all_some [] h = tt
 all_some (a ∷ spans) h = (first_some a spans h, all_some spans (rest_least a spans h))
 
@@ -58,5 +80,58 @@ unfolding IsDistinct
 all_distinct [] h = tt
 all_distinct (a ∷ spans) h = (all_apart a spans (all_before a spans h), all_distinct spans (rest_least a spans h))
 
-pub sorted_are : (spans : List Span) (ids : Ids) → IsLeastList spans ids → AreLeast spans ids
-sorted_are spans ids h = record { some = all_some spans h.least; apart = all_distinct spans h.least; covers = h.covers }
+-- ---- one span more or less
+
+-- least intervals without one of them
+before_least : (a b : Span) (spans : List Span) → a.lo < a.hi → IsBefore a b → IsLeast (b ∷ spans) → IsLeast (a ∷ spans)
+before_least a b [] some before h = some
+before_least a b (c ∷ spans) some before h = (some, before_next a b c h.0 before h.1, h.2)
+
+pub without : (front : List Span) (x : Span) (rest : List Span) → IsLeast (front ++ x ∷ rest) → IsLeast (front ++ rest)
+without [] x rest h = rest_least x rest h
+without (a ∷ []) x rest h = before_least a x rest h.0 h.1 h.2
+without (a ∷ b ∷ front) x rest h = (h.0, h.1, without (b ∷ front) x rest h.2)
+
+-- with one before all of them
+least_cons : (a : Span) (spans : List Span) → a.lo < a.hi → AllByRecursion (IsBefore a) spans → IsLeast spans → IsLeast (a ∷ spans)
+least_cons a [] some before h = some
+least_cons a (b ∷ spans) some before h = (some, before.0, h)
+
+either_way : (a b : Span) → touches a b ≡ false → IsBefore a b ⊎ IsBefore b a
+either_way a b off = go (slice_cmp nat_cmp a.source b.source) refl
+  where
+    go : (o : Ordering) → slice_cmp nat_cmp a.source b.source ≡ o → IsBefore a b ⊎ IsBefore b a
+    go Less is = inl (inl is)
+    go Equal is =
+        let source = set.slice_cmp-IsAntisymmetric set.nat_cmp-IsAntisymmetric a.source b.source is in
+        elim (clear_of a b off source) [ inl below ↦ inr (inr (sym source, below)) | inr above ↦ inl (inr (source, above)) ]
+    go Greater is = inr (inl (nat_list_cmp_total.antisymm b.source a.source ∙ ap ordering_reverse is))
+
+-- ---- spans in order
+
+pub record Sorted (spans : List Span) : Type 0 where
+  pub sorted : List Span
+  pub same : IsPermutation spans sorted
+  pub least : IsLeast sorted
+
+put_in : (x : Span) (spans : List Span) → x.lo < x.hi → AllByRecursion (λ t. touches x t ≡ false) spans → IsLeast spans → Sorted (x ∷ spans)
+put_in x [] some off h = record { sorted = x ∷ []; same = IsPermutation-refl (x ∷ []); least = some }
+put_in x (b ∷ spans) some off h = elim (either_way x b off.0) [
+  | inl before ↦ record { sorted = x ∷ b ∷ spans; same = IsPermutation-refl (x ∷ b ∷ spans); least = (some, before, h) }
+  | inr after ↦ (
+      let s = put_in x spans some off.1 (rest_least b spans h) in
+      record {
+        sorted = b ∷ s.sorted;
+        same = IsPermutation-trans (x ∷ b ∷ spans) (b ∷ x ∷ spans) (b ∷ s.sorted) (IsPermutation-insert (b ∷ spans) 1 x) (IsPermutation-cons b (x ∷ spans) s.sorted s.same);
+        least = least_cons b s.sorted (first_some b spans h) (all-permutation (IsBefore b) (x ∷ spans) s.sorted s.same (after, all_before b spans h)) s.least;
+      })
+]
+
+-- spans of which no two touch, in order
+pub sorted_of : (spans : List Span) → AllByRecursion IsSome spans → IsDistinct touches spans → Sorted spans
+unfolding IsDistinct
+sorted_of [] some apart = record { sorted = []; same = IsPermutation-refl []; least = tt }
+sorted_of (x ∷ spans) some apart =
+    let s = sorted_of spans some.1 apart.1 in
+    let p = put_in x s.sorted some.0 (all-permutation (λ t. touches x t ≡ false) spans s.sorted s.same apart.0) s.least in
+    record { sorted = p.sorted; same = IsPermutation-trans (x ∷ spans) (x ∷ s.sorted) p.sorted (IsPermutation-cons x spans s.sorted s.same) p.same; least = p.least }

@@ -1,29 +1,32 @@
 -- The spans next to a number and the number become one span.
-use Rattle.std.proofs.Common.{get_or, suc, ◌≡◌, ◌≢◌, inl, inr, ℕ, ◌+◌, ◌<◌, ◌≤◌, pos, List, [], ◌∷◌, map, Bool, true, false, Some, None, Option, Ok, Err, Result, OnOk, sym, ap, ◌∙◌, arith}
-use Rattle.std.specs.Option.{unwrap_or, is_some}
+use Rattle.std.proofs.Common.{get_or, suc, ◌≡◌, inl, inr, ℕ, ◌-◌, ◌<◌, ◌≤◌, ◌^◌, pos, List, [], ◌∷◌, ◌++◌, map, true, false, Some, None, Option, IfSome, Ok, Err, Result, OnOk, sym, ap, subst, ◌∙◌, arith}
 use Rattle.std.specs.List.{AllByRecursion, IsDistinct}
 use Rattle.std.specs.List.Sorted.{IsPermutation}
 use Rattle.std.specs.FinSet as set
 use Rattle.std.specs.Ordering.{is_eq}
-use Rattle.std.proofs.lemmas.List.Sorted.{IsPermutation-trans, IsPermutation-cons, IsPermutation-map, IsPermutation-sym}
+use Rattle.std.proofs.lemmas.List.Sorted.{IsPermutation-trans, IsPermutation-cons, IsPermutation-map, IsPermutation-sym, IsPermutation-middle}
+use Rattle.sqlite_trees.proofs.ListLemmas.{all-permutation}
+use Rattle.std.proofs.lemmas.Map.Keys.{IsDistinct-IsPermutation}
 use Rattle.std.proofs.lemmas.Bool.{and_parts, and_from, false_from_ne_true}
 use Rattle.std.proofs.lemmas.Slice.Eq.{bytes_eq-Decides}
 use Rattle.sqlite_value.specs.declared.value.Value.TheVariants.{Int}
 use Rattle.sqlite_value.specs.Order.{Row, value_cmp}
 use Rattle.sqlite_value.proofs.OrderLemmas.{value_cmp-Int}
-use Rattle.sqlite_rules.specs.Lists.{Has}
-use Rattle.sqlite_rules.proofs.ListLemmas.{all_has}
 use Rattle.sqlite.specs.declared.error.Error.{Error}
 use Rattle.sqlite.specs.State.{State}
-use Rattle.gtid.specs.Span.{is_in}
-use Rattle.gtid.specs.Identifier.{Ids}
+use Rattle.gtid.specs.Span.{IsLeast}
+use Rattle.gtid.specs.Beside.{one_or_none, joined, Joins}
+use Rattle.gtid.specs.Reading.{IsLawfulSpan}
+use Rattle.gtid.specs.Identifier.{Id, Ids}
+use Rattle.gtid.specs.declared.beside.Beside.{Beside}
 use Rattle.gtid.specs.declared.span.Span.{Span}
-use Rattle.store.specs.Rows.{span_rows, span, stored_span, shown_spans, begins_at, touches, AreLeast}
-use Rattle.store.specs.Inside.{Moves, Remains, EndsBefore, BeginsAfter, Records}
+use Rattle.store.specs.Rows.{span_rows, stored_span, shown_spans, begins_at, touches}
+use Rattle.store.specs.Inside.{Moves, Begins, Lists, Shows, Records}
 use Rattle.store.proofs.Effects.{own_bytes, own_id}
 use Rattle.store.proofs.Made.{goes_then}
 use Rattle.store.proofs.RowLemmas.{equal_is}
-use Rattle.store.proofs.SpanLists.{IsSome, IsClear, Split, removed, untouched, clear_before, clear_after, each_out, joined, nowhere}
+use Rattle.store.proofs.SpanRows.{flips}
+use Rattle.store.proofs.SortedSpans.{IsSome, IsClear, all_some, all_clear, all_distinct, without}
 
 pub all_bytes : (bytes : List ℕ) → ((i : ℕ) → get_or bytes i 0 < 256) → AllByRecursion (λ b. b < 256) bytes
 all_bytes [] h = tt
@@ -48,98 +51,57 @@ begins_apart source lo hi (t ∷ rest) long some clear = (
   begins_apart source lo hi rest long some.1 clear.1,
 )
 
--- One stored span, or none, is removed.
-pub record Step (source : List ℕ) (lo hi at : ℕ) (there : Bool) (spans : List Span) : Type 1 where
-  pub rest : List Span
-  pub leaves : (rows : List Row) → IsPermutation (map stored_span spans) rows → Remains source (pos at) there rows (map stored_span rest)
-  pub split : Split source lo hi spans rest
-
-one_out : (source : List ℕ) (lo hi : ℕ) (spans : List Span) → Has spans (span source lo hi) → AllByRecursion IsSome spans → IsDistinct touches spans → Step source lo hi lo true spans
-one_out source lo hi spans has some apart =
-    let out = removed spans (span source lo hi) has some apart in
-    let long : lo < hi = all_has IsSome spans (span source lo hi) some has in
+-- the rows without one of their spans
+pub one_out : (front : List Span) (x : Span) (rest : List Span) (rows : List Row) → Lists rows (front ++ x ∷ rest) → Begins x.source (pos x.lo) (shown_spans rows) (stored_span x) (map stored_span (front ++ rest))
+unfolding IsDistinct
+one_out front x rest rows h =
+    let first : IsPermutation (front ++ x ∷ rest) (x ∷ (front ++ rest)) = IsPermutation-middle front x rest in
+    let apart : IsDistinct touches (x ∷ (front ++ rest)) = IsDistinct-IsPermutation touches flips (front ++ x ∷ rest) (x ∷ (front ++ rest)) first (all_distinct (front ++ x ∷ rest) h.least) in
+    let some : AllByRecursion IsSome (x ∷ (front ++ rest)) = all-permutation IsSome (front ++ x ∷ rest) (x ∷ (front ++ rest)) first (all_some (front ++ x ∷ rest) h.least) in
     record {
-      rest = out.rest;
-      leaves = λ rows same. (
-        stored_span (span source lo hi),
-        record {
-          begins = and_from _ _ (own_bytes source) (own_id (pos lo));
-          apart = begins_apart source lo hi out.rest long out.split.some out.split.clear;
-          all = IsPermutation-trans (stored_span (span source lo hi) ∷ map stored_span out.rest) (map stored_span spans) rows
-              (IsPermutation-sym (map stored_span spans) (map stored_span (span source lo hi ∷ out.rest)) (IsPermutation-map stored_span spans (span source lo hi ∷ out.rest) out.same)) same;
-        },
-      );
-      split = out.split;
+      begins = and_from _ _ (own_bytes x.source) (own_id (pos x.lo));
+      apart = begins_apart x.source x.lo x.hi (front ++ rest) some.0 some.1 (all_clear x (front ++ rest) apart.0);
+      all = IsPermutation-trans (stored_span x ∷ map stored_span (front ++ rest)) (map stored_span (front ++ x ∷ rest)) (shown_spans rows)
+          (IsPermutation-sym (map stored_span (front ++ x ∷ rest)) (map stored_span (x ∷ (front ++ rest))) (IsPermutation-map stored_span (front ++ x ∷ rest) (x ∷ (front ++ rest)) first)) h.rows_are;
     }
 
--- where the span begins, and what is left without the one before the number
-pub record Before (source : List ℕ) (n : ℕ) (o : Option ℕ) (spans : List Span) : Type 1 where
-  pub low : unwrap_or o n ≤ n
-  pub step : Step source (unwrap_or o n) n (unwrap_or o n) (is_some o) spans
+-- ---- a number and its neighbours
 
-pub step_before : (source : List ℕ) (n : ℕ) (ids : Ids) (o : Option ℕ) (spans : List Span) → AreLeast spans ids → set.contains ids (source, n) ≡ false → EndsBefore source n spans o → Before source n o spans
-step_before source n ids None spans least out ends = record {
-  low = omega arith;
-  step = record {
-    rest = spans;
-    leaves = λ rows same. same;
-    split = untouched source n spans least.some least.apart (clear_before source n spans (nowhere (source, n) ids spans least.covers out) ends);
-  };
-}
-step_before source n ids (Some lo) spans least out has =
-    let long : lo < n = all_has IsSome spans (span source lo n) least.some has in
-    record { low = omega (arith, long); step = one_out source lo n spans has least.some least.apart }
+without_one : (front : List Span) (o : Option Span) (rest : List Span) → IsLeast (front ++ (one_or_none o ++ rest)) → IsLeast (front ++ rest)
+without_one front None rest h = h
+without_one front (Some x) rest h = without front x rest h
 
--- where the span ends, and what is left without the one after the number
-pub record After (source : List ℕ) (n : ℕ) (o : Option ℕ) (spans : List Span) : Type 1 where
-  pub high : n + 1 ≤ unwrap_or o (n + 1)
-  pub step : Step source (n + 1) (unwrap_or o (n + 1)) (n + 1) (is_some o) spans
+module _ (ids : Ids) (q : Id) (beside : Beside) (spans : List Span) (j : Joins ids q beside spans) (a : State) (shows : Shows (span_rows a.now) spans ids) where
+  pub both_there : Lists (span_rows a.now) (j.front ++ (one_or_none beside.below ++ (one_or_none beside.above ++ j.rest)))
+  both_there = subst (Lists (span_rows a.now)) j.spans_are (record { least = shows.least.least; rows_are = shows.rows_are })
 
-pub step_after : (source : List ℕ) (n lo : ℕ) (ids : Ids) (o : Option ℕ) (spans middle : List Span) → AreLeast spans ids → set.contains ids (source, n) ≡ false → BeginsAfter source n spans o
-    → Split source lo n spans middle → After source n o middle
-step_after source n lo ids None spans middle least out begins one = record {
-  high = omega arith;
-  step = record {
-    rest = middle;
-    leaves = λ rows same. same;
-    split = untouched source (n + 1) middle one.some one.apart
-        (clear_after source n middle (one.kept (λ t. is_in (source, n) t ≡ false) (each_out (source, n) spans (nowhere (source, n) ids spans least.covers out))) (one.kept (λ t. source ≡ t.source → t.lo ≢ n + 1) begins));
-  };
-}
-step_after source n lo ids (Some hi) spans middle least out begins one =
-    let long : n + 1 < hi = all_has IsSome spans (span source (n + 1) hi) least.some begins in
-    let has : Has middle (span source (n + 1) hi) = elim (one.still (span source (n + 1) hi) begins) [
-      | inl same ↦ absurd (omega (arith, same.1, long))
-      | inr there ↦ there
-    ] in
-    record { high = omega (arith, long); step = one_out source (n + 1) hi middle has one.some one.apart }
+  module _ (b : State) (first : Moves a b (map stored_span (j.front ++ (one_or_none beside.above ++ j.rest)))) where
+    pub one_there : Lists (span_rows b.now) (j.front ++ (one_or_none beside.above ++ j.rest))
+    one_there = record { least = without_one j.front beside.below (one_or_none beside.above ++ j.rest) both_there.least; rows_are = first.stored }
 
--- ---- the calls
+    pub recorded : (d e : State) (r : Result ℕ Error) → Moves b d (map stored_span (j.front ++ j.rest)) → OnOk r (Moves d e (stored_span (joined q beside.below beside.above) ∷ shown_spans (span_rows d.now))) → OnOk r (Records a e (set.insert ids q))
+    recorded d e (Ok n) second third =
+        let x = joined q beside.below beside.above in
+        record {
+          on = goes_then a b e first.on (goes_then b d e second.on third.on);
+          held = third.held ∙ second.held ∙ first.held;
+          spans = j.front ++ x ∷ j.rest;
+          shows = record {
+            least = j.joined_least;
+            rows_are = IsPermutation-trans (map stored_span (j.front ++ x ∷ j.rest)) (stored_span x ∷ map stored_span (j.front ++ j.rest)) (shown_spans (span_rows e.now))
+                (IsPermutation-map stored_span (j.front ++ x ∷ j.rest) (x ∷ (j.front ++ j.rest)) (IsPermutation-middle j.front x j.rest))
+                (IsPermutation-trans (stored_span x ∷ map stored_span (j.front ++ j.rest)) (stored_span x ∷ shown_spans (span_rows d.now)) (shown_spans (span_rows e.now))
+                (IsPermutation-cons (stored_span x) (map stored_span (j.front ++ j.rest)) (shown_spans (span_rows d.now)) second.stored) third.stored);
+          };
+        }
+    recorded d e (Err e2) second third = tt
 
-pub moves_put : (a b c d : State) (middle rest : List Row) (new : Row) (r : Result ℕ Error) → Moves a b middle → Moves b c rest → OnOk r (Moves c d (new ∷ shown_spans (span_rows c.now))) → OnOk r (Moves a d (new ∷ rest))
-moves_put a b c d middle rest new (Ok n) first second third = record {
-  on = goes_then a b d first.on (goes_then b c d second.on third.on);
-  held = third.held ∙ second.held ∙ first.held;
-  stored = IsPermutation-trans (new ∷ rest) (new ∷ shown_spans (span_rows c.now)) (shown_spans (span_rows d.now)) (IsPermutation-cons new rest (shown_spans (span_rows c.now)) second.stored) third.stored;
-}
-moves_put a b c d middle rest new (Err e) first second third = tt
+-- ---- the numbers of the one span
 
-module _ (source : List ℕ) (n : ℕ) (ids : Ids) (spans : List Span) (before after : Option ℕ) (least : AreLeast spans ids) (out : set.contains ids (source, n) ≡ false)
-    (ends : EndsBefore source n spans before) (begins : BeginsAfter source n spans after) where
-  pub one : Before source n before spans
-  one = step_before source n ids before spans least out ends
+pub low_joined : (q : Id) (below above : Option Span) → IfSome below IsLawfulSpan → q.1 ≤ 2 ^ 63 - 2 → (joined q below above).lo < 2 ^ 63
+low_joined q None above lawful n = omega (arith, n)
+low_joined q (Some s) above lawful n = omega (arith, lawful.1, lawful.2)
 
-  pub two : After source n after one.step.rest
-  two = step_after source n (unwrap_or before n) ids after spans one.step.rest least out begins one.step.split
-
-  pub recorded : (a d : State) (r : Result ℕ Error) → OnOk r (Moves a d (stored_span (span source (unwrap_or before n) (unwrap_or after (n + 1))) ∷ map stored_span two.step.rest)) → OnOk r (Records a d (set.insert ids (source, n)))
-  recorded a d (Ok k) moved = record {
-    on = moved.on;
-    held = moved.held;
-    spans = span source (unwrap_or before n) (unwrap_or after (n + 1)) ∷ two.step.rest;
-    shows = record {
-      least = joined source (unwrap_or before n) n (unwrap_or after (n + 1)) ids spans one.step.rest two.step.rest one.low two.high least.covers one.step.split two.step.split;
-      rows_are = moved.stored;
-    };
-  }
-  recorded a d (Err e) moved = tt
+pub high_joined : (q : Id) (below above : Option Span) → IfSome above IsLawfulSpan → q.1 ≤ 2 ^ 63 - 2 → (joined q below above).hi < 2 ^ 63
+high_joined q below None lawful n = omega (arith, n)
+high_joined q below (Some s) lawful n = lawful.2

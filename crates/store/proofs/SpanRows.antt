@@ -7,7 +7,7 @@ use Rattle.std.specs.Ordering.{eq_by_cmp}
 use Rattle.std.proofs.lemmas.Bool.{and_parts, cases_Bool, false_from_ne_true, leb-true}
 use Rattle.std.proofs.lemmas.Bool.Decides.{nat_tests}
 use Rattle.std.proofs.lemmas.Grind.{common_steps}
-use Rattle.std.proofs.lemmas.List.Sorted.{IsPermutation-refl, IsPermutation-sym, list_any-IsPermutation}
+use Rattle.std.proofs.lemmas.List.Sorted.{IsPermutation-map, IsPermutation-sym, list_any-IsPermutation}
 use Rattle.std.proofs.lemmas.Map.Keys.{IsDistinct-IsPermutation}
 use Rattle.std.proofs.lemmas.Slice.Eq.{bytes_eq-Decides}
 use Rattle.sqlite_value.specs.Order.{Row}
@@ -22,7 +22,7 @@ use Rattle.store.specs.declared.fault.StoreFault.TheVariants.{NoSuchRow, CountFu
 use Rattle.store.specs.Rows.{IsSpanRow, IsExecutedRow, HasRowids, AreSpans, touches, stored_span, shown_span, shown_spans, span_in, id_in}
 use Rattle.store.specs.Judge.{span_of_id, apart_from}
 use Rattle.store.specs.Load.{Judges}
-use Rattle.store.proofs.SortedSpans.{all_distinct}
+use Rattle.store.proofs.SortedSpans.{all_distinct, sorted_of}
 
 -- ---- Spans in order, of which no two consecutive ones touch.
 
@@ -148,12 +148,15 @@ are_gtids (row ∷ rows) all q h =
 
 -- rows that keep the rules are the least intervals of the set that they cover
 pub spans_are : (rows : List Row) (ids : Ids) → AllByRecursion IsSpanRow rows → IsDistinct touches (map span_in rows) → Covers (map span_in rows) ids → AreSpans rows ids
-spans_are rows ids all up c = record {
-  spans = map span_in rows;
-  least = record { some = some_spans _ (lawful_rows rows all); apart = up; covers = c };
-  lawful = λ q there. are_gtids rows all q (sym (c q) ∙ there);
-  rows_are = subst (λ l. IsPermutation l (shown_spans rows)) (sym (shown_rows rows all)) (IsPermutation-refl (shown_spans rows));
-}
+spans_are rows ids all up c =
+    let spans = map span_in rows in
+    let s = sorted_of spans (some_spans _ (lawful_rows rows all)) up in
+    record {
+      spans = s.sorted;
+      least = record { least = s.least; covers = λ q. c q ∙ list_any-IsPermutation (is_in q) spans s.sorted s.same };
+      lawful = λ q there. are_gtids rows all q (sym (c q) ∙ there);
+      rows_are = subst (IsPermutation (map stored_span s.sorted)) (shown_rows rows all) (IsPermutation-map stored_span s.sorted spans (IsPermutation-sym spans s.sorted s.same));
+    }
 
 pub spans_judged : (rows : List Row) (spans : List Span) (r : Result Ids StoreFault) → AllByRecursion IsSpanRow rows → HasRowids rows → spans ≡ map span_in rows → OnOk r (IsDistinct touches spans)
     → Judges r (Covers spans) (IsDistinct touches spans) → Judges r (λ ids. AreSpans rows ids × HasRowids rows) (AllByRecursion IsSpanRow rows × IsDistinct touches (map span_in rows))

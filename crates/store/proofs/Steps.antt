@@ -13,8 +13,8 @@ use Rattle.binlog.specs.Filter.{Names}
 use Rattle.store.specs.declared.fault.StoreFault.TheVariants.{NoSuchRow, CountFull, Database, Memory, Damaged, Layout, Broken, Follows}
 use Rattle.store.specs.State.{Content}
 use Rattle.store.specs.Layout.{IsLaidOut, first_layout}
-use Rattle.store.specs.Rows.{SaysLayout, meta_rows, held_rows, span_rows, follow_rows, first_meta_rows, executed_rows, first_held_rows, IsMetaRow, IsHeldRow, IsExecutedRow, HasRowids, AreNames, AreSpans, StandsFor, StandsForFirst, id_in, bag_of, count}
-use Rattle.store.specs.Load.{AsksAll, Rested, OnDamaged, IsLoaded, IsFirstLoaded}
+use Rattle.store.specs.Rows.{meta_rows, held_rows, span_rows, follow_rows, first_meta_rows, executed_rows, first_held_rows, IsHeldRow, IsExecutedRow, HasRowids, AreNames, AreSpans, StandsFor, StandsForFirst, id_in, bag_of, count}
+use Rattle.store.specs.Load.{StatesLayout, AsksAll, Rested, OnDamaged, IsLoaded, IsFirstLoaded}
 use Rattle.store.proofs.Keeps.{kept_unchanged, kept_then}
 
 pub rested_unchanged : (a b : State) → IsUnchanged a b → Rested a b
@@ -74,10 +74,10 @@ fault_by f back h = seen_by f (λ off o. off (back o)) h
 
 -- ---- What was loaded.
 
-pub first_loaded : (s t : State) (ids : Ids) → IsLive s → s.now.schema ≡ first_layout → s.now ≡ s.committed → SaysLayout (pos 1) (first_meta_rows s.now) → IsUnchanged s t
-    → AllByRecursion IsMetaRow (first_meta_rows s.now) × HasRowids (first_meta_rows s.now) → AllByRecursion IsExecutedRow (executed_rows s.now) × (ids ≡ set.from_list (map id_in (executed_rows s.now)))
+pub first_loaded : (s t : State) (ids : Ids) → IsLive s → s.now.schema ≡ first_layout → s.now ≡ s.committed → StatesLayout (pos 1) (first_meta_rows s.now) → IsUnchanged s t
+    → AllByRecursion IsExecutedRow (executed_rows s.now) × (ids ≡ set.from_list (map id_in (executed_rows s.now)))
     → AllByRecursion IsHeldRow (first_held_rows s.now) × HasRowids (first_held_rows s.now) → IsFirstLoaded t ids
-first_loaded s t ids live made settled says same meta executed held =
+first_loaded s t ids live made settled meta same executed held =
     let content : Content = record { executed = ids; rows = bag_of (count (first_held_rows s.now)) } in
     record {
       content = content;
@@ -85,12 +85,12 @@ first_loaded s t ids live made settled says same meta executed held =
       rest = record {
         is_open = same.0.is_open;
         settled = same.0.now_is ∙ settled ∙ sym same.0.committed_is;
-        meta_apart = subst (λ (db : Db). HasRowids (first_meta_rows db)) (sym same.0.now_is) meta.1;
+        meta_apart = subst (λ (db : Db). HasRowids (first_meta_rows db)) (sym same.0.now_is) meta.apart;
         held_apart = subst (λ (db : Db). HasRowids (first_held_rows db)) (sym same.0.now_is) held.1;
         stands = subst (λ (db : Db). StandsForFirst db content) (sym same.0.now_is) (record {
           laid_out = made;
-          says = says;
-          rules = record { meta = meta.0; executed = executed.0; held = held.0 };
+          says = meta.says;
+          rules = record { meta = meta.lawful; executed = executed.0; held = held.0 };
           executed = executed.1;
           rows = refl;
         });
@@ -98,10 +98,10 @@ first_loaded s t ids live made settled says same meta executed held =
       };
     }
 
-pub loaded : (s t : State) (ids : Ids) (names : Names) → IsLive s → IsLaidOut s.now.schema → s.now ≡ s.committed → SaysLayout (pos 2) (meta_rows s.now) → IsUnchanged s t
-    → AllByRecursion IsMetaRow (meta_rows s.now) × HasRowids (meta_rows s.now) → AreNames (follow_rows s.now) names → AreSpans (span_rows s.now) ids × HasRowids (span_rows s.now)
+pub loaded : (s t : State) (ids : Ids) (names : Names) → IsLive s → IsLaidOut s.now.schema → s.now ≡ s.committed → StatesLayout (pos 2) (meta_rows s.now) → IsUnchanged s t
+    → AreNames (follow_rows s.now) names → AreSpans (span_rows s.now) ids × HasRowids (span_rows s.now)
     → AllByRecursion IsHeldRow (held_rows s.now) × HasRowids (held_rows s.now) → IsLoaded t ids names
-loaded s t ids names live laid settled says same meta follow spans held =
+loaded s t ids names live laid settled meta same follow spans held =
     let content : Content = record { executed = ids; rows = bag_of (count (held_rows s.now)) } in
     record {
       content = content;
@@ -113,8 +113,8 @@ loaded s t ids names live laid settled says same meta follow spans held =
         spans_apart = subst (λ (db : Db). HasRowids (span_rows db)) (sym same.0.now_is) spans.1;
         stands = subst (λ (db : Db). StandsFor db names content) (sym same.0.now_is) (record {
           laid_out = laid;
-          says = says;
-          meta = meta.0;
+          says = meta.says;
+          meta = meta.lawful;
           follow = follow;
           held = held.0;
           executed = spans.0;

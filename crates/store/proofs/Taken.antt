@@ -10,8 +10,10 @@ use Rattle.sqlite_trees.specs.declared.store.Store.{Ghosts}
 use Rattle.sqlite.specs.Held.{Held, state}
 use Rattle.sqlite.specs.State.{State, IsNotRun, Survives}
 use Rattle.sqlite.proofs.StateLemmas.{survives_then}
-use Rattle.gtid.specs.Identifier.{Ids}
-use Rattle.gtid.specs.declared.identifier.Gtid.{Gtid}
+use Rattle.gtid.specs.Identifier.{Id, Ids}
+use Rattle.gtid.specs.Span.{IsLeastList}
+use Rattle.gtid.specs.Beside.{Joins}
+use Rattle.gtid.specs.declared.beside.Beside.{Beside}
 use Rattle.gtid.specs.declared.span.Span.{Span}
 use Rattle.binlog.specs.Filter.{Names}
 use Rattle.gather.specs.Transaction.{DeliveryValue}
@@ -21,14 +23,13 @@ use Rattle.store.specs.declared.fault.Applied.{Applied}
 use Rattle.store.specs.declared.fault.Applied.TheVariants.{Done, Repeat}
 use Rattle.store.specs.declared.fault.StoreFault.{StoreFault}
 use Rattle.store.specs.declared.fault.StoreFault.TheVariants.{NoSuchRow, CountFull, Database, Memory, Damaged, Layout, Broken, Follows}
-use Rattle.store.specs.declared.span_rows.Beside.{Beside}
 use Rattle.store.specs.declared.store.Store.{Store}
 use Rattle.store.specs.Inside.{WasOpen}
 use Rattle.store.specs.Store.{Holds, Applies, AppliesShut, AreOf, Leaves, breaks}
 use Rattle.store.specs.State.{Content}
 use Rattle.store.specs.Take.{HasOutcome, is_executed, refused}
-use Rattle.store.specs.Rows.{StandsFor, HasRowids, held_rows, span_rows, AreLeast}
-use Rattle.store.specs.Apply.{LiesBeside, IsAtRest, Rests, HasApplied, HasMoved, Comes, MayMove, IsReported, FailsShut}
+use Rattle.store.specs.Rows.{StandsFor, HasRowids, held_rows, span_rows}
+use Rattle.store.specs.Apply.{IsAtRest, Rests, HasApplied, HasMoved, Comes, MayMove, IsReported, FailsShut}
 
 -- ---- the connection as it was
 pub rest_same : (a b : State) (names : Names) (content : Content) → IsTrue b.is_open → b.now ≡ a.now → b.committed ≡ a.committed → IsAtRest a names content → IsAtRest b names content
@@ -64,9 +65,9 @@ refused_shut at reason old mid new was now Broken opened shut reported same = ab
 refused_shut at reason old mid new was now Follows opened shut reported same = absurd reported
 
 -- ---- the spans next to the number
-pub beside_known : (spans : List Span) (executed ids : Ids) (gtid : Gtid) (beside : Beside) → executed ≡ ids → AreLeast spans ids
-    → (AreLeast spans executed → LiesBeside spans gtid beside) → LiesBeside spans gtid beside
-beside_known spans executed ids gtid beside same least lies = lies (subst (AreLeast spans) (sym same) least)
+pub beside_known : (spans : List Span) (executed ids : Ids) (q : Id) (beside : Beside) → executed ≡ ids → IsLeastList spans ids
+    → ((sorted : List Span) → IsLeastList sorted executed → Joins executed q beside sorted) → Joins ids q beside spans
+beside_known spans executed ids q beside same least joins = subst (λ s. Joins s q beside spans) same (joins spans (subst (IsLeastList spans) (sym same) least))
 
 -- ---- what it comes to
 module _ (names : Names) (content : Content) (d : DeliveryValue) where

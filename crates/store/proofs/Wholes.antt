@@ -170,9 +170,6 @@ module _ (schema : Schema) (l : IsLaidOut schema) where
   pub follow_asks : AsksAll schema all_follow_text (tree_at schema 3)
   follow_asks = subst (λ s. AsksAll s all_follow_text (tree_at s 3)) (sym l.is) (follow_laid l.origin l.others l.indexes l.views)
 
-  pub laid_meta_asks : AsksAll schema all_meta_text (tree_at schema 0)
-  laid_meta_asks = subst (AsksAll schema all_meta_text) (sym meta_place) (meta_first_asks schema (laid_meta_first schema l))
-
 pub first_executed : (schema : Schema) → schema ≡ first_layout → AsksAll schema all_executed_text 2
 first_executed schema is = subst (λ s. AsksAll s all_executed_text 2) (sym is) executed_asks
 

@@ -1,12 +1,10 @@
 -- A transaction of the source as one transaction of the database.
-use Rattle.std.specs.Prelude.{false, ◌≡◌, ℕ, IsTrue, List, Option, Some, None, Result, Ok, Err}
+use Rattle.std.specs.Prelude.{false, ◌≡◌, ℕ, IsTrue, Option, Some, None, Result, Ok, Err}
 use Rattle.sqlite_schema.specs.declared.schema.Schema.{Schema}
 use Rattle.sqlite_trees.specs.Tree.{Trees}
 use Rattle.sqlite_catalog.specs.Listing.{IsSound}
 use Rattle.sqlite.specs.Effect.{IsDatabase}
 use Rattle.sqlite.specs.State.{State, IsUnchanged}
-use Rattle.gtid.specs.declared.identifier.Gtid.{Gtid}
-use Rattle.gtid.specs.declared.span.Span.{Span}
 use Rattle.gtid.specs.Identifier.{Ids}
 use Rattle.binlog.specs.Filter.{Names}
 use Rattle.gather.specs.Transaction.{DeliveryValue}
@@ -16,16 +14,10 @@ use Rattle.store.specs.declared.fault.Applied.{Applied}
 use Rattle.store.specs.declared.fault.Applied.TheVariants.{Done, Repeat}
 use Rattle.store.specs.declared.fault.StoreFault.{StoreFault}
 use Rattle.store.specs.declared.fault.StoreFault.TheVariants.{NoSuchRow, CountFull, Database, Memory}
-use Rattle.store.specs.declared.span_rows.Beside.{Beside}
 use Rattle.store.specs.State.{Content}
 use Rattle.store.specs.Take.{HasOutcome, done, refused}
 use Rattle.store.specs.Rows.{StandsFor, HasRowids, held_rows, span_rows}
-use Rattle.store.specs.Inside.{GoesOn, EndsBefore, BeginsAfter}
-
--- These are the ends of the spans next to the transaction's number.
-pub record LiesBeside (spans : List Span) (gtid : Gtid) (beside : Beside) : Type 0 where
-  pub before : EndsBefore gtid.source gtid.number spans beside.before
-  pub after : BeginsAfter gtid.source gtid.number spans beside.after
+use Rattle.store.specs.Inside.{GoesOn}
 
 -- The trees list this schema and obey it, and under it they stand for the content.
 pub record AreOf (schema : Schema) (names : Names) (content : Content) (trees : Trees) : Type 0 where

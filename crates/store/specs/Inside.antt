@@ -1,9 +1,9 @@
 -- The effect of a call inside a transaction of the database.
-use Rattle.std.specs.Prelude.{◌≡◌, nat_lt, ℕ, true, false, IsTrue, if◌then◌else◌, List, ◌∷◌, Option, Some, None, Result, Ok, Err, IsPermutation, ◌≢◌, ◌+◌, ℤ, Bool, map}
+use Rattle.std.specs.Prelude.{◌≡◌, nat_lt, ℕ, true, false, IsTrue, if◌then◌else◌, List, ◌∷◌, Option, Some, None, Result, Ok, Err, IsPermutation, ℤ, map}
 use Rattle.std.specs.List.{AllByRecursion}
 use Rattle.sqlite_value.specs.Order.{Row}
-use Rattle.sqlite_rules.specs.Lists.{Has}
 use Rattle.gtid.specs.Identifier.{Ids}
+use Rattle.gtid.specs.Span.{IsLeast, IsLeastList}
 use Rattle.gtid.specs.declared.span.Span.{Span}
 use Rattle.sqlite.specs.Effect.{IsDatabase}
 use Rattle.sqlite.specs.State.{State}
@@ -13,7 +13,7 @@ use Rattle.store.specs.declared.row_change.Refusal.{Refusal}
 use Rattle.store.specs.declared.row_change.Refusal.TheVariants.{NoSuchRow, CountFull}
 use Rattle.store.specs.Layout.{IsLaidOut}
 use Rattle.store.specs.Take.{most, IsMade, IsRefused, IsDone, AreDone, is_followed, IsRefusedAt}
-use Rattle.store.specs.Rows.{meta_rows, held_rows, span_rows, follow_rows, HasRowids, IsHeldRow, Key, Counts, count, with_one, without_one, bag_of, shown_spans, begins_at, span, stored_span, AreLeast}
+use Rattle.store.specs.Rows.{meta_rows, held_rows, span_rows, follow_rows, HasRowids, IsHeldRow, Key, Counts, count, with_one, without_one, bag_of, shown_spans, begins_at, stored_span}
 
 -- The connection is in a transaction on a database of the layout.
 pub record IsWorking (s : State) : Type 0 where
@@ -55,26 +55,16 @@ pub record Begins (source : List ℕ) (lo : ℤ) (rows : List Row) (span : Row) 
   pub apart : AllByRecursion (λ r. begins_at source lo r ≡ false) others
   pub all : IsPermutation (span ∷ others) rows
 
--- As Begins, if there is such a span; otherwise all spans are left.
-abbrev pub Remains : List ℕ → ℤ → Bool → List Row → List Row → Type 0
-Remains source lo true rows rest = (span : Row) × Begins source lo rows span rest
-Remains source lo false rows rest = IsPermutation rest rows
+-- The rows are these spans, in any order: none is empty, and no two overlap or touch.
+pub record Lists (rows : List Row) (spans : List Span) : Type 0 where
+  pub least : IsLeast spans
+  pub rows_are : IsPermutation (map stored_span spans) (shown_spans rows)
 
 -- ---- Recording a transaction.
 
--- Where the span begins that ends just before the number, if there is one.
-abbrev pub EndsBefore : List ℕ → ℕ → List Span → Option ℕ → Type 0
-EndsBefore source n spans None = AllByRecursion (λ t. source ≡ t.source → t.hi ≢ n) spans
-EndsBefore source n spans (Some lo) = Has spans (span source lo n)
-
--- Where the span ends that begins just after the number, if there is one.
-abbrev pub BeginsAfter : List ℕ → ℕ → List Span → Option ℕ → Type 0
-BeginsAfter source n spans None = AllByRecursion (λ t. source ≡ t.source → t.lo ≢ n + 1) spans
-BeginsAfter source n spans (Some hi) = Has spans (span source (n + 1) hi)
-
 -- The rows of spans are these, the least intervals of the set.
 pub record Shows (rows : List Row) (spans : List Span) (ids : Ids) : Type 0 where
-  pub least : AreLeast spans ids
+  pub least : IsLeastList spans ids
   pub rows_are : IsPermutation (map stored_span spans) (shown_spans rows)
 
 -- Only the spans have changed, and they are the least intervals of this set.

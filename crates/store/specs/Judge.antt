@@ -1,5 +1,6 @@
 -- Private: facts about rows that are read one after the other.
-use Rattle.std.specs.Prelude.{◌≡◌, ◌+◌, ◌<ℤ◌, Bool, true, false, not, ◌&&◌, ℤ, List, [], ◌∷◌, map, filter, codes, Option, None, Some}
+use Rattle.std.specs.Prelude.{◌≡◌, ◌+◌, ◌<ℤ◌, Bool, true, false, not, ◌&&◌, ℤ, List, [], ◌∷◌, map, filter, codes, Option, None, Some, MatchBool}
+use Rattle.std.specs.List.{AllByRecursion}
 use Rattle.sqlite_value.specs.declared.value.Value.{Value}
 use Rattle.sqlite_value.specs.declared.value.Value.TheVariants.{Int}
 use Rattle.sqlite_value.specs.Order.{Row, column}
@@ -8,7 +9,8 @@ use Rattle.gtid.specs.Identifier.{Id}
 use Rattle.gtid.specs.declared.span.Span.{Span}
 use Rattle.store.specs.declared.fault.StoreFault.{StoreFault}
 use Rattle.store.specs.declared.fault.StoreFault.TheVariants.{Database, Memory}
-use Rattle.store.specs.Rows.{span, is_text, touches}
+use Rattle.store.specs.declared.tables.Meta.{Meta}
+use Rattle.store.specs.Rows.{span, is_text, touches, IsMetaRow, HasRowids}
 
 -- the span of one GTID
 abbrev pub span_of_id : Id → Span
@@ -38,6 +40,12 @@ layouts rows = map (λ row. column row 2) (filter (λ row. is_text (codes "layou
 abbrev pub IsOnly : List Value → Option ℤ → Type 0
 IsOnly values None = (n : ℤ) → ¬ (values ≡ Int n ∷ [])
 IsOnly values (Some n) = values ≡ Int n ∷ []
+
+-- What the rows of meta say: the only number with the key `layout`, and whether they are lawful. Their rowids are apart.
+pub record IsMeta (rows : List Row) (meta : Meta) : Type 0 where
+  pub layout : IsOnly (layouts rows) meta.layout
+  pub lawful : MatchBool meta.lawful (AllByRecursion IsMetaRow rows) (¬ AllByRecursion IsMetaRow rows)
+  pub apart : HasRowids rows
 
 -- what has been found so far
 abbrev pub found_values : Option ℤ → List Value

@@ -1,5 +1,5 @@
 -- Reading whole tables when a database is opened, and what the rows stand for.
-use Rattle.std.specs.Prelude.{◌≡◌, ℕ, suc, zero, pos, negsuc, true, false, List, [], ◌∷◌, codes, length, None, Result, Ok, Err}
+use Rattle.std.specs.Prelude.{◌≡◌, ℕ, ℤ, suc, zero, pos, negsuc, true, false, List, [], ◌∷◌, codes, length, None, Result, Ok, Err}
 use Rattle.sqlite_value.specs.declared.value.Value.TheVariants.{Int}
 use Rattle.sqlite_value.specs.declared.keys.Key.{Key}
 use Rattle.sqlite_sql.specs.Term.{Term, lit, col}
@@ -23,6 +23,8 @@ use Rattle.binlog.specs.Filter.{Names}
 use Rattle.store.specs.declared.fault.StoreFault.{StoreFault}
 use Rattle.store.specs.declared.fault.StoreFault.TheVariants.{Database, Memory, Damaged}
 use Rattle.store.specs.State.{Content}
+use Rattle.store.specs.Rows.{SaysLayout, IsMetaRow, HasRowids}
+use Rattle.std.specs.List.{AllByRecursion}
 use Rattle.store.specs.Layout.{meta_at, made}
 use Rattle.store.specs.Apply.{IsAtRest, Rests}
 use Rattle.store.specs.Open.{IsFirstAtRest}
@@ -101,6 +103,12 @@ pub record IsMetaFirst (schema : Schema) : Type 0 where
   pub indexes : List Index
   pub views : List View
   pub is : schema ≡ record { tables = meta_at made ∷ others; indexes = indexes; views = views }
+
+-- The rows are lawful rows of meta, and state this layout.
+pub record StatesLayout (n : ℤ) (rows : List Row) : Type 0 where
+  pub says : SaysLayout n rows
+  pub lawful : AllByRecursion IsMetaRow rows
+  pub apart : HasRowids rows
 
 -- ---- A call that reads.
 

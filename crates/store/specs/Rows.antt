@@ -10,7 +10,7 @@ use Rattle.sqlite_trees.specs.Tree.{rowid}
 use Rattle.sqlite_trees.specs.View.{is_int}
 use Rattle.sqlite.specs.Effect.{Database}
 use Rattle.gtid.specs.Identifier.{Id, Ids, IsSource, IsGtid, AreGtids}
-use Rattle.gtid.specs.Span.{Covers}
+use Rattle.gtid.specs.Span.{IsLeastList}
 use Rattle.gtid.specs.declared.span.Span.{Span}
 use Rattle.binlog.specs.Cell.{CellValue}
 use Rattle.binlog.specs.Filter.{Name, Names}
@@ -158,16 +158,10 @@ span source lo hi = record { source = source; lo = lo; hi = hi }
 abbrev pub touches : Span → Span → Bool
 touches a b = bytes_eq a.source b.source && (nat_le a.lo b.hi && nat_le b.lo a.hi)
 
--- These are the least intervals of the set, in any order: none is empty, no two overlap or touch, and they cover the set.
-pub record AreLeast (spans : List Span) (ids : Ids) : Type 0 where
-  pub some : AllByRecursion (λ s. s.lo < s.hi) spans
-  pub apart : IsDistinct touches spans
-  pub covers : Covers spans ids
-
--- The rows are the least intervals of the set, whose members are GTIDs of transactions.
+-- The rows are the least intervals of the set, whose members are GTIDs of transactions. The rows may be in any order.
 pub record AreSpans (rows : List Row) (ids : Ids) : Type 0 where
   pub spans : List Span
-  pub least : AreLeast spans ids
+  pub least : IsLeastList spans ids
   pub lawful : AreGtids ids
   pub rows_are : IsPermutation (map stored_span spans) (shown_spans rows)
 

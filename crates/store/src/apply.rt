@@ -15,7 +15,6 @@ ghost use Rattle.store.specs.declared.fault.StoreFault.TheVariants.{Broken, Memo
 
 use crate::changes::run;
 use crate::fault::{Applied, StoreFault};
-use crate::neighbours::around;
 use crate::row_change::Refusal;
 use crate::store::Store;
 use binlog::Follow;
@@ -59,7 +58,7 @@ fn take<S: Alter>(
     ensures memory { result.1 ≡ Err Memory → conn.new ≡ conn.old }
     ensures fault { IfErr result.1 IsApplyFault }
 {
-    let beside = around(&executed, delivery.gtid);
+    let beside = executed.beside(delivery.gtid);
     let reserved = match executed.reserve(delivery.gtid) {
         Ok(reserved) => reserved,
         Err(executed) => return (executed, Err(StoreFault::Memory)),

@@ -1,19 +1,23 @@
 //! The changes of a transaction of the source, as one transaction of the database.
 
-ghost use Rattle.std.specs.Prelude.{◌≡◌, false, IfOk, IsTrue, Ok, None};
+ghost use Rattle.std.specs.Prelude.{◌≡◌, false, IfOk, IfSome, IsTrue, Ok, None};
 ghost use Rattle.sqlite.specs.State.{HasCleanDisk, Survives, KeepsCommit};
 ghost use Rattle.sqlite.specs.Held.{state};
 ghost use Rattle.gather.specs.View.{delivery_value};
+ghost use Rattle.gtid.specs.Identifier.{id};
+ghost use Rattle.gtid.specs.Reading.{IsLawfulSpan};
+ghost use Rattle.gtid.specs.Beside.{Joins};
 ghost use Rattle.store.specs.State.{Content};
 ghost use Rattle.store.specs.Take.{is_executed};
 ghost use Rattle.store.specs.Rows.{StandsFor};
 ghost use Rattle.store.specs.Inside.{IsWorking, WasOpen};
-ghost use Rattle.store.specs.Apply.{LiesBeside, Fills, IsAtRest, Runs, MayCommit};
+ghost use Rattle.store.specs.Apply.{Fills, IsAtRest, Runs, MayCommit};
 
 use crate::row_change::{Refusal, make_all};
-use crate::span_rows::{Beside, record};
+use crate::span_rows::record;
 use binlog::Follow;
 use gather::Delivery;
+use gtid::Beside;
 use sqlite::{Alter, Connection, Error, Transaction};
 
 /// Makes the changes and records the GTID, or returns which change is refused and why.
@@ -23,9 +27,11 @@ fn fill<S: Alter>(
     delivery: &Delivery,
     beside: &Beside,
 ) -> Result<Option<(usize, Refusal)>, Error>
+    requires below { IfSome beside.now.below IsLawfulSpan }
+    requires above { IfSome beside.now.above IsLawfulSpan }
     ensures same_reference { tx.new.conn.ghost_name ≡ tx.old.conn.ghost_name }
     ensures fills { HasCleanDisk (state S.Store tx.new.conn.now) → IsWorking (state S.Store tx.old.conn.now) → (content : Content) → (stands : StandsFor (state S.Store tx.old.conn.now).now follow.now content) → is_executed content (delivery_value delivery.now) ≡ false
-        → LiesBeside stands.executed.spans delivery.now.gtid beside.now → IfOk result (Fills follow.now content (delivery_value delivery.now) (state S.Store tx.old.conn.now) (state S.Store tx.new.conn.now)) }
+        → Joins content.executed (id delivery.now.gtid) beside.now stands.executed.spans → IfOk result (Fills follow.now content (delivery_value delivery.now) (state S.Store tx.old.conn.now) (state S.Store tx.new.conn.now)) }
     ensures kept { HasCleanDisk (state S.Store tx.new.conn.now) → IsWorking (state S.Store tx.old.conn.now) → KeepsCommit (state S.Store tx.old.conn.now) (state S.Store tx.new.conn.now) }
     ensures survives { Survives (state S.Store tx.old.conn.now) (state S.Store tx.new.conn.now) (λ _. ⊥) }
     ensures opened { HasCleanDisk (state S.Store tx.new.conn.now) → WasOpen (state S.Store tx.old.conn.now) (state S.Store tx.new.conn.now) }
@@ -44,15 +50,17 @@ pub(crate) fn run<S: Alter>(
     delivery: &Delivery,
     beside: &Beside,
 ) -> Result<Option<(usize, Refusal)>, Error>
-    requires { conn.old.in_transaction ≡ false }
+    requires autocommit { conn.old.in_transaction ≡ false }
+    requires below { IfSome beside.now.below IsLawfulSpan }
+    requires above { IfSome beside.now.above IsLawfulSpan }
     ensures autocommit { conn.new.in_transaction ≡ false }
     ensures runs { HasCleanDisk (state S.Store conn.new) → (content : Content) → (rest : IsAtRest (state S.Store conn.old) follow.now content) → is_executed content (delivery_value delivery.now) ≡ false
-        → LiesBeside rest.stands.executed.spans delivery.now.gtid beside.now → Runs follow.now content (delivery_value delivery.now) (state S.Store conn.old) (state S.Store conn.new) result }
+        → Joins content.executed (id delivery.now.gtid) beside.now rest.stands.executed.spans → Runs follow.now content (delivery_value delivery.now) (state S.Store conn.old) (state S.Store conn.new) result }
     ensures opened { HasCleanDisk (state S.Store conn.new) → WasOpen (state S.Store conn.old) (state S.Store conn.new) }
     ensures done { HasCleanDisk (state S.Store conn.new) → result ≡ Ok None → IsTrue (state S.Store conn.new).is_open }
     ensures lives { Survives (state S.Store conn.old) (state S.Store conn.new) (λ _. Unit {0}) }
     ensures crash { (content : Content) → (rest : IsAtRest (state S.Store conn.old) follow.now content) → is_executed content (delivery_value delivery.now) ≡ false
-        → LiesBeside rest.stands.executed.spans delivery.now.gtid beside.now → Survives (state S.Store conn.old) (state S.Store conn.new) (MayCommit follow.now content (delivery_value delivery.now) (state S.Store conn.old) result) }
+        → Joins content.executed (id delivery.now.gtid) beside.now rest.stands.executed.spans → Survives (state S.Store conn.old) (state S.Store conn.new) (MayCommit follow.now content (delivery_value delivery.now) (state S.Store conn.old) result) }
 {
     let mut tx = conn.transaction();
     if let Some(refused) = fill(&mut tx, follow, delivery, beside)? {

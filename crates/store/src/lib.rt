@@ -30,7 +30,6 @@ mod listing;
 mod load;
 mod make;
 mod migrate;
-mod neighbours;
 mod opening;
 mod row_change;
 mod rules;

@@ -7,12 +7,13 @@ ghost use Rattle.sqlite.specs.State.{HasCleanDisk, IsUnchanged, Survives};
 ghost use Rattle.sqlite.specs.Held.{state};
 ghost use Rattle.store.specs.Inside.{WasOpen};
 ghost use Rattle.store.specs.Layout.{IsLaidOut, first_layout};
-ghost use Rattle.store.specs.Rows.{SaysLayout, meta_rows, first_meta_rows, HasRowids, IsMetaRow, IsHeldRow, IsFollowRow, IsSpanRow, IsExecutedRow, AreNames, AreSpans, KeepsRules, KeepsFirstRules, touches, span_in, id_in};
-ghost use Rattle.store.specs.Load.{AsksAll, Ascends, by_order, IsMetaFirst, Rested, OnSeen, Judges, IsLoadFault, all_meta_text, all_held_text, all_spans_text, all_follow_text, all_executed_text, IsLoaded, IsFirstLoaded};
+ghost use Rattle.store.specs.Rows.{meta_rows, first_meta_rows, HasRowids, IsHeldRow, IsFollowRow, IsSpanRow, IsExecutedRow, AreNames, AreSpans, KeepsRules, KeepsFirstRules, touches, span_in, id_in};
+ghost use Rattle.store.specs.Judge.{IsMeta};
+ghost use Rattle.store.specs.Load.{StatesLayout, AsksAll, Ascends, by_order, IsMetaFirst, Rested, OnSeen, Judges, IsLoadFault, all_held_text, all_spans_text, all_follow_text, all_executed_text, IsLoaded, IsFirstLoaded};
 
 use crate::fault::StoreFault;
-use crate::rules::layout_in;
-use crate::table_rows::{executed_from, follow_from, judge_held, judge_meta, spans_from};
+use crate::table_rows::{executed_from, follow_from, judge_held, meta_in, spans_from};
+use crate::tables::Meta;
 use binlog::Follow;
 use gtid::GtidSet;
 use sqlite::{Alter, Connection, Error, Row};
@@ -42,31 +43,17 @@ pub(crate) fn read_all<S: Alter>(conn: &mut Connection<S>, sql: &str) -> Result<
     conn.query_all(sql, &[])
 }
 
-/// The layout number in `meta`. `None` unless exactly one row has the key `layout`, with a whole number.
-pub(crate) fn layout_of<S: Alter>(conn: &mut Connection<S>) -> Result<Option<i64>, Error>
+/// What the rows of `meta` say.
+pub(crate) fn read_meta<S: Alter>(conn: &mut Connection<S>) -> Result<Meta, Error>
     requires { conn.old.in_transaction ≡ false }
     ensures autocommit { conn.new.in_transaction ≡ false }
-    ensures says { HasCleanDisk (state S.Store conn.new) → IsMetaFirst (state S.Store conn.old).now.schema → IfOk result (λ said. MatchOption said ((n : ℤ) → ¬ SaysLayout n (first_meta_rows (state S.Store conn.old).now)) (λ n. SaysLayout n (first_meta_rows (state S.Store conn.old).now))) }
+    ensures says { HasCleanDisk (state S.Store conn.new) → IsMetaFirst (state S.Store conn.old).now.schema → IfOk result (IsMeta (first_meta_rows (state S.Store conn.old).now)) }
     ensures same { HasCleanDisk (state S.Store conn.new) → IsMetaFirst (state S.Store conn.old).now.schema → OnOk result (IsUnchanged (state S.Store conn.old) (state S.Store conn.new)) }
     ensures rested { HasCleanDisk (state S.Store conn.new) → IsMetaFirst (state S.Store conn.old).now.schema → Rested (state S.Store conn.old) (state S.Store conn.new) }
     ensures crash { IsMetaFirst (state S.Store conn.old).now.schema → Survives (state S.Store conn.old) (state S.Store conn.new) (λ _. ⊥) }
 {
     let rows = read_all(conn, "SELECT rowid, k, v FROM meta ORDER BY rowid")?;
-    layout_in(&rows)
-}
-
-/// Checks the rows of `meta`.
-fn load_meta<S: Alter>(conn: &mut Connection<S>) -> Result<(), StoreFault>
-    requires { conn.old.in_transaction ≡ false }
-    ensures autocommit { conn.new.in_transaction ≡ false }
-    ensures judged { HasCleanDisk (state S.Store conn.new) → (tree : ℕ) → AsksAll (state S.Store conn.old).now.schema all_meta_text tree → Judges result (λ _. AllByRecursion IsMetaRow ((state S.Store conn.old).now.trees tree) × HasRowids ((state S.Store conn.old).now.trees tree)) (AllByRecursion IsMetaRow ((state S.Store conn.old).now.trees tree)) }
-    ensures same { HasCleanDisk (state S.Store conn.new) → (tree : ℕ) → AsksAll (state S.Store conn.old).now.schema all_meta_text tree → OnSeen result (IsUnchanged (state S.Store conn.old) (state S.Store conn.new)) }
-    ensures rested { HasCleanDisk (state S.Store conn.new) → (tree : ℕ) → AsksAll (state S.Store conn.old).now.schema all_meta_text tree → Rested (state S.Store conn.old) (state S.Store conn.new) }
-    ensures crash { Survives (state S.Store conn.old) (state S.Store conn.new) (λ _. (tree : ℕ) → ¬ AsksAll (state S.Store conn.old).now.schema all_meta_text tree) }
-    ensures fault { IfErr result IsLoadFault }
-{
-    let rows = read_all(conn, "SELECT rowid, k, v FROM meta ORDER BY rowid")?;
-    judge_meta(&rows)
+    meta_in(&rows)
 }
 
 /// Checks the rows of `held`.
@@ -137,12 +124,12 @@ fn load_executed<S: Alter>(alloc: Global, conn: &mut Connection<S>) -> Result<Gt
     executed_from(alloc, &rows)
 }
 
-/// What the rows of a database of layout 2 stand for. `Damaged` if they break its rules; the other errors are
-/// `Database` and `Memory`.
+/// What the rows of a database of layout 2 stand for, whose `meta` was read before. `Damaged` if they break its rules;
+/// the other errors are `Database` and `Memory`.
 pub(crate) fn load<S: Alter>(alloc: Global, conn: &mut Connection<S>) -> Result<Loaded, StoreFault>
     requires { conn.old.in_transaction ≡ false }
     ensures autocommit { conn.new.in_transaction ≡ false }
-    ensures loads { HasCleanDisk (state S.Store conn.new) → IsLaidOut (state S.Store conn.old).now.schema → (state S.Store conn.old).now ≡ (state S.Store conn.old).committed → SaysLayout (pos 2) (meta_rows (state S.Store conn.old).now) → Judges result (λ l. IsLoaded (state S.Store conn.new) l.executed l.following) (KeepsRules (state S.Store conn.old).now) }
+    ensures loads { HasCleanDisk (state S.Store conn.new) → IsLaidOut (state S.Store conn.old).now.schema → (state S.Store conn.old).now ≡ (state S.Store conn.old).committed → StatesLayout (pos 2) (meta_rows (state S.Store conn.old).now) → Judges result (λ l. IsLoaded (state S.Store conn.new) l.executed l.following) (KeepsRules (state S.Store conn.old).now) }
     ensures same { HasCleanDisk (state S.Store conn.new) → IsLaidOut (state S.Store conn.old).now.schema → OnSeen result (IsUnchanged (state S.Store conn.old) (state S.Store conn.new)) }
     ensures rested { HasCleanDisk (state S.Store conn.new) → IsLaidOut (state S.Store conn.old).now.schema → Rested (state S.Store conn.old) (state S.Store conn.new) }
     ensures lives { Survives (state S.Store conn.old) (state S.Store conn.new) (λ _. Unit {0}) }
@@ -151,7 +138,6 @@ pub(crate) fn load<S: Alter>(alloc: Global, conn: &mut Connection<S>) -> Result<
 {
     // For the prover: what the connection shows is a database. The call does nothing at run time.
     conn.schema();
-    load_meta(conn)?;
     let following = load_follow(alloc, conn)?;
     let executed = load_spans(alloc, conn)?;
     load_held(alloc, conn)?;
@@ -168,7 +154,7 @@ pub(crate) fn load_first<S: Alter>(
 ) -> Result<GtidSet, StoreFault>
     requires { conn.old.in_transaction ≡ false }
     ensures autocommit { conn.new.in_transaction ≡ false }
-    ensures loads { HasCleanDisk (state S.Store conn.new) → (state S.Store conn.old).now.schema ≡ first_layout → (state S.Store conn.old).now ≡ (state S.Store conn.old).committed → SaysLayout (pos 1) (first_meta_rows (state S.Store conn.old).now) → Judges result (IsFirstLoaded (state S.Store conn.new)) (KeepsFirstRules (state S.Store conn.old).now) }
+    ensures loads { HasCleanDisk (state S.Store conn.new) → (state S.Store conn.old).now.schema ≡ first_layout → (state S.Store conn.old).now ≡ (state S.Store conn.old).committed → StatesLayout (pos 1) (first_meta_rows (state S.Store conn.old).now) → Judges result (IsFirstLoaded (state S.Store conn.new)) (KeepsFirstRules (state S.Store conn.old).now) }
     ensures same { HasCleanDisk (state S.Store conn.new) → (state S.Store conn.old).now.schema ≡ first_layout → OnSeen result (IsUnchanged (state S.Store conn.old) (state S.Store conn.new)) }
     ensures rested { HasCleanDisk (state S.Store conn.new) → (state S.Store conn.old).now.schema ≡ first_layout → Rested (state S.Store conn.old) (state S.Store conn.new) }
     ensures lives { Survives (state S.Store conn.old) (state S.Store conn.new) (λ _. Unit {0}) }
@@ -177,7 +163,6 @@ pub(crate) fn load_first<S: Alter>(
 {
     // For the prover: what the connection shows is a database. The call does nothing at run time.
     conn.schema();
-    load_meta(conn)?;
     let executed = load_executed(alloc, conn)?;
     load_held(alloc, conn)?;
     Ok(executed)

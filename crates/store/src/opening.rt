@@ -5,7 +5,8 @@ ghost use Rattle.sqlite.specs.State.{HasCleanDisk, IsLive, Survives};
 ghost use Rattle.sqlite.specs.Held.{state};
 ghost use Rattle.store.specs.declared.fault.StoreFault.TheVariants.{Memory, Damaged};
 ghost use Rattle.store.specs.Layout.{no_schema, first_layout, IsLaidOut};
-ghost use Rattle.store.specs.Rows.{SaysLayout, first_meta_rows};
+ghost use Rattle.store.specs.Rows.{first_meta_rows};
+ghost use Rattle.store.specs.Load.{StatesLayout};
 ghost use Rattle.store.specs.Open.{all};
 ghost use Rattle.store.specs.Store.{Holds, Opens, database, names_of};
 ghost use Rattle.binlog.specs.Filter.{Names};
@@ -14,7 +15,7 @@ ghost use Rattle.store.specs.Faults.{IsOpenFault, IsFailure};
 ghost use Rattle.store.specs.Entering.{IsReady, IsLeft, ReadsLeft, IsEntered, IsTurned, IsWanted, MayEnter, tables_of, has_any, has_first, has_second};
 
 use crate::fault::StoreFault;
-use crate::load::{Loaded, layout_of, load, load_first};
+use crate::load::{Loaded, load, load_first, read_meta};
 use crate::make::make;
 use crate::migrate::migrate;
 use crate::store::Store;
@@ -82,7 +83,7 @@ fn enter_new<S: Alter>(
     })
 }
 
-/// Reads a database of layout 1 and migrates it.
+/// Reads a database of layout 1, whose `meta` was read before, and migrates it.
 fn enter_first<S: Alter>(
     alloc: Global,
     conn: &mut Connection<S>,
@@ -91,10 +92,10 @@ fn enter_first<S: Alter>(
 ) -> Result<Loaded, StoreFault>
     requires { conn.old.in_transaction ≡ false }
     ensures autocommit { conn.new.in_transaction ≡ false }
-    ensures entered { HasCleanDisk (state S.Store conn.new) → IsReady (state S.Store conn.old) → (state S.Store conn.old).now.schema ≡ first_layout → SaysLayout (pos 1) (first_meta_rows (state S.Store conn.old).now) → IfOk result (λ l. IsEntered any only.now (state S.Store conn.old) (state S.Store conn.new) l.executed l.following) }
-    ensures turned { HasCleanDisk (state S.Store conn.new) → IsReady (state S.Store conn.old) → (state S.Store conn.old).now.schema ≡ first_layout → SaysLayout (pos 1) (first_meta_rows (state S.Store conn.old).now) → (tables_of (state S.Store conn.old).now.schema).meta ≡ true → IfErr result (IsTurned any only.now (state S.Store conn.old) (state S.Store conn.new)) }
+    ensures entered { HasCleanDisk (state S.Store conn.new) → IsReady (state S.Store conn.old) → (state S.Store conn.old).now.schema ≡ first_layout → StatesLayout (pos 1) (first_meta_rows (state S.Store conn.old).now) → IfOk result (λ l. IsEntered any only.now (state S.Store conn.old) (state S.Store conn.new) l.executed l.following) }
+    ensures turned { HasCleanDisk (state S.Store conn.new) → IsReady (state S.Store conn.old) → (state S.Store conn.old).now.schema ≡ first_layout → StatesLayout (pos 1) (first_meta_rows (state S.Store conn.old).now) → (tables_of (state S.Store conn.old).now.schema).meta ≡ true → IfErr result (IsTurned any only.now (state S.Store conn.old) (state S.Store conn.new)) }
     ensures lives { Survives (state S.Store conn.old) (state S.Store conn.new) (λ _. Unit {0}) }
-    ensures crash { IsReady (state S.Store conn.old) → (state S.Store conn.old).now.schema ≡ first_layout → SaysLayout (pos 1) (first_meta_rows (state S.Store conn.old).now) → Survives (state S.Store conn.old) (state S.Store conn.new) (MayEnter only.now (state S.Store conn.old)) }
+    ensures crash { IsReady (state S.Store conn.old) → (state S.Store conn.old).now.schema ≡ first_layout → StatesLayout (pos 1) (first_meta_rows (state S.Store conn.old).now) → Survives (state S.Store conn.old) (state S.Store conn.new) (MayEnter only.now (state S.Store conn.old)) }
     ensures fault { IfErr result (IsOpenFault any) }
 {
     let executed = load_first(alloc, conn)?;
@@ -111,7 +112,7 @@ fn enter_first<S: Alter>(
     }
 }
 
-/// Reads a database of layout 2.
+/// Reads a database of layout 2, whose `meta` was read before.
 fn enter_second<S: Alter>(
     alloc: Global,
     conn: &mut Connection<S>,
@@ -120,8 +121,8 @@ fn enter_second<S: Alter>(
 ) -> Result<Loaded, StoreFault>
     requires { conn.old.in_transaction ≡ false }
     ensures autocommit { conn.new.in_transaction ≡ false }
-    ensures entered { HasCleanDisk (state S.Store conn.new) → IsReady (state S.Store conn.old) → IsLaidOut (state S.Store conn.old).now.schema → SaysLayout (pos 2) (first_meta_rows (state S.Store conn.old).now) → IfOk result (λ l. IsEntered any only.now (state S.Store conn.old) (state S.Store conn.new) l.executed l.following) }
-    ensures turned { HasCleanDisk (state S.Store conn.new) → IsReady (state S.Store conn.old) → IsLaidOut (state S.Store conn.old).now.schema → SaysLayout (pos 2) (first_meta_rows (state S.Store conn.old).now) → (tables_of (state S.Store conn.old).now.schema).meta ≡ true → IfErr result (IsTurned any only.now (state S.Store conn.old) (state S.Store conn.new)) }
+    ensures entered { HasCleanDisk (state S.Store conn.new) → IsReady (state S.Store conn.old) → IsLaidOut (state S.Store conn.old).now.schema → StatesLayout (pos 2) (first_meta_rows (state S.Store conn.old).now) → IfOk result (λ l. IsEntered any only.now (state S.Store conn.old) (state S.Store conn.new) l.executed l.following) }
+    ensures turned { HasCleanDisk (state S.Store conn.new) → IsReady (state S.Store conn.old) → IsLaidOut (state S.Store conn.old).now.schema → StatesLayout (pos 2) (first_meta_rows (state S.Store conn.old).now) → (tables_of (state S.Store conn.old).now.schema).meta ≡ true → IfErr result (IsTurned any only.now (state S.Store conn.old) (state S.Store conn.new)) }
     ensures lives { Survives (state S.Store conn.old) (state S.Store conn.new) (λ _. Unit {0}) }
     ensures crash { IsLaidOut (state S.Store conn.old).now.schema → Survives (state S.Store conn.old) (state S.Store conn.new) (λ _. ⊥) }
     ensures fault { IfErr result (IsOpenFault any) }
@@ -162,15 +163,22 @@ fn enter_old<S: Alter>(
     ensures crash { IsReady (state S.Store conn.old) → tables ≡ tables_of (state S.Store conn.old).now.schema → tables.meta ≡ true → Survives (state S.Store conn.old) (state S.Store conn.new) (MayEnter only.now (state S.Store conn.old)) }
     ensures fault { IfErr result (IsOpenFault any) }
 {
-    match layout_of(conn)? {
+    let meta = read_meta(conn)?;
+    match meta.layout {
         Some(1) => {
             if !has_first(tables) {
+                return Err(StoreFault::Damaged);
+            }
+            if !meta.lawful {
                 return Err(StoreFault::Damaged);
             }
             enter_first(alloc, conn, any, only)
         }
         Some(2) => {
             if !has_second(tables) {
+                return Err(StoreFault::Damaged);
+            }
+            if !meta.lawful {
                 return Err(StoreFault::Damaged);
             }
             enter_second(alloc, conn, any, only)

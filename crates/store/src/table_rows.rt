@@ -6,8 +6,8 @@ ghost use Rattle.std.specs.FinSet as set;
 ghost use Rattle.gtid.specs.Identifier.{id_cmp};
 ghost use Rattle.gtid.specs.Gathering.{start, Rise};
 ghost use Rattle.gtid.specs.declared.span.Span.{Span};
-ghost use Rattle.store.specs.Rows.{IsMetaRow, IsFollowRow, IsSpanRow, IsHeldRow, IsExecutedRow, HasRowids, AreSpans, AreNames, touches, span_in, id_in};
-ghost use Rattle.store.specs.Judge.{apart_from, touches_last};
+ghost use Rattle.store.specs.Rows.{IsFollowRow, IsSpanRow, IsHeldRow, IsExecutedRow, HasRowids, AreSpans, AreNames, touches, span_in, id_in};
+ghost use Rattle.store.specs.Judge.{IsMeta, apart_from, touches_last};
 ghost use Rattle.store.specs.Load.{Judges, IsLoadFault};
 ghost use Rattle.std.specs.Prelude.{None, IfOk, OnOk};
 ghost use Rattle.gtid.specs.Span.{Covers};
@@ -15,23 +15,22 @@ ghost use Rattle.gtid.specs.Reading.{IsLawfulSpan};
 ghost use Rattle.store.specs.declared.fault.StoreFault.TheVariants.{Memory};
 
 use crate::fault::StoreFault;
-use crate::rules::{are_held, are_meta, check_rowids, ids_of, names_in, spans_of};
+use crate::rules::{are_held, are_meta, check_rowids, ids_of, layout_in, names_in, spans_of};
+use crate::tables::Meta;
 use binlog::Follow;
 use gtid::{GtidSet, Span};
-use sqlite::Row;
+use sqlite::{Error, Row};
 use std::alloc::Global;
 use std::cmp::Ordering;
 
-/// Checks rows of `meta`.
-pub(crate) fn judge_meta(rows: &[Row]) -> Result<(), StoreFault>
-    ensures judged { Judges result (λ _. AllByRecursion IsMetaRow rows.now × HasRowids rows.now) (AllByRecursion IsMetaRow rows.now) }
-    ensures fault { IfErr result IsLoadFault }
+/// What rows of `meta` say.
+pub(crate) fn meta_in(rows: &[Row]) -> Result<Meta, Error>
+    ensures { IfOk result (IsMeta rows.now) }
 {
-    if !are_meta(rows)? {
-        return Err(StoreFault::Damaged);
-    }
     check_rowids(rows)?;
-    Ok(())
+    let layout = layout_in(rows)?;
+    let lawful = are_meta(rows)?;
+    Ok(Meta { layout, lawful })
 }
 
 /// Checks rows of `held`.

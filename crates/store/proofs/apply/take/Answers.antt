@@ -6,7 +6,7 @@ use Rattle.sqlite.specs.Held.{state}
 use Rattle.gtid.specs.Identifier.{id}
 use Rattle.gather.specs.View.{delivery_value}
 use Rattle.store.specs.Take.{is_executed}
-use Rattle.store.specs.Apply.{LiesBeside}
+use Rattle.gtid.specs.Beside.{Joins}
 use Rattle.store.proofs.Taken.{beside_known, moved, came, given_up, fault_in, shut_after, refused_shut}
 use Rattle.store.proofs.apply.take.Goals as goal
 
@@ -14,8 +14,8 @@ pub returns-in-Ok-None-clause-comes : goal.returns-in-Ok-None-clause-comes
 returns-in-Ok-None-clause-comes g c clean content rest same =
     let d = delivery_value c.args.delivery.now in
     let out : is_executed content d ≡ false = subst (λ ids. set.contains ids (id c.args.delivery.now.gtid) ≡ false) same c.requires.new in
-    let beside : LiesBeside rest.stands.executed.spans c.args.delivery.now.gtid c.around-beside.result =
-    beside_known rest.stands.executed.spans c.args.executed content.executed c.args.delivery.now.gtid c.around-beside.result same rest.stands.executed.least (λ least. c.around-beside.ensures rest.stands.executed.spans least c.requires.new) in
+    let beside : Joins content.executed (id c.args.delivery.now.gtid) c.beside-beside.result rest.stands.executed.spans =
+    beside_known rest.stands.executed.spans c.args.executed content.executed (id c.args.delivery.now.gtid) c.beside-beside.result same rest.stands.executed.least (c.beside-beside.ensures.joins c.requires.new) in
     let ran = rw c.in-Ok-None.field-0-is at (c.in-Ok-None.ensures.runs clean content rest out beside) in
     moved c.args.follow.now content d (state g.S.Store c.args.conn.now) (state g.S.Store c.run.new.conn) c.args.executed c.insert.result same (rw c.in-Ok.ensures.ok at c.insert.ensures) ran
 
@@ -23,8 +23,8 @@ pub returns-in-Ok-None-clause-crash : goal.returns-in-Ok-None-clause-crash
 returns-in-Ok-None-clause-crash g c content rest same =
     let d = delivery_value c.args.delivery.now in
     let out : is_executed content d ≡ false = subst (λ ids. set.contains ids (id c.args.delivery.now.gtid) ≡ false) same c.requires.new in
-    let beside : LiesBeside rest.stands.executed.spans c.args.delivery.now.gtid c.around-beside.result =
-    beside_known rest.stands.executed.spans c.args.executed content.executed c.args.delivery.now.gtid c.around-beside.result same rest.stands.executed.least (λ least. c.around-beside.ensures rest.stands.executed.spans least c.requires.new) in
+    let beside : Joins content.executed (id c.args.delivery.now.gtid) c.beside-beside.result rest.stands.executed.spans =
+    beside_known rest.stands.executed.spans c.args.executed content.executed (id c.args.delivery.now.gtid) c.beside-beside.result same rest.stands.executed.least (c.beside-beside.ensures.joins c.requires.new) in
     rw c.in-Ok-None.field-0-is at (c.in-Ok-None.ensures.crash content rest out beside)
 
 pub returns-in-Ok-Some-clause-comes : goal.returns-in-Ok-Some-clause-comes
@@ -35,8 +35,8 @@ returns-in-Ok-Some-clause-comes g c clean content rest same =
     let new = state g.S.Store c.refuse.new.conn in
     let early : HasCleanDisk mid = omega (arith, c.refuse.ensures.survives.clean, clean) in
     let out : is_executed content d ≡ false = subst (λ ids. set.contains ids (id c.args.delivery.now.gtid) ≡ false) same c.requires.new in
-    let beside : LiesBeside rest.stands.executed.spans c.args.delivery.now.gtid c.around-beside.result =
-    beside_known rest.stands.executed.spans c.args.executed content.executed c.args.delivery.now.gtid c.around-beside.result same rest.stands.executed.least (λ least. c.around-beside.ensures rest.stands.executed.spans least c.requires.new) in
+    let beside : Joins content.executed (id c.args.delivery.now.gtid) c.beside-beside.result rest.stands.executed.spans =
+    beside_known rest.stands.executed.spans c.args.executed content.executed (id c.args.delivery.now.gtid) c.beside-beside.result same rest.stands.executed.least (c.beside-beside.ensures.joins c.requires.new) in
     let ran = rw c.in-Ok-Some.field-0-is at (c.in-Ok-Some.ensures.runs early content rest out beside) in
     let kept : c.release.result ≡ content.executed = c.release.ensures ∙ ap (λ p. p.0) c.in-Ok.ensures.ok ∙ same in
     came c.args.follow.now content d old mid new c.release.result c.in-Ok-Some.at c.in-Ok-Some.why c.refuse.result kept rest ran (c.refuse.ensures.reported clean)
@@ -48,8 +48,8 @@ returns-in-Ok-Some-clause-crash g c content rest same =
     let mid = state g.S.Store c.run.new.conn in
     let new = state g.S.Store c.refuse.new.conn in
     let out : is_executed content d ≡ false = subst (λ ids. set.contains ids (id c.args.delivery.now.gtid) ≡ false) same c.requires.new in
-    let beside : LiesBeside rest.stands.executed.spans c.args.delivery.now.gtid c.around-beside.result =
-    beside_known rest.stands.executed.spans c.args.executed content.executed c.args.delivery.now.gtid c.around-beside.result same rest.stands.executed.least (λ least. c.around-beside.ensures rest.stands.executed.spans least c.requires.new) in
+    let beside : Joins content.executed (id c.args.delivery.now.gtid) c.beside-beside.result rest.stands.executed.spans =
+    beside_known rest.stands.executed.spans c.args.executed content.executed (id c.args.delivery.now.gtid) c.beside-beside.result same rest.stands.executed.least (c.beside-beside.ensures.joins c.requires.new) in
     let ran = rw c.in-Ok-Some.field-0-is at (c.in-Ok-Some.ensures.crash content rest out beside) in
     given_up c.args.follow.now content d old mid new (Err c.refuse.result) ran c.refuse.ensures.survives
 
@@ -57,8 +57,8 @@ pub returns-in-Err-run-clause-comes : goal.returns-in-Err-run-clause-comes
 returns-in-Err-run-clause-comes g c clean content rest same =
     let d = delivery_value c.args.delivery.now in
     let out : is_executed content d ≡ false = subst (λ ids. set.contains ids (id c.args.delivery.now.gtid) ≡ false) same c.requires.new in
-    let beside : LiesBeside rest.stands.executed.spans c.args.delivery.now.gtid c.around-beside.result =
-    beside_known rest.stands.executed.spans c.args.executed content.executed c.args.delivery.now.gtid c.around-beside.result same rest.stands.executed.least (λ least. c.around-beside.ensures rest.stands.executed.spans least c.requires.new) in
+    let beside : Joins content.executed (id c.args.delivery.now.gtid) c.beside-beside.result rest.stands.executed.spans =
+    beside_known rest.stands.executed.spans c.args.executed content.executed (id c.args.delivery.now.gtid) c.beside-beside.result same rest.stands.executed.least (c.beside-beside.ensures.joins c.requires.new) in
     let kept : c.release-in-Err-run.result ≡ content.executed = c.release-in-Err-run.ensures ∙ ap (λ p. p.0) c.in-Ok.ensures.ok ∙ same in
     (c.in-Err-run.ensures.runs clean content rest out beside, kept)
 
@@ -66,8 +66,8 @@ pub returns-in-Err-run-clause-crash : goal.returns-in-Err-run-clause-crash
 returns-in-Err-run-clause-crash g c content rest same =
     let d = delivery_value c.args.delivery.now in
     let out : is_executed content d ≡ false = subst (λ ids. set.contains ids (id c.args.delivery.now.gtid) ≡ false) same c.requires.new in
-    let beside : LiesBeside rest.stands.executed.spans c.args.delivery.now.gtid c.around-beside.result =
-    beside_known rest.stands.executed.spans c.args.executed content.executed c.args.delivery.now.gtid c.around-beside.result same rest.stands.executed.least (λ least. c.around-beside.ensures rest.stands.executed.spans least c.requires.new) in
+    let beside : Joins content.executed (id c.args.delivery.now.gtid) c.beside-beside.result rest.stands.executed.spans =
+    beside_known rest.stands.executed.spans c.args.executed content.executed (id c.args.delivery.now.gtid) c.beside-beside.result same rest.stands.executed.least (c.beside-beside.ensures.joins c.requires.new) in
     c.in-Err-run.ensures.crash content rest out beside
 
 pub returns-in-Ok-Some-clause-memory : goal.returns-in-Ok-Some-clause-memory

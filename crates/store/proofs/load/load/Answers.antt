@@ -5,178 +5,193 @@ use Rattle.sqlite.specs.Held.{state}
 use Rattle.sqlite.specs.Effect.{Database}
 use Rattle.sqlite.proofs.Callers.{unchanged_then}
 use Rattle.store.specs.Layout.{tree_at}
-use Rattle.store.specs.Rows.{IsFollowRow, IsSpanRow, IsHeldRow, AreNames, AreSpans, HasRowids, touches, span_in}
-use Rattle.store.specs.Load.{all_meta_text, all_held_text, all_spans_text, all_follow_text}
+use Rattle.store.specs.Rows.{IsSpanRow, IsHeldRow, AreSpans, HasRowids, touches, span_in}
+use Rattle.store.specs.Load.{all_held_text, all_spans_text, all_follow_text}
 use Rattle.store.proofs.Steps.{rested_after, rested_unchanged, still_asks, first_step, next_step, clean_before, seen_by, fault_by, loaded}
 use Rattle.store.proofs.Lives.{over_any, any_then}
-use Rattle.store.proofs.Wholes.{laid_meta_asks, follow_asks, spans_asks, held_asks}
+use Rattle.store.proofs.Wholes.{follow_asks, spans_asks, held_asks}
 use Rattle.store.proofs.load.load.Goals as goal
-
-pub returns-in_err-load_meta-clause-loads : goal.returns-in_err-load_meta-clause-loads
-returns-in_err-load_meta-clause-loads g c clean laid settled says =
-    let p = err_from_is_err_and c.from_residual.result c.from_residual.ensures.1 in
-    rw (p.1, p.2) (fault_by c.in_err-load_meta.field-0.0 (λ rules. rules.meta) (c.in_err-load_meta.ensures.judged clean (tree_at (state g.S.Store c.args.conn.now).now.schema 0) (laid_meta_asks _ laid)))
-
-pub returns-in_err-load_meta-clause-same : goal.returns-in_err-load_meta-clause-same
-returns-in_err-load_meta-clause-same g c clean laid =
-    let p = err_from_is_err_and c.from_residual.result c.from_residual.ensures.1 in
-    rw (p.1, p.2) (seen_by c.in_err-load_meta.field-0.0 (λ same. same) (c.in_err-load_meta.ensures.same clean (tree_at (state g.S.Store c.args.conn.now).now.schema 0) (laid_meta_asks _ laid)))
-
-pub returns-in_err-load_meta-clause-rested : goal.returns-in_err-load_meta-clause-rested
-returns-in_err-load_meta-clause-rested g c clean laid =
-    c.load_meta.ensures.rested clean (tree_at (state g.S.Store c.args.conn.now).now.schema 0) (laid_meta_asks _ laid)
-
-pub returns-in_err-load_meta-clause-crash : goal.returns-in_err-load_meta-clause-crash
-returns-in_err-load_meta-clause-crash g c laid =
-    first_step (state g.S.Store c.args.conn.now) (state g.S.Store c.load_meta.new.conn) all_meta_text (tree_at (state g.S.Store c.args.conn.now).now.schema 0) (laid_meta_asks _ laid) c.load_meta.ensures.crash
 
 pub returns-in_err-following-clause-loads : goal.returns-in_err-following-clause-loads
 returns-in_err-following-clause-loads g c clean laid settled says =
-    let clean1 = clean_before (state g.S.Store c.load_meta.new.conn) (state g.S.Store c.load_follow.new.conn) _ c.load_follow.ensures.crash clean in
-    let same1 = c.in_ok-load_meta.ensures.same clean1 (tree_at (state g.S.Store c.args.conn.now).now.schema 0) (laid_meta_asks _ laid) in
-    let p = err_from_is_err_and c.from_residual-in_err-following.result c.from_residual-in_err-following.ensures.1 in
-    rw (p.1, p.2) (fault_by c.in_err-following.field-0.0 (λ rules. subst (λ (db : Database). AllByRecursion IsFollowRow (db.trees (tree_at (state g.S.Store c.args.conn.now).now.schema 3))) (sym same1.0.now_is) (rules.follow)) (c.in_err-following.ensures.judged clean (tree_at (state g.S.Store c.args.conn.now).now.schema 3) (still_asks (state g.S.Store c.args.conn.now) (state g.S.Store c.load_meta.new.conn) all_follow_text (tree_at (state g.S.Store c.args.conn.now).now.schema 3) same1 (follow_asks _ laid))))
+    let s0 = state g.S.Store c.args.conn.now in
+    let p = err_from_is_err_and c.from_residual.result c.from_residual.ensures.1 in
+    rw (p.1, p.2) (fault_by c.in_err-following.field-0.0 (λ rules. rules.follow) (c.in_err-following.ensures.judged clean (tree_at s0.now.schema 3) (follow_asks _ laid)))
 
 pub returns-in_err-following-clause-same : goal.returns-in_err-following-clause-same
 returns-in_err-following-clause-same g c clean laid =
-    let clean1 = clean_before (state g.S.Store c.load_meta.new.conn) (state g.S.Store c.load_follow.new.conn) _ c.load_follow.ensures.crash clean in
-    let same1 = c.in_ok-load_meta.ensures.same clean1 (tree_at (state g.S.Store c.args.conn.now).now.schema 0) (laid_meta_asks _ laid) in
-    let p = err_from_is_err_and c.from_residual-in_err-following.result c.from_residual-in_err-following.ensures.1 in
-    rw (p.1, p.2) (seen_by c.in_err-following.field-0.0 (λ same. unchanged_then (state g.S.Store c.args.conn.now) (state g.S.Store c.load_meta.new.conn) (state g.S.Store c.load_follow.new.conn) same1 same) (c.in_err-following.ensures.same clean (tree_at (state g.S.Store c.args.conn.now).now.schema 3) (still_asks (state g.S.Store c.args.conn.now) (state g.S.Store c.load_meta.new.conn) all_follow_text (tree_at (state g.S.Store c.args.conn.now).now.schema 3) same1 (follow_asks _ laid))))
+    let s0 = state g.S.Store c.args.conn.now in
+    let p = err_from_is_err_and c.from_residual.result c.from_residual.ensures.1 in
+    rw (p.1, p.2) (seen_by c.in_err-following.field-0.0 (λ same. same) (c.in_err-following.ensures.same clean (tree_at s0.now.schema 3) (follow_asks _ laid)))
 
 pub returns-in_err-following-clause-rested : goal.returns-in_err-following-clause-rested
 returns-in_err-following-clause-rested g c clean laid =
-    let clean1 = clean_before (state g.S.Store c.load_meta.new.conn) (state g.S.Store c.load_follow.new.conn) _ c.load_follow.ensures.crash clean in
-    let same1 = c.in_ok-load_meta.ensures.same clean1 (tree_at (state g.S.Store c.args.conn.now).now.schema 0) (laid_meta_asks _ laid) in
-    rested_after (state g.S.Store c.args.conn.now) (state g.S.Store c.load_meta.new.conn) (state g.S.Store c.load_follow.new.conn) same1 (c.load_follow.ensures.rested clean (tree_at (state g.S.Store c.args.conn.now).now.schema 3) (still_asks (state g.S.Store c.args.conn.now) (state g.S.Store c.load_meta.new.conn) all_follow_text (tree_at (state g.S.Store c.args.conn.now).now.schema 3) same1 (follow_asks _ laid)))
+    let s0 = state g.S.Store c.args.conn.now in
+    c.load_follow.ensures.rested clean (tree_at s0.now.schema 3) (follow_asks _ laid)
 
 pub returns-in_err-following-clause-crash : goal.returns-in_err-following-clause-crash
 returns-in_err-following-clause-crash g c laid =
-    next_step (state g.S.Store c.args.conn.now) (state g.S.Store c.load_meta.new.conn) (state g.S.Store c.load_follow.new.conn) all_follow_text (tree_at (state g.S.Store c.args.conn.now).now.schema 3) (follow_asks _ laid) (λ clean. let same1 = c.in_ok-load_meta.ensures.same clean (tree_at (state g.S.Store c.args.conn.now).now.schema 0) (laid_meta_asks _ laid) in same1) (first_step (state g.S.Store c.args.conn.now) (state g.S.Store c.load_meta.new.conn) all_meta_text (tree_at (state g.S.Store c.args.conn.now).now.schema 0) (laid_meta_asks _ laid) c.load_meta.ensures.crash) c.load_follow.ensures.crash
-
-pub returns-in_err-executed-clause-loads : goal.returns-in_err-executed-clause-loads
-returns-in_err-executed-clause-loads g c clean laid settled says =
-    let clean2 = clean_before (state g.S.Store c.load_follow.new.conn) (state g.S.Store c.load_spans.new.conn) _ c.load_spans.ensures.crash clean in
-    let clean1 = clean_before (state g.S.Store c.load_meta.new.conn) (state g.S.Store c.load_follow.new.conn) _ c.load_follow.ensures.crash clean2 in
-    let same1 = c.in_ok-load_meta.ensures.same clean1 (tree_at (state g.S.Store c.args.conn.now).now.schema 0) (laid_meta_asks _ laid) in
-    let same2 = unchanged_then (state g.S.Store c.args.conn.now) (state g.S.Store c.load_meta.new.conn) (state g.S.Store c.load_follow.new.conn) same1 (c.in_ok-following.ensures.same clean2 (tree_at (state g.S.Store c.args.conn.now).now.schema 3) (still_asks (state g.S.Store c.args.conn.now) (state g.S.Store c.load_meta.new.conn) all_follow_text (tree_at (state g.S.Store c.args.conn.now).now.schema 3) same1 (follow_asks _ laid))) in
-    let p = err_from_is_err_and c.from_residual-in_err-executed.result c.from_residual-in_err-executed.ensures.1 in
-    rw (p.1, p.2) (fault_by c.in_err-executed.field-0.0 (λ rules. subst (λ (db : Database). AllByRecursion IsSpanRow (db.trees (tree_at (state g.S.Store c.args.conn.now).now.schema 2)) × IsDistinct touches (map span_in (db.trees (tree_at (state g.S.Store c.args.conn.now).now.schema 2)))) (sym same2.0.now_is) ((rules.spans, rules.apart))) (c.in_err-executed.ensures.judged clean (tree_at (state g.S.Store c.args.conn.now).now.schema 2) (still_asks (state g.S.Store c.args.conn.now) (state g.S.Store c.load_follow.new.conn) all_spans_text (tree_at (state g.S.Store c.args.conn.now).now.schema 2) same2 (spans_asks _ laid))))
-
-pub returns-in_err-executed-clause-same : goal.returns-in_err-executed-clause-same
-returns-in_err-executed-clause-same g c clean laid =
-    let clean2 = clean_before (state g.S.Store c.load_follow.new.conn) (state g.S.Store c.load_spans.new.conn) _ c.load_spans.ensures.crash clean in
-    let clean1 = clean_before (state g.S.Store c.load_meta.new.conn) (state g.S.Store c.load_follow.new.conn) _ c.load_follow.ensures.crash clean2 in
-    let same1 = c.in_ok-load_meta.ensures.same clean1 (tree_at (state g.S.Store c.args.conn.now).now.schema 0) (laid_meta_asks _ laid) in
-    let same2 = unchanged_then (state g.S.Store c.args.conn.now) (state g.S.Store c.load_meta.new.conn) (state g.S.Store c.load_follow.new.conn) same1 (c.in_ok-following.ensures.same clean2 (tree_at (state g.S.Store c.args.conn.now).now.schema 3) (still_asks (state g.S.Store c.args.conn.now) (state g.S.Store c.load_meta.new.conn) all_follow_text (tree_at (state g.S.Store c.args.conn.now).now.schema 3) same1 (follow_asks _ laid))) in
-    let p = err_from_is_err_and c.from_residual-in_err-executed.result c.from_residual-in_err-executed.ensures.1 in
-    rw (p.1, p.2) (seen_by c.in_err-executed.field-0.0 (λ same. unchanged_then (state g.S.Store c.args.conn.now) (state g.S.Store c.load_follow.new.conn) (state g.S.Store c.load_spans.new.conn) same2 same) (c.in_err-executed.ensures.same clean (tree_at (state g.S.Store c.args.conn.now).now.schema 2) (still_asks (state g.S.Store c.args.conn.now) (state g.S.Store c.load_follow.new.conn) all_spans_text (tree_at (state g.S.Store c.args.conn.now).now.schema 2) same2 (spans_asks _ laid))))
-
-pub returns-in_err-executed-clause-rested : goal.returns-in_err-executed-clause-rested
-returns-in_err-executed-clause-rested g c clean laid =
-    let clean2 = clean_before (state g.S.Store c.load_follow.new.conn) (state g.S.Store c.load_spans.new.conn) _ c.load_spans.ensures.crash clean in
-    let clean1 = clean_before (state g.S.Store c.load_meta.new.conn) (state g.S.Store c.load_follow.new.conn) _ c.load_follow.ensures.crash clean2 in
-    let same1 = c.in_ok-load_meta.ensures.same clean1 (tree_at (state g.S.Store c.args.conn.now).now.schema 0) (laid_meta_asks _ laid) in
-    let same2 = unchanged_then (state g.S.Store c.args.conn.now) (state g.S.Store c.load_meta.new.conn) (state g.S.Store c.load_follow.new.conn) same1 (c.in_ok-following.ensures.same clean2 (tree_at (state g.S.Store c.args.conn.now).now.schema 3) (still_asks (state g.S.Store c.args.conn.now) (state g.S.Store c.load_meta.new.conn) all_follow_text (tree_at (state g.S.Store c.args.conn.now).now.schema 3) same1 (follow_asks _ laid))) in
-    rested_after (state g.S.Store c.args.conn.now) (state g.S.Store c.load_follow.new.conn) (state g.S.Store c.load_spans.new.conn) same2 (c.load_spans.ensures.rested clean (tree_at (state g.S.Store c.args.conn.now).now.schema 2) (still_asks (state g.S.Store c.args.conn.now) (state g.S.Store c.load_follow.new.conn) all_spans_text (tree_at (state g.S.Store c.args.conn.now).now.schema 2) same2 (spans_asks _ laid)))
-
-pub returns-in_err-executed-clause-crash : goal.returns-in_err-executed-clause-crash
-returns-in_err-executed-clause-crash g c laid =
-    next_step (state g.S.Store c.args.conn.now) (state g.S.Store c.load_follow.new.conn) (state g.S.Store c.load_spans.new.conn) all_spans_text (tree_at (state g.S.Store c.args.conn.now).now.schema 2) (spans_asks _ laid) (λ clean. let clean1 = clean_before (state g.S.Store c.load_meta.new.conn) (state g.S.Store c.load_follow.new.conn) _ c.load_follow.ensures.crash clean in let same1 = c.in_ok-load_meta.ensures.same clean1 (tree_at (state g.S.Store c.args.conn.now).now.schema 0) (laid_meta_asks _ laid) in let same2 = unchanged_then (state g.S.Store c.args.conn.now) (state g.S.Store c.load_meta.new.conn) (state g.S.Store c.load_follow.new.conn) same1 (c.in_ok-following.ensures.same clean (tree_at (state g.S.Store c.args.conn.now).now.schema 3) (still_asks (state g.S.Store c.args.conn.now) (state g.S.Store c.load_meta.new.conn) all_follow_text (tree_at (state g.S.Store c.args.conn.now).now.schema 3) same1 (follow_asks _ laid))) in same2) (next_step (state g.S.Store c.args.conn.now) (state g.S.Store c.load_meta.new.conn) (state g.S.Store c.load_follow.new.conn) all_follow_text (tree_at (state g.S.Store c.args.conn.now).now.schema 3) (follow_asks _ laid) (λ clean. let same1 = c.in_ok-load_meta.ensures.same clean (tree_at (state g.S.Store c.args.conn.now).now.schema 0) (laid_meta_asks _ laid) in same1) (first_step (state g.S.Store c.args.conn.now) (state g.S.Store c.load_meta.new.conn) all_meta_text (tree_at (state g.S.Store c.args.conn.now).now.schema 0) (laid_meta_asks _ laid) c.load_meta.ensures.crash) c.load_follow.ensures.crash) c.load_spans.ensures.crash
-
-pub returns-in_err-load_held-clause-loads : goal.returns-in_err-load_held-clause-loads
-returns-in_err-load_held-clause-loads g c clean laid settled says =
-    let clean3 = clean_before (state g.S.Store c.load_spans.new.conn) (state g.S.Store c.load_held.new.conn) _ c.load_held.ensures.crash clean in
-    let clean2 = clean_before (state g.S.Store c.load_follow.new.conn) (state g.S.Store c.load_spans.new.conn) _ c.load_spans.ensures.crash clean3 in
-    let clean1 = clean_before (state g.S.Store c.load_meta.new.conn) (state g.S.Store c.load_follow.new.conn) _ c.load_follow.ensures.crash clean2 in
-    let same1 = c.in_ok-load_meta.ensures.same clean1 (tree_at (state g.S.Store c.args.conn.now).now.schema 0) (laid_meta_asks _ laid) in
-    let same2 = unchanged_then (state g.S.Store c.args.conn.now) (state g.S.Store c.load_meta.new.conn) (state g.S.Store c.load_follow.new.conn) same1 (c.in_ok-following.ensures.same clean2 (tree_at (state g.S.Store c.args.conn.now).now.schema 3) (still_asks (state g.S.Store c.args.conn.now) (state g.S.Store c.load_meta.new.conn) all_follow_text (tree_at (state g.S.Store c.args.conn.now).now.schema 3) same1 (follow_asks _ laid))) in
-    let same3 = unchanged_then (state g.S.Store c.args.conn.now) (state g.S.Store c.load_follow.new.conn) (state g.S.Store c.load_spans.new.conn) same2 (c.in_ok-executed.ensures.same clean3 (tree_at (state g.S.Store c.args.conn.now).now.schema 2) (still_asks (state g.S.Store c.args.conn.now) (state g.S.Store c.load_follow.new.conn) all_spans_text (tree_at (state g.S.Store c.args.conn.now).now.schema 2) same2 (spans_asks _ laid))) in
-    let p = err_from_is_err_and c.from_residual-in_err-load_held.result c.from_residual-in_err-load_held.ensures.1 in
-    rw (p.1, p.2) (fault_by c.in_err-load_held.field-0.0 (λ rules. subst (λ (db : Database). AllByRecursion IsHeldRow (db.trees (tree_at (state g.S.Store c.args.conn.now).now.schema 1))) (sym same3.0.now_is) (rules.held)) (c.in_err-load_held.ensures.judged clean (tree_at (state g.S.Store c.args.conn.now).now.schema 1) (still_asks (state g.S.Store c.args.conn.now) (state g.S.Store c.load_spans.new.conn) all_held_text (tree_at (state g.S.Store c.args.conn.now).now.schema 1) same3 (held_asks _ laid))))
-
-pub returns-in_err-load_held-clause-same : goal.returns-in_err-load_held-clause-same
-returns-in_err-load_held-clause-same g c clean laid =
-    let clean3 = clean_before (state g.S.Store c.load_spans.new.conn) (state g.S.Store c.load_held.new.conn) _ c.load_held.ensures.crash clean in
-    let clean2 = clean_before (state g.S.Store c.load_follow.new.conn) (state g.S.Store c.load_spans.new.conn) _ c.load_spans.ensures.crash clean3 in
-    let clean1 = clean_before (state g.S.Store c.load_meta.new.conn) (state g.S.Store c.load_follow.new.conn) _ c.load_follow.ensures.crash clean2 in
-    let same1 = c.in_ok-load_meta.ensures.same clean1 (tree_at (state g.S.Store c.args.conn.now).now.schema 0) (laid_meta_asks _ laid) in
-    let same2 = unchanged_then (state g.S.Store c.args.conn.now) (state g.S.Store c.load_meta.new.conn) (state g.S.Store c.load_follow.new.conn) same1 (c.in_ok-following.ensures.same clean2 (tree_at (state g.S.Store c.args.conn.now).now.schema 3) (still_asks (state g.S.Store c.args.conn.now) (state g.S.Store c.load_meta.new.conn) all_follow_text (tree_at (state g.S.Store c.args.conn.now).now.schema 3) same1 (follow_asks _ laid))) in
-    let same3 = unchanged_then (state g.S.Store c.args.conn.now) (state g.S.Store c.load_follow.new.conn) (state g.S.Store c.load_spans.new.conn) same2 (c.in_ok-executed.ensures.same clean3 (tree_at (state g.S.Store c.args.conn.now).now.schema 2) (still_asks (state g.S.Store c.args.conn.now) (state g.S.Store c.load_follow.new.conn) all_spans_text (tree_at (state g.S.Store c.args.conn.now).now.schema 2) same2 (spans_asks _ laid))) in
-    let p = err_from_is_err_and c.from_residual-in_err-load_held.result c.from_residual-in_err-load_held.ensures.1 in
-    rw (p.1, p.2) (seen_by c.in_err-load_held.field-0.0 (λ same. unchanged_then (state g.S.Store c.args.conn.now) (state g.S.Store c.load_spans.new.conn) (state g.S.Store c.load_held.new.conn) same3 same) (c.in_err-load_held.ensures.same clean (tree_at (state g.S.Store c.args.conn.now).now.schema 1) (still_asks (state g.S.Store c.args.conn.now) (state g.S.Store c.load_spans.new.conn) all_held_text (tree_at (state g.S.Store c.args.conn.now).now.schema 1) same3 (held_asks _ laid))))
-
-pub returns-in_err-load_held-clause-rested : goal.returns-in_err-load_held-clause-rested
-returns-in_err-load_held-clause-rested g c clean laid =
-    let clean3 = clean_before (state g.S.Store c.load_spans.new.conn) (state g.S.Store c.load_held.new.conn) _ c.load_held.ensures.crash clean in
-    let clean2 = clean_before (state g.S.Store c.load_follow.new.conn) (state g.S.Store c.load_spans.new.conn) _ c.load_spans.ensures.crash clean3 in
-    let clean1 = clean_before (state g.S.Store c.load_meta.new.conn) (state g.S.Store c.load_follow.new.conn) _ c.load_follow.ensures.crash clean2 in
-    let same1 = c.in_ok-load_meta.ensures.same clean1 (tree_at (state g.S.Store c.args.conn.now).now.schema 0) (laid_meta_asks _ laid) in
-    let same2 = unchanged_then (state g.S.Store c.args.conn.now) (state g.S.Store c.load_meta.new.conn) (state g.S.Store c.load_follow.new.conn) same1 (c.in_ok-following.ensures.same clean2 (tree_at (state g.S.Store c.args.conn.now).now.schema 3) (still_asks (state g.S.Store c.args.conn.now) (state g.S.Store c.load_meta.new.conn) all_follow_text (tree_at (state g.S.Store c.args.conn.now).now.schema 3) same1 (follow_asks _ laid))) in
-    let same3 = unchanged_then (state g.S.Store c.args.conn.now) (state g.S.Store c.load_follow.new.conn) (state g.S.Store c.load_spans.new.conn) same2 (c.in_ok-executed.ensures.same clean3 (tree_at (state g.S.Store c.args.conn.now).now.schema 2) (still_asks (state g.S.Store c.args.conn.now) (state g.S.Store c.load_follow.new.conn) all_spans_text (tree_at (state g.S.Store c.args.conn.now).now.schema 2) same2 (spans_asks _ laid))) in
-    rested_after (state g.S.Store c.args.conn.now) (state g.S.Store c.load_spans.new.conn) (state g.S.Store c.load_held.new.conn) same3 (c.load_held.ensures.rested clean (tree_at (state g.S.Store c.args.conn.now).now.schema 1) (still_asks (state g.S.Store c.args.conn.now) (state g.S.Store c.load_spans.new.conn) all_held_text (tree_at (state g.S.Store c.args.conn.now).now.schema 1) same3 (held_asks _ laid)))
-
-pub returns-in_err-load_held-clause-crash : goal.returns-in_err-load_held-clause-crash
-returns-in_err-load_held-clause-crash g c laid =
-    next_step (state g.S.Store c.args.conn.now) (state g.S.Store c.load_spans.new.conn) (state g.S.Store c.load_held.new.conn) all_held_text (tree_at (state g.S.Store c.args.conn.now).now.schema 1) (held_asks _ laid) (λ clean. let clean2 = clean_before (state g.S.Store c.load_follow.new.conn) (state g.S.Store c.load_spans.new.conn) _ c.load_spans.ensures.crash clean in let clean1 = clean_before (state g.S.Store c.load_meta.new.conn) (state g.S.Store c.load_follow.new.conn) _ c.load_follow.ensures.crash clean2 in let same1 = c.in_ok-load_meta.ensures.same clean1 (tree_at (state g.S.Store c.args.conn.now).now.schema 0) (laid_meta_asks _ laid) in let same2 = unchanged_then (state g.S.Store c.args.conn.now) (state g.S.Store c.load_meta.new.conn) (state g.S.Store c.load_follow.new.conn) same1 (c.in_ok-following.ensures.same clean2 (tree_at (state g.S.Store c.args.conn.now).now.schema 3) (still_asks (state g.S.Store c.args.conn.now) (state g.S.Store c.load_meta.new.conn) all_follow_text (tree_at (state g.S.Store c.args.conn.now).now.schema 3) same1 (follow_asks _ laid))) in let same3 = unchanged_then (state g.S.Store c.args.conn.now) (state g.S.Store c.load_follow.new.conn) (state g.S.Store c.load_spans.new.conn) same2 (c.in_ok-executed.ensures.same clean (tree_at (state g.S.Store c.args.conn.now).now.schema 2) (still_asks (state g.S.Store c.args.conn.now) (state g.S.Store c.load_follow.new.conn) all_spans_text (tree_at (state g.S.Store c.args.conn.now).now.schema 2) same2 (spans_asks _ laid))) in same3) (next_step (state g.S.Store c.args.conn.now) (state g.S.Store c.load_follow.new.conn) (state g.S.Store c.load_spans.new.conn) all_spans_text (tree_at (state g.S.Store c.args.conn.now).now.schema 2) (spans_asks _ laid) (λ clean. let clean1 = clean_before (state g.S.Store c.load_meta.new.conn) (state g.S.Store c.load_follow.new.conn) _ c.load_follow.ensures.crash clean in let same1 = c.in_ok-load_meta.ensures.same clean1 (tree_at (state g.S.Store c.args.conn.now).now.schema 0) (laid_meta_asks _ laid) in let same2 = unchanged_then (state g.S.Store c.args.conn.now) (state g.S.Store c.load_meta.new.conn) (state g.S.Store c.load_follow.new.conn) same1 (c.in_ok-following.ensures.same clean (tree_at (state g.S.Store c.args.conn.now).now.schema 3) (still_asks (state g.S.Store c.args.conn.now) (state g.S.Store c.load_meta.new.conn) all_follow_text (tree_at (state g.S.Store c.args.conn.now).now.schema 3) same1 (follow_asks _ laid))) in same2) (next_step (state g.S.Store c.args.conn.now) (state g.S.Store c.load_meta.new.conn) (state g.S.Store c.load_follow.new.conn) all_follow_text (tree_at (state g.S.Store c.args.conn.now).now.schema 3) (follow_asks _ laid) (λ clean. let same1 = c.in_ok-load_meta.ensures.same clean (tree_at (state g.S.Store c.args.conn.now).now.schema 0) (laid_meta_asks _ laid) in same1) (first_step (state g.S.Store c.args.conn.now) (state g.S.Store c.load_meta.new.conn) all_meta_text (tree_at (state g.S.Store c.args.conn.now).now.schema 0) (laid_meta_asks _ laid) c.load_meta.ensures.crash) c.load_follow.ensures.crash) c.load_spans.ensures.crash) c.load_held.ensures.crash
-
-pub returns-clause-loads : goal.returns-clause-loads
-returns-clause-loads g c clean laid settled says =
-    let clean3 = clean_before (state g.S.Store c.load_spans.new.conn) (state g.S.Store c.load_held.new.conn) _ c.load_held.ensures.crash clean in
-    let clean2 = clean_before (state g.S.Store c.load_follow.new.conn) (state g.S.Store c.load_spans.new.conn) _ c.load_spans.ensures.crash clean3 in
-    let clean1 = clean_before (state g.S.Store c.load_meta.new.conn) (state g.S.Store c.load_follow.new.conn) _ c.load_follow.ensures.crash clean2 in
-    let same1 = c.in_ok-load_meta.ensures.same clean1 (tree_at (state g.S.Store c.args.conn.now).now.schema 0) (laid_meta_asks _ laid) in
-    let same2 = unchanged_then (state g.S.Store c.args.conn.now) (state g.S.Store c.load_meta.new.conn) (state g.S.Store c.load_follow.new.conn) same1 (c.in_ok-following.ensures.same clean2 (tree_at (state g.S.Store c.args.conn.now).now.schema 3) (still_asks (state g.S.Store c.args.conn.now) (state g.S.Store c.load_meta.new.conn) all_follow_text (tree_at (state g.S.Store c.args.conn.now).now.schema 3) same1 (follow_asks _ laid))) in
-    let same3 = unchanged_then (state g.S.Store c.args.conn.now) (state g.S.Store c.load_follow.new.conn) (state g.S.Store c.load_spans.new.conn) same2 (c.in_ok-executed.ensures.same clean3 (tree_at (state g.S.Store c.args.conn.now).now.schema 2) (still_asks (state g.S.Store c.args.conn.now) (state g.S.Store c.load_follow.new.conn) all_spans_text (tree_at (state g.S.Store c.args.conn.now).now.schema 2) same2 (spans_asks _ laid))) in
-    let same4 = unchanged_then (state g.S.Store c.args.conn.now) (state g.S.Store c.load_spans.new.conn) (state g.S.Store c.load_held.new.conn) same3 (c.in_ok-load_held.ensures.same clean (tree_at (state g.S.Store c.args.conn.now).now.schema 1) (still_asks (state g.S.Store c.args.conn.now) (state g.S.Store c.load_spans.new.conn) all_held_text (tree_at (state g.S.Store c.args.conn.now).now.schema 1) same3 (held_asks _ laid))) in
-    loaded (state g.S.Store c.args.conn.now) (state g.S.Store c.load_held.new.conn) c.in_ok-executed.executed c.in_ok-following.following c.schema.ensures.live laid settled says same4
-    (c.in_ok-load_meta.ensures.judged clean1 (tree_at (state g.S.Store c.args.conn.now).now.schema 0) (laid_meta_asks _ laid))
-    (subst (λ (db : Database). AreNames (db.trees (tree_at (state g.S.Store c.args.conn.now).now.schema 3)) c.in_ok-following.following) same1.0.now_is (c.in_ok-following.ensures.judged clean2 (tree_at (state g.S.Store c.args.conn.now).now.schema 3) (still_asks (state g.S.Store c.args.conn.now) (state g.S.Store c.load_meta.new.conn) all_follow_text (tree_at (state g.S.Store c.args.conn.now).now.schema 3) same1 (follow_asks _ laid))))
-    (subst (λ (db : Database). AreSpans (db.trees (tree_at (state g.S.Store c.args.conn.now).now.schema 2)) c.in_ok-executed.executed × HasRowids (db.trees (tree_at (state g.S.Store c.args.conn.now).now.schema 2))) same2.0.now_is (c.in_ok-executed.ensures.judged clean3 (tree_at (state g.S.Store c.args.conn.now).now.schema 2) (still_asks (state g.S.Store c.args.conn.now) (state g.S.Store c.load_follow.new.conn) all_spans_text (tree_at (state g.S.Store c.args.conn.now).now.schema 2) same2 (spans_asks _ laid))))
-    (subst (λ (db : Database). AllByRecursion IsHeldRow (db.trees (tree_at (state g.S.Store c.args.conn.now).now.schema 1)) × HasRowids (db.trees (tree_at (state g.S.Store c.args.conn.now).now.schema 1))) same3.0.now_is (c.in_ok-load_held.ensures.judged clean (tree_at (state g.S.Store c.args.conn.now).now.schema 1) (still_asks (state g.S.Store c.args.conn.now) (state g.S.Store c.load_spans.new.conn) all_held_text (tree_at (state g.S.Store c.args.conn.now).now.schema 1) same3 (held_asks _ laid))))
-
-pub returns-clause-same : goal.returns-clause-same
-returns-clause-same g c clean laid =
-    let clean3 = clean_before (state g.S.Store c.load_spans.new.conn) (state g.S.Store c.load_held.new.conn) _ c.load_held.ensures.crash clean in
-    let clean2 = clean_before (state g.S.Store c.load_follow.new.conn) (state g.S.Store c.load_spans.new.conn) _ c.load_spans.ensures.crash clean3 in
-    let clean1 = clean_before (state g.S.Store c.load_meta.new.conn) (state g.S.Store c.load_follow.new.conn) _ c.load_follow.ensures.crash clean2 in
-    let same1 = c.in_ok-load_meta.ensures.same clean1 (tree_at (state g.S.Store c.args.conn.now).now.schema 0) (laid_meta_asks _ laid) in
-    let same2 = unchanged_then (state g.S.Store c.args.conn.now) (state g.S.Store c.load_meta.new.conn) (state g.S.Store c.load_follow.new.conn) same1 (c.in_ok-following.ensures.same clean2 (tree_at (state g.S.Store c.args.conn.now).now.schema 3) (still_asks (state g.S.Store c.args.conn.now) (state g.S.Store c.load_meta.new.conn) all_follow_text (tree_at (state g.S.Store c.args.conn.now).now.schema 3) same1 (follow_asks _ laid))) in
-    let same3 = unchanged_then (state g.S.Store c.args.conn.now) (state g.S.Store c.load_follow.new.conn) (state g.S.Store c.load_spans.new.conn) same2 (c.in_ok-executed.ensures.same clean3 (tree_at (state g.S.Store c.args.conn.now).now.schema 2) (still_asks (state g.S.Store c.args.conn.now) (state g.S.Store c.load_follow.new.conn) all_spans_text (tree_at (state g.S.Store c.args.conn.now).now.schema 2) same2 (spans_asks _ laid))) in
-    let same4 = unchanged_then (state g.S.Store c.args.conn.now) (state g.S.Store c.load_spans.new.conn) (state g.S.Store c.load_held.new.conn) same3 (c.in_ok-load_held.ensures.same clean (tree_at (state g.S.Store c.args.conn.now).now.schema 1) (still_asks (state g.S.Store c.args.conn.now) (state g.S.Store c.load_spans.new.conn) all_held_text (tree_at (state g.S.Store c.args.conn.now).now.schema 1) same3 (held_asks _ laid))) in
-    same4
-
-pub returns-clause-rested : goal.returns-clause-rested
-returns-clause-rested g c clean laid =
-    let clean3 = clean_before (state g.S.Store c.load_spans.new.conn) (state g.S.Store c.load_held.new.conn) _ c.load_held.ensures.crash clean in
-    let clean2 = clean_before (state g.S.Store c.load_follow.new.conn) (state g.S.Store c.load_spans.new.conn) _ c.load_spans.ensures.crash clean3 in
-    let clean1 = clean_before (state g.S.Store c.load_meta.new.conn) (state g.S.Store c.load_follow.new.conn) _ c.load_follow.ensures.crash clean2 in
-    let same1 = c.in_ok-load_meta.ensures.same clean1 (tree_at (state g.S.Store c.args.conn.now).now.schema 0) (laid_meta_asks _ laid) in
-    let same2 = unchanged_then (state g.S.Store c.args.conn.now) (state g.S.Store c.load_meta.new.conn) (state g.S.Store c.load_follow.new.conn) same1 (c.in_ok-following.ensures.same clean2 (tree_at (state g.S.Store c.args.conn.now).now.schema 3) (still_asks (state g.S.Store c.args.conn.now) (state g.S.Store c.load_meta.new.conn) all_follow_text (tree_at (state g.S.Store c.args.conn.now).now.schema 3) same1 (follow_asks _ laid))) in
-    let same3 = unchanged_then (state g.S.Store c.args.conn.now) (state g.S.Store c.load_follow.new.conn) (state g.S.Store c.load_spans.new.conn) same2 (c.in_ok-executed.ensures.same clean3 (tree_at (state g.S.Store c.args.conn.now).now.schema 2) (still_asks (state g.S.Store c.args.conn.now) (state g.S.Store c.load_follow.new.conn) all_spans_text (tree_at (state g.S.Store c.args.conn.now).now.schema 2) same2 (spans_asks _ laid))) in
-    let same4 = unchanged_then (state g.S.Store c.args.conn.now) (state g.S.Store c.load_spans.new.conn) (state g.S.Store c.load_held.new.conn) same3 (c.in_ok-load_held.ensures.same clean (tree_at (state g.S.Store c.args.conn.now).now.schema 1) (still_asks (state g.S.Store c.args.conn.now) (state g.S.Store c.load_spans.new.conn) all_held_text (tree_at (state g.S.Store c.args.conn.now).now.schema 1) same3 (held_asks _ laid))) in
-    rested_unchanged (state g.S.Store c.args.conn.now) (state g.S.Store c.load_held.new.conn) same4
-
-pub returns-clause-crash : goal.returns-clause-crash
-returns-clause-crash g c laid =
-    next_step (state g.S.Store c.args.conn.now) (state g.S.Store c.load_spans.new.conn) (state g.S.Store c.load_held.new.conn) all_held_text (tree_at (state g.S.Store c.args.conn.now).now.schema 1) (held_asks _ laid) (λ clean. let clean2 = clean_before (state g.S.Store c.load_follow.new.conn) (state g.S.Store c.load_spans.new.conn) _ c.load_spans.ensures.crash clean in let clean1 = clean_before (state g.S.Store c.load_meta.new.conn) (state g.S.Store c.load_follow.new.conn) _ c.load_follow.ensures.crash clean2 in let same1 = c.in_ok-load_meta.ensures.same clean1 (tree_at (state g.S.Store c.args.conn.now).now.schema 0) (laid_meta_asks _ laid) in let same2 = unchanged_then (state g.S.Store c.args.conn.now) (state g.S.Store c.load_meta.new.conn) (state g.S.Store c.load_follow.new.conn) same1 (c.in_ok-following.ensures.same clean2 (tree_at (state g.S.Store c.args.conn.now).now.schema 3) (still_asks (state g.S.Store c.args.conn.now) (state g.S.Store c.load_meta.new.conn) all_follow_text (tree_at (state g.S.Store c.args.conn.now).now.schema 3) same1 (follow_asks _ laid))) in let same3 = unchanged_then (state g.S.Store c.args.conn.now) (state g.S.Store c.load_follow.new.conn) (state g.S.Store c.load_spans.new.conn) same2 (c.in_ok-executed.ensures.same clean (tree_at (state g.S.Store c.args.conn.now).now.schema 2) (still_asks (state g.S.Store c.args.conn.now) (state g.S.Store c.load_follow.new.conn) all_spans_text (tree_at (state g.S.Store c.args.conn.now).now.schema 2) same2 (spans_asks _ laid))) in same3) (next_step (state g.S.Store c.args.conn.now) (state g.S.Store c.load_follow.new.conn) (state g.S.Store c.load_spans.new.conn) all_spans_text (tree_at (state g.S.Store c.args.conn.now).now.schema 2) (spans_asks _ laid) (λ clean. let clean1 = clean_before (state g.S.Store c.load_meta.new.conn) (state g.S.Store c.load_follow.new.conn) _ c.load_follow.ensures.crash clean in let same1 = c.in_ok-load_meta.ensures.same clean1 (tree_at (state g.S.Store c.args.conn.now).now.schema 0) (laid_meta_asks _ laid) in let same2 = unchanged_then (state g.S.Store c.args.conn.now) (state g.S.Store c.load_meta.new.conn) (state g.S.Store c.load_follow.new.conn) same1 (c.in_ok-following.ensures.same clean (tree_at (state g.S.Store c.args.conn.now).now.schema 3) (still_asks (state g.S.Store c.args.conn.now) (state g.S.Store c.load_meta.new.conn) all_follow_text (tree_at (state g.S.Store c.args.conn.now).now.schema 3) same1 (follow_asks _ laid))) in same2) (next_step (state g.S.Store c.args.conn.now) (state g.S.Store c.load_meta.new.conn) (state g.S.Store c.load_follow.new.conn) all_follow_text (tree_at (state g.S.Store c.args.conn.now).now.schema 3) (follow_asks _ laid) (λ clean. let same1 = c.in_ok-load_meta.ensures.same clean (tree_at (state g.S.Store c.args.conn.now).now.schema 0) (laid_meta_asks _ laid) in same1) (first_step (state g.S.Store c.args.conn.now) (state g.S.Store c.load_meta.new.conn) all_meta_text (tree_at (state g.S.Store c.args.conn.now).now.schema 0) (laid_meta_asks _ laid) c.load_meta.ensures.crash) c.load_follow.ensures.crash) c.load_spans.ensures.crash) c.load_held.ensures.crash
-
-pub returns-in_err-load_meta-clause-lives : goal.returns-in_err-load_meta-clause-lives
-returns-in_err-load_meta-clause-lives g c =
-    over_any (state g.S.Store c.args.conn.now) (state g.S.Store c.load_meta.new.conn) _ c.load_meta.ensures.crash
+    let s0 = state g.S.Store c.args.conn.now in
+    let s1 = state g.S.Store c.load_follow.new.conn in
+    first_step s0 s1 all_follow_text (tree_at s0.now.schema 3) (follow_asks _ laid) c.load_follow.ensures.crash
 
 pub returns-in_err-following-clause-lives : goal.returns-in_err-following-clause-lives
 returns-in_err-following-clause-lives g c =
-    any_then (state g.S.Store c.args.conn.now) (state g.S.Store c.load_meta.new.conn) (state g.S.Store c.load_follow.new.conn) _ (over_any (state g.S.Store c.args.conn.now) (state g.S.Store c.load_meta.new.conn) _ c.load_meta.ensures.crash) c.load_follow.ensures.crash
+    let s0 = state g.S.Store c.args.conn.now in
+    let s1 = state g.S.Store c.load_follow.new.conn in
+    over_any s0 s1 _ c.load_follow.ensures.crash
+
+pub returns-in_err-executed-clause-loads : goal.returns-in_err-executed-clause-loads
+returns-in_err-executed-clause-loads g c clean laid settled says =
+    let s0 = state g.S.Store c.args.conn.now in
+    let s1 = state g.S.Store c.load_follow.new.conn in
+    let s2 = state g.S.Store c.load_spans.new.conn in
+    let clean1 = clean_before s1 s2 _ c.load_spans.ensures.crash clean in
+    let same1 = c.in_ok-following.ensures.same clean1 (tree_at s0.now.schema 3) (follow_asks _ laid) in
+    let p = err_from_is_err_and c.from_residual-in_err-executed.result c.from_residual-in_err-executed.ensures.1 in
+    rw (p.1, p.2) (fault_by c.in_err-executed.field-0.0 (λ rules. subst (λ (db : Database). AllByRecursion IsSpanRow (db.trees (tree_at s0.now.schema 2)) × IsDistinct touches (map span_in (db.trees (tree_at s0.now.schema 2)))) (sym same1.0.now_is) ((rules.spans, rules.apart))) (c.in_err-executed.ensures.judged clean (tree_at s0.now.schema 2) (still_asks s0 s1 all_spans_text (tree_at s0.now.schema 2) same1 (spans_asks _ laid))))
+
+pub returns-in_err-executed-clause-same : goal.returns-in_err-executed-clause-same
+returns-in_err-executed-clause-same g c clean laid =
+    let s0 = state g.S.Store c.args.conn.now in
+    let s1 = state g.S.Store c.load_follow.new.conn in
+    let s2 = state g.S.Store c.load_spans.new.conn in
+    let clean1 = clean_before s1 s2 _ c.load_spans.ensures.crash clean in
+    let same1 = c.in_ok-following.ensures.same clean1 (tree_at s0.now.schema 3) (follow_asks _ laid) in
+    let p = err_from_is_err_and c.from_residual-in_err-executed.result c.from_residual-in_err-executed.ensures.1 in
+    rw (p.1, p.2) (seen_by c.in_err-executed.field-0.0 (λ same. unchanged_then s0 s1 s2 same1 same) (c.in_err-executed.ensures.same clean (tree_at s0.now.schema 2) (still_asks s0 s1 all_spans_text (tree_at s0.now.schema 2) same1 (spans_asks _ laid))))
+
+pub returns-in_err-executed-clause-rested : goal.returns-in_err-executed-clause-rested
+returns-in_err-executed-clause-rested g c clean laid =
+    let s0 = state g.S.Store c.args.conn.now in
+    let s1 = state g.S.Store c.load_follow.new.conn in
+    let s2 = state g.S.Store c.load_spans.new.conn in
+    let clean1 = clean_before s1 s2 _ c.load_spans.ensures.crash clean in
+    let same1 = c.in_ok-following.ensures.same clean1 (tree_at s0.now.schema 3) (follow_asks _ laid) in
+    rested_after s0 s1 s2 same1 (c.load_spans.ensures.rested clean (tree_at s0.now.schema 2) (still_asks s0 s1 all_spans_text (tree_at s0.now.schema 2) same1 (spans_asks _ laid)))
+
+pub returns-in_err-executed-clause-crash : goal.returns-in_err-executed-clause-crash
+returns-in_err-executed-clause-crash g c laid =
+    let s0 = state g.S.Store c.args.conn.now in
+    let s1 = state g.S.Store c.load_follow.new.conn in
+    let s2 = state g.S.Store c.load_spans.new.conn in
+    next_step s0 s1 s2 all_spans_text (tree_at s0.now.schema 2) (spans_asks _ laid) (λ clean. let same1 = c.in_ok-following.ensures.same clean (tree_at s0.now.schema 3) (follow_asks _ laid) in same1) (first_step s0 s1 all_follow_text (tree_at s0.now.schema 3) (follow_asks _ laid) c.load_follow.ensures.crash) c.load_spans.ensures.crash
 
 pub returns-in_err-executed-clause-lives : goal.returns-in_err-executed-clause-lives
 returns-in_err-executed-clause-lives g c =
-    any_then (state g.S.Store c.args.conn.now) (state g.S.Store c.load_follow.new.conn) (state g.S.Store c.load_spans.new.conn) _ (any_then (state g.S.Store c.args.conn.now) (state g.S.Store c.load_meta.new.conn) (state g.S.Store c.load_follow.new.conn) _ (over_any (state g.S.Store c.args.conn.now) (state g.S.Store c.load_meta.new.conn) _ c.load_meta.ensures.crash) c.load_follow.ensures.crash) c.load_spans.ensures.crash
+    let s0 = state g.S.Store c.args.conn.now in
+    let s1 = state g.S.Store c.load_follow.new.conn in
+    let s2 = state g.S.Store c.load_spans.new.conn in
+    any_then s0 s1 s2 _ (over_any s0 s1 _ c.load_follow.ensures.crash) c.load_spans.ensures.crash
+
+pub returns-in_err-load_held-clause-loads : goal.returns-in_err-load_held-clause-loads
+returns-in_err-load_held-clause-loads g c clean laid settled says =
+    let s0 = state g.S.Store c.args.conn.now in
+    let s1 = state g.S.Store c.load_follow.new.conn in
+    let s2 = state g.S.Store c.load_spans.new.conn in
+    let s3 = state g.S.Store c.load_held.new.conn in
+    let clean2 = clean_before s2 s3 _ c.load_held.ensures.crash clean in
+    let clean1 = clean_before s1 s2 _ c.load_spans.ensures.crash clean2 in
+    let same1 = c.in_ok-following.ensures.same clean1 (tree_at s0.now.schema 3) (follow_asks _ laid) in
+    let same2 = unchanged_then s0 s1 s2 same1 (c.in_ok-executed.ensures.same clean2 (tree_at s0.now.schema 2) (still_asks s0 s1 all_spans_text (tree_at s0.now.schema 2) same1 (spans_asks _ laid))) in
+    let p = err_from_is_err_and c.from_residual-in_err-load_held.result c.from_residual-in_err-load_held.ensures.1 in
+    rw (p.1, p.2) (fault_by c.in_err-load_held.field-0.0 (λ rules. subst (λ (db : Database). AllByRecursion IsHeldRow (db.trees (tree_at s0.now.schema 1))) (sym same2.0.now_is) (rules.held)) (c.in_err-load_held.ensures.judged clean (tree_at s0.now.schema 1) (still_asks s0 s2 all_held_text (tree_at s0.now.schema 1) same2 (held_asks _ laid))))
+
+pub returns-in_err-load_held-clause-same : goal.returns-in_err-load_held-clause-same
+returns-in_err-load_held-clause-same g c clean laid =
+    let s0 = state g.S.Store c.args.conn.now in
+    let s1 = state g.S.Store c.load_follow.new.conn in
+    let s2 = state g.S.Store c.load_spans.new.conn in
+    let s3 = state g.S.Store c.load_held.new.conn in
+    let clean2 = clean_before s2 s3 _ c.load_held.ensures.crash clean in
+    let clean1 = clean_before s1 s2 _ c.load_spans.ensures.crash clean2 in
+    let same1 = c.in_ok-following.ensures.same clean1 (tree_at s0.now.schema 3) (follow_asks _ laid) in
+    let same2 = unchanged_then s0 s1 s2 same1 (c.in_ok-executed.ensures.same clean2 (tree_at s0.now.schema 2) (still_asks s0 s1 all_spans_text (tree_at s0.now.schema 2) same1 (spans_asks _ laid))) in
+    let p = err_from_is_err_and c.from_residual-in_err-load_held.result c.from_residual-in_err-load_held.ensures.1 in
+    rw (p.1, p.2) (seen_by c.in_err-load_held.field-0.0 (λ same. unchanged_then s0 s2 s3 same2 same) (c.in_err-load_held.ensures.same clean (tree_at s0.now.schema 1) (still_asks s0 s2 all_held_text (tree_at s0.now.schema 1) same2 (held_asks _ laid))))
+
+pub returns-in_err-load_held-clause-rested : goal.returns-in_err-load_held-clause-rested
+returns-in_err-load_held-clause-rested g c clean laid =
+    let s0 = state g.S.Store c.args.conn.now in
+    let s1 = state g.S.Store c.load_follow.new.conn in
+    let s2 = state g.S.Store c.load_spans.new.conn in
+    let s3 = state g.S.Store c.load_held.new.conn in
+    let clean2 = clean_before s2 s3 _ c.load_held.ensures.crash clean in
+    let clean1 = clean_before s1 s2 _ c.load_spans.ensures.crash clean2 in
+    let same1 = c.in_ok-following.ensures.same clean1 (tree_at s0.now.schema 3) (follow_asks _ laid) in
+    let same2 = unchanged_then s0 s1 s2 same1 (c.in_ok-executed.ensures.same clean2 (tree_at s0.now.schema 2) (still_asks s0 s1 all_spans_text (tree_at s0.now.schema 2) same1 (spans_asks _ laid))) in
+    rested_after s0 s2 s3 same2 (c.load_held.ensures.rested clean (tree_at s0.now.schema 1) (still_asks s0 s2 all_held_text (tree_at s0.now.schema 1) same2 (held_asks _ laid)))
+
+pub returns-in_err-load_held-clause-crash : goal.returns-in_err-load_held-clause-crash
+returns-in_err-load_held-clause-crash g c laid =
+    let s0 = state g.S.Store c.args.conn.now in
+    let s1 = state g.S.Store c.load_follow.new.conn in
+    let s2 = state g.S.Store c.load_spans.new.conn in
+    let s3 = state g.S.Store c.load_held.new.conn in
+    next_step s0 s2 s3 all_held_text (tree_at s0.now.schema 1) (held_asks _ laid) (λ clean. let clean1 = clean_before s1 s2 _ c.load_spans.ensures.crash clean in let same1 = c.in_ok-following.ensures.same clean1 (tree_at s0.now.schema 3) (follow_asks _ laid) in let same2 = unchanged_then s0 s1 s2 same1 (c.in_ok-executed.ensures.same clean (tree_at s0.now.schema 2) (still_asks s0 s1 all_spans_text (tree_at s0.now.schema 2) same1 (spans_asks _ laid))) in same2) (next_step s0 s1 s2 all_spans_text (tree_at s0.now.schema 2) (spans_asks _ laid) (λ clean. let same1 = c.in_ok-following.ensures.same clean (tree_at s0.now.schema 3) (follow_asks _ laid) in same1) (first_step s0 s1 all_follow_text (tree_at s0.now.schema 3) (follow_asks _ laid) c.load_follow.ensures.crash) c.load_spans.ensures.crash) c.load_held.ensures.crash
 
 pub returns-in_err-load_held-clause-lives : goal.returns-in_err-load_held-clause-lives
 returns-in_err-load_held-clause-lives g c =
-    any_then (state g.S.Store c.args.conn.now) (state g.S.Store c.load_spans.new.conn) (state g.S.Store c.load_held.new.conn) _ (any_then (state g.S.Store c.args.conn.now) (state g.S.Store c.load_follow.new.conn) (state g.S.Store c.load_spans.new.conn) _ (any_then (state g.S.Store c.args.conn.now) (state g.S.Store c.load_meta.new.conn) (state g.S.Store c.load_follow.new.conn) _ (over_any (state g.S.Store c.args.conn.now) (state g.S.Store c.load_meta.new.conn) _ c.load_meta.ensures.crash) c.load_follow.ensures.crash) c.load_spans.ensures.crash) c.load_held.ensures.crash
+    let s0 = state g.S.Store c.args.conn.now in
+    let s1 = state g.S.Store c.load_follow.new.conn in
+    let s2 = state g.S.Store c.load_spans.new.conn in
+    let s3 = state g.S.Store c.load_held.new.conn in
+    any_then s0 s2 s3 _ (any_then s0 s1 s2 _ (over_any s0 s1 _ c.load_follow.ensures.crash) c.load_spans.ensures.crash) c.load_held.ensures.crash
+
+pub returns-clause-loads : goal.returns-clause-loads
+returns-clause-loads g c clean laid settled says =
+    let s0 = state g.S.Store c.args.conn.now in
+    let s1 = state g.S.Store c.load_follow.new.conn in
+    let s2 = state g.S.Store c.load_spans.new.conn in
+    let s3 = state g.S.Store c.load_held.new.conn in
+    let clean2 = clean_before s2 s3 _ c.load_held.ensures.crash clean in
+    let clean1 = clean_before s1 s2 _ c.load_spans.ensures.crash clean2 in
+    let same1 = c.in_ok-following.ensures.same clean1 (tree_at s0.now.schema 3) (follow_asks _ laid) in
+    let same2 = unchanged_then s0 s1 s2 same1 (c.in_ok-executed.ensures.same clean2 (tree_at s0.now.schema 2) (still_asks s0 s1 all_spans_text (tree_at s0.now.schema 2) same1 (spans_asks _ laid))) in
+    let same3 = unchanged_then s0 s2 s3 same2 (c.in_ok-load_held.ensures.same clean (tree_at s0.now.schema 1) (still_asks s0 s2 all_held_text (tree_at s0.now.schema 1) same2 (held_asks _ laid))) in
+    loaded s0 s3 c.in_ok-executed.executed c.in_ok-following.following c.schema.ensures.live laid settled says same3
+    (c.in_ok-following.ensures.judged clean1 (tree_at s0.now.schema 3) (follow_asks _ laid))
+    (subst (λ (db : Database). AreSpans (db.trees (tree_at s0.now.schema 2)) c.in_ok-executed.executed × HasRowids (db.trees (tree_at s0.now.schema 2))) same1.0.now_is (c.in_ok-executed.ensures.judged clean2 (tree_at s0.now.schema 2) (still_asks s0 s1 all_spans_text (tree_at s0.now.schema 2) same1 (spans_asks _ laid))))
+    (subst (λ (db : Database). AllByRecursion IsHeldRow (db.trees (tree_at s0.now.schema 1)) × HasRowids (db.trees (tree_at s0.now.schema 1))) same2.0.now_is (c.in_ok-load_held.ensures.judged clean (tree_at s0.now.schema 1) (still_asks s0 s2 all_held_text (tree_at s0.now.schema 1) same2 (held_asks _ laid))))
+
+pub returns-clause-same : goal.returns-clause-same
+returns-clause-same g c clean laid =
+    let s0 = state g.S.Store c.args.conn.now in
+    let s1 = state g.S.Store c.load_follow.new.conn in
+    let s2 = state g.S.Store c.load_spans.new.conn in
+    let s3 = state g.S.Store c.load_held.new.conn in
+    let clean2 = clean_before s2 s3 _ c.load_held.ensures.crash clean in
+    let clean1 = clean_before s1 s2 _ c.load_spans.ensures.crash clean2 in
+    let same1 = c.in_ok-following.ensures.same clean1 (tree_at s0.now.schema 3) (follow_asks _ laid) in
+    let same2 = unchanged_then s0 s1 s2 same1 (c.in_ok-executed.ensures.same clean2 (tree_at s0.now.schema 2) (still_asks s0 s1 all_spans_text (tree_at s0.now.schema 2) same1 (spans_asks _ laid))) in
+    let same3 = unchanged_then s0 s2 s3 same2 (c.in_ok-load_held.ensures.same clean (tree_at s0.now.schema 1) (still_asks s0 s2 all_held_text (tree_at s0.now.schema 1) same2 (held_asks _ laid))) in
+    same3
+
+pub returns-clause-rested : goal.returns-clause-rested
+returns-clause-rested g c clean laid =
+    let s0 = state g.S.Store c.args.conn.now in
+    let s1 = state g.S.Store c.load_follow.new.conn in
+    let s2 = state g.S.Store c.load_spans.new.conn in
+    let s3 = state g.S.Store c.load_held.new.conn in
+    let clean2 = clean_before s2 s3 _ c.load_held.ensures.crash clean in
+    let clean1 = clean_before s1 s2 _ c.load_spans.ensures.crash clean2 in
+    let same1 = c.in_ok-following.ensures.same clean1 (tree_at s0.now.schema 3) (follow_asks _ laid) in
+    let same2 = unchanged_then s0 s1 s2 same1 (c.in_ok-executed.ensures.same clean2 (tree_at s0.now.schema 2) (still_asks s0 s1 all_spans_text (tree_at s0.now.schema 2) same1 (spans_asks _ laid))) in
+    let same3 = unchanged_then s0 s2 s3 same2 (c.in_ok-load_held.ensures.same clean (tree_at s0.now.schema 1) (still_asks s0 s2 all_held_text (tree_at s0.now.schema 1) same2 (held_asks _ laid))) in
+    rested_unchanged s0 s3 same3
+
+pub returns-clause-crash : goal.returns-clause-crash
+returns-clause-crash g c laid =
+    let s0 = state g.S.Store c.args.conn.now in
+    let s1 = state g.S.Store c.load_follow.new.conn in
+    let s2 = state g.S.Store c.load_spans.new.conn in
+    let s3 = state g.S.Store c.load_held.new.conn in
+    next_step s0 s2 s3 all_held_text (tree_at s0.now.schema 1) (held_asks _ laid) (λ clean. let clean1 = clean_before s1 s2 _ c.load_spans.ensures.crash clean in let same1 = c.in_ok-following.ensures.same clean1 (tree_at s0.now.schema 3) (follow_asks _ laid) in let same2 = unchanged_then s0 s1 s2 same1 (c.in_ok-executed.ensures.same clean (tree_at s0.now.schema 2) (still_asks s0 s1 all_spans_text (tree_at s0.now.schema 2) same1 (spans_asks _ laid))) in same2) (next_step s0 s1 s2 all_spans_text (tree_at s0.now.schema 2) (spans_asks _ laid) (λ clean. let same1 = c.in_ok-following.ensures.same clean (tree_at s0.now.schema 3) (follow_asks _ laid) in same1) (first_step s0 s1 all_follow_text (tree_at s0.now.schema 3) (follow_asks _ laid) c.load_follow.ensures.crash) c.load_spans.ensures.crash) c.load_held.ensures.crash
 
 pub returns-clause-lives : goal.returns-clause-lives
 returns-clause-lives g c =
-    any_then (state g.S.Store c.args.conn.now) (state g.S.Store c.load_spans.new.conn) (state g.S.Store c.load_held.new.conn) _ (any_then (state g.S.Store c.args.conn.now) (state g.S.Store c.load_follow.new.conn) (state g.S.Store c.load_spans.new.conn) _ (any_then (state g.S.Store c.args.conn.now) (state g.S.Store c.load_meta.new.conn) (state g.S.Store c.load_follow.new.conn) _ (over_any (state g.S.Store c.args.conn.now) (state g.S.Store c.load_meta.new.conn) _ c.load_meta.ensures.crash) c.load_follow.ensures.crash) c.load_spans.ensures.crash) c.load_held.ensures.crash
+    let s0 = state g.S.Store c.args.conn.now in
+    let s1 = state g.S.Store c.load_follow.new.conn in
+    let s2 = state g.S.Store c.load_spans.new.conn in
+    let s3 = state g.S.Store c.load_held.new.conn in
+    any_then s0 s2 s3 _ (any_then s0 s1 s2 _ (over_any s0 s1 _ c.load_follow.ensures.crash) c.load_spans.ensures.crash) c.load_held.ensures.crash

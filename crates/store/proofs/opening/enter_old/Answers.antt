@@ -1,169 +1,197 @@
-use Rattle.std.proofs.Common.{◌≡◌, true, false, pos, sym, subst, ap, ◌∙◌, arith, rules}
-use Rattle.sqlite.specs.State.{HasCleanDisk, IsUnchanged}
+use Rattle.std.proofs.Common.{◌≡◌, true, false, pos, sym, ap, ◌∙◌, arith, rules}
+use Rattle.sqlite.specs.State.{HasCleanDisk}
 use Rattle.sqlite.specs.Held.{state}
-use Rattle.store.specs.Rows.{SaysLayout, first_meta_rows}
-use Rattle.store.specs.Load.{IsMetaFirst}
-use Rattle.store.specs.Entering.{lacks_first, lacks_second, MayEnter, tables_of, has_first, has_second}
+use Rattle.store.specs.Rows.{first_meta_rows}
+use Rattle.store.specs.Entering.{lacks_first, lacks_second, breaks_first, breaks_second, tables_of, has_first, has_second}
 use Rattle.store.proofs.Counted.{rests_unchanged}
-use Rattle.store.proofs.Known.{meta_first, known_first, known_second, ready_after, entered_after, turned_after, may_then, none_then, ok_weaker, err_weaker, laid_after_first, laid_after_second, says_after, meta_after}
-use Rattle.store.proofs.Entered.{weaken}
+use Rattle.store.proofs.Known.{there, meta_is_first, says_at, states_at, breaks_meta, breaks_meta_second, known_first, known_second, ready_after, entered_after, turned_after, may_then, none_then, may_none, ok_weaker, err_weaker, laid_after_first, laid_after_second, states_after, meta_after}
 use Rattle.store.proofs.opening.enter_old.Goals as goal
 
-pub returns-in_err-layout_of-clause-crash : goal.returns-in_err-layout_of-clause-crash
-returns-in_err-layout_of-clause-crash g c ready tables has =
+pub returns-in_err-meta-clause-crash : goal.returns-in_err-meta-clause-crash
+returns-in_err-meta-clause-crash g c ready tables has =
     let old = state g.S.Store c.args.conn.now in
-    let mid = state g.S.Store c.layout_of.new.conn in
-    let there : (tables_of old.now.schema).meta ≡ true = ap (λ t. t.meta) (sym tables) ∙ has in
-    let mf : IsMetaFirst old.now.schema = meta_first old.now ready.known there in
-    weaken old mid (λ _. ⊥) (MayEnter c.args.only.now old) (λ _ none. absurd none) (c.layout_of.ensures.crash mf)
+    let mid = state g.S.Store c.read_meta.new.conn in
+    may_none c.args.only.now old mid (c.read_meta.ensures.crash (meta_is_first old c.args.tables ready tables has))
 
 pub returns-then-not-has_first-clause-crash : goal.returns-then-not-has_first-clause-crash
 returns-then-not-has_first-clause-crash g c ready tables has =
     let old = state g.S.Store c.args.conn.now in
-    let mid = state g.S.Store c.layout_of.new.conn in
-    let there : (tables_of old.now.schema).meta ≡ true = ap (λ t. t.meta) (sym tables) ∙ has in
-    let mf : IsMetaFirst old.now.schema = meta_first old.now ready.known there in
-    weaken old mid (λ _. ⊥) (MayEnter c.args.only.now old) (λ _ none. absurd none) (c.layout_of.ensures.crash mf)
+    let mid = state g.S.Store c.read_meta.new.conn in
+    may_none c.args.only.now old mid (c.read_meta.ensures.crash (meta_is_first old c.args.tables ready tables has))
+
+pub returns-then-not-meta-clause-crash : goal.returns-then-not-meta-clause-crash
+returns-then-not-meta-clause-crash g c ready tables has =
+    let old = state g.S.Store c.args.conn.now in
+    let mid = state g.S.Store c.read_meta.new.conn in
+    may_none c.args.only.now old mid (c.read_meta.ensures.crash (meta_is_first old c.args.tables ready tables has))
 
 pub returns-then-not-has_second-clause-crash : goal.returns-then-not-has_second-clause-crash
 returns-then-not-has_second-clause-crash g c ready tables has =
     let old = state g.S.Store c.args.conn.now in
-    let mid = state g.S.Store c.layout_of.new.conn in
-    let there : (tables_of old.now.schema).meta ≡ true = ap (λ t. t.meta) (sym tables) ∙ has in
-    let mf : IsMetaFirst old.now.schema = meta_first old.now ready.known there in
-    weaken old mid (λ _. ⊥) (MayEnter c.args.only.now old) (λ _ none. absurd none) (c.layout_of.ensures.crash mf)
+    let mid = state g.S.Store c.read_meta.new.conn in
+    may_none c.args.only.now old mid (c.read_meta.ensures.crash (meta_is_first old c.args.tables ready tables has))
+
+pub returns-then-not-meta-2-clause-crash : goal.returns-then-not-meta-2-clause-crash
+returns-then-not-meta-2-clause-crash g c ready tables has =
+    let old = state g.S.Store c.args.conn.now in
+    let mid = state g.S.Store c.read_meta.new.conn in
+    may_none c.args.only.now old mid (c.read_meta.ensures.crash (meta_is_first old c.args.tables ready tables has))
 
 pub returns-in-Some-clause-crash : goal.returns-in-Some-clause-crash
 returns-in-Some-clause-crash g c ready tables has =
     let old = state g.S.Store c.args.conn.now in
-    let mid = state g.S.Store c.layout_of.new.conn in
-    let there : (tables_of old.now.schema).meta ≡ true = ap (λ t. t.meta) (sym tables) ∙ has in
-    let mf : IsMetaFirst old.now.schema = meta_first old.now ready.known there in
-    weaken old mid (λ _. ⊥) (MayEnter c.args.only.now old) (λ _ none. absurd none) (c.layout_of.ensures.crash mf)
+    let mid = state g.S.Store c.read_meta.new.conn in
+    may_none c.args.only.now old mid (c.read_meta.ensures.crash (meta_is_first old c.args.tables ready tables has))
 
 pub returns-in-None-clause-crash : goal.returns-in-None-clause-crash
 returns-in-None-clause-crash g c ready tables has =
     let old = state g.S.Store c.args.conn.now in
-    let mid = state g.S.Store c.layout_of.new.conn in
-    let there : (tables_of old.now.schema).meta ≡ true = ap (λ t. t.meta) (sym tables) ∙ has in
-    let mf : IsMetaFirst old.now.schema = meta_first old.now ready.known there in
-    weaken old mid (λ _. ⊥) (MayEnter c.args.only.now old) (λ _ none. absurd none) (c.layout_of.ensures.crash mf)
+    let mid = state g.S.Store c.read_meta.new.conn in
+    may_none c.args.only.now old mid (c.read_meta.ensures.crash (meta_is_first old c.args.tables ready tables has))
 
 pub returns-then-not-has_first-clause-turned : goal.returns-then-not-has_first-clause-turned
 returns-then-not-has_first-clause-turned g c clean ready tables has =
     let old = state g.S.Store c.args.conn.now in
-    let mid = state g.S.Store c.layout_of.new.conn in
-    let there : (tables_of old.now.schema).meta ≡ true = ap (λ t. t.meta) (sym tables) ∙ has in
-    let mf : IsMetaFirst old.now.schema = meta_first old.now ready.known there in
-    let same : IsUnchanged old mid = c.in_ok-layout_of.ensures.same clean mf in
-    let one1 : c.in-Some-eq1.field-0 ≡ pos 1 = search rules in
-    let says : SaysLayout (pos 1) (first_meta_rows old.now) = subst (λ n. SaysLayout n (first_meta_rows old.now)) one1 (rw c.in-Some-eq1.is at (c.in_ok-layout_of.ensures.says clean mf)) in
+    let mid = state g.S.Store c.read_meta.new.conn in
+    let mf = meta_is_first old c.args.tables ready tables has in
+    let there_is = there old c.args.tables tables has in
+    let meta = c.in_ok-meta.ensures.says clean mf in
+    let one : c.in-Some-eq1.field-0 ≡ pos 1 = search rules in
+    let says = says_at (first_meta_rows old.now) c.in_ok-meta.meta c.in-Some-eq1.field-0 (pos 1) meta c.in-Some-eq1.is one in
     let lacks : has_first (tables_of old.now.schema) ≡ false = ap has_first (sym tables) ∙ sym c.has_first.ensures ∙ c.if-not-has_first.true in
-    (lacks_first there says lacks, rests_unchanged old mid same)
+    (lacks_first there_is says lacks, rests_unchanged old mid (c.in_ok-meta.ensures.same clean mf))
 
-pub returns-else-not-has_first-clause-entered : goal.returns-else-not-has_first-clause-entered
-returns-else-not-has_first-clause-entered g c clean ready tables has =
+pub returns-then-not-meta-clause-turned : goal.returns-then-not-meta-clause-turned
+returns-then-not-meta-clause-turned g c clean ready tables has =
     let old = state g.S.Store c.args.conn.now in
-    let mid = state g.S.Store c.layout_of.new.conn in
-    let there : (tables_of old.now.schema).meta ≡ true = ap (λ t. t.meta) (sym tables) ∙ has in
-    let mf : IsMetaFirst old.now.schema = meta_first old.now ready.known there in
+    let mid = state g.S.Store c.read_meta.new.conn in
+    let mf = meta_is_first old c.args.tables ready tables has in
+    let there_is = there old c.args.tables tables has in
+    let meta = c.in_ok-meta.ensures.says clean mf in
+    let one : c.in-Some-eq1.field-0 ≡ pos 1 = search rules in
+    let says = says_at (first_meta_rows old.now) c.in_ok-meta.meta c.in-Some-eq1.field-0 (pos 1) meta c.in-Some-eq1.is one in
+    (breaks_first there_is says (λ rules. breaks_meta (first_meta_rows old.now) c.in_ok-meta.meta meta c.if-not-meta.true rules.meta), rests_unchanged old mid (c.in_ok-meta.ensures.same clean mf))
+
+pub returns-else-not-meta-clause-entered : goal.returns-else-not-meta-clause-entered
+returns-else-not-meta-clause-entered g c clean ready tables has =
+    let old = state g.S.Store c.args.conn.now in
+    let mid = state g.S.Store c.read_meta.new.conn in
+    let mf = meta_is_first old c.args.tables ready tables has in
     let new = state g.S.Store c.enter_first.new.conn in
     let early : HasCleanDisk mid = omega (arith, c.enter_first.ensures.lives.clean, clean) in
-    let same : IsUnchanged old mid = c.in_ok-layout_of.ensures.same early mf in
-    let one1 : c.in-Some-eq1.field-0 ≡ pos 1 = search rules in
-    let says : SaysLayout (pos 1) (first_meta_rows old.now) = subst (λ n. SaysLayout n (first_meta_rows old.now)) one1 (rw c.in-Some-eq1.is at (c.in_ok-layout_of.ensures.says early mf)) in
+    let same = c.in_ok-meta.ensures.same early mf in
+    let meta = c.in_ok-meta.ensures.says early mf in
+    let one : c.in-Some-eq1.field-0 ≡ pos 1 = search rules in
+    let says = says_at (first_meta_rows old.now) c.in_ok-meta.meta c.in-Some-eq1.field-0 (pos 1) meta c.in-Some-eq1.is one in
+    let states = states_at (first_meta_rows old.now) c.in_ok-meta.meta (pos 1) meta says c.if-not-meta.false in
     let all : has_first (tables_of old.now.schema) ≡ true = ap has_first (sym tables) ∙ sym c.has_first.ensures ∙ c.if-not-has_first.false in
     let laid = known_first old.now ready.known says all in
-    ok_weaker c.enter_first.result (λ l e. entered_after c.args.any c.args.only.now old mid new same l.executed l.following e)
-    (c.enter_first.ensures.entered clean (ready_after old mid same ready) (laid_after_first old mid same laid) (says_after (pos 1) old mid same says))
+    ok_weaker c.enter_first.result (λ l e. entered_after c.args.any c.args.only.now old mid new same l.executed l.following e) (c.enter_first.ensures.entered clean (ready_after old mid same ready) (laid_after_first old mid same laid) (states_after (pos 1) old mid same states))
 
-pub returns-else-not-has_first-clause-turned : goal.returns-else-not-has_first-clause-turned
-returns-else-not-has_first-clause-turned g c clean ready tables has =
+pub returns-else-not-meta-clause-turned : goal.returns-else-not-meta-clause-turned
+returns-else-not-meta-clause-turned g c clean ready tables has =
     let old = state g.S.Store c.args.conn.now in
-    let mid = state g.S.Store c.layout_of.new.conn in
-    let there : (tables_of old.now.schema).meta ≡ true = ap (λ t. t.meta) (sym tables) ∙ has in
-    let mf : IsMetaFirst old.now.schema = meta_first old.now ready.known there in
+    let mid = state g.S.Store c.read_meta.new.conn in
+    let mf = meta_is_first old c.args.tables ready tables has in
     let new = state g.S.Store c.enter_first.new.conn in
     let early : HasCleanDisk mid = omega (arith, c.enter_first.ensures.lives.clean, clean) in
-    let same : IsUnchanged old mid = c.in_ok-layout_of.ensures.same early mf in
-    let one1 : c.in-Some-eq1.field-0 ≡ pos 1 = search rules in
-    let says : SaysLayout (pos 1) (first_meta_rows old.now) = subst (λ n. SaysLayout n (first_meta_rows old.now)) one1 (rw c.in-Some-eq1.is at (c.in_ok-layout_of.ensures.says early mf)) in
+    let same = c.in_ok-meta.ensures.same early mf in
+    let meta = c.in_ok-meta.ensures.says early mf in
+    let one : c.in-Some-eq1.field-0 ≡ pos 1 = search rules in
+    let says = says_at (first_meta_rows old.now) c.in_ok-meta.meta c.in-Some-eq1.field-0 (pos 1) meta c.in-Some-eq1.is one in
+    let states = states_at (first_meta_rows old.now) c.in_ok-meta.meta (pos 1) meta says c.if-not-meta.false in
     let all : has_first (tables_of old.now.schema) ≡ true = ap has_first (sym tables) ∙ sym c.has_first.ensures ∙ c.if-not-has_first.false in
     let laid = known_first old.now ready.known says all in
     err_weaker c.enter_first.result (λ fault t. turned_after c.args.any c.args.only.now old mid new same fault t)
-    (c.enter_first.ensures.turned clean (ready_after old mid same ready) (laid_after_first old mid same laid) (says_after (pos 1) old mid same says) (meta_after old mid same there))
+    (c.enter_first.ensures.turned clean (ready_after old mid same ready) (laid_after_first old mid same laid) (states_after (pos 1) old mid same states) (meta_after old mid same (there old c.args.tables tables has)))
+
+pub returns-else-not-meta-clause-crash : goal.returns-else-not-meta-clause-crash
+returns-else-not-meta-clause-crash g c ready tables has =
+    let old = state g.S.Store c.args.conn.now in
+    let mid = state g.S.Store c.read_meta.new.conn in
+    let new = state g.S.Store c.enter_first.new.conn in
+    let mf = meta_is_first old c.args.tables ready tables has in
+    let all : has_first (tables_of old.now.schema) ≡ true = ap has_first (sym tables) ∙ sym c.has_first.ensures ∙ c.if-not-has_first.false in
+    may_then c.args.only.now old mid new (c.read_meta.ensures.crash mf) c.enter_first.ensures.lives (λ early. c.in_ok-meta.ensures.same early mf)
+    (λ early.
+    let same = c.in_ok-meta.ensures.same early mf in
+    let meta = c.in_ok-meta.ensures.says early mf in
+    let one : c.in-Some-eq1.field-0 ≡ pos 1 = search rules in
+    let says = says_at (first_meta_rows old.now) c.in_ok-meta.meta c.in-Some-eq1.field-0 (pos 1) meta c.in-Some-eq1.is one in
+    let states = states_at (first_meta_rows old.now) c.in_ok-meta.meta (pos 1) meta says c.if-not-meta.false in
+    let laid = known_first old.now ready.known says all in
+    c.enter_first.ensures.crash (ready_after old mid same ready) (laid_after_first old mid same laid) (states_after (pos 1) old mid same states))
 
 pub returns-then-not-has_second-clause-turned : goal.returns-then-not-has_second-clause-turned
 returns-then-not-has_second-clause-turned g c clean ready tables has =
     let old = state g.S.Store c.args.conn.now in
-    let mid = state g.S.Store c.layout_of.new.conn in
-    let there : (tables_of old.now.schema).meta ≡ true = ap (λ t. t.meta) (sym tables) ∙ has in
-    let mf : IsMetaFirst old.now.schema = meta_first old.now ready.known there in
-    let same : IsUnchanged old mid = c.in_ok-layout_of.ensures.same clean mf in
-    let one2 : c.in-Some-eq2.field-0 ≡ pos 2 = search rules in
-    let says : SaysLayout (pos 2) (first_meta_rows old.now) = subst (λ n. SaysLayout n (first_meta_rows old.now)) one2 (rw c.in-Some-eq2.is at (c.in_ok-layout_of.ensures.says clean mf)) in
+    let mid = state g.S.Store c.read_meta.new.conn in
+    let mf = meta_is_first old c.args.tables ready tables has in
+    let there_is = there old c.args.tables tables has in
+    let meta = c.in_ok-meta.ensures.says clean mf in
+    let one : c.in-Some-eq2.field-0 ≡ pos 2 = search rules in
+    let says = says_at (first_meta_rows old.now) c.in_ok-meta.meta c.in-Some-eq2.field-0 (pos 2) meta c.in-Some-eq2.is one in
     let lacks : has_second (tables_of old.now.schema) ≡ false = ap has_second (sym tables) ∙ sym c.has_second.ensures ∙ c.if-not-has_second.true in
-    (lacks_second there says lacks, rests_unchanged old mid same)
+    (lacks_second there_is says lacks, rests_unchanged old mid (c.in_ok-meta.ensures.same clean mf))
 
-pub returns-else-not-has_second-clause-entered : goal.returns-else-not-has_second-clause-entered
-returns-else-not-has_second-clause-entered g c clean ready tables has =
+pub returns-then-not-meta-2-clause-turned : goal.returns-then-not-meta-2-clause-turned
+returns-then-not-meta-2-clause-turned g c clean ready tables has =
     let old = state g.S.Store c.args.conn.now in
-    let mid = state g.S.Store c.layout_of.new.conn in
-    let there : (tables_of old.now.schema).meta ≡ true = ap (λ t. t.meta) (sym tables) ∙ has in
-    let mf : IsMetaFirst old.now.schema = meta_first old.now ready.known there in
-    let new = state g.S.Store c.enter_second.new.conn in
-    let early : HasCleanDisk mid = omega (arith, c.enter_second.ensures.lives.clean, clean) in
-    let same : IsUnchanged old mid = c.in_ok-layout_of.ensures.same early mf in
-    let one2 : c.in-Some-eq2.field-0 ≡ pos 2 = search rules in
-    let says : SaysLayout (pos 2) (first_meta_rows old.now) = subst (λ n. SaysLayout n (first_meta_rows old.now)) one2 (rw c.in-Some-eq2.is at (c.in_ok-layout_of.ensures.says early mf)) in
+    let mid = state g.S.Store c.read_meta.new.conn in
+    let mf = meta_is_first old c.args.tables ready tables has in
+    let there_is = there old c.args.tables tables has in
+    let meta = c.in_ok-meta.ensures.says clean mf in
+    let one : c.in-Some-eq2.field-0 ≡ pos 2 = search rules in
+    let says = says_at (first_meta_rows old.now) c.in_ok-meta.meta c.in-Some-eq2.field-0 (pos 2) meta c.in-Some-eq2.is one in
     let all : has_second (tables_of old.now.schema) ≡ true = ap has_second (sym tables) ∙ sym c.has_second.ensures ∙ c.if-not-has_second.false in
     let laid = known_second old.now ready.known says all in
-    ok_weaker c.enter_second.result (λ l e. entered_after c.args.any c.args.only.now old mid new same l.executed l.following e)
-    (c.enter_second.ensures.entered clean (ready_after old mid same ready) (laid_after_second old mid same laid) (says_after (pos 2) old mid same says))
+    (breaks_second there_is says (λ rules. breaks_meta_second old.now laid c.in_ok-meta.meta meta c.if-not-meta-2.true rules.meta), rests_unchanged old mid (c.in_ok-meta.ensures.same clean mf))
 
-pub returns-else-not-has_second-clause-turned : goal.returns-else-not-has_second-clause-turned
-returns-else-not-has_second-clause-turned g c clean ready tables has =
+pub returns-else-not-meta-2-clause-entered : goal.returns-else-not-meta-2-clause-entered
+returns-else-not-meta-2-clause-entered g c clean ready tables has =
     let old = state g.S.Store c.args.conn.now in
-    let mid = state g.S.Store c.layout_of.new.conn in
-    let there : (tables_of old.now.schema).meta ≡ true = ap (λ t. t.meta) (sym tables) ∙ has in
-    let mf : IsMetaFirst old.now.schema = meta_first old.now ready.known there in
+    let mid = state g.S.Store c.read_meta.new.conn in
+    let mf = meta_is_first old c.args.tables ready tables has in
     let new = state g.S.Store c.enter_second.new.conn in
     let early : HasCleanDisk mid = omega (arith, c.enter_second.ensures.lives.clean, clean) in
-    let same : IsUnchanged old mid = c.in_ok-layout_of.ensures.same early mf in
-    let one2 : c.in-Some-eq2.field-0 ≡ pos 2 = search rules in
-    let says : SaysLayout (pos 2) (first_meta_rows old.now) = subst (λ n. SaysLayout n (first_meta_rows old.now)) one2 (rw c.in-Some-eq2.is at (c.in_ok-layout_of.ensures.says early mf)) in
+    let same = c.in_ok-meta.ensures.same early mf in
+    let meta = c.in_ok-meta.ensures.says early mf in
+    let one : c.in-Some-eq2.field-0 ≡ pos 2 = search rules in
+    let says = says_at (first_meta_rows old.now) c.in_ok-meta.meta c.in-Some-eq2.field-0 (pos 2) meta c.in-Some-eq2.is one in
+    let states = states_at (first_meta_rows old.now) c.in_ok-meta.meta (pos 2) meta says c.if-not-meta-2.false in
+    let all : has_second (tables_of old.now.schema) ≡ true = ap has_second (sym tables) ∙ sym c.has_second.ensures ∙ c.if-not-has_second.false in
+    let laid = known_second old.now ready.known says all in
+    ok_weaker c.enter_second.result (λ l e. entered_after c.args.any c.args.only.now old mid new same l.executed l.following e) (c.enter_second.ensures.entered clean (ready_after old mid same ready) (laid_after_second old mid same laid) (states_after (pos 2) old mid same states))
+
+pub returns-else-not-meta-2-clause-turned : goal.returns-else-not-meta-2-clause-turned
+returns-else-not-meta-2-clause-turned g c clean ready tables has =
+    let old = state g.S.Store c.args.conn.now in
+    let mid = state g.S.Store c.read_meta.new.conn in
+    let mf = meta_is_first old c.args.tables ready tables has in
+    let new = state g.S.Store c.enter_second.new.conn in
+    let early : HasCleanDisk mid = omega (arith, c.enter_second.ensures.lives.clean, clean) in
+    let same = c.in_ok-meta.ensures.same early mf in
+    let meta = c.in_ok-meta.ensures.says early mf in
+    let one : c.in-Some-eq2.field-0 ≡ pos 2 = search rules in
+    let says = says_at (first_meta_rows old.now) c.in_ok-meta.meta c.in-Some-eq2.field-0 (pos 2) meta c.in-Some-eq2.is one in
+    let states = states_at (first_meta_rows old.now) c.in_ok-meta.meta (pos 2) meta says c.if-not-meta-2.false in
     let all : has_second (tables_of old.now.schema) ≡ true = ap has_second (sym tables) ∙ sym c.has_second.ensures ∙ c.if-not-has_second.false in
     let laid = known_second old.now ready.known says all in
     err_weaker c.enter_second.result (λ fault t. turned_after c.args.any c.args.only.now old mid new same fault t)
-    (c.enter_second.ensures.turned clean (ready_after old mid same ready) (laid_after_second old mid same laid) (says_after (pos 2) old mid same says) (meta_after old mid same there))
+    (c.enter_second.ensures.turned clean (ready_after old mid same ready) (laid_after_second old mid same laid) (states_after (pos 2) old mid same states) (meta_after old mid same (there old c.args.tables tables has)))
 
-pub returns-else-not-has_first-clause-crash : goal.returns-else-not-has_first-clause-crash
-returns-else-not-has_first-clause-crash g c ready tables has =
+pub returns-else-not-meta-2-clause-crash : goal.returns-else-not-meta-2-clause-crash
+returns-else-not-meta-2-clause-crash g c ready tables has =
     let old = state g.S.Store c.args.conn.now in
-    let mid = state g.S.Store c.layout_of.new.conn in
-    let there : (tables_of old.now.schema).meta ≡ true = ap (λ t. t.meta) (sym tables) ∙ has in
-    let mf : IsMetaFirst old.now.schema = meta_first old.now ready.known there in
-    let new = state g.S.Store c.enter_first.new.conn in
-    let all : has_first (tables_of old.now.schema) ≡ true = ap has_first (sym tables) ∙ sym c.has_first.ensures ∙ c.if-not-has_first.false in
-    may_then c.args.only.now old mid new (c.layout_of.ensures.crash mf) c.enter_first.ensures.lives (λ early. c.in_ok-layout_of.ensures.same early mf)
-    (λ early.
-    let same = c.in_ok-layout_of.ensures.same early mf in
-    let one1 : c.in-Some-eq1.field-0 ≡ pos 1 = search rules in
-    let says : SaysLayout (pos 1) (first_meta_rows old.now) = subst (λ n. SaysLayout n (first_meta_rows old.now)) one1 (rw c.in-Some-eq1.is at (c.in_ok-layout_of.ensures.says early mf)) in
-    let laid = known_first old.now ready.known says all in
-    c.enter_first.ensures.crash (ready_after old mid same ready) (laid_after_first old mid same laid) (says_after (pos 1) old mid same says))
-
-pub returns-else-not-has_second-clause-crash : goal.returns-else-not-has_second-clause-crash
-returns-else-not-has_second-clause-crash g c ready tables has =
-    let old = state g.S.Store c.args.conn.now in
-    let mid = state g.S.Store c.layout_of.new.conn in
-    let there : (tables_of old.now.schema).meta ≡ true = ap (λ t. t.meta) (sym tables) ∙ has in
-    let mf : IsMetaFirst old.now.schema = meta_first old.now ready.known there in
+    let mid = state g.S.Store c.read_meta.new.conn in
     let new = state g.S.Store c.enter_second.new.conn in
+    let mf = meta_is_first old c.args.tables ready tables has in
     let all : has_second (tables_of old.now.schema) ≡ true = ap has_second (sym tables) ∙ sym c.has_second.ensures ∙ c.if-not-has_second.false in
-    none_then c.args.only.now old mid new (c.layout_of.ensures.crash mf) c.enter_second.ensures.lives
+    none_then c.args.only.now old mid new (c.read_meta.ensures.crash mf) c.enter_second.ensures.lives
     (λ early.
-    let same = c.in_ok-layout_of.ensures.same early mf in
-    let one2 : c.in-Some-eq2.field-0 ≡ pos 2 = search rules in
-    let says : SaysLayout (pos 2) (first_meta_rows old.now) = subst (λ n. SaysLayout n (first_meta_rows old.now)) one2 (rw c.in-Some-eq2.is at (c.in_ok-layout_of.ensures.says early mf)) in
-    c.enter_second.ensures.crash (laid_after_second old mid same (known_second old.now ready.known says all)))
+    let same = c.in_ok-meta.ensures.same early mf in
+    let meta = c.in_ok-meta.ensures.says early mf in
+    let one : c.in-Some-eq2.field-0 ≡ pos 2 = search rules in
+    let says = says_at (first_meta_rows old.now) c.in_ok-meta.meta c.in-Some-eq2.field-0 (pos 2) meta c.in-Some-eq2.is one in
+    let laid = known_second old.now ready.known says all in
+    c.enter_second.ensures.crash (laid_after_second old mid same laid))

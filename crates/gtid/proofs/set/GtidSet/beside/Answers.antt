@@ -5,7 +5,7 @@ use Rattle.gtid.specs.Identifier.{id}
 use Rattle.gtid.specs.Interval.{has}
 use Rattle.gtid.specs.Group.{is_listed}
 use Rattle.gtid.specs.Spans.{span}
-use Rattle.gtid.proofs.Around.{joins}
+use Rattle.gtid.proofs.Around.{joins, beside_lawful}
 use Rattle.gtid.proofs.Sets.{contained}
 use Rattle.gtid.proofs.set.GtidSet.beside.Goals as goal
 
@@ -26,3 +26,13 @@ returns-clause-there c there =
     ∙ contained c.self.inside.groups.items c.args.self.now c.self.view_is (id c.args.gtid) in
     let none = c.beside-below.ensures.there (same ∙ there) in
     (c.of.ensures.below ∙ ap (option_map (span c.args.gtid.source)) none.0, c.of.ensures.above ∙ ap (option_map (span c.args.gtid.source)) none.1)
+
+pub returns-clause-below : goal.returns-clause-below
+returns-clause-below c =
+    (beside_lawful c.args.gtid.source c.args.gtid.number c.intervals_of-intervals.result.now c.beside-below.result.0 c.beside-below.result.1 c.of.result
+    c.intervals_of-intervals.ensures.least c.beside-below.ensures.touches c.beside-below.ensures.there c.of.ensures.below c.of.ensures.above).0
+
+pub returns-clause-above : goal.returns-clause-above
+returns-clause-above c =
+    (beside_lawful c.args.gtid.source c.args.gtid.number c.intervals_of-intervals.result.now c.beside-below.result.0 c.beside-below.result.1 c.of.result
+    c.intervals_of-intervals.ensures.least c.beside-below.ensures.touches c.beside-below.ensures.there c.of.ensures.below c.of.ensures.above).1

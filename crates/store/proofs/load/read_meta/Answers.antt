@@ -2,8 +2,9 @@ use Rattle.sqlite.specs.Held.{state}
 use Rattle.store.proofs.Wholes.{meta_first_asks}
 use Rattle.store.specs.Load.{all_meta_text}
 use Rattle.store.proofs.Steps.{first_step}
-use Rattle.store.proofs.Laid.{says_table, on_any}
-use Rattle.store.proofs.load.layout_of.Goals as goal
+use Rattle.store.proofs.Laid.{on_any}
+use Rattle.store.proofs.Loading.{meta_table}
+use Rattle.store.proofs.load.read_meta.Goals as goal
 
 pub returns-in_err-rows-clause-rested : goal.returns-in_err-rows-clause-rested
 returns-in_err-rows-clause-rested g c clean first = c.read_all.ensures.rested clean 0 (meta_first_asks _ first)
@@ -13,10 +14,10 @@ returns-in_err-rows-clause-crash g c first = first_step (state g.S.Store c.args.
 
 pub returns-clause-says : goal.returns-clause-says
 returns-clause-says g c clean first =
-    says_table ((state g.S.Store c.args.conn.now).now.trees 0) _ c.layout_in.result (c.in_ok-rows.ensures.rows clean 0 (meta_first_asks _ first)) (rw c.deref.ensures.value at c.layout_in.ensures)
+    meta_table ((state g.S.Store c.args.conn.now).now.trees 0) _ (c.in_ok-rows.ensures.rows clean 0 (meta_first_asks _ first)) c.meta_in.result (rw c.deref.ensures.value at c.meta_in.ensures)
 
 pub returns-clause-same : goal.returns-clause-same
-returns-clause-same g c clean first = on_any c.layout_in.result (c.in_ok-rows.ensures.same clean 0 (meta_first_asks _ first))
+returns-clause-same g c clean first = on_any c.meta_in.result (c.in_ok-rows.ensures.same clean 0 (meta_first_asks _ first))
 
 pub returns-clause-rested : goal.returns-clause-rested
 returns-clause-rested g c clean first = c.read_all.ensures.rested clean 0 (meta_first_asks _ first)
