@@ -1,14 +1,15 @@
 //! Sets of GTIDs.
 
-ghost use Rattle.std.specs.Prelude.{◌≡◌, ℕ, ◌≤◌, ◌⊎◌, true, false, not, length, take, string_bytes, MatchResult, IfOk, OnOk, IfErr, OnErr, Ok, Err, List, None, vec_len, vec_capacity};
+ghost use Rattle.std.specs.Prelude.{◌≡◌, ℕ, ◌≤◌, ◌⊎◌, true, false, not, length, take, string_bytes, MatchResult, IfOk, OnOk, IfErr, OnErr, Ok, Err, List, None, IsOk, vec_len, vec_capacity};
 ghost use Rattle.std.specs.FinSet as set;
 ghost use Rattle.gtid.specs.Identifier.{Ids, id};
 ghost use Rattle.std.specs.List.{AllByRecursion};
+ghost use Rattle.gtid.specs.Interval.{IsNear};
 ghost use Rattle.gtid.specs.Span.{Covers, IsLeastList};
 ghost use Rattle.gtid.specs.Reading.{IsLawfulSpan};
 ghost use Rattle.gtid.specs.Beside.{Joins};
 ghost use Rattle.gtid.specs.declared.span.Span.{Span};
-ghost use Rattle.gtid.specs.Encoding.{IsEncoding, IsDecodeFault, AppendsEncoding, LacksRoom};
+ghost use Rattle.gtid.specs.Encoding.{IsEncoding, IsDecodeFault, AppendsEncoding, LacksRoom, HasFirst};
 ghost use Rattle.gtid.specs.Text.{IsRead, IsParseFault, AppendsText};
 
 use crate::beside::Beside;
@@ -76,11 +77,12 @@ impl GtidSet {
         are_subset(&self.groups, &other.groups)
     }
 
-    /// Adds a GTID, and returns whether it is new. The only error is `Memory`, which comes only for a new GTID and
-    /// leaves the set as it was.
+    /// Adds a GTID, and returns whether it is new. The only error is `Memory`, which comes only for a new GTID with
+    /// neither neighbour in the set, and leaves the set as it was.
     pub fn insert(&mut self, gtid: Gtid) -> Result<bool, GtidFault>
         ensures ok { IfOk result (λ new. (new ≡ not (set.contains self.old (id gtid))) × (self.new ≡ set.insert self.old (id gtid))) }
         ensures there { set.contains self.old (id gtid) ≡ true → result ≡ Ok false }
+        ensures near { (number : ℕ) → IsNear number gtid.number → set.contains self.old (gtid.source, number) ≡ true → IsOk result }
         ensures err { OnErr result ((result ≡ Err GtidFault.Memory) × (self.new ≡ self.old)) }
     {
         insert(&mut self.groups, gtid)
@@ -103,32 +105,49 @@ impl GtidSet {
         }
     }
 
-    /// Adds the GTIDs of the other set. The only error is `Memory`, which leaves the set as it was.
+    /// Adds the GTIDs of the other set. The only error is `Memory`, which comes only if the other set is not empty, and
+    /// leaves the set as it was.
     pub fn union(&mut self, other: &GtidSet) -> Result<(), GtidFault>
         ensures ok { OnOk result (self.new ≡ set.union self.old other.now) }
         ensures err { OnErr result ((result ≡ Err GtidFault.Memory) × (self.new ≡ self.old)) }
+        ensures none { other.now ≡ set.empty → IsOk result }
     {
+        if other.groups.len() == 0 {
+            return Ok(());
+        }
         let alloc = *self.groups.allocator();
         self.groups = combine_groups(alloc, Combination::Union, &self.groups, &other.groups)?;
         Ok(())
     }
 
-    /// Removes the GTIDs of the other set. The only error is `Memory`, which leaves the set as it was.
+    /// Removes the GTIDs of the other set. The only error is `Memory`, which comes only if neither set is empty, and
+    /// leaves the set as it was.
     pub fn subtract(&mut self, other: &GtidSet) -> Result<(), GtidFault>
         ensures ok { OnOk result (self.new ≡ set.difference self.old other.now) }
         ensures err { OnErr result ((result ≡ Err GtidFault.Memory) × (self.new ≡ self.old)) }
+        ensures none { (self.old ≡ set.empty) ⊎ (other.now ≡ set.empty) → IsOk result }
     {
+        if self.groups.len() == 0 {
+            return Ok(());
+        }
+        if other.groups.len() == 0 {
+            return Ok(());
+        }
         let alloc = *self.groups.allocator();
         self.groups = combine_groups(alloc, Combination::Difference, &self.groups, &other.groups)?;
         Ok(())
     }
 
-    /// A copy of the set. The only error is `Memory`.
+    /// A copy of the set. The only error is `Memory`, which comes only if the set is not empty.
     pub fn copy(&self) -> Result<GtidSet, GtidFault>
         ensures ok { IfOk result (λ copied. copied ≡ self.now) }
         ensures err { IfErr result (λ fault. fault ≡ GtidFault.Memory) }
+        ensures none { self.now ≡ set.empty → IsOk result }
     {
         let alloc = *self.groups.allocator();
+        if self.groups.len() == 0 {
+            return Ok(GtidSet::new(alloc));
+        }
         let groups = combine_groups(alloc, Combination::Union, &self.groups, &[])?;
         Ok(GtidSet { groups })
     }
@@ -175,13 +194,14 @@ impl GtidSet {
     ///   before it.
     /// - `Interval` if a source has no interval, or an interval is empty.
     /// - `Number` if an interval begins at 0 or its `hi` is above 2^63 - 1.
-    /// - `Memory` if an allocation was refused.
+    /// - `Memory` if an allocation was refused, after a source whose first interval is lawful.
     ///
     /// For one interval `Number` is reported before `Interval`, and `Interval` before `Order`.
     pub fn decode(alloc: Global, bytes: &[u8]) -> Result<(GtidSet, usize), GtidFault>
         ensures length { IfOk result (λ found. found.1 ≤ length bytes.now) }
         ensures found { IfOk result (λ found. IsEncoding found.0 (take found.1 bytes.now)) }
         ensures fault { IfErr result (λ fault. (fault ≡ GtidFault.Memory) ⊎ IsDecodeFault bytes.now fault) }
+        ensures memory { IfErr result (λ fault. fault ≡ GtidFault.Memory → HasFirst bytes.now) }
         ensures only { (ids : Ids) (n : ℕ) → n ≤ length bytes.now → IsEncoding ids (take n bytes.now) → MatchResult result (λ found. found ≡ (ids, n)) (λ fault. fault ≡ GtidFault.Memory) }
     {
         let (groups, rest) = read_groups(alloc, bytes)?;
