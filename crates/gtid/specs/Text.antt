@@ -36,6 +36,12 @@ pub record AppendsText (ids : Ids) (old new : List ℕ) : Type 0 where
   pub is_text : IsText ids text
   pub appended : new ≡ old ++ text
 
+-- A text of this length and this capacity lacks the room for the printed form of the set.
+pub record LacksTextRoom (ids : Ids) (len capacity : ℕ) : Type 0 where
+  pub spans : List Span
+  pub least : IsLeastList spans ids
+  pub lacks : capacity < len + length (join_by block_text (codes ",") (grouped spans))
+
 -- ---- The grammar that is read.
 
 -- from 1 to 2 ^ 63 - 2

@@ -1,6 +1,6 @@
 //! Sets of GTIDs.
 
-ghost use Rattle.std.specs.Prelude.{◌≡◌, ℕ, ◌≤◌, ◌⊎◌, true, false, not, length, take, string_bytes, MatchResult, IfOk, OnOk, IfErr, OnErr, Ok, Err, List, None, IsOk, vec_len, vec_capacity};
+ghost use Rattle.std.specs.Prelude.{◌≡◌, ℕ, ◌≤◌, ◌⊎◌, true, false, not, length, take, string_bytes, MatchResult, IfOk, OnOk, IfErr, OnErr, Ok, Err, List, None, IsOk, vec_len, vec_capacity, string_len, string_capacity};
 ghost use Rattle.std.specs.FinSet as set;
 ghost use Rattle.gtid.specs.Identifier.{Ids, id};
 ghost use Rattle.std.specs.List.{AllByRecursion};
@@ -10,7 +10,7 @@ ghost use Rattle.gtid.specs.Reading.{IsLawfulSpan};
 ghost use Rattle.gtid.specs.Beside.{Joins};
 ghost use Rattle.gtid.specs.declared.span.Span.{Span};
 ghost use Rattle.gtid.specs.Encoding.{IsEncoding, IsDecodeFault, AppendsEncoding, LacksRoom, HasFirst};
-ghost use Rattle.gtid.specs.Text.{IsRead, IsParseFault, AppendsText};
+ghost use Rattle.gtid.specs.Text.{IsRead, IsParseFault, AppendsText, LacksTextRoom};
 
 use crate::beside::Beside;
 use crate::combination::Combination;
@@ -244,11 +244,12 @@ impl GtidSet {
     }
 
     /// Appends the text of the set: the sources in lower case and in the order of their bytes, separated by commas,
-    /// each with its least intervals, `:n` for one number and `:n-m` for more. The only error is `Memory`, which leaves
-    /// the text as it was.
+    /// each with its least intervals, `:n` for one number and `:n-m` for more. The only error is `Memory`: the string
+    /// lacks the room and cannot grow. It leaves the text as it was.
     pub fn print(&self, out: &mut String) -> Result<(), GtidFault>
         ensures ok { OnOk result (AppendsText self.now (string_bytes out.old) (string_bytes out.new)) }
         ensures err { OnErr result ((result ≡ Err GtidFault.Memory) × (string_bytes out.new ≡ string_bytes out.old)) }
+        ensures full { OnErr result (LacksTextRoom self.now (string_len out.old) (string_capacity out.old)) }
     {
         let start = out.len();
         let printed = print_groups(&self.groups, out);
