@@ -90,6 +90,12 @@ pub record IsInGrammar (text : List ℕ) : Type 0 where
   pub items : List SidBlock
   pub is_list : IsList text items
 
+-- The text is in the grammar, and has at least one item.
+pub record HasItem (text : List ℕ) : Type 0 where
+  pub items : List SidBlock
+  pub is_list : IsList text items
+  pub some : 0 < length items
+
 -- what is wrong with an interval as it is written
 abbrev pub written_fault : ℕ × ℕ → Option GtidFault
 written_fault i =

@@ -10,7 +10,7 @@ ghost use Rattle.gtid.specs.Reading.{IsLawfulSpan};
 ghost use Rattle.gtid.specs.Beside.{Joins};
 ghost use Rattle.gtid.specs.declared.span.Span.{Span};
 ghost use Rattle.gtid.specs.Encoding.{IsEncoding, IsDecodeFault, AppendsEncoding, LacksRoom, HasFirst};
-ghost use Rattle.gtid.specs.Text.{IsRead, IsParseFault, AppendsText, LacksTextRoom};
+ghost use Rattle.gtid.specs.Text.{IsRead, IsParseFault, AppendsText, LacksTextRoom, HasItem};
 
 use crate::beside::Beside;
 use crate::combination::Combination;
@@ -217,10 +217,11 @@ impl GtidSet {
     /// - `Text` if the text is not of this form, with the length of its longest prefix that begins such a text.
     /// - `Number` or `Interval` for the first interval that is wrong: a number outside 1 to 2^63 - 2, or otherwise a
     ///   second number below the first.
-    /// - `Memory` if an allocation was refused.
+    /// - `Memory` if an allocation was refused, only for a text of this form that is neither empty nor only blanks.
     pub fn parse(alloc: Global, text: &str) -> Result<GtidSet, GtidFault>
         ensures found { IfOk result (IsRead text.now) }
         ensures fault { IfErr result (λ fault. (fault ≡ GtidFault.Memory) ⊎ IsParseFault text.now fault) }
+        ensures memory { IfErr result (λ fault. fault ≡ GtidFault.Memory → HasItem text.now) }
         ensures only { (ids : Ids) → IsRead text.now ids → MatchResult result (λ read. read ≡ ids) (λ fault. fault ≡ GtidFault.Memory) }
     {
         let bytes = text.as_bytes();
