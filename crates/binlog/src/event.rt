@@ -158,7 +158,7 @@ fn read_map<'a>(
         id: names.id,
         schema: names.schema,
         table: names.table,
-        columns,
+        types: columns,
     }))
 }
 

@@ -24,7 +24,8 @@ pub struct Header {
 }
 
 impl Header {
-    /// Reads the header of an event. `bytes` must be the whole event.
+    /// Reads the header of an event. `bytes` must be the whole event, since the size that the header states has to be
+    /// their number: for the 19 bytes of a header alone that is an event without a body.
     ///
     /// A field that does not fit the bytes is reported as `Truncated` at its first byte; then a size other than the
     /// number of the bytes as `Size`.

@@ -5,19 +5,19 @@ use Rattle.std.proofs.lemmas.List.Folds.{list_any-append}
 use Rattle.binlog.specs.Event.{EventValue, format, begin, commit, neutral, stop, rotate, gtid, table_map, other_map, rows, xid}
 use Rattle.gtid.specs.declared.identifier.Gtid.{Gtid}
 use Rattle.gather.specs.Transaction.{DeliveryValue, is_neutral, is_mark, is_end, IsAnnounced, IsOpen, IsWhole, IsBlock, AreBlocks, is_format_first, AreDeliveries}
-use Rattle.gather.specs.Fault.{is_format, is_gtid, has_format, add_event, last_block, is_announced, is_open, is_of_transaction, IsFault, no_format, misplaced, unread}
+use Rattle.gather.specs.Fault.{is_format, is_gtid, has_format, add_event, last_block, is_announced, is_open, is_of_transaction, is_in_place, is_kept, IsKept, IsFault, misplaced, unread}
 use Rattle.std.specs.Borrow.{Bor}
 use Rattle.binlog.specs.EventView.{event_value}
 use Rattle.binlog.specs.declared.event.Event.{Event}
 use Rattle.binlog.specs.declared.event.Event.TheVariants.{Rotate, Stop}
-use Rattle.gather.specs.View.{delivered}
-use Rattle.gather.specs.State.{IsAt, GoesOn, FaultsAt}
+use Rattle.gather.specs.View.{delivered, change_values}
+use Rattle.gather.specs.State.{IsAt, GoesOn, FaultsAt, IsInside}
 use Rattle.gather.specs.Standing.{Brings}
 use Rattle.gather.specs.declared.transaction.Delivery.{Delivery}
 use Rattle.gather.specs.declared.fault.GatherFault.{GatherFault}
-use Rattle.gather.specs.declared.fault.GatherFault.TheVariants.{NoFormat, Memory}
+use Rattle.gather.specs.declared.fault.GatherFault.TheVariants.{Memory}
 use Rattle.gather.specs.declared.state.State.{State}
-use Rattle.gather.specs.declared.state.State.TheVariants.{Between, Announced}
+use Rattle.gather.specs.declared.state.State.TheVariants.{Between, Announced, Inside}
 use Rattle.gather.proofs.States.{open_block}
 use Rattle.gather.proofs.Growing.{counted, joined, counts_no_more, counts_more, last_more, format_more, first_more, first_after, joined_append, blocks_more, split, mark_begins, last_is, skips}
 
@@ -202,6 +202,22 @@ pub refuses : (result : Result (Option Delivery) GatherFault) (formatted : Bool)
     (events : List EventValue) (ds : List DeliveryValue) → Brings events ds formatted before → IfErr result (λ fault. (fault ≡ Memory) ⊎ IsFault events e fault)
 refuses (Ok delivery) formatted before e is faults events ds b = faults
 refuses (Err fault) formatted before e is faults events ds b = fault_from events ds formatted before e fault is b faults
+
+-- Memory is wanted only for an event of an open transaction.
+pub keeps : {T : Type 0} (result : Result T GatherFault) (formatted : Bool) (state : State) (e : EventValue) → is_kept e ≡ true → ((block : List EventValue) → is_in_place block e ≡ is_open block) → formatted ≡ true →
+    IfErr result (λ fault. fault ≡ Memory → IsInside state) →
+    (events : List EventValue) (ds : List DeliveryValue) → Brings events ds formatted state → IfErr result (λ fault. fault ≡ Memory → IsKept events e)
+keeps (Ok x) formatted state e kept place is memory events ds b = memory
+keeps (Err fault) formatted state e kept place is memory events ds b = λ wanted.
+    let inside = memory wanted in
+    let at : IsAt (last_block events) (Inside inside.0) = subst (IsAt (last_block events)) inside.1 b.at in
+    record {
+      kept = kept;
+      formatted = sym b.has_format ∙ is;
+      in_place = place (last_block events)
+          ∙ ap is_open at.1
+          ∙ open_block inside.0.gtid.source inside.0.gtid.number at.0 (change_values inside.0.changes.items) at.2.changes;
+    }
 
 -- ---- Format descriptions.
 

@@ -76,6 +76,19 @@ type_of (other_map id) = event_type.table_map
 type_of (rows r) = rows_code r.kind
 type_of _ = 0
 
+-- the events of a transaction of which something is kept: its table maps and its rows events
+abbrev pub is_kept : EventValue → Bool
+is_kept (table_map t) = true
+is_kept (other_map id) = true
+is_kept (rows r) = true
+is_kept _ = false
+
+-- After these events something is kept of the next one, which is in place.
+pub record IsKept (events : List EventValue) (e : EventValue) : Type 0 where
+  pub kept : is_kept e ≡ true
+  pub formatted : has_format events ≡ true
+  pub in_place : is_in_place (last_block events) e ≡ true
+
 -- ---- Faults.
 
 -- What is wrong with a rows event, from what is known of its table's number: nothing; otherwise the event has another

@@ -29,3 +29,8 @@ pub record HasImage (cells : List CellValue) : Type 0 where
 pub record IsImage (cells : List CellValue) (bytes : List ℕ) : Type 0 where
   pub has_image : HasImage cells
   pub bytes_are : bytes ≡ image cells
+
+-- The bytes are the image of some cells.
+pub record IsSomeImage (bytes : List ℕ) : Type 0 where
+  pub cells : List CellValue
+  pub is_image : IsImage cells bytes

@@ -8,6 +8,7 @@ use Rattle.gather.specs.Fault.{is_announced, is_open, is_in_place, type_of, IsRo
 use Rattle.gather.specs.OpenTransaction.{Keeps}
 use Rattle.gather.specs.declared.fault.GatherFault.{GatherFault}
 use Rattle.gather.specs.declared.fault.GatherFault.TheVariants.{Misplaced, Memory}
+use Rattle.gather.specs.declared.open_transaction.OpenTransaction.{OpenTransaction}
 use Rattle.gather.specs.declared.state.State.{State}
 use Rattle.gather.specs.declared.state.State.TheVariants.{Between, Announced, Inside}
 
@@ -26,6 +27,10 @@ pub record Extends (block : List EventValue) (e : EventValue) (ds : List Deliver
 
 abbrev pub GoesOn : EventValue → State → State → List DeliveryValue → Type 0
 GoesOn e before after ds = (block : List EventValue) → IsAt block before → Extends block e ds after
+
+-- a transaction is open
+abbrev pub IsInside : State → Type 0
+IsInside state = (current : OpenTransaction) × (state ≡ Inside current)
 
 -- The event is misplaced, or a rows event that cannot be read.
 abbrev pub BreaksOff : List EventValue → EventValue → GatherFault → Type 0

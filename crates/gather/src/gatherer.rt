@@ -22,7 +22,7 @@ impl Gatherer {
     ghost use Rattle.binlog.specs.Event.{EventValue};
     ghost use Rattle.binlog.specs.EventView.{event_value};
     ghost use Rattle.gather.specs.Transaction.{DeliveryValue};
-    ghost use Rattle.gather.specs.Fault.{IsFault};
+    ghost use Rattle.gather.specs.Fault.{IsFault, IsKept};
     ghost use Rattle.gather.specs.View.{delivered};
     ghost use Rattle.gather.specs.Standing.{Brings, Stands, HasEnded};
 
@@ -41,12 +41,15 @@ impl Gatherer {
     /// Takes the next event, and returns the transaction that it ends, if it ends one.
     ///
     /// An event that may not follow those before it is reported as `NoFormat`, `Misplaced`, `UnknownTable` or `Event`,
-    /// whichever applies first in this order; `Memory` if memory runs out. After a fault each call answers `Ended`.
+    /// whichever applies first in this order; `Memory` if memory runs out, only at a table map or a rows event that is in
+    /// place. After a fault each call answers `Ended`.
     pub fn event(&mut self, event: &Event<'_>) -> Result<Option<Delivery>, GatherFault>
         ensures taken { (events : List EventValue) (ds : List DeliveryValue) → Stands events ds self.old →
             IfOk result (λ delivery. Stands (events ++ event_value event.now ∷ []) (ds ++ delivered delivery) self.new) }
         ensures fault { (events : List EventValue) (ds : List DeliveryValue) → Stands events ds self.old →
             IfErr result (λ fault. (fault ≡ GatherFault.Memory) ⊎ IsFault events (event_value event.now) fault) }
+        ensures memory { (events : List EventValue) (ds : List DeliveryValue) → Stands events ds self.old →
+            IfErr result (λ fault. fault ≡ GatherFault.Memory → IsKept events (event_value event.now)) }
         ensures ended { HasEnded self.old → result ≡ Err GatherFault.Ended }
         ensures err { OnErr result (HasEnded self.new) }
     {
@@ -65,6 +68,8 @@ impl Gatherer {
             IfOk result (λ delivery. Brings (events ++ event_value event.now ∷ []) (ds ++ delivered delivery) self.new.formatted self.new.state) }
         ensures fault { (events : List EventValue) (ds : List DeliveryValue) → Brings events ds self.old.formatted self.old.state →
             IfErr result (λ fault. (fault ≡ GatherFault.Memory) ⊎ IsFault events (event_value event.now) fault) }
+        ensures memory { (events : List EventValue) (ds : List DeliveryValue) → Brings events ds self.old.formatted self.old.state →
+            IfErr result (λ fault. fault ≡ GatherFault.Memory → IsKept events (event_value event.now)) }
         ensures ended { self.new.ended ≡ self.old.ended }
     {
         if lacks_format(self.formatted, event) {

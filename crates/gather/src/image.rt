@@ -2,7 +2,7 @@
 
 ghost use Rattle.std.specs.Prelude.{◌≡◌, List, IfOk, OnErr, Err, MatchOption};
 ghost use Rattle.binlog.specs.Cell.{CellValue};
-ghost use Rattle.gather.specs.Image.{HasImage, IsImage};
+ghost use Rattle.gather.specs.Image.{HasImage, IsImage, IsSomeImage};
 ghost use Rattle.gather.specs.ImageCells.{cell_values};
 
 use crate::fault::GatherFault;
@@ -39,11 +39,13 @@ impl Model for Image {
 
 impl Image {
     /// The image of the cells. `None` if there are more than 65,535 cells, a number has a width other than 1 to 8 bytes
-    /// or does not fit its width, or a cell has 4 GiB or more. The only error is `Memory`.
+    /// or does not fit its width, or a cell has 4 GiB or more. The only error is `Memory`, which comes only where the
+    /// cells have an image.
     pub fn new(alloc: Global, cells: &[Cell<'_>]) -> Result<Option<Image>, GatherFault>
         ensures found { IfOk result (λ found. MatchOption found
             (HasImage (cell_values cells.now) → ⊥)
             (λ made. (made ≡ cell_values cells.now) × HasImage (cell_values cells.now))) }
+        ensures memory { OnErr result (HasImage (cell_values cells.now)) }
         ensures err { OnErr result (result ≡ Err GatherFault.Memory) }
     {
         let Some(size) = image_size(cells) else {
@@ -54,11 +56,13 @@ impl Image {
         Ok(Some(Image { bytes }))
     }
 
-    /// The image that these bytes are, or `None` if they are not one. The only error is `Memory`.
+    /// The image that these bytes are, or `None` if they are not one. The only error is `Memory`, which comes only where
+    /// they are one.
     pub fn read(alloc: Global, bytes: &[u8]) -> Result<Option<Image>, GatherFault>
         ensures found { IfOk result (λ found. MatchOption found
             ((cells : List CellValue) → IsImage cells bytes.now → ⊥)
             (λ made. IsImage made bytes.now)) }
+        ensures memory { OnErr result (IsSomeImage bytes.now) }
         ensures err { OnErr result (result ≡ Err GatherFault.Memory) }
     {
         if !is_image(bytes) {

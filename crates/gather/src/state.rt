@@ -1,13 +1,13 @@
 //! The state of a gatherer: how far into a transaction it is.
 
-ghost use Rattle.std.specs.Prelude.{◌≡◌, true, IfOk, IfErr};
+ghost use Rattle.std.specs.Prelude.{◌≡◌, ◌≢◌, true, IfOk, IfErr};
 ghost use Rattle.binlog.specs.Event.{EventValue, begin, table_map, other_map, rows};
 ghost use Rattle.binlog.specs.RowsView.{rows_value};
 ghost use Rattle.binlog.specs.TableView.{table_value};
 ghost use Rattle.gather.specs.Transaction.{is_end};
 ghost use Rattle.gather.specs.Fault.{type_of};
 ghost use Rattle.gather.specs.View.{delivered};
-ghost use Rattle.gather.specs.State.{GoesOn, FaultsAt};
+ghost use Rattle.gather.specs.State.{GoesOn, FaultsAt, IsInside};
 
 use crate::fault::GatherFault;
 use crate::open_transaction::OpenTransaction;
@@ -32,6 +32,7 @@ pub(crate) enum State {
 pub(crate) fn take_begin(state: &mut State, alloc: Global) -> Result<Option<Delivery>, GatherFault>
     ensures taken { IfOk result (λ delivery. GoesOn begin state.old state.new (delivered delivery)) }
     ensures fault { IfErr result (FaultsAt begin state.old) }
+    ensures no_memory { IfErr result (λ fault. fault ≢ GatherFault.Memory) }
 {
     match state {
         State::Announced(gtid) => {
@@ -50,6 +51,7 @@ pub(crate) fn take_map(
 ) -> Result<Option<Delivery>, GatherFault>
     ensures taken { IfOk result (λ delivery. GoesOn (table_map (table_value map.now)) state.old state.new (delivered delivery)) }
     ensures fault { IfErr result (FaultsAt (table_map (table_value map.now)) state.old) }
+    ensures memory { IfErr result (λ fault. fault ≡ GatherFault.Memory → IsInside state.old) }
 {
     match state {
         State::Inside(current) => {
@@ -64,6 +66,7 @@ pub(crate) fn take_map(
 pub(crate) fn take_other(state: &mut State, id: u64) -> Result<Option<Delivery>, GatherFault>
     ensures taken { IfOk result (λ delivery. GoesOn (other_map id) state.old state.new (delivered delivery)) }
     ensures fault { IfErr result (FaultsAt (other_map id) state.old) }
+    ensures memory { IfErr result (λ fault. fault ≡ GatherFault.Memory → IsInside state.old) }
 {
     match state {
         State::Inside(current) => {
@@ -82,6 +85,7 @@ pub(crate) fn take_rows(
 ) -> Result<Option<Delivery>, GatherFault>
     ensures taken { IfOk result (λ delivery. GoesOn (rows (rows_value event.now)) state.old state.new (delivered delivery)) }
     ensures fault { IfErr result (FaultsAt (rows (rows_value event.now)) state.old) }
+    ensures memory { IfErr result (λ fault. fault ≡ GatherFault.Memory → IsInside state.old) }
 {
     match state {
         State::Inside(current) => {
@@ -100,6 +104,7 @@ pub(crate) fn take_rows(
 pub(crate) fn take_end(state: &mut State, code: u8) -> Result<Option<Delivery>, GatherFault>
     ensures taken { (e : EventValue) → is_end e ≡ true → IfOk result (λ delivery. GoesOn e state.old state.new (delivered delivery)) }
     ensures fault { (e : EventValue) → is_end e ≡ true → type_of e ≡ code → IfErr result (FaultsAt e state.old) }
+    ensures no_memory { IfErr result (λ fault. fault ≢ GatherFault.Memory) }
 {
     match mem::replace(state, State::Between) {
         State::Inside(current) => {

@@ -1,12 +1,12 @@
 -- What is found in a text of the grammar.
-use Rattle.std.proofs.Common.{◌≡◌, ℕ, ◌+◌, ◌*◌, ◌-◌, ◌<◌, ◌==◌, ◌⊎◌, inl, inr, true, false, Some, None, Result, Ok, Err, List, [], ◌∷◌, ◌++◌, length, map, flat_map, fold, refl, ap, sym, subst, ◌∙◌, arith, append_assoc, append-nil}
+use Rattle.std.proofs.Common.{◌≡◌, ◌≢◌, ℕ, ◌+◌, ◌*◌, ◌-◌, ◌<◌, ◌==◌, ◌⊎◌, inl, inr, true, false, Some, None, Result, Ok, Err, List, [], ◌∷◌, ◌++◌, length, map, flat_map, fold, refl, ap, sym, subst, ◌∙◌, arith, append_assoc, append-nil, length-append}
 use Rattle.std.specs.List.{AllByRecursion}
 use Rattle.std.specs.Char.{IsAsciiDigit}
 use Rattle.std.proofs.lemmas.Bool.Decides.{nat_tests}
 use Rattle.gtid.specs.Encoding.{SidBlock}
 use Rattle.gtid.specs.Scan.{is_digit}
 use Rattle.gtid.specs.Text.{IsBlank, IsIntervalText, AreIntervalTexts, IsItem, IsList, first_some, list_fault, written_spans}
-use Rattle.gtid.specs.Reading.{at_most, appended, after_number, Found, judge, collected}
+use Rattle.gtid.specs.Reading.{at_most, appended, after_number, Found, judge, collected, span_of}
 use Rattle.gtid.proofs.Judged.{saturated, found_in, judged_ok, judged_err, item_faults, item_spans}
 use Rattle.gtid.proofs.SourceRead.{read_source}
 use Rattle.gtid.specs.declared.fault.GtidFault.{GtidFault}
@@ -218,3 +218,14 @@ pub err_exit : (text s : List ℕ) (r : Result (List Span) GtidFault) (fault : G
     (fault ≡ Memory) ⊎ ((items : List SidBlock) → IsList text items → list_fault items ≡ Some fault)
 err_exit text s r fault long (inl memory) whole = inl memory
 err_exit text s r fault long (inr is) whole = inr (faults_list text s fault long (whole is))
+
+nothing_judged : (spans : List Span) (fs : List Found) → judge spans fs ≡ Ok [] → fs ≢ [] → ⊥
+nothing_judged spans [] e some = some refl
+nothing_judged spans (f ∷ fs) e some =
+    let is = (judged_ok spans [] (f ∷ fs) e).1 in
+    absurd (omega (arith, ap length is, length-append spans (map span_of (f ∷ fs))))
+
+-- A text of which something is left to judge has an item.
+pub some_items : (text : List ℕ) (spans : List Span) (fs : List Found) (items : List SidBlock) → IsList text items → judge [] (collected (Source 0) zeros text) ≡ judge spans fs → fs ≢ [] → 0 < length items
+some_items text spans fs [] is_list same some = absurd (nothing_judged spans fs (sym same ∙ ap (judge []) (read_list [] text zeros refl is_list)) some)
+some_items text spans fs (item ∷ items) is_list same some = omega arith

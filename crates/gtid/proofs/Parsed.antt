@@ -1,5 +1,5 @@
 -- What was read of a text.
-use Rattle.std.proofs.Common.{◌≡◌, ℕ, List, ap, sym, ◌∙◌, inl, inr, ◌⊎◌, Some, None}
+use Rattle.std.proofs.Common.{◌≡◌, ℕ, ◌<◌, length, arith, [], ◌∷◌, List, ap, sym, ◌∙◌, inl, inr, ◌⊎◌, Some, None}
 use Rattle.std.specs.List.{list_any}
 use Rattle.gtid.specs.Identifier.{Id, Ids}
 use Rattle.gtid.specs.Span.{is_in}
@@ -37,3 +37,8 @@ written_fault text fault g (inr faulty) = inr (written fault (record { items = g
 
 pub text_fault : (text : List ℕ) (offset : ℕ) → IsOutsideFrom text offset → (Text offset ≡ Memory) ⊎ IsParseFault text (Text offset)
 text_fault text offset is = inr (outside offset is)
+
+-- spans come of items
+pub items_of_spans : (items : List SidBlock) (spans : List Span) → spans ≡ written_spans items → 0 < length spans → 0 < length items
+items_of_spans [] spans is some = absurd (omega (arith, ap length is, some))
+items_of_spans (item ∷ items) spans is some = omega arith

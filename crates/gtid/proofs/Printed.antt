@@ -1,7 +1,7 @@
 -- Text that grows by ASCII.
-use Rattle.std.proofs.Common.{◌≡◌, ℕ, List, [], ◌∷◌, ◌++◌, refl, ap, sym, ◌∙◌, append_assoc, ◌<◌, ◌+◌, zero, suc, length, drop, map, flat_map, get_or, take, add-one, codes, subst, arith, ◌-◌, ◌^◌, true, nat_le, nat_lt, inl, inr}
+use Rattle.std.proofs.Common.{◌≡◌, ℕ, List, [], ◌∷◌, ◌++◌, refl, ap, sym, ◌∙◌, append_assoc, ◌<◌, ◌≤◌, ◌+◌, zero, suc, length, drop, map, flat_map, get_or, take, add-one, codes, subst, arith, ◌-◌, ◌^◌, true, nat_le, nat_lt, inl, inr}
 use Rattle.std.specs.Str.{IsAscii}
-use Rattle.std.proofs.lemmas.List.{append-nil, drop_more}
+use Rattle.std.proofs.lemmas.List.{append-nil, drop_more, length-append}
 use Rattle.std.proofs.lemmas.Str.{IsAscii-append}
 use Rattle.std.proofs.lemmas.Str.Ascii.{IsAscii-nil}
 use Rattle.std.specs.List.{join_by, AllByRecursion}
@@ -13,7 +13,7 @@ use Rattle.gtid.specs.Identifier.{Id, Ids, IsSource, IsGtid, AreGtids}
 use Rattle.gtid.specs.Interval.{is_within, has, AreLeast}
 use Rattle.gtid.specs.Group.{Ascend, sources, is_of, is_listed, ids_of}
 use Rattle.gtid.specs.Spans.{spans_of}
-use Rattle.gtid.specs.Text.{block_text, AppendsText}
+use Rattle.gtid.specs.Text.{block_text, AppendsText, LacksTextRoom}
 use Rattle.gtid.specs.Blocks.{blocks, GrowsByAscii}
 use Rattle.gtid.specs.declared.interval.Interval.{Interval}
 use Rattle.gtid.specs.declared.group.Group.{Group}
@@ -63,6 +63,14 @@ prints_more {text = text} {of} {items} {old} {out} {all} at x now before short i
       ∙ before.rest;
   grows = grows_all old out now before.grows grows;
 }
+
+-- what is printed, and the next item, are no longer than all
+pub prints_fit : {X Y : Type 0} {text : Y → List ℕ} {of : X → Y} {items : List X} {old out all : List ℕ} (at : ℕ) (x : X) → Prints text of items at old out all → at < length items → x ≡ get_or items at x →
+    length out + length (text (of x)) ≤ length old + length all
+prints_fit {text = text} {of} {items} {old} {out} {all} at x before short is =
+    let left = flat_map text (map of (drop (at + 1) items)) in
+    let e : out ++ (text (of x) ++ left) ≡ old ++ all = ap (λ xs. out ++ flat_map text (map of xs)) (sym (drop_more items at x short ∙ ap (λ y. y ∷ drop (at + 1) items) (sym is))) ∙ before.rest in
+    omega (arith, ap length e, length-append out (text (of x) ++ left), length-append (text (of x)) left, length-append old all)
 
 -- nothing of the items yet
 pub prints_none : {X Y : Type 0} (text : Y → List ℕ) (of : X → Y) (items : List X) (old front out all : List ℕ) → out ≡ old ++ front → GrowsByAscii old out → all ≡ front ++ flat_map text (map of items) →
@@ -120,3 +128,21 @@ appends_text groups all ids old new ascend same is printed lawful = record {
   };
   appended = printed;
 }
+
+pub lacks_text : (groups all : List Group) (ids : Ids) (len capacity : ℕ) → Ascend (sources all) → groups ≡ all → ids_of all ≡ ids → capacity < len + length (join_by block_text (codes ",") (blocks groups)) →
+    LacksTextRoom ids len capacity
+lacks_text groups all ids len capacity ascend same is lacking = record {
+  spans = spans_of groups;
+  least = least_list_of (spans_of groups) groups all ids ascend refl same is;
+  lacks = subst (λ bs. capacity < len + length (join_by block_text (codes ",") bs)) (sym (grouped_groups groups (subst (λ gs. Ascend (sources gs)) (sym same) ascend))) lacking;
+}
+
+-- The numbers of the groups are in range.
+pub listed_number : (groups : List Group) (q : Id) → is_listed q groups ≡ true → (1 ≤ q.1) × (q.1 ≤ 2 ^ 63 - 2)
+listed_number [] q one = absurd (false≢true one)
+listed_number (g ∷ groups) q one = elim (or_cases (is_of q g) (is_listed q groups) one) [
+  | inl first ↦
+      let n = least_number 0 g.intervals.items q.1 g.least (and_parts (bytes_eq q.0 g.source) (has g.intervals.items q.1) first).1 in
+      (omega (arith, n.0), omega (arith, n.1))
+  | inr later ↦ listed_number groups q later
+]

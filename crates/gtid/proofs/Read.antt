@@ -4,7 +4,7 @@ use Rattle.std.specs.List.{last_or}
 use Rattle.std.proofs.lemmas.List.{length-append}
 use Rattle.gtid.specs.Interval.{AreLeast}
 use Rattle.byteorder.specs.Endian.{little_bytes}
-use Rattle.gtid.specs.Encoding.{SidBlock, interval_bytes, block_bytes, blocks_bytes, interval_fault, is_above, end_of, last_source, AreIntervals, AreBlocks, IsDecodeFault}
+use Rattle.gtid.specs.Encoding.{SidBlock, interval_bytes, block_bytes, blocks_bytes, interval_fault, is_above, end_of, last_source, AreIntervals, AreBlocks, IsDecodeFault, HasInterval, HasSource, HasFirst}
 use Rattle.gtid.specs.Encoding.IsDecodeFault.{no_count, at_source, at_interval}
 use Rattle.gtid.specs.declared.fault.GtidFault.TheVariants.{Truncated, Memory}
 use Rattle.gtid.specs.Blocks.{pair, of_group, blocks}
@@ -86,7 +86,39 @@ interval_faults intervals count size after rest bytes fault r fewer faulty = rec
   faulty = ap (λ e. interval_fault e rest) (ends_at intervals ∙ r.ended) ∙ faulty;
 }
 
+-- the first interval, of those that are read or after them
+pub interval_first : (intervals : List Interval) (i : Interval) (count after : ℕ) (rest beyond bytes : List ℕ) → ReadIntervals intervals count after rest bytes →
+    after < i.lo → i.lo < i.hi → i.hi < 2 ^ 63 → rest ≡ interval_bytes (pair i) ++ beyond → HasInterval bytes
+interval_first [] i count after rest beyond bytes r above some in_range split =
+    record { lo = i.lo; hi = i.hi; rest = beyond; lawful = (omega (arith, above), some, in_range); bytes_are = r.split ∙ split }
+interval_first (j ∷ intervals) i count after rest beyond bytes r above some in_range split = record {
+  lo = j.lo;
+  hi = j.hi;
+  rest = flat_map interval_bytes (map pair intervals) ++ rest;
+  lawful = (r.least.0, r.least.1, r.least.2);
+  bytes_are = r.split ∙ append_assoc (interval_bytes (pair j)) (flat_map interval_bytes (map pair intervals)) rest;
+}
+
 -- ---- Blocks.
+
+block_first : (source : List ℕ) (intervals : List (ℕ × ℕ)) (rest bytes : List ℕ) → length source ≡ 16 → 0 < length intervals → AreIntervals 0 intervals →
+    bytes ≡ block_bytes (record { source = source; intervals = intervals }) ++ rest → HasSource bytes
+block_first source [] rest bytes long some lawful split = absurd (omega (arith, some))
+block_first source (i ∷ intervals) rest bytes long some lawful split = record {
+  source = source;
+  size = length (i ∷ intervals);
+  rest = flat_map interval_bytes (i ∷ intervals) ++ rest;
+  long = long;
+  some = some;
+  bytes_are = split ∙ append_assoc (source ++ little_bytes 8 (length (i ∷ intervals))) (flat_map interval_bytes (i ∷ intervals)) rest;
+  first = record {
+    lo = i.0;
+    hi = i.1;
+    rest = flat_map interval_bytes intervals ++ rest;
+    lawful = (lawful.0, lawful.1, lawful.2);
+    bytes_are = append_assoc (interval_bytes i) (flat_map interval_bytes intervals) rest;
+  };
+}
 
 -- what `block` says of a block, and of a group
 pub lawful_block : (before : Option (List ℕ)) (source : List ℕ) (intervals : List Interval) (size : ℕ) → length source ≡ 16 → is_above before source ≡ true → 0 < size → size < 2 ^ 64 →
@@ -138,6 +170,21 @@ more_groups groups new g count before rest beyond bytes r lawful split is = rw i
   last = ap last_source (blocks_push groups g) ∙ last_source_push None (blocks groups) (of_group g);
   split = r.split ∙ ap (λ l. flat_map block_bytes (blocks groups) ++ l) split ∙ sym (more_spelled block_bytes of_group groups g beyond);
 })
+
+-- the first source, of those that are read or after them
+pub group_first : (groups : List Group) (count : ℕ) (before : Option (List ℕ)) (rest bytes : List ℕ) → ReadGroups groups count before rest bytes → HasSource rest → HasSource bytes
+group_first [] count before rest bytes r next = subst HasSource (sym r.split) next
+group_first (g ∷ groups) count before rest bytes r next =
+    block_first g.source (map pair g.intervals.items) (flat_map block_bytes (blocks groups) ++ rest) bytes r.lawful.0 r.lawful.2 r.lawful.4
+    (r.split ∙ append_assoc (block_bytes (of_group g)) (flat_map block_bytes (blocks groups)) rest)
+
+pub group_read : (groups : List Group) (g : Group) (count : ℕ) (before : Option (List ℕ)) (rest beyond bytes : List ℕ) → ReadGroups groups count before rest bytes →
+    AreBlocks before (of_group g ∷ []) → rest ≡ block_bytes (of_group g) ++ beyond → HasSource bytes
+group_read groups g count before rest beyond bytes r lawful split =
+    group_first groups count before rest bytes r (block_first g.source (map pair g.intervals.items) beyond rest lawful.0 lawful.2 lawful.4 split)
+
+pub has_first : (count : ℕ) (rest bytes : List ℕ) → 0 < count → bytes ≡ little_bytes 8 count ++ rest → HasSource rest → HasFirst bytes
+has_first count rest bytes some split first = record { count = count; rest = rest; some = some; bytes_are = split; first = first }
 
 pub faults_too_short : (bytes : List ℕ) → length bytes < 8 → IsDecodeFault bytes Truncated
 faults_too_short bytes short = no_count short

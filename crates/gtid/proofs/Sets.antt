@@ -1,5 +1,5 @@
 -- Groups, and the set that they stand for.
-use Rattle.std.proofs.Common.{◌≡◌, ℕ, zero, suc, Bool, true, false, not, nat_eq, nat_le, nat_lt, ◌&&◌, ◌||◌, ◌↔◌, ◌+◌, ◌-◌, List, [], ◌∷◌, map, flat_map, refl, ap, sym, ◌∙◌, arith}
+use Rattle.std.proofs.Common.{◌≡◌, ◌≢◌, ◌<◌, ◌⊎◌, inl, inr, ℕ, zero, suc, Bool, true, false, not, nat_eq, nat_le, nat_lt, ◌&&◌, ◌||◌, ◌↔◌, ◌+◌, ◌-◌, List, [], ◌∷◌, length, map, flat_map, refl, ap, sym, ◌∙◌, arith}
 use Rattle.std.specs.declared.cmp.Ordering.{Ordering}
 use Rattle.std.specs.declared.cmp.Ordering.TheVariants.{Less, Equal, Greater}
 use Rattle.std.specs.Ordering.{nat_cmp, ordering_then, eq_by_cmp}
@@ -11,13 +11,14 @@ use Rattle.std.specs.List.Sorted.{IsStrictlySortedBy}
 use Rattle.std.specs.Str.{bytes_eq}
 use Rattle.std.proofs.lemmas.List.Folds.{list_any-append}
 use Rattle.std.proofs.lemmas.Map.Text.{is_eq-slice_cmp}
+use Rattle.std.proofs.lemmas.Slice.Eq.{bytes_eq-Decides}
 use Rattle.std.specs.Bool.{IsTrue}
 use Rattle.std.proofs.Math.Bool.{or-false}
 use Rattle.std.proofs.lemmas.Bool.{and_right, false_from_ne_true, false≢true}
 use Rattle.std.proofs.lemmas.Bool.Decides.{nat_tests}
 use Rattle.std.proofs.lemmas.Grind.{common_steps}
 use Rattle.gtid.specs.Identifier.{Id, id_cmp, Ids, is_one}
-use Rattle.gtid.specs.Interval.{is_within, has}
+use Rattle.gtid.specs.Interval.{is_within, has, AreLeast}
 use Rattle.gtid.specs.Combination.{keeps}
 use Rattle.gtid.specs.declared.combination.Combination.TheVariants.{Union, Difference}
 use Rattle.gtid.specs.Group.{Ascend, sources, is_listed, ids_of_interval, ids_of_group, ids_of}
@@ -113,6 +114,52 @@ is_difference x y z left right is_left is_right kept = same_ids (set.difference 
     ∙ (λ i. sym (contains_listed x q) i && not (sym (contains_listed y q) i))
     ∙ (λ i. set.contains (is_left i) q && not (set.contains (is_right i) q))
     ∙ sym (set.contains-difference id_cmp_total left right q))
+
+-- A set without members has no groups.
+pub no_members : (groups : List Group) (ids : Ids) → ids_of groups ≡ ids → ids ≡ set.empty → groups ≡ []
+no_members [] ids is empty = refl
+no_members (g ∷ groups) ids is empty =
+    let n = first_number g.intervals.items g.some g.least in
+    let q : Id = (g.source, n.0) in
+    let listed : is_listed q (g ∷ groups) ≡ true = (λ i. ((bytes_eq-Decides g.source g.source).1 refl i && n.1 i) || is_listed q groups) in
+    absurd (false≢true (sym (sym (contains_listed (g ∷ groups) q) ∙ (λ i. set.contains ((is ∙ empty) i) q) ∙ set.contains-empty id_cmp q) ∙ listed))
+  where
+    first_number : (intervals : List Interval) → intervals ≢ [] → AreLeast 0 intervals → (n : ℕ) × (has intervals n ≡ true)
+    first_number [] some least = absurd (some refl)
+    first_number (i ∷ intervals) some least = (i.lo, (λ k. within i.lo i.hi least.1 k || has intervals i.lo))
+      where
+        within : (lo hi : ℕ) → lo < hi → (nat_le lo lo && nat_lt lo hi) ≡ true
+        within lo hi less = grind (arith, nat_tests)
+
+pub is_empty : (groups : List Group) (ids : Ids) → ids_of groups ≡ ids → length groups ≡ 0 → ids ≡ set.empty
+is_empty [] ids is none = sym is ∙ no_groups [] refl
+is_empty (g ∷ groups) ids is none = absurd (omega (arith, none))
+
+-- of a set without members the list of groups is not long
+pub not_long : (groups : List Group) (ids : Ids) → ids_of groups ≡ ids → ids ≡ set.empty → length groups ≡ 0
+not_long groups ids is empty = ap length (no_members groups ids is empty)
+
+-- nothing added, and nothing removed
+pub union_none : (left right : Ids) → right ≡ set.empty → left ≡ set.union left right
+union_none left right none = set.same_set id_cmp_total id_cmp-same left (set.union left right) (λ q.
+    sym (set.contains-union id_cmp_total left right q
+    ∙ ap (λ b. set.contains left q || b) (ap (λ s. set.contains s q) none ∙ set.contains-empty id_cmp q)
+    ∙ or-false (set.contains left q)))
+
+pub difference_none : (left right : Ids) → (left ≡ set.empty) ⊎ (right ≡ set.empty) → left ≡ set.difference left right
+difference_none left right none = set.same_set id_cmp_total id_cmp-same left (set.difference left right) (λ q.
+    sym (set.contains-difference id_cmp_total left right q ∙ same q none))
+  where
+    empty : {ids : Ids} (q : Id) → ids ≡ set.empty → set.contains ids q ≡ false
+    empty q e = ap (λ s. set.contains s q) e ∙ set.contains-empty id_cmp q
+
+    and-true : (b : Bool) → (b && true) ≡ b
+    and-true true = refl
+    and-true false = refl
+
+    same : (q : Id) → (left ≡ set.empty) ⊎ (right ≡ set.empty) → (set.contains left q && not (set.contains right q)) ≡ set.contains left q
+    same q (inl e) = ap (λ b. b && not (set.contains right q)) (empty q e) ∙ sym (empty q e)
+    same q (inr e) = ap (λ b. set.contains left q && not b) (empty q e) ∙ and-true (set.contains left q)
 
 -- a set with nothing is the set
 pub is_copy : (x z : List Group) (ids : Ids) → ids_of x ≡ ids → ((q : Id) → is_listed q z ≡ keeps Union (is_listed q x) (is_listed q [])) → ids_of z ≡ ids

@@ -10,7 +10,7 @@ use Rattle.std.proofs.lemmas.List.{take-append-drop, take_all, set_split, get_or
 use Rattle.std.specs.List.Sorted.{IsNonDecreasingBy, IsPartitionPoint}
 use Rattle.std.specs.Option.{option_copied}
 use Rattle.std.specs.List.{AllWithin, HoldsAt, insert, remove}
-use Rattle.gtid.specs.Interval.{is_within, has, AreLeast}
+use Rattle.gtid.specs.Interval.{is_within, has, AreLeast, IsNear}
 use Rattle.gtid.specs.declared.interval.Interval.{Interval}
 
 -- where the last of the intervals ends
@@ -173,6 +173,26 @@ added_alone intervals new at number least within low high front gap is =
     (end_front 0 intervals at number within (omega arith) front, omega arith, omega arith, rest)
     (below_least (number + 1) (drop at intervals) number rest (omega arith))
     (λ n. ap (λ b. b || has (drop at intervals) n) (only_one n number))
+
+-- the neighbours of a number that is apart from the intervals
+pub near_alone : (intervals : List Interval) (at near number : ℕ) → AreLeast 0 intervals → at ≤ length intervals → AllWithin (λ i. i.hi < number) intervals 0 at →
+    ((d : Interval) → at < length intervals → number + 1 < (get_or intervals at d).lo) → IsNear near number → has intervals near ≡ false
+near_alone intervals at near number least within front gap beside =
+    let rest : AreLeast (number + 1) (drop at intervals) = after_gap 0 (number + 1) intervals at within least gap in
+    ap (λ l. has l near) (sym (take-append-drop at intervals))
+    ∙ has-append (take at intervals) (drop at intervals) near
+    ∙ none (above_front intervals at near within (λ k d low high. above near number _ (front k d low high) beside)) (below_least (number + 1) (drop at intervals) near rest (below near number beside))
+  where
+    above : (near number hi : ℕ) → hi < number → IsNear near number → hi ≤ near
+    above near number hi less (inl e) = omega (arith, less, e)
+    above near number hi less (inr e) = omega (arith, less, e)
+
+    below : (near number : ℕ) → IsNear near number → near ≤ number + 1
+    below near number (inl e) = omega (arith, e)
+    below near number (inr e) = omega (arith, e)
+
+pub near_last : (intervals : List Interval) (near number : ℕ) → AreLeast 0 intervals → AllWithin (λ i. i.hi < number) intervals 0 (length intervals) → IsNear near number → has intervals near ≡ false
+near_last intervals near number least before beside = near_alone intervals (length intervals) near number least (omega arith) before (λ d h. absurd (omega (arith, h))) beside
 
 pub added_before : (intervals : List Interval) (at number : ℕ) (x : Interval) → AreLeast 0 intervals → at < length intervals → 1 ≤ number → AllWithin (λ i. i.hi < number) intervals 0 at →
     x ≡ get_or intervals at x → x.lo ≡ number + 1 → Added number intervals (set intervals at (record { lo = number; hi = x.hi }))

@@ -155,6 +155,32 @@ pub data IsDecodeFault (bytes : List ℕ) : GtidFault → Type 0 where
   at_source : (fault : GtidFault) → FaultsAtSource bytes fault → IsDecodeFault bytes fault
   at_interval : (fault : GtidFault) → FaultsAtInterval bytes fault → IsDecodeFault bytes fault
 
+-- The bytes begin with a lawful interval.
+pub record HasInterval (bytes : List ℕ) : Type 0 where
+  pub lo : ℕ
+  pub hi : ℕ
+  pub rest : List ℕ
+  pub lawful : (0 < lo) × (lo < hi) × (hi < 2 ^ 63)
+  pub bytes_are : bytes ≡ interval_bytes (lo, hi) ++ rest
+
+-- The bytes begin with a source, the number of its intervals, which is not 0, and a lawful interval.
+pub record HasSource (bytes : List ℕ) : Type 0 where
+  pub source : List ℕ
+  pub size : ℕ
+  pub rest : List ℕ
+  pub long : length source ≡ 16
+  pub some : 0 < size
+  pub bytes_are : bytes ≡ source ++ little_bytes 8 size ++ rest
+  pub first : HasInterval rest
+
+-- The bytes begin with the number of sources, which is not 0, and a source whose first interval is lawful.
+pub record HasFirst (bytes : List ℕ) : Type 0 where
+  pub count : ℕ
+  pub rest : List ℕ
+  pub some : 0 < count
+  pub bytes_are : bytes ≡ little_bytes 8 count ++ rest
+  pub first : HasSource rest
+
 -- The bytes have a fault.
 pub record HasDecodeFault (bytes : List ℕ) : Type 0 where
   pub fault : GtidFault

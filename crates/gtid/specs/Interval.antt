@@ -1,6 +1,6 @@
 -- The numbers of one source as intervals. MySQL Reference Manual, "GTID Format and Storage" (GTID sets); MySQL Source
 -- Documentation, Replication Protocol, COM_BINLOG_DUMP_GTID, whose intervals end one past their last number.
-use Rattle.std.specs.Prelude.{ℕ, ◌-◌, ◌<◌, ◌≤◌, ◌^◌, ◌&&◌, Bool, List, [], ◌∷◌, length, slice_index_or, nat_le, nat_lt}
+use Rattle.std.specs.Prelude.{◌≡◌, ℕ, ◌+◌, ◌-◌, ◌⊎◌, ◌<◌, ◌≤◌, ◌^◌, ◌&&◌, Bool, List, [], ◌∷◌, length, slice_index_or, nat_le, nat_lt}
 use Rattle.std.specs.List.{list_any}
 use Rattle.std.proofs.Props.{props}
 use Rattle.gtid.specs.declared.interval.Interval.{Interval}
@@ -18,6 +18,10 @@ has intervals n = list_any (is_within n) intervals
 abbrev pub AreLeast : ℕ → List Interval → Type 0
 AreLeast end [] = Unit {0}
 AreLeast end (i ∷ intervals) = (end < i.lo) × (i.lo < i.hi) × (i.hi < 2 ^ 63) × AreLeast i.hi intervals
+
+-- The first number is just below the second one, or just above.
+abbrev pub IsNear : ℕ → ℕ → Type 0
+IsNear near number = (near + 1 ≡ number) ⊎ (near ≡ number + 1)
 
 -- The last interval's hi is the number or above.
 abbrev pub Reaches : List Interval → ℕ → Type 0

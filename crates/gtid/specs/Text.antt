@@ -36,6 +36,12 @@ pub record AppendsText (ids : Ids) (old new : List ℕ) : Type 0 where
   pub is_text : IsText ids text
   pub appended : new ≡ old ++ text
 
+-- A text of this length and this capacity lacks the room for the printed form of the set.
+pub record LacksTextRoom (ids : Ids) (len capacity : ℕ) : Type 0 where
+  pub spans : List Span
+  pub least : IsLeastList spans ids
+  pub lacks : capacity < len + length (join_by block_text (codes ",") (grouped spans))
+
 -- ---- The grammar that is read.
 
 -- from 1 to 2 ^ 63 - 2
@@ -83,6 +89,12 @@ IsList text (item ∷ next ∷ items) = (first : List ℕ) × (others : List ℕ
 pub record IsInGrammar (text : List ℕ) : Type 0 where
   pub items : List SidBlock
   pub is_list : IsList text items
+
+-- The text is in the grammar, and has at least one item.
+pub record HasItem (text : List ℕ) : Type 0 where
+  pub items : List SidBlock
+  pub is_list : IsList text items
+  pub some : 0 < length items
 
 -- what is wrong with an interval as it is written
 abbrev pub written_fault : ℕ × ℕ → Option GtidFault

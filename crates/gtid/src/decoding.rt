@@ -1,9 +1,9 @@
 //! Sets read from bytes.
 
-ghost use Rattle.std.specs.Prelude.{◌≡◌, ◌<◌, ◌≤◌, ◌^◌, ◌⊎◌, ◌++◌, true, length, take, drop, map, flat_map, [], ◌∷◌, Some, None, IfSome, IfNone, IfOk, IfErr};
+ghost use Rattle.std.specs.Prelude.{◌≡◌, ◌≢◌, ◌<◌, ◌≤◌, ◌^◌, ◌⊎◌, ◌++◌, true, length, take, drop, map, flat_map, [], ◌∷◌, Some, None, IfSome, IfNone, IfOk, IfErr};
 ghost use Rattle.byteorder.specs.Endian.{little_bytes, little_number};
 ghost use Rattle.gtid.specs.Interval.{AreLeast};
-ghost use Rattle.gtid.specs.Encoding.{interval_bytes, block_bytes, blocks_bytes, interval_fault, is_above, source_fault, AreBlocks, IsDecodeFault};
+ghost use Rattle.gtid.specs.Encoding.{interval_bytes, block_bytes, blocks_bytes, interval_fault, is_above, source_fault, AreBlocks, IsDecodeFault, HasInterval, HasSource, HasFirst};
 ghost use Rattle.gtid.specs.Blocks.{pair, of_group, blocks};
 ghost use Rattle.gtid.specs.Decoding.{FaultsInIntervals, IsBlockFault};
 
@@ -64,6 +64,7 @@ fn read_interval(after: u64, bytes: &[u8]) -> Result<(Interval, &[u8]), GtidFaul
     ensures in_range { IfOk result (λ read. read.0.hi < 2 ^ 63) }
     ensures split { IfOk result (λ read. bytes.now ≡ interval_bytes (pair read.0) ++ read.1.now) }
     ensures err { IfErr result (λ fault. interval_fault after bytes.now ≡ Some fault) }
+    ensures no_memory { IfErr result (λ fault. fault ≢ GtidFault.Memory) }
 {
     let Some((lo, beyond)) = read_number(bytes) else {
         return Err(GtidFault::Truncated);
@@ -91,6 +92,7 @@ fn read_source(before: Option<[u8; 16]>, bytes: &[u8]) -> Result<Heading<'_>, Gt
     ensures some { IfOk result (λ heading. (0 < heading.size) × (heading.size < 2 ^ 64)) }
     ensures split { IfOk result (λ heading. bytes.now ≡ heading.source ++ little_bytes 8 heading.size ++ heading.rest.now) }
     ensures err { IfErr result (λ fault. source_fault before bytes.now ≡ Some fault) }
+    ensures no_memory { IfErr result (λ fault. fault ≢ GtidFault.Memory) }
 {
     if bytes.len() < 16 {
         return Err(GtidFault::Truncated);
@@ -118,6 +120,7 @@ fn read_intervals(
     ensures count { IfOk result (λ read. length read.0.items ≡ size) }
     ensures split { IfOk result (λ read. bytes.now ≡ flat_map interval_bytes (map pair read.0.items) ++ read.1.now) }
     ensures err { IfErr result (λ fault. (fault ≡ GtidFault.Memory) ⊎ FaultsInIntervals size bytes.now fault) }
+    ensures memory { IfErr result (λ fault. fault ≡ GtidFault.Memory → HasInterval bytes.now) }
 {
     let mut intervals = Vec::new(alloc);
     let mut after = 0;
@@ -140,6 +143,7 @@ fn read_group(
     ensures lawful { IfOk result (λ read. AreBlocks before (of_group read.0 ∷ [])) }
     ensures split { IfOk result (λ read. bytes.now ≡ block_bytes (of_group read.0) ++ read.1.now) }
     ensures err { IfErr result (λ fault. (fault ≡ GtidFault.Memory) ⊎ IsBlockFault before bytes.now fault) }
+    ensures memory { IfErr result (λ fault. fault ≡ GtidFault.Memory → HasSource bytes.now) }
 {
     let heading = read_source(before, bytes)?;
     let (intervals, rest) = read_intervals(alloc, heading.size, heading.rest)?;
@@ -152,6 +156,7 @@ pub(crate) fn read_groups(alloc: Global, bytes: &[u8]) -> Result<(Vec<Group>, &[
     ensures lawful { IfOk result (λ read. AreBlocks None (blocks read.0.items)) }
     ensures split { IfOk result (λ read. bytes.now ≡ blocks_bytes (blocks read.0.items) ++ read.1.now) }
     ensures err { IfErr result (λ fault. (fault ≡ GtidFault.Memory) ⊎ IsDecodeFault bytes.now fault) }
+    ensures memory { IfErr result (λ fault. fault ≡ GtidFault.Memory → HasFirst bytes.now) }
 {
     let Some((count, beyond)) = read_number(bytes) else {
         return Err(GtidFault::Truncated);

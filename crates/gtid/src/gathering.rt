@@ -1,6 +1,6 @@
 //! Groups made of spans in any order.
 
-ghost use Rattle.std.specs.Prelude.{◌≡◌, ◌≤◌, ◌||◌, ◌∷◌, length, IfOk, IfErr, IfSome, IfNone};
+ghost use Rattle.std.specs.Prelude.{◌≡◌, ◌<◌, ◌≤◌, ◌||◌, ◌∷◌, length, IfOk, IfErr, OnErr, IfSome, IfNone};
 ghost use Rattle.std.specs.List.{list_any, AllByRecursion};
 ghost use Rattle.gtid.specs.Identifier.{Id, id_cmp};
 ghost use Rattle.gtid.specs.Span.{is_in};
@@ -22,6 +22,7 @@ pub(crate) fn gather(alloc: Global, spans: Vec<Span>) -> Result<Vec<Group>, Gtid
     requires { AllByRecursion IsLawfulSpan spans.items }
     ensures ascend { IfOk result (λ groups. Ascend (sources groups.items)) }
     ensures ok { IfOk result (λ groups. (q : Id) → is_listed q groups.items ≡ list_any (is_in q) spans.items) }
+    ensures some { OnErr result (0 < length spans.items) }
     ensures err { IfErr result (λ fault. fault ≡ GtidFault.Memory) }
 {
     let mut spans = spans;
@@ -45,6 +46,7 @@ fn gather_rising(alloc: Global, spans: &[Span]) -> Result<Vec<Group>, GtidFault>
     requires rise { Rise spans.now }
     ensures ascend { IfOk result (λ groups. Ascend (sources groups.items)) }
     ensures ok { IfOk result (λ groups. (q : Id) → is_listed q groups.items ≡ list_any (is_in q) spans.now) }
+    ensures some { OnErr result (0 < length spans.now) }
     ensures err { IfErr result (λ fault. fault ≡ GtidFault.Memory) }
 {
     let mut groups = Vec::new(alloc);

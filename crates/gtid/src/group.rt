@@ -1,7 +1,7 @@
 //! The GTIDs of one source.
 
 ghost use Rattle.std.specs.Prelude.{◌≡◌, ◌≢◌, ℕ, length, ◌≤◌, ◌<◌, ◌-◌, ◌^◌, ◌||◌, true, false, not, nat_eq, [], vec_len, vec_capacity, IsOk, IfOk, IfErr, OnOk, OnErr, Ok, Err};
-ghost use Rattle.gtid.specs.Interval.{has, AreLeast, AreLeast-prop};
+ghost use Rattle.gtid.specs.Interval.{has, AreLeast, AreLeast-prop, IsNear};
 
 use crate::fault::GtidFault;
 use crate::identifier::Gtid;
@@ -41,6 +41,7 @@ impl Group {
         ensures there { has self.old.intervals.items number ≡ true → result ≡ Ok false }
         ensures err { OnErr result ((result ≡ Err GtidFault.Memory) × (self.new.intervals.items ≡ self.old.intervals.items)) }
         ensures room { vec_len self.old.intervals < vec_capacity self.old.intervals → IsOk result }
+        ensures near { (n : ℕ) → IsNear n number → has self.old.intervals.items n ≡ true → IsOk result }
     {
         interval::insert(&mut self.intervals, number)
     }

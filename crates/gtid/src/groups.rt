@@ -1,8 +1,8 @@
 //! The groups of a set, in the order of the bytes of their sources.
 
-ghost use Rattle.std.specs.Prelude.{◌≡◌, ℕ, ◌≤◌, ◌⊎◌, ◌↔◌, ◌||◌, [], ◌∷◌, true, false, not, length, take, drop, IsTrue, OnOk, OnErr, Ok, Err, IfOk, IfErr, IfSome, IfNone, vec_capacity};
+ghost use Rattle.std.specs.Prelude.{◌≡◌, ℕ, ◌≤◌, ◌⊎◌, ◌↔◌, ◌||◌, [], ◌∷◌, true, false, not, length, take, drop, IsTrue, OnOk, OnErr, Ok, Err, IfOk, IfErr, IfSome, IfNone, IsOk, vec_capacity};
 ghost use Rattle.gtid.specs.Identifier.{Id, id, is_one};
-ghost use Rattle.gtid.specs.Interval.{has, AreLeast};
+ghost use Rattle.gtid.specs.Interval.{has, AreLeast, IsNear};
 ghost use Rattle.gtid.specs.Combination.{keeps};
 ghost use Rattle.gtid.specs.Group.{Ascend, sources, is_listed, IsNext, IsNoHigher, Splits, AreBelow, IsAt, IsGap};
 ghost use Rattle.gtid.specs.Beside.{Among};
@@ -98,6 +98,7 @@ pub(crate) fn insert(groups: &mut Vec<Group>, gtid: Gtid) -> Result<bool, GtidFa
     ensures answer { IfOk result (λ new. new ≡ not (is_listed (id gtid) groups.old.items)) }
     ensures ok { OnOk result ((q : Id) → is_listed q groups.new.items ≡ (is_one q (id gtid) || is_listed q groups.old.items)) }
     ensures there { is_listed (id gtid) groups.old.items ≡ true → result ≡ Ok false }
+    ensures near { (n : ℕ) → IsNear n gtid.number → is_listed (gtid.source, n) groups.old.items ≡ true → IsOk result }
     ensures err { OnErr result ((result ≡ Err GtidFault.Memory) × ((q : Id) → is_listed q groups.new.items ≡ is_listed q groups.old.items)) }
 {
     match find(groups, &gtid.source) {

@@ -2,7 +2,7 @@
 
 ghost use Rattle.std.specs.Prelude.{◌≡◌, ◌≢◌, ℕ, ◌≤◌, ◌<◌, ◌-◌, ◌^◌, ◌||◌, ◌↔◌, true, false, not, nat_eq, length, slice_index_or, vec_len, vec_capacity, None, IsTrue, IsOk, IfSome, IfNone, IfOk, OnOk, OnErr, Ok, Err};
 ghost use Rattle.std.specs.List.{AllWithin};
-ghost use Rattle.gtid.specs.Interval.{has, is_within, AreLeast, Reaches};
+ghost use Rattle.gtid.specs.Interval.{has, is_within, AreLeast, Reaches, IsNear};
 ghost use Rattle.gtid.specs.Beside.{Touches};
 ghost use Rattle.gtid.specs.declared.interval.Interval.{Interval};
 
@@ -89,7 +89,8 @@ fn begins_at(intervals: &[Interval], at: usize, number: u64) -> Option<Interval>
     Some(first)
 }
 
-/// Adds a number, and returns whether it is new. The only error is `Memory`, and only for a new number.
+/// Adds a number, and returns whether it is new. The only error is `Memory`, and only for a new number with
+/// neither neighbour in the intervals.
 ///
 /// Numbers mostly come in order, so the last interval is looked at first.
 pub(crate) fn insert(intervals: &mut Vec<Interval>, number: u64) -> Result<bool, GtidFault>
@@ -101,6 +102,7 @@ pub(crate) fn insert(intervals: &mut Vec<Interval>, number: u64) -> Result<bool,
     ensures there { has intervals.old.items number ≡ true → result ≡ Ok false }
     ensures err { OnErr result ((result ≡ Err GtidFault.Memory) × (intervals.new.items ≡ intervals.old.items)) }
     ensures room { vec_len intervals.old < vec_capacity intervals.old → IsOk result }
+    ensures near { (n : ℕ) → IsNear n number → has intervals.old.items n ≡ true → IsOk result }
 {
     if reaches(intervals, number) {
         return insert_within(intervals, number);
@@ -138,6 +140,7 @@ fn insert_within(intervals: &mut Vec<Interval>, number: u64) -> Result<bool, Gti
     ensures there { has intervals.old.items number ≡ true → result ≡ Ok false }
     ensures err { OnErr result ((result ≡ Err GtidFault.Memory) × (intervals.new.items ≡ intervals.old.items)) }
     ensures room { vec_len intervals.old < vec_capacity intervals.old → IsOk result }
+    ensures near { (n : ℕ) → IsNear n number → has intervals.old.items n ≡ true → IsOk result }
 {
     let at = place(intervals, number);
     let next = intervals[at];

@@ -1,8 +1,9 @@
 //! Laws about the definitions, for callers.
 //!
-//! A law is a function with an empty body: its clauses are proved of the definitions themselves.
+//! A law is a function that does nothing: its clauses are proved of the definitions themselves.
 
-ghost use Rattle.std.specs.Prelude.{◌≡◌, ◌⊎◌, ℕ, ◌<◌, ◌^◌, ◌++◌, List, length};
+ghost use Rattle.std.specs.Prelude.{◌≡◌, ◌⊎◌, ℕ, ◌-◌, ◌≤◌, ◌<◌, ◌^◌, ◌++◌, true, List, length};
+ghost use Rattle.std.specs.FinSet.{contains};
 ghost use Rattle.std.specs.List.{AllByRecursion};
 ghost use Rattle.gtid.specs.Identifier.{Id, Ids, IsGtid};
 ghost use Rattle.gtid.specs.Span.{IsLeastList, HasLeastList};
@@ -10,6 +11,15 @@ ghost use Rattle.gtid.specs.Encoding.{IsEncoding, BeginsWithEncoding, IsDecodeFa
 ghost use Rattle.gtid.specs.Text.{IsText, IsRead, HasReading, IsParseFault, HasParseFault, IsGtidText, gtid_text};
 ghost use Rattle.gtid.specs.declared.fault.GtidFault.{GtidFault};
 ghost use Rattle.gtid.specs.declared.span.Span.{Span};
+
+use crate::set::GtidSet;
+
+/// The numbers of a set's GTIDs are from 1 to 2^63 - 2.
+pub fn numbers_in_range(ids: &GtidSet)
+    ensures { (q : Id) → contains ids.now q ≡ true → (1 ≤ q.1) × (q.1 ≤ 2 ^ 63 - 2) }
+{
+    let _groups = &ids.groups;
+}
 
 /// Each set has exactly one list of least intervals.
 pub fn one_least_list()

@@ -1,6 +1,6 @@
 //! The intervals in a text of the grammar.
 
-ghost use Rattle.std.specs.Prelude.{◌≡◌, ℕ, ◌⊎◌, ◌<◌, ◌≤◌, List, [], ◌∷◌, length, Some, None, Ok, Err, IfOk, IfErr, IfSome, IfNone};
+ghost use Rattle.std.specs.Prelude.{◌≡◌, ◌≢◌, ℕ, ◌⊎◌, ◌<◌, ◌≤◌, List, [], ◌∷◌, length, Some, None, Ok, Err, IfOk, IfErr, IfSome, IfNone};
 ghost use Rattle.std.specs.List.{AllByRecursion};
 ghost use Rattle.uuid.specs.Text.{hex_digit_value};
 ghost use Rattle.gtid.specs.Encoding.{SidBlock};
@@ -21,6 +21,7 @@ pub(crate) fn read_spans(alloc: Global, text: &[u8]) -> Result<Vec<Span>, GtidFa
     ensures ok { IfOk result (λ spans. (items : List SidBlock) → IsList text.now items → (list_fault items ≡ None) × (spans.items ≡ written_spans items)) }
     ensures err { IfErr result (λ fault. (fault ≡ GtidFault.Memory) ⊎ ((items : List SidBlock) → IsList text.now items → list_fault items ≡ Some fault)) }
     ensures range { IfOk result (λ spans. AllByRecursion IsLawfulSpan spans.items) }
+    ensures some { IfErr result (λ _. (items : List SidBlock) → IsList text.now items → 0 < length items) }
 {
     let mut spans = Vec::new(alloc);
     let mut source = [0; 16];
@@ -60,6 +61,7 @@ fn read_intervals<'a>(
     ensures ok { IfOk result (λ items. judge spans.old.items (collected (First 0) source text.now) ≡ judge spans.new.items (collected (Source 0) source items.now)) }
     ensures err { IfErr result (λ fault. (fault ≡ GtidFault.Memory) ⊎ (judge spans.old.items (collected (First 0) source text.now) ≡ Err fault)) }
     ensures shorter { IfOk result (λ items. length items.now ≤ length text.now) }
+    ensures some { collected (First 0) source text.now ≢ [] }
 {
     let mut after = push_interval(text, source, spans)?;
     while let [b':', rest @ ..] = after {
@@ -77,6 +79,7 @@ fn push_interval<'a>(
     ensures ok { IfOk result (λ after. judge spans.old.items (collected (First 0) source text.now) ≡ judge spans.new.items (after_interval source after.now)) }
     ensures err { IfErr result (λ fault. (fault ≡ GtidFault.Memory) ⊎ (judge spans.old.items (collected (First 0) source text.now) ≡ Err fault)) }
     ensures shorter { IfOk result (λ after. length after.now ≤ length text.now) }
+    ensures some { collected (First 0) source text.now ≢ [] }
 {
     let (lo, hi, after) = read_interval(text);
     if let Some(fault) = fault_of(lo, hi) {

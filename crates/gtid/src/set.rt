@@ -1,15 +1,16 @@
 //! Sets of GTIDs.
 
-ghost use Rattle.std.specs.Prelude.{◌≡◌, ℕ, ◌≤◌, ◌⊎◌, true, false, not, length, take, string_bytes, MatchResult, IfOk, OnOk, IfErr, OnErr, Ok, Err, List, None, IfSome, vec_len, vec_capacity};
+ghost use Rattle.std.specs.Prelude.{◌≡◌, ℕ, ◌≤◌, ◌⊎◌, true, false, not, length, take, string_bytes, MatchResult, IfOk, OnOk, IfErr, OnErr, Ok, Err, List, None, IfSome, IsOk, vec_len, vec_capacity, string_len, string_capacity};
 ghost use Rattle.std.specs.FinSet as set;
 ghost use Rattle.gtid.specs.Identifier.{Ids, id};
 ghost use Rattle.std.specs.List.{AllByRecursion};
+ghost use Rattle.gtid.specs.Interval.{IsNear};
 ghost use Rattle.gtid.specs.Span.{Covers, IsLeastList};
 ghost use Rattle.gtid.specs.Reading.{IsLawfulSpan};
 ghost use Rattle.gtid.specs.Beside.{Joins};
 ghost use Rattle.gtid.specs.declared.span.Span.{Span};
-ghost use Rattle.gtid.specs.Encoding.{IsEncoding, IsDecodeFault, AppendsEncoding, LacksRoom};
-ghost use Rattle.gtid.specs.Text.{IsRead, IsParseFault, AppendsText};
+ghost use Rattle.gtid.specs.Encoding.{IsEncoding, IsDecodeFault, AppendsEncoding, LacksRoom, HasFirst};
+ghost use Rattle.gtid.specs.Text.{IsRead, IsParseFault, AppendsText, LacksTextRoom, HasItem};
 
 use crate::beside::Beside;
 use crate::combination::Combination;
@@ -76,11 +77,12 @@ impl GtidSet {
         are_subset(&self.groups, &other.groups)
     }
 
-    /// Adds a GTID, and returns whether it is new. The only error is `Memory`, which comes only for a new GTID and
-    /// leaves the set as it was.
+    /// Adds a GTID, and returns whether it is new. The only error is `Memory`, which comes only for a new GTID with
+    /// neither neighbour in the set, and leaves the set as it was.
     pub fn insert(&mut self, gtid: Gtid) -> Result<bool, GtidFault>
         ensures ok { IfOk result (λ new. (new ≡ not (set.contains self.old (id gtid))) × (self.new ≡ set.insert self.old (id gtid))) }
         ensures there { set.contains self.old (id gtid) ≡ true → result ≡ Ok false }
+        ensures near { (number : ℕ) → IsNear number gtid.number → set.contains self.old (gtid.source, number) ≡ true → IsOk result }
         ensures err { OnErr result ((result ≡ Err GtidFault.Memory) × (self.new ≡ self.old)) }
     {
         insert(&mut self.groups, gtid)
@@ -103,32 +105,49 @@ impl GtidSet {
         }
     }
 
-    /// Adds the GTIDs of the other set. The only error is `Memory`, which leaves the set as it was.
+    /// Adds the GTIDs of the other set. The only error is `Memory`, which comes only if the other set is not empty, and
+    /// leaves the set as it was.
     pub fn union(&mut self, other: &GtidSet) -> Result<(), GtidFault>
         ensures ok { OnOk result (self.new ≡ set.union self.old other.now) }
         ensures err { OnErr result ((result ≡ Err GtidFault.Memory) × (self.new ≡ self.old)) }
+        ensures none { other.now ≡ set.empty → IsOk result }
     {
+        if other.groups.len() == 0 {
+            return Ok(());
+        }
         let alloc = *self.groups.allocator();
         self.groups = combine_groups(alloc, Combination::Union, &self.groups, &other.groups)?;
         Ok(())
     }
 
-    /// Removes the GTIDs of the other set. The only error is `Memory`, which leaves the set as it was.
+    /// Removes the GTIDs of the other set. The only error is `Memory`, which comes only if neither set is empty, and
+    /// leaves the set as it was.
     pub fn subtract(&mut self, other: &GtidSet) -> Result<(), GtidFault>
         ensures ok { OnOk result (self.new ≡ set.difference self.old other.now) }
         ensures err { OnErr result ((result ≡ Err GtidFault.Memory) × (self.new ≡ self.old)) }
+        ensures none { (self.old ≡ set.empty) ⊎ (other.now ≡ set.empty) → IsOk result }
     {
+        if self.groups.len() == 0 {
+            return Ok(());
+        }
+        if other.groups.len() == 0 {
+            return Ok(());
+        }
         let alloc = *self.groups.allocator();
         self.groups = combine_groups(alloc, Combination::Difference, &self.groups, &other.groups)?;
         Ok(())
     }
 
-    /// A copy of the set. The only error is `Memory`.
+    /// A copy of the set. The only error is `Memory`, which comes only if the set is not empty.
     pub fn copy(&self) -> Result<GtidSet, GtidFault>
         ensures ok { IfOk result (λ copied. copied ≡ self.now) }
         ensures err { IfErr result (λ fault. fault ≡ GtidFault.Memory) }
+        ensures none { self.now ≡ set.empty → IsOk result }
     {
         let alloc = *self.groups.allocator();
+        if self.groups.len() == 0 {
+            return Ok(GtidSet::new(alloc));
+        }
         let groups = combine_groups(alloc, Combination::Union, &self.groups, &[])?;
         Ok(GtidSet { groups })
     }
@@ -178,13 +197,14 @@ impl GtidSet {
     ///   before it.
     /// - `Interval` if a source has no interval, or an interval is empty.
     /// - `Number` if an interval begins at 0 or its `hi` is above 2^63 - 1.
-    /// - `Memory` if an allocation was refused.
+    /// - `Memory` if an allocation was refused, after a source whose first interval is lawful.
     ///
     /// For one interval `Number` is reported before `Interval`, and `Interval` before `Order`.
     pub fn decode(alloc: Global, bytes: &[u8]) -> Result<(GtidSet, usize), GtidFault>
         ensures length { IfOk result (λ found. found.1 ≤ length bytes.now) }
         ensures found { IfOk result (λ found. IsEncoding found.0 (take found.1 bytes.now)) }
         ensures fault { IfErr result (λ fault. (fault ≡ GtidFault.Memory) ⊎ IsDecodeFault bytes.now fault) }
+        ensures memory { IfErr result (λ fault. fault ≡ GtidFault.Memory → HasFirst bytes.now) }
         ensures only { (ids : Ids) (n : ℕ) → n ≤ length bytes.now → IsEncoding ids (take n bytes.now) → MatchResult result (λ found. found ≡ (ids, n)) (λ fault. fault ≡ GtidFault.Memory) }
     {
         let (groups, rest) = read_groups(alloc, bytes)?;
@@ -200,10 +220,11 @@ impl GtidSet {
     /// - `Text` if the text is not of this form, with the length of its longest prefix that begins such a text.
     /// - `Number` or `Interval` for the first interval that is wrong: a number outside 1 to 2^63 - 2, or otherwise a
     ///   second number below the first.
-    /// - `Memory` if an allocation was refused.
+    /// - `Memory` if an allocation was refused, only for a text of this form that is neither empty nor only blanks.
     pub fn parse(alloc: Global, text: &str) -> Result<GtidSet, GtidFault>
         ensures found { IfOk result (IsRead text.now) }
         ensures fault { IfErr result (λ fault. (fault ≡ GtidFault.Memory) ⊎ IsParseFault text.now fault) }
+        ensures memory { IfErr result (λ fault. fault ≡ GtidFault.Memory → HasItem text.now) }
         ensures only { (ids : Ids) → IsRead text.now ids → MatchResult result (λ read. read ≡ ids) (λ fault. fault ≡ GtidFault.Memory) }
     {
         let bytes = text.as_bytes();
@@ -227,11 +248,12 @@ impl GtidSet {
     }
 
     /// Appends the text of the set: the sources in lower case and in the order of their bytes, separated by commas,
-    /// each with its least intervals, `:n` for one number and `:n-m` for more. The only error is `Memory`, which leaves
-    /// the text as it was.
+    /// each with its least intervals, `:n` for one number and `:n-m` for more. The only error is `Memory`: the string
+    /// lacks the room and cannot grow. It leaves the text as it was.
     pub fn print(&self, out: &mut String) -> Result<(), GtidFault>
         ensures ok { OnOk result (AppendsText self.now (string_bytes out.old) (string_bytes out.new)) }
         ensures err { OnErr result ((result ≡ Err GtidFault.Memory) × (string_bytes out.new ≡ string_bytes out.old)) }
+        ensures full { OnErr result (LacksTextRoom self.now (string_len out.old) (string_capacity out.old)) }
     {
         let start = out.len();
         let printed = print_groups(&self.groups, out);

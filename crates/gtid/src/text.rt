@@ -1,6 +1,6 @@
 //! Sets as text.
 
-ghost use Rattle.std.specs.Prelude.{◌≡◌, ◌<◌, ◌++◌, string_bytes, codes, OnOk, OnErr, Err};
+ghost use Rattle.std.specs.Prelude.{◌≡◌, ◌<◌, ◌≤◌, ◌+◌, ◌++◌, length, string_bytes, string_len, string_capacity, codes, OnOk, OnErr, Err};
 ghost use Rattle.std.specs.List.{join_by, AllByRecursion};
 ghost use Rattle.uuid.specs.Text.{hyphenated_text, lower};
 ghost use Rattle.gtid.specs.Identifier.{IsSource};
@@ -16,6 +16,7 @@ use uuid::Uuid;
 /// Appends the sources with their intervals, with commas between.
 pub(crate) fn print_groups(groups: &[Group], out: &mut String) -> Result<(), GtidFault>
     ensures ok { OnOk result (string_bytes out.new ≡ string_bytes out.old ++ join_by block_text (codes ",") (blocks groups.now)) }
+    ensures full { OnErr result (string_capacity out.old < string_len out.old + length (join_by block_text (codes ",") (blocks groups.now))) }
     ensures sources { OnOk result (AllByRecursion (λ g. IsSource g.source) groups.now) }
     ensures err { OnErr result (result ≡ Err GtidFault.Memory) }
     ensures grows { GrowsByAscii (string_bytes out.old) (string_bytes out.new) }
@@ -34,6 +35,8 @@ pub(crate) fn print_groups(groups: &[Group], out: &mut String) -> Result<(), Gti
 /// Appends a source and its intervals.
 fn print_group(group: &Group, out: &mut String) -> Result<(), GtidFault>
     ensures ok { OnOk result (string_bytes out.new ≡ string_bytes out.old ++ block_text (of_group group.now)) }
+    ensures full { OnErr result (string_capacity out.old < string_len out.old + length (block_text (of_group group.now))) }
+    ensures capacity { string_capacity out.old ≤ string_capacity out.new }
     ensures err { OnErr result (result ≡ Err GtidFault.Memory) }
     ensures grows { GrowsByAscii (string_bytes out.old) (string_bytes out.new) }
     ensures source { IsSource group.now.source }
@@ -49,6 +52,8 @@ fn print_group(group: &Group, out: &mut String) -> Result<(), GtidFault>
 fn print_source(source: &[u8; 16], out: &mut String) -> Result<(), GtidFault>
     ensures source { IsSource source.now }
     ensures ok { OnOk result (string_bytes out.new ≡ string_bytes out.old ++ hyphenated_text lower source.now) }
+    ensures full { OnErr result (string_capacity out.old < string_len out.old + length (hyphenated_text lower source.now)) }
+    ensures capacity { string_capacity out.old ≤ string_capacity out.new }
     ensures err { OnErr result (result ≡ Err GtidFault.Memory) }
     ensures grows { GrowsByAscii (string_bytes out.old) (string_bytes out.new) }
 {
@@ -65,6 +70,8 @@ fn print_source(source: &[u8; 16], out: &mut String) -> Result<(), GtidFault>
 fn print_interval(interval: Interval, out: &mut String) -> Result<(), GtidFault>
     requires { interval.lo < interval.hi }
     ensures ok { OnOk result (string_bytes out.new ≡ string_bytes out.old ++ interval_text (pair interval)) }
+    ensures full { OnErr result (string_capacity out.old < string_len out.old + length (interval_text (pair interval))) }
+    ensures capacity { string_capacity out.old ≤ string_capacity out.new }
     ensures err { OnErr result (result ≡ Err GtidFault.Memory) }
     ensures grows { GrowsByAscii (string_bytes out.old) (string_bytes out.new) }
 {

@@ -65,7 +65,7 @@ fn write_kind<W: Write>(event: &Event<'_>, out: &mut W) -> io::Result<()> {
 fn write_map<W: Write>(map: &TableMap<'_>, out: &mut W) -> io::Result<()> {
     write!(out, "TableMap {} ", map.id)?;
     write_table(map.schema, map.table, out)?;
-    write!(out, " {}", map.columns.len())
+    write!(out, " {}", map.types.len())
 }
 
 fn write_rows<W: Write>(rows: &RowsEvent<'_>, out: &mut W) -> io::Result<()> {

@@ -50,10 +50,12 @@ pub record IsUnfinished (due limit : ℕ) (bytes : List ℕ) : Type 0 where
   pub not_too_large : IsTooLarge due limit bytes → ⊥
   pub not_whole : (count : ℕ) (payload : List ℕ) (next : ℕ) → IsWholePayload due limit (take count bytes) payload next → ⊥
 
--- A right header has come that announces at least one byte, for which room is needed.
-pub record NeedsRoom (due limit : ℕ) (bytes : List ℕ) : Type 0 where
+-- After the bytes held, and among these that come now, ends a right header that announces at least one byte, for which
+-- room is needed.
+pub record NeedsRoom (due limit : ℕ) (held bytes : List ℕ) : Type 0 where
   pub before : ℕ
   pub size : ℕ
-  pub header : HasHeader due limit bytes before size ((due + before) % 256)
+  pub header : HasHeader due limit (held ++ bytes) before size ((due + before) % 256)
   pub fits : before * full_chunk + size ≤ limit
   pub some : 0 < size
+  pub ends_now : length held < before * (full_chunk + 4) + 4

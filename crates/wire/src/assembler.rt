@@ -75,8 +75,8 @@ impl Assembler {
     /// Consumes bytes up to the end of the current payload, or all of them.
     ///
     /// `Sequence` and `TooLarge` are reported as soon as the four bytes of the wrong header have come,
-    /// `Sequence` if the header is wrong in both ways. `Memory` is reported if the room for the bytes
-    /// that a right header announces cannot be allocated. After any of them every later step answers
+    /// `Sequence` if the header is wrong in both ways. `Memory` is reported if a right header
+    /// that announces bytes is complete with these bytes, and the room for them cannot be allocated. After any of them every later step answers
     /// `Ended`, and nothing more is promised of the reader.
     pub fn step(&mut self, bytes: &[u8]) -> Result<Step, WireFault>
         // A payload: the bytes held and those used are its packets, and the reader holds nothing.
@@ -98,7 +98,7 @@ impl Assembler {
         ensures sequence { (want got : ℕ) → result ≡ Err (WireFault.Sequence want got) →
             IsOutOfSequence self.old.due self.old.limit (self.old.held ++ bytes.now) want got }
         ensures too_large { result ≡ Err WireFault.TooLarge → IsTooLarge self.old.due self.old.limit (self.old.held ++ bytes.now) }
-        ensures memory { result ≡ Err WireFault.Memory → NeedsRoom self.old.due self.old.limit (self.old.held ++ bytes.now) }
+        ensures memory { result ≡ Err WireFault.Memory → NeedsRoom self.old.due self.old.limit self.old.held bytes.now }
         ensures ended { (result ≡ Err WireFault.Ended) ↔ (self.old.ended ≡ true) }
         ensures ok { OnOk result (self.new.ended ≡ false) }
         ensures err { OnErr result (self.new.ended ≡ true) }

@@ -109,7 +109,7 @@ impl Unpacker {
         ensures limit { self.new.limit ≡ self.old.limit }
         ensures sequence { (want got : ℕ) → result ≡ Err (WireFault.Sequence want got) → IsOutOfSequence self.old.due self.old.limit (held_of self.old ++ bytes.now) want got }
         ensures too_large { result ≡ Err WireFault.TooLarge → IsTooLarge self.old.due self.old.limit (held_of self.old ++ bytes.now) }
-        ensures memory { result ≡ Err WireFault.Memory → NeedsRoom self.old.due self.old.limit (held_of self.old ++ bytes.now) }
+        ensures memory { result ≡ Err WireFault.Memory → NeedsRoom self.old.due self.old.limit (held_of self.old) bytes.now }
         ensures only { IfErr result (λ fault. fault ≢ WireFault.Ended) }
     {
         let used = fill(&mut self.header, self.filled, bytes);
@@ -152,7 +152,7 @@ impl Unpacker {
         ensures limit { self.new.limit ≡ self.old.limit }
         ensures sequence { (want got : ℕ) → result ≡ Err (WireFault.Sequence want got) → IsOutOfSequence self.old.due self.old.limit (held_of self.old ++ bytes.now) want got }
         ensures too_large { result ≡ Err WireFault.TooLarge → IsTooLarge self.old.due self.old.limit (held_of self.old ++ bytes.now) }
-        ensures memory { result ≡ Err WireFault.Memory → NeedsRoom self.old.due self.old.limit (held_of self.old ++ bytes.now) }
+        ensures memory { result ≡ Err WireFault.Memory → NeedsRoom self.old.due self.old.limit (held_of self.old) bytes.now }
         ensures only { IfErr result (λ fault. fault ≢ WireFault.Ended) }
     {
         let mut used = 0;

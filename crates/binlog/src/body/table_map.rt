@@ -25,7 +25,8 @@ pub struct TableMap<'a> {
     pub id: u64,
     pub schema: &'a [u8],
     pub table: &'a [u8],
-    pub columns: ColumnTypes<'a>,
+    /// The types of the columns.
+    pub types: ColumnTypes<'a>,
 }
 
 /// A table's names and the types of its columns.
@@ -53,13 +54,13 @@ impl TableDef {
         ensures id { result.id ≡ id }
         ensures schema { result.schema.now ≡ self.now.schema.items }
         ensures table { result.table.now ≡ self.now.table.items }
-        ensures columns { result.columns ≡ kinds self.now.types.items }
+        ensures columns { result.types ≡ kinds self.now.types.items }
     {
         TableMap {
             id,
             schema: &self.schema,
             table: &self.table,
-            columns: ColumnTypes::of(&self.types),
+            types: ColumnTypes::of(&self.types),
         }
     }
 }
@@ -67,13 +68,13 @@ impl TableDef {
 impl TableMap<'_> {
     /// Copies the names and the column types, so that they outlive the event. The only error is `Memory`.
     pub fn copy(&self, alloc: Global) -> Result<TableDef, EventFault>
-        ensures ok { IfOk result (λ copied. (copied.schema.items ≡ self.now.schema.now) × (copied.table.items ≡ self.now.table.now) × (kinds copied.types.items ≡ self.now.columns)) }
+        ensures ok { IfOk result (λ copied. (copied.schema.items ≡ self.now.schema.now) × (copied.table.items ≡ self.now.table.now) × (kinds copied.types.items ≡ self.now.types)) }
         ensures err { OnErr result (result ≡ Err (record { kind = Memory; at = 0 })) }
     {
         Ok(TableDef {
             schema: Vec::from_slice(alloc, self.schema)?,
             table: Vec::from_slice(alloc, self.table)?,
-            types: self.columns.to_vec(alloc)?,
+            types: self.types.to_vec(alloc)?,
         })
     }
 }
@@ -147,7 +148,7 @@ pub(crate) fn map_fits(map: &TableMap<'_>) -> bool
     if map.table.len() > 255 {
         return false;
     }
-    matches!(map.columns.len(), 1..=4096)
+    matches!(map.types.len(), 1..=4096)
 }
 
 /// Appends the body of a table map, or a part of it. All columns may be null, and no flags are set.
@@ -158,11 +159,11 @@ pub(crate) fn write_table_map(map: &TableMap<'_>, out: &mut Vec<u8>) -> Result<(
     ensures kept { OnErr result (take (length out.old.items) out.new.items ≡ out.old.items) }
 {
     write_names(map, out)?;
-    write_count(map.columns.len(), out)?;
-    write_codes(&map.columns, out)?;
-    write_count(metadata_length(&map.columns), out)?;
-    write_all_metadata(&map.columns, out)?;
-    write_full_bitmap(map.columns.len(), out)?;
+    write_count(map.types.len(), out)?;
+    write_codes(&map.types, out)?;
+    write_count(metadata_length(&map.types), out)?;
+    write_all_metadata(&map.types, out)?;
+    write_full_bitmap(map.types.len(), out)?;
     Ok(())
 }
 

@@ -84,11 +84,11 @@ fn kinds(alloc: Global, types: &[u8], metadata: &[u8]) -> Option<Vec<ColumnKind>
     let Ok(Event::TableMap(map)) = read_event(&bytes) else {
         return None;
     };
-    if map.columns.is_empty() || map.columns.len() != types.len() {
+    if map.types.is_empty() || map.types.len() != types.len() {
         return None;
     }
     let mut kinds = Vec::new(alloc);
-    for column in map.columns.iter() {
+    for column in map.types.iter() {
         kinds.push(column.kind).ok()?;
     }
     Some(kinds)

@@ -1,6 +1,6 @@
 use Rattle.std.proofs.Common.{inr, arith}
 use Rattle.std.proofs.lemmas.Result.{err_from_is_err_and}
-use Rattle.gtid.proofs.Read.{faults_too_short, no_groups_read, more_groups, groups_fault, all_groups}
+use Rattle.gtid.proofs.Read.{faults_too_short, no_groups_read, more_groups, groups_fault, all_groups, group_first, group_read, has_first}
 use Rattle.gtid.proofs.decoding.read_groups.Goals as goal
 
 pub returns-in_default-clause-err : goal.returns-in_default-clause-err
@@ -26,3 +26,16 @@ returns-clause-lawful c = c.loop-done.invariant.lawful
 
 pub returns-clause-split : goal.returns-clause-split
 returns-clause-split c = all_groups c.loop-done.groups.items c.loop-done._done c.in-Some.count c.loop-done.before c.loop-done.rest.now c.in-Some.beyond.now c.args.bytes.now c.loop-done.invariant (omega arith) c.in-Some.ensures.split
+
+pub returns-in_err-group-clause-memory : goal.returns-in_err-group-clause-memory
+returns-in_err-group-clause-memory c =
+    let p = err_from_is_err_and c.from_residual.result c.from_residual.ensures.1 in
+    rw (p.1, p.2) (λ memory. has_first c.in-Some.count c.in-Some.beyond.now c.args.bytes.now (omega (arith, c.loop-done-test.true)) c.in-Some.ensures.split
+    (group_first c.loop-done.groups.items c.loop-done._done c.loop-done.before c.loop-done.rest.now c.in-Some.beyond.now c.loop-done.invariant (c.in_err-group.ensures.memory memory)))
+
+pub returns-in_err-push-clause-memory : goal.returns-in_err-push-clause-memory
+returns-in_err-push-clause-memory c =
+    let first = has_first c.in-Some.count c.in-Some.beyond.now c.args.bytes.now (omega (arith, c.loop-done-test.true)) c.in-Some.ensures.split
+    (group_read c.loop-done.groups.items c.in_ok-group.group c.loop-done._done c.loop-done.before c.loop-done.rest.now c.in_ok-group.after.now c.in-Some.beyond.now c.loop-done.invariant
+    c.in_ok-group.ensures.lawful c.in_ok-group.ensures.split) in
+    rw (err_from_is_err_and c.from_residual-in_err-push.result c.from_residual-in_err-push.ensures.1).1 (λ memory. first)

@@ -71,3 +71,19 @@ returns-in_ok-insert-in-Err-clause-ok c =
 pub returns-in_ok-insert-in-Err-clause-there : goal.returns-in_ok-insert-in-Err-clause-there
 returns-in_ok-insert-in-Err-clause-there c there =
     absurd (true≢false (sym there ∙ listed_gap c.args.groups.now.items c.in-Err.at c.args.gtid.source (rw c.deref.ensures.value at c.in-Err.ensures.absent) c.args.gtid.number))
+
+pub returns-in-Ok-clause-near : goal.returns-in-Ok-clause-near
+returns-in-Ok-clause-near c n beside one =
+    let found = rw c.deref.ensures.value at c.in-Ok.ensures.found in
+    let old = c.index_mut.result.now in
+    let at = any_default c.args.groups.now.items c.in-Ok.at old found.0 c.index_mut.ensures.value in
+    c.insert.ensures.near n beside
+    (sym (listed_at c.args.groups.now.items c.in-Ok.at old c.args.gtid.source c.requires.ascend found.0 at (ap (λ g. g.source) (sym (at old)) ∙ found.1 old) n) ∙ one)
+
+pub returns-in_err-group-in-Err-clause-near : goal.returns-in_err-group-in-Err-clause-near
+returns-in_err-group-in-Err-clause-near c n beside one =
+    absurd (true≢false (sym one ∙ listed_gap c.args.groups.now.items c.in-Err.at c.args.gtid.source (rw c.deref.ensures.value at c.in-Err.ensures.absent) n))
+
+pub returns-in_err-insert-in-Err-clause-near : goal.returns-in_err-insert-in-Err-clause-near
+returns-in_err-insert-in-Err-clause-near c n beside one =
+    absurd (true≢false (sym one ∙ listed_gap c.args.groups.now.items c.in-Err.at c.args.gtid.source (rw c.deref.ensures.value at c.in-Err.ensures.absent) n))

@@ -3,7 +3,7 @@ use Rattle.std.proofs.lemmas.Result.{err_from_is_err_and}
 use Rattle.gtid.specs.Reading.{judge, collected}
 use Rattle.gtid.specs.Reading.Part.{Source}
 use Rattle.gtid.proofs.Judged.{judged_range}
-use Rattle.gtid.proofs.Collected.{zeros, err_exit, reads_list}
+use Rattle.gtid.proofs.Collected.{zeros, err_exit, reads_list, some_items}
 use Rattle.gtid.proofs.reading.read_spans.Goals as goal
 
 pub returns-in_err-left-clause-err : goal.returns-in_err-left-clause-err
@@ -20,3 +20,8 @@ pub returns-clause-range : goal.returns-clause-range
 returns-clause-range c =
     judged_range [] c.loop-after.spans.items (collected (Source 0) zeros c.args.text.now)
     (c.loop-after.invariant ∙ ap (judge c.loop-after.spans.items) c.in_default.ensures.none) tt
+
+pub returns-in_err-left-clause-some : goal.returns-in_err-left-clause-some
+returns-in_err-left-clause-some c =
+    rw (err_from_is_err_and c.from_residual.result c.from_residual.ensures.1).1
+    (λ items is. some_items c.args.text.now c.loop-after.spans.items _ items is (c.loop-after.invariant ∙ ap (judge c.loop-after.spans.items) c.in-Some.ensures.some) c.in_err-left.ensures.some)

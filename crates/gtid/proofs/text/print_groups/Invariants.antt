@@ -1,5 +1,5 @@
-use Rattle.std.proofs.Common.{◌++◌, codes, take}
-use Rattle.std.specs.String.{string_bytes}
+use Rattle.std.proofs.Common.{◌++◌, ◌≤◌, codes, take}
+use Rattle.std.specs.String.{string_bytes, string_capacity}
 use Rattle.std.specs.List.{join_by, AllByRecursion}
 use Rattle.gtid.specs.Identifier.{IsSource}
 use Rattle.gtid.specs.Text.{block_text}
@@ -11,3 +11,4 @@ abbrev pub invariant-loop-group : goal.invariant-loop-group
 invariant-loop-group l =
     Prints (λ b. codes "," ++ block_text b) of_group l.rest l.group-index (string_bytes l.fn.out) (string_bytes l.out) (join_by block_text (codes ",") (blocks l.fn.groups))
     × AllByRecursion (λ g. IsSource g.source) (take l.group-index l.rest)
+    × (string_capacity l.fn.out ≤ string_capacity l.out)

@@ -4,7 +4,7 @@ use Rattle.binlog.specs.TableView.{table_value}
 use Rattle.binlog.specs.Event.{format, begin, commit, table_map, other_map, rows, xid}
 use Rattle.binlog.specs.EventView.{event_value}
 use Rattle.gather.specs.Fault.{has_format}
-use Rattle.gather.proofs.Stepping.{step_neutral, step_mark, step_gtid, continues, takes, refuses, formatted_from, false_or, true_or, rotates_or_stops}
+use Rattle.gather.proofs.Stepping.{step_neutral, step_mark, step_gtid, continues, takes, refuses, keeps, formatted_from, false_or, true_or, rotates_or_stops}
 use Rattle.gather.proofs.gatherer.Gatherer.take.Goals as goal
 
 pub returns-in-Neutral-clause-taken : goal.returns-in-Neutral-clause-taken
@@ -56,3 +56,18 @@ returns-in-Xid-clause-taken c =
     let e = xid c.in-Xid.number in
     let a = c.take_end-in-Xid in
     rw c.in-Xid.is (takes a.result c.args.self.now.formatted c.args.self.now.state a.new.state e (continues e refl refl) (a.ensures.taken e refl))
+
+pub returns-in-TableMap-clause-memory : goal.returns-in-TableMap-clause-memory
+returns-in-TableMap-clause-memory c =
+    let formatted = formatted_from c.args.self.now.formatted (rw c.in-TableMap.is at (sym c.lacks_format.ensures ∙ c.if-lacks_format.false)) in
+    rw c.in-TableMap.is (keeps c.take_map.result c.args.self.now.formatted c.args.self.now.state (table_map (table_value c.in-TableMap.map)) refl (λ block. refl) formatted c.take_map.ensures.memory)
+
+pub returns-in-OtherMap-clause-memory : goal.returns-in-OtherMap-clause-memory
+returns-in-OtherMap-clause-memory c =
+    let formatted = formatted_from c.args.self.now.formatted (rw c.in-OtherMap.is at (sym c.lacks_format.ensures ∙ c.if-lacks_format.false)) in
+    rw c.in-OtherMap.is (keeps c.take_other.result c.args.self.now.formatted c.args.self.now.state (other_map c.in-OtherMap.id) refl (λ block. refl) formatted c.take_other.ensures.memory)
+
+pub returns-in-Rows-clause-memory : goal.returns-in-Rows-clause-memory
+returns-in-Rows-clause-memory c =
+    let formatted = formatted_from c.args.self.now.formatted (rw c.in-Rows.is at (sym c.lacks_format.ensures ∙ c.if-lacks_format.false)) in
+    rw c.in-Rows.is (keeps c.take_rows.result c.args.self.now.formatted c.args.self.now.state (rows (rows_value c.in-Rows.rows)) refl (λ block. refl) formatted c.take_rows.ensures.memory)

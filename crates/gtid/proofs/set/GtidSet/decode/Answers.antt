@@ -17,3 +17,8 @@ pub returns-in_err-groups-clause-only : goal.returns-in_err-groups-clause-only
 returns-in_err-groups-clause-only c ids n short encoding =
     let p = err_from_is_err_and c.from_residual.result c.from_residual.ensures.1 in
     rw (p.1, p.2) (only_fault c.args.bytes.now _ c.in_err-groups.ensures.err ids n encoding)
+
+pub returns-in_err-groups-clause-memory : goal.returns-in_err-groups-clause-memory
+returns-in_err-groups-clause-memory c =
+    let p = err_from_is_err_and c.from_residual.result c.from_residual.ensures.1 in
+    rw (p.1, p.2) c.in_err-groups.ensures.memory

@@ -17,3 +17,6 @@ pub returns-clause-err : goal.returns-clause-err
 returns-clause-err c =
     on_err c.insert.result c.insert.ensures.err (λ kept.
     (kept.0, same_ids c.args.self.now c.insert.new.groups.items (λ q. kept.1 q ∙ contained c.self.inside.groups.items c.args.self.now c.self.view_is q)))
+
+pub returns-clause-near : goal.returns-clause-near
+returns-clause-near c n beside one = c.insert.ensures.near n beside (contained c.self.inside.groups.items c.args.self.now c.self.view_is (c.args.gtid.source, n) ∙ one)

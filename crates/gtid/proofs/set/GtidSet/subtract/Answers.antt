@@ -1,9 +1,23 @@
-use Rattle.std.proofs.Common.{ap, ◌∙◌}
+use Rattle.std.proofs.Common.{ap, ◌∙◌, inl, inr, arith}
 use Rattle.gtid.specs.Group.{ids_of}
-use Rattle.gtid.proofs.Sets.{is_difference}
+use Rattle.gtid.proofs.Sets.{is_difference, is_empty, not_long, difference_none}
 use Rattle.gtid.proofs.set.GtidSet.subtract.Goals as goal
 
 pub returns-clause-ok : goal.returns-clause-ok
 returns-clause-ok c =
     is_difference c.deref.result.now c.deref-2.result.now c.in_ok-self-inside.field-0.items c.args.self.now c.args.other.now (ap ids_of c.deref.ensures.value ∙ c.self.view_is)
     (ap ids_of c.deref-2.ensures.value ∙ c.other.view_is) c.in_ok-self-inside.ensures.ok
+
+pub returns-then-len-eq0-clause-ok : goal.returns-then-len-eq0-clause-ok
+returns-then-len-eq0-clause-ok c =
+    difference_none c.args.self.now c.args.other.now (inl (is_empty c.self.inside.groups.items c.args.self.now c.self.view_is (omega (arith, c.len.ensures, c.if-len-eq0.true, c.self.inside.groups.ok))))
+
+pub returns-then-len-eq0-2-clause-ok : goal.returns-then-len-eq0-2-clause-ok
+returns-then-len-eq0-2-clause-ok c =
+    difference_none c.args.self.now c.args.other.now (inr (is_empty c.other.inside.groups.items c.args.other.now c.other.view_is (omega (arith, c.len-2.ensures, c.if-len-eq0-2.true, c.other.inside.groups.ok))))
+
+pub returns-in_err-self-inside-clause-none : goal.returns-in_err-self-inside-clause-none
+returns-in_err-self-inside-clause-none c empty = elim empty [
+  | inl left ↦ absurd (c.if-len-eq0.false (omega (arith, c.len.ensures, c.self.inside.groups.ok, not_long c.self.inside.groups.items c.args.self.now c.self.view_is left)))
+  | inr right ↦ absurd (c.if-len-eq0-2.false (omega (arith, c.len-2.ensures, c.other.inside.groups.ok, not_long c.other.inside.groups.items c.args.other.now c.other.view_is right)))
+]

@@ -1,10 +1,10 @@
-use Rattle.std.proofs.Common.{◌≡◌, ◌+◌, length, take, drop, refl, ap, subst, ◌∙◌, arith, inl, inr}
+use Rattle.std.proofs.Common.{◌≡◌, ◌+◌, ◌%◌, length, take, drop, refl, ap, subst, ◌∙◌, arith, inl, inr}
 use Rattle.std.proofs.lemmas.Result.{err_from_is_err_and}
 use Rattle.wire.specs.Packet.{full_chunk}
-use Rattle.wire.specs.Payload.{IsOutOfSequence, IsTooLarge, NeedsRoom}
+use Rattle.wire.specs.Payload.{HasHeader, IsOutOfSequence, IsTooLarge}
 use Rattle.wire.specs.Held.{held_of}
 use Rattle.wire.specs.declared.unpacker.Unpacker.{Unpacker}
-use Rattle.wire.proofs.Unpacking.{held_of-header, rejoined, header_held, out_of_sequence, too_large}
+use Rattle.wire.proofs.Unpacking.{held_of-header, rejoined, header_held, ends_later, out_of_sequence, too_large}
 use Rattle.wire.proofs.unpacker.Unpacker.take_header.Goals as goal
 
 pub returns-then-self-lt-HEADER-clause-ok : goal.returns-then-self-lt-HEADER-clause-ok
@@ -78,13 +78,14 @@ returns-in_err-reserve-clause-memory c equal =
     let ok = c.in_ok-self.ensures.ok in
     let mid : Unpacker = record old { header = c.fill-used.new.header; filled = old.filled + used } in
     let filled : mid.filled ≡ 4 = omega arith in
-    subst (NeedsRoom old.due old.limit)
-    (rejoined (held_of old) (held_of mid) c.args.bytes.now used
-    (held_of-header old mid (take used c.args.bytes.now) h.whole_chunks refl refl refl c.fill-used.ensures.filled))
-    (record {
+    record {
       before = old.full;
       size = size;
-      header = header_held mid size _ (drop used c.args.bytes.now) h.whole_chunks h.within filled ok.0;
+      header = subst (λ b. HasHeader old.due old.limit b old.full size ((old.due + old.full) % 256))
+          (rejoined (held_of old) (held_of mid) c.args.bytes.now used
+          (held_of-header old mid (take used c.args.bytes.now) h.whole_chunks refl refl refl c.fill-used.ensures.filled))
+          (header_held mid size _ (drop used c.args.bytes.now) h.whole_chunks h.within filled ok.0);
       fits = omega (arith, h.whole_chunks, h.within, ok.1);
       some = omega (arith, c.in_err-reserve.ensures.full);
-    })
+      ends_now = ends_later old h;
+    }
