@@ -2,7 +2,8 @@
 
 use crate::failure::Failure;
 use binlog::Follow;
-use sqlite::{Connection, Error, ErrorCode, File, FileStore};
+use replica::{Capture, Config, Observer, Replayed, Unopened, open_file};
+use sqlite::{Error, ErrorCode, File, FileStore, Files};
 use sqlite_disk::Unknown;
 use std::alloc::AllocError;
 use std::fs::OpenOptions;
@@ -53,28 +54,42 @@ fn connect(
     only: Option<&Follow>,
 ) -> Result<Store<FileOf>, StoreFault> {
     let log = missing_log(rt, name)?;
-    let conn = match Connection::open_from(rt, name, false, Unknown) {
-        Ok(conn) => conn,
-        Err((error, left)) => {
+    match open_file(rt, name, Unknown, only) {
+        Ok(store) => Ok(store),
+        Err(unopened) => Err(leave(rt, log, unopened)),
+    }
+}
+
+/// Reads captured connections into the database in a file, which is opened as by [`open`] and closed at the end.
+pub fn replay_into<'a, R: Read + Drop, W: Observer>(
+    rt: &HostRuntime,
+    name: &'a str,
+    only: Option<&Follow>,
+    config: &Config,
+    captures: Vec<Capture<R>>,
+    observer: &mut W,
+) -> Result<Replayed<File>, Failure<'a>> {
+    let log = missing_log(rt, name)?;
+    match replica::replay(rt, name, Unknown, only, config, captures, observer) {
+        Ok(done) => Ok(done),
+        Err(unopened) => Err(refusal(rt, name, leave(rt, log, unopened))),
+    }
+}
+
+/// Closes what is left of an opening that failed, and returns its cause.
+fn leave(rt: &HostRuntime, log: Option<String>, unopened: Unopened<File>) -> StoreFault {
+    match unopened {
+        Unopened::Memory => StoreFault::Memory,
+        Unopened::Files(cause, left) => {
             if left.is_some() {
                 remove_unused(rt, log);
             }
-            return Err(StoreFault::Database(error));
+            StoreFault::Database(cause)
         }
-    };
-    if !conn.is_autocommit() {
-        return Err(StoreFault::Broken);
-    }
-    let opened = match only {
-        Some(only) => Store::open_only(rt.alloc(), conn, only),
-        None => Store::open(rt.alloc(), conn),
-    };
-    match opened {
-        Ok(store) => Ok(store),
-        Err((cause, conn)) => {
+        Unopened::Database(cause, conn) => {
             remove_unused(rt, log);
             let _ = conn.close();
-            Err(cause)
+            cause
         }
     }
 }
@@ -179,11 +194,22 @@ fn try_open(rt: &HostRuntime, name: &str) -> io::Result<()> {
 
 /// Closes the file.
 pub fn close<'a>(name: &'a str, store: Store<FileOf>) -> Result<(), Failure<'a>> {
-    match store.close().close() {
-        Ok(()) => Ok(()),
-        Err(cause) => Err(Failure::Database {
-            name,
-            cause: StoreFault::Database(cause),
-        }),
+    closed(name, store.close().close_files())
+}
+
+/// Whether the files were closed.
+pub fn closed<'a>(
+    name: &'a str,
+    files: Result<Files<File>, (Error, FileOf)>,
+) -> Result<(), Failure<'a>> {
+    match files {
+        Ok(_) => Ok(()),
+        Err((cause, left)) => {
+            drop(left.close());
+            Err(Failure::Database {
+                name,
+                cause: StoreFault::Database(cause),
+            })
+        }
     }
 }

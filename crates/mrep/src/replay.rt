@@ -3,39 +3,45 @@
 ghost use Rattle.std.specs.Prelude.{◌≡◌, ◌≤◌, IfOk};
 ghost use Rattle.mrep.specs.Reason.{first_status};
 
-use crate::database::{close, open};
+use crate::database::{closed, replay_into};
 use crate::failure::{DONE, Failure, MEMORY};
 use crate::name::read_table;
 use crate::reason::{first_status, write_cause, write_end};
 use binlog::Follow;
-use replica::{Config, Ended, Reason, read_some, read_stream};
-use sqlite::Alter;
+use replica::{Capture, Config, Ended, Halt, Observer, Replayed, read_some};
 use std::alloc::Global;
-use std::fs;
 use std::fs::File;
 use std::io::Write;
-use store::Store;
+use std::{fs, io};
 use wire::LARGEST_PAYLOAD;
-
-/// How many bytes are read at once, at most.
-const PIECE: usize = 65_536;
 
 /// The server id of the replica. It is never sent: a replay sends nothing.
 const SERVER_ID: u32 = 1;
 
-/// The end of a connection that could not be begun, the same as that of `run`.
-const NO_MEMORY: Ended = Ended {
-    reason: Reason::Memory,
-    at: 0,
-    applied: 0,
-};
-
-/// An open stream with its first byte, if it has one.
+/// Prints how each stream ended.
 #[derive(Drop)]
-struct Stream<'a> {
-    name: &'a str,
-    file: File,
-    first: Option<u8>,
+struct Printer<'a, W, E> {
+    /// The streams, in order, and how many have ended.
+    names: &'a [&'a str],
+    ended: usize,
+    /// The database file.
+    file: &'a str,
+    out: &'a mut W,
+    err: &'a mut E,
+    /// How the last writing of a line went.
+    printed: io::Result<()>,
+}
+
+impl<'a, W: Write, E: Write> Observer for Printer<'a, W, E> {
+    fn ended(&mut self, end: &Ended) -> bool {
+        let Some(name) = self.names.get(self.ended) else {
+            return false;
+        };
+        self.ended += 1;
+        let _ = write_cause(name, self.file, &end.reason, self.err);
+        self.printed = write_end(self.ended, end, self.out);
+        self.printed.is_ok()
+    }
 }
 
 /// Reads streams into a database, each as one connection, and prints how each ended. Returns the first of their
@@ -56,12 +62,39 @@ pub fn replay<'a, W: Write, E: Write>(
         Some(words) => Some(tables(rt.alloc(), words)?),
         None => None,
     };
-    let streams = open_streams(rt, names)?;
-    let mut ends = Vec::with_capacity(rt.alloc(), names.len())?;
-    let mut store = open(rt, file, only.as_ref())?;
-    let read = read_streams(rt.alloc(), file, &mut store, streams, &mut ends, out, err);
-    let closed = close(file, store);
-    status_of(&ends, read.and(closed), err)
+    let captures = open_streams(rt, names)?;
+    let Ok(config) = Config::new(rt.alloc(), b"", b"", SERVER_ID, false, LARGEST_PAYLOAD) else {
+        return Err(Failure::Memory);
+    };
+    let mut printer = Printer {
+        names,
+        ended: 0,
+        file,
+        out,
+        err,
+        printed: Ok(()),
+    };
+    let done = replay_into(rt, file, only.as_ref(), &config, captures, &mut printer)?;
+    let Replayed {
+        ends,
+        read,
+        closed: files,
+    } = done;
+    let Printer { err, printed, .. } = printer;
+    let read = match read {
+        Ok(()) => Ok(()),
+        Err(Halt::Observer) => printed.map_err(Failure::Output),
+        Err(Halt::Reader(cause)) => Err(unread(names, ends.len(), cause)),
+    };
+    status_of(&ends, read.and(closed(file, files)), err)
+}
+
+/// The failure of the reading of a stream, the one after this many.
+fn unread<'a>(names: &[&'a str], ended: usize, cause: io::Error) -> Failure<'a> {
+    match names.get(ended) {
+        Some(name) => Failure::File { name, cause },
+        None => Failure::Output(cause),
+    }
 }
 
 /// The first status of the connections that is not 0, otherwise that of any other failure.
@@ -99,8 +132,11 @@ pub fn tables<'a>(alloc: Global, words: &[&'a str]) -> Result<Follow, Failure<'a
     }
 }
 
-/// Opens the streams, in order.
-fn open_streams<'a>(rt: &HostRuntime, names: &[&'a str]) -> Result<Vec<Stream<'a>>, Failure<'a>> {
+/// Opens the streams, in order, and reads the first byte of each.
+fn open_streams<'a>(
+    rt: &HostRuntime,
+    names: &[&'a str],
+) -> Result<Vec<Capture<File>>, Failure<'a>> {
     let mut streams = Vec::with_capacity(rt.alloc(), names.len())?;
     for name in names {
         streams.push(open_stream(rt, name)?)?;
@@ -108,57 +144,13 @@ fn open_streams<'a>(rt: &HostRuntime, names: &[&'a str]) -> Result<Vec<Stream<'a
     Ok(streams)
 }
 
-fn open_stream<'a>(rt: &HostRuntime, name: &'a str) -> Result<Stream<'a>, Failure<'a>> {
-    let mut file = fs::open(rt, name).map_err(|cause| Failure::File { name, cause })?;
+fn open_stream<'a>(rt: &HostRuntime, name: &'a str) -> Result<Capture<File>, Failure<'a>> {
+    let mut reader = fs::open(rt, name).map_err(|cause| Failure::File { name, cause })?;
     let mut byte = [0u8; 1];
-    let first = match read_some(&mut file, &mut byte) {
+    let first = match read_some(&mut reader, &mut byte) {
         Ok(0) => None,
         Ok(_) => Some(byte[0]),
         Err(cause) => return Err(Failure::File { name, cause }),
     };
-    Ok(Stream { name, file, first })
-}
-
-/// Reads the streams, and writes the line of each as it ends.
-fn read_streams<'a, S: Alter, W: Write, E: Write>(
-    alloc: Global,
-    file: &str,
-    store: &mut Store<S>,
-    streams: Vec<Stream<'a>>,
-    ends: &mut Vec<Ended>,
-    out: &mut W,
-    err: &mut E,
-) -> Result<(), Failure<'a>> {
-    for stream in streams {
-        let name = stream.name;
-        let end = read_one(alloc, store, stream)?;
-        let _ = write_cause(name, file, &end.reason, err);
-        ends.push(end)?;
-        if let Some(end) = ends.last() {
-            write_end(ends.len(), end, out)?;
-        }
-    }
-    Ok(())
-}
-
-fn read_one<'a, S: Alter>(
-    alloc: Global,
-    store: &mut Store<S>,
-    stream: Stream<'a>,
-) -> Result<Ended, Failure<'a>> {
-    let Stream {
-        name,
-        mut file,
-        first,
-    } = stream;
-    let Ok(config) = Config::new(alloc, b"", b"", SERVER_ID, false, LARGEST_PAYLOAD) else {
-        return Ok(NO_MEMORY);
-    };
-    let Ok(mut piece) = vec![in alloc; 0; PIECE] else {
-        return Ok(NO_MEMORY);
-    };
-    match read_stream(config, store, first.as_slice(), &mut file, &mut piece) {
-        Ok(end) => Ok(end),
-        Err(cause) => Err(Failure::File { name, cause }),
-    }
+    Ok(Capture { first, reader })
 }

@@ -51,6 +51,7 @@ pub(crate) fn read_meta<S: Alter>(conn: &mut Connection<S>) -> Result<Meta, Erro
     ensures same { HasCleanDisk (state S.Store conn.new) → IsMetaFirst (state S.Store conn.old).now.schema → OnOk result (IsUnchanged (state S.Store conn.old) (state S.Store conn.new)) }
     ensures rested { HasCleanDisk (state S.Store conn.new) → IsMetaFirst (state S.Store conn.old).now.schema → Rested (state S.Store conn.old) (state S.Store conn.new) }
     ensures crash { IsMetaFirst (state S.Store conn.old).now.schema → Survives (state S.Store conn.old) (state S.Store conn.new) (λ _. ⊥) }
+    ensures clean { HasCleanDisk (state S.Store conn.new) → HasCleanDisk (state S.Store conn.old) }
 {
     let rows = read_all(conn, "SELECT rowid, k, v FROM meta ORDER BY rowid")?;
     meta_in(&rows)

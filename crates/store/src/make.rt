@@ -139,6 +139,7 @@ pub(crate) fn make<S: Alter>(conn: &mut Connection<S>, follow: &Follow) -> Resul
     ensures made { HasCleanDisk (state S.Store conn.new) → IsBlank (state S.Store conn.old) → OnOk result (IsAtRest (state S.Store conn.new) follow.now nothing) }
     ensures refused { HasCleanDisk (state S.Store conn.new) → IsBlank (state S.Store conn.old) → OnErr result (Rests (state S.Store conn.old) (state S.Store conn.new)) }
     ensures crash { IsBlank (state S.Store conn.old) → Survives (state S.Store conn.old) (state S.Store conn.new) (MayStandFor follow.now nothing) }
+    ensures clean { HasCleanDisk (state S.Store conn.new) → HasCleanDisk (state S.Store conn.old) }
 {
     let mut tx = conn.transaction();
     fill(&mut tx, follow)?;

@@ -74,6 +74,7 @@ fn enter_new<S: Alter>(
     ensures turned { HasCleanDisk (state S.Store conn.new) → IsReady (state S.Store conn.old) → (state S.Store conn.old).now.schema ≡ no_schema → IfErr result (IsTurned any only.now (state S.Store conn.old) (state S.Store conn.new)) }
     ensures crash { IsReady (state S.Store conn.old) → (state S.Store conn.old).now.schema ≡ no_schema → Survives (state S.Store conn.old) (state S.Store conn.new) (MayEnter only.now (state S.Store conn.old)) }
     ensures fault { IfErr result (IsOpenFault any) }
+    ensures clean { HasCleanDisk (state S.Store conn.new) → HasCleanDisk (state S.Store conn.old) }
 {
     let following = copy(alloc, only)?;
     make(conn, &following)?;
@@ -162,6 +163,7 @@ fn enter_old<S: Alter>(
     ensures turned { HasCleanDisk (state S.Store conn.new) → IsReady (state S.Store conn.old) → tables ≡ tables_of (state S.Store conn.old).now.schema → tables.meta ≡ true → IfErr result (IsTurned any only.now (state S.Store conn.old) (state S.Store conn.new)) }
     ensures crash { IsReady (state S.Store conn.old) → tables ≡ tables_of (state S.Store conn.old).now.schema → tables.meta ≡ true → Survives (state S.Store conn.old) (state S.Store conn.new) (MayEnter only.now (state S.Store conn.old)) }
     ensures fault { IfErr result (IsOpenFault any) }
+    ensures clean { HasCleanDisk (state S.Store conn.new) → HasCleanDisk (state S.Store conn.old) }
 {
     let meta = read_meta(conn)?;
     match meta.layout {
@@ -204,6 +206,7 @@ fn enter<S: Alter>(
     ensures crash { IsReady (state S.Store conn.old) → Survives (state S.Store conn.old) (state S.Store conn.new) (MayEnter only.now (state S.Store conn.old)) }
     ensures live { IsLive (state S.Store conn.old) }
     ensures fault { IfErr result (IsOpenFault any) }
+    ensures clean { HasCleanDisk (state S.Store conn.new) → HasCleanDisk (state S.Store conn.old) }
 {
     let tables = tables_of(conn.schema());
     if !has_any(tables) {
@@ -239,6 +242,7 @@ fn open_with<S: Alter>(
     ensures reopens { (names : Names) (content : Content) → ReadsLeft only.now names content (state S.Store conn) → IsWanted any only.now names → MatchResult result (λ store. HasCleanDisk (database S.Store store) → Holds S.Store store content × (names_of S.Store store ≡ names)) (λ e. HasCleanDisk (state S.Store e.1) → IsFailure e.0) }
     ensures leaves { (names : Names) (content : Content) → ReadsLeft only.now names content (state S.Store conn) → MatchResult result (λ store. Survives (state S.Store conn) (database S.Store store) (IsLeft only.now names content)) (λ e. Survives (state S.Store conn) (state S.Store e.1) (IsLeft only.now names content)) }
     ensures fault { IfErr result (λ e. IsOpenFault any e.0) }
+    ensures clean { MatchResult result (λ store. HasCleanDisk (database S.Store store) → HasCleanDisk (state S.Store conn)) (λ e. HasCleanDisk (state S.Store e.1) → HasCleanDisk (state S.Store conn)) }
 {
     match enter(alloc, &mut conn, any, only) {
         Ok(loaded) => {
@@ -280,6 +284,7 @@ impl<S: Alter> Store<S> {
         ensures reopens { (names : Names) (content : Content) → ReadsLeft all names content (state S.Store conn) → MatchResult result (λ store. HasCleanDisk (database S.Store store) → Holds S.Store store content × (names_of S.Store store ≡ names)) (λ e. HasCleanDisk (state S.Store e.1) → IsFailure e.0) }
         ensures leaves { (names : Names) (content : Content) → ReadsLeft all names content (state S.Store conn) → MatchResult result (λ store. Survives (state S.Store conn) (database S.Store store) (IsLeft all names content)) (λ e. Survives (state S.Store conn) (state S.Store e.1) (IsLeft all names content)) }
         ensures fault { IfErr result (λ e. IsOpenFault true e.0) }
+        ensures clean { MatchResult result (λ store. HasCleanDisk (database S.Store store) → HasCleanDisk (state S.Store conn)) (λ e. HasCleanDisk (state S.Store e.1) → HasCleanDisk (state S.Store conn)) }
     {
         let only = Follow::all(alloc);
         open_with(alloc, conn, true, &only)
@@ -303,6 +308,7 @@ impl<S: Alter> Store<S> {
         ensures reopens { (names : Names) (content : Content) → ReadsLeft follow.now names content (state S.Store conn) → IsWanted false follow.now names → MatchResult result (λ store. HasCleanDisk (database S.Store store) → Holds S.Store store content × (names_of S.Store store ≡ names)) (λ e. HasCleanDisk (state S.Store e.1) → IsFailure e.0) }
         ensures leaves { (names : Names) (content : Content) → ReadsLeft follow.now names content (state S.Store conn) → MatchResult result (λ store. Survives (state S.Store conn) (database S.Store store) (IsLeft follow.now names content)) (λ e. Survives (state S.Store conn) (state S.Store e.1) (IsLeft follow.now names content)) }
         ensures fault { IfErr result (λ e. IsOpenFault false e.0) }
+        ensures clean { MatchResult result (λ store. HasCleanDisk (database S.Store store) → HasCleanDisk (state S.Store conn)) (λ e. HasCleanDisk (state S.Store e.1) → HasCleanDisk (state S.Store conn)) }
     {
         open_with(alloc, conn, false, follow)
     }

@@ -1,0 +1,85 @@
+-- Captured connections that were read into a file.
+use Rattle.std.proofs.Common.{◌≡◌, ◌×◌, ◌⊎◌, ℕ, Bool, true, false, List, Option, Result, Ok, Err, IfOk, IfErr, IsTrue, refl, sym, ap, subst, ◌∙◌, arith}
+use Rattle.std.specs.Prelude.{MatchResult}
+use Rattle.sqlite_disk.specs.declared.Disk.{Ghosts}
+use Rattle.sqlite_disk.specs.declared.Files.{Files}
+use Rattle.sqlite_wal.specs.Reads.{AreClean}
+use Rattle.sqlite_trees.specs.Tree.{Trees}
+use Rattle.sqlite_trees.specs.View.{IsClean}
+use Rattle.sqlite_store.specs.declared.store.FileStore.{FileStore}
+use Rattle.sqlite_store.specs.FileStore.{view, recovers}
+use Rattle.sqlite_schema.specs.declared.schema.Schema.{Schema}
+use Rattle.sqlite.specs.declared.error.Error.{Error}
+use Rattle.sqlite.specs.Effect.{Database}
+use Rattle.sqlite.specs.State.{State, HasCleanDisk}
+use Rattle.sqlite.specs.Held.{state}
+use Rattle.sqlite.specs.Files.{over_files, file_state, IsClosed, FailsToClose}
+use Rattle.sqlite.specs.Closing.{IsCopied}
+use Rattle.binlog.specs.Filter.{Names}
+use Rattle.store.specs.State.{Content}
+use Rattle.store.specs.declared.store.Store.{Store}
+use Rattle.store.specs.Apply.{IsAtRest, AreOf}
+use Rattle.store.specs.Store.{Holds, HasFailed, HoldsAs, database, names_of}
+use Rattle.store.specs.Entering.{IsLeft}
+use Rattle.store.proofs.Reopened.{left_by}
+use Rattle.replica.specs.declared.captures.Capture.{Capture}
+use Rattle.replica.specs.declared.captures.Halt.{Halt}
+use Rattle.replica.specs.declared.end.Ended.{Ended}
+use Rattle.replica.specs.Conn.{History}
+use Rattle.replica.specs.Crash.{IsLeftOfAll}
+use Rattle.replica.specs.Over.{HasReadAll}
+use Rattle.replica.specs.Capture.{Reads}
+use Rattle.replica.specs.File.{AreClosedWith}
+use Rattle.replica.specs.Replay.{LeadsTo, MayLeave}
+use Rattle.replica.proofs.Captured.{reads_weaker}
+
+-- what a database at rest has committed is opened as its content
+rest_left : (s : State) (names : Names) (content : Content) → IsAtRest s names content → (only : Names) → IsLeft only names content s.committed.trees
+rest_left s names content rest only =
+    subst (λ (db : Database). IsLeft only names content db.trees) rest.settled
+    (left_by s.now.schema names content s.now.trees (record { stands = rest.stands; sound = rest.sound; spans_apart = rest.spans_apart }) only)
+
+rest_of : {D : Type 0} {g : Ghosts D} (is : Bool) (content : Content) (store : Store (FileStore D g) over_files) → IsTrue (database over_files store).is_open → HoldsAs over_files is content store → IsAtRest (database over_files store) store.following content
+rest_of false content store is_open holds = holds.rest
+rest_of true content store is_open holds = holds.rest is_open
+
+module _ {D : Type 0} (g : Ghosts D) (limit : ℕ) (names : Names) (old : Content) (opened after : Store (FileStore D g) over_files) (kept : after.following ≡ names) where
+  leads_to : (files : Files D) (bs : List (List ℕ)) (ends : List Ended) → IsCopied after.conn files → HasReadAll over_files limit after (database over_files opened).now.schema false old bs ends → LeadsTo g limit names old files bs ends
+  leads_to files bs ends copy a = record {
+    is = a.is;
+    new = a.new;
+    history = subst (λ n. History limit n false old bs a.is a.new ends) kept a.history;
+    closed = record {
+      trees = (file_state after.conn).committed.trees;
+      stands = λ only. subst (λ n. IsLeft only n a.new (file_state after.conn).committed.trees) kept (rest_left (file_state after.conn) after.following a.new (rest_of a.is a.new after copy.was_open a.holds) only);
+      seen = copy.seen;
+      left = copy.left;
+    };
+  }
+
+  may_leave : (last : FileStore D g) (bs : List (List ℕ)) (ends : List Ended) → ((trees : Trees) → recovers last trees → (file_state after.conn).may_leave trees) → HasReadAll over_files limit after (database over_files opened).now.schema false old bs ends → MayLeave g limit names old last bs ends
+  may_leave last bs ends quiet a = record {
+    is = a.is;
+    new = a.new;
+    history = subst (λ n. History limit n false old bs a.is a.new ends) kept a.history;
+    each = λ trees may.
+        let l = (a.leaves refl).each trees (quiet trees may) in (
+          l.0,
+          subst (λ n. IsLeftOfAll limit n false old bs a.new ends l.0) kept l.2,
+          λ only. subst (λ n. IsLeft only n l.0 trees) kept (left_by (database over_files opened).now.schema after.following l.0 trees l.1 only),
+        );
+  }
+
+  pub replayed : {R : Type 0} (left : R → Option (List ℕ)) (captures : List (Capture R)) (ends : List Ended) (read : Result (Unit {0}) Halt) (closed : Result (Files D) (Error × FileStore D g))
+      → (HasCleanDisk (database over_files after) → Holds over_files opened old)
+      → (HasCleanDisk (database over_files after) → (was : Bool) (content : Content) → HoldsAs over_files was content opened → Reads left (HasReadAll over_files limit after (database over_files opened).now.schema was content) captures ends read)
+      → IfOk closed (λ files. AreClean g files.log files.db → IsCopied after.conn files)
+      → IfErr closed (λ e. IsClosed after.conn e.1 × (IsClean (view e.1) → FailsToClose after.conn e.1 e.0))
+      → MatchResult closed (λ files. AreClean g files.log files.db → Reads left (LeadsTo g limit names old files) captures ends read) (λ e. IsClean (view e.1) → Reads left (MayLeave g limit names old e.1) captures ends read)
+  replayed left captures ends read (Ok files) opens reads copied failed = λ honest.
+      let copy = copied honest in
+      reads_weaker left _ (LeadsTo g limit names old files) (λ bs es a. leads_to files bs es copy a) captures ends read (reads copy.was_clean false old (opens copy.was_clean))
+  replayed left captures ends read (Err e) opens reads copied failed = λ honest.
+      let quiet = failed.0.quiet in
+      let clean : HasCleanDisk (database over_files after) = omega (arith, quiet.clean, honest) in
+      reads_weaker left _ (MayLeave g limit names old e.1) (λ bs es a. may_leave e.1 bs es (λ trees may. quiet.outcomes trees may) a) captures ends read (reads clean false old (opens clean))
