@@ -1,5 +1,5 @@
 -- What each statement of the migration does, where it succeeds.
-use Rattle.std.proofs.Common.{◌≡◌, ℕ, ℤ, codes, pos, List, [], ◌∷◌, map, filter, not, Bool, true, false, None, Ok, Err, Result, OnOk, IsTrue, Some, inl, inr, ◌&&◌, refl, sym, ap, ap₂, subst, ◌∙◌, arith}
+use Rattle.std.proofs.Common.{◌≡◌, ℕ, ℤ, codes, pos, List, [], ◌∷◌, map, filter, not, Bool, true, false, None, Ok, Err, Result, OnOk, IsTrue, inl, inr, refl, sym, ap, ap₂, subst, ◌∙◌, arith}
 use Rattle.std.specs.List.{AllByRecursion}
 use Rattle.std.specs.List.Sorted.{IsPermutation}
 use Rattle.std.specs.Ordering.{is_eq}
@@ -15,7 +15,7 @@ use Rattle.sqlite_value.specs.Order.{Row, column, value_cmp}
 use Rattle.sqlite_value.proofs.OrderLemmas.{value_cmp-Text, value_cmp-apart}
 use Rattle.sqlite_sql.specs.declared.ops.BinaryOp.TheVariants.{Compare}
 use Rattle.sqlite_sql.specs.declared.ops.CompareOp.TheVariants.{Eq}
-use Rattle.sqlite_sql.specs.Ops.{binary, is_true, from_truth}
+use Rattle.sqlite_sql.specs.Ops.{binary, is_true}
 use Rattle.sqlite_sql.specs.Program.{overlay}
 use Rattle.sqlite_sql.specs.Term.{col, lit, holds}
 use Rattle.std.specs.List.{list_all}
@@ -41,7 +41,7 @@ use Rattle.store.specs.Migrating.{without_executed, migrated_spans, migrated_lay
 use Rattle.store.proofs.Texts.{spans_defined, follow_defined}
 use Rattle.store.proofs.MigratingTexts.{drop_is, drop_plain, spans_is, spans_plain, follow_is, follow_plain, raise_is, raise_plain}
 use Rattle.store.proofs.Making.{creates}
-use Rattle.store.proofs.Selects.{answers}
+use Rattle.store.proofs.Selects.{shown_bool, and_true, answers}
 use Rattle.store.proofs.Statements.{went, same_value, cast_int}
 use Rattle.store.proofs.RowLemmas.{put_among, rowids_put, rowids_without, left_is}
 use Rattle.store.proofs.Effects.{all_filtered, fresh_alone, own_id}
@@ -102,10 +102,6 @@ done_follow content old new (Err e) was h = tt
 
 -- ---- the row of meta
 
-shown_bool : (b : Bool) → is_true (from_truth (Some b)) ≡ b
-shown_bool true = refl
-shown_bool false = refl
-
 equals_text : (v : Value) (t : List ℕ) → is_true (binary (Compare Eq Binary) v (Text t)) ≡ is_text t v
 unfolding binary
 equals_text Null t = refl
@@ -116,10 +112,6 @@ equals_text (Blob x) t = shown_bool (is_eq (value_cmp (Blob x) (Text t))) ∙ ap
 
 abbrev is_layout : Row → Bool
 is_layout row = is_text (codes "layout") (column row 1)
-
-and_true : (a : Bool) → (a && true) ≡ a
-and_true true = refl
-and_true false = refl
 
 layout_holds : (row : Row) → list_all (holds ([] ∷ row ∷ [])) says_layout ≡ is_layout row
 layout_holds row = and_true _ ∙ equals_text (column row 1) (codes "layout")

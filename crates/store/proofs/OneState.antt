@@ -3,7 +3,7 @@ use Rattle.std.proofs.Common.{◌≡◌, ◌<◌, ◌≤◌, ◌-◌, ◌^◌, i
 use Rattle.std.specs.List.{AllByRecursion, IsDistinct, list_any}
 use Rattle.std.specs.List.Sorted.{IsPermutation}
 use Rattle.std.specs.FinSet as set
-use Rattle.std.proofs.lemmas.Bool.{false≢true, cases_Bool}
+use Rattle.std.proofs.lemmas.Bool.{false≢true, cases_Bool, le-leb, lt-ltb}
 use Rattle.std.specs.Ordering.{eq_by_cmp}
 use Rattle.std.proofs.lemmas.List.Folds.{list_any-append}
 use Rattle.std.proofs.lemmas.Bool.Decides.{nat_tests}
@@ -119,14 +119,8 @@ known_of only db n a (inr (inr p)) = first p.1.laid_out
 abbrev IsShown : Row → Type 0
 IsShown shown = (s : Span) × (shown ≡ stored_span s) × IsSource s.source × (1 ≤ s.lo) × (s.lo < s.hi) × (s.hi ≤ 2 ^ 63 - 1)
 
-le_is : (a b : ℕ) → a ≤ b → nat_le a b ≡ true
-le_is a b h = grind (arith, common_steps, nat_tests)
-
-lt_is : (a b : ℕ) → a < b → nat_lt a b ≡ true
-lt_is a b h = grind (arith, common_steps, nat_tests)
-
 in_itself : (s : Span) (n : ℕ) → s.lo ≤ n → n < s.hi → is_in (s.source, n) s ≡ true
-in_itself s n low high = rw ((bytes_eq-Decides s.source s.source).1 refl, le_is s.lo n low, lt_is n s.hi high) refl
+in_itself s n low high = rw ((bytes_eq-Decides s.source s.source).1 refl, le-leb s.lo n low, lt-ltb n s.hi high) refl
 
 or_right : (a b : Bool) → b ≡ true → (a || b) ≡ true
 or_right true b h = refl

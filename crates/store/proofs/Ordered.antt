@@ -6,7 +6,7 @@ use Rattle.std.specs.Ordering.{nat_cmp, is_eq, is_ne, is_lt, ordering_then, orde
 use Rattle.std.specs.Cmp.Lexicographic.{slice_cmp}
 use Rattle.std.specs.declared.cmp.Ordering.{Ordering}
 use Rattle.std.specs.declared.cmp.Ordering.TheVariants.{Less, Equal, Greater}
-use Rattle.std.proofs.lemmas.Bool.{cases_Bool, false≢true, true≢false}
+use Rattle.std.proofs.lemmas.Bool.{cases_Bool, false≢true, true≢false, not-false}
 use Rattle.std.proofs.lemmas.Map.Keys.{IsDistinct-IsPermutation}
 use Rattle.std.proofs.lemmas.Map.Text.{is_eq-slice_cmp}
 use Rattle.sqlite_value.specs.declared.value.Value.{Value}
@@ -16,7 +16,7 @@ use Rattle.sqlite_value.specs.declared.keys.Key.{Key as SortKey}
 use Rattle.sqlite_value.specs.Keys.{ascending, plain, first_key}
 use Rattle.sqlite_value.specs.Order.{Row, column, value_cmp}
 use Rattle.sqlite_value.proofs.OrderLemmas.{value_cmp-Blob}
-use Rattle.sqlite_sql.specs.Ops.{binary, is_true, from_truth}
+use Rattle.sqlite_sql.specs.Ops.{binary}
 use Rattle.sqlite_sql.specs.Term.{Term, col}
 use Rattle.sqlite_trees.specs.Tree.{rowid}
 use Rattle.sqlite_trees.proofs.ListLemmas.{all-permutation}
@@ -30,7 +30,7 @@ use Rattle.store.specs.Rows.{Key, key_of, same_key, alike, blob_in, HasRowids, I
 use Rattle.store.specs.Listing.{key_cmp, HasKey, KeysRise}
 use Rattle.store.specs.Load.{Ascends, by_order}
 use Rattle.store.proofs.Keyed.{key_total}
-use Rattle.store.proofs.Selects.{equals_blob}
+use Rattle.store.proofs.Selects.{shown_bool, and_true, equals_blob}
 use Rattle.store.proofs.SpanRows.{bytes_flip}
 
 -- ---- Keys of rows.
@@ -47,14 +47,6 @@ keys_flip a b = rw (bytes_flip (blob_in (column a 1)) (blob_in (column b 1)), by
 -- the places of the key
 abbrev places : List ℕ
 places = 1 ∷ 2 ∷ 3 ∷ []
-
-shown_bool : (b : Bool) → is_true (from_truth (Some b)) ≡ b
-shown_bool true = refl
-shown_bool false = refl
-
-and_true : (a : Bool) → (a && true) ≡ a
-and_true true = refl
-and_true false = refl
 
 -- two rows of held agree in the key as their bytes do
 agrees : (a b : Row) (x y : Key) (i j m n : Value) → a ≡ i ∷ Blob x.schema ∷ Blob x.table ∷ Blob x.image ∷ m ∷ [] → b ≡ j ∷ Blob y.schema ∷ Blob y.table ∷ Blob y.image ∷ n ∷ [] → agree plain places a places b ≡ same_keys a b
@@ -76,17 +68,13 @@ split : (b c : Bool) → (b && c) ≡ false → b ≡ true → c ≡ false
 split true c h is = h
 split false c h is = absurd (false≢true is)
 
-not_is : (b : Bool) → not b ≡ false → b ≡ true
-not_is true h = refl
-not_is false h = absurd (true≢false h)
-
 -- another row with the same key would have the same rowid
 one_pair : (a b : Row) → IsHeldRow a → IsHeldRow b → alike a b ≡ false → (agree plain places a places b && differ (rowid a) (rowid b)) ≡ false → same_keys a b ≡ false
 one_pair a b p q apart clash = elim (cases_Bool (same_keys a b)) [
   | inl same ↦ (
       let agreed : agree plain places a places b ≡ true = agrees a b p.1 q.1 (Int p.0) (Int q.0) (Int (pos p.2)) (Int (pos q.2)) p.3 q.3 ∙ same in
       let ids : differ (Int p.0) (Int q.0) ≡ false = subst₂ (λ (r : Row) (s : Row). differ (rowid r) (rowid s) ≡ false) p.3 q.3 (split _ _ clash agreed) in
-      let like : is_eq (value_cmp (Int p.0) (Int q.0)) ≡ true = not_is _ (sym (differs p.0 q.0) ∙ ids) in
+      let like : is_eq (value_cmp (Int p.0) (Int q.0)) ≡ true = not-false _ (sym (differs p.0 q.0) ∙ ids) in
       absurd (false≢true (sym apart ∙ ap₂ (λ (r : Row) (s : Row). alike r s) p.3 q.3 ∙ like)))
   | inr off ↦ off
 ]

@@ -21,7 +21,7 @@ use Rattle.store.specs.Layout.{Origin, made, migrated, held_tree, spans_tree, am
 use Rattle.sqlite_sql.specs.declared.ops.UnaryOp.TheVariants.{ToNumeric}
 use Rattle.store.specs.Rows.{Key, is_blob, is_at, begins_at, shown_span}
 
-shown_bool : (b : Bool) → is_true (from_truth (Some b)) ≡ b
+pub shown_bool : (b : Bool) → is_true (from_truth (Some b)) ≡ b
 shown_bool true = refl
 shown_bool false = refl
 
@@ -47,7 +47,7 @@ equals_int (Blob x) n = shown_bool (is_eq (value_cmp (Blob x) (Int n)))
 abbrev pub key_params : Key → Row → Row
 key_params key more = Blob key.schema ∷ Blob key.table ∷ Blob key.image ∷ more
 
-and_true : (a : Bool) → (a && true) ≡ a
+pub and_true : (a : Bool) → (a && true) ≡ a
 and_true true = refl
 and_true false = refl
 

@@ -4,7 +4,7 @@ use Rattle.std.specs.List.{AllByRecursion, IsDistinct, list_any}
 use Rattle.std.specs.List.Sorted.{IsPermutation}
 use Rattle.std.specs.FinSet as set
 use Rattle.std.specs.Ordering.{eq_by_cmp}
-use Rattle.std.proofs.lemmas.Bool.{and_parts, cases_Bool, false_from_ne_true, leb-true}
+use Rattle.std.proofs.lemmas.Bool.{and_parts, cases_Bool, false_from_ne_true, leb-true, leb-false, le-leb, ltb-true, not-true, not-false}
 use Rattle.std.proofs.lemmas.Bool.Decides.{nat_tests}
 use Rattle.std.proofs.lemmas.Grind.{common_steps}
 use Rattle.std.proofs.lemmas.List.Sorted.{IsPermutation-map, IsPermutation-sym, list_any-IsPermutation}
@@ -30,28 +30,18 @@ and_false : (b c : Bool) → b ≡ true → (b && c) ≡ false → c ≡ false
 and_false true c is h = h
 and_false false c is h = absurd (cc)
 
-not_false : (b : Bool) → not b ≡ true → b ≡ false
-not_false true h = absurd (cc)
-not_false false h = refl
-
-le_true : (a b : ℕ) → a ≤ b → nat_le a b ≡ true
-le_true a b h = grind (arith, common_steps, nat_tests)
-
-le_false : (a b : ℕ) → nat_le a b ≡ false → b < a
-le_false a b h = grind (arith, common_steps, nat_tests)
-
 before_from : (a b : Span) → b.lo < b.hi → Follows a.source a.lo b → touches a b ≡ false → IsBefore a b
 before_from a b some (inl less) off = inl less
 before_from a b some (inr at) off =
     let one = (bytes_eq-Decides a.source b.source).1 (sym at.0) in
-    let low = le_true a.lo b.hi (omega (arith, at.1, some)) in
-    inr (sym at.0, le_false b.lo a.hi (and_false (nat_le a.lo b.hi) (nat_le b.lo a.hi) low (and_false (bytes_eq a.source b.source) _ one off)))
+    let low = le-leb a.lo b.hi (omega (arith, at.1, some)) in
+    inr (sym at.0, leb-false b.lo a.hi (and_false (nat_le a.lo b.hi) (nat_le b.lo a.hi) low (and_false (bytes_eq a.source b.source) _ one off)))
 
 least_from : (a : Span) (spans : List Span) → AllByRecursion IsLawfulSpan (a ∷ spans) → Rise (a ∷ spans) → apart_from (Some a) spans ≡ true → IsLeast (a ∷ spans)
 least_from a [] lawful rise off = lawful.0.1
 least_from a (b ∷ spans) lawful rise off =
     let parts = and_parts (not (touches a b)) (apart_from (Some b) spans) off in
-    (lawful.0.1, before_from a b lawful.1.0.1 rise.0.0 (not_false (touches a b) parts.0), least_from b spans lawful.1 rise.1 parts.1)
+    (lawful.0.1, before_from a b lawful.1.0.1 rise.0.0 (not-true (touches a b) parts.0), least_from b spans lawful.1 rise.1 parts.1)
 
 apart_distinct : (spans : List Span) → AllByRecursion IsLawfulSpan spans → Rise spans → apart_from None spans ≡ true → IsDistinct touches spans
 unfolding IsDistinct
@@ -62,15 +52,11 @@ and_split : (b c : Bool) → (b && c) ≡ false → (b ≡ false) ⊎ (c ≡ fal
 and_split true c h = inr h
 and_split false c h = inl refl
 
-not_true : (b : Bool) → not b ≡ false → b ≡ true
-not_true true h = refl
-not_true false h = absurd (cc)
-
 touching : (a : Span) (spans : List Span) → apart_from (Some a) spans ≡ false → IsDistinct touches (a ∷ spans) → ⊥
 unfolding IsDistinct
 touching a [] h up = absurd (cc)
 touching a (b ∷ spans) h up = elim (and_split (not (touches a b)) (apart_from (Some b) spans) h) [
-  | inl here ↦ (let one = not_true (touches a b) here in let off = up.0.0 in cc)
+  | inl here ↦ (let one = not-false (touches a b) here in let off = up.0.0 in cc)
   | inr there ↦ touching b spans there up.1
 ]
 
@@ -131,11 +117,8 @@ in_span q s source low high h =
     let p = and_parts (bytes_eq q.0 s.source) (nat_le s.lo q.1 && nat_lt q.1 s.hi) h in
     let n = and_parts (nat_le s.lo q.1) (nat_lt q.1 s.hi) p.1 in
     let from = leb-true s.lo q.1 n.0 in
-    let to = lt_from q.1 s.hi n.1 in
+    let to = ltb-true q.1 s.hi n.1 in
     (subst IsSource (sym ((bytes_eq-Decides q.0 s.source).0 p.0)) source, omega (arith, low, from), omega (arith, high, to))
-  where
-    lt_from : (a b : ℕ) → nat_lt a b ≡ true → a < b
-    lt_from a b h = grind (arith, common_steps, nat_tests)
 
 are_gtids : (rows : List Row) → AllByRecursion IsSpanRow rows → (q : Id) → list_any (is_in q) (map span_in rows) ≡ true → IsGtid q
 are_gtids [] all q h = absurd (cc)
