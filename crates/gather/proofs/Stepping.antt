@@ -203,7 +203,7 @@ pub refuses : (result : Result (Option Delivery) GatherFault) (formatted : Bool)
 refuses (Ok delivery) formatted before e is faults events ds b = faults
 refuses (Err fault) formatted before e is faults events ds b = fault_from events ds formatted before e fault is b faults
 
--- Memory is wanted only for an event of an open transaction.
+-- Memory runs out only at an event of an open transaction.
 pub keeps : {T : Type 0} (result : Result T GatherFault) (formatted : Bool) (state : State) (e : EventValue) → is_kept e ≡ true → ((block : List EventValue) → is_in_place block e ≡ is_open block) → formatted ≡ true →
     IfErr result (λ fault. fault ≡ Memory → IsInside state) →
     (events : List EventValue) (ds : List DeliveryValue) → Brings events ds formatted state → IfErr result (λ fault. fault ≡ Memory → IsKept events e)

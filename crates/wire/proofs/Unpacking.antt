@@ -5,7 +5,7 @@ use Rattle.std.proofs.Math.Seq.{take-add}
 use Rattle.byteorder.specs.Endian.{little_bytes}
 use Rattle.wire.specs.Packet.{full_chunk, packet, packets}
 use Rattle.wire.specs.Header.{IsHeader}
-use Rattle.wire.specs.Payload.{HasHeader, IsOutOfSequence, IsTooLarge, IsUnfinished, IsWholePayload, NeedsRoom}
+use Rattle.wire.specs.Payload.{HasHeader, IsOutOfSequence, IsTooLarge, IsUnfinished, IsWholePayload}
 use Rattle.wire.specs.Held.{full_chunks, at_hand, held_of, IsInHeader, IsInChunk, IsUnpacking, IsComplete, Consumes}
 use Rattle.wire.specs.declared.unpacker.Unpacker.{Unpacker}
 use Rattle.wire.proofs.Packets.{packets-push}
@@ -201,18 +201,6 @@ ends_later u h =
       packets_length u.due (full_chunks u.full u.payload.items) (full_chunks_full u.full u.payload.items (omega (arith, h.whole_chunks))),
       ap (λ n. n * (full_chunk + 4)) (length-full_chunks u.full u.payload.items),
     )
-
--- the header that ends after more bytes are held ends among all that came
-pub needs_room : {due limit : ℕ} (old new bytes : List ℕ) (used : ℕ) → new ≡ old ++ take used bytes →
-    NeedsRoom due limit new (drop used bytes) → NeedsRoom due limit old bytes
-needs_room {due} {limit} old new bytes used is r = record {
-  before = r.before;
-  size = r.size;
-  header = subst (λ b. HasHeader due limit b r.before r.size ((due + r.before) % 256)) (rejoined old new bytes used is) r.header;
-  fits = r.fits;
-  some = r.some;
-  ends_now = omega (arith, r.ends_now, ap length is, length-append old (take used bytes));
-}
 
 -- bytes taken, and then more of them
 pub taken_more : {old mid new : Unpacker} {bytes : List ℕ} {n m : ℕ} → Consumes old mid bytes n → Consumes mid new (drop n bytes) m → Consumes old new bytes (n + m)
