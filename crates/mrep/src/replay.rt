@@ -1,6 +1,6 @@
 //! `mrep replay`: connections read from files into a database.
 
-ghost use Rattle.std.specs.Prelude.{◌≡◌, ◌≤◌, IfOk};
+ghost use Rattle.std.specs.Prelude.{◌≡◌, ◌≤◌, IfOk, is_err};
 ghost use Rattle.mrep.specs.Reason.{first_status};
 
 use crate::database::{closed, replay_into};
@@ -33,11 +33,11 @@ struct Printer<'a, W, E> {
 }
 
 impl<'a, W: Write, E: Write> Observer for Printer<'a, W, E> {
+    ghost has_stopped = { λ p. is_err p.printed };
+
     fn ended(&mut self, end: &Ended) -> bool {
-        let Some(name) = self.names.get(self.ended) else {
-            return false;
-        };
-        self.ended += 1;
+        let name = self.names.get(self.ended).copied().unwrap_or_default();
+        self.ended = self.ended.saturating_add(1);
         let _ = write_cause(name, self.file, &end.reason, self.err);
         self.printed = write_end(self.ended, end, self.out);
         self.printed.is_ok()

@@ -18,7 +18,7 @@ pub mod Left
 pub mod FromReader
 pub mod Captured
 pub mod Filed
-pub mod Replaying
+pub mod Closed
 pub mod Scripted
 pub mod Talking
 pub mod Transactions

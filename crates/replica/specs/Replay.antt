@@ -1,5 +1,5 @@
 -- Captured connections that were read into a database file.
-use Rattle.std.specs.Prelude.{◌×◌, ℕ, Bool, false, List, Option, MatchResult}
+use Rattle.std.specs.Prelude.{ℕ, Bool, false, List, Option, MatchResult}
 use Rattle.sqlite_disk.specs.declared.Disk.{Ghosts}
 use Rattle.sqlite_disk.specs.declared.Files.{Files}
 use Rattle.sqlite_wal.specs.Reads.{AreClean}
@@ -34,8 +34,8 @@ module _ {D : Type 0} (g : Ghosts D) where
     pub history : History limit names false old bs is new ends
     pub each : (trees : Trees) → recovers last trees → (left : Content) × IsLeftOfAll limit names false old bs new ends left × ((only : Names) → IsLeft only names left trees)
 
-  -- The captures were taken in order, each once, from a content to another, which is in the closed files.
-  abbrev pub Replays : {R : Type 0} → (R → Option (List ℕ)) → ℕ → Names → Content → List (Capture R) → Replayed D g → Type 0
-  Replays left limit names old captures done = MatchResult done.closed
-      (λ files. AreClean g files.log files.db → Reads left (LeadsTo limit names old files) captures done.ends.items done.read)
-      (λ e. IsClean (view e.1) → Reads left (MayLeave limit names old e.1) captures done.ends.items done.read)
+-- The captures were taken in order, each once, from a content to another, which is in the closed files.
+abbrev pub Replays : {D : Type 0} {g : Ghosts D} {R : Type 0} → (R → Option (List ℕ)) → ℕ → Names → Content → List (Capture R) → Replayed D g → Type 0
+Replays {D} {g} {R} left limit names old captures done = MatchResult done.closed
+    (λ files. AreClean g files.log files.db → Reads left (LeadsTo g limit names old files) captures done.ends.items done.read)
+    (λ e. IsClean (view e.1) → Reads left (MayLeave g limit names old e.1) captures done.ends.items done.read)

@@ -1,6 +1,6 @@
 //! Captured connections, read in order.
 
-ghost use Rattle.std.specs.Prelude.{◌≡◌, ◌<◌, ◌≤◌, [], Bool, true, length, vec_capacity, IfOk, IfErr};
+ghost use Rattle.std.specs.Prelude.{◌≡◌, ◌<◌, ◌≤◌, [], Bool, true, not, length, vec_capacity, IfOk, IfErr, Err};
 ghost use Rattle.sqlite.specs.State.{HasCleanDisk};
 ghost use Rattle.sqlite.specs.Held.{state};
 ghost use Rattle.store.specs.State.{Content};
@@ -25,8 +25,12 @@ pub struct Capture<R> {
 
 /// What is done with the end of each connection, as soon as it has ended.
 pub trait Observer {
+    // Whether it has asked that no more connections be read.
+    ghost has_stopped: { Self → Bool };
+
     /// Returns whether the next connection is to be read.
-    fn ended(&mut self, end: &Ended) -> bool;
+    fn ended(&mut self, end: &Ended) -> bool
+        ensures { result ≡ not (has_stopped self.new) };
 }
 
 /// Why connections are left unread.
@@ -82,6 +86,8 @@ pub(crate) fn read_captures<R: Read + Drop, S: Alter, W: Observer>(
     // The content of the store and the ends are those of taking the captures in order, each once.
     ensures reads { HasCleanDisk (database S.Store store.new) → (was : Bool) (old : Content) → HoldsAs S.Store was old store.old
         → Reads R.Read.remaining (HasReadAll S.Store config.now.limit store.new (database S.Store store.old).now.schema was old) captures.items ends.new.items result }
+    // It stops early for the observer only if that has asked for it.
+    ensures asked { result ≡ Err Halt.Observer → W.has_stopped observer.new ≡ true }
     ensures following { names_of S.Store store.new ≡ names_of S.Store store.old }
     ensures broken { IsBroken S.Store store.old → store.new ≡ store.old }
     ensures clean { HasCleanDisk (database S.Store store.new) → HasCleanDisk (database S.Store store.old) }

@@ -1,11 +1,11 @@
 //! Replaying captured connections into a database file.
 
-ghost use Rattle.std.specs.Prelude.{IfOk};
+ghost use Rattle.std.specs.Prelude.{◌≡◌, true, IfOk, IfErr, Err};
 ghost use Rattle.sqlite_wal.specs.Files.{image_at};
 ghost use Rattle.binlog.specs.Filter.{Names};
 ghost use Rattle.store.specs.State.{Content};
 ghost use Rattle.store.specs.Entering.{IsWanted};
-ghost use Rattle.replica.specs.File.{only_of, is_any, FilesHold};
+ghost use Rattle.replica.specs.File.{only_of, is_any, FilesHold, IsRefused};
 ghost use Rattle.replica.specs.Replay.{Replays};
 
 use crate::captures::{Capture, Halt, Observer, read_captures};
@@ -48,6 +48,12 @@ pub fn replay<P: Start, R: Read + Drop, W: Observer>(
     // that they lead to.
     ensures replays { IfOk result (λ done. (names : Names) (content : Content) → FilesHold (only_of only.entry) names content (image_at P.Start) → IsWanted (is_any only.entry) (only_of only.entry) names
         → Replays R.Read.remaining config.now.limit names content captures.items done) }
+    // Connections are left unread for the observer only if that has asked for it.
+    ensures asked { IfOk result (λ done. done.read ≡ Err Halt.Observer → W.has_stopped observer.new ≡ true) }
+    // A database that stands for a content is refused only if the database fails or memory runs out, and is left with that
+    // content.
+    ensures refused { IfErr result (λ e. (names : Names) (content : Content) → FilesHold (only_of only.entry) names content (image_at P.Start) → IsWanted (is_any only.entry) (only_of only.entry) names
+        → IsRefused (only_of only.entry) names content e) }
 {
     let alloc = rt.alloc();
     let Ok(mut ends) = Vec::with_capacity(alloc, captures.len()) else {
@@ -57,7 +63,9 @@ pub fn replay<P: Start, R: Read + Drop, W: Observer>(
         return Err(Unopened::Memory);
     };
     let mut store = open_file(rt, path, start, only)?;
-    let read = read_captures(config, &mut store, captures, &mut piece, &mut ends, observer);
+    let read = read_captures(
+        config, &mut store, captures, &mut piece, &mut ends, observer,
+    );
     let closed = store.close().close_files();
     Ok(Replayed { ends, read, closed })
 }

@@ -1,5 +1,12 @@
-use Rattle.replica.proofs.Replaying.{replayed}
+use Rattle.std.proofs.Common.{subst, IfOk, IfErr}
+use Rattle.sqlite.specs.Held.{Held}
+use Rattle.sqlite.specs.Files.{over_files, IsClosed, FailsToClose}
+use Rattle.sqlite.specs.Closing.{IsCopied}
+use Rattle.replica.proofs.Closed.{replayed}
 use Rattle.replica.proofs.replaying.replay.Goals as goal
 
-pub returns-in_ok-store : goal.returns-in_ok-store
-returns-in_ok-store g c names content files wanted = ?
+pub returns-clause-replays : goal.returns-clause-replays
+returns-clause-replays g c names content files wanted =
+    replayed _ c.args.config.now.limit names content c.in_ok-store.store c.read_captures-read.new.store g.R.Read.remaining c.args.captures.items c.read_captures-read.new.ends.items c.read_captures-read.result c.close_files-closed.result
+    c.read_captures-read.ensures.following (λ clean. c.in_ok-store.ensures.opens (c.read_captures-read.ensures.clean clean) names content files wanted) c.read_captures-read.ensures.reads
+    (rw c.close.ensures.same at c.close_files-closed.ensures.copied) (rw c.close.ensures.same at c.close_files-closed.ensures.err)

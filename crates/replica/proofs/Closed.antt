@@ -1,5 +1,5 @@
 -- Captured connections that were read into a file.
-use Rattle.std.proofs.Common.{◌≡◌, ◌×◌, ◌⊎◌, ℕ, Bool, true, false, List, Option, Result, Ok, Err, IfOk, IfErr, IsTrue, refl, sym, ap, subst, ◌∙◌, arith}
+use Rattle.std.proofs.Common.{◌≡◌, ℕ, Bool, true, false, List, Option, Result, Ok, Err, IfOk, IfErr, IsTrue, refl, sym, ap, subst, ◌∙◌, arith}
 use Rattle.std.specs.Prelude.{MatchResult}
 use Rattle.sqlite_disk.specs.declared.Disk.{Ghosts}
 use Rattle.sqlite_disk.specs.declared.Files.{Files}
@@ -43,9 +43,9 @@ rest_of : {D : Type 0} {g : Ghosts D} (is : Bool) (content : Content) (store : S
 rest_of false content store is_open holds = holds.rest
 rest_of true content store is_open holds = holds.rest is_open
 
-module _ {D : Type 0} (g : Ghosts D) (limit : ℕ) (names : Names) (old : Content) (opened after : Store (FileStore D g) over_files) (kept : after.following ≡ names) where
-  leads_to : (files : Files D) (bs : List (List ℕ)) (ends : List Ended) → IsCopied after.conn files → HasReadAll over_files limit after (database over_files opened).now.schema false old bs ends → LeadsTo g limit names old files bs ends
-  leads_to files bs ends copy a = record {
+module _ {D : Type 0} (g : Ghosts D) (limit : ℕ) (names : Names) (old : Content) (opened after : Store (FileStore D g) over_files) where
+  leads_to : after.following ≡ names → (files : Files D) (bs : List (List ℕ)) (ends : List Ended) → IsCopied after.conn files → HasReadAll over_files limit after (database over_files opened).now.schema false old bs ends → LeadsTo g limit names old files bs ends
+  leads_to kept files bs ends copy a = record {
     is = a.is;
     new = a.new;
     history = subst (λ n. History limit n false old bs a.is a.new ends) kept a.history;
@@ -57,8 +57,8 @@ module _ {D : Type 0} (g : Ghosts D) (limit : ℕ) (names : Names) (old : Conten
     };
   }
 
-  may_leave : (last : FileStore D g) (bs : List (List ℕ)) (ends : List Ended) → ((trees : Trees) → recovers last trees → (file_state after.conn).may_leave trees) → HasReadAll over_files limit after (database over_files opened).now.schema false old bs ends → MayLeave g limit names old last bs ends
-  may_leave last bs ends quiet a = record {
+  may_leave : after.following ≡ names → (last : FileStore D g) (bs : List (List ℕ)) (ends : List Ended) → ((trees : Trees) → recovers last trees → (file_state after.conn).may_leave trees) → HasReadAll over_files limit after (database over_files opened).now.schema false old bs ends → MayLeave g limit names old last bs ends
+  may_leave kept last bs ends quiet a = record {
     is = a.is;
     new = a.new;
     history = subst (λ n. History limit n false old bs a.is a.new ends) kept a.history;
@@ -71,15 +71,15 @@ module _ {D : Type 0} (g : Ghosts D) (limit : ℕ) (names : Names) (old : Conten
   }
 
   pub replayed : {R : Type 0} (left : R → Option (List ℕ)) (captures : List (Capture R)) (ends : List Ended) (read : Result (Unit {0}) Halt) (closed : Result (Files D) (Error × FileStore D g))
-      → (HasCleanDisk (database over_files after) → Holds over_files opened old)
+      → after.following ≡ opened.following → (HasCleanDisk (database over_files after) → Holds over_files opened old × (opened.following ≡ names))
       → (HasCleanDisk (database over_files after) → (was : Bool) (content : Content) → HoldsAs over_files was content opened → Reads left (HasReadAll over_files limit after (database over_files opened).now.schema was content) captures ends read)
       → IfOk closed (λ files. AreClean g files.log files.db → IsCopied after.conn files)
       → IfErr closed (λ e. IsClosed after.conn e.1 × (IsClean (view e.1) → FailsToClose after.conn e.1 e.0))
       → MatchResult closed (λ files. AreClean g files.log files.db → Reads left (LeadsTo g limit names old files) captures ends read) (λ e. IsClean (view e.1) → Reads left (MayLeave g limit names old e.1) captures ends read)
-  replayed left captures ends read (Ok files) opens reads copied failed = λ honest.
+  replayed left captures ends read (Ok files) same opens reads copied failed = λ honest.
       let copy = copied honest in
-      reads_weaker left _ (LeadsTo g limit names old files) (λ bs es a. leads_to files bs es copy a) captures ends read (reads copy.was_clean false old (opens copy.was_clean))
-  replayed left captures ends read (Err e) opens reads copied failed = λ honest.
+      reads_weaker left _ (LeadsTo g limit names old files) (λ bs es a. leads_to (same ∙ (opens copy.was_clean).1) files bs es copy a) captures ends read (reads copy.was_clean false old (opens copy.was_clean).0)
+  replayed left captures ends read (Err e) same opens reads copied failed = λ honest.
       let quiet = failed.0.quiet in
       let clean : HasCleanDisk (database over_files after) = omega (arith, quiet.clean, honest) in
-      reads_weaker left _ (MayLeave g limit names old e.1) (λ bs es a. may_leave e.1 bs es (λ trees may. quiet.outcomes trees may) a) captures ends read (reads clean false old (opens clean))
+      reads_weaker left _ (MayLeave g limit names old e.1) (λ bs es a. may_leave (same ∙ (opens clean).1) e.1 bs es (λ trees may. quiet.outcomes trees may) a) captures ends read (reads clean false old (opens clean).0)
