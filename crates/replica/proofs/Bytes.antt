@@ -1,5 +1,5 @@
 -- The bytes of a packing are those of its payload.
-use Rattle.std.proofs.Common.{◌≡◌, ℕ, suc, ◌<◌, ◌%◌, List, [], ◌∷◌, ◌++◌, length, sym, subst, append_assoc}
+use Rattle.std.proofs.Common.{ℕ, suc, ◌<◌, ◌%◌, List, [], ◌∷◌, ◌++◌, length, sym, subst, append_assoc}
 use Rattle.std.specs.List.{AllByRecursion, concat}
 use Rattle.byteorder.specs.Endian.{little_bytes}
 use Rattle.wire.specs.Packet.{packet, packets, IsPacking}

@@ -1,5 +1,5 @@
 -- Captured connections that are read in order.
-use Rattle.std.proofs.Common.{◌≡◌, ℕ, Bool, true, List, [], ◌∷◌, ◌++◌, Option, Some, None, Result, Ok, Err, IfOk, IfErr, MatchOption, IsTrue, length, take, refl, sym, ap, subst, append-nil}
+use Rattle.std.proofs.Common.{◌≡◌, ℕ, Bool, true, List, [], ◌∷◌, ◌++◌, Option, Some, None, Result, Ok, Err, IfOk, IfErr, MatchOption, IsTrue, refl, ap, subst}
 use Rattle.std.specs.Prelude.{option_to_list}
 use Rattle.std.specs.Io.KnownBytes.{IsAtEnd}
 use Rattle.std.proofs.KnownBytes.{Consumes-nil}
@@ -17,7 +17,7 @@ use Rattle.replica.specs.declared.captures.Halt.TheVariants.{Reader, Observer}
 use Rattle.replica.specs.declared.end.Reason.TheVariants.{EndOfInput, Memory}
 use Rattle.replica.specs.declared.end.Ended.{Ended}
 use Rattle.replica.specs.Over.{HasRead, HasReadOf, HasReadAll}
-use Rattle.replica.specs.Capture.{ComesOf, IsReadAs, AreReadAs, HasReadOne, HasBrokenOff, AreRead, AreReadUpTo, Reads}
+use Rattle.replica.specs.Capture.{IsReadAs, AreReadAs, HasReadOne, HasBrokenOff, AreRead, AreReadUpTo, Reads}
 use Rattle.replica.proofs.Runs.{read_none, taken_none, taken_more}
 
 -- the first byte, as a slice

@@ -1,5 +1,5 @@
 -- Captured connections that were read into a file.
-use Rattle.std.proofs.Common.{◌≡◌, ℕ, Bool, true, false, List, Option, Result, Ok, Err, IfOk, IfErr, IsTrue, refl, sym, ap, subst, ◌∙◌, arith}
+use Rattle.std.proofs.Common.{◌≡◌, ℕ, Bool, true, false, List, Option, Result, Ok, Err, IfOk, IfErr, IsTrue, refl, subst, ◌∙◌, arith}
 use Rattle.std.specs.Prelude.{MatchResult}
 use Rattle.sqlite_disk.specs.declared.Disk.{Ghosts}
 use Rattle.sqlite_disk.specs.declared.Files.{Files}
@@ -8,18 +8,16 @@ use Rattle.sqlite_trees.specs.Tree.{Trees}
 use Rattle.sqlite_trees.specs.View.{IsClean}
 use Rattle.sqlite_store.specs.declared.store.FileStore.{FileStore}
 use Rattle.sqlite_store.specs.FileStore.{view, recovers}
-use Rattle.sqlite_schema.specs.declared.schema.Schema.{Schema}
 use Rattle.sqlite.specs.declared.error.Error.{Error}
 use Rattle.sqlite.specs.Effect.{Database}
 use Rattle.sqlite.specs.State.{State, HasCleanDisk}
-use Rattle.sqlite.specs.Held.{state}
 use Rattle.sqlite.specs.Files.{over_files, file_state, IsClosed, FailsToClose}
 use Rattle.sqlite.specs.Closing.{IsCopied}
 use Rattle.binlog.specs.Filter.{Names}
 use Rattle.store.specs.State.{Content}
 use Rattle.store.specs.declared.store.Store.{Store}
-use Rattle.store.specs.Apply.{IsAtRest, AreOf}
-use Rattle.store.specs.Store.{Holds, HasFailed, HoldsAs, database, names_of}
+use Rattle.store.specs.Apply.{IsAtRest}
+use Rattle.store.specs.Store.{Holds, HoldsAs, database}
 use Rattle.store.specs.Entering.{IsLeft}
 use Rattle.store.proofs.Reopened.{left_by}
 use Rattle.replica.specs.declared.captures.Capture.{Capture}
@@ -29,7 +27,6 @@ use Rattle.replica.specs.Conn.{History}
 use Rattle.replica.specs.Crash.{IsLeftOfAll}
 use Rattle.replica.specs.Over.{HasReadAll}
 use Rattle.replica.specs.Capture.{Reads}
-use Rattle.replica.specs.File.{AreClosedWith}
 use Rattle.replica.specs.Replay.{LeadsTo, MayLeave}
 use Rattle.replica.proofs.Captured.{reads_weaker}
 

@@ -1,5 +1,5 @@
 -- What an opening reads of a file.
-use Rattle.std.proofs.Common.{◌≡◌, ◌<◌, ℕ, inl, inr, List, [], length, refl, sym, ap, subst, ◌∙◌, arith}
+use Rattle.std.proofs.Common.{◌≡◌, inl, inr, [], length, refl, sym, ap, subst, ◌∙◌, arith}
 use Rattle.std.proofs.Math.Logic.{∥∥₁_elim}
 use Rattle.sqlite_wal.specs.Recovery.{Image}
 use Rattle.sqlite_trees.specs.Tree.{Trees}
@@ -7,12 +7,12 @@ use Rattle.sqlite_trees.specs.Objects.{catalog_tree}
 use Rattle.sqlite_trees.specs.Props.{Trees-set}
 use Rattle.sqlite_schema.specs.declared.schema.Schema.{Schema}
 use Rattle.sqlite.specs.Effect.{Database}
-use Rattle.sqlite.specs.State.{State, Opens, HasCleanDisk, Survives}
+use Rattle.sqlite.specs.State.{State, Opens, Survives}
 use Rattle.sqlite.specs.Start.{FindsIn}
 use Rattle.sqlite.proofs.ListingLemmas.{empty_is_sound}
 use Rattle.binlog.specs.Filter.{Names}
 use Rattle.store.specs.State.{Content}
-use Rattle.store.specs.Layout.{IsLaidOut, no_schema, layout}
+use Rattle.store.specs.Layout.{IsLaidOut, no_schema}
 use Rattle.store.specs.Open.{nothing}
 use Rattle.store.specs.Entering.{IsLeft, ReadsLeft}
 use Rattle.replica.specs.File.{FilesHold, LeavesContent}

@@ -1,5 +1,5 @@
 -- How following a stream ends.
-use Rattle.std.proofs.Common.{◌≤◌, ◌≡◌, ◌≢◌, ℕ, ◌+◌, ◌<◌, arith, take, drop, unwrap_or, MatchOption, Bool, true, false, List, [], ◌++◌, length, Option, refl, sym, ap, ◌∙◌, inl, inr, subst, IsTrue, append_assoc, append-nil, Some, None, is_some, option_map, Bor}
+use Rattle.std.proofs.Common.{◌≤◌, ◌≡◌, ◌≢◌, ℕ, ◌+◌, arith, take, drop, unwrap_or, MatchOption, Bool, true, false, List, [], ◌++◌, length, Option, refl, sym, ap, ◌∙◌, inl, inr, subst, IsTrue, append_assoc, append-nil, Some, None, is_some, option_map, Bor}
 use Rattle.std.specs.Io.KnownBytes.{Appends, Consumes, Keeps, IsAtEnd}
 use Rattle.std.proofs.Math.Seq.{take-append_seam}
 use Rattle.std.proofs.KnownBytes.{Appends-trans, Appends-kept, Consumes-trans, Consumes-kept, Appends-nil, Consumes-nil}

@@ -1,15 +1,14 @@
 -- A message before the dump.
-use Rattle.std.proofs.Common.{◌≡◌, ◌⊎◌, ℕ, List, Result, Ok, Err, IfErr, inl, inr, refl, sym, ap, subst}
+use Rattle.std.proofs.Common.{◌≡◌, ℕ, List, Result, Ok, Err, IfErr, inl, inr, refl, sym, subst}
 use Rattle.greet.specs.Message.{IsSwitch}
 use Rattle.gtid.specs.Identifier.{Ids}
 use Rattle.binlog.specs.Filter.{Names}
 use Rattle.replica.specs.declared.end.Reason.{Reason}
 use Rattle.replica.specs.declared.end.Reason.TheVariants.{EndOfInput, SourceEof, SourceError, Wire, Greet, Event, Gather, Refused, Database, Memory, ReadFailed, WriteFailed}
 use Rattle.replica.specs.Settings.{Settings}
-use Rattle.replica.specs.Stream.{Payload, Due, IsInDump, Reply, SecondReply, QueryReply, next_due}
+use Rattle.replica.specs.Stream.{Payload, Due, Reply, SecondReply, next_due}
 use Rattle.replica.specs.Message.{refusal_of, IsNoEvent}
 use Rattle.replica.specs.Sent.{auth_bytes}
-use Rattle.replica.specs.Standing.{due_of}
 use Rattle.replica.specs.Turn.{IsReportOf, EndsAt, EndsDump, IsAnswered, Sends}
 use Rattle.replica.specs.Stream.{InDump}
 use Rattle.binlog.specs.Event.{EventValue}

@@ -1,15 +1,13 @@
 -- A connection's bytes have one end.
-use Rattle.std.proofs.Common.{if◌then◌else◌, ◌==◌, ◌≡◌, ◌≢◌, ℕ, ◌⊎◌, ◌≤◌, ◌<◌, ◌+◌, ◌^◌, ◌%◌, suc, true, false, List, [], ◌∷◌, ◌++◌, length, take, refl, sym, ap, ◌∙◌, inl, inr, Some, None, Option, subst, append_assoc, arith}
+use Rattle.std.proofs.Common.{if◌then◌else◌, ◌==◌, ◌≡◌, ◌≢◌, ℕ, ◌⊎◌, ◌≤◌, ◌<◌, ◌+◌, ◌^◌, true, false, List, [], ◌∷◌, ◌++◌, length, take, refl, sym, ap, ◌∙◌, inl, inr, Some, None, Option, subst, append_assoc, arith}
 use Rattle.std.proofs.lemmas.List.{length-append}
 use Rattle.std.proofs.Math.Seq.{take-append_seam}
-use Rattle.std.specs.List.{AllByRecursion, concat}
+use Rattle.std.specs.List.{AllByRecursion}
 use Rattle.wire.specs.declared.fault.WireFault.{WireFault}
 use Rattle.wire.specs.declared.fault.WireFault.TheVariants as wire
-use Rattle.wire.specs.Packet.{packet, packets}
 use Rattle.wire.specs.Payload.{IsWholePayload, IsUnfinished, IsOutOfSequence, IsTooLarge}
 use Rattle.wire.proofs.OnePacking.{none_begins}
 use Rattle.wire.proofs.OneReading.{wrong_or_whole, large_or_whole, one_wrong_id, wrong_or_large}
-use Rattle.byteorder.specs.Endian.{little_bytes}
 use Rattle.greet.specs.Message.{IsEofPacket}
 use Rattle.greet.specs.Refusal.{Refusal, server_error}
 use Rattle.greet.specs.View.{Refuses}

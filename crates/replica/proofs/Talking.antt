@@ -1,9 +1,8 @@
 -- The payloads of a scripted source, as a replica reads them.
-use Rattle.std.proofs.Common.{◌≡◌, ℕ, suc, ◌+◌, ◌<◌, ◌≤◌, ◌%◌, Bool, true, false, List, [], ◌∷◌, ◌++◌, length, map, flat_map, if◌then◌else◌, refl, sym, ap, subst, ◌∙◌, append_assoc, inl, arith}
+use Rattle.std.proofs.Common.{◌≡◌, ℕ, ◌+◌, ◌<◌, ◌≤◌, Bool, true, false, List, [], ◌∷◌, ◌++◌, length, map, flat_map, if◌then◌else◌, refl, sym, ap, subst, ◌∙◌, append_assoc, inl, arith}
 use Rattle.std.proofs.lemmas.List.{length-append}
-use Rattle.std.specs.List.{AllByRecursion, concat}
-use Rattle.byteorder.specs.Endian.{little_bytes}
-use Rattle.wire.specs.Packet.{packet, packets, IsPacking, packing_length}
+use Rattle.std.specs.List.{AllByRecursion}
+use Rattle.wire.specs.Packet.{IsPacking, packing_length}
 use Rattle.wire.specs.Payload.{IsWholePayload}
 use Rattle.wire.proofs.OnePacking.{none_begins, length_packing}
 use Rattle.greet.specs.Message.{IsOkPacket}
@@ -12,10 +11,9 @@ use Rattle.binlog.specs.Table.{TableValue}
 use Rattle.binlog.specs.Event.{EventValue, format, begin, commit, neutral, stop, rotate, gtid, table_map, other_map, rows, xid, IsEvent}
 use Rattle.binlog.specs.Writing.{IsWritable, event_bytes}
 use Rattle.binlog.proofs.Written.{written, writes_format, writes_begin, no_other_map}
-use Rattle.binlog.proofs.Events.{one_event}
 use Rattle.std.specs.FinSet as set
 use Rattle.gather.specs.Fault.{IsRead}
-use Rattle.replica.specs.Stream.{Due, Hello, Reply, SecondReply, QueryReply, InDump, begins_switch, next_due, next_id, due_from, due_after, Carries, Answers, Talks}
+use Rattle.replica.specs.Stream.{Due, Hello, SecondReply, QueryReply, InDump, begins_switch, next_due, next_id, due_from, due_after, Carries, Answers, Talks}
 use Rattle.scripted_source.specs.Script.{ScriptValue, PartValue, part_events, end_event, script_events}
 use Rattle.scripted_source.specs.Source.{Payload, Opens, payload_of, payloads_of, eof_payload, end_payloads, ArePackings, events_of, CanSend, CanSendPart}
 use Rattle.replica.proofs.Bytes.{all_front, all_back, all_both, packed_bytes}

@@ -15,7 +15,6 @@ use Rattle.store.specs.Open.{nothing, all}
 use Rattle.store.specs.Entering.{IsLeft}
 use Rattle.store.specs.Faults.{IsFailure}
 use Rattle.replica.specs.declared.file.Unopened.{Unopened}
-use Rattle.replica.specs.declared.file.Unopened.TheVariants as Unopened
 
 -- the tables that a database is opened for: the given ones, or all
 abbrev pub only_of : Option (Bor Names) → Names

@@ -1,6 +1,6 @@
 -- A replica that asks a scripted source again. MySQL Source Documentation, Client/Server Protocol, "Connection Phase";
 -- Replication Protocol: COM_BINLOG_DUMP_GTID.
-use Rattle.std.specs.Prelude.{◌≡◌, ℕ, ◌≤◌, Bool, false, List, [], ◌∷◌, ◌++◌, length, map, take, flat_map, if◌then◌else◌}
+use Rattle.std.specs.Prelude.{◌≡◌, ℕ, ◌≤◌, Bool, false, List, [], ◌∷◌, length, map, take, flat_map, if◌then◌else◌}
 use Rattle.std.specs.FinSet as set
 use Rattle.std.specs.List.{AllByRecursion}
 use Rattle.wire.specs.declared.packet.TheConstants.{LARGEST_PAYLOAD}

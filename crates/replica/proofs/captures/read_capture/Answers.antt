@@ -1,4 +1,4 @@
-use Rattle.std.proofs.Common.{◌≡◌, ◌++◌, ap, refl, sym, subst, ℕ, List}
+use Rattle.std.proofs.Common.{ap}
 use Rattle.replica.proofs.Captured.{read_one, broken_off, unread_one, first_of}
 use Rattle.replica.proofs.captures.read_capture.Goals as goal
 

@@ -1,7 +1,3 @@
-use Rattle.std.proofs.Common.{subst, IfOk, IfErr}
-use Rattle.sqlite.specs.Held.{Held}
-use Rattle.sqlite.specs.Files.{over_files, IsClosed, FailsToClose}
-use Rattle.sqlite.specs.Closing.{IsCopied}
 use Rattle.replica.proofs.Closed.{replayed}
 use Rattle.replica.proofs.replaying.replay.Goals as goal
 
