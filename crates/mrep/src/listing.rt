@@ -54,7 +54,7 @@ impl Listing {
         }
     }
 
-    /// Advances bytes of the header that is being collected, and gives the header to the assembler once it is complete.
+    /// Consumes bytes of the header that is being collected, and gives the header to the assembler once it is complete.
     fn gather(&mut self, bytes: &[u8]) -> Result<Step, WireFault>
         requires between { (self.old.assembler.held ≡ []) × (self.old.assembler.ended ≡ false) }
         requires some { 0 < length bytes.now }
@@ -91,7 +91,7 @@ impl Listing {
         Ok(step)
     }
 
-    /// Advances bytes up to the end of the current payload, or some of them.
+    /// Consumes bytes up to the end of the current payload, or some of them.
     fn take(&mut self, bytes: &[u8]) -> Result<Step, WireFault>
         requires { 0 < length bytes.now }
         ensures takes { IfOk result (λ step. Advances self.old self.new bytes.now step) }
@@ -107,7 +107,7 @@ impl Listing {
         }
     }
 
-    /// Advances a piece of the stream, and appends the payloads that are complete now.
+    /// Consumes a piece of the stream, and appends the payloads that are complete now.
     ///
     /// After a fault the entries of the payloads before it have been appended, and the listing has ended.
     pub fn feed(&mut self, piece: &[u8], entries: &mut Vec<Entry>) -> Result<(), WireFault>

@@ -35,9 +35,9 @@ const FRAMES: u32 = 64;
 
 const FRAME: usize = 4096;
 
-/// Uses the stack, so that the system gives it its room at the start: a stack that cannot grow later, when memory has run out,
-/// would end the process by a signal, where an allocation that is refused ends it with a message. Answers 0 or 1; that
-/// its frames are all there at once is why it looks into its own after the call.
+/// Uses the stack, so that the system gives it its room at the start: a stack that cannot grow later, when memory has
+/// run out, would end the process by a signal, where an allocation that is refused ends it with a message. Answers 0 or
+/// 1; that its frames are all there at once is why it looks into its own after the call.
 #[inline(never)]
 fn use_stack(frames: u32, at: usize) -> u8 {
     let mut room = [0u8; FRAME];

@@ -86,7 +86,7 @@ fn outcome(answer: Result<Applied, StoreFault>) -> Result<bool, Reason>
     }
 }
 
-/// HasOutcome a payload of the dump: reads its event and, if that ends a transaction, applies the transaction to the store.
+/// Takes a payload of the dump: reads its event and, if that ends a transaction, applies the transaction to the store.
 /// Returns whether one was applied.
 pub(crate) fn take_event<S: Alter>(
     alloc: Global,

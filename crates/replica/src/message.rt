@@ -37,7 +37,7 @@ pub(crate) fn reported(fault: GreetFault) -> Reason
     }
 }
 
-/// HasOutcome the greeting, and returns the phase after it.
+/// Takes the greeting, and returns the phase after it.
 fn take_greeting(config: &Config, payload: &[u8], out: &mut Vec<u8>) -> Result<Phase, Reason>
     ensures ok { (names : Names) (executed : Ids) → OnOk result (IsAnswered config.now names executed Hello payload.now out.old.items out.new.items) }
     ensures due { IfOk result (λ phase. due_of phase ≡ Reply) }
@@ -54,7 +54,7 @@ fn take_greeting(config: &Config, payload: &[u8], out: &mut Vec<u8>) -> Result<P
     }
 }
 
-/// HasOutcome the reply to the login, and returns the phase after it.
+/// Takes the reply to the login, and returns the phase after it.
 fn take_reply(config: &Config, payload: &[u8], out: &mut Vec<u8>) -> Result<Phase, Reason>
     ensures ok { (names : Names) (executed : Ids) → OnOk result (IsAnswered config.now names executed Reply payload.now out.old.items out.new.items) }
     ensures due { IfOk result (λ phase. due_of phase ≡ next_due Reply payload.now) }
@@ -75,7 +75,7 @@ fn take_reply(config: &Config, payload: &[u8], out: &mut Vec<u8>) -> Result<Phas
     }
 }
 
-/// HasOutcome the reply to the login after a switch, and returns the phase after it.
+/// Takes the reply to the login after a switch, and returns the phase after it.
 fn take_second_reply(config: &Config, payload: &[u8], out: &mut Vec<u8>) -> Result<Phase, Reason>
     ensures ok { (names : Names) (executed : Ids) → OnOk result (IsAnswered config.now names executed SecondReply payload.now out.old.items out.new.items) }
     ensures due { IfOk result (λ phase. due_of phase ≡ QueryReply) }
@@ -92,7 +92,7 @@ fn take_second_reply(config: &Config, payload: &[u8], out: &mut Vec<u8>) -> Resu
     }
 }
 
-/// HasOutcome the reply to the query, and returns the phase after it.
+/// Takes the reply to the query, and returns the phase after it.
 fn take_query_reply(
     config: &Config,
     executed: &GtidSet,
@@ -114,7 +114,7 @@ fn take_query_reply(
     }
 }
 
-/// HasOutcome a message before the dump, and returns the phase after it.
+/// Takes a message before the dump, and returns the phase after it.
 pub(crate) fn answer(
     login: Login,
     config: &Config,

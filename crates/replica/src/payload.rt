@@ -74,7 +74,7 @@ impl Session {
         self.end(reason);
     }
 
-    /// HasOutcome a message before the dump, which ends at the offset `end`.
+    /// Takes a message before the dump, which ends at the offset `end`.
     fn take_message(&mut self, login: Login, executed: &GtidSet, payload: &[u8], end: u64)
         requires going { self.old.ended ≡ None }
         requires at_login { self.old.phase ≡ phase.Login login }
@@ -96,7 +96,7 @@ impl Session {
         }
     }
 
-    /// HasOutcome a payload of the dump, which ends at the offset `end`.
+    /// Takes a payload of the dump, which ends at the offset `end`.
     fn take_dump<S: Alter>(&mut self, store: &mut Store<S>, payload: &[u8], end: u64)
         requires going { self.old.ended ≡ None }
         requires in_dump { self.old.phase ≡ phase.Dump }
@@ -117,7 +117,7 @@ impl Session {
         }
     }
 
-    /// HasOutcome a payload that has come.
+    /// Takes a payload that has come.
     pub(crate) fn take<S: Alter>(&mut self, store: &mut Store<S>, payload: &[u8])
         requires going { self.old.ended ≡ None }
         requires between { (self.old.assembler.held ≡ []) × (self.old.assembler.ended ≡ false) }

@@ -93,7 +93,7 @@ const EARLY: EventFault = EventFault {
     at: 39,
 };
 
-/// A list, how much of `MAP` comes, bytes of its event that are changed, and the fault, if it is not passed over.
+/// A list, how much of `MAP` comes, bytes of its event that are changed, and the fault, if it is not skipped.
 static MAPS: [(&[(&[u8], &[u8])], usize, &[(usize, u8)], Option<EventFault>); 5] = [
     (OTHER, WHOLE, &[(42, 253)], None),
     (ITEMS, WHOLE, &[(42, 253)], Some(OF_TYPE)),
