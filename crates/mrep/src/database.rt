@@ -61,17 +61,17 @@ fn connect(
 }
 
 /// Reads captured connections into the database in a file, which is opened as by [`open`] and closed at the end.
-pub fn replay_into<'a, R: Read + Drop, W: Observer>(
+pub fn replay_into<'a, R: Read + Drop, W: Observer + Drop>(
     rt: &HostRuntime,
     name: &'a str,
     only: Option<&Follow>,
     config: &Config,
     captures: Vec<Capture<R>>,
-    observer: &mut W,
-) -> Result<Replayed<File>, Failure<'a>> {
+    mut observer: W,
+) -> Result<(Replayed<File>, W), Failure<'a>> {
     let log = missing_log(rt, name)?;
-    match replica::replay(rt, name, Unknown, only, config, captures, observer) {
-        Ok(done) => Ok(done),
+    match replica::replay(rt, name, Unknown, only, config, captures, &mut observer) {
+        Ok(done) => Ok((done, observer)),
         Err(unopened) => Err(refusal(rt, name, leave(rt, log, unopened))),
     }
 }

@@ -18,27 +18,31 @@ use wire::LARGEST_PAYLOAD;
 /// The server id of the replica. It is never sent: a replay sends nothing.
 const SERVER_ID: u32 = 1;
 
-/// Prints how each stream ended.
+/// Prints the line of each stream as it ends.
 #[derive(Drop)]
-struct Printer<'a, W, E> {
-    /// The streams, in order, and how many have ended.
-    names: &'a [&'a str],
-    ended: usize,
-    /// The database file.
-    file: &'a str,
+struct Printer<'a, W> {
     out: &'a mut W,
-    err: &'a mut E,
+    /// How many have ended.
+    ended: usize,
     /// How the last writing of a line went.
     printed: io::Result<()>,
 }
 
-impl<'a, W: Write, E: Write> Observer for Printer<'a, W, E> {
+impl<'a, W> Printer<'a, W> {
+    fn new(out: &'a mut W) -> Printer<'a, W> {
+        Printer {
+            out,
+            ended: 0,
+            printed: Ok(()),
+        }
+    }
+}
+
+impl<'a, W: Write> Observer for Printer<'a, W> {
     ghost has_stopped = { λ p. is_err p.printed };
 
     fn ended(&mut self, end: &Ended) -> bool {
-        let name = self.names.get(self.ended).copied().unwrap_or_default();
         self.ended = self.ended.saturating_add(1);
-        let _ = write_cause(name, self.file, &end.reason, self.err);
         self.printed = write_end(self.ended, end, self.out);
         self.printed.is_ok()
     }
@@ -66,24 +70,23 @@ pub fn replay<'a, W: Write, E: Write>(
     let Ok(config) = Config::new(rt.alloc(), b"", b"", SERVER_ID, false, LARGEST_PAYLOAD) else {
         return Err(Failure::Memory);
     };
-    let mut printer = Printer {
-        names,
-        ended: 0,
-        file,
-        out,
-        err,
-        printed: Ok(()),
-    };
-    let done = replay_into(rt, file, only.as_ref(), &config, captures, &mut printer)?;
+    let printer = Printer::new(out);
+    let (done, printer) = replay_into(rt, file, only.as_ref(), &config, captures, printer)?;
+    let Printer { printed, .. } = printer;
     let Replayed {
         ends,
         read,
         closed: files,
     } = done;
-    let Printer { err, printed, .. } = printer;
+    for (name, end) in names.iter().zip(&ends) {
+        let _ = write_cause(name, file, &end.reason, err);
+    }
     let read = match read {
         Ok(()) => Ok(()),
-        Err(Halt::Observer) => printed.map_err(Failure::Output),
+        Err(Halt::Observer) => match printed {
+            Ok(()) => Ok(()),
+            Err(cause) => Err(Failure::Output(cause)),
+        },
         Err(Halt::Reader(cause)) => Err(unread(names, ends.len(), cause)),
     };
     status_of(&ends, read.and(closed(file, files)), err)
