@@ -21,23 +21,28 @@ fn over<'a>(alloc: Global, name: &'a str, about: &'a str) -> Result<Command<'a>,
     Command::new(alloc, name).about(about).arg(db)
 }
 
-/// The commands that do not use a database.
-fn plain<'a>(alloc: Global, command: Command<'a>) -> Result<Command<'a>, AllocError> {
-    let file = "A file with a stream of packets";
-    let packets = Command::new(alloc, "packets")
-        .about("List the payloads of a stream of packets: offset, sequence id, length")
-        .arg(needed(alloc, "FILE", file))?;
-    let events = Command::new(alloc, "events")
-        .about("List the events of a stream of packets: offset, sequence id, type, size, kind")
-        .arg(needed(alloc, "FILE", file))?;
-    let minus = Command::new(alloc, "minus")
+/// A command that reads a file with a stream of packets.
+fn listing<'a>(alloc: Global, name: &'a str, about: &'a str) -> Result<Command<'a>, AllocError> {
+    let file = needed(alloc, "FILE", "A file with a stream of packets");
+    Command::new(alloc, name).about(about).arg(file)
+}
+
+/// `mrep minus`.
+fn minus<'a>(alloc: Global) -> Result<Command<'a>, AllocError> {
+    Command::new(alloc, "minus")
         .about("Print a GTID set without the members of another")
         .arg(needed(alloc, "X", "A GTID set"))?
-        .arg(needed(alloc, "Y", "The GTID set to subtract"))?;
+        .arg(needed(alloc, "Y", "The GTID set to subtract"))
+}
+
+/// The commands that do not use a database.
+fn plain<'a>(alloc: Global, command: Command<'a>) -> Result<Command<'a>, AllocError> {
+    let packets = "List the payloads of a stream of packets: offset, sequence id, length";
+    let events = "List the events of a stream of packets: offset, sequence id, type, size, kind";
     command
-        .subcommand(packets)?
-        .subcommand(events)?
-        .subcommand(minus)
+        .subcommand(listing(alloc, "packets", packets)?)?
+        .subcommand(listing(alloc, "events", events)?)?
+        .subcommand(minus(alloc)?)
 }
 
 /// The option for the tables whose rows are kept.
@@ -111,31 +116,35 @@ fn replay<'a>(alloc: Global) -> Result<Command<'a>, AllocError> {
     .arg(streams(alloc))
 }
 
-/// The commands that use a database, except `replay` and `follow`.
-fn reading<'a>(alloc: Global, command: Command<'a>) -> Result<Command<'a>, AllocError> {
-    let show = over(
-        alloc,
-        "show",
-        "Print the rows of a database: table, count, cells",
-    )?;
-    let gtids = over(alloc, "gtids", "Print the executed GTID set of a database")?;
-    let missing = over(
+/// `mrep missing`.
+fn missing<'a>(alloc: Global) -> Result<Command<'a>, AllocError> {
+    over(
         alloc,
         "missing",
         "Print the part of a GTID set that is not in the executed set of a database",
     )?
-    .arg(needed(alloc, "SET", "A GTID set"))?;
-    let skip = over(
+    .arg(needed(alloc, "SET", "A GTID set"))
+}
+
+/// `mrep skip`.
+fn skip<'a>(alloc: Global) -> Result<Command<'a>, AllocError> {
+    over(
         alloc,
         "skip",
         "Record a GTID as executed without changes, and print Done, or Repeat if it was executed already",
     )?
-    .arg(needed(alloc, "G", "A GTID: a hyphenated UUID, `:` and a number"))?;
+    .arg(needed(alloc, "G", "A GTID: a hyphenated UUID, `:` and a number"))
+}
+
+/// The commands that use a database, except `replay` and `follow`.
+fn reading<'a>(alloc: Global, command: Command<'a>) -> Result<Command<'a>, AllocError> {
+    let show = "Print the rows of a database: table, count, cells";
+    let gtids = "Print the executed GTID set of a database";
     command
-        .subcommand(show)?
-        .subcommand(gtids)?
-        .subcommand(missing)?
-        .subcommand(skip)
+        .subcommand(over(alloc, "show", show)?)?
+        .subcommand(over(alloc, "gtids", gtids)?)?
+        .subcommand(missing(alloc)?)?
+        .subcommand(skip(alloc)?)
 }
 
 /// All commands and their arguments.

@@ -159,3 +159,28 @@ breaks_meta_second db laid m h is all = breaks_meta (first_meta_rows db) m h is 
 
 pub may_none : (only : Names) (old mid : State) → Survives old mid (λ _. ⊥) → Survives old mid (MayEnter only old)
 may_none only old mid s = weaken old mid (λ _. ⊥) (MayEnter only old) (λ _ none. absurd none) s
+
+-- ---- a database whose layout meta states, after meta was read
+pub record IsRead (n : ℤ) (IsLaid : Schema → Type 0) (mid : State) : Type 0 where
+  pub ready : IsReady mid
+  pub laid : IsLaid mid.now.schema
+  pub states : StatesLayout n (first_meta_rows mid.now)
+
+module _ (old mid : State) (tables : Tables) (m : Meta) (k : ℤ) (ready : IsReady old) (is : tables ≡ tables_of old.now.schema) (same : IsUnchanged old mid) (meta : IsMeta (first_meta_rows old.now) m) (layout : m.layout ≡ Some k) (lawful : not m.lawful ≡ false) where
+  pub read_first : k ≡ pos 1 → has_first tables ≡ true → IsRead (pos 1) (λ s. s ≡ first_layout) mid
+  read_first one all =
+      let says = says_at (first_meta_rows old.now) m k (pos 1) meta layout one in
+      record {
+        ready = ready_after old mid same ready;
+        laid = laid_after_first old mid same (known_first old.now ready.known says (ap has_first (sym is) ∙ all));
+        states = states_after (pos 1) old mid same (states_at (first_meta_rows old.now) m (pos 1) meta says lawful);
+      }
+
+  pub read_second : k ≡ pos 2 → has_second tables ≡ true → IsRead (pos 2) IsLaidOut mid
+  read_second two all =
+      let says = says_at (first_meta_rows old.now) m k (pos 2) meta layout two in
+      record {
+        ready = ready_after old mid same ready;
+        laid = laid_after_second old mid same (known_second old.now ready.known says (ap has_second (sym is) ∙ all));
+        states = states_after (pos 2) old mid same (states_at (first_meta_rows old.now) m (pos 2) meta says lawful);
+      }

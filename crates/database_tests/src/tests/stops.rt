@@ -187,6 +187,21 @@ fn act<S: Alter + Drop>(
     }
 }
 
+/// Does the job over files, and returns how many of its steps were done.
+fn act_over<D: Disk + Drop>(
+    alloc: Global,
+    job: Job,
+    files: Files<D>,
+) -> Result<(u64, Files<D>), Fail> {
+    match connect(alloc, files) {
+        Ok(conn) => {
+            let (done, conn) = act(alloc, job, conn)?;
+            Ok((done, conn.into_store().close()))
+        }
+        Err(files) => Ok((0, files)),
+    }
+}
+
 /// Does the job on disks of which one fails after this many calls, and then lets both crash.
 fn stop(alloc: Global, job: Job, calls: (u64, u64)) -> Result<(u64, Files<Fused>), Fail> {
     let Files { log, db } = before(alloc, job)?;
@@ -194,13 +209,7 @@ fn stop(alloc: Global, job: Job, calls: (u64, u64)) -> Result<(u64, Files<Fused>
         log: Fuse::new(log, calls.0),
         db: Fuse::new(db, calls.1),
     };
-    let (done, mut files) = match connect(alloc, files) {
-        Ok(conn) => {
-            let (done, conn) = act(alloc, job, conn)?;
-            (done, conn.into_store().close())
-        }
-        Err(files) => (0, files),
-    };
+    let (done, mut files) = act_over(alloc, job, files)?;
     files.log.crash();
     files.db.crash();
     Ok((done, files))
@@ -218,7 +227,11 @@ fn resume<S: Alter + Drop>(
 }
 
 /// As `resume`, with the tables in files.
-fn reopen(alloc: Global, job: Job, files: Files<Fused>) -> Result<(String, String), Fail> {
+fn reopen<D: Disk + Drop>(
+    alloc: Global,
+    job: Job,
+    files: Files<D>,
+) -> Result<(String, String), Fail> {
     match connect(alloc, files) {
         Ok(conn) => resume(alloc, job, conn),
         Err(_) => Err("no connection".into()),

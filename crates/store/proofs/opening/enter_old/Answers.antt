@@ -4,7 +4,7 @@ use Rattle.sqlite.specs.Held.{state}
 use Rattle.store.specs.Rows.{first_meta_rows}
 use Rattle.store.specs.Entering.{lacks_first, lacks_second, breaks_first, breaks_second, tables_of, has_first, has_second}
 use Rattle.store.proofs.Counted.{rests_unchanged}
-use Rattle.store.proofs.Known.{there, meta_is_first, says_at, states_at, breaks_meta, breaks_meta_second, known_first, known_second, ready_after, entered_after, turned_after, may_then, none_then, may_none, ok_weaker, err_weaker, laid_after_first, laid_after_second, states_after, meta_after}
+use Rattle.store.proofs.Known.{there, meta_is_first, says_at, breaks_meta, breaks_meta_second, known_second, entered_after, turned_after, may_then, none_then, may_none, ok_weaker, err_weaker, meta_after, read_first, read_second}
 use Rattle.store.proofs.opening.enter_old.Goals as goal
 
 pub returns-in_err-meta-clause-crash : goal.returns-in_err-meta-clause-crash
@@ -76,34 +76,25 @@ pub returns-else-not-meta-clause-entered : goal.returns-else-not-meta-clause-ent
 returns-else-not-meta-clause-entered g c clean ready tables has =
     let old = state g.S.Store c.args.conn.now in
     let mid = state g.S.Store c.read_meta.new.conn in
-    let mf = meta_is_first old c.args.tables ready tables has in
     let new = state g.S.Store c.enter_first.new.conn in
+    let mf = meta_is_first old c.args.tables ready tables has in
     let early : HasCleanDisk mid = omega (arith, c.enter_first.ensures.lives.clean, clean) in
     let same = c.in_ok-meta.ensures.same early mf in
-    let meta = c.in_ok-meta.ensures.says early mf in
     let one : c.in-Some-eq1.field-0 ≡ pos 1 = search rules in
-    let says = says_at (first_meta_rows old.now) c.in_ok-meta.meta c.in-Some-eq1.field-0 (pos 1) meta c.in-Some-eq1.is one in
-    let states = states_at (first_meta_rows old.now) c.in_ok-meta.meta (pos 1) meta says c.if-not-meta.false in
-    let all : has_first (tables_of old.now.schema) ≡ true = ap has_first (sym tables) ∙ sym c.has_first.ensures ∙ c.if-not-has_first.false in
-    let laid = known_first old.now ready.known says all in
-    ok_weaker c.enter_first.result (λ l e. entered_after c.args.any c.args.only.now old mid new same l.executed l.following e) (c.enter_first.ensures.entered clean (ready_after old mid same ready) (laid_after_first old mid same laid) (states_after (pos 1) old mid same states))
+    let at = read_first old mid c.args.tables c.in_ok-meta.meta c.in-Some-eq1.field-0 ready tables same (c.in_ok-meta.ensures.says early mf) c.in-Some-eq1.is c.if-not-meta.false one (sym c.has_first.ensures ∙ c.if-not-has_first.false) in
+    ok_weaker c.enter_first.result (λ l e. entered_after c.args.any c.args.only.now old mid new same l.executed l.following e) (c.enter_first.ensures.entered clean at.ready at.laid at.states)
 
 pub returns-else-not-meta-clause-turned : goal.returns-else-not-meta-clause-turned
 returns-else-not-meta-clause-turned g c clean ready tables has =
     let old = state g.S.Store c.args.conn.now in
     let mid = state g.S.Store c.read_meta.new.conn in
-    let mf = meta_is_first old c.args.tables ready tables has in
     let new = state g.S.Store c.enter_first.new.conn in
+    let mf = meta_is_first old c.args.tables ready tables has in
     let early : HasCleanDisk mid = omega (arith, c.enter_first.ensures.lives.clean, clean) in
     let same = c.in_ok-meta.ensures.same early mf in
-    let meta = c.in_ok-meta.ensures.says early mf in
     let one : c.in-Some-eq1.field-0 ≡ pos 1 = search rules in
-    let says = says_at (first_meta_rows old.now) c.in_ok-meta.meta c.in-Some-eq1.field-0 (pos 1) meta c.in-Some-eq1.is one in
-    let states = states_at (first_meta_rows old.now) c.in_ok-meta.meta (pos 1) meta says c.if-not-meta.false in
-    let all : has_first (tables_of old.now.schema) ≡ true = ap has_first (sym tables) ∙ sym c.has_first.ensures ∙ c.if-not-has_first.false in
-    let laid = known_first old.now ready.known says all in
-    err_weaker c.enter_first.result (λ fault t. turned_after c.args.any c.args.only.now old mid new same fault t)
-    (c.enter_first.ensures.turned clean (ready_after old mid same ready) (laid_after_first old mid same laid) (states_after (pos 1) old mid same states) (meta_after old mid same (there old c.args.tables tables has)))
+    let at = read_first old mid c.args.tables c.in_ok-meta.meta c.in-Some-eq1.field-0 ready tables same (c.in_ok-meta.ensures.says early mf) c.in-Some-eq1.is c.if-not-meta.false one (sym c.has_first.ensures ∙ c.if-not-has_first.false) in
+    err_weaker c.enter_first.result (λ fault t. turned_after c.args.any c.args.only.now old mid new same fault t) (c.enter_first.ensures.turned clean at.ready at.laid at.states (meta_after old mid same (there old c.args.tables tables has)))
 
 pub returns-else-not-meta-clause-crash : goal.returns-else-not-meta-clause-crash
 returns-else-not-meta-clause-crash g c ready tables has =
@@ -111,16 +102,12 @@ returns-else-not-meta-clause-crash g c ready tables has =
     let mid = state g.S.Store c.read_meta.new.conn in
     let new = state g.S.Store c.enter_first.new.conn in
     let mf = meta_is_first old c.args.tables ready tables has in
-    let all : has_first (tables_of old.now.schema) ≡ true = ap has_first (sym tables) ∙ sym c.has_first.ensures ∙ c.if-not-has_first.false in
     may_then c.args.only.now old mid new (c.read_meta.ensures.crash mf) c.enter_first.ensures.lives (λ early. c.in_ok-meta.ensures.same early mf)
     (λ early.
     let same = c.in_ok-meta.ensures.same early mf in
-    let meta = c.in_ok-meta.ensures.says early mf in
     let one : c.in-Some-eq1.field-0 ≡ pos 1 = search rules in
-    let says = says_at (first_meta_rows old.now) c.in_ok-meta.meta c.in-Some-eq1.field-0 (pos 1) meta c.in-Some-eq1.is one in
-    let states = states_at (first_meta_rows old.now) c.in_ok-meta.meta (pos 1) meta says c.if-not-meta.false in
-    let laid = known_first old.now ready.known says all in
-    c.enter_first.ensures.crash (ready_after old mid same ready) (laid_after_first old mid same laid) (states_after (pos 1) old mid same states))
+    let at = read_first old mid c.args.tables c.in_ok-meta.meta c.in-Some-eq1.field-0 ready tables same (c.in_ok-meta.ensures.says early mf) c.in-Some-eq1.is c.if-not-meta.false one (sym c.has_first.ensures ∙ c.if-not-has_first.false) in
+    c.enter_first.ensures.crash at.ready at.laid at.states)
 
 pub returns-then-not-has_second-clause-turned : goal.returns-then-not-has_second-clause-turned
 returns-then-not-has_second-clause-turned g c clean ready tables has =
@@ -151,34 +138,25 @@ pub returns-else-not-meta-2-clause-entered : goal.returns-else-not-meta-2-clause
 returns-else-not-meta-2-clause-entered g c clean ready tables has =
     let old = state g.S.Store c.args.conn.now in
     let mid = state g.S.Store c.read_meta.new.conn in
-    let mf = meta_is_first old c.args.tables ready tables has in
     let new = state g.S.Store c.enter_second.new.conn in
+    let mf = meta_is_first old c.args.tables ready tables has in
     let early : HasCleanDisk mid = omega (arith, c.enter_second.ensures.lives.clean, clean) in
     let same = c.in_ok-meta.ensures.same early mf in
-    let meta = c.in_ok-meta.ensures.says early mf in
     let one : c.in-Some-eq2.field-0 ≡ pos 2 = search rules in
-    let says = says_at (first_meta_rows old.now) c.in_ok-meta.meta c.in-Some-eq2.field-0 (pos 2) meta c.in-Some-eq2.is one in
-    let states = states_at (first_meta_rows old.now) c.in_ok-meta.meta (pos 2) meta says c.if-not-meta-2.false in
-    let all : has_second (tables_of old.now.schema) ≡ true = ap has_second (sym tables) ∙ sym c.has_second.ensures ∙ c.if-not-has_second.false in
-    let laid = known_second old.now ready.known says all in
-    ok_weaker c.enter_second.result (λ l e. entered_after c.args.any c.args.only.now old mid new same l.executed l.following e) (c.enter_second.ensures.entered clean (ready_after old mid same ready) (laid_after_second old mid same laid) (states_after (pos 2) old mid same states))
+    let at = read_second old mid c.args.tables c.in_ok-meta.meta c.in-Some-eq2.field-0 ready tables same (c.in_ok-meta.ensures.says early mf) c.in-Some-eq2.is c.if-not-meta-2.false one (sym c.has_second.ensures ∙ c.if-not-has_second.false) in
+    ok_weaker c.enter_second.result (λ l e. entered_after c.args.any c.args.only.now old mid new same l.executed l.following e) (c.enter_second.ensures.entered clean at.ready at.laid at.states)
 
 pub returns-else-not-meta-2-clause-turned : goal.returns-else-not-meta-2-clause-turned
 returns-else-not-meta-2-clause-turned g c clean ready tables has =
     let old = state g.S.Store c.args.conn.now in
     let mid = state g.S.Store c.read_meta.new.conn in
-    let mf = meta_is_first old c.args.tables ready tables has in
     let new = state g.S.Store c.enter_second.new.conn in
+    let mf = meta_is_first old c.args.tables ready tables has in
     let early : HasCleanDisk mid = omega (arith, c.enter_second.ensures.lives.clean, clean) in
     let same = c.in_ok-meta.ensures.same early mf in
-    let meta = c.in_ok-meta.ensures.says early mf in
     let one : c.in-Some-eq2.field-0 ≡ pos 2 = search rules in
-    let says = says_at (first_meta_rows old.now) c.in_ok-meta.meta c.in-Some-eq2.field-0 (pos 2) meta c.in-Some-eq2.is one in
-    let states = states_at (first_meta_rows old.now) c.in_ok-meta.meta (pos 2) meta says c.if-not-meta-2.false in
-    let all : has_second (tables_of old.now.schema) ≡ true = ap has_second (sym tables) ∙ sym c.has_second.ensures ∙ c.if-not-has_second.false in
-    let laid = known_second old.now ready.known says all in
-    err_weaker c.enter_second.result (λ fault t. turned_after c.args.any c.args.only.now old mid new same fault t)
-    (c.enter_second.ensures.turned clean (ready_after old mid same ready) (laid_after_second old mid same laid) (states_after (pos 2) old mid same states) (meta_after old mid same (there old c.args.tables tables has)))
+    let at = read_second old mid c.args.tables c.in_ok-meta.meta c.in-Some-eq2.field-0 ready tables same (c.in_ok-meta.ensures.says early mf) c.in-Some-eq2.is c.if-not-meta-2.false one (sym c.has_second.ensures ∙ c.if-not-has_second.false) in
+    err_weaker c.enter_second.result (λ fault t. turned_after c.args.any c.args.only.now old mid new same fault t) (c.enter_second.ensures.turned clean at.ready at.laid at.states (meta_after old mid same (there old c.args.tables tables has)))
 
 pub returns-else-not-meta-2-clause-crash : goal.returns-else-not-meta-2-clause-crash
 returns-else-not-meta-2-clause-crash g c ready tables has =
@@ -186,12 +164,9 @@ returns-else-not-meta-2-clause-crash g c ready tables has =
     let mid = state g.S.Store c.read_meta.new.conn in
     let new = state g.S.Store c.enter_second.new.conn in
     let mf = meta_is_first old c.args.tables ready tables has in
-    let all : has_second (tables_of old.now.schema) ≡ true = ap has_second (sym tables) ∙ sym c.has_second.ensures ∙ c.if-not-has_second.false in
     none_then c.args.only.now old mid new (c.read_meta.ensures.crash mf) c.enter_second.ensures.lives
     (λ early.
     let same = c.in_ok-meta.ensures.same early mf in
-    let meta = c.in_ok-meta.ensures.says early mf in
     let one : c.in-Some-eq2.field-0 ≡ pos 2 = search rules in
-    let says = says_at (first_meta_rows old.now) c.in_ok-meta.meta c.in-Some-eq2.field-0 (pos 2) meta c.in-Some-eq2.is one in
-    let laid = known_second old.now ready.known says all in
-    c.enter_second.ensures.crash (laid_after_second old mid same laid))
+    let at = read_second old mid c.args.tables c.in_ok-meta.meta c.in-Some-eq2.field-0 ready tables same (c.in_ok-meta.ensures.says early mf) c.in-Some-eq2.is c.if-not-meta-2.false one (sym c.has_second.ensures ∙ c.if-not-has_second.false) in
+    c.enter_second.ensures.crash at.laid)
