@@ -1,11 +1,12 @@
 -- Captured connections that were read into a file.
-use Rattle.std.proofs.Common.{◌≡◌, ℕ, Bool, true, false, List, Option, Result, Ok, Err, IfOk, IfErr, IsTrue, refl, subst, ◌∙◌, arith}
+use Rattle.std.proofs.Common.{◌≡◌, ℕ, Bool, true, false, List, Option, Result, Ok, Err, IfOk, IfErr, IsTrue, refl, sym, subst, ◌∙◌, arith}
 use Rattle.std.specs.Prelude.{MatchResult}
 use Rattle.sqlite_disk.specs.declared.Disk.{Ghosts}
 use Rattle.sqlite_disk.specs.declared.Files.{Files}
 use Rattle.sqlite_wal.specs.Reads.{AreClean}
 use Rattle.sqlite_trees.specs.Tree.{Trees}
 use Rattle.sqlite_trees.specs.View.{IsClean}
+use Rattle.sqlite_schema.specs.declared.schema.Schema.{Schema}
 use Rattle.sqlite_store.specs.declared.store.FileStore.{FileStore}
 use Rattle.sqlite_store.specs.FileStore.{view, recovers}
 use Rattle.sqlite.specs.declared.error.Error.{Error}
@@ -24,10 +25,15 @@ use Rattle.replica.specs.declared.captures.Capture.{Capture}
 use Rattle.replica.specs.declared.captures.Halt.{Halt}
 use Rattle.replica.specs.declared.end.Ended.{Ended}
 use Rattle.replica.specs.Conn.{History}
+use Rattle.replica.specs.declared.counted.Counted.{Counted}
+use Rattle.replica.specs.Settings.{Settings}
 use Rattle.replica.specs.Crash.{IsLeftOfAll}
-use Rattle.replica.specs.Over.{HasReadAll}
+use Rattle.replica.specs.Crash as crash
+use Rattle.replica.specs.Over.{HasReadAll, LeavesOnly}
 use Rattle.replica.specs.Capture.{Reads}
+use Rattle.replica.specs.File.{AreClosedWith, LeavesContent}
 use Rattle.replica.specs.Replay.{LeadsTo, MayLeave}
+use Rattle.replica.specs.FollowFile.{Connects, MayHold, FollowsFile}
 use Rattle.replica.proofs.Captured.{reads_weaker}
 
 -- what a database at rest has committed is opened as its content
@@ -40,43 +46,87 @@ rest_of : {D : Type 0} {g : Ghosts D} (is : Bool) (content : Content) (store : S
 rest_of false content store is_open holds = holds.rest
 rest_of true content store is_open holds = holds.rest is_open
 
-module _ {D : Type 0} (g : Ghosts D) (limit : ℕ) (names : Names) (old : Content) (opened after : Store (FileStore D g) over_files) where
-  leads_to : after.following ≡ names → (files : Files D) (bs : List (List ℕ)) (ends : List Ended) → IsCopied after.conn files → HasReadAll over_files limit after (database over_files opened).now.schema false old bs ends → LeadsTo g limit names old files bs ends
-  leads_to kept files bs ends copy a = record {
+module _ {D : Type 0} (g : Ghosts D) (names : Names) (after : Store (FileStore D g) over_files) (kept : after.following ≡ names) where
+  -- closed files hold what the store held
+  closed_with : (is : Bool) (content : Content) (files : Files D) → IsCopied after.conn files → HoldsAs over_files is content after → AreClosedWith g names content files
+  closed_with is content files copy holds = record {
+    trees = (file_state after.conn).committed.trees;
+    stands = λ only. subst (λ n. IsLeft only n content (file_state after.conn).committed.trees) kept (rest_left (file_state after.conn) after.following content (rest_of is content after copy.was_open holds) only);
+    seen = copy.seen;
+    left = copy.left;
+  }
+
+  -- files that could not be closed are left with what the store may leave
+  may_hold : (schema : Schema) (among : Content → Type 0) (last : FileStore D g) → ((trees : Trees) → recovers last trees → (file_state after.conn).may_leave trees) → LeavesOnly over_files schema after among → MayHold names last among
+  may_hold schema among last quiet leaves trees may =
+      let l = leaves.each trees (quiet trees may) in
+      (l.0, l.2, λ only. subst (λ n. IsLeft only n l.0 trees) kept (left_by schema after.following l.0 trees l.1 only))
+
+module _ {D : Type 0} (g : Ghosts D) (names : Names) (old : Content) (opened after : Store (FileStore D g) over_files) where
+  leads_to : (limit : ℕ) → after.following ≡ names → (files : Files D) (bs : List (List ℕ)) (ends : List Ended) → IsCopied after.conn files → HasReadAll over_files limit after (database over_files opened).now.schema false old bs ends → LeadsTo g limit names old files bs ends
+  leads_to limit kept files bs ends copy a = record {
     is = a.is;
     new = a.new;
     history = subst (λ n. History limit n false old bs a.is a.new ends) kept a.history;
-    closed = record {
-      trees = (file_state after.conn).committed.trees;
-      stands = λ only. subst (λ n. IsLeft only n a.new (file_state after.conn).committed.trees) kept (rest_left (file_state after.conn) after.following a.new (rest_of a.is a.new after copy.was_open a.holds) only);
-      seen = copy.seen;
-      left = copy.left;
-    };
+    closed = closed_with g names after kept a.is a.new files copy a.holds;
   }
 
-  may_leave : after.following ≡ names → (last : FileStore D g) (bs : List (List ℕ)) (ends : List Ended) → ((trees : Trees) → recovers last trees → (file_state after.conn).may_leave trees) → HasReadAll over_files limit after (database over_files opened).now.schema false old bs ends → MayLeave g limit names old last bs ends
-  may_leave kept last bs ends quiet a = record {
+  may_leave : (limit : ℕ) → after.following ≡ names → (last : FileStore D g) (bs : List (List ℕ)) (ends : List Ended) → ((trees : Trees) → recovers last trees → (file_state after.conn).may_leave trees) → HasReadAll over_files limit after (database over_files opened).now.schema false old bs ends → MayLeave g limit names old last bs ends
+  may_leave limit kept last bs ends quiet a = record {
     is = a.is;
     new = a.new;
     history = subst (λ n. History limit n false old bs a.is a.new ends) kept a.history;
-    each = λ trees may.
-        let l = (a.leaves refl).each trees (quiet trees may) in (
-          l.0,
-          subst (λ n. IsLeftOfAll limit n false old bs a.new ends l.0) kept l.2,
-          λ only. subst (λ n. IsLeft only n l.0 trees) kept (left_by (database over_files opened).now.schema after.following l.0 trees l.1 only),
-        );
+    each = may_hold g names after kept (database over_files opened).now.schema (IsLeftOfAll limit names false old bs a.new ends) last quiet
+        (subst (λ n. LeavesOnly over_files (database over_files opened).now.schema after (IsLeftOfAll limit n false old bs a.new ends)) kept (a.leaves refl));
   }
 
-  pub replayed : {R : Type 0} (left : R → Option (List ℕ)) (captures : List (Capture R)) (ends : List Ended) (read : Result (Unit {0}) Halt) (closed : Result (Files D) (Error × FileStore D g))
+  pub replayed : (limit : ℕ) {R : Type 0} (left : R → Option (List ℕ)) (captures : List (Capture R)) (ends : List Ended) (read : Result (Unit {0}) Halt) (closed : Result (Files D) (Error × FileStore D g))
       → after.following ≡ opened.following → (HasCleanDisk (database over_files after) → Holds over_files opened old × (opened.following ≡ names))
       → (HasCleanDisk (database over_files after) → (was : Bool) (content : Content) → HoldsAs over_files was content opened → Reads left (HasReadAll over_files limit after (database over_files opened).now.schema was content) captures ends read)
       → IfOk closed (λ files. AreClean g files.log files.db → IsCopied after.conn files)
       → IfErr closed (λ e. IsClosed after.conn e.1 × (IsClean (view e.1) → FailsToClose after.conn e.1 e.0))
       → MatchResult closed (λ files. AreClean g files.log files.db → Reads left (LeadsTo g limit names old files) captures ends read) (λ e. IsClean (view e.1) → Reads left (MayLeave g limit names old e.1) captures ends read)
-  replayed left captures ends read (Ok files) same opens reads copied failed = λ honest.
+  replayed limit left captures ends read (Ok files) same opens reads copied failed = λ honest.
       let copy = copied honest in
-      reads_weaker left _ (LeadsTo g limit names old files) (λ bs es a. leads_to (same ∙ (opens copy.was_clean).1) files bs es copy a) captures ends read (reads copy.was_clean false old (opens copy.was_clean).0)
-  replayed left captures ends read (Err e) same opens reads copied failed = λ honest.
+      reads_weaker left _ (LeadsTo g limit names old files) (λ bs es a. leads_to limit (same ∙ (opens copy.was_clean).1) files bs es copy a) captures ends read (reads copy.was_clean false old (opens copy.was_clean).0)
+  replayed limit left captures ends read (Err e) same opens reads copied failed = λ honest.
       let quiet = failed.0.quiet in
       let clean : HasCleanDisk (database over_files after) = omega (arith, quiet.clean, honest) in
-      reads_weaker left _ (MayLeave g limit names old e.1) (λ bs es a. may_leave (same ∙ (opens clean).1) e.1 bs es (λ trees may. quiet.outcomes trees may) a) captures ends read (reads clean false old (opens clean).0)
+      reads_weaker left _ (MayLeave g limit names old e.1) (λ bs es a. may_leave limit (same ∙ (opens clean).1) e.1 bs es (λ trees may. quiet.outcomes trees may) a) captures ends read (reads clean false old (opens clean).0)
+
+  pub followed_into : (only : Names) {T E : Type 0} (left written : T → Option (List ℕ)) (gives : Result T E → Type 0) (settings : Settings) (connection : Result (Ended × Counted T) E) (closed : Result (Files D) (Error × FileStore D g))
+      → after.following ≡ opened.following → (HasCleanDisk (database over_files after) → Holds over_files opened old × (opened.following ≡ names)) → LeavesContent only names old (database over_files opened)
+      → (HasCleanDisk (database over_files after) → (was : Bool) (content : Content) → HoldsAs over_files was content opened → Connects over_files left written gives settings opened after was content connection)
+      → IfOk closed (λ files. AreClean g files.log files.db → IsCopied after.conn files)
+      → IfErr closed (λ e. IsClosed after.conn e.1 × (IsClean (view e.1) → FailsToClose after.conn e.1 e.0))
+      → FollowsFile left written gives settings only names old (record { connection = connection; closed = closed })
+  followed_into only left written gives settings (Ok (end, counted)) (Ok files) same opens left_there connects copied failed = λ honest.
+      let copy = copied honest in
+      let o = opens copy.was_clean in
+      let f = connects copy.was_clean false old o.0 in
+      record { before = opened; after = after; holds = o.0; following = o.1; over = f; comes = closed_with g names after (same ∙ o.1) f.follows.has_read.is f.follows.has_read.new files copy f.follows.has_read.holds }
+  followed_into only left written gives settings (Err cause) (Ok files) same opens left_there connects copied failed = λ honest.
+      let copy = copied honest in
+      let o = opens copy.was_clean in
+      let f = connects copy.was_clean false old o.0 in
+      (f.0, closed_with g names after (same ∙ o.1) false old files copy (subst (λ (s : Store (FileStore D g) over_files). Holds over_files s old) (sym f.1) o.0))
+  followed_into only left written gives settings (Ok (end, counted)) (Err e) same opens left_there connects copied failed = λ honest.
+      let quiet = failed.0.quiet in
+      let clean : HasCleanDisk (database over_files after) = omega (arith, quiet.clean, honest) in
+      let o = opens clean in
+      let f = connects clean false old o.0 in
+      let r = f.follows.has_read in
+      record {
+        before = opened;
+        after = after;
+        holds = o.0;
+        following = o.1;
+        over = f;
+        comes = may_hold g names after (same ∙ o.1) (database over_files opened).now.schema (crash.IsLeft settings.limit names old f.follows.read r.new end) e.1 (λ trees may. quiet.outcomes trees may)
+            (subst (λ n. LeavesOnly over_files (database over_files opened).now.schema after (crash.IsLeft settings.limit n old f.follows.read r.new end)) o.1 (r.leaves refl));
+      }
+  followed_into only left written gives settings (Err cause) (Err e) same opens left_there connects copied failed = λ honest.
+      let quiet = failed.0.quiet in
+      let clean : HasCleanDisk (database over_files after) = omega (arith, quiet.clean, honest) in
+      let f = connects clean false old (opens clean).0 in
+      (f.0, λ trees may. left_there (subst (λ (s : Store (FileStore D g) over_files). HasCleanDisk (database over_files s)) f.1 clean) trees (subst (λ (s : Store (FileStore D g) over_files). (database over_files s).may_leave trees) f.1 (quiet.outcomes trees may)))

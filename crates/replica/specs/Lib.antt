@@ -17,3 +17,4 @@ pub mod Follow
 pub mod Resume
 pub mod File
 pub mod Replay
+pub mod FollowFile

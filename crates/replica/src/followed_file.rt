@@ -1,0 +1,86 @@
+//! Following a source into a database file.
+
+ghost use Rattle.std.specs.Prelude.{◌≡◌, ◌<◌, ◌≤◌, ◌↔◌, Bool, IfOk, IfErr};
+ghost use Rattle.sqlite_wal.specs.Files.{image_at};
+ghost use Rattle.sqlite.specs.State.{HasCleanDisk};
+ghost use Rattle.binlog.specs.Filter.{Names};
+ghost use Rattle.store.specs.State.{Content};
+ghost use Rattle.store.specs.Store.{HoldsAs, IsBroken, database, names_of};
+ghost use Rattle.store.specs.Entering.{IsWanted};
+ghost use Rattle.replica.specs.File.{only_of, is_any, FilesHold, IsRefused};
+ghost use Rattle.replica.specs.FollowFile.{Connects, FollowsFile, CountsFailures};
+
+use crate::config::Config;
+use crate::counted::{Counted, Duplex};
+use crate::end::Ended;
+use crate::file::{Unopened, open_file};
+use crate::following::follow;
+use binlog::Follow;
+use sqlite::{Alter, Error, FileFrom, FileStore, Files, Start};
+use sqlite_disk::Disk;
+use std::alloc::Global;
+use store::Store;
+
+/// What following a source into a file has done.
+pub struct FollowedFile<T, E, D: Disk> {
+    /// How the connection ended, and its stream; or why there is no connection.
+    pub connection: Result<(Ended, Counted<T>), E>,
+    /// The files, which are closed; or why they could not be closed, and what is left of them.
+    pub closed: Result<Files<D>, (Error, FileStore<D>)>,
+}
+
+/// Connects, and follows the source over the stream until the connection ends. Without a stream the store stays as it is.
+fn connect_and_follow<T: Duplex + Drop, E: Drop, F: FnOnce() -> Result<T, E> + Drop, S: Alter>(
+    alloc: Global,
+    store: &mut Store<S>,
+    config: Config,
+    connect: F,
+) -> Result<(Ended, Counted<T>), E>
+    requires { F.IsAlwaysCallable connect }
+    ensures connects { HasCleanDisk (database S.Store store.new) → (was : Bool) (old : Content) → HoldsAs S.Store was old store.old
+        → Connects S.Store T.Read.remaining T.Write.contents (F.post connect) config store.old store.new was old result }
+    ensures counts { IfOk result (λ done. CountsFailures done.0 done.1) }
+    ensures following { names_of S.Store store.new ≡ names_of S.Store store.old }
+    ensures broken { IsBroken S.Store store.old → store.new ≡ store.old }
+    ensures clean { HasCleanDisk (database S.Store store.new) → HasCleanDisk (database S.Store store.old) }
+{
+    match connect() {
+        Ok(stream) => {
+            let mut counted = Counted::new(stream);
+            let end = follow(alloc, &mut counted, store, config);
+            Ok((end, counted))
+        }
+        Err(cause) => Err(cause),
+    }
+}
+
+/// Opens the database in a file, connects to a source, follows it until the connection ends, and closes the database. The
+/// database is opened before anything is asked of the source.
+///
+/// `start` stands for what the files held before (see [`open_file`]).
+pub fn follow_file<P: Start, T: Duplex + Drop, E: Drop, F: FnOnce() -> Result<T, E> + Drop>(
+    rt: &HostRuntime,
+    path: &str,
+    start: P,
+    only: Option<&Follow>,
+    config: Config,
+    connect: F,
+) -> Result<FollowedFile<T, E, FileFrom<P>>, Unopened<FileFrom<P>>>
+    requires { F.IsAlwaysCallable connect }
+    // If the files held a database that stands for a content, or none was there, the end is that of following the source
+    // from that content over the stream that `connect` gave, and the closed files hold a database that stands for the
+    // content that this leads to. If it gave none, they hold the content from before.
+    ensures follows { IfOk result (λ done. (names : Names) (content : Content) → FilesHold (only_of only.entry) names content (image_at P.Start) → IsWanted (is_any only.entry) (only_of only.entry) names
+        → FollowsFile T.Read.remaining T.Write.contents (F.post connect) config (only_of only.entry) names content done) }
+    // A failure of the stream is reported exactly if there was one; it is the last call.
+    ensures counts { IfOk result (λ done. IfOk done.connection (λ ended. CountsFailures ended.0 ended.1)) }
+    // A database that stands for a content is refused only if the database fails or memory runs out, and is left with that
+    // content.
+    ensures refused { IfErr result (λ e. (names : Names) (content : Content) → FilesHold (only_of only.entry) names content (image_at P.Start) → IsWanted (is_any only.entry) (only_of only.entry) names
+        → IsRefused (only_of only.entry) names content e) }
+{
+    let mut store = open_file(rt, path, start, only)?;
+    let connection = connect_and_follow(rt.alloc(), &mut store, config, connect);
+    let closed = store.close().close_files();
+    Ok(FollowedFile { connection, closed })
+}
