@@ -2,7 +2,9 @@
 
 use crate::failure::Failure;
 use binlog::Follow;
-use replica::{Capture, Config, Observer, Replayed, Unopened, open_file};
+use replica::{
+    Capture, Config, Duplex, FollowedFile, Observer, Replayed, Unopened, follow_file, open_file,
+};
 use sqlite::{Error, ErrorCode, File, FileStore, Files};
 use sqlite_disk::Unknown;
 use std::alloc::AllocError;
@@ -72,6 +74,24 @@ pub fn replay_into<'a, R: Read + Drop, W: Observer + Drop>(
     let log = missing_log(rt, name)?;
     match replica::replay(rt, name, Unknown, only, config, captures, &mut observer) {
         Ok(done) => Ok((done, observer)),
+        Err(unopened) => Err(refusal(rt, name, leave(rt, log, unopened))),
+    }
+}
+
+/// Follows a source into the database in a file, which is opened as by [`open`] before `connect` is called, and closed at
+/// the end.
+pub fn follow_into<'a, T: Duplex + Drop, F: FnOnce() -> io::Result<T> + Drop>(
+    rt: &HostRuntime,
+    name: &'a str,
+    only: Option<&Follow>,
+    config: Config,
+    connect: F,
+) -> Result<FollowedFile<T, io::Error, File>, Failure<'a>>
+    requires { F.IsAlwaysCallable connect }
+{
+    let log = missing_log(rt, name)?;
+    match follow_file(rt, name, Unknown, only, config, connect) {
+        Ok(done) => Ok(done),
         Err(unopened) => Err(refusal(rt, name, leave(rt, log, unopened))),
     }
 }

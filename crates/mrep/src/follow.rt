@@ -2,18 +2,18 @@
 
 ghost use Rattle.std.specs.Prelude.{◌≤◌, IfOk};
 
-use crate::database::{FileOf, close, open};
+use crate::database::{closed, follow_into};
 use crate::failure::{Failure, MEMORY};
 use crate::name::Shown;
 use crate::progress::Progress;
 use crate::reason::{write_cause, write_end};
 use crate::replay::{status_of, tables};
 use crate::socket::Socket;
-use replica::{Config, ConfigFault, Counted, Duplex, Ended, follow};
-use std::fs;
+use binlog::Follow;
+use replica::{Config, ConfigFault, Duplex, Ended, FollowedFile};
 use std::io::{ErrorKind, Write};
 use std::net::TcpStream;
-use store::Store;
+use std::{fs, io};
 use wire::LARGEST_PAYLOAD;
 
 /// The arguments.
@@ -55,11 +55,17 @@ pub fn follow_source<'a, W: Write, E: Write>(
         None => None,
     };
     let config = settings(rt, words, server_id)?;
-    let mut ends = Vec::with_capacity(rt.alloc(), 1)?;
-    let mut store = open(rt, words.db, only.as_ref())?;
-    let followed = follow_into(rt, words, port, config, &mut store, &mut ends, out, err);
-    let closed = close(words.db, store);
-    status_of(&ends, followed.and(closed), err)
+    let host = Host {
+        rt,
+        name: words.host,
+        port,
+    };
+    let followed = if words.progress {
+        follow_reporting(host, words, only.as_ref(), config, err)?
+    } else {
+        follow_quietly(host, words, only.as_ref(), config)?
+    };
+    report(words, followed, out, err)
 }
 
 /// A number from 1 to the largest, in decimal digits.
@@ -97,47 +103,119 @@ fn settings<'a>(rt: &HostRuntime, words: Words<'a>, server_id: u32) -> Result<Co
     }
 }
 
-/// Connects and follows, and writes the line of the end.
-fn follow_into<'a, W: Write, E: Write>(
-    rt: &HostRuntime,
-    words: Words<'a>,
-    port: u16,
-    config: Config,
-    store: &mut Store<FileOf>,
-    ends: &mut Vec<Ended>,
-    out: &mut W,
-    err: &mut E,
-) -> Result<(), Failure<'a>> {
-    let host = words.host;
-    let stream = match TcpStream::connect(rt, (host, port)) {
-        Ok(stream) => Socket(stream),
-        Err(cause) => return Err(Failure::Host { name: host, cause }),
-    };
-    let (end, failure) = if words.progress {
-        let _ = writeln!(err, "mrep: connected to {} port {port}", Shown(host));
-        follow_over(rt, Progress::new(stream, rt, err), config, store)
-    } else {
-        follow_over(rt, stream, config, store)
-    };
-    let _ = match failure {
-        Some(kind) => writeln!(err, "mrep: {}: {kind}", Shown(host)),
-        None => write_cause(host, words.db, &end.reason, err),
-    };
-    ends.push(end)?;
-    if let Some(end) = ends.last() {
-        write_end(ends.len(), end, out)?;
-    }
-    Ok(())
+/// How following a source went.
+struct Followed<'a> {
+    /// How the connection ended, and the cause of the last failure of its stream, if there was one; or why there is no
+    /// connection.
+    connection: io::Result<(Ended, Option<ErrorKind>)>,
+    /// Whether the database was closed.
+    closed: Result<(), Failure<'a>>,
 }
 
-/// How the connection ended, and the cause of the last failure of the stream, if there was one.
-fn follow_over<T: Duplex + Drop>(
-    rt: &HostRuntime,
-    stream: T,
+/// Writes the line of the end, and returns the exit status.
+fn report<'a, W: Write, E: Write>(
+    words: Words<'a>,
+    followed: Followed<'a>,
+    out: &mut W,
+    err: &mut E,
+) -> Result<u8, Failure<'a>>
+    ensures { IfOk result (λ status. status ≤ MEMORY) }
+{
+    let name = words.host;
+    let Followed { connection, closed } = followed;
+    let (end, failure) = match connection {
+        Ok(ended) => ended,
+        Err(cause) => return Err(Failure::Host { name, cause }),
+    };
+    let _ = match failure {
+        Some(kind) => writeln!(err, "mrep: {}: {kind}", Shown(name)),
+        None => write_cause(name, words.db, &end.reason, err),
+    };
+    let written = match write_end(1, &end, out) {
+        Ok(()) => closed,
+        Err(cause) => Err(Failure::Output(cause)),
+    };
+    status_of(&[end], written, err)
+}
+
+/// Where the source listens.
+#[derive(Clone, Copy)]
+struct Host<'r> {
+    rt: &'r HostRuntime,
+    name: &'r str,
+    port: u16,
+}
+
+impl Host<'_> {
+    fn connect(self) -> io::Result<Socket> {
+        match TcpStream::connect(self.rt, (self.name, self.port)) {
+            Ok(stream) => Ok(Socket(stream)),
+            Err(cause) => Err(cause),
+        }
+    }
+}
+
+fn follow_quietly<'a, 'r>(
+    host: Host<'r>,
+    words: Words<'a>,
+    only: Option<&Follow>,
     config: Config,
-    store: &mut Store<FileOf>,
-) -> (Ended, Option<ErrorKind>) {
-    let mut counted = Counted::new(stream);
-    let end = follow(rt.alloc(), &mut counted, store, config);
-    (end, counted.failure())
+) -> Result<Followed<'a>, Failure<'a>> {
+    follow_over(host.rt, words, only, config, move || host.connect())
+}
+
+/// A host whose connection is reported on.
+#[derive(Drop)]
+struct Reported<'r, E> {
+    host: Host<'r>,
+    err: &'r mut E,
+}
+
+impl<'r, E: Write> Reported<'r, E> {
+    fn connect(self) -> io::Result<Progress<'r, Socket, E>> {
+        let Reported { host, err } = self;
+        let stream = match host.connect() {
+            Ok(stream) => stream,
+            Err(cause) => return Err(cause),
+        };
+        let (name, port) = (Shown(host.name), host.port);
+        let _ = writeln!(err, "mrep: connected to {name} port {port}");
+        Ok(Progress::new(stream, host.rt, err))
+    }
+}
+
+/// Follows, and reports on standard error that the source has been reached, and how many bytes have come.
+fn follow_reporting<'a, 'r, E: Write>(
+    host: Host<'r>,
+    words: Words<'a>,
+    only: Option<&Follow>,
+    config: Config,
+    err: &'r mut E,
+) -> Result<Followed<'a>, Failure<'a>> {
+    let reported = Reported { host, err };
+    follow_over(host.rt, words, only, config, move || reported.connect())
+}
+
+/// Follows over the stream of a connection.
+fn follow_over<'a, T: Duplex + Drop, F: FnOnce() -> io::Result<T> + Drop>(
+    rt: &HostRuntime,
+    words: Words<'a>,
+    only: Option<&Follow>,
+    config: Config,
+    connect: F,
+) -> Result<Followed<'a>, Failure<'a>>
+    requires { F.IsAlwaysCallable connect }
+{
+    let FollowedFile {
+        connection,
+        closed: files,
+    } = follow_into(rt, words.db, only, config, connect)?;
+    let connection = match connection {
+        Ok((end, stream)) => Ok((end, stream.failure())),
+        Err(cause) => Err(cause),
+    };
+    Ok(Followed {
+        connection,
+        closed: closed(words.db, files),
+    })
 }
