@@ -30,7 +30,10 @@ fn counted(before: Option<(u64, u64)>, reads: u64, writes: u64) -> Option<(u64, 
     ensures { HaveFailed before result reads writes }
 {
     let (all_reads, all_writes) = before?;
-    Some((all_reads.checked_add(reads)?, all_writes.checked_add(writes)?))
+    Some((
+        all_reads.checked_add(reads)?,
+        all_writes.checked_add(writes)?,
+    ))
 }
 
 /// Whether a write that was given so many bytes has failed.
