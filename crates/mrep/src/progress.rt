@@ -1,8 +1,9 @@
 //! A stream that reports how many bytes have been read.
 
-ghost use Rattle.std.specs.Prelude.{◌≡◌};
+ghost use Rattle.std.specs.Prelude.{◌≡◌, is_err, if◌then◌else◌, length};
 ghost use Rattle.std.specs.Io.{ReadsAtMost, WritesAtMost};
 ghost use Rattle.std.specs.Io.KnownBytes.{ReadConsumes, WriteAppends, Keeps};
+ghost use Rattle.replica.specs.Failing.{HaveFailed, failed_to_write};
 
 use replica::Duplex;
 use std::io;
@@ -73,6 +74,8 @@ impl<'a, T: Write, E> Write for Progress<'a, T, E> {
 }
 
 impl<'a, T: Duplex, E: Write> Duplex for Progress<'a, T, E> {
+    ghost failures = { λ p. T.failures p.stream };
+
     fn receive(&mut self, buf: &mut [u8]) -> io::Result<usize> {
         let received = self.stream.receive(buf);
         if let Ok(count) = &received {

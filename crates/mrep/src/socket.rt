@@ -1,5 +1,7 @@
 //! A socket as a stream of two directions.
 
+ghost use Rattle.std.specs.Prelude.{None};
+
 use replica::Duplex;
 use std::io;
 use std::io::{Read, Write};
@@ -26,6 +28,8 @@ impl Write for Socket {
 }
 
 impl Duplex for Socket {
+    ghost failures = { λ s. None };
+
     fn receive(&mut self, buf: &mut [u8]) -> io::Result<usize> {
         self.0.read(buf)
     }

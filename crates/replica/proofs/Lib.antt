@@ -13,6 +13,8 @@ pub mod Fed
 pub mod Runs
 pub mod Report
 pub mod OneEnd
+pub mod OneOutcome
+pub mod Failed
 pub mod Followed
 pub mod Left
 pub mod FromReader

@@ -37,7 +37,7 @@ both : true ≡ false → ⊥
 both e = cc
 
 -- ---- What a payload carries.
-carries_same : (names : Names) (p : Payload) (e f : EventValue) → Carries names p e → Carries names p f → e ≡ f
+pub carries_same : (names : Names) (p : Payload) (e f : EventValue) → Carries names p e → Carries names p f → e ≡ f
 carries_same names p e f c d =
     let same : c.body ≡ d.body = (let x = c.payload_is in let y = d.payload_is in cc) in
     one_event names e f d.body (subst (λ l. IsEvent names e l) same c.is_event) d.is_event
@@ -79,7 +79,7 @@ nothing_refused greet.OldAuth h r = cc
 nothing_refused (greet.Unexpected byte) h r = cc
 nothing_refused greet.Memory h r = h
 
-in_dump : (names : Names) (due : Due) (p : Payload) (es : List EventValue) → IsInDump due → Answers names due p es → (e : EventValue) × Carries names p e × (es ≡ e ∷ [])
+pub in_dump : (names : Names) (due : Due) (p : Payload) (es : List EventValue) → IsInDump due → Answers names due p es → (e : EventValue) × Carries names p e × (es ≡ e ∷ [])
 in_dump names Hello p es h a = absurd h
 in_dump names Reply p es h a = absurd h
 in_dump names SecondReply p es h a = absurd h
@@ -214,7 +214,7 @@ not_wrong id limit r packing left p beyond wire.Memory h w e = absurd h
 not_wrong id limit r packing left p beyond wire.Ended h w e = absurd h
 
 -- the next payload is one
-same_next : (id limit : ℕ) (r packing left : List ℕ) (p q : Payload) (beyond : ℕ) (n : HasNext limit id r q) → IsWholePayload id limit packing p beyond → r ≡ packing ++ left → (q ≡ p) × (n.packing ≡ packing)
+pub same_next : (id limit : ℕ) (r packing left : List ℕ) (p q : Payload) (beyond : ℕ) (n : HasNext limit id r q) → IsWholePayload id limit packing p beyond → r ≡ packing ++ left → (q ≡ p) × (n.packing ≡ packing)
 same_next id limit r packing left p q beyond n w e =
     let k = none_begins n.more left n.whole.packing w.packing (sym n.bytes ∙ e) in
     (k.0, k.1)
@@ -291,7 +291,7 @@ module _ (limit : ℕ) (names : Names) (due : Due) (es : List EventValue) (taken
         let of : AllByRecursion (λ b. b < 256) f.payload = packed_bytes id f.payload f.packing f.after f.whole.packing (all_front (λ b. b < 256) f.packing f.left (subst (λ l. AllByRecursion (λ b. b < 256) l) f.rest_is bytes)) in
         denied reason f.payload f.first f.others fs ds of f.answers f.events are (subst (λ v. Denies names due es v reason) k.0 s.denied)
 
-    blocked : (at : ℕ) (reason : Reason) → StopsFor limit names due es taken id r at reason → ⊥
+    pub blocked : (at : ℕ) (reason : Reason) → StopsFor limit names due es taken id r at reason → ⊥
     blocked at EndOfInput s = not_unfinished id limit r f.packing f.left f.payload f.after s.1 f.whole f.rest_is
     blocked at SourceEof s =
         let k = same_next id limit r f.packing f.left f.payload s.payload f.after s.stops.next f.whole f.rest_is in
@@ -375,13 +375,13 @@ stops_same limit names ps qs es fs x y m n r s at reason e h =
     (subst (λ v. StopsFor limit names (due_after qs) fs (length y) n v at reason) (sym e.rest) h))))
 
 module _ (limit : ℕ) (names : Names) (b : List ℕ) (bytes : AllByRecursion (λ v. v < 256) b) where
-  no_further : (x y : Reading limit names b) (at : ℕ) (reason : Reason) → StopsFor limit names (due_after x.payloads) x.events (length x.front) x.id x.rest at reason
+  pub no_further : (x y : Reading limit names b) (at : ℕ) (reason : Reason) → StopsFor limit names (due_after x.payloads) x.events (length x.front) x.id x.rest at reason
       → Further limit names (due_after x.payloads) x.id x.front x.events x.rest y.front y.events → ⊥
   no_further x y at reason s f =
       blocked limit names (due_after x.payloads) x.events (length x.front) x.id x.rest x.front y.front y.events y.deliveries f refl (all_back (λ b. b < 256) x.front x.rest (subst (λ l. AllByRecursion (λ v. v < 256) l) x.bytes bytes))
       y.talk.within y.talk.delivers at reason s
 
-  both_read : (x y : Reading limit names b) → Compared limit names Hello x.payloads x.front x.events x.id x.rest y.payloads y.front y.events y.id y.rest
+  pub both_read : (x y : Reading limit names b) → Compared limit names Hello x.payloads x.front x.events x.id x.rest y.payloads y.front y.events y.id y.rest
   both_read x y = compare limit names Hello 0 x.payloads x.front x.events x.id x.rest y.payloads y.front y.events y.id y.rest x.talk.talks y.talk.talks (sym x.bytes ∙ y.bytes)
 
   pub one_end : (r s : Reason) (at other : ℕ) → End limit names b r at → End limit names b s other → at ≡ other

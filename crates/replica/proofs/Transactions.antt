@@ -33,7 +33,7 @@ added_at row old new other a b r = no_other (new r) (other r) (λ differ.
     let apart : r ≢ row = λ e. differ (ap new e ∙ a.one_more ∙ sym b.one_more ∙ sym (ap other e)) in
     differ (a.others r apart ∙ sym (b.others r apart)))
 
-taken_at : (row : TableRow) (old new other : Bag) → IsRemoved row old new → IsRemoved row old other → (r : TableRow) → new r ≡ other r
+pub taken_at : (row : TableRow) (old new other : Bag) → IsRemoved row old new → IsRemoved row old other → (r : TableRow) → new r ≡ other r
 taken_at row old new other a b r = no_other (new r) (other r) (λ differ.
     let apart : r ≢ row = λ e. differ (ap new e ∙ less (old row) (new row) (other row) a.one_less b.one_less ∙ sym (ap other e)) in
     differ (a.others r apart ∙ sym (b.others r apart)))
@@ -51,7 +51,7 @@ one_made (update schema table before after) old new other a b =
     let mid : a.0 ≡ b.0 = same_bag a.0 b.0 (taken_at (row_of schema table before) old a.0 b.0 a.1 b.1) in
     same_bag new other (added_at (row_of schema table after) b.0 new other (subst (λ m. IsAdded (row_of schema table after) m new) mid a.2) b.2)
 
-one_by : (followed : Bool) (change : ChangeValue) (old new other : Bag) → MatchBool followed (IsMade change old new) (new ≡ old) → MatchBool followed (IsMade change old other) (other ≡ old) → new ≡ other
+pub one_by : (followed : Bool) (change : ChangeValue) (old new other : Bag) → MatchBool followed (IsMade change old new) (new ≡ old) → MatchBool followed (IsMade change old other) (other ≡ old) → new ≡ other
 one_by true change old new other a b = one_made change old new other a b
 one_by false change old new other a b = a ∙ sym b
 
@@ -166,10 +166,10 @@ due_past names content xs ys has not =
 cons_none : {A : Type 0} (x : A) (xs : List A) → x ∷ xs ≡ [] → ⊥
 cons_none x xs e = cc
 
-head_of : {A : Type 0} (x y : A) (xs ys : List A) → x ∷ xs ≡ y ∷ ys → x ≡ y
+pub head_of : {A : Type 0} (x y : A) (xs ys : List A) → x ∷ xs ≡ y ∷ ys → x ≡ y
 head_of x y xs ys e = cc
 
-tail_of : {A : Type 0} (x y : A) (xs ys : List A) → x ∷ xs ≡ y ∷ ys → xs ≡ ys
+pub tail_of : {A : Type 0} (x y : A) (xs ys : List A) → x ∷ xs ≡ y ∷ ys → xs ≡ ys
 tail_of x y xs ys e = cc
 
 none_of_none : {A : Type 0} (k : ℕ) (xs : List A) → xs ≡ [] → take k xs ≡ []

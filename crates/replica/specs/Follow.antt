@@ -113,3 +113,13 @@ abbrev pub reads_failed : Turn → ℕ
 reads_failed turn.Read = 0
 reads_failed turn.AtEnd = 0
 reads_failed turn.Failed = 1
+
+-- how many reads have failed where this is the reason of the end
+abbrev pub failed_reads_of : Reason → ℕ
+failed_reads_of ReadFailed = 1
+failed_reads_of _ = 0
+
+-- how many writes have failed where this is the reason of the end
+abbrev pub failed_writes_of : Reason → ℕ
+failed_writes_of WriteFailed = 1
+failed_writes_of _ = 0

@@ -1,6 +1,7 @@
 pub mod Settings
 pub mod Stream
 pub mod Message
+pub mod Outcome
 pub mod End
 pub mod Capture
 pub mod Conn

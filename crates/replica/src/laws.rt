@@ -21,12 +21,13 @@ ghost use Rattle.replica.specs.declared.end.Ended.{Ended};
 ghost use Rattle.replica.specs.Stream.{Reading};
 ghost use Rattle.replica.specs.End.{End};
 ghost use Rattle.replica.specs.Report.{report_of};
+ghost use Rattle.replica.specs.Outcome.{IsSameEnd};
 ghost use Rattle.replica.specs.Conn.{Conn, TakesFirst, BreaksStore, IsDumpTooLong, IsOfBytes};
 ghost use Rattle.replica.specs.Crash.{IsLeft, LeavesFirst};
 ghost use Rattle.replica.specs.Sent.{SentFor};
 ghost use Rattle.replica.specs.Standing.{Stands, end_of};
 ghost use Rattle.replica.specs.Over.{StandsOver};
-ghost use Rattle.replica.specs.Follow.{HandsOut};
+ghost use Rattle.replica.specs.Follow.{HandsOut, IsInFull};
 ghost use Rattle.replica.specs.Resume.{Resumes, Leads, Reaches, part_changes, transaction, transactions, end_of as end_of_log};
 
 use crate::session::Session;
@@ -71,6 +72,15 @@ pub fn left_transactions()
 pub fn one_end()
     ensures reported { (limit : ℕ) (names : Names) (b : List ℕ) (r s : Reason) (at other : ℕ) → AllByRecursion (λ byte. byte < 256) b → End limit names b r at → End limit names b s other → report_of r ≡ report_of s }
     ensures at { (limit : ℕ) (names : Names) (b : List ℕ) (r s : Reason) (at other : ℕ) → AllByRecursion (λ byte. byte < 256) b → End limit names b r at → End limit names b s other → at ≡ other }
+{}
+
+/// What a connection comes to is determined by its bytes and by what the store held, unless memory runs out, the
+/// database or the stream fails, or the dump command is too long: the content afterwards, and the end.
+pub fn one_outcome()
+    ensures content { (limit : ℕ) (names : Names) (was is : Bool) (old new other : Content) (b : List ℕ) (end last : Ended) → AllByRecursion (λ byte. byte < 256) b → (IsDumpTooLong old.executed → ⊥) → IsInFull end.reason → IsInFull last.reason
+        → Conn limit names was old b new end → Conn limit names is old b other last → new ≡ other }
+    ensures end { (limit : ℕ) (names : Names) (was is : Bool) (old new other : Content) (b : List ℕ) (end last : Ended) → AllByRecursion (λ byte. byte < 256) b → (IsDumpTooLong old.executed → ⊥) → IsInFull end.reason → IsInFull last.reason
+        → Conn limit names was old b new end → Conn limit names is old b other last → IsSameEnd end last }
 {}
 
 /// No reading of a connection's bytes has more payloads than the reading up to their end.

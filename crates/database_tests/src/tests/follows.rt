@@ -70,6 +70,9 @@ fn follow_into(
     let (reads, writes) = (counted.failed_reads(), counted.failed_writes());
     let failure = counted.failure();
     let stream = counted.into_inner();
+    if stream.failures() != Some((reads, writes)) {
+        return Err("other failures than the stream's own".into());
+    }
     let left = stream.left().len();
     let sent = stream.into_written();
     let name = name(&end.reason);

@@ -1,8 +1,9 @@
 //! A stream in memory.
 
-ghost use Rattle.std.specs.Prelude.{◌≡◌, Some};
+ghost use Rattle.std.specs.Prelude.{◌≡◌, Some, Option, ℕ, length, is_err, if◌then◌else◌};
 ghost use Rattle.std.specs.Io.{ReadsAtMost, WritesAtMost};
-ghost use Rattle.std.specs.Io.KnownBytes.{ReadConsumes, WriteAppends};
+ghost use Rattle.std.specs.Io.KnownBytes.{ReadConsumes, WriteAppends, Keeps};
+ghost use Rattle.replica.specs.Failing.{failed_to_write, HaveFailed};
 
 use replica::Duplex;
 use std::io;
@@ -20,6 +21,29 @@ pub(super) struct Stream<'a> {
     /// How many bytes can be read before a read fails, and how many can be written before a write fails.
     readable: usize,
     writable: usize,
+    /// How many reads and how many writes have failed, unless these are too many to count.
+    failures: Option<(u64, u64)>,
+}
+
+/// The counts of failed reads and writes after so many more.
+fn counted(before: Option<(u64, u64)>, reads: u64, writes: u64) -> Option<(u64, u64)>
+    ensures { HaveFailed before result reads writes }
+{
+    let (all_reads, all_writes) = before?;
+    Some((
+        all_reads.checked_add(reads)?,
+        all_writes.checked_add(writes)?,
+    ))
+}
+
+/// Whether a write that was given so many bytes has failed.
+fn has_failed(outcome: &io::Result<usize>, given: usize) -> bool
+    ensures { result ≡ failed_to_write outcome.now given }
+{
+    match outcome {
+        Ok(taken) => *taken == 0 && given != 0,
+        Err(_) => given != 0,
+    }
 }
 
 impl<'a> Stream<'a> {
@@ -33,6 +57,7 @@ impl<'a> Stream<'a> {
             takes,
             readable: usize::MAX,
             writable: usize::MAX,
+            failures: Some((0, 0)),
         }
     }
 
@@ -50,6 +75,11 @@ impl<'a> Stream<'a> {
 
     pub(super) fn left(&self) -> &[u8] {
         self.left
+    }
+
+    /// How many reads and how many writes have failed.
+    pub(super) fn failures(&self) -> Option<(u64, u64)> {
+        self.failures
     }
 
     pub(super) fn into_written(self) -> Vec<u8> {
@@ -75,6 +105,7 @@ impl<'a> Read for Stream<'a> {
         ensures bound { ReadsAtMost result buf.new }
         ensures bytes { ReadConsumes (Some self.old.left.now) (Some self.new.left.now) result buf.new }
         ensures apart { self.new.written ≡ self.old.written }
+        ensures counted { self.new.failures ≡ self.old.failures }
     {
         if self.readable == 0 {
             return Err(io::Error::from(io::ErrorKind::ConnectionReset));
@@ -95,6 +126,7 @@ impl<'a> Write for Stream<'a> {
         ensures bound { WritesAtMost result buf.now }
         ensures bytes { WriteAppends (Some self.old.written.items) (Some self.new.written.items) result buf.now }
         ensures apart { self.new.left ≡ self.old.left }
+        ensures counted { self.new.failures ≡ self.old.failures }
     {
         if self.writable == 0 {
             return Err(io::Error::from(io::ErrorKind::BrokenPipe));
@@ -111,11 +143,18 @@ impl<'a> Write for Stream<'a> {
 }
 
 impl<'a> Duplex for Stream<'a> {
+    ghost failures = { λ s. s.failures };
+
     fn receive(&mut self, buf: &mut [u8]) -> io::Result<usize> {
-        self.read(buf)
+        let result = self.read(buf);
+        self.failures = counted(self.failures, u64::from(result.is_err()), 0);
+        result
     }
 
     fn send(&mut self, buf: &[u8]) -> io::Result<usize> {
-        self.write(buf)
+        let result = self.write(buf);
+        let failed = has_failed(&result, buf.len());
+        self.failures = counted(self.failures, 0, u64::from(failed));
+        result
     }
 }

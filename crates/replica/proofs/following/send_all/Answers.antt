@@ -3,6 +3,7 @@ use Rattle.std.proofs.Math.Seq.{take-add}
 use Rattle.std.proofs.lemmas.List.{take-take}
 use Rattle.std.specs.Io.KnownBytes.{Appends}
 use Rattle.std.proofs.KnownBytes.{Appends-trans, Keeps-trans}
+use Rattle.replica.proofs.Failed.{failed_later}
 use Rattle.replica.proofs.following.send_all.Goals as goal
 
 pub loop-at-preserved : goal.loop-at-preserved
@@ -23,4 +24,5 @@ loop-at-preserved g c =
       apart = Keeps-trans (g.T.Read.remaining entry) (g.T.Read.remaining before) (g.T.Read.remaining after) c.loop-at.invariant.apart c.send.ensures.apart;
       writes = search rules;
       reads = search rules;
+      told = failed_later (g.T.Duplex.failures entry) (g.T.Duplex.failures before) (g.T.Duplex.failures after) 0 0 c.loop-at.invariant.told (search (rules, c.send.ensures.told));
     }

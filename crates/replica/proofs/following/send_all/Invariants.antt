@@ -1,5 +1,6 @@
 use Rattle.std.proofs.Common.{◌≡◌, ◌≤◌, ◌-◌, length, take}
 use Rattle.std.specs.Io.KnownBytes.{Appends, Keeps}
+use Rattle.replica.specs.Failing.{HaveFailed}
 use Rattle.replica.proofs.following.send_all.Given as goal
 
 abbrev pub invariant-loop-at : goal.invariant-loop-at
@@ -9,6 +10,7 @@ invariant-loop-at g l = record {
   apart : Keeps (g.T.Read.remaining l.fn.stream.stream) (g.T.Read.remaining l.stream.stream);
   writes : l.stream.failed_writes ≡ l.fn.stream.failed_writes;
   reads : l.stream.failed_reads ≡ l.fn.stream.failed_reads;
+  told : HaveFailed (g.T.Duplex.failures l.fn.stream.stream) (g.T.Duplex.failures l.stream.stream) 0 0;
 }
 
 abbrev pub decreases-loop-at : goal.decreases-loop-at
