@@ -1,7 +1,7 @@
 -- Vectors that keep what they begin with.
-use Rattle.std.proofs.Common.{◌≡◌, ℕ, List, [], ◌++◌, length, take, drop, sym, ap, ◌∙◌, append_assoc, arith}
+use Rattle.std.proofs.Common.{◌≡◌, ℕ, ◌+◌, ◌≤◌, List, [], ◌++◌, length, take, drop, sym, ap, ◌∙◌, append_assoc, arith}
 use Rattle.std.proofs.Math.Seq.{take-append_seam}
-use Rattle.std.proofs.lemmas.List.{take-append-drop, take_all, append-nil}
+use Rattle.std.proofs.lemmas.List.{take-append-drop, take_all, append-nil, length-append}
 
 -- what was there stays
 pub kept : (old more new : List ℕ) → new ≡ old ++ more → take (length old) new ≡ old
@@ -36,6 +36,10 @@ next_write old now left all part rest new w first is = record {
 
 pub last_write : (old now left all : List ℕ) → Writes old now left all → left ≡ [] → now ≡ old ++ all
 last_write old now left all w none = sym (append-nil now) ∙ ap (λ l. now ++ l) (sym none) ∙ w.whole
+
+-- what is written and the next part are no longer than all
+pub next_fits : (old now left all part rest : List ℕ) → now ++ left ≡ old ++ all → left ≡ part ++ rest → length now + length part ≤ length old + length all
+next_fits old now left all part rest whole first = omega (arith, ap length whole, length-append now left, length-append old all, ap length first, length-append part rest)
 
 -- ---- Parts written one after another.
 

@@ -7,8 +7,9 @@ use Rattle.std.proofs.lemmas.List.{length-map, length-append, append-nil, append
 use Rattle.std.proofs.Math.Seq.{take-append_seam}
 use Rattle.std.proofs.lemmas.List.FromFn.{map-range_with_len_more}
 use Rattle.byteorder.specs.Endian.{little_bytes}
+use Rattle.byteorder.specs.Numbers.{length-bytes_low_first}
 use Rattle.byteorder.proofs.Bytes.{take-bytes_low_first}
-use Rattle.binlog.specs.Cell.{number_cell, is_null, owned_value, owned_values}
+use Rattle.binlog.specs.Cell.{CellValue, number_cell, bytes_cell, is_null, owned_value, owned_values}
 use Rattle.binlog.specs.Shape.{shape, is_readable}
 use Rattle.binlog.specs.Row.{kinds}
 use Rattle.binlog.specs.RowsView.{owned_pair, owned_pairs}
@@ -67,6 +68,15 @@ number_bytes (Prefixed size) n w readable fits = absurd cc
 pub prefix_short : (size : ℕ) → IsTrue (is_readable (Prefixed size)) → size ≤ 8
 prefix_short size readable = let q = and_parts (nat_le 1 size) (nat_le size 4) readable in omega (arith, leb-true _ _ q.1)
 
+-- a value behind its length
+pub prefixed_length : (s : Shape) (size : ℕ) (cell : CellValue) (value : List ℕ) → s ≡ Prefixed size → cell ≡ bytes_cell value → length (value_bytes s cell) ≡ size + length value
+prefixed_length s size cell value is_s is =
+    let bytes : value_bytes s cell ≡ little_bytes size (length value) ++ value = λ i. value_bytes (is_s i) (is i) in
+    omega (arith, ap length bytes, length-append (little_bytes size (length value)) value, length-bytes_low_first 0 size (length value))
+
+pub low_length : (size number : ℕ) (bytes : List ℕ) → size ≤ 8 → bytes ≡ little_bytes 8 number → length (take size bytes) ≡ size
+low_length size number bytes short is = ap (λ xs. length (take size xs)) is ∙ ap length (low_bytes size number short) ∙ length-bytes_low_first 0 size number
+
 -- ---- Cells and pairs, item by item.
 
 pub as_many : (types : List ColumnType) (cells : List OwnedCell) → row_fits (kinds types) (owned_values cells) ≡ true → length cells ≡ length types
@@ -104,6 +114,19 @@ value_more types cells i t cell old now a b is_t is before =
     ∙ ap (λ xs. old ++ xs) (sym (value_next types cells i t cell a b is_t is))
     ∙ ap (λ k. old ++ values_bytes (take k (kinds types)) (take k (owned_values cells))) next
 
+-- the values before one, and that one, are no longer than all
+pub value_room : (types : List ColumnType) (cells : List OwnedCell) (i : ℕ) (t : ColumnType) (cell : OwnedCell) → i < length types → i < length cells → t ≡ get_or types i t → cell ≡ get_or cells i cell →
+    length (values_bytes (take i (kinds types)) (take i (owned_values cells))) + length (value_bytes (shape t.kind) (owned_value cell)) ≤ length (values_bytes (kinds types) (owned_values cells))
+value_room [] cells i t cell a b is_t is = absurd (omega (arith, a))
+value_room (u ∷ types) [] i t cell a b is_t is = absurd (omega (arith, b))
+value_room (u ∷ types) (c ∷ cells) zero t cell a b is_t is =
+    let same : length (value_bytes (shape t.kind) (owned_value cell)) ≡ length (value_bytes (shape u.kind) (owned_value c)) = λ j. length (value_bytes (shape (is_t j).kind) (owned_value (is j))) in
+    omega (arith, same, length-append (value_bytes (shape u.kind) (owned_value c)) (values_bytes (kinds types) (owned_values cells)))
+value_room (u ∷ types) (c ∷ cells) (suc i) t cell a b is_t is =
+    let first = value_bytes (shape u.kind) (owned_value c) in
+    let more = value_room types cells i t cell (omega (arith, a)) (omega (arith, b)) is_t is in
+    omega (arith, more, length-append first (values_bytes (take i (kinds types)) (take i (owned_values cells))), length-append first (values_bytes (kinds types) (owned_values cells)))
+
 pub values_all : (types : List ColumnType) (cells : List OwnedCell) (i : ℕ) → length types ≤ i → length cells ≤ i → values_bytes (take i (kinds types)) (take i (owned_values cells)) ≡ values_bytes (kinds types) (owned_values cells)
 values_all types cells i a b =
     let x : take i (kinds types) ≡ kinds types = take_all i (kinds types) (omega (arith, a, length-map types column_kind)) in
@@ -135,6 +158,18 @@ pair_more types pairs i pair old now short is before =
     ∙ append_assoc old (rows_bytes types (take i (owned_pairs pairs))) (pair_bytes types (owned_pair pair))
     ∙ ap (λ xs. old ++ xs) (sym (pair_next types pairs i pair short is))
     ∙ ap (λ k. old ++ rows_bytes types (take k (owned_pairs pairs))) next
+
+-- the pairs before one, and that one, are no longer than all
+pub pair_room : (types : List ColumnKind) (pairs : List OwnedPair) (i : ℕ) (pair : OwnedPair) → i < length pairs → pair ≡ get_or pairs i pair →
+    length (rows_bytes types (take i (owned_pairs pairs))) + length (pair_bytes types (owned_pair pair)) ≤ length (rows_bytes types (owned_pairs pairs))
+pair_room types [] i pair short is = absurd (omega (arith, short))
+pair_room types (first ∷ pairs) zero pair short is =
+    let same : length (pair_bytes types (owned_pair pair)) ≡ length (pair_bytes types (owned_pair first)) = ap (λ q. length (pair_bytes types (owned_pair q))) is in
+    omega (arith, same, length-append (pair_bytes types (owned_pair first)) (rows_bytes types (owned_pairs pairs)))
+pair_room types (first ∷ pairs) (suc i) pair short is =
+    let bytes = pair_bytes types (owned_pair first) in
+    let more = pair_room types pairs i pair (omega (arith, short)) is in
+    omega (arith, more, length-append bytes (rows_bytes types (take i (owned_pairs pairs))), length-append bytes (rows_bytes types (owned_pairs pairs)))
 
 pub pairs_all : (types : List ColumnKind) (pairs : List OwnedPair) (i : ℕ) → length pairs ≤ i → rows_bytes types (take i (owned_pairs pairs)) ≡ rows_bytes types (owned_pairs pairs)
 pairs_all types pairs i long = ap (rows_bytes types) (take_all i (owned_pairs pairs) (omega (arith, long, length-map pairs owned_pair)))

@@ -1,7 +1,7 @@
 //! Bitmaps of columns, the lowest bit of each byte first. MySQL Source Documentation, "Binlog Event", the pages
 //! `binary_log::Table_map_event` and `binary_log::Rows_event`.
 
-ghost use Rattle.std.specs.Prelude.{◌≡◌, ◌≤◌, ◌++◌, nat_lt, length, take, OnOk, OnErr, Err, ◌*◌, false, map, slice_index_or};
+ghost use Rattle.std.specs.Prelude.{◌≡◌, ◌≤◌, ◌++◌, nat_lt, length, take, OnOk, OnErr, Err, ◌*◌, false, map, slice_index_or, ◌<◌, ◌+◌, vec_len, vec_capacity};
 ghost use Rattle.binlog.specs.Row.{is_set};
 ghost use Rattle.binlog.specs.RowsWritten.{bits_number, digit, bitmap_byte, bitmap_bytes};
 ghost use Rattle.binlog.specs.Writing.{full_bitmap};
@@ -27,6 +27,8 @@ pub(crate) fn write_full_bitmap(n: usize, out: &mut Vec<u8>) -> Result<(), Event
     ensures ok { OnOk result (out.new.items ≡ out.old.items ++ full_bitmap n) }
     ensures err { OnErr result (result ≡ Err (record { kind = Memory; at = 0 })) }
     ensures kept { OnErr result (take (length out.old.items) out.new.items ≡ out.old.items) }
+    ensures full { OnErr result (vec_capacity out.old < vec_len out.old + length (full_bitmap n)) }
+    ensures capacity { vec_capacity out.old ≤ vec_capacity out.new }
 {
     for j in 0..n.div_ceil(8) {
         out.push(full_byte(n - 8 * j))?;
@@ -56,6 +58,8 @@ pub(crate) fn write_bitmap(cells: &[OwnedCell], out: &mut Vec<u8>) -> Result<(),
     ensures ok { OnOk result (out.new.items ≡ out.old.items ++ bitmap_bytes (map is_null (owned_values cells.now))) }
     ensures err { OnErr result (result ≡ Err (record { kind = Memory; at = 0 })) }
     ensures kept { OnErr result (take (length out.old.items) out.new.items ≡ out.old.items) }
+    ensures full { OnErr result (vec_capacity out.old < vec_len out.old + length (bitmap_bytes (map is_null (owned_values cells.now)))) }
+    ensures capacity { vec_capacity out.old ≤ vec_capacity out.new }
 {
     for i in 0..cells.len().div_ceil(8) {
         out.push(null_byte(cells, i))?;

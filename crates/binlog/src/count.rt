@@ -1,6 +1,6 @@
 //! Counts: length-encoded integers inside an event.
 
-ghost use Rattle.std.specs.Prelude.{◌≡◌, ◌+◌, ◌≤◌, length, take, drop, IfOk, IfErr, Some, None, ◌-◌, ◌++◌, OnOk, OnErr, Err};
+ghost use Rattle.std.specs.Prelude.{◌≡◌, ◌+◌, ◌≤◌, length, take, drop, IfOk, IfErr, Some, None, ◌-◌, ◌++◌, OnOk, OnErr, Err, ◌<◌, vec_len, vec_capacity};
 ghost use Rattle.wire.specs.Integer.{IsLengthEncoded, length_encoded};
 ghost use Rattle.binlog.specs.Count.{count_width, count_at, no_count};
 ghost use Rattle.binlog.specs.Writing.{count_bytes};
@@ -52,6 +52,8 @@ pub(crate) fn write_count(count: usize, out: &mut Vec<u8>) -> Result<(), EventFa
     ensures ok { OnOk result (out.new.items ≡ out.old.items ++ length_encoded count) }
     ensures err { OnErr result (result ≡ Err (record { kind = Memory; at = 0 })) }
     ensures kept { OnErr result (take (length out.old.items) out.new.items ≡ out.old.items) }
+    ensures full { OnErr result (vec_capacity out.old < vec_len out.old + length (length_encoded count)) }
+    ensures capacity { vec_capacity out.old ≤ vec_capacity out.new }
 {
     match write_int(count as u64, out) {
         Ok(()) => Ok(()),
@@ -70,6 +72,8 @@ pub(crate) fn write_padded_count(
     ensures ok { OnOk result (out.new.items ≡ out.old.items ++ count_bytes width count) }
     ensures err { OnErr result (result ≡ Err (record { kind = Memory; at = 0 })) }
     ensures kept { OnErr result (take (length out.old.items) out.new.items ≡ out.old.items) }
+    ensures full { OnErr result (vec_capacity out.old < vec_len out.old + length (count_bytes width count)) }
+    ensures capacity { vec_capacity out.old ≤ vec_capacity out.new }
 {
     let [a, b, ..] = count.to_le_bytes();
     match width {

@@ -1,6 +1,6 @@
 //! Events. MySQL Source Documentation, "Binlog Event", the page `binary_log::Log_event_type`.
 
-ghost use Rattle.std.specs.Prelude.{◌≡◌, [], ◌∷◌, drop, IfOk, IfErr, MatchResult, Some, ◌+◌, ◌<◌, ◌++◌, ◌↔◌, IsTrue, length, take, OnOk, OnErr, Err};
+ghost use Rattle.std.specs.Prelude.{◌≡◌, [], ◌∷◌, drop, IfOk, IfErr, MatchResult, Some, ◌+◌, ◌<◌, ◌++◌, ◌↔◌, IsTrue, length, take, OnOk, OnErr, Err, vec_len, vec_capacity, ◌≤◌};
 ghost use Rattle.std.specs.FinSet as set;
 ghost use Rattle.binlog.specs.Fault.{first_of};
 ghost use Rattle.binlog.specs.Header.{IsFramed};
@@ -196,11 +196,12 @@ impl Event<'_> {
     /// Appends the event. The fields that a reader ignores are fixed: time 0, server 1, next position 0 and no flags. A
     /// neutral event is written as IGNORABLE without a body.
     ///
-    /// The only error is `Memory`, which leaves the vector as it was.
+    /// The only error is `Memory`: the vector lacks the room and cannot grow. It leaves the vector as it was.
     pub fn write(&self, out: &mut Vec<u8>) -> Result<(), EventFault>
         requires { IsWritable (event_value self.now) }
         ensures ok { OnOk result (out.new.items ≡ out.old.items ++ event_bytes (event_value self.now)) }
         ensures err { OnErr result ((result ≡ Err (record { kind = Memory; at = 0 })) × (out.new.items ≡ out.old.items)) }
+        ensures full { OnErr result (vec_capacity out.old < vec_len out.old + length (event_bytes (event_value self.now))) }
     {
         let start = out.len();
         match write_event(self, out) {
@@ -219,6 +220,7 @@ fn write_event(event: &Event<'_>, out: &mut Vec<u8>) -> Result<(), EventFault>
     ensures ok { OnOk result (out.new.items ≡ out.old.items ++ event_bytes (event_value event.now)) }
     ensures err { OnErr result (result ≡ Err (record { kind = Memory; at = 0 })) }
     ensures kept { OnErr result (take (length out.old.items) out.new.items ≡ out.old.items) }
+    ensures full { OnErr result (vec_capacity out.old < vec_len out.old + length (event_bytes (event_value event.now))) }
 {
     let start = out.len();
     out.extend_from_slice(&[0; 19])?;
@@ -234,6 +236,8 @@ fn write_body(event: &Event<'_>, out: &mut Vec<u8>) -> Result<u8, EventFault>
     ensures ok { OnOk result (out.new.items ≡ out.old.items ++ event_body (event_value event.now)) }
     ensures err { OnErr result (result ≡ Err (record { kind = Memory; at = 0 })) }
     ensures kept { OnErr result (take (length out.old.items) out.new.items ≡ out.old.items) }
+    ensures full { OnErr result (vec_capacity out.old < vec_len out.old + length (event_body (event_value event.now))) }
+    ensures capacity { vec_capacity out.old ≤ vec_capacity out.new }
 {
     match event {
         Event::Format => {

@@ -11,7 +11,7 @@ ghost use Rattle.binlog.specs.Cell.{CellValue};
 ghost use Rattle.binlog.specs.Row.{IsRow, HasRow, EndsInRow, row_end};
 ghost use Rattle.binlog.specs.Table.{IsNamed, names_fault, AreColumns, columns_fault};
 ghost use Rattle.binlog.specs.Columns.{HasNames, HasColumns};
-ghost use Rattle.binlog.specs.Rows.{RowsValue, IsRows, HasRows, rows_fault, PairValue, AreRows, EndsEarly, AreItemsAt, HasItems};
+ghost use Rattle.binlog.specs.Rows.{RowsValue, IsRows, HasRows, rows_fault, PairValue, IsPair, EndsInPair, pair_end, AreRows, EndsEarly, AreItemsAt, HasItems};
 ghost use Rattle.binlog.specs.Filter.{Names};
 ghost use Rattle.binlog.specs.Event.{EventValue, IsEvent, HasEvent, event_fault};
 ghost use Rattle.binlog.specs.RowsWritten.{HaveRows, rows_bytes};
@@ -45,6 +45,14 @@ pub fn one_row()
     ensures early { (types : List ColumnKind) (bytes : List ℕ) (place : ℕ) → AllByRecursion (λ b. b < 256) bytes → row_end types bytes ≡ Err place → EndsInRow types bytes place }
     ensures ends { (types : List ColumnKind) (bytes : List ℕ) (place : ℕ) → EndsInRow types bytes place → row_end types bytes ≡ Err place }
     ensures one { (types : List ColumnKind) (a b : List CellValue) (first second x y : List ℕ) → IsRow types a first → IsRow types b second → first ++ x ≡ second ++ y → (a ≡ b) × (first ≡ second) }
+{}
+
+/// Bytes begin with a pair exactly if each row of it fits (an update has two); or they end in one part of it, and then in
+/// one.
+pub fn one_pair()
+    ensures whole { (kind : RowsKind) (types : List ColumnKind) (pair : PairValue) (first rest : List ℕ) → IsPair kind types pair first → pair_end kind types (first ++ rest) ≡ Ok (length first) }
+    ensures early { (kind : RowsKind) (types : List ColumnKind) (bytes : List ℕ) (place : ℕ) → AllByRecursion (λ b. b < 256) bytes → pair_end kind types bytes ≡ Err place → EndsInPair kind types bytes place }
+    ensures ends { (kind : RowsKind) (types : List ColumnKind) (bytes : List ℕ) (place : ℕ) → EndsInPair kind types bytes place → pair_end kind types bytes ≡ Err place }
 {}
 
 /// The body of an event either begins with one table number and one pair of names, or the event has a fault in them,

@@ -1,6 +1,6 @@
 //! Rows. MySQL Source Documentation, "Binlog Event", the page `binary_log::Rows_event`.
 
-ghost use Rattle.std.specs.Prelude.{◌≡◌, ℕ, ◌≤◌, ◌++◌, List, length, take, IfOk, IfErr, MatchResult, Err, IsTrue, OnOk, OnErr};
+ghost use Rattle.std.specs.Prelude.{◌≡◌, ℕ, ◌≤◌, ◌++◌, List, length, take, IfOk, IfErr, MatchResult, Err, IsTrue, OnOk, OnErr, ◌<◌, ◌+◌, vec_len, vec_capacity};
 ghost use Rattle.std.specs.Iterator.{YieldsFirstBy, item_count};
 ghost use Rattle.binlog.specs.Cell.{CellValue, cell_value, owned_values};
 ghost use Rattle.binlog.specs.Row.{kinds, is_set, IsRow, row_end};
@@ -159,6 +159,8 @@ pub(crate) fn write_row(
     ensures ok { OnOk result (out.new.items ≡ out.old.items ++ row_bytes (kinds types.now) (owned_values cells.now)) }
     ensures err { OnErr result (result ≡ Err (record { kind = Memory; at = 0 })) }
     ensures kept { OnErr result (take (length out.old.items) out.new.items ≡ out.old.items) }
+    ensures full { OnErr result (vec_capacity out.old < vec_len out.old + length (row_bytes (kinds types.now) (owned_values cells.now))) }
+    ensures capacity { vec_capacity out.old ≤ vec_capacity out.new }
 {
     write_bitmap(cells, out)?;
     write_values(types, cells, out)
@@ -175,6 +177,8 @@ fn write_values(
     ensures ok { OnOk result (out.new.items ≡ out.old.items ++ values_bytes (kinds types.now) (owned_values cells.now)) }
     ensures err { OnErr result (result ≡ Err (record { kind = Memory; at = 0 })) }
     ensures kept { OnErr result (take (length out.old.items) out.new.items ≡ out.old.items) }
+    ensures full { OnErr result (vec_capacity out.old < vec_len out.old + length (values_bytes (kinds types.now) (owned_values cells.now))) }
+    ensures capacity { vec_capacity out.old ≤ vec_capacity out.new }
 {
     for i in 0..types.len() {
         write_value(shape_of(types[i]), &cells[i], out)?;

@@ -1,6 +1,6 @@
 //! One change of a row. MySQL Source Documentation, "Binlog Event", the page `binary_log::Rows_event`.
 
-ghost use Rattle.std.specs.Prelude.{◌+◌, ◌<◌, ◌≤◌, ◌^◌, length, ◌≡◌, ◌++◌, take, IsTrue, OnOk, OnErr, Err};
+ghost use Rattle.std.specs.Prelude.{◌+◌, ◌<◌, ◌≤◌, ◌^◌, length, ◌≡◌, ◌++◌, take, IsTrue, OnOk, OnErr, Err, vec_len, vec_capacity};
 ghost use Rattle.binlog.specs.Row.{kinds};
 ghost use Rattle.binlog.specs.RowsView.{owned_pair};
 ghost use Rattle.binlog.specs.RowsWritten.{pair_bytes, row_fits, pair_fits};
@@ -99,6 +99,8 @@ pub(crate) fn write_pair(
     ensures ok { OnOk result (out.new.items ≡ out.old.items ++ pair_bytes (kinds types.now) (owned_pair pair.now)) }
     ensures err { OnErr result (result ≡ Err (record { kind = Memory; at = 0 })) }
     ensures kept { OnErr result (take (length out.old.items) out.new.items ≡ out.old.items) }
+    ensures full { OnErr result (vec_capacity out.old < vec_len out.old + length (pair_bytes (kinds types.now) (owned_pair pair.now))) }
+    ensures capacity { vec_capacity out.old ≤ vec_capacity out.new }
 {
     match pair {
         OwnedPair::Insert { after } => write_row(types, after, out),

@@ -1,6 +1,6 @@
 //! The rows of a rows event. MySQL Source Documentation, "Binlog Event", the page `binary_log::Rows_event`.
 
-ghost use Rattle.std.specs.Prelude.{◌+◌, ◌<◌, ◌≤◌, ◌^◌, length, ◌≡◌, ◌++◌, ◌↔◌, take, IsTrue, OnOk, OnErr, Err};
+ghost use Rattle.std.specs.Prelude.{◌+◌, ◌<◌, ◌≤◌, ◌^◌, length, ◌≡◌, ◌++◌, ◌↔◌, take, IsTrue, OnOk, OnErr, Err, vec_len, vec_capacity};
 ghost use Rattle.binlog.specs.Row.{kinds};
 ghost use Rattle.binlog.specs.RowsView.{owned_pairs};
 ghost use Rattle.binlog.specs.RowsWritten.{HaveRows, rows_bytes, pair_fits, pairs_fit};
@@ -148,6 +148,7 @@ pub fn write_rows(
     requires { HaveRows kind (kinds types.now) (owned_pairs pairs.now) }
     ensures ok { OnOk result (out.new.items ≡ out.old.items ++ rows_bytes (kinds types.now) (owned_pairs pairs.now)) }
     ensures err { OnErr result ((result ≡ Err (record { kind = Memory; at = 0 })) × (out.new.items ≡ out.old.items)) }
+    ensures full { OnErr result (vec_capacity out.old < vec_len out.old + length (rows_bytes (kinds types.now) (owned_pairs pairs.now))) }
 {
     let start = out.len();
     match write_pairs(kind, types, pairs, out) {
@@ -170,6 +171,7 @@ fn write_pairs(
     ensures ok { OnOk result (out.new.items ≡ out.old.items ++ rows_bytes (kinds types.now) (owned_pairs pairs.now)) }
     ensures err { OnErr result (result ≡ Err (record { kind = Memory; at = 0 })) }
     ensures kept { OnErr result (take (length out.old.items) out.new.items ≡ out.old.items) }
+    ensures full { OnErr result (vec_capacity out.old < vec_len out.old + length (rows_bytes (kinds types.now) (owned_pairs pairs.now))) }
 {
     for pair in pairs {
         write_pair(kind, types, pair, out)?;

@@ -7,6 +7,7 @@ mod events;
 mod follows;
 mod gtids;
 mod images;
+mod memory;
 mod messages;
 mod packets;
 mod rows;

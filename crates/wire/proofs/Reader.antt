@@ -1,8 +1,8 @@
 -- A reader in the middle of a stream that comes in pieces.
 use Rattle.std.proofs.Common.{◌≡◌, ℕ, List, [], ◌∷◌, ◌++◌, take, drop, ap, sym, subst, ◌∙◌, append_assoc}
 use Rattle.std.proofs.lemmas.List.{take-append-drop, append-nil}
-use Rattle.wire.specs.Payload.{IsWholePayload, IsUnfinished}
-use Rattle.wire.specs.Stream.{Ending, Held, Runs, stopped, held_all, handed_out}
+use Rattle.wire.specs.Payload.{IsWholePayload, IsUnfinished, IsOutOfSequence, IsTooLarge}
+use Rattle.wire.specs.Stream.{Ending, Held, OutOfSequence, TooLarge, Runs, stopped, held_all, handed_out, out_of_sequence, too_large}
 
 -- These payloads were handed out of the pieces, and whatever the reader makes of the remaining pieces goes on from
 -- there.
@@ -35,3 +35,15 @@ holds_all {limit} {due = due} {held = held} {piece = piece} {left = left} room d
 
 pub stops : {limit : ℕ} {pieces payloads : List (List ℕ)} {due : ℕ} {held : List ℕ} → GoesOn limit pieces payloads due held [] → Runs 0 limit [] pieces payloads (Held due held)
 stops {limit} {pieces} {payloads} {due} {held} g = subst (λ all. Runs 0 limit [] pieces all (Held due held)) (append-nil payloads) (g.run [] (Held due held) stopped)
+
+-- A wrong header ends it, with nothing more handed out.
+pub breaks_sequence : {limit : ℕ} {pieces payloads : List (List ℕ)} {due : ℕ} {held piece : List ℕ} {left : List (List ℕ)} (room want got : ℕ) →
+    GoesOn limit pieces payloads due held (piece ∷ left) → room ≡ limit → IsOutOfSequence due room (held ++ piece) want got → Runs 0 limit [] pieces payloads (OutOfSequence want got)
+breaks_sequence {limit} {pieces} {payloads} {due} {held} {piece} room want got g same is =
+    subst (λ all. Runs 0 limit [] pieces all (OutOfSequence want got)) (append-nil payloads)
+    (g.run [] (OutOfSequence want got) (out_of_sequence (subst (λ l. IsOutOfSequence due l (held ++ piece) want got) same is)))
+
+pub breaks_limit : {limit : ℕ} {pieces payloads : List (List ℕ)} {due : ℕ} {held piece : List ℕ} {left : List (List ℕ)} (room : ℕ) →
+    GoesOn limit pieces payloads due held (piece ∷ left) → room ≡ limit → IsTooLarge due room (held ++ piece) → Runs 0 limit [] pieces payloads TooLarge
+breaks_limit {limit} {pieces} {payloads} {due} {held} {piece} room g same is =
+    subst (λ all. Runs 0 limit [] pieces all TooLarge) (append-nil payloads) (g.run [] TooLarge (too_large (subst (λ l. IsTooLarge due l (held ++ piece)) same is)))

@@ -1,7 +1,7 @@
 //! FORMAT_DESCRIPTION: the format of the events that follow it. MySQL Source Documentation, "Binlog Event", the page
 //! `binary_log::Format_description_event`.
 
-ghost use Rattle.std.specs.Prelude.{◌≡◌, ◌≤◌, length, drop, IfErr, IfSome, IfNone, OnOk, IsOk, Ok, Some, None, ◌++◌, take, OnErr, Err};
+ghost use Rattle.std.specs.Prelude.{◌≡◌, ◌≤◌, length, drop, IfErr, IfSome, IfNone, OnOk, IsOk, Ok, Some, None, ◌++◌, take, OnErr, Err, ◌<◌, ◌+◌, vec_len, vec_capacity};
 ghost use Rattle.binlog.specs.Body.{IsFormat, format_fault, length_refusals, read_lengths};
 ghost use Rattle.binlog.specs.Fault.{first_of};
 ghost use Rattle.binlog.specs.Writing.{format_body};
@@ -85,6 +85,8 @@ pub(crate) fn write_format(out: &mut Vec<u8>) -> Result<(), EventFault>
     ensures ok { OnOk result (out.new.items ≡ out.old.items ++ format_body) }
     ensures err { OnErr result (result ≡ Err (record { kind = Memory; at = 0 })) }
     ensures kept { OnErr result (take (length out.old.items) out.new.items ≡ out.old.items) }
+    ensures full { OnErr result (vec_capacity out.old < vec_len out.old + length format_body) }
+    ensures capacity { vec_capacity out.old ≤ vec_capacity out.new }
 {
     out.extend_from_slice(FORMAT)?;
     Ok(())

@@ -1,7 +1,7 @@
 //! GTID: the GTID of the transaction that begins. MySQL Source Documentation, "Binlog Event", the page
 //! `binary_log::Gtid_event`.
 
-ghost use Rattle.std.specs.Prelude.{◌≡◌, ℕ, List, drop, IfOk, IfErr, Ok, Some, None, ◌↔◌, IsTrue, ◌++◌, length, take, OnOk, OnErr, Err};
+ghost use Rattle.std.specs.Prelude.{◌≡◌, ℕ, List, drop, IfOk, IfErr, Ok, Some, None, ◌↔◌, IsTrue, ◌++◌, length, take, OnOk, OnErr, Err, ◌<◌, ◌+◌, vec_len, vec_capacity, ◌≤◌};
 ghost use Rattle.binlog.specs.Body.{IsGtid, gtid_fault};
 ghost use Rattle.binlog.specs.Event.{gtid};
 ghost use Rattle.binlog.specs.Writing.{IsWritable};
@@ -46,6 +46,8 @@ pub(crate) fn write_gtid(id: Gtid, out: &mut Vec<u8>) -> Result<(), EventFault>
     ensures ok { OnOk result (out.new.items ≡ out.old.items ++ gtid_body id.source id.number) }
     ensures err { OnErr result (result ≡ Err (record { kind = Memory; at = 0 })) }
     ensures kept { OnErr result (take (length out.old.items) out.new.items ≡ out.old.items) }
+    ensures full { OnErr result (vec_capacity out.old < vec_len out.old + length (gtid_body id.source id.number)) }
+    ensures capacity { vec_capacity out.old ≤ vec_capacity out.new }
 {
     out.push(0)?;
     out.extend_from_slice(&id.source)?;

@@ -1,6 +1,6 @@
 //! QUERY: a statement. MySQL Source Documentation, "Binlog Event", the page `binary_log::Query_event`.
 
-ghost use Rattle.std.specs.Prelude.{◌≡◌, ◌≤◌, length, drop, IfOk, IfErr, Ok, Some, ◌++◌, take, OnOk, OnErr, Err};
+ghost use Rattle.std.specs.Prelude.{◌≡◌, ◌≤◌, length, drop, IfOk, IfErr, Ok, Some, ◌++◌, take, OnOk, OnErr, Err, ◌<◌, ◌+◌, vec_len, vec_capacity};
 ghost use Rattle.binlog.specs.declared.body.query.Query.{Query};
 ghost use Rattle.binlog.specs.Body.{IsQuery, query_fault, statement, text_place};
 ghost use Rattle.binlog.specs.Writing.{query_body};
@@ -77,6 +77,8 @@ pub(crate) fn write_query(query: Query, out: &mut Vec<u8>) -> Result<(), EventFa
     ensures ok { OnOk result (out.new.items ≡ out.old.items ++ query_body (statement query)) }
     ensures err { OnErr result (result ≡ Err (record { kind = Memory; at = 0 })) }
     ensures kept { OnErr result (take (length out.old.items) out.new.items ≡ out.old.items) }
+    ensures full { OnErr result (vec_capacity out.old < vec_len out.old + length (query_body (statement query))) }
+    ensures capacity { vec_capacity out.old ≤ vec_capacity out.new }
 {
     out.extend_from_slice(FRONT)?;
     match query {

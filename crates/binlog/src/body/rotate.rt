@@ -1,7 +1,7 @@
 //! ROTATE: the log goes on in another file. MySQL Source Documentation, "Binlog Event", the page
 //! `binary_log::Rotate_event`.
 
-ghost use Rattle.std.specs.Prelude.{◌≡◌, ℕ, List, drop, IfOk, IfErr, Ok, Some, ◌<◌, ◌↔◌, IsTrue, ◌++◌, length, take, OnOk, OnErr, Err};
+ghost use Rattle.std.specs.Prelude.{◌≡◌, ℕ, List, drop, IfOk, IfErr, Ok, Some, ◌<◌, ◌↔◌, IsTrue, ◌++◌, length, take, OnOk, OnErr, Err, ◌+◌, vec_len, vec_capacity, ◌≤◌};
 ghost use Rattle.binlog.specs.Body.{IsRotate, rotate_fault};
 ghost use Rattle.binlog.specs.Event.{rotate};
 ghost use Rattle.binlog.specs.Writing.{IsWritable};
@@ -36,6 +36,8 @@ pub(crate) fn write_rotate(position: u64, name: &[u8], out: &mut Vec<u8>) -> Res
     ensures ok { OnOk result (out.new.items ≡ out.old.items ++ (little_bytes 8 position ++ name.now)) }
     ensures err { OnErr result (result ≡ Err (record { kind = Memory; at = 0 })) }
     ensures kept { OnErr result (take (length out.old.items) out.new.items ≡ out.old.items) }
+    ensures full { OnErr result (vec_capacity out.old < vec_len out.old + length (little_bytes 8 position ++ name.now)) }
+    ensures capacity { vec_capacity out.old ≤ vec_capacity out.new }
 {
     out.extend_from_slice(&position.to_le_bytes())?;
     out.extend_from_slice(name)?;

@@ -1,7 +1,7 @@
 //! WRITE_ROWS, UPDATE_ROWS and DELETE_ROWS, up to their rows. MySQL Source Documentation, "Binlog Event", the page
 //! `binary_log::Rows_event`.
 
-ghost use Rattle.std.specs.Prelude.{◌≡◌, ◌+◌, ◌<◌, ◌≤◌, ◌^◌, length, drop, IfOk, IfErr, MatchResult, Some, None, ◌-◌, ◌++◌, ◌∷◌, ◌↔◌, take, replicate, OnOk, OnErr, IfSome, IsSome, Err, IsTrue};
+ghost use Rattle.std.specs.Prelude.{◌≡◌, ◌+◌, ◌<◌, ◌≤◌, ◌^◌, length, drop, IfOk, IfErr, MatchResult, Some, None, ◌-◌, ◌++◌, ◌∷◌, ◌↔◌, take, replicate, OnOk, OnErr, IfSome, IsSome, Err, IsTrue, vec_len, vec_capacity};
 ghost use Rattle.binlog.specs.Rows.{RowsValue, IsRows, presents_size, present_fault, presents_fault, rows_fault, rows_code};
 ghost use Rattle.binlog.specs.Row.{bitmap_size};
 ghost use Rattle.binlog.specs.RowsView.{rows_value};
@@ -179,6 +179,8 @@ pub(crate) fn write_rows_event(rows: &RowsEvent<'_>, out: &mut Vec<u8>) -> Resul
     ensures ok { OnOk result (out.new.items ≡ out.old.items ++ rows_body (rows_value rows.now)) }
     ensures err { OnErr result (result ≡ Err (record { kind = Memory; at = 0 })) }
     ensures kept { OnErr result (take (length out.old.items) out.new.items ≡ out.old.items) }
+    ensures full { OnErr result (vec_capacity out.old < vec_len out.old + length (rows_body (rows_value rows.now))) }
+    ensures capacity { vec_capacity out.old ≤ vec_capacity out.new }
 {
     write_head(rows, out)?;
     let width = rows.bytes_at - rows.columns_at - presents_size(rows.kind, rows.columns);
@@ -198,6 +200,8 @@ fn write_head(rows: &RowsEvent<'_>, out: &mut Vec<u8>) -> Result<(), EventFault>
     ensures ok { OnOk result (out.new.items ≡ out.old.items ++ rows_head (rows_value rows.now)) }
     ensures err { OnErr result (result ≡ Err (record { kind = Memory; at = 0 })) }
     ensures kept { OnErr result (take (length out.old.items) out.new.items ≡ out.old.items) }
+    ensures full { OnErr result (vec_capacity out.old < vec_len out.old + length (rows_head (rows_value rows.now))) }
+    ensures capacity { vec_capacity out.old ≤ vec_capacity out.new }
 {
     let extra = rows.columns_at - 29;
     write_front(rows.id, extra, out)?;
@@ -211,6 +215,8 @@ fn write_front(id: u64, extra: usize, out: &mut Vec<u8>) -> Result<(), EventFaul
     ensures ok { OnOk result (out.new.items ≡ out.old.items ++ (little_bytes 6 id ++ 1 ∷ 0 ∷ little_bytes 2 (2 + extra))) }
     ensures err { OnErr result (result ≡ Err (record { kind = Memory; at = 0 })) }
     ensures kept { OnErr result (take (length out.old.items) out.new.items ≡ out.old.items) }
+    ensures full { OnErr result (vec_capacity out.old < vec_len out.old + length (little_bytes 6 id ++ 1 ∷ 0 ∷ little_bytes 2 (2 + extra))) }
+    ensures capacity { vec_capacity out.old ≤ vec_capacity out.new }
 {
     let [a, b, c, d, e, f, ..] = id.to_le_bytes();
     let [low, high] = ((2 + extra) as u16).to_le_bytes();
@@ -223,6 +229,8 @@ fn write_zeros(n: usize, out: &mut Vec<u8>) -> Result<(), EventFault>
     ensures ok { OnOk result (out.new.items ≡ out.old.items ++ replicate n 0) }
     ensures err { OnErr result (result ≡ Err (record { kind = Memory; at = 0 })) }
     ensures kept { OnErr result (take (length out.old.items) out.new.items ≡ out.old.items) }
+    ensures full { OnErr result (vec_capacity out.old < vec_len out.old + n) }
+    ensures capacity { vec_capacity out.old ≤ vec_capacity out.new }
 {
     for _ in 0..n {
         out.push(0)?;
@@ -237,6 +245,8 @@ fn write_presents(kind: RowsKind, columns: usize, out: &mut Vec<u8>) -> Result<(
     ensures ok { OnOk result (out.new.items ≡ out.old.items ++ presents_bytes kind columns) }
     ensures err { OnErr result (result ≡ Err (record { kind = Memory; at = 0 })) }
     ensures kept { OnErr result (take (length out.old.items) out.new.items ≡ out.old.items) }
+    ensures full { OnErr result (vec_capacity out.old < vec_len out.old + length (presents_bytes kind columns)) }
+    ensures capacity { vec_capacity out.old ≤ vec_capacity out.new }
 {
     write_full_bitmap(columns, out)?;
     match kind {

@@ -1,7 +1,7 @@
 //! TABLE_MAP: which table the following rows events mean by a number. MySQL Source Documentation, "Binlog Event", the
 //! page `binary_log::Table_map_event`.
 
-ghost use Rattle.std.specs.Prelude.{◌≡◌, IfOk, OnErr, Err, ℕ, ◌+◌, ◌≤◌, List, length, drop, IfErr, MatchResult, Some, None, ◌++◌, ◌↔◌, take, map, OnOk, IsTrue};
+ghost use Rattle.std.specs.Prelude.{◌≡◌, IfOk, OnErr, Err, ℕ, ◌+◌, ◌≤◌, List, length, drop, IfErr, MatchResult, Some, None, ◌++◌, ◌↔◌, take, map, OnOk, IsTrue, ◌<◌, vec_len, vec_capacity};
 ghost use Rattle.binlog.specs.Row.{kinds};
 ghost use Rattle.binlog.specs.declared.fault.EventFaultKind.TheVariants.{Memory};
 ghost use Rattle.binlog.specs.Fault.{number_at};
@@ -157,6 +157,8 @@ pub(crate) fn write_table_map(map: &TableMap<'_>, out: &mut Vec<u8>) -> Result<(
     ensures ok { OnOk result (out.new.items ≡ out.old.items ++ table_map_body (table_value map.now)) }
     ensures err { OnErr result (result ≡ Err (record { kind = Memory; at = 0 })) }
     ensures kept { OnErr result (take (length out.old.items) out.new.items ≡ out.old.items) }
+    ensures full { OnErr result (vec_capacity out.old < vec_len out.old + length (table_map_body (table_value map.now))) }
+    ensures capacity { vec_capacity out.old ≤ vec_capacity out.new }
 {
     write_names(map, out)?;
     write_count(map.types.len(), out)?;
@@ -173,6 +175,8 @@ fn write_names(map: &TableMap<'_>, out: &mut Vec<u8>) -> Result<(), EventFault>
     ensures ok { OnOk result (out.new.items ≡ out.old.items ++ names_bytes (table_value map.now)) }
     ensures err { OnErr result (result ≡ Err (record { kind = Memory; at = 0 })) }
     ensures kept { OnErr result (take (length out.old.items) out.new.items ≡ out.old.items) }
+    ensures full { OnErr result (vec_capacity out.old < vec_len out.old + length (names_bytes (table_value map.now))) }
+    ensures capacity { vec_capacity out.old ≤ vec_capacity out.new }
 {
     let [a, b, c, d, e, f, ..] = map.id.to_le_bytes();
     out.extend_from_slice(&[a, b, c, d, e, f, 0, 0, map.schema.len() as u8])?;

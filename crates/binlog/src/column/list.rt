@@ -1,6 +1,6 @@
 //! The columns of a table map. MySQL Source Documentation, "Binlog Event", the page `binary_log::Table_map_event`.
 
-ghost use Rattle.std.specs.Prelude.{◌≡◌, ◌+◌, ◌<◌, ◌≤◌, ◌^◌, List, length, drop, IfOk, IfErr, OnOk, MatchResult, Some, None, sum_by, ◌++◌, take, map, flat_map, OnErr, Err};
+ghost use Rattle.std.specs.Prelude.{◌≡◌, ◌+◌, ◌<◌, ◌≤◌, ◌^◌, List, length, drop, IfOk, IfErr, OnOk, MatchResult, Some, None, sum_by, ◌++◌, take, map, flat_map, OnErr, Err, vec_len, vec_capacity};
 ghost use Rattle.binlog.specs.Count.{count_at, count_width, no_count};
 ghost use Rattle.binlog.specs.Table.{AreColumns, columns_fault, codes_at, metadata_place, metadata_length, types_fault, all_metadata_fault};
 ghost use Rattle.binlog.specs.declared.column.kind.ColumnKind.{ColumnKind};
@@ -122,6 +122,8 @@ pub(crate) fn write_codes(columns: &ColumnTypes<'_>, out: &mut Vec<u8>) -> Resul
     ensures ok { OnOk result (out.new.items ≡ out.old.items ++ map type_code columns.now) }
     ensures err { OnErr result (result ≡ Err (record { kind = Memory; at = 0 })) }
     ensures kept { OnErr result (take (length out.old.items) out.new.items ≡ out.old.items) }
+    ensures full { OnErr result (vec_capacity out.old < vec_len out.old + length (map type_code columns.now)) }
+    ensures capacity { vec_capacity out.old ≤ vec_capacity out.new }
 {
     for column in columns.iter() {
         out.push(column.code())?;
@@ -149,6 +151,8 @@ pub(crate) fn write_all_metadata(
     ensures ok { OnOk result (out.new.items ≡ out.old.items ++ flat_map metadata columns.now) }
     ensures err { OnErr result (result ≡ Err (record { kind = Memory; at = 0 })) }
     ensures kept { OnErr result (take (length out.old.items) out.new.items ≡ out.old.items) }
+    ensures full { OnErr result (vec_capacity out.old < vec_len out.old + length (flat_map metadata columns.now)) }
+    ensures capacity { vec_capacity out.old ≤ vec_capacity out.new }
 {
     for column in columns.iter() {
         column.write_metadata(out)?;

@@ -1,6 +1,6 @@
 //! A column's metadata. MySQL Source Documentation, "Binlog Event", the page `binary_log::Table_map_event`.
 
-ghost use Rattle.std.specs.Prelude.{◌≡◌, ℕ, ◌+◌, ◌<◌, ◌++◌, List, [], ◌∷◌, not, IfOk, IfErr, MatchResult, OnOk, OnErr, Some, Err, length, vec_len, vec_capacity};
+ghost use Rattle.std.specs.Prelude.{◌≡◌, ℕ, ◌+◌, ◌<◌, ◌++◌, List, [], ◌∷◌, not, IfOk, IfErr, MatchResult, OnOk, OnErr, Some, Err, length, vec_len, vec_capacity, ◌≤◌};
 ghost use Rattle.binlog.specs.Column.{type_code, metadata, is_lawful, IsColumn, metadata_size, metadata_fault, string_fault, real_type, string_length, when, column_fault};
 ghost use Rattle.binlog.specs.declared.fault.EventFaultKind.TheVariants.{Metadata, Memory};
 
@@ -43,6 +43,7 @@ impl ColumnType {
         ensures ok { OnOk result (out.new.items ≡ out.old.items ++ metadata self.kind) }
         ensures err { OnErr result ((result ≡ Err (record { kind = Memory; at = 0 })) × (out.new.items ≡ out.old.items)) }
         ensures full { OnErr result (vec_capacity out.old < vec_len out.old + length (metadata self.kind)) }
+        ensures capacity { vec_capacity out.old ≤ vec_capacity out.new }
     {
         match self.kind {
             ColumnKind::Varchar { maximum } => out.extend_from_slice(&maximum.to_le_bytes())?,

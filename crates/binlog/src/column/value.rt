@@ -1,6 +1,6 @@
 //! How values are stored in a row. MySQL Source Documentation, "Binlog Event", the page `binary_log::Rows_event`.
 
-ghost use Rattle.std.specs.Prelude.{◌≡◌, ◌≤◌, length, IfOk, IfErr, Ok, Err, IsTrue, ◌<◌, ◌^◌, nat_lt, ◌*◌, ◌++◌, take, OnOk, OnErr};
+ghost use Rattle.std.specs.Prelude.{◌≡◌, ◌≤◌, length, IfOk, IfErr, Ok, Err, IsTrue, ◌<◌, ◌^◌, nat_lt, ◌*◌, ◌++◌, take, OnOk, OnErr, ◌+◌, vec_len, vec_capacity};
 ghost use Rattle.binlog.specs.Cell.{cell_value, owned_value};
 ghost use Rattle.binlog.specs.Shape.{shape, digits_size, prefix_of, is_readable, value_end, cell_of};
 ghost use Rattle.binlog.specs.RowsWritten.{value_fits, value_bytes};
@@ -173,6 +173,8 @@ pub(crate) fn write_value(
     ensures ok { OnOk result (out.new.items ≡ out.old.items ++ value_bytes shape (owned_value cell.now)) }
     ensures err { OnErr result (result ≡ Err (record { kind = Memory; at = 0 })) }
     ensures kept { OnErr result (take (length out.old.items) out.new.items ≡ out.old.items) }
+    ensures full { OnErr result (vec_capacity out.old < vec_len out.old + length (value_bytes shape (owned_value cell.now))) }
+    ensures capacity { vec_capacity out.old ≤ vec_capacity out.new }
 {
     match cell {
         OwnedCell::Null => Ok(()),

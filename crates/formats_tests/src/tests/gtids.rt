@@ -5,7 +5,7 @@ use gtid::{Gtid, GtidFault, GtidSet, Span};
 use std::alloc::Global;
 
 /// 3e11fa47-71ca-11e1-9e33-c80aa9429562.
-const A: [u8; 16] = [
+pub(crate) const A: [u8; 16] = [
     0x3e, 0x11, 0xfa, 0x47, 0x71, 0xca, 0x11, 0xe1, 0x9e, 0x33, 0xc8, 0x0a, 0xa9, 0x42, 0x95, 0x62,
 ];
 
@@ -157,7 +157,7 @@ fn operations(rt: HostRuntime) {
 }
 
 /// The numbers 1 to 3 and 5 of A, encoded, and one more byte.
-const ENCODED: [u8; 65] = [
+pub(crate) const ENCODED: [u8; 65] = [
     1, 0, 0, 0, 0, 0, 0, 0, 0x3e, 0x11, 0xfa, 0x47, 0x71, 0xca, 0x11, 0xe1, 0x9e, 0x33, 0xc8, 0x0a,
     0xa9, 0x42, 0x95, 0x62, 2, 0, 0, 0, 0, 0, 0, 0, 1, 0, 0, 0, 0, 0, 0, 0, 4, 0, 0, 0, 0, 0, 0, 0,
     5, 0, 0, 0, 0, 0, 0, 0, 6, 0, 0, 0, 0, 0, 0, 0, 0xff,

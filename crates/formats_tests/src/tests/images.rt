@@ -6,7 +6,7 @@ use gather::Image;
 use std::alloc::Global;
 
 /// 7 in four bytes, and "ab".
-const PAIR: &[u8] = b"\x02\0\x01\x04\x07\0\0\0\x02\x02\0\0\0ab";
+pub(crate) const PAIR: &[u8] = b"\x02\0\x01\x04\x07\0\0\0\x02\x02\0\0\0ab";
 
 /// Cells, and the bytes of their image.
 static IMAGES: [(&[Cell<'static>], &[u8]); 3] = [

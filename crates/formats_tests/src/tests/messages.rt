@@ -16,7 +16,7 @@ const NEXT_SCRAMBLE: [u8; 20] = [
 ];
 
 /// A greeting of version 8.0.36 with `SCRAMBLE`.
-const GREETING: &[u8] =
+pub(crate) const GREETING: &[u8] =
     b"\x0a8.0.36\0\x08\0\0\0\x01\x02\x03\x04\x05\x06\x07\x08\0\x05\xa2\x21\x02\0\x08\0\x15\
     \0\0\0\0\0\0\0\0\0\0\x09\x0a\x0b\x0c\x0d\x0e\x0f\x10\x11\x12\x13\x14\0mysql_native_password\0";
 
@@ -26,21 +26,21 @@ const OK: &[u8] = &[0x00, 0x00, 0x00, 0x02, 0x00, 0x00, 0x00];
 const SWITCH: &[u8] =
     b"\xfemysql_native_password\0\x15\x16\x17\x18\x19\x1a\x1b\x1c\x1d\x1e\x1f\x20\x21\x22\x23\x24\x25\x26\x27\x28\0";
 
-const TOO_MANY: &[u8] = b"\xff\x10\x04Too many connections";
+pub(crate) const TOO_MANY: &[u8] = b"\xff\x10\x04Too many connections";
 
 const ACCESS: &[u8] = b"\xff\x15\x04#28000Access";
 
 /// The response of the user `repl` with the empty password.
-const RESPONSE: &[u8] =
+pub(crate) const RESPONSE: &[u8] =
     b"\x05\xa2\x08\0\0\0\0\x01\x21\0\0\0\0\0\0\0\0\0\0\0\0\0\0\0\0\0\0\0\0\0\0\0repl\0\0mysql_native_password\0";
 
 /// The numbers 1 to 3 and 5 of one source, encoded.
-const SET: &[u8] =
+pub(crate) const SET: &[u8] =
     b"\x01\0\0\0\0\0\0\0\x3e\x11\xfa\x47\x71\xca\x11\xe1\x9e\x33\xc8\x0a\xa9\x42\x95\x62\x02\0\0\0\0\0\0\0\
     \x01\0\0\0\0\0\0\0\x04\0\0\0\0\0\0\0\x05\0\0\0\0\0\0\0\x06\0\0\0\0\0\0\0";
 
 /// The dump command with `SET`, for the replica 7, which is not to wait at the end of the log.
-const DUMP: &[u8] = b"\x1e\x05\0\x07\0\0\0\0\0\0\0\x04\0\0\0\0\0\0\0\x40\0\0\0\
+pub(crate) const DUMP: &[u8] = b"\x1e\x05\0\x07\0\0\0\0\0\0\0\x04\0\0\0\0\0\0\0\x40\0\0\0\
     \x01\0\0\0\0\0\0\0\x3e\x11\xfa\x47\x71\xca\x11\xe1\x9e\x33\xc8\x0a\xa9\x42\x95\x62\x02\0\0\0\0\0\0\0\
     \x01\0\0\0\0\0\0\0\x04\0\0\0\0\0\0\0\x05\0\0\0\0\0\0\0\x06\0\0\0\0\0\0\0";
 
@@ -52,7 +52,7 @@ const EOF: &[u8] = &[0xfe, 0, 0, 2, 0, 1, 2, 3, 4];
 
 /// What a payload is read as.
 #[derive(Clone, Copy)]
-enum As {
+pub(crate) enum As {
     Greeting,
     Response,
     Reply,
@@ -176,7 +176,7 @@ fn answer<T: Drop>(read: Result<T, GreetFault>) -> (&'static str, u32) {
 }
 
 /// The fault of a payload, or `read`.
-fn read(alloc: Global, kind: As, payload: &[u8]) -> (&'static str, u32) {
+pub(crate) fn read(alloc: Global, kind: As, payload: &[u8]) -> (&'static str, u32) {
     match kind {
         As::Greeting => answer(Greeting::read(alloc, payload)),
         As::Response => answer(Response::read(alloc, payload)),

@@ -1,7 +1,8 @@
 //! Packets and integers of the MySQL client/server protocol, by worked values of the public standard.
 
-ghost use Rattle.std.specs.Prelude.{ℕ, [], List, map, IfOk};
-ghost use Rattle.wire.specs.Stream.{Held, Runs};
+ghost use Rattle.std.specs.Prelude.{◌≡◌, ◌≢◌, ℕ, ◌≤◌, [], List, map, Some, IfOk, IfErr, IfNone};
+ghost use Rattle.wire.specs.Stream as stream;
+ghost use Rattle.wire.specs.Stream.{Held, OutOfSequence, Runs};
 
 use std::alloc::Global;
 use wire::{
@@ -127,18 +128,45 @@ fn bytes(rt: HostRuntime) {
     assert_eq!(rt; is_packed(rt.alloc(), LONG, 1), Some(true));
 }
 
-/// The payloads of a stream that comes in these pieces, from the id 0 on. It proves, from the clauses of
-/// `step` alone, that they are those of the stream's one reading.
-fn payloads(alloc: Global, pieces: &[&[u8]]) -> Result<Vec<Vec<u8>>, WireFault>
-    ensures { IfOk result (λ found. (id : ℕ) × (held : List ℕ) ×
-        Runs 0 LARGEST_PAYLOAD [] (map (λ piece. piece.now) pieces.now) (map (λ payload. payload.items) found.items) (Held id held)) }
+/// What a reader made of a stream: the payloads that it handed out, and then the stream's fault, if it came to one.
+#[derive(Drop)]
+struct Reading {
+    payloads: Vec<Vec<u8>>,
+    fault: Option<WireFault>,
+}
+
+/// The reading of a stream that comes in these pieces, from the id 0 on, up to its end or its fault. It proves, from the
+/// clauses of `step` alone, that this is the stream's one reading: its payloads, and after them its fault if there is
+/// one. The only error is `Memory`.
+fn payloads(alloc: Global, limit: usize, pieces: &[&[u8]]) -> Result<Reading, WireFault>
+    requires { limit ≤ LARGEST_PAYLOAD }
+    ensures whole { IfOk result (λ read. IfNone read.fault ((id : ℕ) × (held : List ℕ) ×
+        Runs 0 limit [] (map (λ piece. piece.now) pieces.now) (map (λ payload. payload.items) read.payloads.items) (Held id held))) }
+    ensures sequence { IfOk result (λ read. (want got : ℕ) → read.fault ≡ Some (WireFault.Sequence want got) →
+        Runs 0 limit [] (map (λ piece. piece.now) pieces.now) (map (λ payload. payload.items) read.payloads.items) (OutOfSequence want got)) }
+    ensures too_large { IfOk result (λ read. read.fault ≡ Some WireFault.TooLarge →
+        Runs 0 limit [] (map (λ piece. piece.now) pieces.now) (map (λ payload. payload.items) read.payloads.items) stream.TooLarge) }
+    ensures only { IfOk result (λ read. (read.fault ≢ Some WireFault.Memory) × (read.fault ≢ Some WireFault.Ended)) }
+    ensures err { IfErr result (λ fault. fault ≡ WireFault.Memory) }
 {
-    let mut assembler = Assembler::new(alloc, LARGEST_PAYLOAD);
+    let mut assembler = Assembler::new(alloc, limit);
     let mut payloads = Vec::new(alloc);
     for piece in pieces {
         let mut rest = *piece;
         loop {
-            let Step { used, payload } = assembler.step(rest)?;
+            let Step { used, payload } = match assembler.step(rest) {
+                Ok(step) => step,
+                Err(WireFault::Sequence { want, got }) => {
+                    let fault = Some(WireFault::Sequence { want, got });
+                    return Ok(Reading { payloads, fault });
+                }
+                Err(WireFault::TooLarge) => {
+                    let fault = Some(WireFault::TooLarge);
+                    return Ok(Reading { payloads, fault });
+                }
+                Err(WireFault::Memory) => return Err(WireFault::Memory),
+                Err(WireFault::Ended) => unreachable!(),
+            };
             let Some(payload) = payload else {
                 break;
             };
@@ -146,7 +174,10 @@ fn payloads(alloc: Global, pieces: &[&[u8]]) -> Result<Vec<Vec<u8>>, WireFault>
             rest = &rest[used..];
         }
     }
-    Ok(payloads)
+    Ok(Reading {
+        payloads,
+        fault: None,
+    })
 }
 
 /// The payloads of 0 to 299 sevens, their packings, and the next expected id.
@@ -166,8 +197,8 @@ fn stream(alloc: Global) -> Option<(Vec<Vec<u8>>, Vec<u8>, u8)> {
 /// Whether the stream has these payloads, in pieces of this length.
 fn has_payloads(alloc: Global, stream: &[u8], want: &[Vec<u8>], length: usize) -> Option<bool> {
     let pieces: Vec<&[u8]> = stream.chunks(length.max(1)).collect(alloc).ok()?;
-    let found = payloads(alloc, &pieces).ok()?;
-    Some(found.as_slice() == want)
+    let found = payloads(alloc, LARGEST_PAYLOAD, &pieces).ok()?;
+    Some(found.fault.is_none() && found.payloads.as_slice() == want)
 }
 
 /// However a stream is cut into pieces, its payloads are the same. Its ids go on from 255 to 0.
@@ -178,6 +209,89 @@ fn pieces(rt: HostRuntime) {
     for length in [1, 2, 3, 4, 5, 64, 65_536] {
         assert_eq!(rt;
             has_payloads(rt.alloc(), &stream, &payloads, length),
+            Some(true)
+        );
+    }
+}
+
+/// A limit, a stream in pieces, its payloads, and the fault after them. A packet is the length of its chunk in three
+/// bytes, the lowest first, its sequence id, and the chunk.
+static READINGS: [(usize, &[&[u8]], &[&[u8]], Option<WireFault>); 9] = [
+    // One byte with the id 0, and then a header with the id 2.
+    (
+        4,
+        &[&[1, 0, 0, 0, 0xaa, 1, 0, 0, 2]],
+        &[&[0xaa]],
+        Some(WireFault::Sequence { want: 1, got: 2 }),
+    ),
+    // The same in pieces, and bytes after the fault.
+    (
+        4,
+        &[&[1, 0], &[0, 0, 0xaa, 1, 0], &[], &[0, 2, 7], &[8]],
+        &[&[0xaa]],
+        Some(WireFault::Sequence { want: 1, got: 2 }),
+    ),
+    // One byte, two bytes, and then the header of five.
+    (
+        4,
+        &[&[1, 0, 0, 0, 0xaa, 2, 0, 0, 1, 0xbb, 0xcc], &[5, 0, 0, 2]],
+        &[&[0xaa], &[0xbb, 0xcc]],
+        Some(WireFault::TooLarge),
+    ),
+    // An empty payload, and then its id again.
+    (
+        4,
+        &[&[0, 0, 0, 0, 0, 0, 0, 0]],
+        &[&[]],
+        Some(WireFault::Sequence { want: 1, got: 0 }),
+    ),
+    // A fault at once: of the id, of the length, of both.
+    (
+        4,
+        &[&[1, 0, 0, 1]],
+        &[],
+        Some(WireFault::Sequence { want: 0, got: 1 }),
+    ),
+    (4, &[&[0, 1, 0, 0]], &[], Some(WireFault::TooLarge)),
+    (
+        4,
+        &[&[5, 0, 0, 1]],
+        &[],
+        Some(WireFault::Sequence { want: 0, got: 1 }),
+    ),
+    // As many bytes as the limit, and then a header without its id: no fault yet.
+    (
+        4,
+        &[&[4, 0, 0, 0, 1, 2, 3], &[4, 5, 0, 0]],
+        &[&[1, 2, 3, 4]],
+        None,
+    ),
+    (0, &[], &[], None),
+];
+
+/// Whether the reading of the pieces has these payloads and this fault.
+fn is_read(
+    alloc: Global,
+    limit: usize,
+    pieces: &[&[u8]],
+    want: &[&[u8]],
+    fault: Option<WireFault>,
+) -> Option<bool> {
+    let found = payloads(alloc, limit.min(LARGEST_PAYLOAD), pieces).ok()?;
+    for (payload, bytes) in found.payloads.iter().zip(want) {
+        if payload.as_slice() != *bytes {
+            return Some(false);
+        }
+    }
+    Some(found.payloads.len() == want.len() && found.fault == fault)
+}
+
+/// The payloads before a fault are handed out, and then the fault is reported.
+#[test]
+fn readings(rt: HostRuntime) {
+    for (limit, pieces, want, fault) in &READINGS {
+        assert_eq!(rt;
+            is_read(rt.alloc(), *limit, pieces, want, *fault),
             Some(true)
         );
     }

@@ -8,9 +8,9 @@ use binlog::{
 };
 use std::alloc::Global;
 
-const SEVEN: Cell<'static> = Cell::Number { value: 7, width: 4 };
+pub(crate) const SEVEN: Cell<'static> = Cell::Number { value: 7, width: 4 };
 
-const AB: Cell<'static> = Cell::Bytes(b"ab");
+pub(crate) const AB: Cell<'static> = Cell::Bytes(b"ab");
 
 /// The map of a table of nine columns, and an insert into it.
 const NINE_MAP: &[u8] =
@@ -264,7 +264,7 @@ fn owned(alloc: Global, cells: &[Cell<'_>]) -> Option<Vec<OwnedCell>> {
 }
 
 /// The columns LONG and VARCHAR.
-fn types(alloc: Global, maximum: u16) -> Option<Vec<ColumnType>> {
+pub(crate) fn types(alloc: Global, maximum: u16) -> Option<Vec<ColumnType>> {
     let mut types = Vec::new(alloc);
     types.push(ColumnType::new(ColumnKind::Long)?).ok()?;
     types
@@ -274,7 +274,7 @@ fn types(alloc: Global, maximum: u16) -> Option<Vec<ColumnType>> {
 }
 
 /// One change, as a list.
-fn pairs(
+pub(crate) fn pairs(
     alloc: Global,
     kind: RowsKind,
     before: &[Cell<'_>],

@@ -45,7 +45,7 @@ fn part(letter: u8) -> (u8, &'static [u8]) {
 
 /// Changes: a sign, the table's name, and the images; a row of shop.items or of shop.old is added, one of shop.items is
 /// removed or updated.
-const ADD: &[u8] = b"+items\x02\0\x01\x04\x07\0\0\0\x02\x02\0\0\0ab";
+pub(crate) const ADD: &[u8] = b"+items\x02\0\x01\x04\x07\0\0\0\x02\x02\0\0\0ab";
 
 const ADD_OLD: &[u8] = b"+old\x02\0\x01\x04\x07\0\0\0\x02\x02\0\0\0ab";
 
@@ -175,7 +175,7 @@ fn deliver(delivery: &Delivery, out: &mut Vec<u8>) -> Option<()> {
 }
 
 /// What a gatherer delivers, and its last fault.
-fn answers(
+pub(crate) fn answers(
     alloc: Global,
     follow: &Follow,
     letters: &[u8],
@@ -205,7 +205,7 @@ fn list(alloc: Global, only_old: bool) -> Option<Follow> {
     Follow::new(alloc, &[(schema, table)]).ok()
 }
 
-fn joined(alloc: Global, parts: &[&[u8]]) -> Option<Vec<u8>> {
+pub(crate) fn joined(alloc: Global, parts: &[&[u8]]) -> Option<Vec<u8>> {
     let mut joined = Vec::new(alloc);
     for part in parts {
         joined.extend_from_slice(part).ok()?;

@@ -1,11 +1,11 @@
-use Rattle.std.proofs.Common.{◌++◌, ◌∙◌, subst, sym, ap, take, length}
+use Rattle.std.proofs.Common.{◌≡◌, ◌≤◌, ◌+◌, ◌++◌, ◌∙◌, subst, sym, ap, take, length, rules, arith}
 use Rattle.std.specs.Prelude.{IsTrue}
 use Rattle.std.proofs.lemmas.List.{append_assoc}
 use Rattle.byteorder.specs.Endian.{little_bytes}
 use Rattle.binlog.specs.Cell.{bytes_cell, owned_value}
 use Rattle.binlog.specs.Shape.{is_readable}
 use Rattle.binlog.specs.RowsWritten.{value_bytes, value_fits}
-use Rattle.binlog.proofs.RowWriting.{low_bytes, number_bytes, prefix_short}
+use Rattle.binlog.proofs.RowWriting.{low_bytes, number_bytes, prefix_short, prefixed_length, low_length}
 use Rattle.binlog.proofs.column.value.write_value.Goals as goal
 
 pub returns-in_ok-extend_from_slice-in-Number-clause-ok :
@@ -33,3 +33,35 @@ returns-in_ok-extend_from_slice-in-Prefixed-2-clause-ok c =
     ∙ append_assoc old (little_bytes size (length value)) value
     ∙ ap (λ s. old ++ value_bytes s (bytes_cell value)) (sym c.in-Prefixed.is)
     ∙ ap (λ v. old ++ value_bytes c.args.shape v) (sym (ap owned_value c.in-Bytes.is))
+
+pub returns-in_err-extend_from_slice-in-Number-clause-full :
+    goal.returns-in_err-extend_from_slice-in-Number-clause-full
+returns-in_err-extend_from_slice-in-Number-clause-full c =
+    let cell = ap owned_value c.in-Number.is in
+    let is : take c.in-Number.width c.to_le_bytes.result ≡ value_bytes c.args.shape (owned_value c.args.cell.now) =
+    ap (λ xs. take c.in-Number.width xs) c.to_le_bytes.ensures
+    ∙ number_bytes c.args.shape c.in-Number.value c.in-Number.width c.requires.readable (ap (value_fits c.args.shape) (sym cell) ∙ c.requires.fits)
+    ∙ ap (λ v. value_bytes c.args.shape v) (sym cell) in
+    let long = ap length is in
+    search (rules, long)
+
+pub returns-in_err-extend_from_slice-in-Prefixed-clause-full :
+    goal.returns-in_err-extend_from_slice-in-Prefixed-clause-full
+returns-in_err-extend_from_slice-in-Prefixed-clause-full c =
+    let size = c.in-Prefixed.size in
+    let short = prefix_short size (subst (λ s. IsTrue (is_readable s)) c.in-Prefixed.is c.requires.readable) in
+    let long = prefixed_length c.args.shape size (owned_value c.args.cell.now) c.in-Bytes.bytes.items c.in-Prefixed.is (ap owned_value c.in-Bytes.is) in
+    let front = low_length size c.len.result c.to_le_bytes-in-Prefixed.result short c.to_le_bytes-in-Prefixed.ensures in
+    let fits : length (take size c.to_le_bytes-in-Prefixed.result) ≤ length (value_bytes c.args.shape (owned_value c.args.cell.now)) = omega (arith, long, front) in
+    search (rules, fits)
+
+pub returns-in_err-extend_from_slice-in-Prefixed-2-clause-full :
+    goal.returns-in_err-extend_from_slice-in-Prefixed-2-clause-full
+returns-in_err-extend_from_slice-in-Prefixed-2-clause-full c =
+    let size = c.in-Prefixed.size in
+    let short = prefix_short size (subst (λ s. IsTrue (is_readable s)) c.in-Prefixed.is c.requires.readable) in
+    let long = prefixed_length c.args.shape size (owned_value c.args.cell.now) c.in-Bytes.bytes.items c.in-Prefixed.is (ap owned_value c.in-Bytes.is) in
+    let front = low_length size c.len.result c.to_le_bytes-in-Prefixed.result short c.to_le_bytes-in-Prefixed.ensures in
+    let value = ap length c.deref.ensures.value in
+    let fits : length (take size c.to_le_bytes-in-Prefixed.result) + length c.deref.result.now ≤ length (value_bytes c.args.shape (owned_value c.args.cell.now)) = omega (arith, long, front, value) in
+    search (rules, fits)
