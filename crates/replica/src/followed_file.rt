@@ -38,7 +38,7 @@ fn connect_and_follow<T: Duplex + Drop, E: Drop, F: FnOnce() -> Result<T, E> + D
 ) -> Result<(Ended, Counted<T>), E>
     requires { F.IsAlwaysCallable connect }
     ensures connects { HasCleanDisk (database S.Store store.new) → (was : Bool) (old : Content) → HoldsAs S.Store was old store.old
-        → Connects S.Store T.Read.remaining T.Write.contents (F.post connect) config store.old store.new was old result }
+        → Connects S.Store T.Read.remaining T.Write.contents T.failures (F.post connect) config store.old store.new was old result }
     ensures counts { IfOk result (λ done. CountsFailures done.0 done.1) }
     ensures following { names_of S.Store store.new ≡ names_of S.Store store.old }
     ensures broken { IsBroken S.Store store.old → store.new ≡ store.old }
@@ -71,7 +71,7 @@ pub fn follow_file<P: Start, T: Duplex + Drop, E: Drop, F: FnOnce() -> Result<T,
     // from that content over the stream that `connect` gave, and the closed files hold a database that stands for the
     // content that this leads to. If it gave none, they hold the content from before.
     ensures follows { IfOk result (λ done. (names : Names) (content : Content) → FilesHold (only_of only.entry) names content (image_at P.Start) → IsWanted (is_any only.entry) (only_of only.entry) names
-        → FollowsFile T.Read.remaining T.Write.contents (F.post connect) config (only_of only.entry) names content done) }
+        → FollowsFile T.Read.remaining T.Write.contents T.failures (F.post connect) config (only_of only.entry) names content done) }
     // A failure of the stream is reported exactly if there was one; it is the last call.
     ensures counts { IfOk result (λ done. IfOk done.connection (λ ended. CountsFailures ended.0 ended.1)) }
     // A database that stands for a content is refused only if the database fails or memory runs out, and is left with that
