@@ -105,6 +105,9 @@ pub record Further (limit : ℕ) (names : Names) (due : Due) (id : ℕ) (x : Lis
 pub record Ahead (limit : ℕ) (names : Names) (due : Due) (ps : List Payload) (x : List ℕ) (es : List EventValue) (m : ℕ) (r : List ℕ) (qs : List Payload) (y : List ℕ) (fs : List EventValue) : Type 0 where
   pub further : Further limit names (due_from due ps) m x es r y fs
   pub fewer : length ps < length qs
+  pub next : Payload
+  pub more : List Payload
+  pub payloads : qs ≡ ps ++ (next ∷ more)
 
 pub record Same (ps : List Payload) (x : List ℕ) (es : List EventValue) (m : ℕ) (r : List ℕ) (qs : List Payload) (y : List ℕ) (fs : List EventValue) (n : ℕ) (s : List ℕ) : Type 0 where
   pub payloads : ps ≡ qs
@@ -160,6 +163,9 @@ ahead limit names due id m x es r q qs y fs n s a b h = record {
     events = b.6 ∙ ap (λ l. l ++ (b.2 ++ b.3)) (sym a.1);
   };
   fewer = omega arith;
+  next = q;
+  more = qs;
+  payloads = refl;
 }
 
 compare : (limit : ℕ) (names : Names) (due : Due) (id : ℕ) (ps : List Payload) (x : List ℕ) (es : List EventValue) (m : ℕ) (r : List ℕ) (qs : List Payload) (y : List ℕ) (fs : List EventValue) (n : ℕ) (s : List ℕ)
@@ -192,11 +198,17 @@ compare limit names due id (p ∷ ps) x es m r (q ∷ qs) y fs n s a b h =
         | inl f ↦ inr (inl (record {
           further = grow limit names (due_from (next_due due p) ps) m x a.0 a.1 y b.0 b.1 r es a.2 a.3 fs b.2 b.3 a.5 b.5 w.1 a.6 b.6 firsts f.further;
           fewer = let less : length ps < length qs = f.fewer in omega arith;
+          next = f.next;
+          more = f.more;
+          payloads = ap (λ v. v ∷ qs) same ∙ ap (λ l. p ∷ l) f.payloads;
         }))
         | inr f ↦ inr (inr (record {
           further = subst (λ v. Further limit names (due_from (next_due due v) qs) n y fs s x es) w.0
               (grow limit names (due_from (next_due due p) qs) n y b.0 b.1 x a.0 a.1 s fs b.2 b.3 es a.2 a.3 b.5 a.5 (sym w.1) b.6 a.6 (sym firsts) f.further);
           fewer = let less : length qs < length ps = f.fewer in omega arith;
+          next = f.next;
+          more = f.more;
+          payloads = ap (λ v. v ∷ ps) w.0 ∙ ap (λ l. q ∷ l) f.payloads;
         }))
       ]
     ]
@@ -365,7 +377,7 @@ module _ (limit : ℕ) (names : Names) (due : Due) (es : List EventValue) (taken
   ]
 
 -- ---- One end.
-stops_same : (limit : ℕ) (names : Names) (ps qs : List Payload) (es fs : List EventValue) (x y : List ℕ) (m n : ℕ) (r s : List ℕ) (at : ℕ) (reason : Reason) → Same ps x es m r qs y fs n s
+pub stops_same : (limit : ℕ) (names : Names) (ps qs : List Payload) (es fs : List EventValue) (x y : List ℕ) (m n : ℕ) (r s : List ℕ) (at : ℕ) (reason : Reason) → Same ps x es m r qs y fs n s
     → StopsFor limit names (due_after qs) fs (length y) n s at reason → StopsFor limit names (due_after ps) es (length x) m r at reason
 stops_same limit names ps qs es fs x y m n r s at reason e h =
     subst (λ v. StopsFor limit names (due_after v) es (length x) m r at reason) (sym e.payloads)

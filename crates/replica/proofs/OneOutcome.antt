@@ -1,8 +1,9 @@
 -- What a connection comes to is determined by its bytes and the content before.
-use Rattle.std.proofs.Common.{◌≡◌, ◌≤◌, ◌<◌, ◌+◌, ℕ, zero, suc, ◌⊎◌, Bool, true, false, List, [], ◌∷◌, ◌++◌, length, Some, None, refl, sym, ap, ◌∙◌, inl, inr, subst, arith, append_assoc, MatchBool}
+use Rattle.std.proofs.Common.{◌≡◌, ◌≤◌, ◌<◌, ◌+◌, ℕ, zero, suc, ◌⊎◌, Bool, true, false, List, [], ◌∷◌, ◌++◌, length, Some, None, refl, sym, ap, ◌∙◌, inl, inr, subst, arith, append_assoc, append-nil, MatchBool}
 use Rattle.std.proofs.lemmas.List.{length-append}
 use Rattle.std.proofs.lemmas.Bool.{false≢true}
 use Rattle.std.specs.List.{AllByRecursion}
+use Rattle.wire.specs.declared.fault.WireFault.TheVariants as wire
 use Rattle.binlog.specs.Filter.{Names}
 use Rattle.binlog.specs.Event.{EventValue}
 use Rattle.gather.specs.Transaction.{ChangeValue, insert, delete, update, DeliveryValue, AreDeliveries}
@@ -18,15 +19,16 @@ use Rattle.replica.specs.declared.end.Refusal.TheVariants.{NoSuchRow, CountFull}
 use Rattle.replica.specs.declared.end.Reason.{Reason}
 use Rattle.replica.specs.declared.end.Reason.TheVariants.{EndOfInput, SourceEof, SourceError, Wire, Greet, Event, Gather, Refused, Database, Memory, ReadFailed, WriteFailed}
 use Rattle.replica.specs.declared.end.Ended.{Ended}
-use Rattle.replica.specs.Stream.{Payload, Due, Hello, Reply, SecondReply, QueryReply, InDump, IsInDump, Carries, Answers, Talks, Reading, next_due, next_id, due_after}
+use Rattle.replica.specs.Stream.{Payload, Due, Hello, Reply, SecondReply, QueryReply, InDump, IsInDump, Carries, Answers, Talks, Reading, next_due, next_id, due_from, due_after}
 use Rattle.replica.specs.End.{StopsFor, End}
-use Rattle.replica.specs.Conn.{AppliesAll, IsRefusedBy, IsDumpTooLong, IsRefusedNext, Why, Conn, IsOfBytes}
+use Rattle.replica.specs.Conn.{AppliesAll, IsRefusedBy, IsDumpTooLong, NextAnswers, IsRefusedNext, Why, Conn, IsOfBytes}
 use Rattle.replica.specs.Report.{report_of}
 use Rattle.replica.specs.Follow.{IsInFull}
 use Rattle.replica.specs.Outcome.{refused_by, IsSameEnd}
 use Rattle.replica.proofs.Bytes.{all_front, all_back, all_both, packed_bytes}
 use Rattle.replica.proofs.Transactions.{all_one, halves, one_by, taken_at, head_of, tail_of}
-use Rattle.replica.proofs.OneEnd.{Same, Further, both_read, no_further, one_end, one_reason, blocked, same_next, in_dump, carries_same}
+use Rattle.replica.proofs.Push.{stays_in_dump}
+use Rattle.replica.proofs.OneEnd.{Ahead, stops_same, Same, Further, both_read, no_further, one_end, one_reason, blocked, same_next, in_dump, carries_same}
 
 -- ---- The events of a conversation are read from bytes.
 
@@ -48,22 +50,42 @@ talked_read limit names due id (p ∷ ps) x es last fits t =
     subst (λ l. AllByRecursion IsRead l) (sym t.6)
     (all_both IsRead t.2 t.3 (answered_read names due p t.2 own t.8) (talked_read limit names (next_due due p) (next_id due p t.4) ps t.1 t.3 last (all_back (λ b. b < 256) t.0 t.1 both) t.9))
 
--- ---- Ends by the bytes.
+-- ---- The kinds of ends.
 
-module _ (limit : ℕ) (names : Names) (due : Due) (es : List EventValue) (ds : List DeliveryValue) (taken id : ℕ) (rest : List ℕ) where
-  stops_of : (was : Bool) (old new : Content) (at : ℕ) (reason : Reason) → (IsDumpTooLong old.executed → ⊥) → IsOfBytes reason → Why limit names due es ds taken id rest was old new at reason → StopsFor limit names due es taken id rest at reason
-  stops_of was old new at EndOfInput short h w = w
-  stops_of was old new at SourceEof short h w = w
-  stops_of was old new at (SourceError code state message) short h w = w
-  stops_of was old new at (Wire f) short h w = elim w [ inl s ↦ s | inr t ↦ absurd (short t.3) ]
-  stops_of was old new at (Greet f) short h w = w
-  stops_of was old new at (Event f) short h w = w
-  stops_of was old new at (Gather f) short h w = w
-  stops_of was old new at (Refused refusal) short h w = absurd h
-  stops_of was old new at (Database cause) short h w = absurd h
-  stops_of was old new at Memory short h w = absurd h
-  stops_of was old new at ReadFailed short h w = absurd h
-  stops_of was old new at WriteFailed short h w = absurd h
+module _ (limit : ℕ) (names : Names) (due : Due) (es : List EventValue) (ds : List DeliveryValue) (taken id : ℕ) (rest : List ℕ) (old new : Content) (at : ℕ) (reason : Reason) where
+  -- the bytes stop the reading
+  pub record ByBytes : Type 0 where
+    pub of : IsOfBytes reason
+    pub stops : StopsFor limit names due es taken id rest at reason
+
+  -- a transaction is refused
+  pub record ByRefusal : Type 0 where
+    pub refusal : Refusal
+    pub reason_is : reason ≡ Refused refusal
+    pub at_is : at ≡ taken
+    pub next : IsRefusedNext limit names due es ds taken id rest new refusal
+
+  -- the dump command is too long
+  pub record ByLength : Type 0 where
+    pub reason_is : reason ≡ Wire wire.TooLarge
+    pub at_is : at ≡ taken
+    pub next : NextAnswers limit names due es ds taken id rest
+    pub long : IsDumpTooLong old.executed
+
+kind_of : (limit : ℕ) (names : Names) (due : Due) (es : List EventValue) (ds : List DeliveryValue) (taken id : ℕ) (rest : List ℕ) (was : Bool) (old new : Content) (at : ℕ) (reason : Reason) → IsInFull reason → Why limit names due es ds taken id rest was old new at reason
+    → ByBytes limit names due es ds taken id rest old new at reason ⊎ (ByRefusal limit names due es ds taken id rest old new at reason ⊎ ByLength limit names due es ds taken id rest old new at reason)
+kind_of limit names due es ds taken id rest was old new at EndOfInput h w = inl (record { of = tt; stops = w })
+kind_of limit names due es ds taken id rest was old new at SourceEof h w = inl (record { of = tt; stops = w })
+kind_of limit names due es ds taken id rest was old new at (SourceError code state message) h w = inl (record { of = tt; stops = w })
+kind_of limit names due es ds taken id rest was old new at (Wire f) h w = elim w [ inl s ↦ inl (record { of = tt; stops = s }) | inr t ↦ inr (inr (record { reason_is = ap (λ v. Wire v) t.0; at_is = t.1; next = t.2; long = t.3 })) ]
+kind_of limit names due es ds taken id rest was old new at (Greet f) h w = inl (record { of = tt; stops = w })
+kind_of limit names due es ds taken id rest was old new at (Event f) h w = inl (record { of = tt; stops = w })
+kind_of limit names due es ds taken id rest was old new at (Gather f) h w = inl (record { of = tt; stops = w })
+kind_of limit names due es ds taken id rest was old new at (Refused refusal) h w = inr (inl (record { refusal = refusal; reason_is = refl; at_is = w.0; next = w.1 }))
+kind_of limit names due es ds taken id rest was old new at (Database cause) h w = absurd h
+kind_of limit names due es ds taken id rest was old new at Memory h w = absurd h
+kind_of limit names due es ds taken id rest was old new at ReadFailed h w = absurd h
+kind_of limit names due es ds taken id rest was old new at WriteFailed h w = absurd h
 
 none_refused : (reason : Reason) → IsOfBytes reason → refused_by reason ≡ None
 none_refused EndOfInput h = refl
@@ -260,23 +282,39 @@ refused_there limit names ps qs es fs ds gs x y m n r s new other refusal e deli
     (subst (λ v. IsRefusedNext limit names (due_after qs) fs gs (length y) n v new refusal) (sym e.rest)
     (subst (λ v. IsRefusedNext limit names (due_after qs) fs gs (length y) n s v refusal) (sym content) h))))))
 
-full : (reason : Reason) → IsInFull reason → IsOfBytes reason ⊎ ((refusal : Refusal) × (reason ≡ Refused refusal))
-full EndOfInput h = inl tt
-full SourceEof h = inl tt
-full (SourceError code state message) h = inl tt
-full (Wire f) h = inl tt
-full (Greet f) h = inl tt
-full (Event f) h = inl tt
-full (Gather f) h = inl tt
-full (Refused refusal) h = inr (refusal, refl)
-full (Database cause) h = absurd h
-full Memory h = absurd h
-full ReadFailed h = absurd h
-full WriteFailed h = absurd h
+-- ---- The next payload is the reply to the query, and the dump command is too long.
+
+due_beyond : (d : Due) (ps : List Payload) (next : Payload) (more : List Payload) → due_from d ps ≡ QueryReply → IsInDump (due_from d (ps ++ (next ∷ more)))
+due_beyond d [] next more e = subst (λ v. IsInDump (due_from v (next ∷ more))) (sym e) (stays_in_dump more)
+due_beyond d (p ∷ ps) next more e = due_beyond (next_due d p) ps next more e
+
+-- the bytes do not stop the reading there
+answered_not_stopped : (limit : ℕ) (names : Names) (b : List ℕ) → AllByRecursion (λ v. v < 256) b → (x : Reading limit names b) → NextAnswers limit names (due_after x.payloads) x.events x.deliveries (length x.front) x.id x.rest
+    → (at : ℕ) (reason : Reason) → StopsFor limit names (due_after x.payloads) x.events (length x.front) x.id x.rest at reason → ⊥
+answered_not_stopped limit names b bytes x a at reason s =
+    let next = a.stops.next in
+    let size : length (x.front ++ next.packing) ≡ length x.front + length next.packing = length-append x.front next.packing in
+    let rest : AllByRecursion (λ v. v < 256) x.rest = all_back (λ v. v < 256) x.front x.rest (subst (λ l. AllByRecursion (λ v. v < 256) l) x.bytes bytes) in
+    let answers : Answers names (due_after x.payloads) a.payload [] = subst (λ v. Answers names v a.payload []) (sym a.due_is) (a.is_ok, refl) in
+    let f : Further limit names (due_after x.payloads) x.id x.front x.events x.rest (x.front ++ next.packing) x.events = record {
+      payload = a.payload;
+      packing = next.packing;
+      left = next.more;
+      after = next.after;
+      first = [];
+      others = [];
+      whole = next.whole;
+      rest_is = next.bytes;
+      answers = answers;
+      within = omega (arith, size);
+      events = sym (append-nil x.events);
+    } in
+    blocked limit names (due_after x.payloads) x.events (length x.front) x.id x.rest x.front (x.front ++ next.packing) x.events x.deliveries f refl rest
+    (omega (arith, size, a.stops.within)) x.talk.delivers at reason s
 
 -- ---- One outcome.
 
-module _ (limit : ℕ) (names : Names) (b : List ℕ) (bytes : AllByRecursion (λ v. v < 256) b) (was is : Bool) (old new other : Content) (end last : Ended) (short : IsDumpTooLong old.executed → ⊥)
+module _ (limit : ℕ) (names : Names) (b : List ℕ) (bytes : AllByRecursion (λ v. v < 256) b) (was is : Bool) (old new other : Content) (end last : Ended)
     (c : Conn limit names was old b new end) (d : Conn limit names is old b other last) where
   abbrev x : Reading limit names b
   x = c.reading
@@ -284,20 +322,14 @@ module _ (limit : ℕ) (names : Names) (b : List ℕ) (bytes : AllByRecursion (�
   abbrev y : Reading limit names b
   y = d.reading
 
-  abbrev RefusedHere : Refusal → Type 0
-  RefusedHere refusal = (end.at ≡ length x.front) × IsRefusedNext limit names (due_after x.payloads) x.events x.deliveries (length x.front) x.id x.rest new refusal
-
-  refused_here : (refusal : Refusal) → end.reason ≡ Refused refusal → RefusedHere refusal
-  refused_here refusal e = subst (λ v. Why limit names (due_after x.payloads) x.events x.deliveries (length x.front) x.id x.rest was old new end.at v) e c.why
-
-  stops_here : IsOfBytes end.reason → StopsFor limit names (due_after x.payloads) x.events (length x.front) x.id x.rest end.at end.reason
-  stops_here h = stops_of limit names (due_after x.payloads) x.events x.deliveries (length x.front) x.id x.rest was old new end.at end.reason short h c.why
-
   -- the other has not gone on
-  not_behind : IsInFull end.reason → Further limit names (due_after x.payloads) x.id x.front x.events x.rest y.front y.events → ⊥
-  not_behind h f = elim (full end.reason h) [
-    | inl of ↦ no_further limit names b bytes x y end.at end.reason (stops_here of) f
-    | inr r ↦ not_beyond limit names b bytes old new r.0 end.applied x c.took.takes (refused_here r.0 r.1).1 y last.applied other d.took.takes f
+  not_behind : IsInFull end.reason → Ahead limit names Hello x.payloads x.front x.events x.id x.rest y.payloads y.front y.events → ⊥
+  not_behind h a = elim (kind_of limit names (due_after x.payloads) x.events x.deliveries (length x.front) x.id x.rest was old new end.at end.reason h c.why) [
+    | inl s ↦ no_further limit names b bytes x y end.at end.reason s.stops a.further
+    | inr o ↦ elim o [
+      | inl r ↦ not_beyond limit names b bytes old new r.refusal end.applied x c.took.takes r.next y last.applied other d.took.takes a.further
+      | inr t ↦ d.took.asked (subst (λ l. IsInDump (due_from Hello l)) (sym a.payloads) (due_beyond Hello x.payloads a.next a.more t.next.due_is)) t.long
+    ]
   ]
 
   module _ (same : Same x.payloads x.front x.events x.id x.rest y.payloads y.front y.events y.id y.rest) where
@@ -313,7 +345,7 @@ module _ (limit : ℕ) (names : Names) (b : List ℕ) (bytes : AllByRecursion (�
     same_count : end.applied ≡ last.applied
     same_count = (all_one names old x.deliveries end.applied last.applied new other c.took.takes (subst (λ l. AppliesAll names old l last.applied other) (sym one_list) d.took.takes)).count
 
-module _ (limit : ℕ) (names : Names) (b : List ℕ) (bytes : AllByRecursion (λ v. v < 256) b) (was is : Bool) (old new other : Content) (end last : Ended) (short : IsDumpTooLong old.executed → ⊥) (h : IsInFull end.reason) (k : IsInFull last.reason)
+module _ (limit : ℕ) (names : Names) (b : List ℕ) (bytes : AllByRecursion (λ v. v < 256) b) (was is : Bool) (old new other : Content) (end last : Ended) (h : IsInFull end.reason) (k : IsInFull last.reason)
     (c : Conn limit names was old b new end) (d : Conn limit names is old b other last) where
   abbrev x' : Reading limit names b
   x' = c.reading
@@ -325,21 +357,22 @@ module _ (limit : ℕ) (names : Names) (b : List ℕ) (bytes : AllByRecursion (�
   both_same = elim (both_read limit names b bytes x' y') [
     | inl v ↦ v
     | inr o ↦ elim o [
-      | inl a ↦ absurd (not_behind limit names b bytes was is old new other end last short c d h a.further)
-      | inr a ↦ absurd (not_behind limit names b bytes is was old other new last end short d c k a.further)
+      | inl a ↦ absurd (not_behind limit names b bytes was is old new other end last c d h a)
+      | inr a ↦ absurd (not_behind limit names b bytes is was old other new last end d c k a)
     ]
   ]
 
   pub one_content : new ≡ other
-  one_content = same_content limit names b bytes was is old new other end last short c d both_same
+  one_content = same_content limit names b bytes was is old new other end last c d both_same
 
   one_applied : end.applied ≡ last.applied
-  one_applied = same_count limit names b bytes was is old new other end last short c d both_same
+  one_applied = same_count limit names b bytes was is old new other end last c d both_same
 
-  by_bytes : IsOfBytes end.reason → IsOfBytes last.reason → IsSameEnd end last
-  by_bytes of also =
-      let e : End limit names b end.reason end.at = record { reading = x'; stops = stops_here limit names b bytes was is old new other end last short c d of } in
-      let f : End limit names b last.reason last.at = record { reading = y'; stops = stops_here limit names b bytes is was old other new last end short d c also } in
+  by_bytes : IsOfBytes end.reason → StopsFor limit names (due_after x'.payloads) x'.events (length x'.front) x'.id x'.rest end.at end.reason
+      → IsOfBytes last.reason → StopsFor limit names (due_after y'.payloads) y'.events (length y'.front) y'.id y'.rest last.at last.reason → IsSameEnd end last
+  by_bytes of s also t =
+      let e : End limit names b end.reason end.at = record { reading = x'; stops = s } in
+      let f : End limit names b last.reason last.at = record { reading = y'; stops = t } in
       record {
         reported = one_reason limit names b bytes end.reason last.reason end.at last.at e f;
         refused = none_refused end.reason of ∙ sym (none_refused last.reason also);
@@ -347,37 +380,71 @@ module _ (limit : ℕ) (names : Names) (b : List ℕ) (bytes : AllByRecursion (�
         applied = one_applied;
       }
 
-  -- the other is refused a transaction there, as this one may be
-  moved : (refusal : Refusal) → last.reason ≡ Refused refusal → IsRefusedNext limit names (due_after x'.payloads) x'.events x'.deliveries (length x'.front) x'.id x'.rest new refusal
-  moved refusal e =
+  -- what comes next for the other comes next for this one
+  moved : (refusal : Refusal) → IsRefusedNext limit names (due_after y'.payloads) y'.events y'.deliveries (length y'.front) y'.id y'.rest other refusal
+      → IsRefusedNext limit names (due_after x'.payloads) x'.events x'.deliveries (length x'.front) x'.id x'.rest new refusal
+  moved refusal r =
       refused_there limit names x'.payloads y'.payloads x'.events y'.events x'.deliveries y'.deliveries x'.front y'.front x'.id y'.id x'.rest y'.rest new other refusal both_same
-      (one_list limit names b bytes was is old new other end last short c d both_same) one_content (refused_here limit names b bytes is was old other new last end short d c refusal e).1
+      (one_list limit names b bytes was is old new other end last c d both_same) one_content r
 
-  not_mixed : IsOfBytes end.reason → (refusal : Refusal) → last.reason ≡ Refused refusal → ⊥
-  not_mixed of refusal e = not_stopped limit names b bytes old new refusal end.applied x' c.took.takes (moved refusal e) end.at end.reason (stops_here limit names b bytes was is old new other end last short c d of)
+  stops_there : StopsFor limit names (due_after y'.payloads) y'.events (length y'.front) y'.id y'.rest last.at last.reason → StopsFor limit names (due_after x'.payloads) x'.events (length x'.front) x'.id x'.rest last.at last.reason
+  stops_there t = stops_same limit names x'.payloads y'.payloads x'.events y'.events x'.front y'.front x'.id y'.id x'.rest y'.rest last.at last.reason both_same t
 
-  by_refusal : (r s : Refusal) → end.reason ≡ Refused r → last.reason ≡ Refused s → IsSameEnd end last
-  by_refusal r s e f =
-      let here = refused_here limit names b bytes was is old new other end last short c d r e in
-      let there = refused_here limit names b bytes is was old other new last end short d c s f in
-      let one : r ≡ s = same_refusal limit names b bytes old new r end.applied x' c.took.takes here.1 s (moved s f) in
-      let same : end.reason ≡ last.reason = e ∙ ap (λ v. Refused v) one ∙ sym f in
-      record {
-        reported = ap report_of same;
-        refused = ap refused_by same;
-        at = here.0 ∙ ap (λ l. length l) both_same.front ∙ sym there.0;
-        applied = one_applied;
-      }
+  not_mixed : StopsFor limit names (due_after x'.payloads) x'.events (length x'.front) x'.id x'.rest end.at end.reason
+      → (refusal : Refusal) → IsRefusedNext limit names (due_after y'.payloads) y'.events y'.deliveries (length y'.front) y'.id y'.rest other refusal → ⊥
+  not_mixed s refusal r = not_stopped limit names b bytes old new refusal end.applied x' c.took.takes (moved refusal r) end.at end.reason s
 
-pub one_ended : (limit : ℕ) (names : Names) (b : List ℕ) → AllByRecursion (λ v. v < 256) b → (was is : Bool) (old new other : Content) (end last : Ended) → (IsDumpTooLong old.executed → ⊥) → IsInFull end.reason → IsInFull last.reason
+  not_answered : NextAnswers limit names (due_after x'.payloads) x'.events x'.deliveries (length x'.front) x'.id x'.rest
+      → StopsFor limit names (due_after y'.payloads) y'.events (length y'.front) y'.id y'.rest last.at last.reason → ⊥
+  not_answered a t = answered_not_stopped limit names b bytes x' a last.at last.reason (stops_there t)
+
+  not_in_dump : NextAnswers limit names (due_after x'.payloads) x'.events x'.deliveries (length x'.front) x'.id x'.rest
+      → (refusal : Refusal) → IsRefusedNext limit names (due_after y'.payloads) y'.events y'.deliveries (length y'.front) y'.id y'.rest other refusal → ⊥
+  not_in_dump a refusal r = subst (λ v. IsInDump v) a.due_is (moved refusal r).ends.in_dump
+
+  -- both reasons are the same
+  by_reason : end.reason ≡ last.reason → end.at ≡ length x'.front → last.at ≡ length y'.front → IsSameEnd end last
+  by_reason same here there = record {
+    reported = ap report_of same;
+    refused = ap refused_by same;
+    at = here ∙ ap (λ l. length l) both_same.front ∙ sym there;
+    applied = one_applied;
+  }
+
+  by_refusal : (r s : Refusal) → end.reason ≡ Refused r → last.reason ≡ Refused s → end.at ≡ length x'.front → last.at ≡ length y'.front
+      → IsRefusedNext limit names (due_after x'.payloads) x'.events x'.deliveries (length x'.front) x'.id x'.rest new r
+      → IsRefusedNext limit names (due_after y'.payloads) y'.events y'.deliveries (length y'.front) y'.id y'.rest other s → IsSameEnd end last
+  by_refusal r s e f here there n m =
+      let one : r ≡ s = same_refusal limit names b bytes old new r end.applied x' c.took.takes n s (moved s m) in
+      by_reason (e ∙ ap (λ v. Refused v) one ∙ sym f) here there
+
+pub one_ended : (limit : ℕ) (names : Names) (b : List ℕ) → AllByRecursion (λ v. v < 256) b → (was is : Bool) (old new other : Content) (end last : Ended) → IsInFull end.reason → IsInFull last.reason
     → Conn limit names was old b new end → Conn limit names is old b other last → IsSameEnd end last
-one_ended limit names b bytes was is old new other end last short h k c d = elim (full end.reason h) [
-  | inl of ↦ elim (full last.reason k) [
-    | inl also ↦ by_bytes limit names b bytes was is old new other end last short h k c d of also
-    | inr s ↦ absurd (not_mixed limit names b bytes was is old new other end last short h k c d of s.0 s.1)
-  ]
-  | inr r ↦ elim (full last.reason k) [
-    | inl also ↦ absurd (not_mixed limit names b bytes is was old other new last end short k h d c also r.0 r.1)
-    | inr s ↦ by_refusal limit names b bytes was is old new other end last short h k c d r.0 s.0 r.1 s.1
-  ]
-]
+one_ended limit names b bytes was is old new other end last h k c d =
+    let x = c.reading in
+    let y = d.reading in
+    elim (kind_of limit names (due_after x.payloads) x.events x.deliveries (length x.front) x.id x.rest was old new end.at end.reason h c.why) [
+      | inl s ↦ elim (kind_of limit names (due_after y.payloads) y.events y.deliveries (length y.front) y.id y.rest is old other last.at last.reason k d.why) [
+        | inl t ↦ by_bytes limit names b bytes was is old new other end last h k c d s.of s.stops t.of t.stops
+        | inr o ↦ elim o [
+          | inl t ↦ absurd (not_mixed limit names b bytes was is old new other end last h k c d s.stops t.refusal t.next)
+          | inr t ↦ absurd (not_answered limit names b bytes is was old other new last end k h d c t.next s.stops)
+        ]
+      ]
+      | inr p ↦ elim p [
+        | inl s ↦ elim (kind_of limit names (due_after y.payloads) y.events y.deliveries (length y.front) y.id y.rest is old other last.at last.reason k d.why) [
+          | inl t ↦ absurd (not_mixed limit names b bytes is was old other new last end k h d c t.stops s.refusal s.next)
+          | inr o ↦ elim o [
+            | inl t ↦ by_refusal limit names b bytes was is old new other end last h k c d s.refusal t.refusal s.reason_is t.reason_is s.at_is t.at_is s.next t.next
+            | inr t ↦ absurd (not_in_dump limit names b bytes is was old other new last end k h d c t.next s.refusal s.next)
+          ]
+        ]
+        | inr s ↦ elim (kind_of limit names (due_after y.payloads) y.events y.deliveries (length y.front) y.id y.rest is old other last.at last.reason k d.why) [
+          | inl t ↦ absurd (not_answered limit names b bytes was is old new other end last h k c d s.next t.stops)
+          | inr o ↦ elim o [
+            | inl t ↦ absurd (not_in_dump limit names b bytes was is old new other end last h k c d s.next t.refusal t.next)
+            | inr t ↦ by_reason limit names b bytes was is old new other end last h k c d (s.reason_is ∙ sym t.reason_is) s.at_is t.at_is
+          ]
+        ]
+      ]
+    ]

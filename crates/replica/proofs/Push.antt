@@ -21,7 +21,7 @@ pub due_push : (d : Due) (ps : List Payload) (p : Payload) → due_from d (ps ++
 due_push d [] p = refl
 due_push d (q ∷ ps) p = due_push (next_due d q) ps p
 
-stays_in_dump : (ps : List Payload) → IsInDump (due_from InDump ps)
+pub stays_in_dump : (ps : List Payload) → IsInDump (due_from InDump ps)
 stays_in_dump [] = tt
 stays_in_dump (p ∷ ps) = stays_in_dump ps
 

@@ -74,12 +74,12 @@ pub fn one_end()
     ensures at { (limit : ℕ) (names : Names) (b : List ℕ) (r s : Reason) (at other : ℕ) → AllByRecursion (λ byte. byte < 256) b → End limit names b r at → End limit names b s other → at ≡ other }
 {}
 
-/// What a connection comes to is determined by its bytes and by what the store held, unless memory runs out, the
-/// database or the stream fails, or the dump command is too long: the content afterwards, and the end.
+/// What a connection comes to is determined by its bytes and by what the store held, unless memory runs out, or the
+/// database or the stream fails: the content afterwards, and the end.
 pub fn one_outcome()
-    ensures content { (limit : ℕ) (names : Names) (was is : Bool) (old new other : Content) (b : List ℕ) (end last : Ended) → AllByRecursion (λ byte. byte < 256) b → (IsDumpTooLong old.executed → ⊥) → IsInFull end.reason → IsInFull last.reason
+    ensures content { (limit : ℕ) (names : Names) (was is : Bool) (old new other : Content) (b : List ℕ) (end last : Ended) → AllByRecursion (λ byte. byte < 256) b → IsInFull end.reason → IsInFull last.reason
         → Conn limit names was old b new end → Conn limit names is old b other last → new ≡ other }
-    ensures end { (limit : ℕ) (names : Names) (was is : Bool) (old new other : Content) (b : List ℕ) (end last : Ended) → AllByRecursion (λ byte. byte < 256) b → (IsDumpTooLong old.executed → ⊥) → IsInFull end.reason → IsInFull last.reason
+    ensures end { (limit : ℕ) (names : Names) (was is : Bool) (old new other : Content) (b : List ℕ) (end last : Ended) → AllByRecursion (λ byte. byte < 256) b → IsInFull end.reason → IsInFull last.reason
         → Conn limit names was old b new end → Conn limit names is old b other last → IsSameEnd end last }
 {}
 
