@@ -7,7 +7,9 @@ use crate::tests::images::PAIR;
 use crate::tests::messages::{As, DUMP, GREETING, RESPONSE, SET, TOO_MANY, read};
 use crate::tests::rows::{AB, SEVEN, pairs, types};
 use crate::tests::transactions::{ADD, answers, joined};
-use binlog::{Cell, Event, EventFault, EventFaultKind, Follow, RowsKind, read_event, write_rows};
+use binlog::{
+    Event, EventFault, EventFaultKind, Follow, RowsKind, read_event, rows_fit, write_rows,
+};
 use gather::{GatherFault, Image};
 use greet::{Dump, GreetFault, Greeting, Response, query};
 use gtid::{Gtid, GtidFault, GtidSet};
@@ -22,7 +24,7 @@ enum End {
     Wrong,
 }
 
-/// How a call ended that is refused by this fault, if it is refused.
+/// How a call ended, by whether it did its work, and whether it answered `Memory`.
 fn ended(is_done: bool, is_memory: bool) -> End {
     if is_done {
         return End::Done;
@@ -39,7 +41,7 @@ fn is_appended(end: End, out: &[u8], bytes: &[u8]) -> bool {
     }
 }
 
-/// A vector of a nine.
+/// A vector of a nine, which writers append to.
 fn nine(alloc: Global) -> Option<Vec<u8>> {
     Vec::from_slice(alloc, &[9]).ok()
 }
@@ -244,7 +246,7 @@ fn written_rows(alloc: Global) -> Option<bool> {
     let types = types(alloc, 20)?;
     let pairs = pairs(alloc, RowsKind::Write, &[], &[SEVEN, AB])?;
     let mut out = nine(alloc)?;
-    if !binlog::rows_fit(RowsKind::Write, &types, &pairs) {
+    if !rows_fit(RowsKind::Write, &types, &pairs) {
         return None;
     }
     let written = write_rows(RowsKind::Write, &types, &pairs, &mut out);
@@ -327,7 +329,7 @@ fn all(alloc: Global) -> [Option<bool>; 23] {
     ]
 }
 
-/// With memory to spare each call is made.
+/// With memory to spare what each call needs can be made, so each is made.
 #[test]
 fn answered(rt: HostRuntime) {
     for answer in all(rt.alloc()) {
