@@ -1,4 +1,4 @@
--- What a stream tells of its own failures over several calls.
+-- What a stream reports of its own failures over several calls.
 use Rattle.std.proofs.Common.{◌≡◌, ℕ, ◌+◌, Option, Some, None, arith}
 use Rattle.replica.specs.declared.end.Reason.{Reason}
 use Rattle.replica.specs.declared.end.Reason.TheVariants.{EndOfInput, SourceEof, SourceError, Wire, Greet, Event, Gather, Refused, Database, Memory, ReadFailed, WriteFailed}

@@ -1,4 +1,4 @@
--- Which writes have failed, and what a stream tells of its own failures.
+-- Which writes have failed, and what a stream reports of its own failures.
 use Rattle.std.specs.Prelude.{◌≡◌, ℕ, ◌+◌, Bool, ◌&&◌, ◌==◌, not, Result, Ok, Err, Option, Some, None}
 
 -- an error, or nothing taken of a non-empty slice
@@ -6,7 +6,7 @@ abbrev pub failed_to_write : {E : Type 0} → Result ℕ E → ℕ → Bool
 failed_to_write (Ok taken) given = (taken == 0) && not (given == 0)
 failed_to_write (Err e) given = not (given == 0)
 
--- A stream may tell how many of its reads and how many of its writes have failed. If it does so afterwards, it did so
+-- A stream may report how many of its reads and how many of its writes have failed. If it does so afterwards, it did so
 -- before, and this many reads and this many writes have failed in between.
 abbrev pub HaveFailed : Option (ℕ × ℕ) → Option (ℕ × ℕ) → ℕ → ℕ → Type 0
 HaveFailed before None reads writes = Unit {0}

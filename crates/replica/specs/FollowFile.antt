@@ -36,8 +36,8 @@ module _ {S : Type 0} (g : Ghosts S) {T E : Type 0} (left written : T → Option
     pub stream : T
     pub given : gives (Ok stream)
     pub follows : Follows g settings before after was old (left stream) (left last) (written stream) (written last) end
-    -- the failures that the stream tells are those that are reported
-    pub told : HaveFailed (failures stream) (failures last) (failed_reads_of end.reason) (failed_writes_of end.reason)
+    -- the failures that the stream reports are the one in the end, or none
+    pub reported : HaveFailed (failures stream) (failures last) (failed_reads_of end.reason) (failed_writes_of end.reason)
 
   -- The source was followed over the stream that was given; or none was, and the store is as before.
   abbrev pub Connects : Store S g → Store S g → Bool → Content → Result (Ended × Counted T) E → Type 0

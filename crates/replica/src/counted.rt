@@ -9,9 +9,9 @@ use std::io;
 use std::io::{Read, Write};
 
 /// A stream whose two directions are independent: reading leaves what was written as it is, and writing leaves what is
-/// still to be read. It may tell how many of its reads and writes have failed.
+/// still to be read. It may report how many of its reads and writes have failed.
 pub trait Duplex: Read + Write {
-    // How many reads and how many writes have failed so far; `None` if the stream does not tell.
+    // How many reads and how many writes have failed so far; `None` if the stream does not report them.
     ghost failures: { Self → Option (ℕ × ℕ) };
 
     /// Reads as `read` does. A read has failed exactly if this is an error.
@@ -19,14 +19,14 @@ pub trait Duplex: Read + Write {
         ensures bound { ReadsAtMost result buf.new }
         ensures bytes { ReadConsumes (Self.Read.remaining self.old) (Self.Read.remaining self.new) result buf.new }
         ensures apart { Keeps (Self.Write.contents self.old) (Self.Write.contents self.new) }
-        ensures told { HaveFailed (failures self.old) (failures self.new) (if is_err result then 1 else 0) 0 };
+        ensures reported { HaveFailed (failures self.old) (failures self.new) (if is_err result then 1 else 0) 0 };
 
     /// Writes as `write` does. A write has failed exactly if this is an error or nothing, of a non-empty slice.
     fn send(&mut self, buf: &[u8]) -> io::Result<usize>
         ensures bound { WritesAtMost result buf.now }
         ensures bytes { WriteAppends (Self.Write.contents self.old) (Self.Write.contents self.new) result buf.now }
         ensures apart { Keeps (Self.Read.remaining self.old) (Self.Read.remaining self.new) }
-        ensures told { HaveFailed (failures self.old) (failures self.new) 0 (if failed_to_write result (length buf.now) then 1 else 0) };
+        ensures reported { HaveFailed (failures self.old) (failures self.new) 0 (if failed_to_write result (length buf.now) then 1 else 0) };
 }
 
 /// A stream with the counts of its failed reads and failed writes. A write that takes nothing of a non-empty slice
@@ -94,7 +94,7 @@ impl<T: Duplex> Counted<T> {
         ensures reads { self.new.failed_reads ≡ self.old.failed_reads + (if is_err result then 1 else 0) }
         ensures writes { self.new.failed_writes ≡ self.old.failed_writes }
         // The stream's own failed reads rise exactly as the count does.
-        ensures told { HaveFailed (T.failures self.old.stream) (T.failures self.new.stream) (if is_err result then 1 else 0) 0 }
+        ensures reported { HaveFailed (T.failures self.old.stream) (T.failures self.new.stream) (if is_err result then 1 else 0) 0 }
     {
         if buf.is_empty() {
             return Ok(0);
@@ -117,7 +117,7 @@ impl<T: Duplex> Counted<T> {
         ensures writes { self.new.failed_writes ≡ self.old.failed_writes + (if failed_to_write result (length buf.now) then 1 else 0) }
         ensures reads { self.new.failed_reads ≡ self.old.failed_reads }
         // The stream's own failed writes rise exactly as the count does.
-        ensures told { HaveFailed (T.failures self.old.stream) (T.failures self.new.stream) 0 (if failed_to_write result (length buf.now) then 1 else 0) }
+        ensures reported { HaveFailed (T.failures self.old.stream) (T.failures self.new.stream) 0 (if failed_to_write result (length buf.now) then 1 else 0) }
     {
         if buf.is_empty() {
             return Ok(0);

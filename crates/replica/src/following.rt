@@ -41,7 +41,7 @@ fn send_all<T: Duplex>(stream: &mut Counted<T>, bytes: &[u8]) -> bool
     ensures apart { Keeps (T.Read.remaining stream.old.stream) (T.Read.remaining stream.new.stream) }
     ensures writes { stream.new.failed_writes ≡ stream.old.failed_writes + (if result then 0 else 1) }
     ensures reads { stream.new.failed_reads ≡ stream.old.failed_reads }
-    ensures told { HaveFailed (T.failures stream.old.stream) (T.failures stream.new.stream) 0 (if result then 0 else 1) }
+    ensures reported { HaveFailed (T.failures stream.old.stream) (T.failures stream.new.stream) 0 (if result then 0 else 1) }
 {
     let mut at = 0;
     while at < bytes.len() {
@@ -62,7 +62,7 @@ fn send_pending<T: Duplex>(session: &mut Session, stream: &mut Counted<T>) -> bo
     ensures apart { Keeps (T.Read.remaining stream.old.stream) (T.Read.remaining stream.new.stream) }
     ensures writes { stream.new.failed_writes ≡ stream.old.failed_writes + (if result then 0 else 1) }
     ensures reads { stream.new.failed_reads ≡ stream.old.failed_reads }
-    ensures told { HaveFailed (T.failures stream.old.stream) (T.failures stream.new.stream) 0 (if result then 0 else 1) }
+    ensures reported { HaveFailed (T.failures stream.old.stream) (T.failures stream.new.stream) 0 (if result then 0 else 1) }
 {
     let out = session.take_out();
     send_all(stream, out.as_slice())
@@ -92,7 +92,7 @@ fn read_piece<T: Duplex, S: Alter>(
     ensures apart { Keeps (T.Write.contents stream.old.stream) (T.Write.contents stream.new.stream) }
     ensures reads { stream.new.failed_reads ≡ stream.old.failed_reads + reads_failed result }
     ensures writes { stream.new.failed_writes ≡ stream.old.failed_writes }
-    ensures told { HaveFailed (T.failures stream.old.stream) (T.failures stream.new.stream) (reads_failed result) 0 }
+    ensures reported { HaveFailed (T.failures stream.old.stream) (T.failures stream.new.stream) (reads_failed result) 0 }
     ensures following { names_of S.Store store.new ≡ names_of S.Store store.old }
     ensures broken { IsBroken S.Store store.old → store.new ≡ store.old }
     ensures clean { HasCleanDisk (database S.Store store.new) → HasCleanDisk (database S.Store store.old) }
@@ -147,8 +147,8 @@ pub fn follow<T: Duplex, S: Alter>(
     // The call that fails is the last one: none is made after it.
     ensures once { (stream.new.failed_reads ≤ stream.old.failed_reads + 1) × (stream.new.failed_writes ≤ stream.old.failed_writes + 1) }
     ensures counted { (stream.new.failed_reads ≡ stream.old.failed_reads + failed_reads_of result.reason) × (stream.new.failed_writes ≡ stream.old.failed_writes + failed_writes_of result.reason) }
-    // If the stream tells its own failures, these are they: exactly the one that is reported.
-    ensures told { HaveFailed (T.failures stream.old.stream) (T.failures stream.new.stream) (failed_reads_of result.reason) (failed_writes_of result.reason) }
+    // If the stream reports its own failures, these are they: exactly the one that is reported.
+    ensures reported { HaveFailed (T.failures stream.old.stream) (T.failures stream.new.stream) (failed_reads_of result.reason) (failed_writes_of result.reason) }
     ensures following { names_of S.Store store.new ≡ names_of S.Store store.old }
     // A store that has failed stays as it is.
     ensures broken { IsBroken S.Store store.old → store.new ≡ store.old }

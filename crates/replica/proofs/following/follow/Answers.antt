@@ -30,7 +30,7 @@ turns-init g c = record {
   piece = search rules;
   reads = refl;
   writes = refl;
-  told = none_failed (g.T.Duplex.failures c.args.stream.now.stream);
+  reported = none_failed (g.T.Duplex.failures c.args.stream.now.stream);
   names = refl;
   broken = λ h. refl;
   clean = λ h. h;
@@ -89,8 +89,8 @@ turns-preserved g c =
       piece = length_kept c.turns.buffer.len c.read_piece.new.buffer c.turns.buffer.items (search rules) (search rules) ∙ inv.piece;
       reads = search rules;
       writes = search rules;
-      told = failed_later (g.T.Duplex.failures c.args.stream.now.stream) (g.T.Duplex.failures c.turns.stream.stream) (g.T.Duplex.failures c.read_piece.new.stream.stream) 0 0 inv.told
-          (failed_later (g.T.Duplex.failures c.turns.stream.stream) (g.T.Duplex.failures c.send_pending.new.stream.stream) (g.T.Duplex.failures c.read_piece.new.stream.stream) 0 0 (search (rules, c.send_pending.ensures.told)) (search (rules, c.read_piece.ensures.told)));
+      reported = failed_later (g.T.Duplex.failures c.args.stream.now.stream) (g.T.Duplex.failures c.turns.stream.stream) (g.T.Duplex.failures c.read_piece.new.stream.stream) 0 0 inv.reported
+          (failed_later (g.T.Duplex.failures c.turns.stream.stream) (g.T.Duplex.failures c.send_pending.new.stream.stream) (g.T.Duplex.failures c.read_piece.new.stream.stream) 0 0 (search (rules, c.send_pending.ensures.reported)) (search (rules, c.read_piece.ensures.reported)));
       names = c.read_piece.ensures.following ∙ inv.names;
       broken = search rules;
       clean = λ h. inv.clean (c.read_piece.ensures.clean h);
@@ -143,32 +143,32 @@ returns-then-sends_no_more-clause-counted g c =
     let inv = c.turns.invariant in
     counted_none c.finish.result.reason (subst (λ (e : Ended). IsNoStreamFailure e.reason) (sym c.finish.ensures.end) inv.neither) c.args.stream.now.failed_reads c.turns.stream.failed_reads c.args.stream.now.failed_writes c.turns.stream.failed_writes inv.reads inv.writes
 
-pub returns-then-sends_no_more-clause-told : goal.returns-then-sends_no_more-clause-told
-returns-then-sends_no_more-clause-told g c =
+pub returns-then-sends_no_more-clause-reported : goal.returns-then-sends_no_more-clause-reported
+returns-then-sends_no_more-clause-reported g c =
     let inv = c.turns.invariant in
-    failed_none c.finish.result.reason (subst (λ (e : Ended). IsNoStreamFailure e.reason) (sym c.finish.ensures.end) inv.neither) (g.T.Duplex.failures c.args.stream.now.stream) (g.T.Duplex.failures c.turns.stream.stream) inv.told
+    failed_none c.finish.result.reason (subst (λ (e : Ended). IsNoStreamFailure e.reason) (sym c.finish.ensures.end) inv.neither) (g.T.Duplex.failures c.args.stream.now.stream) (g.T.Duplex.failures c.turns.stream.stream) inv.reported
 
-pub returns-then-not-send_pending-clause-told : goal.returns-then-not-send_pending-clause-told
-returns-then-not-send_pending-clause-told g c =
+pub returns-then-not-send_pending-clause-reported : goal.returns-then-not-send_pending-clause-reported
+returns-then-not-send_pending-clause-reported g c =
     let inv = c.turns.invariant in
     let start = g.T.Duplex.failures c.args.stream.now.stream in
     let before = g.T.Duplex.failures c.turns.stream.stream in
     let after = g.T.Duplex.failures c.send_pending.new.stream.stream in
-    let told : HaveFailed before after 0 1 = subst (λ (b : Bool). HaveFailed before after 0 (if b then 0 else 1)) c.if-not-send_pending.true c.send_pending.ensures.told in
-    subst (λ (r : Reason). HaveFailed start after (failed_reads_of r) (failed_writes_of r)) (sym (ap (λ (e : Ended). e.reason) c.ended_with-then-not-send_pending.ensures)) (failed_later start before after 0 1 inv.told told)
+    let reported : HaveFailed before after 0 1 = subst (λ (b : Bool). HaveFailed before after 0 (if b then 0 else 1)) c.if-not-send_pending.true c.send_pending.ensures.reported in
+    subst (λ (r : Reason). HaveFailed start after (failed_reads_of r) (failed_writes_of r)) (sym (ap (λ (e : Ended). e.reason) c.ended_with-then-not-send_pending.ensures)) (failed_later start before after 0 1 inv.reported reported)
 
-pub returns-then-is_some-clause-told : goal.returns-then-is_some-clause-told
-returns-then-is_some-clause-told g c =
+pub returns-then-is_some-clause-reported : goal.returns-then-is_some-clause-reported
+returns-then-is_some-clause-reported g c =
     let inv = c.turns.invariant in
     let start = g.T.Duplex.failures c.args.stream.now.stream in
     let before = g.T.Duplex.failures c.turns.stream.stream in
     let after = g.T.Duplex.failures c.send_pending.new.stream.stream in
-    let told : HaveFailed before after 0 0 = subst (λ (b : Bool). HaveFailed before after 0 (if b then 0 else 1)) c.if-not-send_pending.false c.send_pending.ensures.told in
+    let reported : HaveFailed before after 0 0 = subst (λ (b : Bool). HaveFailed before after 0 (if b then 0 else 1)) c.if-not-send_pending.false c.send_pending.ensures.reported in
     let neither = subst (λ (e : Ended). IsNoStreamFailure e.reason) (sym (c.finish-then-is_some.ensures.end ∙ c.send_pending.ensures.sent.4.end)) inv.neither in
-    failed_none c.finish-then-is_some.result.reason neither start after (failed_later start before after 0 0 inv.told told)
+    failed_none c.finish-then-is_some.result.reason neither start after (failed_later start before after 0 0 inv.reported reported)
 
-pub returns-in-AtEnd-clause-told : goal.returns-in-AtEnd-clause-told
-returns-in-AtEnd-clause-told g c =
+pub returns-in-AtEnd-clause-reported : goal.returns-in-AtEnd-clause-reported
+returns-in-AtEnd-clause-reported g c =
     let inv = c.turns.invariant in
     let start = g.T.Duplex.failures c.args.stream.now.stream in
     let before = g.T.Duplex.failures c.turns.stream.stream in
@@ -176,18 +176,18 @@ returns-in-AtEnd-clause-told g c =
     let after = g.T.Duplex.failures c.read_piece.new.stream.stream in
     let not_read : c.read_piece.result ≢ turn.Read = λ h. let bad : turn.AtEnd ≡ turn.Read = sym c.in-AtEnd.is ∙ h in cc in
     let still = c.read_piece.ensures.still not_read in
-    let sent : HaveFailed before mid 0 0 = subst (λ (b : Bool). HaveFailed before mid 0 (if b then 0 else 1)) c.if-not-send_pending.false c.send_pending.ensures.told in
-    let told : HaveFailed mid after 0 0 = subst (λ (t : Turn). HaveFailed mid after (reads_failed t) 0) c.in-AtEnd.is c.read_piece.ensures.told in
+    let sent : HaveFailed before mid 0 0 = subst (λ (b : Bool). HaveFailed before mid 0 (if b then 0 else 1)) c.if-not-send_pending.false c.send_pending.ensures.reported in
+    let reported : HaveFailed mid after 0 0 = subst (λ (t : Turn). HaveFailed mid after (reads_failed t) 0) c.in-AtEnd.is c.read_piece.ensures.reported in
     let neither = subst (λ (e : Ended). IsNoStreamFailure e.reason) (sym (c.finish-in-AtEnd.ensures.end ∙ ap (λ (s : Session). end_of s) still.0 ∙ c.send_pending.ensures.sent.4.end)) inv.neither in
-    failed_none c.finish-in-AtEnd.result.reason neither start after (failed_later start before after 0 0 inv.told (failed_later before mid after 0 0 sent told))
+    failed_none c.finish-in-AtEnd.result.reason neither start after (failed_later start before after 0 0 inv.reported (failed_later before mid after 0 0 sent reported))
 
-pub returns-in-Failed-clause-told : goal.returns-in-Failed-clause-told
-returns-in-Failed-clause-told g c =
+pub returns-in-Failed-clause-reported : goal.returns-in-Failed-clause-reported
+returns-in-Failed-clause-reported g c =
     let inv = c.turns.invariant in
     let start = g.T.Duplex.failures c.args.stream.now.stream in
     let before = g.T.Duplex.failures c.turns.stream.stream in
     let mid = g.T.Duplex.failures c.send_pending.new.stream.stream in
     let after = g.T.Duplex.failures c.read_piece.new.stream.stream in
-    let sent : HaveFailed before mid 0 0 = subst (λ (b : Bool). HaveFailed before mid 0 (if b then 0 else 1)) c.if-not-send_pending.false c.send_pending.ensures.told in
-    let told : HaveFailed mid after 1 0 = subst (λ (t : Turn). HaveFailed mid after (reads_failed t) 0) c.in-Failed.is c.read_piece.ensures.told in
-    subst (λ (r : Reason). HaveFailed start after (failed_reads_of r) (failed_writes_of r)) (sym (ap (λ (e : Ended). e.reason) c.ended_with-in-Failed.ensures)) (failed_later start before after 1 0 inv.told (failed_later before mid after 1 0 sent told))
+    let sent : HaveFailed before mid 0 0 = subst (λ (b : Bool). HaveFailed before mid 0 (if b then 0 else 1)) c.if-not-send_pending.false c.send_pending.ensures.reported in
+    let reported : HaveFailed mid after 1 0 = subst (λ (t : Turn). HaveFailed mid after (reads_failed t) 0) c.in-Failed.is c.read_piece.ensures.reported in
+    subst (λ (r : Reason). HaveFailed start after (failed_reads_of r) (failed_writes_of r)) (sym (ap (λ (e : Ended). e.reason) c.ended_with-in-Failed.ensures)) (failed_later start before after 1 0 inv.reported (failed_later before mid after 1 0 sent reported))

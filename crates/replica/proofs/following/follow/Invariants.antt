@@ -14,7 +14,7 @@ invariant-turns g l = record {
   piece : length l.buffer.items ≡ 65536;
   reads : l.stream.failed_reads ≡ l.fn.stream.failed_reads;
   writes : l.stream.failed_writes ≡ l.fn.stream.failed_writes;
-  told : HaveFailed (g.T.Duplex.failures l.fn.stream.stream) (g.T.Duplex.failures l.stream.stream) 0 0;
+  reported : HaveFailed (g.T.Duplex.failures l.fn.stream.stream) (g.T.Duplex.failures l.stream.stream) 0 0;
   names : names_of g.S.Store l.store ≡ names_of g.S.Store l.fn.store;
   broken : IsBroken g.S.Store l.fn.store → l.store ≡ l.fn.store;
   clean : HasCleanDisk (database g.S.Store l.store) → HasCleanDisk (database g.S.Store l.fn.store);

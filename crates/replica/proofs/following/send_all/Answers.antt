@@ -24,5 +24,5 @@ loop-at-preserved g c =
       apart = Keeps-trans (g.T.Read.remaining entry) (g.T.Read.remaining before) (g.T.Read.remaining after) c.loop-at.invariant.apart c.send.ensures.apart;
       writes = search rules;
       reads = search rules;
-      told = failed_later (g.T.Duplex.failures entry) (g.T.Duplex.failures before) (g.T.Duplex.failures after) 0 0 c.loop-at.invariant.told (search (rules, c.send.ensures.told));
+      reported = failed_later (g.T.Duplex.failures entry) (g.T.Duplex.failures before) (g.T.Duplex.failures after) 0 0 c.loop-at.invariant.reported (search (rules, c.send.ensures.reported));
     }

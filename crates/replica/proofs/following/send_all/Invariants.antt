@@ -10,7 +10,7 @@ invariant-loop-at g l = record {
   apart : Keeps (g.T.Read.remaining l.fn.stream.stream) (g.T.Read.remaining l.stream.stream);
   writes : l.stream.failed_writes ≡ l.fn.stream.failed_writes;
   reads : l.stream.failed_reads ≡ l.fn.stream.failed_reads;
-  told : HaveFailed (g.T.Duplex.failures l.fn.stream.stream) (g.T.Duplex.failures l.stream.stream) 0 0;
+  reported : HaveFailed (g.T.Duplex.failures l.fn.stream.stream) (g.T.Duplex.failures l.stream.stream) 0 0;
 }
 
 abbrev pub decreases-loop-at : goal.decreases-loop-at
