@@ -6,6 +6,9 @@ ghost use Rattle.std.specs.Prelude.{◌≡◌, ◌↔◌, ◌⊎◌, ℕ, ◌+�
 ghost use Rattle.std.specs.FinSet as set;
 ghost use Rattle.std.specs.List.{AllByRecursion};
 ghost use Rattle.sqlite.specs.Held.{state};
+ghost use Rattle.sqlite.specs.Files.{image_of};
+ghost use Rattle.sqlite_wal.specs.Recovery.{Image};
+ghost use Rattle.sqlite_wal.specs.Files.{outcomes};
 ghost use Rattle.sqlite_schema.specs.declared.schema.Schema.{Schema};
 ghost use Rattle.binlog.specs.Filter.{Names};
 ghost use Rattle.gather.specs.Transaction.{change_of};
@@ -28,10 +31,12 @@ ghost use Rattle.replica.specs.Sent.{SentFor};
 ghost use Rattle.replica.specs.Standing.{Stands, end_of};
 ghost use Rattle.replica.specs.Over.{StandsOver};
 ghost use Rattle.replica.specs.Follow.{HandsOut, IsInFull};
+ghost use Rattle.replica.specs.File.{FilesHold, AreClosedWith};
 ghost use Rattle.replica.specs.Resume.{Resumes, Leads, Reaches, part_changes, transaction, transactions, end_of as end_of_log};
 
 use crate::session::Session;
-use sqlite::Alter;
+use sqlite::{Alter, Files};
+use sqlite_disk::Disk;
 use store::Store;
 
 /// A session that has read nothing begins at any store, with the content that the store holds.
@@ -81,6 +86,13 @@ pub fn one_outcome()
         → Conn limit names was old b new end → Conn limit names is old b other last → new ≡ other }
     ensures end { (limit : ℕ) (names : Names) (was is : Bool) (old new other : Content) (b : List ℕ) (end last : Ended) → AllByRecursion (λ byte. byte < 256) b → IsInFull end.reason → IsInFull last.reason
         → Conn limit names was old b new end → Conn limit names is old b other last → IsSameEnd end last }
+{}
+
+/// What closed files hold is found by the next call that opens them: as they are, and what a crash leaves of them, with its
+/// log or without. So what `replay` and `follow_file` promise carries on from one call to the next.
+pub fn found_again<D: Disk>(_files: &Files<D>)
+    ensures closed { (only names : Names) (content : Content) → AreClosedWith D.Disk names content _files.now → FilesHold only names content (image_of D.Disk _files.now) }
+    ensures left { (only names : Names) (content : Content) (image : Image) → AreClosedWith D.Disk names content _files.now → outcomes D.Disk _files.now.log _files.now.db image → FilesHold only names content image × FilesHold only names content (record image { log = [] }) }
 {}
 
 /// No reading of a connection's bytes has more payloads than the reading up to their end.
