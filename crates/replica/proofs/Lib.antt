@@ -25,4 +25,5 @@ pub mod Scripted
 pub mod Talking
 pub mod Transactions
 pub mod Resuming
+pub mod Restarted
 pub mod Filtered

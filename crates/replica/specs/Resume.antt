@@ -1,6 +1,6 @@
 -- A replica that asks a scripted source again. MySQL Source Documentation, Client/Server Protocol, "Connection Phase";
 -- Replication Protocol: COM_BINLOG_DUMP_GTID.
-use Rattle.std.specs.Prelude.{◌≡◌, ℕ, ◌≤◌, Bool, false, List, [], ◌∷◌, length, map, take, flat_map, if◌then◌else◌}
+use Rattle.std.specs.Prelude.{◌≡◌, ℕ, ◌+◌, ◌^◌, ◌<◌, ◌≤◌, ◌++◌, Bool, false, List, [], ◌∷◌, length, map, take, flat_map, if◌then◌else◌}
 use Rattle.std.specs.FinSet as set
 use Rattle.std.specs.List.{AllByRecursion}
 use Rattle.wire.specs.declared.packet.TheConstants.{LARGEST_PAYLOAD}
@@ -12,6 +12,7 @@ use Rattle.replica.specs.declared.end.Reason.{Reason}
 use Rattle.replica.specs.declared.end.Reason.TheVariants.{EndOfInput, SourceEof}
 use Rattle.replica.specs.declared.end.Ended.{Ended}
 use Rattle.replica.specs.Conn.{AppliesAll, Conn}
+use Rattle.replica.specs.Crash.{IsLeft}
 use Rattle.scripted_source.specs.Script.{PartValue, ScriptValue}
 use Rattle.scripted_source.specs.Source.{Payload, Opens, Asks, IsAnswer, is_once, sent_payloads, due}
 
@@ -67,3 +68,34 @@ pub record Leads (limit : ℕ) (names : Names) (held last : Content) (bytes : Li
   pub applied : end.applied ≡ length ds
   pub at : end.at ≡ length bytes
   pub reason_is : end.reason ≡ reason
+
+-- ---- The law of restarts.
+
+-- A replica that holds a content asks a source with this history, and reads some prefix of what the source sends. That
+-- connection ends in any way, the replica is stopped, and what is left is this content.
+pub record Restarts (limit : ℕ) (names : Names) (history : List ScriptValue) (held left : Content) : Type 0 where
+  pub last : Content
+  pub request : Payload
+  pub opening : List ℕ
+  pub answer : List ℕ
+  pub asked : (j : ℕ) → Reaches names history j held → Resumes limit names history j held last request opening answer
+  pub are_bytes : AllByRecursion (λ b. b < 256) answer
+  pub fewer : length (opening ++ answer) < 2 ^ 64
+  pub part : List ℕ
+  pub more : List ℕ
+  pub cut : opening ++ answer ≡ part ++ more
+  pub was : Bool
+  pub new : Content
+  pub end : Ended
+  pub conn : Conn limit names was held part new end
+  pub leaves : IsLeft limit names held part new end left
+
+-- Each time the replica holds what was left before.
+abbrev pub AreRestarts : ℕ → Names → List ScriptValue → Content → List Content → Type 0
+AreRestarts limit names history held [] = Unit {0}
+AreRestarts limit names history held (left ∷ lefts) = Restarts limit names history held left × AreRestarts limit names history left lefts
+
+-- These are contents after the first transactions of a history: of each as many as of the one before, or more.
+abbrev pub NeverFalls : Names → List ScriptValue → ℕ → List Content → Type 0
+NeverFalls names history j [] = Unit {0}
+NeverFalls names history j (left ∷ lefts) = (i : ℕ) × Reaches names history (j + i) left × NeverFalls names history (j + i) lefts

@@ -32,7 +32,7 @@ ghost use Rattle.replica.specs.Standing.{Stands, end_of};
 ghost use Rattle.replica.specs.Over.{StandsOver};
 ghost use Rattle.replica.specs.Follow.{HandsOut, IsInFull};
 ghost use Rattle.replica.specs.File.{FilesHold, AreClosedWith};
-ghost use Rattle.replica.specs.Resume.{Resumes, Leads, Reaches, part_changes, transaction, transactions, end_of as end_of_log};
+ghost use Rattle.replica.specs.Resume.{Resumes, Leads, Reaches, AreRestarts, NeverFalls, part_changes, transaction, transactions, end_of as end_of_log};
 
 use crate::session::Session;
 use sqlite::{Alter, Files};
@@ -123,6 +123,14 @@ pub fn stopped_anywhere(_opening: &[u8], _answer: &[u8])
 {
     resuming(_opening, _answer);
     left_transactions();
+}
+
+/// However often a replica is stopped and started again, and wherever each connection was cut: it holds the content after
+/// the first transactions of the history, and of these there are never fewer than before.
+pub fn restarted()
+    ensures { (limit : ℕ) (names : Names) (history : List ScriptValue) (j : ℕ) (held : Content) (lefts : List Content) → Reaches names history j held → AreRestarts limit names history held lefts → NeverFalls names history j lefts }
+{
+    greet::laws::dumps();
 }
 
 /// The transactions of a history, as a connection has them, leave out the changes of tables that are not followed; with
