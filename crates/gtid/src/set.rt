@@ -113,7 +113,7 @@ impl GtidSet {
         ensures none { other.now ≡ set.empty → IsOk result }
     {
         if other.groups.len() == 0 {
-            return Ok(());
+            return Ok(()); // nothing is to be added
         }
         let alloc = *self.groups.allocator();
         self.groups = combine_groups(alloc, Combination::Union, &self.groups, &other.groups)?;
@@ -131,7 +131,7 @@ impl GtidSet {
             return Ok(());
         }
         if other.groups.len() == 0 {
-            return Ok(());
+            return Ok(()); // nothing is to be removed
         }
         let alloc = *self.groups.allocator();
         self.groups = combine_groups(alloc, Combination::Difference, &self.groups, &other.groups)?;
