@@ -13,8 +13,7 @@ use Rattle.std.proofs.lemmas.List.Folds.{list_any-append}
 use Rattle.gtid.specs.Identifier.{Id, Ids}
 use Rattle.gtid.specs.Interval.{has, AreLeast}
 use Rattle.gtid.specs.Group.{Ascend, sources, IsBelow, IsGap, ids_of}
-use Rattle.gtid.specs.Span.{is_in, IsLeast, IsLeastList}
-use Rattle.gtid.specs.Reading.{IsLawfulSpan}
+use Rattle.gtid.specs.Span.{is_in, IsLeast, IsLeastList, IsLawfulSpan}
 use Rattle.gtid.specs.Spans.{span, spans_of_group, spans_of}
 use Rattle.gtid.specs.Beside.{one_or_none, joined, joined_interval, Joins, Touches, Among}
 use Rattle.gtid.specs.declared.beside.Beside.{Beside}

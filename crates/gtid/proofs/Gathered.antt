@@ -23,8 +23,7 @@ use Rattle.std.proofs.lemmas.List.{take_all}
 use Rattle.std.proofs.lemmas.Slice.Eq.{bytes_eq-Decides}
 use Rattle.gtid.specs.Identifier.{Id, id_cmp}
 use Rattle.gtid.specs.Interval.{has, is_within, AreLeast}
-use Rattle.gtid.specs.Span.{is_in}
-use Rattle.gtid.specs.Reading.{IsLawfulSpan}
+use Rattle.gtid.specs.Span.{is_in, IsLawfulSpan}
 use Rattle.gtid.specs.Merged.{AreLeastBefore}
 use Rattle.gtid.specs.Group.{Ascend, sources, IsBelow, AreBelow, is_of, is_listed}
 use Rattle.gtid.specs.Gathering.{start, Follows, Rise, span_sources, AreAbove, interval_of, IsFirst, IsOther}

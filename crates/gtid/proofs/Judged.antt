@@ -4,7 +4,8 @@ use Rattle.std.specs.List.{AllByRecursion}
 use Rattle.std.proofs.lemmas.Bool.Decides.{nat_tests}
 use Rattle.gtid.specs.Encoding.{SidBlock}
 use Rattle.gtid.specs.Text.{written_fault, first_some, list_fault, written_spans, is_number}
-use Rattle.gtid.specs.Reading.{IsLawfulSpan, at_most, Found, span_of, judged, judge}
+use Rattle.gtid.specs.Reading.{at_most, Found, span_of, judged, judge}
+use Rattle.gtid.specs.Span.{IsLawfulSpan}
 use Rattle.gtid.specs.declared.fault.GtidFault.TheVariants.{Number, Interval}
 use Rattle.gtid.specs.declared.fault.GtidFault.{GtidFault}
 use Rattle.gtid.specs.declared.span.Span.{Span}

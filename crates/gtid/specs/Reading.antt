@@ -1,15 +1,11 @@
 -- How the intervals of a text are read, byte after byte. The clauses of the steps of `read_spans` use these
 -- definitions; those of `read_spans` itself use the grammar alone.
-use Rattle.std.specs.Prelude.{ℕ, ◌+◌, ◌-◌, ◌*◌, ◌/◌, ◌%◌, ◌<◌, ◌≤◌, ◌^◌, ◌==◌, ◌||◌, nat_lt, Option, Some, None, Result, Ok, Err, if◌then◌else◌, List, [], ◌∷◌, ◌++◌, slice_index, set}
+use Rattle.std.specs.Prelude.{ℕ, ◌+◌, ◌-◌, ◌*◌, ◌/◌, ◌%◌, ◌^◌, ◌==◌, ◌||◌, nat_lt, Option, Some, None, Result, Ok, Err, if◌then◌else◌, List, [], ◌∷◌, ◌++◌, slice_index, set}
 use Rattle.uuid.specs.Text.{is_hex_digit, value_of}
 use Rattle.gtid.specs.Scan.{is_digit}
 use Rattle.gtid.specs.Text.{written_fault}
 use Rattle.gtid.specs.declared.fault.GtidFault.{GtidFault}
 use Rattle.gtid.specs.declared.span.Span.{Span}
-
--- A span with at least one number, and none outside 1 to 2 ^ 63 - 2.
-abbrev pub IsLawfulSpan : Span → Type 0
-IsLawfulSpan s = (1 ≤ s.lo) × (s.lo < s.hi) × (s.hi < 2 ^ 63)
 
 -- Where in an item the reading is.
 pub data Part : Type 0 where

@@ -1,6 +1,6 @@
 -- Sets of GTIDs as intervals. MySQL Reference Manual, "GTID Format and Storage" (GTID sets); MySQL Source
 -- Documentation, Replication Protocol, COM_BINLOG_DUMP_GTID, whose intervals end one past their last number.
-use Rattle.std.specs.Prelude.{◌≡◌, ◌<◌, ◌⊎◌, ◌&&◌, Bool, List, [], ◌∷◌, nat_le, nat_lt}
+use Rattle.std.specs.Prelude.{◌≡◌, ◌<◌, ◌≤◌, ◌^◌, ◌⊎◌, ◌&&◌, Bool, List, [], ◌∷◌, nat_le, nat_lt}
 use Rattle.std.specs.List.{list_any}
 use Rattle.std.specs.Str.{bytes_eq}
 use Rattle.std.specs.declared.cmp.Ordering.TheVariants.{Less}
@@ -9,6 +9,10 @@ use Rattle.std.specs.Cmp.Lexicographic.{slice_cmp}
 use Rattle.std.specs.FinSet as set
 use Rattle.gtid.specs.Identifier.{Id, Ids}
 use Rattle.gtid.specs.declared.span.Span.{Span}
+
+-- A span with at least one number, and none outside 1 to 2 ^ 63 - 2.
+abbrev pub IsLawfulSpan : Span → Type 0
+IsLawfulSpan s = (1 ≤ s.lo) × (s.lo < s.hi) × (s.hi < 2 ^ 63)
 
 -- whether the GTID is in the span
 abbrev pub is_in : Id → Span → Bool

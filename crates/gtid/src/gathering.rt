@@ -3,8 +3,7 @@
 ghost use Rattle.std.specs.Prelude.{◌≡◌, ◌<◌, ◌≤◌, ◌||◌, ◌∷◌, length, IfOk, IfErr, OnErr, IfSome, IfNone};
 ghost use Rattle.std.specs.List.{list_any, AllByRecursion};
 ghost use Rattle.gtid.specs.Identifier.{Id, id_cmp};
-ghost use Rattle.gtid.specs.Span.{is_in};
-ghost use Rattle.gtid.specs.Reading.{IsLawfulSpan};
+ghost use Rattle.gtid.specs.Span.{is_in, IsLawfulSpan};
 ghost use Rattle.gtid.specs.Group.{Ascend, sources, is_of, is_listed};
 ghost use Rattle.gtid.specs.Gathering.{start, Rise, AreAbove, IsFirst, IsOther};
 

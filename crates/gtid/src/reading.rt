@@ -8,7 +8,8 @@ ghost use Rattle.gtid.specs.Scan.{BeginsWithNoDigit};
 ghost use Rattle.gtid.specs.Text;
 ghost use Rattle.gtid.specs.Text.{IsList, list_fault, written_fault, written_spans};
 ghost use Rattle.gtid.specs.Reading;
-ghost use Rattle.gtid.specs.Reading.{IsLawfulSpan, collected, after_interval, judge};
+ghost use Rattle.gtid.specs.Reading.{collected, after_interval, judge};
+ghost use Rattle.gtid.specs.Span.{IsLawfulSpan};
 ghost use Rattle.gtid.specs.Reading.Part.{Source, First, Second, After};
 
 use crate::fault::GtidFault;

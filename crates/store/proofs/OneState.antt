@@ -22,8 +22,7 @@ use Rattle.sqlite_rules.proofs.TableLemmas.{int_is}
 use Rattle.sqlite_catalog.specs.Listing.{IsSound}
 use Rattle.sqlite.specs.Effect.{Database, IsDatabase}
 use Rattle.gtid.specs.Identifier.{Id, Ids, IsSource, IsGtid, id_cmp}
-use Rattle.gtid.specs.Span.{is_in, Covers}
-use Rattle.gtid.specs.Reading.{IsLawfulSpan}
+use Rattle.gtid.specs.Span.{is_in, Covers, IsLawfulSpan}
 use Rattle.gtid.specs.declared.span.Span.{Span}
 use Rattle.gtid.proofs.Sets.{id_cmp_total, id_cmp-same, tied}
 use Rattle.binlog.specs.Filter.{Names}

@@ -14,9 +14,8 @@ use Rattle.sqlite_value.specs.Order.{Row, value_cmp}
 use Rattle.sqlite_value.proofs.OrderLemmas.{value_cmp-Int}
 use Rattle.sqlite.specs.declared.error.Error.{Error}
 use Rattle.sqlite.specs.State.{State}
-use Rattle.gtid.specs.Span.{IsLeast}
+use Rattle.gtid.specs.Span.{IsLeast, IsLawfulSpan}
 use Rattle.gtid.specs.Beside.{one_or_none, joined, Joins}
-use Rattle.gtid.specs.Reading.{IsLawfulSpan}
 use Rattle.gtid.specs.Identifier.{Id, Ids}
 use Rattle.gtid.specs.declared.beside.Beside.{Beside}
 use Rattle.gtid.specs.declared.span.Span.{Span}

@@ -12,8 +12,7 @@ use Rattle.std.proofs.lemmas.Map.Keys.{IsDistinct-IsPermutation}
 use Rattle.std.proofs.lemmas.Slice.Eq.{bytes_eq-Decides}
 use Rattle.sqlite_value.specs.Order.{Row}
 use Rattle.gtid.specs.Identifier.{Id, Ids, IsSource, IsGtid, id_cmp}
-use Rattle.gtid.specs.Span.{is_in, Covers, IsBefore, IsLeast}
-use Rattle.gtid.specs.Reading.{IsLawfulSpan}
+use Rattle.gtid.specs.Span.{is_in, Covers, IsBefore, IsLeast, IsLawfulSpan}
 use Rattle.gtid.specs.Gathering.{Rise, Follows}
 use Rattle.gtid.specs.declared.span.Span.{Span}
 use Rattle.gtid.proofs.Sets.{id_cmp_total, id_cmp-same, tied}

@@ -10,7 +10,7 @@ ghost use Rattle.store.specs.Inside.{IsWorking, WasOpen, GoesOn, Moves, Begins, 
 ghost use Rattle.std.specs.FinSet as set;
 ghost use Rattle.std.specs.List.{AllByRecursion};
 ghost use Rattle.gtid.specs.Identifier.{Ids, id, IsSource, IsGtid};
-ghost use Rattle.gtid.specs.Reading.{IsLawfulSpan};
+ghost use Rattle.gtid.specs.Span.{IsLawfulSpan};
 ghost use Rattle.gtid.specs.Beside.{one_or_none, Joins};
 ghost use Rattle.gtid.specs.declared.span.Span.{Span};
 

@@ -10,8 +10,7 @@ ghost use Rattle.store.specs.Rows.{IsFollowRow, IsSpanRow, IsHeldRow, IsExecuted
 ghost use Rattle.store.specs.Judge.{IsMeta, apart_from, touches_last};
 ghost use Rattle.store.specs.Load.{Judges, IsLoadFault};
 ghost use Rattle.std.specs.Prelude.{None, IfOk, OnOk};
-ghost use Rattle.gtid.specs.Span.{Covers};
-ghost use Rattle.gtid.specs.Reading.{IsLawfulSpan};
+ghost use Rattle.gtid.specs.Span.{Covers, IsLawfulSpan};
 ghost use Rattle.store.specs.declared.fault.StoreFault.TheVariants.{Memory};
 
 use crate::fault::StoreFault;

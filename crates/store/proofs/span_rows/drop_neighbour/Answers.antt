@@ -1,7 +1,7 @@
 use Rattle.std.proofs.Common.{◌<◌, ◌^◌, ◌∷◌, ◌++◌, map, w64, arith}
 use Rattle.std.proofs.lemmas.Int.{to_z_pos}
 use Rattle.sqlite.specs.Held.{state}
-use Rattle.gtid.specs.Reading.{IsLawfulSpan}
+use Rattle.gtid.specs.Span.{IsLawfulSpan}
 use Rattle.store.specs.Rows.{span_rows, stored_span}
 use Rattle.store.specs.Inside.{Lists}
 use Rattle.store.proofs.SpanRecord.{one_out}
