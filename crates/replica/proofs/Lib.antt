@@ -14,6 +14,10 @@ pub mod Runs
 pub mod Report
 pub mod OneEnd
 pub mod OneOutcome
+pub mod SomeOutcome
+pub mod SomeMessage
+pub mod TooLong
+pub mod SomeEnd
 pub mod Failed
 pub mod Followed
 pub mod Left

@@ -41,7 +41,7 @@ answered_read names InDump p es fits a =
     let body : AllByRecursion (λ b. b < 256) (0x00 ∷ a.1.body) = subst (λ l. AllByRecursion (λ b. b < 256) l) a.1.payload_is fits in
     subst (λ l. AllByRecursion IsRead l) (sym a.2) (record { names = names; bytes = a.1.body; fits = body.1; is_event = a.1.is_event }, tt)
 
-talked_read : (limit : ℕ) (names : Names) (due : Due) (id : ℕ) (ps : List Payload) (x : List ℕ) (es : List EventValue) (last : ℕ) → AllByRecursion (λ b. b < 256) x → Talks limit names due id ps x es last
+pub talked_read : (limit : ℕ) (names : Names) (due : Due) (id : ℕ) (ps : List Payload) (x : List ℕ) (es : List EventValue) (last : ℕ) → AllByRecursion (λ b. b < 256) x → Talks limit names due id ps x es last
     → AllByRecursion IsRead es
 talked_read limit names due id [] x es last fits t = subst (λ l. AllByRecursion IsRead l) (sym t.1) tt
 talked_read limit names due id (p ∷ ps) x es last fits t =
@@ -193,7 +193,7 @@ last_same : (ds : List DeliveryValue) (x y : DeliveryValue) → ds ++ x ∷ [] �
 last_same [] x y e = head_of x y [] [] e
 last_same (d ∷ ds) x y e = last_same ds x y (tail_of d d (ds ++ x ∷ []) (ds ++ y ∷ []) e)
 
-in_dump_answer : (names : Names) (due : Due) (p : Payload) (e : EventValue) → IsInDump due → Carries names p e → Answers names due p (e ∷ [])
+pub in_dump_answer : (names : Names) (due : Due) (p : Payload) (e : EventValue) → IsInDump due → Carries names p e → Answers names due p (e ∷ [])
 in_dump_answer names Hello p e h c = absurd h
 in_dump_answer names Reply p e h c = absurd h
 in_dump_answer names SecondReply p e h c = absurd h

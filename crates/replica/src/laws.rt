@@ -24,7 +24,7 @@ ghost use Rattle.replica.specs.declared.end.Ended.{Ended};
 ghost use Rattle.replica.specs.Stream.{Reading};
 ghost use Rattle.replica.specs.End.{End};
 ghost use Rattle.replica.specs.Report.{report_of};
-ghost use Rattle.replica.specs.Outcome.{IsSameEnd};
+ghost use Rattle.replica.specs.Outcome.{IsSameEnd, HasEnd};
 ghost use Rattle.replica.specs.Conn.{Conn, TakesFirst, BreaksStore, IsDumpTooLong, IsOfBytes};
 ghost use Rattle.replica.specs.Crash.{IsLeft, LeavesFirst};
 ghost use Rattle.replica.specs.Sent.{SentFor};
@@ -87,6 +87,16 @@ pub fn one_outcome()
     ensures end { (limit : ℕ) (names : Names) (was is : Bool) (old new other : Content) (b : List ℕ) (end last : Ended) → AllByRecursion (λ byte. byte < 256) b → IsInFull end.reason → IsInFull last.reason
         → Conn limit names was old b new end → Conn limit names is old b other last → IsSameEnd end last }
 {}
+
+/// Each list of bytes has an end: for a store that had not failed, a connection with these bytes leads from what it held
+/// to some content, and ends by its bytes or by a transaction that is refused.
+pub fn some_end(_bytes: &[u8])
+    ensures { (limit : ℕ) (names : Names) (old : Content) → HasEnd limit names old _bytes.now }
+{
+    greet::laws::greetings();
+    greet::laws::replies();
+    greet::laws::errors();
+}
 
 /// What closed files hold is found by the next call that opens them: as they are, and what a crash leaves of them, with its
 /// log or without. So what `replay` and `follow_file` promise carries on from one call to the next.
