@@ -45,15 +45,32 @@ fn plain<'a>(alloc: Global, command: Command<'a>) -> Result<Command<'a>, AllocEr
         .subcommand(minus(alloc)?)
 }
 
-/// The option for the tables whose rows are kept.
-fn only<'a>(alloc: Global) -> Arg<'a> {
+/// An option for tables.
+fn only_with<'a>(alloc: Global, help: &'a str) -> Arg<'a> {
     Arg::new(alloc, "only")
         .long("only")
         .value_name("SCHEMA.TABLE")
         .action(ArgAction::Append)
-        .help(
-            "Keep only the rows of this table; may be repeated. Without it: of the tables that the database was made for, or of all tables for a new database",
-        )
+        .help(help)
+}
+
+/// The option for the tables whose rows are kept.
+fn only<'a>(alloc: Global) -> Arg<'a> {
+    only_with(
+        alloc,
+        "Keep only the rows of this table; may be repeated. Without it: of the tables that the database was made for, or of all tables for a new database",
+    )
+}
+
+/// `mrep show`.
+fn show<'a>(alloc: Global) -> Result<Command<'a>, AllocError> {
+    let help = "Print only the rows of this table; may be repeated";
+    over(
+        alloc,
+        "show",
+        "Print the rows of a database: table, count, cells",
+    )?
+    .arg(only_with(alloc, help))
 }
 
 /// A required option.
@@ -138,10 +155,11 @@ fn skip<'a>(alloc: Global) -> Result<Command<'a>, AllocError> {
 
 /// The commands that use a database, except `replay` and `follow`.
 fn reading<'a>(alloc: Global, command: Command<'a>) -> Result<Command<'a>, AllocError> {
-    let show = "Print the rows of a database: table, count, cells";
+    let tables = "Print the tables that a database was made for, and how many rows of each it has";
     let gtids = "Print the executed GTID set of a database";
     command
-        .subcommand(over(alloc, "show", show)?)?
+        .subcommand(show(alloc)?)?
+        .subcommand(over(alloc, "tables", tables)?)?
         .subcommand(over(alloc, "gtids", gtids)?)?
         .subcommand(missing(alloc)?)?
         .subcommand(skip(alloc)?)

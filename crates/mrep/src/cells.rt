@@ -5,6 +5,9 @@ use gather::Image;
 use std::io;
 use std::io::Write;
 
+/// The hexadecimal digits by their value.
+const DIGITS: [u8; 16] = *b"0123456789abcdef";
+
 /// Writes a cell: `null`; a number in decimal digits, `/` and its width; or bytes as `x` and hexadecimal digits.
 fn write_cell<W: Write>(cell: Cell<'_>, out: &mut W) -> io::Result<()> {
     match cell {
@@ -15,9 +18,10 @@ fn write_cell<W: Write>(cell: Cell<'_>, out: &mut W) -> io::Result<()> {
 }
 
 fn write_bytes<W: Write>(bytes: &[u8], out: &mut W) -> io::Result<()> {
-    write!(out, "x")?;
+    out.write_all(b"x")?;
     for byte in bytes {
-        write!(out, "{byte:02x}")?;
+        let digits = [DIGITS[(*byte / 16) as usize], DIGITS[(*byte % 16) as usize]];
+        out.write_all(&digits)?;
     }
     Ok(())
 }

@@ -11,6 +11,7 @@ use crate::sets::{gtids, missing};
 use crate::show::show;
 use crate::skip::skip;
 use crate::stream::{Lines, list};
+use crate::tables::tables;
 use clap::ArgMatches;
 use clap::error::ErrorKind;
 use std::convert::AsStr;
@@ -50,7 +51,8 @@ fn run_reading<'a, W: Write>(
 {
     let file = word(given, "db");
     let status = match name {
-        "show" => show(rt, file, out)?,
+        "show" => show(rt, file, given.get_strs("only"), out)?,
+        "tables" => tables(rt, file, out)?,
         "gtids" => gtids(rt, file, out)?,
         "missing" => missing(rt, file, word(given, "SET"), out)?,
         "skip" => skip(rt, file, word(given, "G"), out)?,

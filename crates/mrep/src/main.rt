@@ -23,6 +23,7 @@ mod show;
 mod skip;
 mod socket;
 mod stream;
+mod tables;
 
 use crate::command::command;
 use crate::failure::{MEMORY, USAGE};
