@@ -30,4 +30,5 @@ pub mod Talking
 pub mod Transactions
 pub mod Resuming
 pub mod Restarted
+pub mod RestartedFiles
 pub mod Filtered

@@ -9,7 +9,7 @@ use Rattle.replica.proofs.Left.{left_transactions}
 use Rattle.replica.proofs.Resuming.{cut}
 
 module _ (one_dump : (a b : DumpValue) (payload : List ℕ) → IsDump a payload → IsDump b payload → a ≡ b) (limit : ℕ) (names : Names) (history : List ScriptValue) where
-  restarted : (j : ℕ) (held left : Content) → Reaches names history j held → Restarts limit names history held left → (i : ℕ) × Reaches names history (j + i) left
+  pub restarted : (j : ℕ) (held left : Content) → Reaches names history j held → Restarts limit names history held left → (i : ℕ) × Reaches names history (j + i) left
   restarted j held left reached s =
       let r = s.asked j reached in
       let l = left_transactions limit names held s.part s.new s.end left s.was s.conn s.leaves in

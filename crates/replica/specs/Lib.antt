@@ -19,3 +19,4 @@ pub mod Resume
 pub mod File
 pub mod Replay
 pub mod FollowFile
+pub mod Restart

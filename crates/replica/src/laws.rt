@@ -32,8 +32,10 @@ ghost use Rattle.replica.specs.Standing.{Stands, end_of};
 ghost use Rattle.replica.specs.Over.{StandsOver};
 ghost use Rattle.replica.specs.Follow.{HandsOut, IsInFull};
 ghost use Rattle.replica.specs.File.{FilesHold, AreClosedWith};
+ghost use Rattle.replica.specs.Restart.{Starts, IsUncut, AreStarts, HoldFirst, FilesNeverFall};
 ghost use Rattle.replica.specs.Resume.{Resumes, Leads, Reaches, AreRestarts, NeverFalls, part_changes, transaction, transactions, end_of as end_of_log};
 
+use crate::counted::Duplex;
 use crate::session::Session;
 use sqlite::{Alter, Files};
 use sqlite_disk::Disk;
@@ -139,6 +141,23 @@ pub fn stopped_anywhere(_opening: &[u8], _answer: &[u8])
 /// the first transactions of the history, and of these there are never fewer than before.
 pub fn restarted()
     ensures { (limit : ℕ) (names : Names) (history : List ScriptValue) (j : ℕ) (held : Content) (lefts : List Content) → Reaches names history j held → AreRestarts limit names history held lefts → NeverFalls names history j lefts }
+{
+    greet::laws::dumps();
+}
+
+/// The same of a replica whose database is in files, over its openings: each call of `follow_file` opens what the one
+/// before has left, as it was closed or after a crash. However often it is started, and wherever each connection is cut,
+/// the files hold the content after the first transactions of the history, and of these there are never fewer than before.
+/// A connection that is not cut leaves the content after all of them.
+pub fn restarted_files<D: Disk, T: Duplex + Drop, E: Drop, F: FnOnce() -> Result<T, E> + Drop>(
+    _files: &Files<D>,
+    _connect: &F,
+)
+    ensures never_falls { (only names : Names) (history : List ScriptValue) (j : ℕ) (held : Content) (before : Image) (images : List Image) → Reaches names history j held → FilesHold only names held before
+        → AreStarts D.Disk T.Read.remaining T.Write.contents T.failures F.post only names history before images → FilesNeverFall only names history j images }
+    ensures whole { (only names : Names) (history : List ScriptValue) (j : ℕ) (held : Content) (before next : Image) → Reaches names history j held → FilesHold only names held before
+        → (start : Starts D.Disk T.Read.remaining T.Write.contents T.failures F.post only names history before next) → IsUncut D.Disk T.Read.remaining T.Write.contents T.failures F.post only names history before next start
+        → HoldFirst only names history next (length history) }
 {
     greet::laws::dumps();
 }

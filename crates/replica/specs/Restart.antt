@@ -1,0 +1,85 @@
+-- A replica of a scripted source whose database is in files, stopped anywhere and started again.
+use Rattle.std.specs.Prelude.{◌≡◌, ◌⊎◌, ℕ, ◌+◌, ◌^◌, ◌<◌, ◌++◌, List, [], ◌∷◌, length, Option, Some, Result, Ok, Err}
+use Rattle.std.specs.List.{AllByRecursion}
+use Rattle.sqlite_disk.specs.declared.Disk.{Ghosts}
+use Rattle.sqlite_disk.specs.declared.Files.{Files}
+use Rattle.sqlite_wal.specs.Recovery.{Image}
+use Rattle.sqlite_wal.specs.Reads.{AreClean}
+use Rattle.sqlite_wal.specs.Files.{outcomes}
+use Rattle.sqlite_trees.specs.Tree.{Trees}
+use Rattle.sqlite_trees.specs.View.{IsClean}
+use Rattle.sqlite_store.specs.declared.store.FileStore.{FileStore}
+use Rattle.sqlite_store.specs.FileStore.{view, recovers}
+use Rattle.sqlite.specs.declared.error.Error.{Error}
+use Rattle.sqlite.specs.Files.{HoldsDatabase, image_of}
+use Rattle.binlog.specs.Filter.{Names}
+use Rattle.store.specs.State.{Content}
+use Rattle.scripted_source.specs.Script.{ScriptValue}
+use Rattle.scripted_source.specs.Source.{Payload}
+use Rattle.replica.specs.declared.counted.Counted.{Counted}
+use Rattle.replica.specs.declared.end.Ended.{Ended}
+use Rattle.replica.specs.declared.followed_file.FollowedFile.{FollowedFile}
+use Rattle.replica.specs.Settings.{Settings}
+use Rattle.replica.specs.Follow.{IsInFull}
+use Rattle.replica.specs.Resume.{Reaches, Resumes}
+use Rattle.replica.specs.File.{FilesHold}
+use Rattle.replica.specs.FollowFile.{FollowsFile}
+
+-- What a source with this history sends to a replica that holds this content, and the prefix of it that a stream has left
+-- to read.
+pub record IsSent (limit : ℕ) (names : Names) (history : List ScriptValue) (held : Content) (left : Option (List ℕ)) : Type 0 where
+  pub last : Content
+  pub request : Payload
+  pub opening : List ℕ
+  pub answer : List ℕ
+  pub asked : (j : ℕ) → Reaches names history j held → Resumes limit names history j held last request opening answer
+  pub are_bytes : AllByRecursion (λ b. b < 256) (opening ++ answer)
+  pub fewer : length (opening ++ answer) < 2 ^ 64
+  pub part : List ℕ
+  pub more : List ℕ
+  pub cut : opening ++ answer ≡ part ++ more
+  pub left_is : left ≡ Some part
+
+-- What the next call may find of the files of this one. Of files that were closed, what they hold, or what a crash leaves
+-- of them, with the log or without; of files that could not be closed, what a crash leaves of them.
+abbrev pub Finds : {D : Type 0} {g : Ghosts D} → Result (Files D) (Error × FileStore D g) → Image → Type 0
+Finds {D} {g} (Ok files) next =
+    AreClean g files.log files.db × ((image : Image) × ((image ≡ image_of g files) ⊎ outcomes g files.log files.db image) × ((next ≡ image) ⊎ (next ≡ record image { log = [] })))
+Finds (Err e) next = IsClean (view e.1) × ((trees : Trees) × recovers e.1 trees × ∥ HoldsDatabase next trees ∥₁)
+
+module _ {D : Type 0} (g : Ghosts D) {F T E : Type 0} (left written : T → Option (List ℕ)) (failures : T → Option (ℕ × ℕ)) (gives : F → Result T E → Type 0) (only names : Names) (history : List ScriptValue) where
+  -- A source with this history was followed once into files that were the first image before; the next call may find the
+  -- second. What is said of the call is the clause `follows` of `follow_file`.
+  pub record Starts (before next : Image) : Type 0 where
+    pub settings : Settings
+    pub connect : F
+    pub done : FollowedFile T E D g
+    pub follows : (content : Content) → FilesHold only names content before → FollowsFile left written failures (gives connect) settings only names content done
+    -- each stream that is given has a prefix of what the source sends
+    pub sent : (stream : T) → gives connect (Ok stream) → (held : Content) → FilesHold only names held before → IsSent settings.limit names history held (left stream)
+    pub finds : Finds done.closed next
+
+  -- The stream that was given has all that the source sends, all of it was read, and the connection ended by its bytes.
+  pub record IsUncut (before next : Image) (start : Starts before next) : Type 0 where
+    pub end : Ended
+    pub counted : Counted T
+    pub connection : start.done.connection ≡ Ok (end, counted)
+    pub in_full : IsInFull end.reason
+    pub nothing_left : left counted.stream ≡ Some []
+    pub all_sent : (stream : T) (gave : gives start.connect (Ok stream)) (held : Content) (hold : FilesHold only names held before) → (start.sent stream gave held hold).more ≡ []
+
+  -- Each time the files are what the call before has left.
+  abbrev pub AreStarts : Image → List Image → Type 0
+  AreStarts before [] = Unit {0}
+  AreStarts before (next ∷ images) = Starts before next × AreStarts next images
+
+-- The files hold the content after the first transactions of the history, this many.
+pub record HoldFirst (only names : Names) (history : List ScriptValue) (image : Image) (count : ℕ) : Type 0 where
+  pub content : Content
+  pub hold : FilesHold only names content image
+  pub reached : Reaches names history count content
+
+-- The files hold contents after the first transactions of a history: each time after as many as the time before, or more.
+abbrev pub FilesNeverFall : Names → Names → List ScriptValue → ℕ → List Image → Type 0
+FilesNeverFall only names history j [] = Unit {0}
+FilesNeverFall only names history j (image ∷ images) = (i : ℕ) × HoldFirst only names history image (j + i) × FilesNeverFall only names history (j + i) images
