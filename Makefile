@@ -4,7 +4,7 @@
 #             program, the wrong bodies, the libraries out of memory, and then, with the program that was built, what else
 #             tests/ has: the commands, messages, files read by sqlite3, damaged databases, streams and their faults,
 #             captured streams, a source over loopback, streams compared with an independent reading, changed bytes,
-#             running out of memory, kills, and the commands, examples and names of the pages
+#             running out of memory, kills, copies beside a writer, and the commands, examples and names of the pages
 # make bench  times mrep, the sets and the transactions against plain Rust programs that do the same jobs, and the
 #             store against the C library of SQLite (needs rustc; the store also python3)
 

@@ -153,6 +153,18 @@ fn skip<'a>(alloc: Global) -> Result<Command<'a>, AllocError> {
     .arg(needed(alloc, "G", "A GTID: a hyphenated UUID, `:` and a number"))
 }
 
+/// `mrep copy`.
+fn copy<'a>(alloc: Global) -> Result<Command<'a>, AllocError> {
+    let about =
+        "Copy a database as it is after some transaction, also while another process writes it";
+    let db = option(alloc, "db", "F", "The database file").allow_hyphen_values(true);
+    Command::new(alloc, "copy")
+        .about(about)
+        .arg(db)?
+        .arg(needed(alloc, "TO", "The file to make"))?
+        .arg(flag(alloc, "force", "Replace the file if it exists"))
+}
+
 /// The commands that use a database, except `replay` and `follow`.
 fn reading<'a>(alloc: Global, command: Command<'a>) -> Result<Command<'a>, AllocError> {
     let tables = "Print the tables that a database was made for, and how many rows of each it has";
@@ -162,6 +174,7 @@ fn reading<'a>(alloc: Global, command: Command<'a>) -> Result<Command<'a>, Alloc
         .subcommand(over(alloc, "tables", tables)?)?
         .subcommand(over(alloc, "gtids", gtids)?)?
         .subcommand(missing(alloc)?)?
+        .subcommand(copy(alloc)?)?
         .subcommand(skip(alloc)?)
 }
 

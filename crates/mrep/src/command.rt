@@ -3,6 +3,7 @@
 ghost use Rattle.std.specs.Prelude.{◌≤◌, IfOk, IfSome};
 
 use crate::arguments::grammar;
+use crate::copy::copy;
 use crate::failure::{DONE, Failure, MEMORY};
 use crate::follow::{Words, follow_source};
 use crate::minus::minus;
@@ -56,6 +57,7 @@ fn run_reading<'a, W: Write>(
         "gtids" => gtids(rt, file, out)?,
         "missing" => missing(rt, file, word(given, "SET"), out)?,
         "skip" => skip(rt, file, word(given, "G"), out)?,
+        "copy" => copy(rt, file, word(given, "TO"), given.get_flag("force"))?,
         _ => return Ok(None),
     };
     Ok(Some(status))

@@ -96,6 +96,14 @@ pub fn follow_into<'a, T: Duplex + Drop, F: FnOnce() -> io::Result<T> + Drop>(
     }
 }
 
+/// Opens and closes a copy of a database in a file, which copies its log back into it. A failure names the database.
+pub fn test<'a>(rt: &HostRuntime, copy: &str, name: &'a str) -> Result<(), Failure<'a>> {
+    match connect(rt, copy, None) {
+        Ok(store) => close(name, store),
+        Err(cause) => Err(refusal(rt, name, cause)),
+    }
+}
+
 /// Closes what is left of an opening that failed, and returns its cause.
 fn leave(rt: &HostRuntime, log: Option<String>, unopened: Unopened<File>) -> StoreFault {
     match unopened {
@@ -137,7 +145,7 @@ fn remove_unused(rt: &HostRuntime, log: Option<String>) {
 }
 
 /// Whether a log has a first frame: its page number is there and is not 0.
-fn has_frames(rt: &HostRuntime, log: &str) -> io::Result<bool> {
+pub fn has_frames(rt: &HostRuntime, log: &str) -> io::Result<bool> {
     let Some(head) = read_head::<FIRST_PAGE_END>(rt, log)? else {
         return Ok(false);
     };
@@ -145,7 +153,7 @@ fn has_frames(rt: &HostRuntime, log: &str) -> io::Result<bool> {
 }
 
 /// The first bytes of a file, if it has that many.
-fn read_head<const N: usize>(rt: &HostRuntime, name: &str) -> io::Result<Option<[u8; N]>> {
+pub fn read_head<const N: usize>(rt: &HostRuntime, name: &str) -> io::Result<Option<[u8; N]>> {
     let mut file = fs::open(rt, name)?;
     if file.metadata()?.len() < N as u64 {
         return Ok(None);

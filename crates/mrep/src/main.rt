@@ -7,6 +7,7 @@
 mod arguments;
 mod cells;
 mod command;
+mod copy;
 mod database;
 mod events;
 mod failure;
