@@ -1,7 +1,7 @@
 //! `mrep copy`: a copy of a database, made at any moment, also while another process writes it.
 //!
 //! The database is not opened and not locked, and nothing is written to it. Its two files are copied as they are, first
-//! the database file and then its log, and the log's header is read before and after. A log is only ever written behind
+//! the database file and then its log, and the log's header is read before and after. A log is only ever written after
 //! what it has, until it is begun anew, under a header with another salt. So where the header is the same, each page that
 //! was copied back into the database file meanwhile stands in the copied log too, and opening the copy finds the state
 //! after some last commit, at least of all that had ended before. The copy is opened, and so tested, as any file is, and
@@ -52,8 +52,10 @@ pub fn copy<'a>(rt: &HostRuntime, db: &'a str, to: &'a str, force: bool) -> Resu
         Ok(path) => names_of(rt.alloc(), String::from_str(rt.alloc(), path.as_str())?)?,
         Err(cause) => return Err(Failure::File { name: db, cause }),
     };
-    if let Some(why) = refusal_of(rt, &from, to, force)? {
-        return Err(Failure::Unusable { name: to, why });
+    match refusal_of(rt, &from, to, force) {
+        Ok(None) => {}
+        Ok(Some(why)) => return Err(Failure::Unusable { name: to, why }),
+        Err(cause) => return Err(Failure::File { name: to, cause }),
     }
     let part = names_of(rt.alloc(), format!(in rt.alloc(); "{to}.part")?)?;
     let made = make(rt, db, to, &from, &part);
@@ -65,26 +67,31 @@ pub fn copy<'a>(rt: &HostRuntime, db: &'a str, to: &'a str, force: bool) -> Resu
     Ok(DONE)
 }
 
-/// Why a file may not be replaced, if it may not.
+/// Why a file may not be made or replaced, if it may not.
 fn refusal_of(
     rt: &HostRuntime,
     from: &Names,
     to: &str,
     force: bool,
-) -> Result<Option<&'static str>, AllocError> {
-    let Ok(path) = fs::canonicalize(rt, to) else {
-        return Ok(None);
+) -> io::Result<Option<&'static str>> {
+    let path = match fs::canonicalize(rt, to) {
+        Ok(path) => path,
+        Err(cause) if cause.kind() == ErrorKind::NotFound => return Ok(None),
+        Err(cause) => return Err(cause),
     };
     let target = names_of(rt.alloc(), String::from_str(rt.alloc(), path.as_str())?)?;
-    Ok(if target.file.as_str() == from.file.as_str() {
-        Some(SAME)
-    } else if !force {
-        Some(EXISTS)
-    } else if let Ok(true) = has_frames(rt, target.log.as_str()) {
-        Some(HAS_LOG)
-    } else {
-        None
-    })
+    if target.file.as_str() == from.file.as_str() {
+        return Ok(Some(SAME));
+    }
+    if !force {
+        return Ok(Some(EXISTS));
+    }
+    match has_frames(rt, target.log.as_str()) {
+        Ok(true) => Ok(Some(HAS_LOG)),
+        Ok(false) => Ok(None),
+        Err(cause) if cause.kind() == ErrorKind::NotFound => Ok(None),
+        Err(cause) => Err(cause),
+    }
 }
 
 /// Makes a copy under other names, and gives it its own.
@@ -95,6 +102,9 @@ fn make<'a>(
     from: &Names,
     part: &Names,
 ) -> Result<(), Failure<'a>> {
+    if let Err(cause) = try_read(rt, from) {
+        return Err(Failure::File { name: db, cause });
+    }
     match copy_files(rt, from, part) {
         Ok(true) => {}
         Ok(false) => {
@@ -110,6 +120,13 @@ fn make<'a>(
         Ok(()) => Ok(()),
         Err(cause) => Err(Failure::File { name: to, cause }),
     }
+}
+
+/// Whether both files can be read.
+fn try_read(rt: &HostRuntime, from: &Names) -> io::Result<()> {
+    fs::open(rt, from.file.as_str())?;
+    header(rt, from.log.as_str())?;
+    Ok(())
 }
 
 /// Copies the two files until they fit each other. Whether they do at last.
