@@ -3,6 +3,7 @@
 mod deliveries;
 mod fixtures;
 mod follows;
+mod memory;
 mod resumes;
 mod sessions;
 mod sources;

@@ -10,16 +10,16 @@ use std::test::Fail;
 use store::{Store, StoreFault};
 
 /// 3e11fa47-71ca-11e1-9e33-c80aa9429562.
-const A: [u8; 16] = *b"\x3e\x11\xfa\x47\x71\xca\x11\xe1\x9e\x33\xc8\x0a\xa9\x42\x95\x62";
+pub(super) const A: [u8; 16] = *b"\x3e\x11\xfa\x47\x71\xca\x11\xe1\x9e\x33\xc8\x0a\xa9\x42\x95\x62";
 
 /// The row of a letter: (8, "cd") for `p` and `m`, otherwise (7, "ab").
-fn image(alloc: Global, letter: u8) -> Result<Image, Fail> {
+pub(super) fn image(alloc: Global, letter: u8) -> Option<Image> {
     let (value, text): (u64, &[u8]) = match letter {
         b'p' | b'm' => (8, b"cd"),
         _ => (7, b"ab"),
     };
     let cells = [Cell::Number { value, width: 4 }, Cell::Bytes(text)];
-    Ok(Image::new(alloc, &cells)?.ok_or("no image")?)
+    Image::new(alloc, &cells).ok()?
 }
 
 /// The table of a letter, in the schema `shop`.
@@ -32,18 +32,18 @@ fn name(letter: u8) -> &'static [u8] {
 }
 
 /// The table map of a letter's table.
-fn table(alloc: Global, letter: u8) -> Result<Rc<TableDef>, Fail> {
-    let schema = Vec::from_slice(alloc, b"shop")?;
-    let table = Vec::from_slice(alloc, name(letter))?;
+fn table(alloc: Global, letter: u8) -> Option<Rc<TableDef>> {
+    let schema = Vec::from_slice(alloc, b"shop").ok()?;
+    let table = Vec::from_slice(alloc, name(letter)).ok()?;
     let def = TableDef::new(schema, table, Vec::new(alloc));
-    Ok(Rc::new(alloc, def)?)
+    Rc::new(alloc, def).ok()
 }
 
 /// A change, written as a letter: `+` adds (7, "ab") to shop.items, `-` removes it and `=` replaces it by itself; `p`
 /// and `m` do the first two for (8, "cd"); `o` and `x` for (7, "ab") in shop.other.
-fn change(alloc: Global, letter: u8) -> Result<Change, Fail> {
+fn change(alloc: Global, letter: u8) -> Option<Change> {
     let (table, row) = (table(alloc, letter)?, image(alloc, letter)?);
-    Ok(match letter {
+    Some(match letter {
         b'+' | b'p' | b'o' => Change::Insert { table, after: row },
         b'=' => Change::Update {
             table,
@@ -54,50 +54,61 @@ fn change(alloc: Global, letter: u8) -> Result<Change, Fail> {
     })
 }
 
-/// The transaction of this number, with a change for each letter.
-pub(super) fn delivery(alloc: Global, number: u64, letters: &str) -> Result<Delivery, Fail> {
-    let gtid = Gtid::new(A, number).ok_or("no GTID")?;
+/// The transaction of this number, with a change for each letter. `None` if memory is refused.
+pub(super) fn transaction(alloc: Global, number: u64, letters: &str) -> Option<Delivery> {
+    let gtid = Gtid::new(A, number)?;
     let mut changes = Vec::new(alloc);
     for letter in letters.as_bytes() {
-        changes.push(change(alloc, *letter)?)?;
+        changes.push(change(alloc, *letter)?).ok()?;
     }
-    Ok(Delivery { gtid, changes })
+    Some(Delivery { gtid, changes })
+}
+
+/// As `transaction`, with memory to spare.
+pub(super) fn delivery(alloc: Global, number: u64, letters: &str) -> Result<Delivery, Fail> {
+    Ok(transaction(alloc, number, letters).ok_or("no transaction")?)
 }
 
 /// The number of copies of a letter's row in its table.
-fn count<S: Alter>(alloc: Global, store: &mut Store<S>, letter: u8) -> Result<u64, Fail> {
+fn count<S: Alter>(alloc: Global, store: &mut Store<S>, letter: u8) -> Option<u64> {
     let row = image(alloc, letter)?;
-    Ok(store.count(b"shop", name(letter), &row)?)
+    store.count(b"shop", name(letter), &row).ok()
 }
 
 /// The executed set, without the source.
-fn executed<S: Alter>(alloc: Global, store: &Store<S>) -> Result<String, Fail> {
+fn executed<S: Alter>(alloc: Global, store: &Store<S>) -> Option<String> {
     let mut text = String::new(alloc);
-    store.executed().print(&mut text)?;
+    store.executed().print(&mut text).ok()?;
     let numbers = text
         .strip_prefix("3e11fa47-71ca-11e1-9e33-c80aa9429562:")
         .unwrap_or("none");
-    Ok(String::from_str(alloc, numbers)?)
+    String::from_str(alloc, numbers).ok()
 }
 
 /// What a store holds: the executed set, and the numbers of copies of (7, "ab") and (8, "cd") in shop.items and of
-/// (7, "ab") in shop.other.
-pub(super) fn held<S: Alter>(alloc: Global, store: &mut Store<S>) -> Result<String, Fail> {
+/// (7, "ab") in shop.other. `None` if the store has failed or fails.
+pub(super) fn content<S: Alter>(alloc: Global, store: &mut Store<S>) -> Option<String> {
     let set = executed(alloc, store)?;
     let pair = count(alloc, store, b'+')?;
     let second = count(alloc, store, b'p')?;
     let other = count(alloc, store, b'o')?;
-    Ok(format!(in alloc; "{set} {pair} {second} {other}")?)
+    format!(in alloc; "{set} {pair} {second} {other}").ok()
+}
+
+/// As `content`, of a store that does not fail.
+pub(super) fn held<S: Alter>(alloc: Global, store: &mut Store<S>) -> Result<String, Fail> {
+    Ok(content(alloc, store).ok_or("the store fails")?)
 }
 
 /// The filter of these tables of the schema `shop`, each given by its letter.
-pub(super) fn filter(alloc: Global, letters: &str) -> Result<Follow, Fail> {
+pub(super) fn filter(alloc: Global, letters: &str) -> Option<Follow> {
     let mut names = Vec::new(alloc);
     for letter in letters.as_bytes() {
-        let schema = Vec::from_slice(alloc, b"shop")?;
-        names.push((schema, Vec::from_slice(alloc, name(*letter))?))?;
+        let schema = Vec::from_slice(alloc, b"shop").ok()?;
+        let table = Vec::from_slice(alloc, name(*letter)).ok()?;
+        names.push((schema, table)).ok()?;
     }
-    Ok(Follow::new(alloc, names.as_slice())?)
+    Follow::new(alloc, names.as_slice()).ok()
 }
 
 /// Opens a database, for a filter if one is given.
@@ -112,7 +123,7 @@ pub(super) fn attempt<S: Alter + Drop>(
     match only {
         None => Ok(Store::open(alloc, conn)),
         Some(letters) => {
-            let follow = filter(alloc, letters)?;
+            let follow = filter(alloc, letters).ok_or("no filter")?;
             Ok(Store::open_only(alloc, conn, &follow))
         }
     }

@@ -13,7 +13,7 @@ use store::Store;
 
 /// The opening and the answer of a source to a replica that has these transactions.
 fn stream(alloc: Global, history: &[Script], set: &GtidSet) -> Result<Vec<u8>, Fail> {
-    let request = request(alloc, 4, set)?;
+    let request = request(alloc, 4, set).ok_or("no request")?;
     let answered = answer(alloc, history, &request)?;
     joined(alloc, &[cut(100).0, &answered])
 }

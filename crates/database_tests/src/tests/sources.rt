@@ -11,35 +11,34 @@ use std::test::Fail;
 /// 3e11fa47-71ca-11e1-9e33-c80aa9429562.
 const A: [u8; 16] = *b"\x3e\x11\xfa\x47\x71\xca\x11\xe1\x9e\x33\xc8\x0a\xa9\x42\x95\x62";
 
-/// A column's type.
-fn column(kind: ColumnKind) -> Result<ColumnType, Fail> {
-    Ok(ColumnType::new(kind).ok_or("no type")?)
-}
-
 /// The table shop.items: a number of four bytes, and a text of at most 20 bytes or, if it is `long`, of any length.
-fn items(alloc: Global, long: bool) -> Result<TableDef, Fail> {
+fn items(alloc: Global, long: bool) -> Option<TableDef> {
     let mut types = Vec::new(alloc);
-    types.push(column(ColumnKind::Long)?)?;
-    types.push(column(if long {
-        ColumnKind::Blob { prefix: 4 }
-    } else {
-        ColumnKind::Varchar { maximum: 20 }
-    })?)?;
-    let schema = Vec::from_slice(alloc, b"shop")?;
-    Ok(TableDef::new(schema, Vec::from_slice(alloc, b"items")?, types))
+    types.push(ColumnType::new(ColumnKind::Long)?).ok()?;
+    types
+        .push(ColumnType::new(if long {
+            ColumnKind::Blob { prefix: 4 }
+        } else {
+            ColumnKind::Varchar { maximum: 20 }
+        })?)
+        .ok()?;
+    let schema = Vec::from_slice(alloc, b"shop").ok()?;
+    let table = Vec::from_slice(alloc, b"items").ok()?;
+    Some(TableDef::new(schema, table, types))
 }
 
 /// A row of shop.items.
-fn row(alloc: Global, value: u64, text: &[u8]) -> Result<Vec<OwnedCell>, Fail> {
+fn row(alloc: Global, value: u64, text: &[u8]) -> Option<Vec<OwnedCell>> {
     let mut cells = Vec::new(alloc);
-    cells.push(OwnedCell::Number { value, width: 4 })?;
-    cells.push(OwnedCell::Bytes(Vec::from_slice(alloc, text)?))?;
-    Ok(cells)
+    cells.push(OwnedCell::Number { value, width: 4 }).ok()?;
+    let text = Vec::from_slice(alloc, text).ok()?;
+    cells.push(OwnedCell::Bytes(text)).ok()?;
+    Some(cells)
 }
 
 /// An insert of a row.
-fn insert(alloc: Global, value: u64, text: &[u8]) -> Result<OwnedPair, Fail> {
-    Ok(OwnedPair::Insert {
+fn insert(alloc: Global, value: u64, text: &[u8]) -> Option<OwnedPair> {
+    Some(OwnedPair::Insert {
         after: row(alloc, value, text)?,
     })
 }
@@ -51,25 +50,27 @@ fn script(
     table: TableDef,
     kind: RowsKind,
     pair: OwnedPair,
-) -> Result<Script, Fail> {
+) -> Option<Script> {
     let mut pairs = Vec::new(alloc);
-    pairs.push(pair)?;
+    pairs.push(pair).ok()?;
     let mut parts = Vec::new(alloc);
-    parts.push(Part {
-        id: 1,
-        table,
-        kind,
-        pairs,
-    })?;
-    Ok(Script {
-        gtid: Gtid::new(A, number).ok_or("no GTID")?,
+    parts
+        .push(Part {
+            id: 1,
+            table,
+            kind,
+            pairs,
+        })
+        .ok()?;
+    Some(Script {
+        gtid: Gtid::new(A, number)?,
         parts,
         ending: Ending::Xid,
     })
 }
 
-/// The transactions of `streams::three_transactions`.
-pub(super) fn history(alloc: Global) -> Result<Vec<Script>, Fail> {
+/// The transactions of `streams::three_transactions`. `None` if memory is refused.
+pub(super) fn scripts(alloc: Global) -> Option<Vec<Script>> {
     let changes = [
         (1, RowsKind::Write, insert(alloc, 7, b"ab")?),
         (3, RowsKind::Write, insert(alloc, 8, b"cd")?),
@@ -84,26 +85,32 @@ pub(super) fn history(alloc: Global) -> Result<Vec<Script>, Fail> {
     ];
     let mut scripts = Vec::new(alloc);
     for (number, kind, pair) in changes {
-        scripts.push(script(alloc, number, items(alloc, false)?, kind, pair)?)?;
+        let script = script(alloc, number, items(alloc, false)?, kind, pair)?;
+        scripts.push(script).ok()?;
     }
-    Ok(scripts)
+    Some(scripts)
 }
 
-/// The payload of a dump command with a set.
-pub(super) fn request(alloc: Global, flags: u16, set: &GtidSet) -> Result<Vec<u8>, Fail> {
+/// As `scripts`, with memory to spare.
+pub(super) fn history(alloc: Global) -> Result<Vec<Script>, Fail> {
+    Ok(scripts(alloc).ok_or("no history")?)
+}
+
+/// The payload of a dump command with a set. `None` if memory is refused.
+pub(super) fn request(alloc: Global, flags: u16, set: &GtidSet) -> Option<Vec<u8>> {
     let mut bytes = Vec::new(alloc);
-    set.encode(&mut bytes)?;
+    set.encode(&mut bytes).ok()?;
     let dump = Dump {
         flags,
         server_id: 7,
         set: &bytes,
     };
     if !dump.fits() {
-        return Err("too long a set".into());
+        return None;
     }
     let mut payload = Vec::new(alloc);
-    dump.write(&mut payload)?;
-    Ok(payload)
+    dump.write(&mut payload).ok()?;
+    Some(payload)
 }
 
 /// The answer to a replica that has the transactions of these numbers.
@@ -117,7 +124,8 @@ fn answered(
     for number in numbers {
         set.insert(Gtid::new(A, *number).ok_or("no GTID")?)?;
     }
-    Ok(answer(alloc, history, &request(alloc, flags, &set)?))
+    let request = request(alloc, flags, &set).ok_or("no request")?;
+    Ok(answer(alloc, history, &request))
 }
 
 #[test]
@@ -155,19 +163,28 @@ fn a_source_answers(rt: HostRuntime) -> Result<(), Fail> {
     Ok(())
 }
 
+/// A script with a deleted row in an event of inserts.
+fn unfit(alloc: Global) -> Option<Script> {
+    let delete = OwnedPair::Delete {
+        before: row(alloc, 7, b"ab")?,
+    };
+    script(alloc, 4, items(alloc, false)?, RowsKind::Write, delete)
+}
+
+/// A script that inserts a row with a long text.
+fn too_large(alloc: Global, text: &[u8]) -> Option<Script> {
+    let insert = insert(alloc, 7, text)?;
+    script(alloc, 5, items(alloc, true)?, RowsKind::Write, insert)
+}
+
 /// Which fault comes first: that of the request, and then those of the scripts that would be sent.
 #[test]
 fn a_source_refuses(rt: HostRuntime) -> Result<(), Fail> {
     let alloc = rt.alloc();
     let mut history = history(alloc)?;
-    let delete = OwnedPair::Delete {
-        before: row(alloc, 7, b"ab")?,
-    };
-    let table = items(alloc, false)?;
-    history.push(script(alloc, 4, table, RowsKind::Write, delete)?)?;
-    let long = insert(alloc, 7, vec![in alloc; 0; 1 << 30]?.as_slice())?;
-    let table = items(alloc, true)?;
-    history.push(script(alloc, 5, table, RowsKind::Write, long)?)?;
+    history.push(unfit(alloc).ok_or("no script")?)?;
+    let long = vec![in alloc; 0; 1 << 30]?;
+    history.push(too_large(alloc, &long).ok_or("no script")?)?;
     let fault = answered(alloc, &history, 4, &[])?.err();
     assert_eq!(rt; fault, Some(ForgeFault::Unfit(3)));
     let fault = answered(alloc, &history, 4, &[4])?.err();

@@ -32,7 +32,8 @@ enum Job {
     Run,
 }
 
-const FIRST: &str = "BEGIN;
+/// A database of layout 1.
+pub(super) const FIRST: &str = "BEGIN;
 CREATE TABLE meta (k TEXT PRIMARY KEY, v INTEGER NOT NULL);
 CREATE TABLE executed (source BLOB NOT NULL, number INTEGER NOT NULL, PRIMARY KEY (source, number));
 CREATE TABLE held (schema_name BLOB NOT NULL, table_name BLOB NOT NULL, image BLOB NOT NULL, n INTEGER NOT NULL CHECK (n > 0), PRIMARY KEY (schema_name, table_name, image));
