@@ -1,13 +1,14 @@
 //! Opening and closing a database file.
 
+use crate::damage::{Damage, damage_in};
 use crate::failure::Failure;
 use binlog::Follow;
 use replica::{
     Capture, Config, Duplex, FollowedFile, Observer, Replayed, Unopened, follow_file, open_file,
 };
-use sqlite::{Error, ErrorCode, File, FileStore, Files};
+use sqlite::{Alter, Connection, Error, ErrorCode, File, FileStore, Files};
 use sqlite_disk::Unknown;
-use std::alloc::AllocError;
+use std::alloc::{AllocError, Global};
 use std::fs::OpenOptions;
 use std::io::{ErrorKind, Read};
 use std::{fs, io};
@@ -44,21 +45,10 @@ pub fn open<'a>(
     name: &'a str,
     only: Option<&Follow>,
 ) -> Result<Store<FileOf>, Failure<'a>> {
-    match connect(rt, name, only) {
-        Ok(store) => Ok(store),
-        Err(cause) => Err(refusal(rt, name, cause)),
-    }
-}
-
-fn connect(
-    rt: &HostRuntime,
-    name: &str,
-    only: Option<&Follow>,
-) -> Result<Store<FileOf>, StoreFault> {
     let log = missing_log(rt, name)?;
     match open_file(rt, name, Unknown, only) {
         Ok(store) => Ok(store),
-        Err(unopened) => Err(leave(rt, log, unopened)),
+        Err(unopened) => Err(refusal(rt, name, leave(rt, log, unopened))),
     }
 }
 
@@ -98,27 +88,46 @@ pub fn follow_into<'a, T: Duplex + Drop, F: FnOnce() -> io::Result<T> + Drop>(
 
 /// Opens and closes a copy of a database in a file, which copies its log back into it. A failure names the database.
 pub fn test<'a>(rt: &HostRuntime, copy: &str, name: &'a str) -> Result<(), Failure<'a>> {
-    match connect(rt, copy, None) {
+    match open_file(rt, copy, Unknown, None) {
         Ok(store) => close(name, store),
-        Err(cause) => Err(refusal(rt, name, cause)),
+        Err(unopened) => Err(refusal(rt, name, leave(rt, None, unopened))),
     }
 }
 
+/// Why an opening failed.
+enum Cause {
+    Fault(StoreFault),
+    /// The tables are damaged, and what of them is.
+    Damage(Damage),
+}
+
 /// Closes what is left of an opening that failed, and returns its cause.
-fn leave(rt: &HostRuntime, log: Option<String>, unopened: Unopened<File>) -> StoreFault {
+fn leave(rt: &HostRuntime, log: Option<String>, unopened: Unopened<File>) -> Cause {
     match unopened {
-        Unopened::Memory => StoreFault::Memory,
+        Unopened::Memory => Cause::Fault(StoreFault::Memory),
         Unopened::Files(cause, left) => {
             if left.is_some() {
                 remove_unused(rt, log);
             }
-            StoreFault::Database(cause)
+            Cause::Fault(StoreFault::Database(cause))
         }
-        Unopened::Database(cause, conn) => {
+        Unopened::Database(fault, mut conn) => {
+            let cause = cause_in(rt.alloc(), fault, &mut conn);
             remove_unused(rt, log);
             let _ = conn.close();
             cause
         }
+    }
+}
+
+/// The cause of a fault of opening a database: of damage, what is damaged, if that is found.
+fn cause_in<S: Alter>(alloc: Global, fault: StoreFault, conn: &mut Connection<S>) -> Cause {
+    if fault != StoreFault::Damaged {
+        return Cause::Fault(fault);
+    }
+    match damage_in(alloc, conn) {
+        Some(damage) => Cause::Damage(damage),
+        None => Cause::Fault(fault),
     }
 }
 
@@ -164,7 +173,11 @@ pub fn read_head<const N: usize>(rt: &HostRuntime, name: &str) -> io::Result<Opt
 }
 
 /// The failure of a database file that could not be opened.
-fn refusal<'a>(rt: &HostRuntime, name: &'a str, cause: StoreFault) -> Failure<'a> {
+fn refusal<'a>(rt: &HostRuntime, name: &'a str, cause: Cause) -> Failure<'a> {
+    let cause = match cause {
+        Cause::Fault(fault) => fault,
+        Cause::Damage(damage) => return Failure::Damaged { name, damage },
+    };
     let StoreFault::Database(Error::SqliteFailure(code)) = cause else {
         return Failure::Database { name, cause };
     };

@@ -4,6 +4,7 @@ ghost use Rattle.std.specs.Prelude.{◌≡◌, ◌≤◌};
 ghost use Rattle.mrep.specs.Failure.{IsFileStatus, IsStatus, database_status};
 ghost use Rattle.mrep.specs.declared.failure.Failure.TheVariants as variants;
 
+use crate::damage::Damage;
 use crate::name::Shown;
 use clap::error::ErrorKind;
 use gtid::GtidFault;
@@ -45,6 +46,8 @@ pub enum Failure<'a> {
     Host { name: &'a str, cause: io::Error },
     /// The database file of this name could not be opened, or the database failed.
     Database { name: &'a str, cause: StoreFault },
+    /// The tables of the database file of this name are damaged.
+    Damaged { name: &'a str, damage: Damage },
     /// The database file of this name cannot be used, for this reason.
     Unusable { name: &'a str, why: &'static str },
     /// The output could not be written.
@@ -98,7 +101,7 @@ impl Failure<'_> {
             Failure::Database { cause, .. } => database_status(*cause),
             Failure::File { cause, .. } | Failure::Host { cause, .. } | Failure::Output(cause) =>
                 status_of(cause),
-            Failure::Unusable { .. } => FILES,
+            Failure::Damaged { .. } | Failure::Unusable { .. } => FILES,
             Failure::Memory => MEMORY,
         }
     }
@@ -129,6 +132,10 @@ impl Failure<'_> {
                 writeln!(err, "mrep: {}: {cause}", Shown(name))
             }
             Failure::Database { name, cause } => writeln!(err, "mrep: {}: {cause}", Shown(name)),
+            Failure::Damaged { name, damage } => {
+                let fault = StoreFault::Damaged;
+                writeln!(err, "mrep: {}: {fault}: {damage}", Shown(name))
+            }
             Failure::Unusable { name, why } => writeln!(err, "mrep: {}: {why}", Shown(name)),
             Failure::Output(cause) if cause.kind() == io::ErrorKind::BrokenPipe => Ok(()),
             Failure::Output(cause) => writeln!(err, "mrep: output: {cause}"),

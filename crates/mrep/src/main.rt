@@ -8,6 +8,7 @@ mod arguments;
 mod cells;
 mod command;
 mod copy;
+mod damage;
 mod database;
 mod events;
 mod failure;
