@@ -7,6 +7,7 @@ use crate::copy::copy;
 use crate::failure::{DONE, Failure, MEMORY};
 use crate::follow::{Words, follow_source};
 use crate::minus::minus;
+use crate::name::Shown;
 use crate::replay::replay;
 use crate::sets::{gtids, missing};
 use crate::show::show;
@@ -15,6 +16,7 @@ use crate::stream::{Lines, list};
 use crate::tables::tables;
 use clap::ArgMatches;
 use clap::error::ErrorKind;
+use std::alloc::{AllocError, Global};
 use std::convert::AsStr;
 use std::io::Write;
 
@@ -120,6 +122,24 @@ fn run_named<'a, W: Write, E: Write>(
     run_reading(rt, name, given, out)
 }
 
+/// The error that words give, with their control characters escaped in its text: that of a second parse, of words that
+/// are escaped. `raw` is that of the first one.
+fn escaped<S: AsStr>(
+    alloc: Global,
+    words: &[S],
+    raw: clap::Error,
+) -> Result<clap::Error, AllocError> {
+    let mut texts = Vec::with_capacity(alloc, words.len())?;
+    for word in words {
+        texts.push(format!(in alloc; "{}", Shown(word.as_str()))?)?;
+    }
+    let mut command = grammar(alloc)?;
+    match command.try_get_matches_from_mut(texts.as_slice()) {
+        Ok(_) => Ok(raw),
+        Err(error) => Ok(error),
+    }
+}
+
 fn run<'a, S: AsStr, O: Write, E: Write>(
     rt: &HostRuntime,
     words: &'a [S],
@@ -136,7 +156,7 @@ fn run<'a, S: AsStr, O: Write, E: Write>(
             out.flush()?;
             return Ok(DONE);
         }
-        Err(error) => return Err(Failure::Words(error)),
+        Err(error) => return Err(Failure::Words(escaped(rt.alloc(), words, error)?)),
     };
     let done = match matches.subcommand() {
         Some((name, given)) => run_named(rt, name, given, out, err)?,
