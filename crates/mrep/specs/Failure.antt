@@ -8,7 +8,7 @@ use Rattle.clap.specs.declared.error.ErrorKind.TheVariants as clap_kind
 use Rattle.mrep.specs.declared.failure.Failure.{Failure}
 use Rattle.store.specs.declared.fault.StoreFault.{StoreFault}
 use Rattle.store.specs.declared.fault.StoreFault.TheVariants as store
-use Rattle.mrep.specs.declared.failure.Failure.TheVariants.{Words, Set, Gtid, Table, Number, User, File, Host, Database, Damaged, Unusable, Output, Memory}
+use Rattle.mrep.specs.declared.failure.Failure.TheVariants.{Words, Set, Gtid, Table, Number, Bytes, User, File, Host, Database, Damaged, Unusable, Output, Memory}
 
 -- 4 if memory ran out, otherwise 3
 abbrev pub IsFileStatus : Error → ℕ → Type 0
@@ -33,6 +33,7 @@ IsStatus (Set word cause) status = status ≡ 2
 IsStatus (Gtid word) status = status ≡ 2
 IsStatus (Table word) status = status ≡ 2
 IsStatus (Number word largest) status = status ≡ 2
+IsStatus Bytes status = status ≡ 2
 IsStatus (User word cause) status = status ≡ 2
 IsStatus (Database name cause) status = status ≡ database_status cause
 IsStatus (Damaged name damage) status = status ≡ 3

@@ -1,5 +1,6 @@
 //! The arguments of the command line.
 
+use crate::format::{ENCODINGS, FORMATS};
 use clap::{Arg, ArgAction, Command};
 use std::alloc::{AllocError, Global};
 
@@ -62,15 +63,36 @@ fn only<'a>(alloc: Global) -> Arg<'a> {
     )
 }
 
+/// An option with one of these words.
+fn one_of<'a>(
+    alloc: Global,
+    name: &'a str,
+    value: &'a str,
+    words: &'a [&'a str],
+    help: &'a str,
+) -> Arg<'a> {
+    Arg::new(alloc, name)
+        .long(name)
+        .value_name(value)
+        .action(ArgAction::Set)
+        .value_parser(words)
+        .help(help)
+}
+
 /// `mrep show`.
 fn show<'a>(alloc: Global) -> Result<Command<'a>, AllocError> {
     let help = "Print only the rows of this table; may be repeated";
+    let format = "Print lines of text, CSV records or JSON objects. Without it: text";
+    let bytes =
+        "Print bytes in CSV and JSON as text where they are UTF-8, as hexadecimal digits or as base64. Without it: hex";
     over(
         alloc,
         "show",
         "Print the rows of a database: table, count, cells",
     )?
-    .arg(only_with(alloc, help))
+    .arg(only_with(alloc, help))?
+    .arg(one_of(alloc, "format", "FORMAT", FORMATS.as_slice(), format))?
+    .arg(one_of(alloc, "bytes", "FORM", ENCODINGS.as_slice(), bytes))
 }
 
 /// A required option.

@@ -13,12 +13,15 @@ fn write_cell<W: Write>(cell: Cell<'_>, out: &mut W) -> io::Result<()> {
     match cell {
         Cell::Null => write!(out, "null"),
         Cell::Number { value, width } => write!(out, "{value}/{width}"),
-        Cell::Bytes(bytes) => write_bytes(bytes, out),
+        Cell::Bytes(bytes) => {
+            out.write_all(b"x")?;
+            write_hex(bytes, out)
+        }
     }
 }
 
-fn write_bytes<W: Write>(bytes: &[u8], out: &mut W) -> io::Result<()> {
-    out.write_all(b"x")?;
+/// Writes bytes as two hexadecimal digits each.
+pub fn write_hex<W: Write>(bytes: &[u8], out: &mut W) -> io::Result<()> {
     for byte in bytes {
         let digits = [DIGITS[(*byte / 16) as usize], DIGITS[(*byte % 16) as usize]];
         out.write_all(&digits)?;

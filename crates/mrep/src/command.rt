@@ -10,7 +10,7 @@ use crate::minus::minus;
 use crate::name::Shown;
 use crate::replay::replay;
 use crate::sets::{gtids, missing};
-use crate::show::show;
+use crate::show::{Choice, show};
 use crate::skip::skip;
 use crate::stream::{Lines, list};
 use crate::tables::tables;
@@ -43,6 +43,15 @@ fn run_plain<'a, W: Write>(
     Ok(Some(status))
 }
 
+/// The arguments of `mrep show`.
+fn choice<'g, 'a>(given: &'g ArgMatches<'a>) -> Choice<'g, 'a> {
+    Choice {
+        only: given.get_strs("only"),
+        format: given.get_str("format"),
+        bytes: given.get_str("bytes"),
+    }
+}
+
 /// Runs a command that reads a database, if the name is that of one.
 fn run_reading<'a, W: Write>(
     rt: &HostRuntime,
@@ -54,7 +63,7 @@ fn run_reading<'a, W: Write>(
 {
     let file = word(given, "db");
     let status = match name {
-        "show" => show(rt, file, given.get_strs("only"), out)?,
+        "show" => show(rt, file, choice(given), out)?,
         "tables" => tables(rt, file, out)?,
         "gtids" => gtids(rt, file, out)?,
         "missing" => missing(rt, file, word(given, "SET"), out)?,

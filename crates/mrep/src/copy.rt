@@ -9,7 +9,7 @@
 
 ghost use Rattle.std.specs.Prelude.{◌≡◌, IfOk};
 
-use crate::database::{has_frames, read_head, test};
+use crate::database::{has_frames, lock, read_head, test};
 use crate::failure::{DONE, Failure};
 use std::alloc::{AllocError, Global};
 use std::io::ErrorKind;
@@ -43,8 +43,8 @@ fn names_of(alloc: Global, file: String) -> Result<Names, AllocError> {
     Ok(Names { file, log })
 }
 
-/// Copies a database to a file, which is replaced only if that is asked for. After a failure that file is as it was, and
-/// no other is left.
+/// Copies a database to a file, which is replaced only if that is asked for and no other process has it open as a
+/// database. After a failure that file is as it was, and no other is left.
 pub fn copy<'a>(rt: &HostRuntime, db: &'a str, to: &'a str, force: bool) -> Result<u8, Failure<'a>>
     ensures { IfOk result (λ status. status ≡ DONE) }
 {
@@ -57,12 +57,14 @@ pub fn copy<'a>(rt: &HostRuntime, db: &'a str, to: &'a str, force: bool) -> Resu
         Ok(Some(why)) => return Err(Failure::Unusable { name: to, why }),
         Err(cause) => return Err(Failure::File { name: to, cause }),
     }
+    let replaced = lock(rt, to)?;
     let part = names_of(rt.alloc(), format!(in rt.alloc(); "{to}.part")?)?;
     let made = make(rt, db, to, &from, &part);
     if made.is_err() {
         let _ = fs::remove_file(rt, part.file.as_str());
     }
     let _ = fs::remove_file(rt, part.log.as_str());
+    drop(replaced);
     made?;
     Ok(DONE)
 }

@@ -8,6 +8,7 @@ use replica::{
 };
 use sqlite::{Alter, Connection, Error, ErrorCode, File, FileStore, Files};
 use sqlite_disk::Unknown;
+use sqlite_std_file::OpenError;
 use std::alloc::{AllocError, Global};
 use std::fs::OpenOptions;
 use std::io::{ErrorKind, Read};
@@ -26,6 +27,8 @@ const FIRST_PAGE: usize = 32;
 const FIRST_PAGE_END: usize = FIRST_PAGE + 4;
 
 const LOCKED: &str = "database is locked: another process has it open";
+
+const JOURNAL: &str = "sqlite3 has left a journal beside it: open it once with sqlite3";
 
 const NO_DATABASE: &str = "not an SQLite database";
 
@@ -91,6 +94,25 @@ pub fn test<'a>(rt: &HostRuntime, copy: &str, name: &'a str) -> Result<(), Failu
     match open_file(rt, copy, Unknown, None) {
         Ok(store) => close(name, store),
         Err(unopened) => Err(refusal(rt, name, leave(rt, None, unopened))),
+    }
+}
+
+/// Locks a file that is there as an open database is locked, until the result is dropped. Nothing is written to it. A file
+/// that this process may not open is not locked.
+pub fn lock<'a>(rt: &HostRuntime, name: &'a str) -> Result<Option<Files<File>>, Failure<'a>> {
+    if !fs::exists(rt, name).unwrap_or(false) {
+        return Ok(None);
+    }
+    let log = missing_log(rt, name)?;
+    match sqlite_std_file::open(rt, name, Unknown) {
+        Ok(files) => {
+            remove_unused(rt, log);
+            Ok(Some(files))
+        }
+        Err(OpenError::Busy) => Err(Failure::Unusable { name, why: LOCKED }),
+        Err(OpenError::HotJournal) => Err(Failure::Unusable { name, why: JOURNAL }),
+        Err(OpenError::OutOfMemory) => Err(Failure::Memory),
+        Err(OpenError::Io(_)) => Ok(None),
     }
 }
 

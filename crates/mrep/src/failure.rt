@@ -38,6 +38,8 @@ pub enum Failure<'a> {
     Table { word: &'a str },
     /// This argument is not a number from 1 to the largest.
     Number { word: &'a str, largest: u32 },
+    /// A form of bytes is asked for, and the text format has one form alone.
+    Bytes,
     /// This argument is not a user name.
     User { word: &'a str, cause: ConfigFault },
     /// The file of this name could not be opened or read.
@@ -97,6 +99,7 @@ impl Failure<'_> {
             | Failure::Gtid { .. }
             | Failure::Table { .. }
             | Failure::Number { .. }
+            | Failure::Bytes
             | Failure::User { .. } => USAGE,
             Failure::Database { cause, .. } => database_status(*cause),
             Failure::File { cause, .. } | Failure::Host { cause, .. } | Failure::Output(cause) =>
@@ -127,6 +130,7 @@ impl Failure<'_> {
                     Shown(word)
                 )
             }
+            Failure::Bytes => writeln!(err, "mrep: --bytes needs --format csv or json"),
             Failure::User { word, cause } => writeln!(err, "mrep: {}: {cause}", Shown(word)),
             Failure::File { name, cause } | Failure::Host { name, cause } => {
                 writeln!(err, "mrep: {}: {cause}", Shown(name))
