@@ -21,6 +21,7 @@ pub mod Making
 pub mod Filling
 pub mod MigratingTexts
 pub mod Migrating
+pub mod SpanLists
 pub mod Migrated
 pub mod Committed
 pub mod Wholes
@@ -40,3 +41,4 @@ pub mod Reopened
 pub mod Ordered
 pub mod Ascending
 pub mod Keyed
+pub mod Adopted

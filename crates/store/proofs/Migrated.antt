@@ -1,8 +1,7 @@
 -- From the statements of the migration to what the database stands for.
-use Rattle.std.proofs.Common.{◌≡◌, ℕ, List, [], ◌∷◌, ◌++◌, map, pos, Bool, true, false, ◌⊎◌, ◌||◌, inl, inr, Ok, Err, Result, OnOk, append-nil, refl, sym, ap, subst, ◌∙◌}
+use Rattle.std.proofs.Common.{◌≡◌, ℕ, List, [], ◌∷◌, map, pos, inl, inr, Ok, Err, Result, OnOk, append-nil, refl, sym, ap, subst, ◌∙◌}
 use Rattle.std.specs.List.{AllByRecursion}
 use Rattle.std.specs.List.Sorted.{IsPermutation}
-use Rattle.std.proofs.lemmas.List.Sorted.{IsPermutation-trans, IsPermutation-cons, IsPermutation-append_comm, IsPermutation-append_left}
 use Rattle.std.specs.FinSet as set
 use Rattle.sqlite_value.specs.Order.{Row}
 use Rattle.sqlite.specs.State.{State}
@@ -13,35 +12,15 @@ use Rattle.gtid.proofs.Sets.{id_cmp_total, id_cmp-same}
 use Rattle.store.specs.State.{Content}
 use Rattle.store.specs.Rows.{IsExecutedRow, id_in, span_rows, follow_rows, bag_of, count, shown_spans, stored_span}
 use Rattle.store.specs.Layout.{IsLaidOut, migrated, tree_at, first_layout}
-use Rattle.store.specs.Inside.{IsWorking, Moves}
+use Rattle.store.specs.Inside.{IsWorking, HasLeft}
 use Rattle.store.specs.Open.{all}
 use Rattle.store.specs.Making.{HasMade}
-use Rattle.store.specs.Migrating.{migrated_layout, IsFirstInside, IsMigrating, HasLeft}
-use Rattle.store.proofs.Made.{goes_then}
+use Rattle.store.specs.Migrating.{migrated_layout, IsFirstInside, IsMigrating}
 use Rattle.store.proofs.RowLemmas.{equal_is}
 use Rattle.store.proofs.Filling.{no_rowids}
-
--- ---- the spans, one after another
-
-one_less : (a b c spans : List Row) (x : Row) → IsPermutation a (b ++ x ∷ spans) → IsPermutation (x ∷ b) c → IsPermutation a (c ++ spans)
-one_less a b c spans x so_far moved =
-    IsPermutation-trans a (b ++ x ∷ spans) (c ++ spans) so_far
-    (IsPermutation-trans (b ++ x ∷ spans) (x ∷ spans ++ b) (c ++ spans) (IsPermutation-append_comm b (x ∷ spans))
-    (IsPermutation-trans (x ∷ spans ++ b) (x ∷ b ++ spans) (c ++ spans) (IsPermutation-cons x (spans ++ b) (b ++ spans) (IsPermutation-append_comm spans b))
-    (IsPermutation-append_left spans (x ∷ b) c moved)))
-
-pub left_less : (old mid new : State) (spans rest : List Span) (span : Span) → HasLeft old mid spans (span ∷ rest) → Moves mid new (stored_span span ∷ shown_spans (span_rows mid.now)) → HasLeft old new spans rest
-left_less old mid new spans rest span so_far moved = record {
-  on = goes_then old mid new so_far.on moved.on;
-  held = moved.held ∙ so_far.held;
-  stored = one_less (shown_spans (span_rows old.now) ++ map stored_span spans) (shown_spans (span_rows mid.now)) (shown_spans (span_rows new.now)) (map stored_span rest) (stored_span span) so_far.stored moved.stored;
-}
+use Rattle.store.proofs.SpanLists.{or_cases}
 
 -- ---- executed
-
-or_cases : (a b : Bool) → (a || b) ≡ true → (a ≡ true) ⊎ (b ≡ true)
-or_cases true b h = inl refl
-or_cases false b h = inr h
 
 lawful_rows : (rows : List Row) → AllByRecursion IsExecutedRow rows → AreGtids (set.from_list (map id_in rows))
 lawful_rows [] each q there = absurd (let out = set.contains-empty id_cmp q in cc)

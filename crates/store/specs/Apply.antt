@@ -107,3 +107,10 @@ abbrev pub FailsShut : State → Ids → Ids → Result Applied StoreFault → T
 FailsShut new old_set set (Err (Database e)) = (new.is_open ≡ false) × (set ≡ old_set)
 FailsShut new old_set set (Err Memory) = (new.is_open ≡ false) × (set ≡ old_set)
 FailsShut new old_set set _ = ⊥
+
+-- ---- Another executed set.
+
+-- The connection is at rest with this content, and the schema is the same; or nothing has changed.
+abbrev pub Replaces : {E : Type 0} → Names → Content → State → State → Result (Unit {0}) E → Type 0
+Replaces names after old new (Ok u) = IsAtRest new names after × (new.now.schema ≡ old.now.schema)
+Replaces names after old new (Err e) = Rests old new

@@ -1,5 +1,5 @@
 -- The effect of a call inside a transaction of the database.
-use Rattle.std.specs.Prelude.{◌≡◌, nat_lt, ℕ, true, false, IsTrue, if◌then◌else◌, List, ◌∷◌, Option, Some, None, Result, Ok, Err, IsPermutation, ℤ, map}
+use Rattle.std.specs.Prelude.{◌≡◌, nat_lt, ℕ, true, false, IsTrue, if◌then◌else◌, List, ◌∷◌, ◌++◌, Option, Some, None, Result, Ok, Err, IsPermutation, ℤ, map}
 use Rattle.std.specs.List.{AllByRecursion}
 use Rattle.sqlite_value.specs.Order.{Row}
 use Rattle.gtid.specs.Identifier.{Ids}
@@ -59,6 +59,12 @@ pub record Begins (source : List ℕ) (lo : ℤ) (rows : List Row) (span : Row) 
 pub record Lists (rows : List Row) (spans : List Span) : Type 0 where
   pub least : IsLeast spans
   pub rows_are : IsPermutation (map stored_span spans) (shown_spans rows)
+
+-- Some of these spans are stored in addition to the earlier rows, and the rest are left.
+pub record HasLeft (old new : State) (spans rest : List Span) : Type 0 where
+  pub on : GoesOn old new
+  pub held : held_rows new.now ≡ held_rows old.now
+  pub stored : IsPermutation (shown_spans (span_rows old.now) ++ map stored_span spans) (shown_spans (span_rows new.now) ++ map stored_span rest)
 
 -- ---- Recording a transaction.
 

@@ -1,5 +1,5 @@
 -- Private: migration from layout 1 to layout 2.
-use Rattle.std.specs.Prelude.{◌≡◌, ℕ, ℤ, true, codes, pos, List, [], ◌∷◌, ◌++◌, map, IsTrue, IsPermutation}
+use Rattle.std.specs.Prelude.{◌≡◌, ℕ, ℤ, true, codes, pos, List, [], ◌∷◌, IsTrue}
 use Rattle.std.specs.List.{AllByRecursion}
 use Rattle.sqlite_value.specs.declared.value.Value.TheVariants.{Int, Text}
 use Rattle.sqlite_value.specs.declared.keys.Collation.TheVariants.{Binary}
@@ -12,11 +12,9 @@ use Rattle.sqlite_catalog.specs.Change.{created, without_table}
 use Rattle.sqlite.specs.Effect.{IsDatabase}
 use Rattle.sqlite.specs.State.{State}
 use Rattle.gtid.specs.Identifier.{AreGtids}
-use Rattle.gtid.specs.declared.span.Span.{Span}
 use Rattle.store.specs.State.{Content}
 use Rattle.store.specs.Layout.{spans, follow, first_layout, among}
-use Rattle.store.specs.Rows.{HasRowids, SaysLayout, IsMetaRow, IsHeldRow, StandsForFirst, bag_of, count, first_meta_rows, first_held_rows, held_rows, span_rows, shown_spans, stored_span}
-use Rattle.store.specs.Inside.{GoesOn}
+use Rattle.store.specs.Rows.{HasRowids, SaysLayout, IsMetaRow, IsHeldRow, StandsForFirst, bag_of, count, first_meta_rows, first_held_rows}
 
 -- ---- the tables, one statement after another
 
@@ -69,9 +67,3 @@ pub record IsMigrating (schema : Schema) (layout : ℤ) (bare : List ℕ) (conte
   pub rows : content.rows ≡ bag_of (count (s.now.trees 4))
   pub lawful : AreGtids content.executed
   pub sound : IsDatabase s.now
-
--- Some of these spans are stored in addition to the earlier rows, and the rest are left.
-pub record HasLeft (old new : State) (spans rest : List Span) : Type 0 where
-  pub on : GoesOn old new
-  pub held : held_rows new.now ≡ held_rows old.now
-  pub stored : IsPermutation (shown_spans (span_rows old.now) ++ map stored_span spans) (shown_spans (span_rows new.now) ++ map stored_span rest)

@@ -5,6 +5,7 @@ use Rattle.sqlite_trees.specs.Tree.{Trees}
 use Rattle.sqlite_schema.specs.declared.schema.Schema.{Schema}
 use Rattle.sqlite.specs.State.{State}
 use Rattle.sqlite.specs.Held.{Held, state}
+use Rattle.gtid.specs.Identifier.{Ids}
 use Rattle.binlog.specs.Filter.{Names}
 use Rattle.gather.specs.Transaction.{DeliveryValue}
 use Rattle.store.specs.declared.row_change.Refusal.TheVariants as why
@@ -14,7 +15,7 @@ use Rattle.store.specs.declared.fault.StoreFault.{StoreFault}
 use Rattle.store.specs.declared.fault.StoreFault.TheVariants.{NoSuchRow, CountFull, Database, Memory}
 use Rattle.store.specs.declared.store.Store.{Store}
 use Rattle.store.specs.State.{Content, TableRow}
-use Rattle.store.specs.Take.{HasOutcome, is_executed, done, repeat, refused}
+use Rattle.store.specs.Take.{HasOutcome, is_executed, done, repeat, refused, adopted}
 use Rattle.store.specs.Apply.{IsAtRest, IsApplied}
 pub use Rattle.store.specs.Apply.{AreOf}
 use Rattle.store.specs.Entering.{IsOf, IsWanted}
@@ -95,6 +96,19 @@ module _ {S : Type 0} (g : Ghosts S) where
   ReadsShut content new (Err (Database e)) = Keeps new content
   ReadsShut content new _ = ⊥
 
+  -- The outcome of adopting a set in a store that holds this content.
+  abbrev pub Adopts : Content → Ids → Store S g → Store S g → Result (Unit {0}) StoreFault → Type 0
+  Adopts content ids old new (Ok u) = Holds new (adopted content ids)
+  Adopts content ids old new (Err (Database e)) = HasFailed new content
+  Adopts content ids old new (Err Memory) = HasFailed new content × (connection new ≡ connection old)
+  Adopts content ids old new (Err _) = ⊥
+
+  -- The outcome of adopting a set with a GTID that is not executed, if the connection was shut.
+  abbrev pub AdoptsShut : Content → Store S g → Result (Unit {0}) StoreFault → Type 0
+  AdoptsShut content new (Err (Database e)) = HasFailed new content
+  AdoptsShut content new (Err Memory) = HasFailed new content
+  AdoptsShut content new _ = ⊥
+
   -- The store holds what the database stood for.
   pub record Opens (any : Bool) (only : Names) (old : State) (store : Store S g) : Type 0 where
     pub content : Content
@@ -107,6 +121,12 @@ abbrev pub Leaves : Schema → Names → Content → DeliveryValue → Result Ap
 Leaves schema names content d (Ok Done) trees = IsApplied names content d schema trees
 Leaves schema names content d (Err (Database e)) trees = AreOf schema names content trees ⊎ IsApplied names content d schema trees
 Leaves schema names content d _ trees = AreOf schema names content trees
+
+-- What a crash leaves of a set that a store has adopted.
+abbrev pub LeavesAdopted : Schema → Names → Content → Ids → Result (Unit {0}) StoreFault → Trees → Type 0
+LeavesAdopted schema names content ids (Ok u) trees = AreOf schema names (adopted content ids) trees
+LeavesAdopted schema names content ids (Err (Database e)) trees = AreOf schema names content trees ⊎ AreOf schema names (adopted content ids) trees
+LeavesAdopted schema names content ids _ trees = AreOf schema names content trees
 
 -- whether the database has to be opened again after this answer
 abbrev pub breaks : Result Applied StoreFault → Bool

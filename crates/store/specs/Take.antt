@@ -1,6 +1,7 @@
 -- What a change and a transaction make of what a replica holds.
 use Rattle.std.specs.Prelude.{◌≡◌, ◌≢◌, ◌⊎◌, ◌<◌, ◌≤◌, ◌+◌, ℕ, Bool, true, false, List, [], ◌∷◌, take, slice_get, Some, MatchBool}
 use Rattle.std.specs.FinSet as set
+use Rattle.gtid.specs.Identifier.{Ids}
 use Rattle.binlog.specs.Filter.{Names, admits}
 use Rattle.gather.specs.Transaction.{ChangeValue, insert, delete, update, DeliveryValue}
 use Rattle.store.specs.declared.row_change.Refusal.{Refusal}
@@ -87,3 +88,13 @@ HasOutcome names old d (done new) =
     (is_executed old d ≡ false) × AreDone names d.changes old.rows new.rows × (new.executed ≡ set.insert old.executed (d.source, d.number))
 HasOutcome names old d repeat = is_executed old d ≡ true
 HasOutcome names old d (refused at why) = (is_executed old d ≡ false) × IsRefusedAt names d.changes old.rows at why
+
+-- ---- Adopting a set.
+
+-- this set is executed instead, and the rows stay
+abbrev pub with_executed : Ids → Content → Content
+with_executed ids content = record { executed = ids; rows = content.rows }
+
+-- the GTIDs of this set are executed too, and the rows stay
+abbrev pub adopted : Content → Ids → Content
+adopted content ids = with_executed (set.union content.executed ids) content

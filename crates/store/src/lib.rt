@@ -19,6 +19,7 @@
 //! tables store it (`Rows.antt`, `Layout.antt`). [`laws`] states what follows.
 #![tactic(auto)]
 
+mod adopt;
 mod apply;
 mod changes;
 mod contents;
@@ -33,6 +34,7 @@ mod migrate;
 mod opening;
 mod row_change;
 mod rules;
+mod span_lists;
 mod span_rows;
 mod store;
 mod table_rows;

@@ -5,15 +5,14 @@ ghost use Rattle.sqlite.specs.State.{HasCleanDisk, Survives, KeepsCommit};
 ghost use Rattle.sqlite.specs.Held.{state};
 ghost use Rattle.store.specs.State.{Content};
 ghost use Rattle.store.specs.Layout.{first_layout};
-ghost use Rattle.store.specs.Rows.{stored_span, span_rows, shown_spans};
-ghost use Rattle.store.specs.Inside.{IsWorking, Moves};
+ghost use Rattle.store.specs.Inside.{IsWorking};
 ghost use Rattle.store.specs.Apply.{IsAtRest, Rests};
 ghost use Rattle.store.specs.Open.{all, IsFirstAtRest, MayMigrate};
 ghost use Rattle.store.specs.Making.{HasMade};
-ghost use Rattle.store.specs.Migrating.{without_executed, migrated_spans, migrated_layout, IsFirstInside, IsMigrating, HasLeft};
+ghost use Rattle.store.specs.Migrating.{without_executed, migrated_spans, migrated_layout, IsFirstInside, IsMigrating};
 
-use crate::span_rows::add_span;
-use gtid::{GtidSet, Span, Spans};
+use crate::span_lists::add_all;
+use gtid::GtidSet;
 use sqlite::{Alter, Connection, Error, Transaction};
 
 fn drop_executed<S: Alter>(tx: &mut Transaction<'_, S>) -> Result<usize, Error>
@@ -70,37 +69,6 @@ fn change_tables<S: Alter>(tx: &mut Transaction<'_, S>) -> Result<(), Error>
     make_spans(tx)?;
     make_follow(tx)?;
     raise_layout(tx)?;
-    Ok(())
-}
-
-const END: u64 = 9_223_372_036_854_775_808;
-
-/// Inserts a span. One that the columns cannot hold is refused.
-fn add<S: Alter>(tx: &mut Transaction<'_, S>, span: Span) -> Result<usize, Error>
-    ensures same_reference { tx.new.conn.ghost_name ≡ tx.old.conn.ghost_name }
-    ensures moves { HasCleanDisk (state S.Store tx.new.conn.now) → IsWorking (state S.Store tx.old.conn.now) → OnOk result (Moves (state S.Store tx.old.conn.now) (state S.Store tx.new.conn.now) (stored_span span ∷ shown_spans (span_rows (state S.Store tx.old.conn.now).now))) }
-    ensures kept { HasCleanDisk (state S.Store tx.new.conn.now) → IsWorking (state S.Store tx.old.conn.now) → KeepsCommit (state S.Store tx.old.conn.now) (state S.Store tx.new.conn.now) }
-    ensures survives { Survives (state S.Store tx.old.conn.now) (state S.Store tx.new.conn.now) (λ _. ⊥) }
-{
-    if span.lo >= END {
-        return Err(Error::IntegralValueOutOfRange(0));
-    }
-    if span.hi >= END {
-        return Err(Error::IntegralValueOutOfRange(0));
-    }
-    add_span(tx, &span.source, span.lo as i64, span.hi as i64)
-}
-
-/// Inserts the spans.
-fn add_all<S: Alter>(tx: &mut Transaction<'_, S>, spans: Spans<'_>) -> Result<(), Error>
-    ensures same_reference { tx.new.conn.ghost_name ≡ tx.old.conn.ghost_name }
-    ensures moves { HasCleanDisk (state S.Store tx.new.conn.now) → IsWorking (state S.Store tx.old.conn.now) → OnOk result (HasLeft (state S.Store tx.old.conn.now) (state S.Store tx.new.conn.now) spans.entry []) }
-    ensures kept { HasCleanDisk (state S.Store tx.new.conn.now) → IsWorking (state S.Store tx.old.conn.now) → KeepsCommit (state S.Store tx.old.conn.now) (state S.Store tx.new.conn.now) }
-    ensures survives { Survives (state S.Store tx.old.conn.now) (state S.Store tx.new.conn.now) (λ _. ⊥) }
-{
-    for span in spans {
-        add(tx, span)?;
-    }
     Ok(())
 }
 

@@ -1,14 +1,15 @@
 use Rattle.std.proofs.Common.{subst, rules, arith}
 use Rattle.sqlite.specs.State.{HasCleanDisk}
 use Rattle.sqlite.specs.Held.{state}
-use Rattle.store.specs.Migrating.{HasLeft}
+use Rattle.store.specs.Inside.{HasLeft}
 use Rattle.store.proofs.Keeps.{kept_then, inside_then}
-use Rattle.store.proofs.Migrated.{left_less}
-use Rattle.store.proofs.migrate.add_all.Goals as goal
+use Rattle.store.proofs.SpanLists.{left_less}
+use Rattle.store.proofs.span_lists.add_all.Goals as goal
 
 pub loop-span-preserved : goal.loop-span-preserved
 loop-span-preserved g c = record {
   same_reference = search rules;
+  sources = λ rest. c.loop-span.invariant.sources (rw c.in-Some.ensures.steps (c.add.ensures.source, rest));
   under_way = λ clean was.
       let old = state g.S.Store c.args.tx.now.conn.now in
       let mid = state g.S.Store c.loop-span.tx.conn.now in
@@ -23,4 +24,7 @@ loop-span-preserved g c = record {
       let way = c.loop-span.invariant.under_way early was in
       kept_then (state g.S.Store c.args.tx.now.conn.now) mid (state g.S.Store c.add.new.tx.conn.now) (c.loop-span.invariant.kept early was) (c.in_ok-add.ensures.kept clean way.on.working);
   survives = inside_then (state g.S.Store c.args.tx.now.conn.now) (state g.S.Store c.loop-span.tx.conn.now) (state g.S.Store c.add.new.tx.conn.now) c.loop-span.invariant.survives c.add.ensures.survives;
+  opened = λ clean is_open.
+      let early : HasCleanDisk (state g.S.Store c.loop-span.tx.conn.now) = omega (arith, c.add.ensures.survives.clean) in
+      c.loop-span.invariant.opened early (c.add.ensures.opened clean is_open);
 }

@@ -1,0 +1,98 @@
+//! Adopting an executed set.
+
+ghost use Rattle.std.specs.Prelude.{◌≡◌, true, false, Ok, Err, IsTrue, OnOk, IfOk, IfErr};
+ghost use Rattle.std.specs.FinSet as set;
+ghost use Rattle.sqlite.specs.State.{HasCleanDisk, Survives};
+ghost use Rattle.sqlite.specs.Held.{state};
+ghost use Rattle.binlog.specs.Filter.{Names};
+ghost use Rattle.store.specs.State.{Content};
+ghost use Rattle.store.specs.Take.{with_executed};
+ghost use Rattle.store.specs.Inside.{WasOpen};
+ghost use Rattle.store.specs.Apply.{IsAtRest, Replaces, AreOf};
+ghost use Rattle.store.specs.Faults.{IsReadFault};
+ghost use Rattle.store.specs.Store.{Holds, Keeps, Adopts, AdoptsShut, LeavesAdopted, database, names_of, IsBroken, IsWhole};
+ghost use Rattle.store.specs.declared.fault.StoreFault.TheVariants.{Broken};
+
+use crate::fault::StoreFault;
+use crate::span_lists::replace_all;
+use crate::store::Store;
+use gtid::{GtidFault, GtidSet};
+use sqlite::{Alter, Connection, Error};
+
+/// The union of two sets. The only error is `Memory`.
+fn united(executed: &GtidSet, gtids: &GtidSet) -> Result<GtidSet, GtidFault>
+    ensures { IfOk result (λ after. after ≡ set.union executed.now gtids.now) }
+{
+    let mut after = executed.copy()?;
+    after.union(gtids)?;
+    Ok(after)
+}
+
+/// Stores another set instead of the executed set, in a transaction of its own, which is rolled back if a statement
+/// fails.
+fn replace<S: Alter>(
+    conn: &mut Connection<S>,
+    executed: &GtidSet,
+    after: &GtidSet,
+) -> Result<(), Error>
+    requires { conn.old.in_transaction ≡ false }
+    ensures autocommit { conn.new.in_transaction ≡ false }
+    ensures replaces { HasCleanDisk (state S.Store conn.new) → (names : Names) → (content : Content) → IsAtRest (state S.Store conn.old) names content → executed.now ≡ content.executed → Replaces names (with_executed after.now content) (state S.Store conn.old) (state S.Store conn.new) result }
+    ensures opened { HasCleanDisk (state S.Store conn.new) → WasOpen (state S.Store conn.old) (state S.Store conn.new) }
+    ensures done { HasCleanDisk (state S.Store conn.new) → OnOk result (IsTrue (state S.Store conn.new).is_open) }
+    ensures lives { Survives (state S.Store conn.old) (state S.Store conn.new) (λ _. Unit {0}) }
+    ensures crash { (names : Names) → (content : Content) → IsAtRest (state S.Store conn.old) names content → executed.now ≡ content.executed
+        → Survives (state S.Store conn.old) (state S.Store conn.new) (AreOf (state S.Store conn.old).now.schema names (with_executed after.now content)) }
+{
+    let mut tx = conn.transaction();
+    replace_all(&mut tx, executed, after)?;
+    tx.commit()
+}
+
+impl<S: Alter> Store<S> {
+    /// Adds a set of GTIDs to the executed set, in one commit. The rows stay as they are: it is for a database whose
+    /// rows contain these transactions already, as those of a backup. If all of them are in the executed set already, no
+    /// statement is run and no memory is taken.
+    ///
+    /// The faults:
+    /// - `Database` if the database failed, and `Memory` if an allocation was refused. The executed set is as before,
+    ///   and so is the database if the connection is still open. From now on this call, `apply`, `count` and `list`
+    ///   answer `Broken`. After `Database` a crash may leave the database with the set or without it.
+    /// - `Broken` after an earlier failure.
+    pub fn adopt(&mut self, gtids: &GtidSet) -> Result<(), StoreFault>
+        ensures adopts { HasCleanDisk (database S.Store self.new) → (content : Content) → Holds S.Store self.old content → Adopts S.Store content gtids.now self.old self.new result }
+        ensures known { (content : Content) → Keeps S.Store self.old content → set.is_subset gtids.now content.executed ≡ true → (result ≡ Ok tt) × (self.new ≡ self.old) }
+        ensures shut { HasCleanDisk (database S.Store self.new) → (content : Content) → Keeps S.Store self.old content → set.is_subset gtids.now content.executed ≡ false → (database S.Store self.old).is_open ≡ false → AdoptsShut S.Store content self.new result }
+        ensures broken { IsBroken S.Store self.old → (result ≡ Err Broken) × (self.new ≡ self.old) }
+        ensures following { names_of S.Store self.new ≡ names_of S.Store self.old }
+        ensures schema { HasCleanDisk (database S.Store self.new) → (content : Content) → Holds S.Store self.old content → IsWhole S.Store self.new → (database S.Store self.new).now.schema ≡ (database S.Store self.old).now.schema }
+        ensures clean { HasCleanDisk (database S.Store self.new) → HasCleanDisk (database S.Store self.old) }
+        ensures crash { HasCleanDisk (database S.Store self.new) → (content : Content) → Holds S.Store self.old content → (trees : _) → (database S.Store self.new).may_leave trees
+            → LeavesAdopted (database S.Store self.old).now.schema (names_of S.Store self.old) content gtids.now result trees }
+        ensures fault { IfErr result IsReadFault }
+    {
+        if self.broken {
+            return Err(StoreFault::Broken);
+        }
+        if gtids.is_subset(&self.executed) {
+            return Ok(());
+        }
+        let after = match united(&self.executed, gtids) {
+            Ok(after) => after,
+            Err(_) => {
+                self.broken = true;
+                return Err(StoreFault::Memory);
+            }
+        };
+        match replace(&mut self.conn, &self.executed, &after) {
+            Ok(()) => {
+                self.executed = after;
+                Ok(())
+            }
+            Err(error) => {
+                self.broken = true;
+                Err(StoreFault::Database(error))
+            }
+        }
+    }
+}
