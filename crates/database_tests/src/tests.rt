@@ -1,5 +1,6 @@
 //! A store, a scripted source, and a replica with a store, over databases and streams in memory.
 
+mod adoptions;
 mod deliveries;
 mod fixtures;
 mod follows;

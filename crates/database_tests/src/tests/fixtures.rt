@@ -2,7 +2,7 @@
 
 use binlog::{Cell, Follow, TableDef};
 use gather::{Change, Delivery, Image};
-use gtid::Gtid;
+use gtid::{Gtid, GtidSet};
 use sqlite::{Alter, Connection, MemStore};
 use std::alloc::Global;
 use std::rc::Rc;
@@ -67,6 +67,12 @@ pub(super) fn transaction(alloc: Global, number: u64, letters: &str) -> Option<D
 /// As `transaction`, with memory to spare.
 pub(super) fn delivery(alloc: Global, number: u64, letters: &str) -> Result<Delivery, Fail> {
     Ok(transaction(alloc, number, letters).ok_or("no transaction")?)
+}
+
+/// The set of the source's GTIDs with these numbers, as `1-3:7`. `None` if memory is refused.
+pub(super) fn gtids(alloc: Global, numbers: &str) -> Option<GtidSet> {
+    let text = format!(in alloc; "3e11fa47-71ca-11e1-9e33-c80aa9429562:{numbers}").ok()?;
+    GtidSet::parse(alloc, text.as_str()).ok()
 }
 
 /// The number of copies of a letter's row in its table.

@@ -2,7 +2,7 @@
 //! allocation is refused, it answers as with memory to spare, or that memory ran out, and then what it was to change is
 //! as it was. `tests/refused/run` refuses each in turn.
 
-use super::fixtures::{A, content, filter, image, transaction};
+use super::fixtures::{A, content, filter, gtids, image, transaction};
 use super::sources::{request, scripts};
 use super::stops::FIRST;
 use super::stream::Stream;
@@ -53,6 +53,8 @@ enum Call {
     Open,
     /// `Store::apply` of a transaction with these changes.
     Apply(u64, &'static str),
+    /// `Store::adopt` of a set with these numbers.
+    Adopt(&'static str),
     Count(u64),
     List,
     /// A connection with `streams::ONE_TRANSACTION`, under this number.
@@ -63,7 +65,7 @@ enum Call {
 }
 
 /// What is called on a new database, each over the store that is opened for it, and what it holds afterwards.
-static NEW: [(Call, &str); 9] = [
+static NEW: [(Call, &str); 10] = [
     (Call::Open, "none 0 0 0"),
     (Call::Apply(1, "++o"), "1 2 0 1"),
     (Call::Apply(3, "p-=x"), "1:3 1 1 0"),
@@ -73,6 +75,7 @@ static NEW: [(Call, &str); 9] = [
     (Call::Feed(4), "1-4 5 1 0"),
     (Call::Follow(6), "1-4:6 7 1 0"),
     (Call::ReadStream(5), "1-6 9 1 0"),
+    (Call::Adopt("2:7-9:12"), "1-9:12 9 1 0"),
 ];
 
 /// What is called on a database of layout 1: it is migrated, and then it is read.
@@ -101,6 +104,19 @@ fn apply(alloc: Global, store: &mut Store<MemStore>, number: u64, letters: &str)
         return Some(end);
     }
     Some(End::Wrong)
+}
+
+/// Adopts a set.
+fn adopt(alloc: Global, store: &mut Store<MemStore>, numbers: &str) -> Option<End> {
+    let set = gtids(alloc, numbers)?;
+    match store.adopt(&set) {
+        Ok(()) => Some(End::Done),
+        Err(_) if set.is_subset(store.executed()) => Some(End::Wrong),
+        Err(fault) => match store.adopt(&set) {
+            Err(StoreFault::Broken) => Some(end_of(fault)),
+            _ => Some(End::Wrong),
+        },
+    }
 }
 
 /// Counts the rows (7, "ab") of shop.items.
@@ -248,6 +264,7 @@ fn make(alloc: Global, store: &mut Store<MemStore>, call: Call) -> Option<End> {
     match call {
         Call::Open => Some(End::Done),
         Call::Apply(number, letters) => apply(alloc, store, number, letters),
+        Call::Adopt(numbers) => adopt(alloc, store, numbers),
         Call::Count(want) => count(alloc, store, want),
         Call::List => Some(list(store)),
         Call::Run(number) => run_all(alloc, store, number),

@@ -1,6 +1,6 @@
 //! Failures: each call of a disk in turn is the first that fails, then the disks crash and the job is done again.
 
-use super::fixtures::{attempt, delivery};
+use super::fixtures::{attempt, delivery, gtids};
 use super::sessions::ends;
 use super::streams::three_transactions;
 use sqlite::{Alter, Connection, FileStore, Files, Options};
@@ -28,6 +28,8 @@ enum Job {
     Migrate,
     /// A store takes a transaction of three changes.
     Take,
+    /// A store adopts a set, which joins an interval and adds one.
+    Adopt,
     /// A replica reads a connection with three transactions.
     Run,
 }
@@ -58,6 +60,7 @@ fn states(job: Job) -> &'static [&'static str] {
         Job::Make => &["none|none|none|none|none|", " 2|none||| 2|"],
         Job::Migrate => &[" 1| 1 2 4| 2|none|none|", " 2|none| 2| 1 3 4 5| 0|"],
         Job::Take => &[" 2|none| 2| 2 3| 0|", " 2|none| 1 1| 1 3| 0|"],
+        Job::Adopt => &[" 2|none| 2| 2 3| 0|", " 2|none| 2| 1 3 5 7| 0|"],
         Job::Run => &[
             "none|none|none|none|none|",
             " 2|none||| 0|",
@@ -118,7 +121,7 @@ fn beginning(job: Job) -> &'static str {
     match job {
         Job::Make | Job::Run => "",
         Job::Migrate => FIRST,
-        Job::Take => SECOND,
+        Job::Take | Job::Adopt => SECOND,
     }
 }
 
@@ -158,6 +161,10 @@ fn work<S: Alter>(alloc: Global, job: Job, store: &mut Store<S>) -> Result<u64, 
         Job::Make | Job::Migrate => Ok(1),
         Job::Take => match store.apply(&delivery(alloc, 1, "p-=")?) {
             Ok(_) => Ok(1),
+            Err(_) => Ok(0),
+        },
+        Job::Adopt => match store.adopt(&gtids(alloc, "1:5-6").ok_or("no set")?) {
+            Ok(()) => Ok(1),
             Err(_) => Ok(0),
         },
         Job::Run => match ends(alloc, store, &[&three_transactions(alloc)?])?.as_slice() {
@@ -294,6 +301,11 @@ fn a_migration_is_whole_where_a_disk_stops(rt: HostRuntime) -> Result<(), Fail> 
 #[test]
 fn a_transaction_is_whole_where_a_disk_stops(rt: HostRuntime) -> Result<(), Fail> {
     stops(rt.alloc(), Job::Take)
+}
+
+#[test]
+fn an_adopted_set_is_whole_where_a_disk_stops(rt: HostRuntime) -> Result<(), Fail> {
+    stops(rt.alloc(), Job::Adopt)
 }
 
 #[test]

@@ -1,0 +1,103 @@
+//! Sets adopted by a store, between transactions.
+
+use super::fixtures::{delivery, fresh, gtids, held, open};
+use sqlite::{Connection, MemStore};
+use std::alloc::Global;
+use std::test::Fail;
+use store::Store;
+
+/// What is done with a store.
+#[derive(Clone, Copy)]
+enum Step {
+    /// A set with these numbers is adopted.
+    Adopt(&'static str),
+    /// A transaction with this number and these changes is applied.
+    Apply(u64, &'static str),
+}
+
+/// Does a step. The answer, and then what the store holds.
+fn answer(alloc: Global, store: &mut Store<MemStore>, step: Step) -> Result<String, Fail> {
+    match step {
+        Step::Adopt(numbers) => {
+            let answer = store.adopt(&gtids(alloc, numbers).ok_or("no set")?);
+            Ok(format!(in alloc; "{answer:?} {}", held(alloc, store)?)?)
+        }
+        Step::Apply(number, letters) => {
+            let answer = store.apply(&delivery(alloc, number, letters)?);
+            Ok(format!(in alloc; "{answer:?} {}", held(alloc, store)?)?)
+        }
+    }
+}
+
+/// Does the steps in order. The error is the first other answer.
+fn answers(alloc: Global, store: &mut Store<MemStore>, steps: &[(Step, &str)]) -> Result<(), Fail> {
+    for (step, want) in steps {
+        let came = answer(alloc, store, *step)?;
+        if came.as_str() != *want {
+            return Err(Fail::new(came));
+        }
+    }
+    Ok(())
+}
+
+/// Does the steps in order on a store, and returns its connection.
+fn done(
+    alloc: Global,
+    mut store: Store<MemStore>,
+    steps: &[(Step, &str)],
+) -> Result<Connection<MemStore>, Fail> {
+    let done = answers(alloc, &mut store, steps);
+    let conn = store.close();
+    done?;
+    Ok(conn)
+}
+
+/// The intervals of the table, as ` 1 15` for the numbers 1 to 14.
+fn intervals(alloc: Global, conn: &mut Connection<MemStore>) -> Result<String, Fail> {
+    let mut text = String::new(alloc);
+    for row in &conn.query_all("SELECT lo, hi FROM spans ORDER BY lo", &[])? {
+        let (lo, hi): (i64, i64) = (row.get(0)?, row.get(1)?);
+        text.push_str(&format!(in alloc; " {lo} {hi}")?)?;
+    }
+    Ok(text)
+}
+
+/// A new store adopts a set, and its transactions are repeats from then on.
+static NEW: [(Step, &str); 3] = [
+    (Step::Adopt("1-9"), "Ok(()) 1-9 0 0 0"),
+    (Step::Apply(5, "++"), "Ok(Repeat) 1-9 0 0 0"),
+    (Step::Apply(10, "++p"), "Ok(Done) 1-10 2 1 0"),
+];
+
+/// The rows stay: of a set beside the intervals, of one that joins them, of one that is executed already, and of one
+/// that has all of them.
+static LATER: [(Step, &str); 6] = [
+    (Step::Adopt("13-14"), "Ok(()) 1-10:13-14 2 1 0"),
+    (Step::Adopt("9-12:20"), "Ok(()) 1-14:20 2 1 0"),
+    (Step::Adopt("3:5-14:20"), "Ok(()) 1-14:20 2 1 0"),
+    (Step::Apply(15, "-"), "Ok(Done) 1-15:20 1 1 0"),
+    (Step::Adopt("1-30"), "Ok(()) 1-30 1 1 0"),
+    (
+        Step::Adopt("9223372036854775806"),
+        "Ok(()) 1-30:9223372036854775806 1 1 0",
+    ),
+];
+
+/// Each database is opened again after some sets were adopted.
+#[test]
+fn sets_are_adopted(rt: HostRuntime) -> Result<(), Fail> {
+    let alloc = rt.alloc();
+    let mut conn = done(alloc, fresh(alloc)?, &NEW)?;
+    assert_eq!(rt; intervals(alloc, &mut conn)?.as_str(), " 1 11");
+    let mut conn = done(alloc, open(alloc, conn)?, &LATER)?;
+    assert_eq!(rt;
+        intervals(alloc, &mut conn)?.as_str(),
+        " 1 31 9223372036854775806 9223372036854775807"
+    );
+    let again = [(
+        Step::Apply(30, "+"),
+        "Ok(Repeat) 1-30:9223372036854775806 1 1 0",
+    )];
+    done(alloc, open(alloc, conn)?, &again)?;
+    Ok(())
+}
