@@ -91,8 +91,8 @@ impl<S: Alter> Store<S> {
     /// - `NoSuchRow` and `CountFull` have the index of the first change that cannot be made. Nothing has changed, and
     ///   the store can be used further.
     /// - `Database` if the database failed, and `Memory` if an allocation was refused. The executed set is as before,
-    ///   and so is the database if the connection is still open. From now on this call, `count` and `list` answer
-    ///   `Broken`. After `Database` a crash may leave the database with the transaction or without it.
+    ///   and so is the database if the connection is still open. From now on this call, `adopt`, `count` and `list`
+    ///   answer `Broken`. After `Database` a crash may leave the database with the transaction or without it.
     /// - `Broken` after one of these two.
     pub fn apply(&mut self, delivery: &Delivery) -> Result<Applied, StoreFault>
         ensures applies { HasCleanDisk (database S.Store self.new) → (content : Content) → Holds S.Store self.old content → Applies S.Store content (delivery_value delivery.now) self.old self.new result }

@@ -61,7 +61,7 @@ impl<S: Alter> Store<S> {
     /// The number of copies of a row in a table; 0 if it is not there. Nothing changes, and the store can be used
     /// further.
     ///
-    /// The faults: `Database` if the database failed, and `Broken` after an earlier failure of `apply`.
+    /// The faults: `Database` if the database failed, and `Broken` after an earlier failure of `apply` or `adopt`.
     pub fn count(&mut self, schema: &[u8], table: &[u8], image: &Image) -> Result<u64, StoreFault>
         ensures counts { HasCleanDisk (database S.Store self.new) → (content : Content) → Holds S.Store self.old content → Counts S.Store content (row_of schema.now table.now image.now) self.new result }
         ensures shut { HasCleanDisk (database S.Store self.new) → (content : Content) → Keeps S.Store self.old content → (database S.Store self.old).is_open ≡ false → ReadsShut S.Store content self.new result }

@@ -4,16 +4,17 @@
 //! new database, reads those of an existing one, and migrates those of layout 1. [`Store::open_only`] does so with a
 //! list of tables, and then only the rows of these tables are kept. [`Store::apply`] takes a transaction of the source,
 //! a [`Delivery`](gather::Delivery): its changes and its GTID go into the database together, or not at all. [`Applied`]
-//! says whether the transaction was new.
+//! says whether the transaction was new. [`Store::adopt`] adds a set to the executed set, for rows that contain its
+//! transactions already.
 //!
 //! Rows are kept as a bag: each row with the number of its copies. [`Store::count`] returns that number for one row,
 //! and [`Store::list`] all rows in order, as a [`List`] of [`Listed`]. [`Store::executed`] is the executed set,
 //! [`Store::following`] the list of tables.
 //!
 //! A [`StoreFault`] of a refused change, `NoSuchRow` or `CountFull`, leaves the store as it was. After `Database` or
-//! `Memory` of `apply` the store has failed: `apply`, `count` and `list` answer `Broken`, and the database must be
-//! opened again. A store cannot be dropped: [`Store::close`] ends it and returns the connection. The contracts assume
-//! that nobody else writes to the database, and that the disk returns what was written to it.
+//! `Memory` of `apply` or `adopt` the store has failed: `apply`, `adopt`, `count` and `list` answer `Broken`, and the
+//! database must be opened again. A store cannot be dropped: [`Store::close`] ends it and returns the connection. The
+//! contracts assume that nobody else writes to the database, and that the disk returns what was written to it.
 //!
 //! `specs/` defines what a replica holds (`State.antt`), what a transaction makes of it (`Take.antt`), and how the
 //! tables store it (`Rows.antt`, `Layout.antt`). [`laws`] states what follows.

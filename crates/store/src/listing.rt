@@ -148,8 +148,8 @@ impl<S: Alter> Store<S> {
     /// All rows, each once with the number of its copies, in ascending order of the bytes of schema, table and image.
     /// Nothing changes, and the store can be used further.
     ///
-    /// The faults: `Database` if the database failed, and `Broken` after an earlier failure of `apply`. The list keeps
-    /// the rows in memory.
+    /// The faults: `Database` if the database failed, and `Broken` after an earlier failure of `apply` or `adopt`. The
+    /// list keeps the rows in memory.
     pub fn list(&mut self) -> Result<List, StoreFault>
         ensures lists { HasCleanDisk (database S.Store self.new) → (content : Content) → Holds S.Store self.old content → Lists S.Store content self.new result }
         ensures shut { HasCleanDisk (database S.Store self.new) → (content : Content) → Keeps S.Store self.old content → (database S.Store self.old).is_open ≡ false → ReadsShut S.Store content self.new result }
