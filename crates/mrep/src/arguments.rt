@@ -165,6 +165,16 @@ fn missing<'a>(alloc: Global) -> Result<Command<'a>, AllocError> {
     .arg(needed(alloc, "SET", "A GTID set"))
 }
 
+/// `mrep adopt`.
+fn adopt<'a>(alloc: Global) -> Result<Command<'a>, AllocError> {
+    over(
+        alloc,
+        "adopt",
+        "Record a GTID set as executed without changes, and print what was new of it",
+    )?
+    .arg(needed(alloc, "SET", "A GTID set"))
+}
+
 /// `mrep skip`.
 fn skip<'a>(alloc: Global) -> Result<Command<'a>, AllocError> {
     over(
@@ -197,6 +207,7 @@ fn reading<'a>(alloc: Global, command: Command<'a>) -> Result<Command<'a>, Alloc
         .subcommand(over(alloc, "gtids", gtids)?)?
         .subcommand(missing(alloc)?)?
         .subcommand(copy(alloc)?)?
+        .subcommand(adopt(alloc)?)?
         .subcommand(skip(alloc)?)
 }
 

@@ -2,6 +2,7 @@
 
 ghost use Rattle.std.specs.Prelude.{◌≤◌, IfOk, IfSome};
 
+use crate::adopt::adopt;
 use crate::arguments::grammar;
 use crate::copy::copy;
 use crate::failure::{DONE, Failure, MEMORY};
@@ -67,6 +68,7 @@ fn run_reading<'a, W: Write>(
         "tables" => tables(rt, file, out)?,
         "gtids" => gtids(rt, file, out)?,
         "missing" => missing(rt, file, word(given, "SET"), out)?,
+        "adopt" => adopt(rt, file, word(given, "SET"), out)?,
         "skip" => skip(rt, file, word(given, "G"), out)?,
         "copy" => copy(rt, file, word(given, "TO"), given.get_flag("force"))?,
         _ => return Ok(None),

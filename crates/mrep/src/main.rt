@@ -4,6 +4,7 @@
 //! the process.
 #![tactic(auto)]
 
+mod adopt;
 mod arguments;
 mod cells;
 mod command;

@@ -67,7 +67,7 @@ fn executed_text<'a, S: Alter>(alloc: Global, store: &Store<S>) -> Result<String
 }
 
 /// The text of a set without the members of the executed set.
-fn missing_text<'a, S: Alter>(
+pub fn missing_text<'a, S: Alter>(
     alloc: Global,
     mut asked: GtidSet,
     store: &Store<S>,
