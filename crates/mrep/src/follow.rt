@@ -70,7 +70,7 @@ pub fn follow_source<'a, W: Write, E: Write>(
 
 /// A number from 1 to the largest, in decimal digits.
 fn number<'a>(word: &'a str, largest: u32) -> Result<u32, Failure<'a>>
-    ensures { IfOk result (λ n. n ≤ largest) }
+    ensures { IfOk result (λ n. (1 ≤ n) × (n ≤ largest)) }
 {
     match word.parse::<u32>() {
         Ok(number) if number >= 1 && number <= largest && !word.starts_with('+') => Ok(number),

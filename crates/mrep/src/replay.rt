@@ -1,6 +1,6 @@
 //! `mrep replay`: connections read from files into a database.
 
-ghost use Rattle.std.specs.Prelude.{◌≡◌, ◌≤◌, IfOk, is_err};
+ghost use Rattle.std.specs.Prelude.{◌≡◌, ◌≤◌, Err, IfOk, IfErr, is_err};
 ghost use Rattle.mrep.specs.Reason.{first_status};
 
 use crate::database::{closed, replay_into};
@@ -107,6 +107,7 @@ pub fn status_of<'a, E: Write>(
     err: &mut E,
 ) -> Result<u8, Failure<'a>>
     ensures first { IfOk result (λ status. status ≡ first_status ends.now) }
+    ensures failed { IfErr result (λ failure. (first_status ends.now ≡ DONE) × (done.entry ≡ Err failure)) }
     ensures range { IfOk result (λ status. status ≤ MEMORY) }
 {
     let status = first_status(ends);
