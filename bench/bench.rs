@@ -1,6 +1,7 @@
 //! Times `mrep packets` and `mrep events`, and the jobs of `ours` over the crates, against `packets.rs`, `events.rs` and
 //! `gtid.rs`, plain Rust programs that do the same; stores against `store.py`, which gives the same statements to the C
-//! library of SQLite; and `mrep replay` and `mrep follow` against a store and one another.
+//! library of SQLite; `mrep replay` and `mrep follow` against a store and one another; and `mrep replay` against
+//! `replay.c`, which does the whole job in C.
 //!
 //!     bench MREP JOBS PACKETS GTID EVENTS STORE FOLDER
 //!
@@ -9,6 +10,7 @@
 //! each. The status is 1 if a goal is missed. If there is no `python3`, the stores are skipped.
 
 mod replay;
+mod whole;
 
 use std::fs::{self, File};
 use std::io::{self, BufReader, BufWriter, Read, Write};
@@ -19,6 +21,8 @@ use std::time::Instant;
 const MIB: usize = 1 << 20;
 const RUNS: usize = 5;
 const STORE_RUNS: usize = 3;
+/// Of a job that takes long.
+const RUNS_OF_ONE: usize = 1;
 
 /// The goal of `mrep packets`: at most this many times the time of the Rust program,
 const PACKETS_TIMES: f64 = 1.3;
@@ -49,7 +53,12 @@ const OPERATIONS: [&str; 8] =
 
 const FORMAT: &[u8] =
     b"\x04\08.0.36\0\0\0\0\0\0\0\0\0\0\0\0\0\0\0\0\0\0\0\0\0\0\0\0\0\0\0\0\0\0\0\0\0\0\0\0\0\0\0\0\0\0\0\0\0\0\0\0\x13\0\x0d\0\x08\0\0\0\0\0\0\0\0\0\0\0\0\0\0\x08\0\0\0\0\0\0\0\0\0\0\x0a\x0a\x0a\0\0\0\0\0\0\0\0";
+/// A greeting, and the OKs to the login and to the query.
+const OPENING: &[u8] = b"\x4a\0\0\0\x0a8.0.36\0\x08\0\0\0\x01\x02\x03\x04\x05\x06\x07\x08\0\x05\xa2\x21\x02\0\x08\0\x15\0\0\0\0\0\0\0\0\0\0\x09\x0a\x0b\x0c\x0d\x0e\x0f\x10\x11\x12\x13\x14\0mysql_native_password\0\x07\0\0\x02\0\0\0\x02\0\0\0\x07\0\0\x01\0\0\0\x02\0\0\0";
 const BEGIN: &[u8] = b"\0\0\0\0\0\0\0\0\0\0\0\0\0\0BEGIN";
+/// A table map of (BIGINT, VARCHAR), and the text of each of its rows.
+const MAP: &[u8] = b"\x01\0\0\0\0\0\0\0\x04shop\0\x05items\0\x02\x08\x0f\x02\xff\0\x03";
+const TEXT: &[u8] = b"\x10sixteen bytes...";
 
 struct Input {
     name: &'static str,
@@ -343,5 +352,6 @@ fn main() -> io::Result<ExitCode> {
     }
     met &= compare_stores(jobs, store, folder)?;
     met &= replay::compare_connections(mrep, jobs, folder)?;
+    met &= whole::compare_with_c(mrep, folder)?;
     Ok(if met { ExitCode::SUCCESS } else { ExitCode::FAILURE })
 }

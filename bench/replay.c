@@ -205,11 +205,20 @@ typedef struct {
 static Map *maps;
 static size_t map_count, map_room;
 
+/* The last map of this number in the transaction. */
 static Map *map_of(uint64_t id) {
-    for (size_t at = 0; at < map_count; at++)
-        if (maps[at].id == id)
-            return maps + at;
+    for (size_t at = map_count; at > 0; at--)
+        if (maps[at - 1].id == id)
+            return maps + at - 1;
     return NULL;
+}
+
+static Map *new_map(void) {
+    if (map_count == map_room) {
+        map_room = map_room ? 2 * map_room : 4;
+        maps = grown(maps, map_room * sizeof *maps);
+    }
+    return maps + map_count++;
 }
 
 static int digits_size(int digits) { return digits / 9 * 4 + (digits % 9 + 1) / 2; }
@@ -289,19 +298,17 @@ static int take_name(Part *body, unsigned char *name) {
 }
 
 static void take_map(Part body) {
-    uint64_t id = take_number(&body, 6);
-    Map *map = map_of(id);
-    if (!map) {
-        if (map_count == map_room) {
-            map_room = map_room ? 2 * map_room : 4;
-            maps = grown(maps, map_room * sizeof *maps);
-        }
-        map = maps + map_count++;
-    }
-    map->id = id;
+    static Map read;
+    read.id = take_number(&body, 6);
     take(&body, 2);
-    map->schema_size = take_name(&body, map->schema);
-    map->table_size = take_name(&body, map->table);
+    read.schema_size = take_name(&body, read.schema);
+    read.table_size = take_name(&body, read.table);
+    /* A map of the same table takes the place of the one before; changes name their table by its map. */
+    Map *map = map_of(read.id);
+    if (!map || map->schema_size != read.schema_size || map->table_size != read.table_size || memcmp(map->schema, read.schema, (size_t)read.schema_size) || memcmp(map->table, read.table, (size_t)read.table_size)) {
+        map = new_map();
+        *map = read;
+    }
     uint64_t count = take_lenenc(&body);
     if (count < 1 || count > COLUMNS)
         fail("columns");

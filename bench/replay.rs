@@ -5,7 +5,7 @@
 //! The databases are in memory, under /dev/shm, if there is such a folder, so that the times do not include the syncs
 //! of a disk.
 
-use super::{FORMAT, Run, best, event, gtid, mib, most, remove_store, run};
+use super::{BEGIN, FORMAT, MAP, OPENING, Run, TEXT, best, event, gtid, mib, most, remove_store, run};
 use std::fs::{self, File, OpenOptions};
 use std::io::{self, BufReader, BufWriter, Read, Write};
 use std::net::{Shutdown, TcpListener};
@@ -32,12 +32,6 @@ const O_DIRECT: i32 = 0o40000;
 unsafe extern "C" {
     fn fcntl(file: i32, command: i32, flags: i32) -> i32;
 }
-
-/// A greeting, and the OKs to the login and to the query.
-const OPENING: &[u8] = b"\x4a\0\0\0\x0a8.0.36\0\x08\0\0\0\x01\x02\x03\x04\x05\x06\x07\x08\0\x05\xa2\x21\x02\0\x08\0\x15\0\0\0\0\0\0\0\0\0\0\x09\x0a\x0b\x0c\x0d\x0e\x0f\x10\x11\x12\x13\x14\0mysql_native_password\0\x07\0\0\x02\0\0\0\x02\0\0\0\x07\0\0\x01\0\0\0\x02\0\0\0";
-const BEGIN: &[u8] = b"\0\0\0\0\0\0\0\0\0\0\0\0\0\0BEGIN";
-const MAP: &[u8] = b"\x01\0\0\0\0\0\0\0\x04shop\0\x05items\0\x02\x08\x0f\x02\xff\0\x03";
-const TEXT: &[u8] = b"\x10sixteen bytes...";
 
 /// How many rows an event has at most.
 const ROWS: u64 = 300;
