@@ -21,7 +21,8 @@ use sqlite::{Alter, Connection, Error};
 
 /// The union of two sets. The only error is `Memory`.
 fn united(executed: &GtidSet, gtids: &GtidSet) -> Result<GtidSet, GtidFault>
-    ensures { IfOk result (λ after. after ≡ set.union executed.now gtids.now) }
+    ensures ok { IfOk result (λ after. after ≡ set.union executed.now gtids.now) }
+    ensures err { IfErr result (λ fault. fault ≡ GtidFault.Memory) }
 {
     let mut after = executed.copy()?;
     after.union(gtids)?;

@@ -21,10 +21,10 @@ returns-then-is_subset-clause-crash g c clean content was trees left =
 pub returns-in-Ok-replace-clause-adopts : goal.returns-in-Ok-replace-clause-adopts
 returns-in-Ok-replace-clause-adopts g c clean content was =
     let names = c.args.self.now.following in
-    let is = adopted_is content c.args.self.now.executed c.in-Ok.after c.args.gtids.now was.executed c.in-Ok.ensures in
+    let is = adopted_is content c.args.self.now.executed c.in-Ok.after c.args.gtids.now was.executed c.in-Ok.ensures.ok in
     record {
       whole = was.whole;
-      executed = c.in-Ok.ensures ∙ ap (λ all. set.union all c.args.gtids.now) was.executed;
+      executed = c.in-Ok.ensures.ok ∙ ap (λ all. set.union all c.args.gtids.now) was.executed;
       rest = subst (IsAtRest (state g.S.Store c.replace.new.conn) names) is (c.in-Ok-replace.ensures.replaces clean names content was.rest was.executed).0;
     }
 
@@ -34,7 +34,7 @@ returns-in-Ok-replace-clause-schema g c clean content was whole = (c.in-Ok-repla
 pub returns-in-Ok-replace-clause-crash : goal.returns-in-Ok-replace-clause-crash
 returns-in-Ok-replace-clause-crash g c clean content was trees left =
     let names = c.args.self.now.following in
-    let is = adopted_is content c.args.self.now.executed c.in-Ok.after c.args.gtids.now was.executed c.in-Ok.ensures in
+    let is = adopted_is content c.args.self.now.executed c.in-Ok.after c.args.gtids.now was.executed c.in-Ok.ensures.ok in
     let now = c.in-Ok-replace.ensures.replaces clean names content was.rest was.executed in
     let after = adopted content c.args.gtids.now in
     subst (λ schema. AreOf schema names after trees) now.1
@@ -54,7 +54,7 @@ returns-in-Err-replace-clause-adopts g c clean content was =
 pub returns-in-Err-replace-clause-crash : goal.returns-in-Err-replace-clause-crash
 returns-in-Err-replace-clause-crash g c clean content was trees left =
     let names = c.args.self.now.following in
-    let is = adopted_is content c.args.self.now.executed c.in-Ok.after c.args.gtids.now was.executed c.in-Ok.ensures in
+    let is = adopted_is content c.args.self.now.executed c.in-Ok.after c.args.gtids.now was.executed c.in-Ok.ensures.ok in
     elim ((c.in-Err-replace.ensures.crash names content was.rest was.executed).crash clean trees left) [
       | inl before ↦ inl (stays g.S.Store names content (λ h db is_open may. g.met.S.Store.settled h.store db is_open may) c.args.self.now.conn trees was.rest before)
       | inr may ↦ inr (subst (λ after. AreOf c.args.self.now.conn.schema names after trees) is may)
