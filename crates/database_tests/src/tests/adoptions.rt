@@ -1,6 +1,7 @@
 //! Sets adopted by a store, between transactions.
 
-use super::fixtures::{delivery, fresh, gtids, held, open};
+use super::deliveries::take;
+use super::fixtures::{fresh, gtids, held, open};
 use sqlite::{Connection, MemStore};
 use std::alloc::Global;
 use std::test::Fail;
@@ -15,24 +16,26 @@ enum Step {
     Apply(u64, &'static str),
 }
 
+/// Adopts a set.
+fn adopt(alloc: Global, store: &mut Store<MemStore>, numbers: &str) -> Result<String, Fail> {
+    let set = gtids(alloc, numbers).ok_or("no set")?;
+    let answer = store.adopt(&set);
+    let held = held(alloc, store)?;
+    Ok(format!(in alloc; "{answer:?} {held}")?)
+}
+
 /// Does a step. The answer, and then what the store holds.
-fn answer(alloc: Global, store: &mut Store<MemStore>, step: Step) -> Result<String, Fail> {
+fn answer(alloc: Global, store: &mut Store<MemStore>, step: &Step) -> Result<String, Fail> {
     match step {
-        Step::Adopt(numbers) => {
-            let answer = store.adopt(&gtids(alloc, numbers).ok_or("no set")?);
-            Ok(format!(in alloc; "{answer:?} {}", held(alloc, store)?)?)
-        }
-        Step::Apply(number, letters) => {
-            let answer = store.apply(&delivery(alloc, number, letters)?);
-            Ok(format!(in alloc; "{answer:?} {}", held(alloc, store)?)?)
-        }
+        Step::Adopt(numbers) => adopt(alloc, store, numbers),
+        Step::Apply(number, letters) => take(alloc, store, *number, letters),
     }
 }
 
 /// Does the steps in order. The error is the first other answer.
 fn answers(alloc: Global, store: &mut Store<MemStore>, steps: &[(Step, &str)]) -> Result<(), Fail> {
     for (step, want) in steps {
-        let came = answer(alloc, store, *step)?;
+        let came = answer(alloc, store, step)?;
         if came.as_str() != *want {
             return Err(Fail::new(came));
         }
@@ -52,14 +55,15 @@ fn done(
     Ok(conn)
 }
 
-/// The intervals of the table, as ` 1 15` for the numbers 1 to 14.
-fn intervals(alloc: Global, conn: &mut Connection<MemStore>) -> Result<String, Fail> {
-    let mut text = String::new(alloc);
-    for row in &conn.query_all("SELECT lo, hi FROM spans ORDER BY lo", &[])? {
-        let (lo, hi): (i64, i64) = (row.get(0)?, row.get(1)?);
-        text.push_str(&format!(in alloc; " {lo} {hi}")?)?;
+/// Whether the table has these intervals: from the first number up to but not including the second.
+fn has_intervals(conn: &mut Connection<MemStore>, want: &[(i64, i64)]) -> Result<bool, Fail> {
+    let rows = conn.query_all("SELECT lo, hi FROM spans ORDER BY lo", &[])?;
+    for (row, (lo, hi)) in rows.iter().zip(want) {
+        if row.get::<i64>(0)? != *lo || row.get::<i64>(1)? != *hi {
+            return Ok(false);
+        }
     }
-    Ok(text)
+    Ok(rows.len() == want.len())
 }
 
 /// A new store adopts a set, and its transactions are repeats from then on.
@@ -88,12 +92,10 @@ static LATER: [(Step, &str); 6] = [
 fn sets_are_adopted(rt: HostRuntime) -> Result<(), Fail> {
     let alloc = rt.alloc();
     let mut conn = done(alloc, fresh(alloc)?, &NEW)?;
-    assert_eq!(rt; intervals(alloc, &mut conn)?.as_str(), " 1 11");
+    assert!(rt; has_intervals(&mut conn, &[(1, 11)])?);
     let mut conn = done(alloc, open(alloc, conn)?, &LATER)?;
-    assert_eq!(rt;
-        intervals(alloc, &mut conn)?.as_str(),
-        " 1 31 9223372036854775806 9223372036854775807"
-    );
+    let last = (9223372036854775806, 9223372036854775807);
+    assert!(rt; has_intervals(&mut conn, &[(1, 31), last])?);
     let again = [(
         Step::Apply(30, "+"),
         "Ok(Repeat) 1-30:9223372036854775806 1 1 0",

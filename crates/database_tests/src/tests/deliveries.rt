@@ -9,8 +9,8 @@ use store::Store;
 /// A transaction, and what comes: the answer, and then what the store holds.
 type Step = (u64, &'static str, &'static str);
 
-/// Applies a transaction.
-fn take(
+/// Applies a transaction. The answer, and then what the store holds.
+pub(super) fn take(
     alloc: Global,
     store: &mut Store<MemStore>,
     number: u64,

@@ -1,5 +1,7 @@
 //! What the tests share: transactions of one source, and what a store holds.
 
+ghost use Rattle.std.specs.Prelude.{◌≡◌, false};
+
 use binlog::{Cell, Follow, TableDef};
 use gather::{Change, Delivery, Image};
 use gtid::{Gtid, GtidSet};
@@ -39,19 +41,38 @@ fn table(alloc: Global, letter: u8) -> Option<Rc<TableDef>> {
     Rc::new(alloc, def).ok()
 }
 
+fn insert(alloc: Global, letter: u8) -> Option<Change> {
+    let table = table(alloc, letter)?;
+    let after = image(alloc, letter)?;
+    Some(Change::Insert { table, after })
+}
+
+fn delete(alloc: Global, letter: u8) -> Option<Change> {
+    let table = table(alloc, letter)?;
+    let before = image(alloc, letter)?;
+    Some(Change::Delete { table, before })
+}
+
+/// A row replaced by itself.
+fn update(alloc: Global, letter: u8) -> Option<Change> {
+    let table = table(alloc, letter)?;
+    let before = image(alloc, letter)?;
+    let after = image(alloc, letter)?;
+    Some(Change::Update {
+        table,
+        before,
+        after,
+    })
+}
+
 /// A change, written as a letter: `+` adds (7, "ab") to shop.items, `-` removes it and `=` replaces it by itself; `p`
 /// and `m` do the first two for (8, "cd"); `o` and `x` for (7, "ab") in shop.other.
 fn change(alloc: Global, letter: u8) -> Option<Change> {
-    let (table, row) = (table(alloc, letter)?, image(alloc, letter)?);
-    Some(match letter {
-        b'+' | b'p' | b'o' => Change::Insert { table, after: row },
-        b'=' => Change::Update {
-            table,
-            before: image(alloc, letter)?,
-            after: row,
-        },
-        _ => Change::Delete { table, before: row },
-    })
+    match letter {
+        b'+' | b'p' | b'o' => insert(alloc, letter),
+        b'=' => update(alloc, letter),
+        _ => delete(alloc, letter),
+    }
 }
 
 /// The transaction of this number, with a change for each letter. `None` if memory is refused.
@@ -117,6 +138,20 @@ pub(super) fn filter(alloc: Global, letters: &str) -> Option<Follow> {
     Follow::new(alloc, names.as_slice()).ok()
 }
 
+/// Opens a database for a filter.
+fn attempt_only<S: Alter + Drop>(
+    alloc: Global,
+    conn: Connection<S>,
+    letters: &str,
+) -> Result<Result<Store<S>, (StoreFault, Connection<S>)>, Fail>
+    requires { conn.in_transaction ≡ false }
+{
+    match filter(alloc, letters) {
+        Some(follow) => Ok(Store::open_only(alloc, conn, &follow)),
+        None => Err("no filter".into()),
+    }
+}
+
 /// Opens a database, for a filter if one is given.
 pub(super) fn attempt<S: Alter + Drop>(
     alloc: Global,
@@ -128,10 +163,7 @@ pub(super) fn attempt<S: Alter + Drop>(
     }
     match only {
         None => Ok(Store::open(alloc, conn)),
-        Some(letters) => {
-            let follow = filter(alloc, letters).ok_or("no filter")?;
-            Ok(Store::open_only(alloc, conn, &follow))
-        }
+        Some(letters) => attempt_only(alloc, conn, letters),
     }
 }
 
