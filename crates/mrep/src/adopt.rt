@@ -8,7 +8,7 @@ ghost use Rattle.store.specs.State.{Content};
 ghost use Rattle.store.specs.Take.{with_executed};
 ghost use Rattle.store.specs.Store.{Holds, HoldsAs, database};
 
-use crate::database::{close, open};
+use crate::database::{close_after, open};
 use crate::failure::{DONE, Failure};
 use crate::minus::read;
 use crate::sets::missing_text;
@@ -31,9 +31,7 @@ pub fn adopt<'a, W: Write>(
     let asked = read(rt.alloc(), "SET", text)?;
     let mut store = open(rt, file, None)?;
     let new = record(rt.alloc(), file, &mut store, &asked);
-    let closed = close(file, store);
-    let new = new?;
-    closed?;
+    let new = close_after(file, store, new)?;
     writeln!(out, "{new}")?;
     Ok(DONE)
 }

@@ -36,14 +36,21 @@ fn minus<'a>(alloc: Global) -> Result<Command<'a>, AllocError> {
         .arg(needed(alloc, "Y", "The GTID set to subtract"))
 }
 
+/// A command with one more below it. Each step has one command at hand, which keeps its proof short.
+fn with<'a>(
+    command: Command<'a>,
+    below: Result<Command<'a>, AllocError>,
+) -> Result<Command<'a>, AllocError> {
+    command.subcommand(below?)
+}
+
 /// The commands that do not use a database.
 fn plain<'a>(alloc: Global, command: Command<'a>) -> Result<Command<'a>, AllocError> {
     let packets = "List the payloads of a stream of packets: offset, sequence id, length";
     let events = "List the events of a stream of packets: offset, sequence id, type, size, kind";
-    command
-        .subcommand(listing(alloc, "packets", packets)?)?
-        .subcommand(listing(alloc, "events", events)?)?
-        .subcommand(minus(alloc)?)
+    let command = with(command, listing(alloc, "packets", packets))?;
+    let command = with(command, listing(alloc, "events", events))?;
+    with(command, minus(alloc))
 }
 
 /// An option for tables.
@@ -201,14 +208,13 @@ fn copy<'a>(alloc: Global) -> Result<Command<'a>, AllocError> {
 fn reading<'a>(alloc: Global, command: Command<'a>) -> Result<Command<'a>, AllocError> {
     let tables = "Print the tables that a database was made for, and how many rows of each it has";
     let gtids = "Print the executed GTID set of a database";
-    command
-        .subcommand(show(alloc)?)?
-        .subcommand(over(alloc, "tables", tables)?)?
-        .subcommand(over(alloc, "gtids", gtids)?)?
-        .subcommand(missing(alloc)?)?
-        .subcommand(copy(alloc)?)?
-        .subcommand(adopt(alloc)?)?
-        .subcommand(skip(alloc)?)
+    let command = with(command, show(alloc))?;
+    let command = with(command, over(alloc, "tables", tables))?;
+    let command = with(command, over(alloc, "gtids", gtids))?;
+    let command = with(command, missing(alloc))?;
+    let command = with(command, copy(alloc))?;
+    let command = with(command, adopt(alloc))?;
+    with(command, skip(alloc))
 }
 
 /// All commands and their arguments.
@@ -217,8 +223,8 @@ pub fn grammar<'a>(alloc: Global) -> Result<Command<'a>, AllocError> {
         .version(VERSION)
         .about("A MySQL replication follower")
         .subcommand_required(true);
-    let command = plain(alloc, command)?
-        .subcommand(replay(alloc)?)?
-        .subcommand(follow(alloc)?)?;
+    let command = plain(alloc, command)?;
+    let command = with(command, replay(alloc))?;
+    let command = with(command, follow(alloc))?;
     reading(alloc, command)
 }

@@ -1,5 +1,7 @@
 //! Opening and closing a database file.
 
+ghost use Rattle.std.specs.Prelude.{◌≡◌, Ok, IfOk};
+
 use crate::damage::{Damage, damage_in};
 use crate::failure::Failure;
 use binlog::Follow;
@@ -253,6 +255,20 @@ fn try_open(rt: &HostRuntime, name: &str) -> io::Result<()> {
     }
     options.open(rt, name)?;
     Ok(())
+}
+
+/// Closes the file after what was done over it. A failure of that comes before one of the closing.
+pub fn close_after<'a, T: Drop>(
+    name: &'a str,
+    store: Store<FileOf>,
+    done: Result<T, Failure<'a>>,
+) -> Result<T, Failure<'a>>
+    ensures { IfOk result (λ value. done.entry ≡ Ok value) }
+{
+    let closed = close(name, store);
+    let value = done?;
+    closed?;
+    Ok(value)
 }
 
 /// Closes the file.

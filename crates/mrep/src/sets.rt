@@ -7,7 +7,7 @@ ghost use Rattle.gtid.specs.Text.{AppendsText};
 ghost use Rattle.store.specs.State.{Content};
 ghost use Rattle.store.specs.Store.{HoldsAs};
 
-use crate::database::{close, open};
+use crate::database::{close_after, open};
 use crate::failure::{DONE, Failure};
 use crate::minus::read;
 use gtid::GtidSet;
@@ -22,9 +22,7 @@ pub fn gtids<'a, W: Write>(rt: &HostRuntime, file: &'a str, out: &mut W) -> Resu
 {
     let store = open(rt, file, None)?;
     let text = executed_text(rt.alloc(), &store);
-    let closed = close(file, store);
-    let text = text?;
-    closed?;
+    let text = close_after(file, store, text)?;
     writeln!(out, "{text}")?;
     Ok(DONE)
 }
@@ -41,9 +39,7 @@ pub fn missing<'a, W: Write>(
     let asked = read(rt.alloc(), "SET", text)?;
     let store = open(rt, file, None)?;
     let text = missing_text(rt.alloc(), asked, &store);
-    let closed = close(file, store);
-    let text = text?;
-    closed?;
+    let text = close_after(file, store, text)?;
     writeln!(out, "{text}")?;
     Ok(DONE)
 }

@@ -4,7 +4,7 @@ ghost use Rattle.std.specs.Prelude.{◌≡◌, IfOk};
 
 use crate::cells::write_cells;
 use crate::csv_lines::{cause_of, records, write_record};
-use crate::database::{close, open};
+use crate::database::{close_after, open};
 use crate::failure::{DONE, Failure};
 use crate::format::{Encoding, Format, encoding_of, format_of};
 use crate::json_lines::write_object;
@@ -40,9 +40,7 @@ pub fn show<'a, W: Write>(
     let only = tables(rt.alloc(), choice.only.unwrap_or(&[]))?;
     let mut store = open(rt, file, None)?;
     let shown = write_rows(rt.alloc(), file, &mut store, &only, format, encoding, out);
-    let closed = close(file, store);
-    shown?;
-    closed?;
+    close_after(file, store, shown)?;
     Ok(DONE)
 }
 

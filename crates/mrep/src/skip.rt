@@ -2,7 +2,7 @@
 
 ghost use Rattle.std.specs.Prelude.{◌≡◌, IfOk};
 
-use crate::database::{close, open};
+use crate::database::{close_after, open};
 use crate::failure::{DONE, Failure};
 use gather::Delivery;
 use gtid::Gtid;
@@ -25,10 +25,7 @@ pub fn skip<'a, W: Write>(
     };
     let mut store = open(rt, file, None)?;
     let recorded = record(rt.alloc(), file, &mut store, gtid);
-    let closed = close(file, store);
-    let recorded = recorded?;
-    closed?;
-    let word = match recorded {
+    let word = match close_after(file, store, recorded)? {
         Applied::Done => "Done",
         Applied::Repeat => "Repeat",
     };

@@ -2,7 +2,7 @@
 
 ghost use Rattle.std.specs.Prelude.{◌≡◌, IfOk};
 
-use crate::database::{close, open};
+use crate::database::{close_after, open};
 use crate::failure::{DONE, Failure};
 use crate::name::write_table;
 use crate::show::{list, next_row};
@@ -27,9 +27,7 @@ pub fn tables<'a, W: Write>(rt: &HostRuntime, file: &'a str, out: &mut W) -> Res
 {
     let mut store = open(rt, file, None)?;
     let written = write_tables(file, &mut store, out);
-    let closed = close(file, store);
-    written?;
-    closed?;
+    close_after(file, store, written)?;
     Ok(DONE)
 }
 
