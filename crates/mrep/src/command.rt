@@ -15,8 +15,8 @@ use crate::show::{Choice, show};
 use crate::skip::skip;
 use crate::stream::{Lines, list};
 use crate::tables::tables;
-use clap::ArgMatches;
 use clap::error::ErrorKind;
+use clap::{ArgMatches, Command};
 use std::alloc::{AllocError, Global};
 use std::convert::AsStr;
 use std::io::Write;
@@ -160,24 +160,53 @@ fn run<'a, S: AsStr, O: Write, E: Write>(
     ensures { IfOk result (λ status. status ≤ MEMORY) }
 {
     let mut command = grammar(rt.alloc())?;
-    let matches = match command.try_get_matches_from_mut(words) {
-        Ok(matches) => matches,
-        Err(asked) if !asked.use_stderr() => {
-            write!(out, "{asked}")?;
-            out.flush()?;
-            return Ok(DONE);
-        }
-        Err(error) => return Err(Failure::Words(escaped(rt.alloc(), words, error)?)),
+    match command.try_get_matches_from_mut(words) {
+        Ok(matches) => run_matches(rt, &mut command, &matches, out, err),
+        Err(error) => answer(rt.alloc(), words, error, out),
+    }
+}
+
+/// Runs the command of the matches.
+fn run_matches<'a, O: Write, E: Write>(
+    rt: &HostRuntime,
+    command: &mut Command<'a>,
+    matches: &ArgMatches<'a>,
+    out: &mut O,
+    err: &mut E,
+) -> Result<u8, Failure<'a>>
+    ensures { IfOk result (λ status. status ≤ MEMORY) }
+{
+    let Some((name, given)) = matches.subcommand() else {
+        return Err(no_command(command));
     };
-    let done = match matches.subcommand() {
-        Some((name, given)) => run_named(rt, name, given, out, err)?,
-        None => None,
-    };
-    let Some(status) = done else {
-        let error = command.error(ErrorKind::MissingSubcommand, "a command is required")?;
-        return Err(Failure::Words(error));
-    };
-    flushed(status, out, err)
+    match run_named(rt, name, given, out, err)? {
+        Some(status) => flushed(status, out, err),
+        None => Err(no_command(command)),
+    }
+}
+
+fn no_command<'a>(command: &mut Command<'a>) -> Failure<'a> {
+    match command.error(ErrorKind::MissingSubcommand, "a command is required") {
+        Ok(error) => Failure::Words(error),
+        Err(_) => Failure::Memory,
+    }
+}
+
+/// Prints help or the version, where words ask for that; otherwise they are a mistake.
+fn answer<'a, S: AsStr, O: Write>(
+    alloc: Global,
+    words: &[S],
+    error: clap::Error,
+    out: &mut O,
+) -> Result<u8, Failure<'a>>
+    ensures { IfOk result (λ status. status ≤ MEMORY) }
+{
+    if error.use_stderr() {
+        return Err(Failure::Words(escaped(alloc, words, error)?));
+    }
+    write!(out, "{error}")?;
+    out.flush()?;
+    Ok(DONE)
 }
 
 /// Flushes the output of a command that ends with this status. If that fails, a command with status 0 fails, and any

@@ -6,6 +6,7 @@ use crate::events::write_event;
 use crate::failure::{DONE, Failure, REFUSED};
 use crate::listing::{Entry, Listing};
 use crate::reason::wire_reason;
+use replica::read_some;
 use std::io::{Read, Write};
 use std::rt::Files;
 use std::{fs, io};
@@ -38,29 +39,42 @@ pub fn list<'a, R: Files + AllocGlobal, W: Write>(
     let mut entries = Vec::new(rt.alloc());
     let mut piece = vec![in rt.alloc(); 0; PIECE]?;
     for _ in 0..u64::MAX {
-        let count = match file.read(&mut piece) {
+        let count = match read_some(&mut file, &mut piece) {
             Ok(0) => break,
             Ok(count) => count,
-            Err(cause) if cause.kind() == io::ErrorKind::Interrupted => continue,
             Err(cause) => return Err(Failure::File { name, cause }),
         };
-        let listed = listing.feed(&piece[..count], &mut entries);
-        if !write_entries(lines, &entries, out)? {
+        if !list_piece(&mut listing, lines, &piece[..count], &mut entries, out)? {
             return Ok(REFUSED);
-        }
-        entries.clear();
-        match listed {
-            Ok(()) => {}
-            Err(WireFault::Memory) => return Err(Failure::Memory),
-            Err(fault) => {
-                writeln!(out, "fault {} at {}", wire_reason(fault), listing.begin)?;
-                return Ok(REFUSED);
-            }
         }
     }
     let rest = listing.rest();
     writeln!(out, "rest {rest}")?;
     Ok(if rest == 0 { DONE } else { REFUSED })
+}
+
+/// Lists the payloads that a piece of the file completes, and returns whether there was no fault.
+fn list_piece<'a, W: Write>(
+    listing: &mut Listing,
+    lines: Lines,
+    piece: &[u8],
+    entries: &mut Vec<Entry>,
+    out: &mut W,
+) -> Result<bool, Failure<'a>> {
+    let listed = listing.feed(piece, entries);
+    if !write_entries(lines, entries, out)? {
+        return Ok(false);
+    }
+    entries.clear();
+    match listed {
+        Ok(()) => Ok(true),
+        Err(WireFault::Memory) => Err(Failure::Memory),
+        Err(fault) => {
+            let (reason, begin) = (wire_reason(fault), listing.begin);
+            writeln!(out, "fault {reason} at {begin}")?;
+            Ok(false)
+        }
+    }
 }
 
 /// Writes a line for each payload, up to one with a fault, and returns whether there was none.
