@@ -20,7 +20,7 @@ use Rattle.store.specs.declared.store.Store.{Store}
 use Rattle.store.specs.Store.{Holds, HoldsAs, AreOf}
 use Rattle.store.proofs.Taken.{stays}
 use Rattle.replica.specs.declared.end.Reason.{Reason}
-use Rattle.replica.specs.declared.end.Reason.TheVariants.{EndOfInput, SourceEof, SourceError, Wire, Greet, Event, Gather, Refused, Database, Memory, ReadFailed, WriteFailed}
+use Rattle.replica.specs.declared.end.Reason.TheVariants.{EndOfInput, SourceEof, SourceError, Wire, Greet, Event, Gather, Refused, Database, Memory, ReadFailed, WriteFailed, Halted}
 use Rattle.replica.specs.declared.end.Ended.{Ended}
 use Rattle.replica.specs.declared.phase.Phase.{Phase}
 use Rattle.replica.specs.declared.session.Session.{Session}
@@ -300,3 +300,5 @@ module _ {S : Type 0} (g : Ghosts S) (settled : (h : Held S) (db : Trees) → Is
           ])
       dump_ends ReadFailed some e = absurd e.0
       dump_ends WriteFailed some e = absurd e.0
+      dump_ends Halted some e =
+          rests_so Halted s.at some e.3 (stopped Halted m.is (λ q. cc) (m.meets.at_is, record { delivery = e.0; ends = next_ends e.0 e.1; fresh = e.2 }) m.meets.store)

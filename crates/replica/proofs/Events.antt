@@ -13,6 +13,7 @@ use Rattle.gather.specs.declared.gatherer.Gatherer.{Gatherer}
 use Rattle.gather.specs.declared.fault.GatherFault.{GatherFault}
 use Rattle.gather.specs.declared.fault.GatherFault.TheVariants as gather
 use Rattle.store.specs.State.{Content}
+use Rattle.store.specs.Take.{is_executed}
 use Rattle.store.specs.declared.fault.Applied.{Applied}
 use Rattle.store.specs.declared.fault.Applied.TheVariants as applied
 use Rattle.store.specs.declared.fault.StoreFault.{StoreFault}
@@ -20,7 +21,7 @@ use Rattle.store.specs.declared.fault.StoreFault.TheVariants as fault
 use Rattle.store.specs.declared.store.Store.{Store}
 use Rattle.store.specs.Store.{Holds, HasFailed, HoldsAs, Applies, Leaves}
 use Rattle.replica.specs.declared.end.Reason.{Reason}
-use Rattle.replica.specs.declared.end.Reason.TheVariants.{EndOfInput, SourceEof, SourceError, Wire, Greet, Event, Gather, Refused, Database, Memory, ReadFailed, WriteFailed}
+use Rattle.replica.specs.declared.end.Reason.TheVariants.{EndOfInput, SourceEof, SourceError, Wire, Greet, Event, Gather, Refused, Database, Memory, ReadFailed, WriteFailed, Halted}
 use Rattle.replica.specs.Stream.{Payload, Carries}
 use Rattle.replica.specs.Turn.{EndsDump, GathersMore, outcome_of, reason_of_events}
 use Rattle.replica.specs.Event.{GoesFurther, EndsOne, Rests, EndsSo, TakesEvent}
@@ -67,6 +68,7 @@ module _ {S : Type 0} (g : Ghosts S) (es : List EventValue) (ds : List DeliveryV
   ends_early is now store Memory holds h = (is, (λ b. b), rested is now store holds, λ whole broken. absurd (false-true (sym whole ∙ broken)))
   ends_early is now store ReadFailed holds h = absurd h
   ends_early is now store WriteFailed holds h = absurd h
+  ends_early is now store Halted holds h = absurd h
 
   pub goes_on : (is : Bool) (now : Content) (store : Store S g) (gatherer : Gatherer) → HoldsAs g is now store → GathersMore store.following es ds p [] gatherer → GoesFurther g is now es ds p store store gatherer false
   goes_on is now store gatherer holds more = record {
@@ -81,6 +83,10 @@ module _ {S : Type 0} (g : Ghosts S) (es : List EventValue) (ds : List DeliveryV
 
   ends_one : (is : Bool) (now : Content) (old new : Store S g) (d : DeliveryValue) (gatherer : Gatherer) → GathersMore old.following es ds p (d ∷ []) gatherer → EndsOne g is now es ds p old new d
   ends_one is now old new d gatherer more = record { event = more.event; carries = more.carries; delivers = more.gathers.given.deliveries }
+
+  -- the observer stops before a new transaction
+  pub halts : (is : Bool) (now : Content) (store : Store S g) (d : DeliveryValue) (gatherer : Gatherer) → HoldsAs g is now store → GathersMore store.following es ds p (d ∷ []) gatherer → is_executed now d ≡ false → EndsSo g is now es ds p store store Halted
+  halts is now store d gatherer holds more new = (d, ends_one is now store store d gatherer more, new, rested is now store holds)
 
   -- a store that a failure has broken before
   pub over_broken : (now : Content) (old new : Store S g) (d : DeliveryValue) (gatherer : Gatherer) (r : Result Applied StoreFault) (out : Result Bool Reason) → HasFailed g old now → GathersMore old.following es ds p (d ∷ []) gatherer

@@ -14,7 +14,7 @@ use Rattle.store.specs.State.{Content}
 use Rattle.store.specs.declared.store.Store.{Store}
 use Rattle.store.specs.Store.{HoldsAs, database}
 use Rattle.replica.specs.declared.end.Reason.{Reason}
-use Rattle.replica.specs.declared.end.Reason.TheVariants.{EndOfInput, SourceEof, SourceError, Wire, Greet, Event, Gather, Refused, Database, Memory, ReadFailed, WriteFailed}
+use Rattle.replica.specs.declared.end.Reason.TheVariants.{EndOfInput, SourceEof, SourceError, Wire, Greet, Event, Gather, Refused, Database, Memory, ReadFailed, WriteFailed, Halted}
 use Rattle.replica.specs.declared.end.Ended.{Ended}
 use Rattle.replica.specs.declared.session.Session.{Session}
 use Rattle.replica.specs.Settings.{Settings}
@@ -41,6 +41,7 @@ may_owe (Database cause) h = tt
 may_owe Memory h = tt
 may_owe ReadFailed h = cc
 may_owe WriteFailed h = cc
+may_owe Halted h = tt
 
 is_in_full : (reason : Reason) → sends_no_more_after reason ≡ false → IsNoStreamFailure reason → IsInFull reason
 is_in_full EndOfInput h n = tt
@@ -55,6 +56,7 @@ is_in_full (Database cause) h n = cc
 is_in_full Memory h n = cc
 is_in_full ReadFailed h n = absurd n
 is_in_full WriteFailed h n = absurd n
+is_in_full Halted h n = cc
 
 not_of_stream : (reason : Reason) → IsNoStreamFailure reason → IsOfStream reason → ⊥
 not_of_stream EndOfInput n h = h
@@ -69,6 +71,7 @@ not_of_stream (Database cause) n h = h
 not_of_stream Memory n h = h
 not_of_stream ReadFailed n h = n
 not_of_stream WriteFailed n h = n
+not_of_stream Halted n h = h
 
 -- such an end leaves the store failed or not, as it was
 as_it_was : (reason : Reason) (was is : Bool) → IsInFull reason → BreaksStore reason was is → is ≡ was
@@ -84,6 +87,7 @@ as_it_was (Database cause) was is full h = absurd full
 as_it_was Memory was is full h = absurd full
 as_it_was ReadFailed was is full h = h
 as_it_was WriteFailed was is full h = h
+as_it_was Halted was is full h = absurd full
 
 -- running out of memory, or a failure of the stream
 abbrev pub IsLate : Reason → Type 0
@@ -103,6 +107,7 @@ reported_late (Database cause) was is s h = absurd s
 reported_late Memory was is s h = λ w. h ∙ w
 reported_late ReadFailed was is s h = h
 reported_late WriteFailed was is s h = h
+reported_late Halted was is s h = absurd s
 
 module _ (limit : ℕ) (names : Names) (due : Due) (es : List EventValue) (ds : List DeliveryValue) (taken id : ℕ) (rest : List ℕ) (was : Bool) (old new : Content) (at : ℕ) where
   abbrev pub why : Reason → Type 0
@@ -122,6 +127,7 @@ module _ (limit : ℕ) (names : Names) (due : Due) (es : List EventValue) (ds : 
   why_write_failed Memory h w = absurd h
   why_write_failed ReadFailed h w = absurd h
   why_write_failed WriteFailed h w = absurd h
+  why_write_failed Halted h w = absurd h
 
   -- and an end of the input by a failed read
   pub why_read_failed : (reason : Reason) → reason ≡ EndOfInput → why reason → why ReadFailed

@@ -19,6 +19,7 @@ pub mod SomeMessage
 pub mod TooLong
 pub mod SomeEnd
 pub mod Failed
+pub mod Observed
 pub mod Followed
 pub mod Left
 pub mod FromReader

@@ -16,7 +16,7 @@ use Rattle.store.specs.declared.row_change.Refusal.TheVariants as why
 use Rattle.replica.specs.declared.end.Refusal.{Refusal}
 use Rattle.replica.specs.declared.end.Refusal.TheVariants.{NoSuchRow, CountFull}
 use Rattle.replica.specs.declared.end.Reason.{Reason}
-use Rattle.replica.specs.declared.end.Reason.TheVariants.{EndOfInput, SourceEof, SourceError, Wire, Greet, Event, Gather, Refused, Database, Memory, ReadFailed, WriteFailed}
+use Rattle.replica.specs.declared.end.Reason.TheVariants.{EndOfInput, SourceEof, SourceError, Wire, Greet, Event, Gather, Refused, Database, Memory, ReadFailed, WriteFailed, Halted}
 use Rattle.replica.specs.declared.end.Ended.{Ended}
 use Rattle.replica.specs.Stream.{Payload, Due, QueryReply, IsInDump, Carries, Reading, due_after}
 use Rattle.replica.specs.End.{StopsAt, EndsLog, StopsFor}
@@ -89,6 +89,12 @@ module _ (limit : ℕ) (names : Names) (due : Due) (es : List EventValue) (ds : 
     pub ends : NextEnds delivery
     pub fails : FailsFor was_broken (is_executed new delivery) cause
 
+  -- The next payload ends a transaction that is not executed.
+  pub record IsNextNew (new : Content) : Type 0 where
+    pub delivery : DeliveryValue
+    pub ends : NextEnds delivery
+    pub fresh : is_executed new delivery ≡ false
+
   -- Why a connection ends at this offset, for a store that had failed before or not.
   abbrev pub Why : Bool → Content → Content → ℕ → Reason → Type 0
   Why was old new at EndOfInput = StopsFor limit names due es taken id rest at EndOfInput
@@ -106,6 +112,7 @@ module _ (limit : ℕ) (names : Names) (due : Due) (es : List EventValue) (ds : 
   Why was old new at ReadFailed = at ≡ taken
   -- the pending output may be sent after the end of the log
   Why was old new at WriteFailed = (at ≡ taken) ⊎ EndsLog limit names due es taken id rest at
+  Why was old new at Halted = (at ≡ taken) × IsNextNew new
 
 -- A connection with these bytes, for a store that had failed before or not, leads from old to new and has this end: a
 -- prefix of its bytes is a conversation, whose transactions are taken in order and none refused. If the store had
@@ -144,7 +151,22 @@ IsOfBytes (Database cause) = ⊥
 IsOfBytes Memory = ⊥
 IsOfBytes ReadFailed = ⊥
 IsOfBytes WriteFailed = ⊥
+IsOfBytes Halted = ⊥
 IsOfBytes _ = Unit {0}
+
+-- The connection is ended neither by a failure of a stream nor by the observer.
+abbrev pub IsOwn : Reason → Type 0
+IsOwn ReadFailed = ⊥
+IsOwn WriteFailed = ⊥
+IsOwn Halted = ⊥
+IsOwn _ = Unit {0}
+
+-- The connection is not ended by a failure of a stream, and by the observer only if that has stopped.
+abbrev pub MayEnd : Reason → Bool → Type 0
+MayEnd ReadFailed stopped = ⊥
+MayEnd WriteFailed stopped = ⊥
+MayEnd Halted stopped = stopped ≡ true
+MayEnd _ stopped = Unit {0}
 
 -- No read and no write of a stream has failed.
 abbrev pub IsNoStreamFailure : Reason → Type 0

@@ -11,7 +11,7 @@ use Rattle.store.specs.declared.fault.StoreFault.{StoreFault}
 use Rattle.store.specs.declared.store.Store.{Store}
 use Rattle.store.specs.Store.{HoldsAs, AreOf, database, names_of}
 use Rattle.replica.specs.declared.end.Reason.{Reason}
-use Rattle.replica.specs.declared.end.Reason.TheVariants.{Refused, Database, Memory}
+use Rattle.replica.specs.declared.end.Reason.TheVariants.{Refused, Database, Memory, Halted}
 use Rattle.replica.specs.Stream.{Payload, Carries}
 use Rattle.replica.specs.Conn.{AppliesAll, IsRefusedBy, FailsFor}
 use Rattle.replica.specs.Turn.{GathersMore, EndsDump}
@@ -45,13 +45,14 @@ module _ {S : Type 0} (g : Ghosts S) (is : Bool) (now : Content) (es : List Even
     pub leaves : is ≡ false → (trees : Trees) → (database g new).may_leave trees
         → (left : Content) × AreOf (database g old).now.schema (names_of g old) left trees × ((left ≡ now) ⊎ HasOutcome (names_of g old) now d (done left))
 
-  -- The connection ends: because of the payload, since memory ran out, because a transaction is refused, or since the
-  -- database failed.
+  -- The connection ends: because of the payload, since memory ran out, because a transaction is refused, since the
+  -- database failed, or since the observer halted it before a new transaction.
   abbrev pub EndsSo : Reason → Type 0
   EndsSo (Refused refusal) = (d : DeliveryValue) × EndsOne d × IsRefusedBy (names_of g old) now d refusal × Rests is
   EndsSo (Database cause) = (d : DeliveryValue) × EndsOne d × Fails cause d
   EndsSo Memory = (broken : Bool) × (is ≡ true → broken ≡ true) × Rests broken
       × (is ≡ false → broken ≡ true → (trees : Trees) → (database g new).may_leave trees → AreOf (database g old).now.schema (names_of g old) now trees)
+  EndsSo Halted = (d : DeliveryValue) × EndsOne d × (is_executed now d ≡ false) × Rests is
   EndsSo reason = EndsDump (names_of g old) es p reason × Rests is
 
   abbrev pub TakesEvent : Gatherer → Result Bool Reason → Type 0

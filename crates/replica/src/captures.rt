@@ -1,15 +1,17 @@
 //! Captured connections, read in order.
 
-ghost use Rattle.std.specs.Prelude.{◌≡◌, ◌<◌, ◌≤◌, [], Bool, true, not, length, vec_capacity, IfOk, IfErr, Err};
+ghost use Rattle.std.specs.Prelude.{◌≡◌, ◌<◌, ◌≤◌, [], Bool, true, not, length, vec_capacity, IfOk, IfErr, Err, All};
 ghost use Rattle.sqlite.specs.State.{HasCleanDisk};
 ghost use Rattle.sqlite.specs.Held.{state};
 ghost use Rattle.store.specs.State.{Content};
 ghost use Rattle.store.specs.Store.{HoldsAs, IsBroken, database, names_of};
 ghost use Rattle.replica.specs.Capture.{HasReadOne, HasBrokenOff, Reads};
 ghost use Rattle.replica.specs.Over.{HasReadAll};
+ghost use Rattle.replica.specs.Conn.{MayEnd};
 
 use crate::config::Config;
 use crate::end::{Ended, Reason};
+use crate::observer::Observer;
 use crate::reader::read_stream;
 use sqlite::Alter;
 use std::io;
@@ -23,31 +25,22 @@ pub struct Capture<R> {
     pub reader: R,
 }
 
-/// What is done with the end of each connection, as soon as it has ended.
-pub trait Observer {
-    // Whether it has asked that no more connections be read.
-    ghost has_stopped: { Self → Bool };
-
-    /// Returns whether the next connection is to be read.
-    fn ended(&mut self, end: &Ended) -> bool
-        ensures { result ≡ not (has_stopped self.new) };
-}
-
 /// Why connections are left unread.
 #[derive(Drop)]
 pub enum Halt {
     /// A reader failed before its connection had ended.
     Reader(io::Error),
-    /// [`Observer::ended`] returned `false`.
+    /// The observer stopped: [`Observer::ended`] returned `false`.
     Observer,
 }
 
 /// Reads a captured connection to its end.
-fn read_capture<R: Read + Drop, S: Alter>(
+fn read_capture<R: Read + Drop, S: Alter, W: Observer>(
     config: &Config,
     store: &mut Store<S>,
     capture: Capture<R>,
     piece: &mut [u8],
+    observer: &mut W,
 ) -> io::Result<Ended>
     requires { 0 < length piece.old }
     ensures piece { length piece.new ≡ length piece.old }
@@ -55,13 +48,18 @@ fn read_capture<R: Read + Drop, S: Alter>(
         → HasReadOne S.Store R.Read.remaining config.now.limit store.old store.new was old capture end) }
     ensures failed { IfErr result (λ _. HasCleanDisk (database S.Store store.new) → (was : Bool) (old : Content) → HoldsAs S.Store was old store.old
         → HasBrokenOff S.Store R.Read.remaining config.now.limit store.old store.new was old capture) }
+    ensures neither { IfOk result (λ end. MayEnd end.reason (W.has_stopped observer.new)) }
+    ensures stays { W.has_stopped observer.old ≡ true → W.has_stopped observer.new ≡ true }
     ensures following { names_of S.Store store.new ≡ names_of S.Store store.old }
     ensures broken { IsBroken S.Store store.old → store.new ≡ store.old }
     ensures clean { HasCleanDisk (database S.Store store.new) → HasCleanDisk (database S.Store store.old) }
 {
     let Capture { first, mut reader } = capture;
     match config.copy() {
-        Ok(config) => read_stream(config, store, first.as_slice(), &mut reader, piece),
+        Ok(config) => {
+            let first = first.as_slice();
+            read_stream(config, store, first, &mut reader, piece, observer)
+        }
         Err(_) => Ok(Ended {
             reason: Reason::Memory,
             at: 0,
@@ -86,14 +84,15 @@ pub(crate) fn read_captures<R: Read + Drop, S: Alter, W: Observer>(
     // The content of the store and the ends are those of taking the captures in order, each once.
     ensures reads { HasCleanDisk (database S.Store store.new) → (was : Bool) (old : Content) → HoldsAs S.Store was old store.old
         → Reads R.Read.remaining (HasReadAll S.Store config.now.limit store.new (database S.Store store.old).now.schema was old) captures.items ends.new.items result }
-    // It stops early for the observer only if that has asked for it.
+    // It stops early for the observer only if that has stopped, and so does each connection.
     ensures asked { result ≡ Err Halt.Observer → W.has_stopped observer.new ≡ true }
+    ensures neither { All (λ end. MayEnd end.reason (W.has_stopped observer.new)) ends.new.items }
     ensures following { names_of S.Store store.new ≡ names_of S.Store store.old }
     ensures broken { IsBroken S.Store store.old → store.new ≡ store.old }
     ensures clean { HasCleanDisk (database S.Store store.new) → HasCleanDisk (database S.Store store.old) }
 {
     for capture in captures {
-        let end = match read_capture(config, store, capture, piece) {
+        let end = match read_capture(config, store, capture, piece, observer) {
             Ok(end) => end,
             Err(cause) => return Err(Halt::Reader(cause)),
         };

@@ -5,7 +5,7 @@ ghost use Rattle.sqlite.specs.State.{HasCleanDisk};
 ghost use Rattle.sqlite.specs.Held.{state};
 ghost use Rattle.store.specs.State.{Content};
 ghost use Rattle.store.specs.Store.{HoldsAs, database, names_of, IsBroken};
-ghost use Rattle.replica.specs.Conn.{IsNoStreamFailure};
+ghost use Rattle.replica.specs.Conn.{IsOwn};
 ghost use Rattle.replica.specs.Pieces.{stream_of, streams_of};
 ghost use Rattle.replica.specs.Over.{HasRead, HasReadAll};
 
@@ -27,7 +27,7 @@ fn read_pieces<S: Alter>(config: Config, store: &mut Store<S>, pieces: &[Vec<u8>
     ensures read { HasCleanDisk (database S.Store store.new) → (was : Bool) (old : Content) → HoldsAs S.Store was old store.old → HasRead S.Store config.limit store.old store.new was old (stream_of pieces.now) result }
     ensures following { names_of S.Store store.new ≡ names_of S.Store store.old }
     ensures broken { IsBroken S.Store store.old → store.new ≡ store.old }
-    ensures neither { IsNoStreamFailure result.reason }
+    ensures neither { IsOwn result.reason }
     ensures clean { HasCleanDisk (database S.Store store.new) → HasCleanDisk (database S.Store store.old) }
 {
     let mut session = Session::new(config);
@@ -42,7 +42,7 @@ fn read_connection<S: Alter>(config: &Config, store: &mut Store<S>, pieces: &[Ve
     ensures read { HasCleanDisk (database S.Store store.new) → (was : Bool) (old : Content) → HoldsAs S.Store was old store.old → HasRead S.Store config.now.limit store.old store.new was old (stream_of pieces.now) result }
     ensures following { names_of S.Store store.new ≡ names_of S.Store store.old }
     ensures broken { IsBroken S.Store store.old → store.new ≡ store.old }
-    ensures neither { IsNoStreamFailure result.reason }
+    ensures neither { IsOwn result.reason }
     ensures clean { HasCleanDisk (database S.Store store.new) → HasCleanDisk (database S.Store store.old) }
 {
     match config.copy() {
@@ -70,7 +70,7 @@ pub fn run<S: Alter>(
     ensures following { names_of S.Store store.new ≡ names_of S.Store store.old }
     // A store that has failed stays as it is.
     ensures broken { IsBroken S.Store store.old → store.new ≡ store.old }
-    ensures neither { IfOk result (λ ends. All (λ end. IsNoStreamFailure end.reason) ends.items) }
+    ensures neither { IfOk result (λ ends. All (λ end. IsOwn end.reason) ends.items) }
     ensures untouched { IsErr result → store.new ≡ store.old }
     ensures clean { HasCleanDisk (database S.Store store.new) → HasCleanDisk (database S.Store store.old) }
 {

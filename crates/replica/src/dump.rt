@@ -11,14 +11,17 @@ ghost use Rattle.gather.specs.Standing.{Stands as Gathers};
 ghost use Rattle.gather.specs.View.{delivery_value, delivered};
 ghost use Rattle.store.specs.State.{Content};
 ghost use Rattle.store.specs.Store.{Holds, HasFailed, HoldsAs, database, names_of, IsBroken};
-ghost use Rattle.replica.specs.Stream.{Carries, InDump};
+ghost use Rattle.replica.specs.Stream.{Payload, Carries, InDump};
+ghost use Rattle.gather.specs.declared.gatherer.Gatherer.{Gatherer};
 ghost use Rattle.replica.specs.Turn.{EndsDump, GathersMore, outcome_of, reason_of_events};
 ghost use Rattle.replica.specs.Message.{begins_event};
-ghost use Rattle.replica.specs.Conn.{IsNoStreamFailure};
+ghost use Rattle.store.specs.Take.{is_executed};
+ghost use Rattle.replica.specs.Conn.{IsOwn, MayEnd};
 ghost use Rattle.replica.specs.Event.{TakesEvent};
 
 use crate::end::{Reason, Refusal};
 use crate::message::reported;
+use crate::observer::Observer;
 use binlog::{Event, Follow, read_event_only};
 use gather::{Delivery, GatherFault, Gatherer};
 use greet::read_eof;
@@ -30,7 +33,7 @@ use store::{Applied, Store, StoreFault};
 fn no_event(alloc: Global, payload: &[u8]) -> Reason
     requires { begins_event payload.now ≡ false }
     ensures ends { (names : Names) (es : List EventValue) → EndsDump names es payload.now result }
-    ensures neither { IsNoStreamFailure result }
+    ensures neither { IsOwn result }
 {
     match read_eof(alloc, payload) {
         Ok(()) => Reason::SourceEof,
@@ -40,7 +43,8 @@ fn no_event(alloc: Global, payload: &[u8]) -> Reason
 
 /// Maps a gather fault to a reason.
 fn reason_for(fault: GatherFault) -> Reason
-    ensures { result ≡ reason_of_events fault }
+    ensures maps { result ≡ reason_of_events fault }
+    ensures neither { IsOwn result }
 {
     match fault {
         GatherFault::Memory => Reason::Memory,
@@ -49,15 +53,17 @@ fn reason_for(fault: GatherFault) -> Reason
 }
 
 /// Reads and gathers the event of a payload, and returns the transaction that it ends, if it ends one.
-fn gather(
+fn gather<W: Observer>(
     alloc: Global,
     gatherer: &mut Gatherer,
     follow: &Follow,
     payload: &[u8],
+    observer: &mut W,
 ) -> Result<Option<Delivery>, Reason>
     ensures ok { (es : List EventValue) (ds : List DeliveryValue) → Gathers es ds gatherer.old → IfOk result (λ delivery. GathersMore follow.now es ds payload.now (delivered delivery) gatherer.new) }
     ensures err { (es : List EventValue) (ds : List DeliveryValue) → Gathers es ds gatherer.old → IfErr result (EndsDump follow.now es payload.now) }
-    ensures neither { IfErr result IsNoStreamFailure }
+    ensures neither { IfErr result IsOwn }
+    ensures stays { W.has_stopped observer.old ≡ true → W.has_stopped observer.new ≡ true }
 {
     let [0, body @ ..] = payload else {
         return Err(no_event(alloc, payload));
@@ -66,6 +72,7 @@ fn gather(
         Ok(event) => event,
         Err(fault) => return Err(Reason::Event(fault)),
     };
+    observer.event(&event);
     match gatherer.event(&event) {
         Ok(delivery) => Ok(delivery),
         Err(fault) => Err(reason_for(fault)),
@@ -74,7 +81,8 @@ fn gather(
 
 /// Maps the store's answer: whether the transaction was applied, or the reason why the connection ends.
 fn outcome(answer: Result<Applied, StoreFault>) -> Result<bool, Reason>
-    ensures { result ≡ outcome_of answer }
+    ensures maps { result ≡ outcome_of answer }
+    ensures neither { IfErr result IsOwn }
 {
     match answer {
         Ok(Applied::Done) => Ok(true),
@@ -86,24 +94,63 @@ fn outcome(answer: Result<Applied, StoreFault>) -> Result<bool, Reason>
     }
 }
 
+/// Whether the transaction is new and the observer stops before it.
+fn is_halted<S: Alter, W: Observer>(store: &Store<S>, delivery: &Delivery, observer: &mut W) -> bool
+    ensures new { (is : Bool) (now : Content) → HoldsAs S.Store is now store.now → result ≡ true → is_executed now (delivery_value delivery.now) ≡ false }
+    ensures asked { result ≡ true → W.has_stopped observer.new ≡ true }
+    ensures stays { W.has_stopped observer.old ≡ true → W.has_stopped observer.new ≡ true }
+{
+    if store.executed().contains(delivery.gtid) {
+        return false;
+    }
+    !observer.before_apply(delivery)
+}
+
+/// Applies a transaction to the store, unless the observer stops before it. Returns whether it was applied.
+fn apply<S: Alter, W: Observer>(
+    store: &mut Store<S>,
+    delivery: &Delivery,
+    observer: &mut W,
+) -> Result<bool, Reason>
+    ensures clean { HasCleanDisk (database S.Store store.new) → HasCleanDisk (database S.Store store.old) }
+    ensures neither { IfErr result (λ reason. MayEnd reason (W.has_stopped observer.new)) }
+    ensures stays { W.has_stopped observer.old ≡ true → W.has_stopped observer.new ≡ true }
+    ensures following { names_of S.Store store.new ≡ names_of S.Store store.old }
+    ensures broken { IsBroken S.Store store.old → store.new ≡ store.old }
+    ensures turn { HasCleanDisk (database S.Store store.new) → (is : Bool) (now : Content) (es : List EventValue) (ds : List DeliveryValue) (p : Payload) (gatherer : Gatherer) → HoldsAs S.Store is now store.old
+        → GathersMore (names_of S.Store store.old) es ds p (delivery_value delivery.now ∷ []) gatherer → TakesEvent S.Store is now es ds p store.old store.new gatherer result }
+{
+    if is_halted(store, delivery, observer) {
+        return Err(Reason::Halted);
+    }
+    let outcome = outcome(store.apply(delivery));
+    observer.after_apply(delivery, &outcome);
+    outcome
+}
+
 /// Takes a payload of the dump: reads its event and, if that ends a transaction, applies the transaction to the store.
 /// Returns whether one was applied.
-pub(crate) fn take_event<S: Alter>(
+pub(crate) fn take_event<S: Alter, W: Observer>(
     alloc: Global,
     gatherer: &mut Gatherer,
     store: &mut Store<S>,
     payload: &[u8],
+    observer: &mut W,
 ) -> Result<bool, Reason>
     ensures clean { HasCleanDisk (database S.Store store.new) → HasCleanDisk (database S.Store store.old) }
-    ensures neither { IfErr result IsNoStreamFailure }
+    ensures neither { IfErr result (λ reason. MayEnd reason (W.has_stopped observer.new)) }
+    ensures stays { W.has_stopped observer.old ≡ true → W.has_stopped observer.new ≡ true }
     ensures following { names_of S.Store store.new ≡ names_of S.Store store.old }
     ensures broken { IsBroken S.Store store.old → store.new ≡ store.old }
     ensures turn { HasCleanDisk (database S.Store store.new) → (is : Bool) (now : Content) (es : List EventValue) (ds : List DeliveryValue) → Gathers es ds gatherer.old → HoldsAs S.Store is now store.old
         → TakesEvent S.Store is now es ds payload.now store.old store.new gatherer.new result }
 {
-    match gather(alloc, gatherer, store.following(), payload) {
-        Ok(Some(delivery)) => outcome(store.apply(&delivery)),
+    match gather(alloc, gatherer, store.following(), payload, observer) {
+        Ok(Some(delivery)) => apply(store, &delivery, observer),
         Ok(None) => Ok(false),
-        Err(reason) => Err(reason),
+        Err(reason) => {
+            observer.refused(payload, &reason);
+            Err(reason)
+        }
     }
 }

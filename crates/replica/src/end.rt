@@ -49,6 +49,8 @@ pub enum Reason {
     ReadFailed,
     /// A write to the stream failed.
     WriteFailed,
+    /// The observer stopped before a transaction, which was not applied.
+    Halted,
 }
 
 /// How a connection ended.

@@ -6,7 +6,7 @@ ghost use Rattle.sqlite.specs.Held.{state};
 ghost use Rattle.sqlite_schema.specs.declared.schema.Schema.{Schema};
 ghost use Rattle.binlog.specs.Filter.{Names};
 ghost use Rattle.store.specs.State.{Content};
-ghost use Rattle.replica.specs.Conn.{Conn, BreaksStore, IsNoStreamFailure};
+ghost use Rattle.replica.specs.Conn.{Conn, BreaksStore, IsOwn, MayEnd};
 ghost use Rattle.replica.specs.Sent.{SentFor};
 ghost use Rattle.replica.specs.Standing.{Stands, end_of, room_of, taken_of};
 ghost use Rattle.replica.specs.Over.{StandsOver};
@@ -15,6 +15,7 @@ ghost use Rattle.store.specs.Store.{database, names_of, IsBroken};
 
 use crate::config::Config;
 use crate::end::{Ended, Reason};
+use crate::observer::{Observer, Unobserved};
 use crate::phase::{Login, Phase};
 use crate::session::Session;
 use gather::Gatherer;
@@ -76,17 +77,40 @@ impl Session {
         ensures broken { IsBroken S.Store store.old → store.new ≡ store.old }
         ensures clean { HasCleanDisk (database S.Store store.new) → HasCleanDisk (database S.Store store.old) }
         ensures config { self.new.config ≡ self.old.config }
-        ensures neither { IsNoStreamFailure (end_of self.old).reason → IsNoStreamFailure (end_of self.new).reason }
+        ensures neither { IsOwn (end_of self.old).reason → IsOwn (end_of self.new).reason }
         ensures stopped { IsErr result ↔ IsSome self.old.ended }
         ensures after { IsSome self.old.ended → (self.new ≡ self.old) × (store.new ≡ store.old) }
         // Until the connection ends, all bytes are taken in, and there is room for that many fewer.
+        ensures room { self.new.ended ≡ None → room_of self.new + length bytes.now ≤ room_of self.old }
+    {
+        self.feed_observed(store, bytes, &mut Unobserved)
+    }
+
+    /// As [`Session::feed`], with an observer that is told of the events and transactions, and may stop before one.
+    pub fn feed_observed<S: Alter, W: Observer>(
+        &mut self,
+        store: &mut Store<S>,
+        bytes: &[u8],
+        observer: &mut W,
+    ) -> Result<(), Stopped>
+        ensures stands { HasCleanDisk (database S.Store store.new) → (schema : Schema) (was : Bool) (old : Content) (b o : List ℕ)
+            → StandsOver S.Store self.old store.old schema was old b o → StandsOver S.Store self.new store.new schema was old (b ++ bytes.now) o }
+        ensures following { names_of S.Store store.new ≡ names_of S.Store store.old }
+        ensures broken { IsBroken S.Store store.old → store.new ≡ store.old }
+        ensures clean { HasCleanDisk (database S.Store store.new) → HasCleanDisk (database S.Store store.old) }
+        ensures config { self.new.config ≡ self.old.config }
+        // The connection is halted only if the observer has stopped.
+        ensures neither { MayEnd (end_of self.old).reason (W.has_stopped observer.old) → MayEnd (end_of self.new).reason (W.has_stopped observer.new) }
+        ensures stays { W.has_stopped observer.old ≡ true → W.has_stopped observer.new ≡ true }
+        ensures stopped { IsErr result ↔ IsSome self.old.ended }
+        ensures after { IsSome self.old.ended → (self.new ≡ self.old) × (store.new ≡ store.old) }
         ensures room { self.new.ended ≡ None → room_of self.new + length bytes.now ≤ room_of self.old }
     {
         if self.ended.is_some() {
             return Err(Stopped);
         }
         let mut rest = bytes;
-        while let Some(used) = self.advance(store, rest) {
+        while let Some(used) = self.advance(store, rest, observer) {
             rest = &rest[used..];
         }
         Ok(())
@@ -94,7 +118,12 @@ impl Session {
 
     /// Reads up to the end of the next payload, takes it, and returns how many bytes these are; or reads all bytes and
     /// returns `None`.
-    fn advance<S: Alter>(&mut self, store: &mut Store<S>, bytes: &[u8]) -> Option<usize>
+    fn advance<S: Alter, W: Observer>(
+        &mut self,
+        store: &mut Store<S>,
+        bytes: &[u8],
+        observer: &mut W,
+    ) -> Option<usize>
         ensures stands { HasCleanDisk (database S.Store store.new) → (schema : Schema) (was : Bool) (old : Content) (b o : List ℕ)
             → StandsOver S.Store self.old store.old schema was old b o → StandsOver S.Store self.new store.new schema was old (b ++ taken_of result bytes.now) o }
         ensures used { IfSome result (λ used. (0 < used) × (used ≤ length bytes.now)) }
@@ -102,7 +131,8 @@ impl Session {
         ensures broken { IsBroken S.Store store.old → store.new ≡ store.old }
         ensures clean { HasCleanDisk (database S.Store store.new) → HasCleanDisk (database S.Store store.old) }
         ensures config { self.new.config ≡ self.old.config }
-        ensures neither { IsNoStreamFailure (end_of self.old).reason → IsNoStreamFailure (end_of self.new).reason }
+        ensures neither { MayEnd (end_of self.old).reason (W.has_stopped observer.old) → MayEnd (end_of self.new).reason (W.has_stopped observer.new) }
+        ensures stays { W.has_stopped observer.old ≡ true → W.has_stopped observer.new ≡ true }
         ensures room { self.new.ended ≡ None → (self.old.ended ≡ None) × (room_of self.new + length (taken_of result bytes.now) ≤ room_of self.old) }
     {
         if self.ended.is_some() {
@@ -117,7 +147,7 @@ impl Session {
         };
         let Step { used, payload } = step;
         let payload = payload?;
-        self.take(store, &payload);
+        self.take(store, &payload, observer);
         Some(used)
     }
 

@@ -1,6 +1,6 @@
 //! Following a source into a database file.
 
-ghost use Rattle.std.specs.Prelude.{◌≡◌, ◌<◌, ◌≤◌, ◌↔◌, Bool, IfOk, IfErr};
+ghost use Rattle.std.specs.Prelude.{◌≡◌, ◌<◌, ◌≤◌, ◌↔◌, Bool, true, IfOk, IfErr};
 ghost use Rattle.sqlite_wal.specs.Files.{image_at};
 ghost use Rattle.sqlite.specs.State.{HasCleanDisk};
 ghost use Rattle.binlog.specs.Filter.{Names};
@@ -8,13 +8,15 @@ ghost use Rattle.store.specs.State.{Content};
 ghost use Rattle.store.specs.Store.{HoldsAs, IsBroken, database, names_of};
 ghost use Rattle.store.specs.Entering.{IsWanted};
 ghost use Rattle.replica.specs.File.{only_of, is_any, FilesHold, IsRefused};
+ghost use Rattle.replica.specs.declared.end.Reason.TheVariants.{Halted};
 ghost use Rattle.replica.specs.FollowFile.{Connects, FollowsFile, CountsFailures};
 
 use crate::config::Config;
 use crate::counted::{Counted, Duplex};
 use crate::end::Ended;
 use crate::file::{Unopened, open_file};
-use crate::following::follow;
+use crate::following::follow_observed;
+use crate::observer::Observer;
 use binlog::Follow;
 use sqlite::{Alter, Error, FileFrom, FileStore, Files, Start};
 use sqlite_disk::Disk;
@@ -30,24 +32,33 @@ pub struct FollowedFile<T, E, D: Disk> {
 }
 
 /// Connects, and follows the source over the stream until the connection ends. Without a stream the store stays as it is.
-fn connect_and_follow<T: Duplex + Drop, E: Drop, F: FnOnce() -> Result<T, E> + Drop, S: Alter>(
+fn connect_and_follow<
+    T: Duplex + Drop,
+    E: Drop,
+    F: FnOnce() -> Result<T, E> + Drop,
+    S: Alter,
+    W: Observer,
+>(
     alloc: Global,
     store: &mut Store<S>,
     config: Config,
     connect: F,
+    observer: &mut W,
 ) -> Result<(Ended, Counted<T>), E>
     requires { F.IsAlwaysCallable connect }
     ensures connects { HasCleanDisk (database S.Store store.new) → (was : Bool) (old : Content) → HoldsAs S.Store was old store.old
         → Connects S.Store T.Read.remaining T.Write.contents T.failures (F.post connect) config store.old store.new was old result }
     ensures counts { IfOk result (λ done. CountsFailures done.0 done.1) }
+    ensures asked { IfOk result (λ done. done.0.reason ≡ Halted → W.has_stopped observer.new ≡ true) }
     ensures following { names_of S.Store store.new ≡ names_of S.Store store.old }
     ensures broken { IsBroken S.Store store.old → store.new ≡ store.old }
     ensures clean { HasCleanDisk (database S.Store store.new) → HasCleanDisk (database S.Store store.old) }
 {
     match connect() {
         Ok(stream) => {
+            observer.connected();
             let mut counted = Counted::new(stream);
-            let end = follow(alloc, &mut counted, store, config);
+            let end = follow_observed(alloc, &mut counted, store, config, observer);
             Ok((end, counted))
         }
         Err(cause) => Err(cause),
@@ -58,13 +69,20 @@ fn connect_and_follow<T: Duplex + Drop, E: Drop, F: FnOnce() -> Result<T, E> + D
 /// database is opened before anything is asked of the source.
 ///
 /// `start` stands for what the files held before (see [`open_file`]).
-pub fn follow_file<P: Start, T: Duplex + Drop, E: Drop, F: FnOnce() -> Result<T, E> + Drop>(
+pub fn follow_file<
+    P: Start,
+    T: Duplex + Drop,
+    E: Drop,
+    F: FnOnce() -> Result<T, E> + Drop,
+    W: Observer,
+>(
     rt: &HostRuntime,
     path: &str,
     start: P,
     only: Option<&Follow>,
     config: Config,
     connect: F,
+    observer: &mut W,
 ) -> Result<FollowedFile<T, E, FileFrom<P>>, Unopened<FileFrom<P>>>
     requires { F.IsAlwaysCallable connect }
     // If the files held a database that stands for a content, or none was there, the end is that of following the source
@@ -74,13 +92,16 @@ pub fn follow_file<P: Start, T: Duplex + Drop, E: Drop, F: FnOnce() -> Result<T,
         → FollowsFile T.Read.remaining T.Write.contents T.failures (F.post connect) config (only_of only.entry) names content done) }
     // A failure of the stream is reported exactly if there was one; it is the last call.
     ensures counts { IfOk result (λ done. IfOk done.connection (λ ended. CountsFailures ended.0 ended.1)) }
+    // The connection is halted only if the observer has stopped.
+    ensures asked { IfOk result (λ done. IfOk done.connection (λ ended. ended.0.reason ≡ Halted → W.has_stopped observer.new ≡ true)) }
     // A database that stands for a content is refused only if the database fails or memory runs out, and is left with that
     // content.
     ensures refused { IfErr result (λ e. (names : Names) (content : Content) → FilesHold (only_of only.entry) names content (image_at P.Start) → IsWanted (is_any only.entry) (only_of only.entry) names
         → IsRefused (only_of only.entry) names content e) }
 {
     let mut store = open_file(rt, path, start, only)?;
-    let connection = connect_and_follow(rt.alloc(), &mut store, config, connect);
+    observer.opened(store.executed());
+    let connection = connect_and_follow(rt.alloc(), &mut store, config, connect, observer);
     let closed = store.close().close_files();
     Ok(FollowedFile { connection, closed })
 }

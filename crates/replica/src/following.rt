@@ -6,7 +6,7 @@ ghost use Rattle.sqlite.specs.State.{HasCleanDisk};
 ghost use Rattle.sqlite_schema.specs.declared.schema.Schema.{Schema};
 ghost use Rattle.store.specs.State.{Content};
 ghost use Rattle.store.specs.Store.{HoldsAs, IsBroken, database, names_of};
-ghost use Rattle.replica.specs.Conn.{IsNoStreamFailure};
+ghost use Rattle.replica.specs.Conn.{IsOwn, MayEnd};
 ghost use Rattle.replica.specs.Standing.{end_of};
 ghost use Rattle.replica.specs.Over.{StandsOver};
 ghost use Rattle.replica.specs.Failing.{HaveFailed};
@@ -15,6 +15,7 @@ ghost use Rattle.replica.specs.Follow.{Follows, HandsOut, sends_no_more_after, r
 use crate::config::Config;
 use crate::counted::{Counted, Duplex};
 use crate::end::{Ended, Reason};
+use crate::observer::{Observer, Unobserved};
 use crate::session::Session;
 use sqlite::Alter;
 use std::alloc::Global;
@@ -23,12 +24,16 @@ use store::Store;
 /// How many bytes a read asks for: 64 KiB.
 const PIECE: usize = 65_536;
 
-/// Whether the connection was ended by the database or by running out of memory. Then nothing more is sent.
+/// Whether the connection was ended by the database, by running out of memory or by the observer. Then nothing more is
+/// sent.
 fn sends_no_more(session: &Session) -> bool
     ensures { result ≡ sends_no_more_after (end_of session.now).reason }
 {
     match session.ended() {
-        Some(end) => matches!(end.reason, Reason::Memory | Reason::Database(_)),
+        Some(end) => matches!(
+            end.reason,
+            Reason::Memory | Reason::Database(_) | Reason::Halted
+        ),
         None => false,
     }
 }
@@ -77,11 +82,12 @@ enum Turn {
 }
 
 /// Reads some bytes of the stream into the session.
-fn read_piece<T: Duplex, S: Alter>(
+fn read_piece<T: Duplex, S: Alter, W: Observer>(
     session: &mut Session,
     stream: &mut Counted<T>,
     store: &mut Store<S>,
     buffer: &mut [u8],
+    observer: &mut W,
 ) -> Turn
     requires room { stream.old.failed_reads < 2 ^ 64 - 1 }
     requires going { session.old.ended ≡ None }
@@ -97,7 +103,8 @@ fn read_piece<T: Duplex, S: Alter>(
     ensures broken { IsBroken S.Store store.old → store.new ≡ store.old }
     ensures clean { HasCleanDisk (database S.Store store.new) → HasCleanDisk (database S.Store store.old) }
     ensures config { session.new.config ≡ session.old.config }
-    ensures neither { IsNoStreamFailure (end_of session.old).reason → IsNoStreamFailure (end_of session.new).reason }
+    ensures neither { MayEnd (end_of session.old).reason (W.has_stopped observer.old) → MayEnd (end_of session.new).reason (W.has_stopped observer.new) }
+    ensures stays { W.has_stopped observer.old ≡ true → W.has_stopped observer.new ≡ true }
     ensures turns { result ≡ Turn.Read → turns_left session.new < turns_left session.old }
     ensures still { result ≢ Turn.Read → (session.new ≡ session.old) × (store.new ≡ store.old) × Keeps (T.Read.remaining stream.old.stream) (T.Read.remaining stream.new.stream) }
     ensures at_end { result ≡ Turn.AtEnd → IsAtEnd (T.Read.remaining stream.new.stream) }
@@ -106,7 +113,8 @@ fn read_piece<T: Duplex, S: Alter>(
         Err(_) => Turn::Failed,
         Ok(0) => Turn::AtEnd,
         Ok(n) => {
-            let _ = session.feed(store, &buffer[..n]);
+            observer.received(n);
+            let _ = session.feed_observed(store, &buffer[..n], observer);
             Turn::Read
         }
     }
@@ -141,6 +149,8 @@ pub fn follow<T: Duplex, S: Alter>(
     // to them.
     ensures follows { HasCleanDisk (database S.Store store.new) → (was : Bool) (old : Content) → HoldsAs S.Store was old store.old
         → Follows S.Store config store.old store.new was old (T.Read.remaining stream.old.stream) (T.Read.remaining stream.new.stream) (T.Write.contents stream.old.stream) (T.Write.contents stream.new.stream) result }
+    // Nothing halts the connection.
+    ensures going { result.reason ≢ Reason.Halted }
     // A failure of the stream is reported exactly if there was one.
     ensures read_failed { (result.reason ≡ Reason.ReadFailed) ↔ (stream.old.failed_reads < stream.new.failed_reads) }
     ensures write_failed { (result.reason ≡ Reason.WriteFailed) ↔ (stream.old.failed_writes < stream.new.failed_writes) }
@@ -151,6 +161,33 @@ pub fn follow<T: Duplex, S: Alter>(
     ensures reported { HaveFailed (T.failures stream.old.stream) (T.failures stream.new.stream) (failed_reads_of result.reason) (failed_writes_of result.reason) }
     ensures following { names_of S.Store store.new ≡ names_of S.Store store.old }
     // A store that has failed stays as it is.
+    ensures broken { IsBroken S.Store store.old → store.new ≡ store.old }
+    ensures clean { HasCleanDisk (database S.Store store.new) → HasCleanDisk (database S.Store store.old) }
+{
+    follow_observed(alloc, stream, store, config, &mut Unobserved)
+}
+
+/// As [`follow`], with an observer that is told of what is read, and may stop before a transaction. After that nothing
+/// more is sent.
+pub fn follow_observed<T: Duplex, S: Alter, W: Observer>(
+    alloc: Global,
+    stream: &mut Counted<T>,
+    store: &mut Store<S>,
+    config: Config,
+    observer: &mut W,
+) -> Ended
+    requires reads { stream.old.failed_reads < 2 ^ 64 - 1 }
+    requires writes { stream.old.failed_writes < 2 ^ 64 - 1 }
+    ensures follows { HasCleanDisk (database S.Store store.new) → (was : Bool) (old : Content) → HoldsAs S.Store was old store.old
+        → Follows S.Store config store.old store.new was old (T.Read.remaining stream.old.stream) (T.Read.remaining stream.new.stream) (T.Write.contents stream.old.stream) (T.Write.contents stream.new.stream) result }
+    // The connection is halted only if the observer has stopped.
+    ensures asked { result.reason ≡ Reason.Halted → W.has_stopped observer.new ≡ true }
+    ensures read_failed { (result.reason ≡ Reason.ReadFailed) ↔ (stream.old.failed_reads < stream.new.failed_reads) }
+    ensures write_failed { (result.reason ≡ Reason.WriteFailed) ↔ (stream.old.failed_writes < stream.new.failed_writes) }
+    ensures once { (stream.new.failed_reads ≤ stream.old.failed_reads + 1) × (stream.new.failed_writes ≤ stream.old.failed_writes + 1) }
+    ensures counted { (stream.new.failed_reads ≡ stream.old.failed_reads + failed_reads_of result.reason) × (stream.new.failed_writes ≡ stream.old.failed_writes + failed_writes_of result.reason) }
+    ensures reported { HaveFailed (T.failures stream.old.stream) (T.failures stream.new.stream) (failed_reads_of result.reason) (failed_writes_of result.reason) }
+    ensures following { names_of S.Store store.new ≡ names_of S.Store store.old }
     ensures broken { IsBroken S.Store store.old → store.new ≡ store.old }
     ensures clean { HasCleanDisk (database S.Store store.new) → HasCleanDisk (database S.Store store.old) }
 {
@@ -168,7 +205,7 @@ pub fn follow<T: Duplex, S: Alter>(
         if session.ended().is_some() {
             return session.finish();
         }
-        match read_piece(&mut session, stream, store, &mut buffer) {
+        match read_piece(&mut session, stream, store, &mut buffer, observer) {
             Turn::Read => {}
             Turn::AtEnd => return session.finish(),
             Turn::Failed => return ended_with(session, Reason::ReadFailed),

@@ -9,7 +9,7 @@ ghost use Rattle.gtid.specs.Identifier.{Ids};
 ghost use Rattle.wire.specs.Packet.{packing_length};
 ghost use Rattle.store.specs.State.{Content};
 ghost use Rattle.replica.specs.Standing.{Stands, Meets, first_id_of, place_of, MovesOn, room_of, end_of};
-ghost use Rattle.replica.specs.Conn.{IsNoStreamFailure};
+ghost use Rattle.replica.specs.Conn.{IsOwn, MayEnd};
 ghost use Rattle.replica.specs.Over.{StandsOver, MeetsOver};
 ghost use Rattle.replica.specs.declared.phase.Phase.TheVariants as phase;
 ghost use Rattle.store.specs.Store.{database, names_of, IsBroken};
@@ -17,6 +17,7 @@ ghost use Rattle.store.specs.Store.{database, names_of, IsBroken};
 use crate::dump::take_event;
 use crate::end::{Ended, Reason};
 use crate::message::answer;
+use crate::observer::Observer;
 use crate::phase::{Login, Phase};
 use crate::session::Session;
 use gtid::GtidSet;
@@ -81,7 +82,7 @@ impl Session {
         requires between { (self.old.assembler.held ≡ []) × (self.old.assembler.ended ≡ false) }
         requires after { self.old.at < end }
         ensures config { self.new.config ≡ self.old.config }
-        ensures neither { IsNoStreamFailure (end_of self.new).reason }
+        ensures neither { IsOwn (end_of self.new).reason }
         ensures further { self.new.ended ≡ None → (self.new.at ≡ end) × (self.new.assembler.held ≡ []) }
         ensures takes { (names : Names) (was is : Bool) (old now : Content) (b o : List ℕ) → executed.now ≡ now.executed → end ≡ self.old.at + packing_length (length payload.now)
             → Meets self.old names was is old now b o payload.now → Stands self.new names was is old now b o }
@@ -97,7 +98,13 @@ impl Session {
     }
 
     /// Takes a payload of the dump, which ends at the offset `end`.
-    fn take_dump<S: Alter>(&mut self, store: &mut Store<S>, payload: &[u8], end: u64)
+    fn take_dump<S: Alter, W: Observer>(
+        &mut self,
+        store: &mut Store<S>,
+        payload: &[u8],
+        end: u64,
+        observer: &mut W,
+    )
         requires going { self.old.ended ≡ None }
         requires in_dump { self.old.phase ≡ phase.Dump }
         requires between { self.old.assembler.held ≡ [] }
@@ -106,26 +113,34 @@ impl Session {
         ensures following { names_of S.Store store.new ≡ names_of S.Store store.old }
         ensures broken { IsBroken S.Store store.old → store.new ≡ store.old }
         ensures config { self.new.config ≡ self.old.config }
-        ensures neither { IsNoStreamFailure (end_of self.new).reason }
+        ensures neither { MayEnd (end_of self.new).reason (W.has_stopped observer.new) }
+        ensures stays { W.has_stopped observer.old ≡ true → W.has_stopped observer.new ≡ true }
         ensures further { self.new.ended ≡ None → (self.new.at ≡ end) × (self.new.assembler.held ≡ []) }
         ensures takes { HasCleanDisk (database S.Store store.new) → (schema : Schema) (was : Bool) (old : Content) (b o : List ℕ) → end ≡ self.old.at + packing_length (length payload.now)
             → MeetsOver S.Store self.old store.old schema was old b o payload.now → StandsOver S.Store self.new store.new schema was old b o }
     {
-        match take_event(self.config.alloc(), &mut self.gatherer, store, payload) {
+        let alloc = self.config.alloc();
+        match take_event(alloc, &mut self.gatherer, store, payload, observer) {
             Ok(applied) => self.go_on(end, applied),
             Err(reason) => self.end_after(reason, end),
         }
     }
 
     /// Takes a payload that has come.
-    pub(crate) fn take<S: Alter>(&mut self, store: &mut Store<S>, payload: &[u8])
+    pub(crate) fn take<S: Alter, W: Observer>(
+        &mut self,
+        store: &mut Store<S>,
+        payload: &[u8],
+        observer: &mut W,
+    )
         requires going { self.old.ended ≡ None }
         requires between { (self.old.assembler.held ≡ []) × (self.old.assembler.ended ≡ false) }
         ensures clean { HasCleanDisk (database S.Store store.new) → HasCleanDisk (database S.Store store.old) }
         ensures following { names_of S.Store store.new ≡ names_of S.Store store.old }
         ensures broken { IsBroken S.Store store.old → store.new ≡ store.old }
         ensures config { self.new.config ≡ self.old.config }
-        ensures neither { IsNoStreamFailure (end_of self.new).reason }
+        ensures neither { MayEnd (end_of self.new).reason (W.has_stopped observer.new) }
+        ensures stays { W.has_stopped observer.old ≡ true → W.has_stopped observer.new ≡ true }
         ensures room { self.new.ended ≡ None → room_of self.new + packing_length (length payload.now) ≤ room_of self.old }
         ensures takes { HasCleanDisk (database S.Store store.new) → (schema : Schema) (was : Bool) (old : Content) (b o : List ℕ)
             → MeetsOver S.Store self.old store.old schema was old b o payload.now → StandsOver S.Store self.new store.new schema was old b o }
@@ -135,7 +150,7 @@ impl Session {
             return;
         };
         match self.phase {
-            Phase::Dump => self.take_dump(store, payload, end),
+            Phase::Dump => self.take_dump(store, payload, end, observer),
             Phase::Login(login) => self.take_message(login, store.executed(), payload, end),
         }
     }

@@ -1,6 +1,6 @@
 //! A connection that is read from a file.
 
-ghost use Rattle.std.specs.Prelude.{◌≡◌, ◌<◌, Bool, length, IfOk, IfErr};
+ghost use Rattle.std.specs.Prelude.{◌≡◌, ◌<◌, Bool, true, length, IfOk, IfErr};
 ghost use Rattle.std.specs.Io.{ReadsAtMost};
 ghost use Rattle.std.specs.Io.KnownBytes.{ReadConsumes, IsAtEnd};
 ghost use Rattle.sqlite.specs.State.{HasCleanDisk};
@@ -10,9 +10,11 @@ ghost use Rattle.store.specs.Store.{HoldsAs, IsBroken, database, names_of};
 ghost use Rattle.replica.specs.declared.end.Reason.TheVariants.{EndOfInput};
 ghost use Rattle.replica.specs.declared.end.Ended.{Ended as End};
 ghost use Rattle.replica.specs.Over.{HasReadOf};
+ghost use Rattle.replica.specs.Conn.{MayEnd};
 
 use crate::config::Config;
 use crate::end::Ended;
+use crate::observer::Observer;
 use crate::session::Session;
 use sqlite::Alter;
 use std::io;
@@ -37,12 +39,13 @@ pub fn read_some<R: Read>(reader: &mut R, piece: &mut [u8]) -> io::Result<usize>
 /// Reads one connection to its end: its first bytes, and then those that the reader gives, a piece at a time. It reads
 /// no further than the piece in which the connection ends. After an error of the reader, the store keeps what was
 /// applied before it.
-pub fn read_stream<R: Read, S: Alter>(
+pub fn read_stream<R: Read, S: Alter, W: Observer>(
     config: Config,
     store: &mut Store<S>,
     first: &[u8],
     reader: &mut R,
     piece: &mut [u8],
+    observer: &mut W,
 ) -> io::Result<Ended>
     requires { 0 < length piece.old }
     ensures piece { length piece.new ≡ length piece.old }
@@ -55,18 +58,23 @@ pub fn read_stream<R: Read, S: Alter>(
     // The bytes that were read before the error did not end the connection.
     ensures failed { IfErr result (λ _. HasCleanDisk (database S.Store store.new) → (was : Bool) (old : Content) → HoldsAs S.Store was old store.old
         → (end : End) × (end.reason ≡ EndOfInput) × HasReadOf S.Store config.limit store.old store.new was old first.now (R.remaining reader.old) (R.remaining reader.new) end) }
+    // The connection is halted only if the observer has stopped.
+    ensures neither { IfOk result (λ end. MayEnd end.reason (W.has_stopped observer.new)) }
+    ensures stays { W.has_stopped observer.old ≡ true → W.has_stopped observer.new ≡ true }
     ensures following { names_of S.Store store.new ≡ names_of S.Store store.old }
     // A store that has failed stays as it is.
     ensures broken { IsBroken S.Store store.old → store.new ≡ store.old }
     ensures clean { HasCleanDisk (database S.Store store.new) → HasCleanDisk (database S.Store store.old) }
 {
     let mut session = Session::new(config);
-    let _ = session.feed(store, first);
+    observer.received(first.len());
+    let _ = session.feed_observed(store, first, observer);
     while session.ended().is_none() {
         match read_some(reader, piece) {
             Ok(0) => return Ok(session.finish()),
             Ok(count) => {
-                let _ = session.feed(store, &piece[..count]);
+                observer.received(count);
+                let _ = session.feed_observed(store, &piece[..count], observer);
             }
             Err(cause) => return Err(cause),
         }

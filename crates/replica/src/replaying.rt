@@ -1,17 +1,19 @@
 //! Replaying captured connections into a database file.
 
-ghost use Rattle.std.specs.Prelude.{◌≡◌, true, IfOk, IfErr, Err};
+ghost use Rattle.std.specs.Prelude.{◌≡◌, true, IfOk, IfErr, Err, All};
 ghost use Rattle.sqlite_wal.specs.Files.{image_at};
 ghost use Rattle.binlog.specs.Filter.{Names};
 ghost use Rattle.store.specs.State.{Content};
 ghost use Rattle.store.specs.Entering.{IsWanted};
 ghost use Rattle.replica.specs.File.{only_of, is_any, FilesHold, IsRefused};
 ghost use Rattle.replica.specs.Replay.{Replays};
+ghost use Rattle.replica.specs.Conn.{MayEnd};
 
-use crate::captures::{Capture, Halt, Observer, read_captures};
+use crate::captures::{Capture, Halt, read_captures};
 use crate::config::Config;
 use crate::end::Ended;
 use crate::file::{Unopened, open_file};
+use crate::observer::Observer;
 use binlog::Follow;
 use sqlite::{Error, FileFrom, FileStore, Files, Start};
 use sqlite_disk::Disk;
@@ -48,8 +50,9 @@ pub fn replay<P: Start, R: Read + Drop, W: Observer>(
     // that they lead to.
     ensures replays { IfOk result (λ done. (names : Names) (content : Content) → FilesHold (only_of only.entry) names content (image_at P.Start) → IsWanted (is_any only.entry) (only_of only.entry) names
         → Replays R.Read.remaining config.now.limit names content captures.items done) }
-    // Connections are left unread for the observer only if that has asked for it.
+    // Connections are left unread for the observer only if that has stopped, and so is a connection halted.
     ensures asked { IfOk result (λ done. done.read ≡ Err Halt.Observer → W.has_stopped observer.new ≡ true) }
+    ensures neither { IfOk result (λ done. All (λ end. MayEnd end.reason (W.has_stopped observer.new)) done.ends.items) }
     // A database that stands for a content is refused only if the database fails or memory runs out, and is left with that
     // content.
     ensures refused { IfErr result (λ e. (names : Names) (content : Content) → FilesHold (only_of only.entry) names content (image_at P.Start) → IsWanted (is_any only.entry) (only_of only.entry) names
@@ -63,6 +66,7 @@ pub fn replay<P: Start, R: Read + Drop, W: Observer>(
         return Err(Unopened::Memory);
     };
     let mut store = open_file(rt, path, start, only)?;
+    observer.opened(store.executed());
     let read = read_captures(
         config, &mut store, captures, &mut piece, &mut ends, observer,
     );

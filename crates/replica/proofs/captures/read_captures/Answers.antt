@@ -1,4 +1,4 @@
-use Rattle.std.proofs.Common.{rules, ◌≡◌, ◌++◌, ◌∷◌, [], ◌+◌, List, slice_get, take, length, refl, sym, ap, ◌∙◌, subst, subst₂}
+use Rattle.std.proofs.Common.{rules, ◌≡◌, ◌++◌, ◌∷◌, [], ◌+◌, List, slice_get, take, length, refl, sym, ap, ◌∙◌, subst, subst₂, All}
 use Rattle.std.proofs.lemmas.List.{take_more, length_push}
 use Rattle.std.proofs.Math.Seq.{take-length}
 use Rattle.std.proofs.lemmas.Option.{slice_get_read}
@@ -9,12 +9,15 @@ use Rattle.replica.specs.declared.captures.Capture.{Capture}
 use Rattle.replica.specs.declared.end.Ended.{Ended}
 use Rattle.replica.specs.Over.{HasReadAll}
 use Rattle.replica.specs.Capture.{AreRead, AreReadUpTo}
+use Rattle.replica.specs.Conn.{MayEnd}
+use Rattle.replica.proofs.Observed.{ends_later, more_ends}
 use Rattle.replica.proofs.Captured.{no_captures, captures_more, breaks_off}
 use Rattle.replica.proofs.captures.read_captures.Goals as goal
 
 pub loop-capture-init : goal.loop-capture-init
 loop-capture-init g c = record {
   piece = search rules;
+  may = subst (λ (l : List Ended). All (λ (e : Ended). MayEnd e.reason (g.W.Observer.has_stopped c.args.observer.now)) l) (sym c.requires.none) (search rules);
   count = search rules;
   room = search rules;
   clean = λ h. h;
@@ -64,6 +67,8 @@ loop-capture-preserved g c =
     ap (λ n. take n all) next ∙ take_more all (length c.loop-capture.yielded) c.in-Some.capture turn.0 ∙ ap (λ (p : Capture g.row.R.Denot). take (length c.loop-capture.yielded) all ++ p ∷ []) (sym turn.1) in
     record {
       piece = search rules;
+      may = more_ends c.loop-capture.ends.items c.in-Ok.end (g.W.Observer.has_stopped c.loop-capture.observer) (g.W.Observer.has_stopped c.read_capture.new.observer) (g.W.Observer.has_stopped c.ended-goes_on.new.self) c.push_reserved.new.self.items
+          (search rules) c.ended-goes_on.ensures.stays c.push_reserved.ensures.items inv.may c.in-Ok.ensures.neither;
       count = ap length ends ∙ length_push c.loop-capture.ends.items c.in-Ok.end ∙ ap (λ n. n + 1) inv.count ∙ sym next;
       room = search rules;
       clean = λ h. inv.clean (c.read_capture.ensures.clean h);
@@ -83,3 +88,14 @@ returns-clause-reads g c clean was old holds =
     let end = YieldsList-end (YieldsList-from_vec {s = c.into_iter-capture-iterator.result} all (search rules) (search rules)) c.loop-capture.yielded c.loop-capture.capture-iterator c.loop-capture.yielded_by c.next.result c.next.new.self c.in-None.is c.next.ensures.steps in
     subst (λ (l : List (Capture g.row.R.Denot)). AreRead g.R.Read.remaining (HasReadAll g.S.Store c.args.config.now.limit c.loop-capture.store (state g.S.Store c.args.store.now.conn).now.schema was old) l c.loop-capture.ends.items)
     (ap (λ n. take n all) end.1 ∙ take-length all) (inv.taken clean was old holds)
+
+pub returns-in-Err-clause-neither : goal.returns-in-Err-clause-neither
+returns-in-Err-clause-neither g c = ends_later c.loop-capture.ends.items (g.W.Observer.has_stopped c.loop-capture.observer) (g.W.Observer.has_stopped c.read_capture.new.observer) (search rules) c.loop-capture.invariant.may
+
+pub returns-then-not-goes_on-clause-neither : goal.returns-then-not-goes_on-clause-neither
+returns-then-not-goes_on-clause-neither g c =
+    more_ends c.loop-capture.ends.items c.in-Ok.end (g.W.Observer.has_stopped c.loop-capture.observer) (g.W.Observer.has_stopped c.read_capture.new.observer) (g.W.Observer.has_stopped c.ended-goes_on.new.self) c.push_reserved.new.self.items
+    (search rules) c.ended-goes_on.ensures.stays c.push_reserved.ensures.items c.loop-capture.invariant.may c.in-Ok.ensures.neither
+
+pub returns-clause-neither : goal.returns-clause-neither
+returns-clause-neither g c = c.loop-capture.invariant.may

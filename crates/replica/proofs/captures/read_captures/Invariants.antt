@@ -1,15 +1,17 @@
-use Rattle.std.proofs.Common.{◌≡◌, ◌<◌, ◌≤◌, Bool, true, length, take, vec_capacity}
+use Rattle.std.proofs.Common.{◌≡◌, ◌<◌, ◌≤◌, Bool, true, length, take, vec_capacity, All}
 use Rattle.sqlite.specs.State.{HasCleanDisk}
 use Rattle.sqlite.specs.Held.{state}
 use Rattle.store.specs.State.{Content}
 use Rattle.store.specs.Store.{HoldsAs}
 use Rattle.replica.specs.Over.{HasReadAll}
 use Rattle.replica.specs.Capture.{AreRead}
+use Rattle.replica.specs.Conn.{MayEnd}
 use Rattle.replica.proofs.captures.read_captures.Given as goal
 
 abbrev pub invariant-loop-capture : goal.invariant-loop-capture
 invariant-loop-capture g l = record {
   piece : 0 < length l.piece;
+  may : All (λ end. MayEnd end.reason (g.W.Observer.has_stopped l.observer)) l.ends.items;
   count : length l.ends.items ≡ length l.yielded;
   room : length l.fn.captures.items ≤ vec_capacity l.ends;
   clean : HasCleanDisk (state g.S.Store l.store.conn) → HasCleanDisk (state g.S.Store l.fn.store.conn);

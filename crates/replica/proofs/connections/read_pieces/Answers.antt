@@ -2,7 +2,7 @@ use Rattle.std.proofs.Common.{rules, ◌≡◌, ◌++◌, ◌∷◌, ◌+◌, �
 use Rattle.std.proofs.lemmas.List.{take_more, take_all}
 use Rattle.sqlite.specs.Held.{state}
 use Rattle.replica.specs.declared.end.Ended.{Ended}
-use Rattle.replica.specs.Conn.{IsNoStreamFailure}
+use Rattle.replica.specs.Conn.{IsOwn}
 use Rattle.replica.specs.Pieces.{stream_of}
 use Rattle.replica.specs.Over.{StandsOver, HasRead}
 use Rattle.replica.proofs.Histories.{stream-more}
@@ -47,4 +47,4 @@ returns-clause-read g c clean was old holds =
     (inv.stands clean was old holds))
 
 pub returns-clause-neither : goal.returns-clause-neither
-returns-clause-neither g c = subst (λ (e : Ended). IsNoStreamFailure e.reason) (sym c.finish.ensures.end) c.loop-piece.invariant.neither
+returns-clause-neither g c = subst (λ (e : Ended). IsOwn e.reason) (sym c.finish.ensures.end) c.loop-piece.invariant.neither

@@ -3,7 +3,7 @@ use Rattle.sqlite.specs.State.{HasCleanDisk}
 use Rattle.sqlite.specs.Held.{state}
 use Rattle.store.specs.State.{Content}
 use Rattle.store.specs.Store.{HoldsAs}
-use Rattle.replica.specs.Conn.{IsNoStreamFailure}
+use Rattle.replica.specs.Conn.{IsOwn}
 use Rattle.replica.specs.Pieces.{stream_of}
 use Rattle.replica.specs.Standing.{end_of}
 use Rattle.replica.specs.Over.{StandsOver}
@@ -16,6 +16,6 @@ invariant-loop-piece g l = record {
   clean : HasCleanDisk (state g.S.Store l.store.conn) → HasCleanDisk (state g.S.Store l.fn.store.conn);
   stands : HasCleanDisk (state g.S.Store l.store.conn) → (was : Bool) (old : Content) → HoldsAs g.S.Store was old l.fn.store
       → StandsOver g.S.Store l.session l.store (state g.S.Store l.fn.store.conn).now.schema was old (stream_of (take l.piece-index l.pieces)) [];
-  neither : IsNoStreamFailure (end_of l.session).reason;
+  neither : IsOwn (end_of l.session).reason;
   broken : l.fn.store.broken ≡ true → l.store ≡ l.fn.store;
 }

@@ -3,7 +3,7 @@ use Rattle.std.proofs.lemmas.List.{take_more}
 use Rattle.std.proofs.lemmas.List.Elements.{All-push}
 use Rattle.sqlite.specs.Held.{state}
 use Rattle.replica.specs.declared.end.Ended.{Ended}
-use Rattle.replica.specs.Conn.{IsNoStreamFailure}
+use Rattle.replica.specs.Conn.{IsOwn}
 use Rattle.replica.specs.Pieces.{stream_of, streams_of}
 use Rattle.replica.specs.Over.{HasRead, HasReadAll}
 use Rattle.replica.proofs.Runs.{taken_none, taken_next}
@@ -19,7 +19,7 @@ loop-pieces-init g c = record {
       (taken_none g.S.Store (λ h db is_open may. g.met.S.Store.settled h.store db is_open may) c.args.config.now.limit c.args.store.now was old holds);
   following = refl;
   broken = λ h. refl;
-  neither = subst (λ (l : List Ended). All (λ (e : Ended). IsNoStreamFailure e.reason) l) (sym c.in-Ok.ensures.items) (search rules);
+  neither = subst (λ (l : List Ended). All (λ (e : Ended). IsOwn e.reason) l) (sym c.in-Ok.ensures.items) (search rules);
 }
 
 pub loop-pieces-preserved : goal.loop-pieces-preserved
@@ -45,6 +45,6 @@ loop-pieces-preserved g c =
           (subst (λ (l : List (Vec ℕ Global)). HasRead g.S.Store limit c.loop-pieces.store c.read_connection-end.new.store t.is t.new (stream_of l) end) c.as_slice.ensures.value r));
       following = c.read_connection-end.ensures.following ∙ c.loop-pieces.invariant.following;
       broken = search rules;
-      neither = subst (λ (l : List Ended). All (λ (e : Ended). IsNoStreamFailure e.reason) l) (sym c.push_reserved.ensures.items)
-          (All-push (λ (e : Ended). IsNoStreamFailure e.reason) ends end c.loop-pieces.invariant.neither c.read_connection-end.ensures.neither);
+      neither = subst (λ (l : List Ended). All (λ (e : Ended). IsOwn e.reason) l) (sym c.push_reserved.ensures.items)
+          (All-push (λ (e : Ended). IsOwn e.reason) ends end c.loop-pieces.invariant.neither c.read_connection-end.ensures.neither);
     }

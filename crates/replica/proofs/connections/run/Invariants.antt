@@ -3,7 +3,7 @@ use Rattle.sqlite.specs.State.{HasCleanDisk}
 use Rattle.sqlite.specs.Held.{state}
 use Rattle.store.specs.State.{Content}
 use Rattle.store.specs.Store.{HoldsAs}
-use Rattle.replica.specs.Conn.{IsNoStreamFailure}
+use Rattle.replica.specs.Conn.{IsOwn}
 use Rattle.replica.specs.Pieces.{streams_of}
 use Rattle.replica.specs.Over.{HasReadAll}
 use Rattle.replica.proofs.connections.run.Given as goal
@@ -17,5 +17,5 @@ invariant-loop-pieces g l = record {
       → HasReadAll g.S.Store l.config.limit l.store (state g.S.Store l.fn.store.conn).now.schema was old (streams_of (take l.pieces-index l.connections)) l.ends.items;
   following : l.store.following ≡ l.fn.store.following;
   broken : l.fn.store.broken ≡ true → l.store ≡ l.fn.store;
-  neither : All (λ end. IsNoStreamFailure end.reason) l.ends.items;
+  neither : All (λ end. IsOwn end.reason) l.ends.items;
 }

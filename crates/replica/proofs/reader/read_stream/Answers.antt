@@ -6,6 +6,8 @@ use Rattle.replica.specs.declared.end.Reason.TheVariants.{EndOfInput}
 use Rattle.replica.specs.declared.end.Ended.{Ended}
 use Rattle.replica.specs.Standing.{end_of}
 use Rattle.replica.specs.Over.{StandsOver}
+use Rattle.replica.specs.Conn.{MayEnd}
+use Rattle.replica.proofs.Observed.{may_later}
 use Rattle.replica.proofs.Runs.{begins}
 use Rattle.replica.proofs.FromReader.{taking_more, taken, no_end, is_ended, not_ended, going_on, Keeps-from_none}
 use Rattle.replica.proofs.reader.read_stream.Goals as goal
@@ -13,15 +15,17 @@ use Rattle.replica.proofs.reader.read_stream.Goals as goal
 pub loop-reader-init : goal.loop-reader-init
 loop-reader-init g c = record {
   some = search rules;
+  may = c.feed_observed.ensures.neither (rw c.new-session.ensures.ended tt);
+  stays = λ h. c.feed_observed.ensures.stays (c.received.ensures h);
   taking = record {
     read = [];
     consumes = Consumes-nil (g.R.Read.remaining c.args.reader.now);
-    limit_is = ap (λ s. s.limit) (c.feed.ensures.config ∙ c.new-session.ensures.config);
-    following = c.feed.ensures.following;
-    broken = c.feed.ensures.broken;
-    clean = c.feed.ensures.clean;
-    stands = λ h was old holds. subst (λ (l : List ℕ). StandsOver g.S.Store c.feed.new.self c.feed.new.store (state g.S.Store c.args.store.now.conn).now.schema was old l []) (sym (append-nil c.args.first.now))
-        (c.feed.ensures.stands h (state g.S.Store c.args.store.now.conn).now.schema was old [] []
+    limit_is = ap (λ s. s.limit) (c.feed_observed.ensures.config ∙ c.new-session.ensures.config);
+    following = c.feed_observed.ensures.following;
+    broken = c.feed_observed.ensures.broken;
+    clean = c.feed_observed.ensures.clean;
+    stands = λ h was old holds. subst (λ (l : List ℕ). StandsOver g.S.Store c.feed_observed.new.self c.feed_observed.new.store (state g.S.Store c.args.store.now.conn).now.schema was old l []) (sym (append-nil c.args.first.now))
+        (c.feed_observed.ensures.stands h (state g.S.Store c.args.store.now.conn).now.schema was old [] []
         (begins g.S.Store (λ h db is_open may. g.met.S.Store.settled h.store db is_open may) c.new-session.result c.args.store.now was old holds (c.new-session.ensures.stands c.args.store.now.following was old)));
   };
 }
@@ -29,9 +33,12 @@ loop-reader-init g c = record {
 pub loop-reader-preserved : goal.loop-reader-preserved
 loop-reader-preserved g c = record {
   some = search rules;
+  may = c.feed_observed-in-Ok.ensures.neither
+      (may_later (end_of c.loop-reader.session).reason (g.W.Observer.has_stopped c.loop-reader.observer) (g.W.Observer.has_stopped c.received-in-Ok.new.self) c.received-in-Ok.ensures c.loop-reader.invariant.may);
+  stays = λ h. c.feed_observed-in-Ok.ensures.stays (c.received-in-Ok.ensures (c.loop-reader.invariant.stays h));
   taking = taking_more g.S.Store c.args.config.limit c.args.first.now c.args.store.now c.loop-reader.session c.loop-reader.store (g.R.Read.remaining c.args.reader.now) (g.R.Read.remaining c.loop-reader.reader)
-      c.feed-in-Ok.new.self c.feed-in-Ok.new.store (g.R.Read.remaining c.read_some.new.reader) (take c.in-Ok.count c.read_some.new.piece) c.loop-reader.invariant.taking c.in-Ok.ensures.bytes.0
-      c.feed-in-Ok.ensures.config c.feed-in-Ok.ensures.following c.feed-in-Ok.ensures.broken c.feed-in-Ok.ensures.clean c.feed-in-Ok.ensures.stands;
+      c.feed_observed-in-Ok.new.self c.feed_observed-in-Ok.new.store (g.R.Read.remaining c.read_some.new.reader) (take c.in-Ok.count c.read_some.new.piece) c.loop-reader.invariant.taking c.in-Ok.ensures.bytes.0
+      c.feed_observed-in-Ok.ensures.config c.feed_observed-in-Ok.ensures.following c.feed_observed-in-Ok.ensures.broken c.feed_observed-in-Ok.ensures.clean c.feed_observed-in-Ok.ensures.stands;
 }
 
 pub returns-in-Ok-eq0-clause-read : goal.returns-in-Ok-eq0-clause-read
@@ -60,3 +67,15 @@ returns-clause-all g c clean was old holds same =
     absurd (no_end c.loop-reader.session c.loop-reader.store.following was s.is old s.now (c.args.first.now ++ c.loop-reader.invariant.taking.read) []
     (is_ended (λ e. e.now) c.ended.result c.loop-reader.session.ended c.ended.ensures c.loop-reader-test.ensures) s.stands
     (subst (λ (e : Ended). e.reason ≡ EndOfInput) c.finish-2.ensures.end same))
+
+pub returns-in-Ok-eq0-clause-stays : goal.returns-in-Ok-eq0-clause-stays
+returns-in-Ok-eq0-clause-stays g c = c.loop-reader.invariant.stays
+
+pub returns-in-Err-clause-stays : goal.returns-in-Err-clause-stays
+returns-in-Err-clause-stays g c = c.loop-reader.invariant.stays
+
+pub returns-clause-stays : goal.returns-clause-stays
+returns-clause-stays g c = c.loop-reader.invariant.stays
+
+pub returns-clause-neither : goal.returns-clause-neither
+returns-clause-neither g c = subst (λ (e : Ended). MayEnd e.reason (g.W.Observer.has_stopped c.loop-reader.observer)) (sym c.finish-2.ensures.end) c.loop-reader.invariant.may

@@ -1,10 +1,14 @@
-use Rattle.std.proofs.Common.{◌<◌, length}
+use Rattle.std.proofs.Common.{◌≡◌, ◌<◌, true, length}
+use Rattle.replica.specs.Conn.{MayEnd}
+use Rattle.replica.specs.Standing.{end_of}
 use Rattle.replica.proofs.FromReader.{IsTaking, turns_left}
 use Rattle.replica.proofs.reader.read_stream.Given as goal
 
 abbrev pub invariant-loop-reader : goal.invariant-loop-reader
 invariant-loop-reader g l = record {
   some : 0 < length l.piece;
+  may : MayEnd (end_of l.session).reason (g.W.Observer.has_stopped l.observer);
+  stays : g.W.Observer.has_stopped l.fn.observer ≡ true → g.W.Observer.has_stopped l.observer ≡ true;
   taking : IsTaking g.S.Store l.fn.config.limit l.fn.first l.fn.store l.session l.store (g.R.Read.remaining l.fn.reader) (g.R.Read.remaining l.reader);
 }
 

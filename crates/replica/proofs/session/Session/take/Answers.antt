@@ -3,9 +3,10 @@ use Rattle.wire.specs.Packet.{packing_length}
 use Rattle.wire.specs.declared.fault.WireFault.TheVariants as wire
 use Rattle.replica.specs.declared.end.Reason.TheVariants.{Wire}
 use Rattle.replica.specs.declared.end.Ended.{Ended}
-use Rattle.replica.specs.Standing.{HasEnded}
+use Rattle.replica.specs.Standing.{HasEnded, end_of}
 use Rattle.replica.proofs.Turning.{rest_length, too_far, stands_ended, room_left}
 use Rattle.replica.proofs.Dumping.{over_same}
+use Rattle.replica.proofs.Observed.{own_may}
 use Rattle.replica.proofs.session.Session.take.Goals as goal
 
 pub returns-in_default-clause-takes : goal.returns-in_default-clause-takes
@@ -31,7 +32,8 @@ returns-in-Login g c =
       following = refl;
       broken = λ _. refl;
       config = c.take_message.ensures.config;
-      neither = c.take_message.ensures.neither;
+      neither = own_may (end_of c.take_message.new.self).reason (g.W.Observer.has_stopped c.args.observer.now) c.take_message.ensures.neither;
+      stays = λ h. h;
       room = λ none. let f = c.take_message.ensures.further none in room_left s c.take_message.new.self c.in-Some.end n f.0 f.1 c.requires.between.0 ends (omega (arith, c.in-Some.ensures));
       takes = λ clean schema was old b o m.
           over_same g.S.Store (λ h db is_open may. g.met.S.Store.settled h.store db is_open may) s c.take_message.new.self c.args.store.now schema was old b o c.args.payload.now m

@@ -1,8 +1,8 @@
 use Rattle.std.proofs.Common.{◌≡◌, ◌+◌, ◌≤◌, length, true, None}
-use Rattle.replica.specs.Conn.{IsNoStreamFailure}
+use Rattle.replica.specs.Conn.{MayEnd}
 use Rattle.replica.specs.Standing.{end_of, room_of}
 use Rattle.replica.proofs.Fed.{Fed}
-use Rattle.replica.proofs.session.Session.feed.Given as goal
+use Rattle.replica.proofs.session.Session.feed_observed.Given as goal
 
 abbrev pub invariant-loop-used : goal.invariant-loop-used
 invariant-loop-used g l = record {
@@ -10,7 +10,8 @@ invariant-loop-used g l = record {
   following : l.store.following ≡ l.fn.store.following;
   broken : l.fn.store.broken ≡ true → l.store ≡ l.fn.store;
   config : l.self.config ≡ l.fn.self.config;
-  neither : IsNoStreamFailure (end_of l.fn.self).reason → IsNoStreamFailure (end_of l.self).reason;
+  neither : MayEnd (end_of l.fn.self).reason (g.W.Observer.has_stopped l.fn.observer) → MayEnd (end_of l.self).reason (g.W.Observer.has_stopped l.observer);
+  stays : g.W.Observer.has_stopped l.fn.observer ≡ true → g.W.Observer.has_stopped l.observer ≡ true;
   room : l.self.ended ≡ None → room_of l.self + length l.bytes ≤ room_of l.fn.self + length l.rest;
 }
 

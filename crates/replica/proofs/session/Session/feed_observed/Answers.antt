@@ -3,7 +3,7 @@ use Rattle.std.proofs.lemmas.List.{take_rest}
 use Rattle.replica.specs.Standing.{room_of}
 use Rattle.replica.proofs.Advance.{over-append}
 use Rattle.replica.proofs.Fed.{Fed, fed_none, fed_more, fed_all, room_more}
-use Rattle.replica.proofs.session.Session.feed.Goals as goal
+use Rattle.replica.proofs.session.Session.feed_observed.Goals as goal
 
 pub returns-then-is_some-clause-stands : goal.returns-then-is_some-clause-stands
 returns-then-is_some-clause-stands g c clean schema was old b o s =
@@ -15,7 +15,8 @@ loop-used-init g c = record {
   following = search rules;
   broken = search rules;
   config = search rules;
-  neither = search rules;
+  neither = λ h. h;
+  stays = λ h. h;
   room = search rules;
 }
 
@@ -30,7 +31,8 @@ loop-used-preserved g c =
       following = search rules;
       broken = search rules;
       config = search rules;
-      neither = search rules;
+      neither = λ h. c.advance.ensures.neither (inv.neither h);
+      stays = λ h. c.advance.ensures.stays (inv.stays h);
       room = subst (λ (l : List ℕ). c.advance.new.self.ended ≡ None → room_of c.advance.new.self + length c.args.bytes.now ≤ room_of c.args.self.now + length l) (sym (take_rest rest used))
           (room_more c.loop-used.self c.advance.new.self rest used (room_of c.args.self.now) (length c.args.bytes.now) c.in-Some.ensures.used.1 c.in-Some.ensures.room inv.room);
     }

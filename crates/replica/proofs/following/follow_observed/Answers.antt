@@ -9,12 +9,13 @@ use Rattle.replica.specs.declared.following.Turn.{Turn}
 use Rattle.replica.specs.declared.following.Turn.TheVariants as turn
 use Rattle.replica.specs.Failing.{HaveFailed}
 use Rattle.store.specs.Store.{database}
-use Rattle.replica.specs.Conn.{IsNoStreamFailure}
+use Rattle.replica.specs.Conn.{IsNoStreamFailure, MayEnd}
 use Rattle.replica.specs.Standing.{end_of}
 use Rattle.replica.specs.Follow.{Follows, reads_failed, failed_reads_of, failed_writes_of}
+use Rattle.replica.proofs.Observed.{asked, may_later, not_of_stream}
 use Rattle.replica.proofs.Failed.{none_failed, failed_later, failed_none, counted_none}
 use Rattle.replica.proofs.Followed.{follows-memory, follows-sends_no_more, follows-write_failed, follows-ended, follows-read_failed, following-begins, following-sent, following-read, follows-same, some_after, none_after, ended_early, over-out, length_kept}
-use Rattle.replica.proofs.following.follow.Goals as goal
+use Rattle.replica.proofs.following.follow_observed.Goals as goal
 
 pub returns-in_default-clause-follows : goal.returns-in_default-clause-follows
 returns-in_default-clause-follows g c clean was old holds =
@@ -35,6 +36,7 @@ turns-init g c = record {
   broken = λ h. refl;
   clean = λ h. h;
   neither = rw c.new-session.ensures.ended tt;
+  may = rw c.new-session.ensures.ended tt;
   following = λ clean was old holds.
       following-begins g.S.Store (λ h db is_open may. g.met.S.Store.settled h.store db is_open may) c.new-session.result c.args.store.now was old (g.T.Read.remaining c.args.stream.now.stream) (g.T.Write.contents c.args.stream.now.stream) c.new-session.ensures.ended holds (c.new-session.ensures.stands c.args.store.now.following was old);
 }
@@ -83,7 +85,7 @@ turns-preserved g c =
     let read = c.read_piece.ensures.read c.in-Read.is in
     let going : after.ended ≡ None = none_after after.ended (some_after c.ended.result after.ended c.ended.ensures ∙ sym c.is_some.ensures ∙ c.if-is_some.false) in
     let long : length c.deref_mut.result.now ≡ 65536 = search (rules, inv.piece) in
-    let neither : IsNoStreamFailure (end_of after).reason = subst (λ (e : Ended). IsNoStreamFailure e.reason) (sym sent.4.end) inv.neither in
+    let may = c.read_piece.ensures.neither (subst (λ (e : Ended). MayEnd e.reason (g.W.Observer.has_stopped c.turns.observer)) (sym sent.4.end) inv.may) in
     record {
       config = c.read_piece.ensures.config ∙ sent.4.config ∙ inv.config;
       piece = length_kept c.turns.buffer.len c.read_piece.new.buffer c.turns.buffer.items (search rules) (search rules) ∙ inv.piece;
@@ -94,7 +96,8 @@ turns-preserved g c =
       names = c.read_piece.ensures.following ∙ inv.names;
       broken = search rules;
       clean = λ h. inv.clean (c.read_piece.ensures.clean h);
-      neither = c.read_piece.ensures.neither neither;
+      neither = not_of_stream (end_of c.read_piece.new.session).reason (g.W.Observer.has_stopped c.read_piece.new.observer) may;
+      may = may;
       following = λ clean was old holds.
           let f = inv.following (c.read_piece.ensures.clean clean) was old holds in
           let sent_f = following-sent g.S.Store session c.args.store.now c.turns.store was old (g.T.Read.remaining c.args.stream.now.stream) (g.T.Read.remaining c.turns.stream.stream) (g.T.Write.contents c.args.stream.now.stream) (g.T.Write.contents c.turns.stream.stream) inv.names f
@@ -191,3 +194,21 @@ returns-in-Failed-clause-reported g c =
     let sent : HaveFailed before mid 0 0 = subst (λ (b : Bool). HaveFailed before mid 0 (if b then 0 else 1)) c.if-not-send_pending.false c.send_pending.ensures.reported in
     let reported : HaveFailed mid after 1 0 = subst (λ (t : Turn). HaveFailed mid after (reads_failed t) 0) c.in-Failed.is c.read_piece.ensures.reported in
     subst (λ (r : Reason). HaveFailed start after (failed_reads_of r) (failed_writes_of r)) (sym (ap (λ (e : Ended). e.reason) c.ended_with-in-Failed.ensures)) (failed_later start before after 1 0 inv.reported (failed_later before mid after 1 0 sent reported))
+
+pub returns-then-sends_no_more-clause-asked : goal.returns-then-sends_no_more-clause-asked
+returns-then-sends_no_more-clause-asked g c =
+    asked c.finish.result.reason (g.W.Observer.has_stopped c.turns.observer) (subst (λ (e : Ended). MayEnd e.reason (g.W.Observer.has_stopped c.turns.observer)) (sym c.finish.ensures.end) c.turns.invariant.may)
+
+pub returns-then-is_some-clause-asked : goal.returns-then-is_some-clause-asked
+returns-then-is_some-clause-asked g c =
+    asked c.finish-then-is_some.result.reason (g.W.Observer.has_stopped c.turns.observer)
+    (subst (λ (e : Ended). MayEnd e.reason (g.W.Observer.has_stopped c.turns.observer)) (sym (c.finish-then-is_some.ensures.end ∙ c.send_pending.ensures.sent.4.end)) c.turns.invariant.may)
+
+pub returns-in-AtEnd-clause-asked : goal.returns-in-AtEnd-clause-asked
+returns-in-AtEnd-clause-asked g c =
+    let not_read : c.read_piece.result ≢ turn.Read = λ h. let bad : turn.AtEnd ≡ turn.Read = sym c.in-AtEnd.is ∙ h in cc in
+    let still = c.read_piece.ensures.still not_read in
+    let after = g.W.Observer.has_stopped c.read_piece.new.observer in
+    asked c.finish-in-AtEnd.result.reason after
+    (subst (λ (e : Ended). MayEnd e.reason after) (sym (c.finish-in-AtEnd.ensures.end ∙ ap (λ (s : Session). end_of s) still.0 ∙ c.send_pending.ensures.sent.4.end))
+    (may_later (end_of c.turns.session).reason (g.W.Observer.has_stopped c.turns.observer) after c.read_piece.ensures.stays c.turns.invariant.may))

@@ -2,11 +2,11 @@ use Rattle.std.proofs.Common.{◌≡◌, Bool, length}
 use Rattle.sqlite.specs.State.{HasCleanDisk}
 use Rattle.store.specs.State.{Content}
 use Rattle.store.specs.Store.{HoldsAs, IsBroken, database, names_of}
-use Rattle.replica.specs.Conn.{IsNoStreamFailure}
+use Rattle.replica.specs.Conn.{IsNoStreamFailure, MayEnd}
 use Rattle.replica.specs.Standing.{end_of}
 use Rattle.replica.specs.Failing.{HaveFailed}
 use Rattle.replica.specs.Follow.{IsFollowing, turns_left}
-use Rattle.replica.proofs.following.follow.Given as goal
+use Rattle.replica.proofs.following.follow_observed.Given as goal
 
 abbrev pub invariant-turns : goal.invariant-turns
 invariant-turns g l = record {
@@ -19,6 +19,7 @@ invariant-turns g l = record {
   broken : IsBroken g.S.Store l.fn.store → l.store ≡ l.fn.store;
   clean : HasCleanDisk (database g.S.Store l.store) → HasCleanDisk (database g.S.Store l.fn.store);
   neither : IsNoStreamFailure (end_of l.session).reason;
+  may : MayEnd (end_of l.session).reason (g.W.Observer.has_stopped l.observer);
   following : HasCleanDisk (database g.S.Store l.store) → (was : Bool) (old : Content) → HoldsAs g.S.Store was old l.fn.store
       → IsFollowing g.S.Store l.session l.fn.store l.store was old
       (g.T.Read.remaining l.fn.stream.stream) (g.T.Read.remaining l.stream.stream) (g.T.Write.contents l.fn.stream.stream) (g.T.Write.contents l.stream.stream);
