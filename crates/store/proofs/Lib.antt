@@ -27,6 +27,7 @@ pub mod Committed
 pub mod Wholes
 pub mod Readings
 pub mod Judging
+pub mod Verdicts
 pub mod Laid
 pub mod SpanRows
 pub mod Loading

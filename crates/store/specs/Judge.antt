@@ -1,5 +1,5 @@
 -- Private: facts about rows that are read one after the other.
-use Rattle.std.specs.Prelude.{◌≡◌, ◌+◌, ◌<ℤ◌, Bool, true, false, not, ◌&&◌, ℤ, List, [], ◌∷◌, map, filter, codes, Option, None, Some, MatchBool}
+use Rattle.std.specs.Prelude.{◌≡◌, ◌++◌, ◌+◌, ◌<ℤ◌, Bool, true, false, not, ◌&&◌, ℤ, List, [], ◌∷◌, map, filter, codes, Option, None, Some, MatchBool}
 use Rattle.std.specs.List.{AllByRecursion}
 use Rattle.sqlite_value.specs.declared.value.Value.{Value}
 use Rattle.sqlite_value.specs.declared.value.Value.TheVariants.{Int}
@@ -10,7 +10,9 @@ use Rattle.gtid.specs.declared.span.Span.{Span}
 use Rattle.store.specs.declared.fault.StoreFault.{StoreFault}
 use Rattle.store.specs.declared.fault.StoreFault.TheVariants.{Database, Memory}
 use Rattle.store.specs.declared.tables.Meta.{Meta}
-use Rattle.store.specs.Rows.{span, is_text, touches, IsMetaRow, HasRowids}
+use Rattle.store.specs.declared.verdict.Verdict.{Verdict}
+use Rattle.store.specs.declared.verdict.Verdict.TheVariants.{Lawful, Unordered, Unlawful}
+use Rattle.store.specs.Rows.{span, is_text, touches, IsMetaRow, IsHeldRow, HasRowids}
 
 -- the span of one GTID
 abbrev pub span_of_id : Id → Span
@@ -25,6 +27,19 @@ IsAfter (Some last) id = last <ℤ id
 abbrev pub Rise : Option ℤ → List Row → Type 0
 Rise last [] = Unit {0}
 Rise last (row ∷ rows) = (id : ℤ) × (rowid row ≡ Int id) × IsAfter last id × Rise (Some id) rows
+
+-- What the verdict says of rows of held: all are lawful, and their rowids ascend up to the last one; or one is not lawful.
+abbrev pub HasVerdict : Verdict → List Row → Type 0
+HasVerdict (Lawful last) rows = AllByRecursion IsHeldRow rows × ((more : List Row) → Rise last more → Rise None (rows ++ more))
+HasVerdict Unordered rows = Unit {0}
+HasVerdict Unlawful rows = ¬ AllByRecursion IsHeldRow rows
+
+-- The row is in order after the last rowid, if there is one, and its own is the last one now.
+abbrev pub HasOrder : Option ℤ → Row → Verdict → Type 0
+HasOrder last row (Lawful None) = ⊥
+HasOrder last row (Lawful (Some id)) = (rowid row ≡ Int id) × IsAfter last id
+HasOrder last row Unordered = Unit {0}
+HasOrder last row Unlawful = ⊥
 
 -- a statement failed, or an allocation was refused
 abbrev pub IsCause : StoreFault → Type 0

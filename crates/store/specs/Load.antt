@@ -1,5 +1,5 @@
 -- Reading whole tables when a database is opened, and what the rows stand for.
-use Rattle.std.specs.Prelude.{◌≡◌, ℕ, ℤ, suc, zero, pos, negsuc, true, false, List, [], ◌∷◌, codes, length, None, Result, Ok, Err}
+use Rattle.std.specs.Prelude.{◌≡◌, ℕ, ℤ, suc, zero, pos, negsuc, true, false, List, [], ◌∷◌, codes, length, None, Result, Ok, Err, IsPermutation}
 use Rattle.sqlite_value.specs.declared.value.Value.TheVariants.{Int}
 use Rattle.sqlite_value.specs.declared.keys.Key.{Key}
 use Rattle.sqlite_sql.specs.Term.{Term, lit, col}
@@ -14,14 +14,18 @@ use Rattle.sqlite_schema.specs.declared.schema.View.{View}
 use Rattle.sqlite_schema.specs.declared.schema.Column.{Column}
 use Rattle.sqlite_schema.specs.declared.command.Command.TheVariants.{Select}
 use Rattle.sqlite_rules.specs.Lists.{Has}
-use Rattle.sqlite.specs.State.{State, KeepsCommit}
+use Rattle.sqlite.specs.State.{State, KeepsCommit, IsUnchanged}
+use Rattle.sqlite.specs.Held.{Held, state}
+use Rattle.sqlite_trees.specs.declared.store.Store.{Ghosts}
 use Rattle.sqlite.specs.Listing.{understood, reads_listing}
-use Rattle.sqlite.specs.Given.{IsPlain}
+use Rattle.sqlite.specs.Given.{IsPlain, HasGiven}
 use Rattle.sqlite.proofs.Callers.{command_of}
 use Rattle.gtid.specs.Identifier.{Ids}
 use Rattle.binlog.specs.Filter.{Names}
 use Rattle.store.specs.declared.fault.StoreFault.{StoreFault}
 use Rattle.store.specs.declared.fault.StoreFault.TheVariants.{Database, Memory, Damaged}
+use Rattle.store.specs.declared.verdict.Verdict.{Verdict}
+use Rattle.store.specs.Judge.{HasVerdict}
 use Rattle.store.specs.State.{Content}
 use Rattle.store.specs.Rows.{SaysLayout, IsMetaRow, HasRowids}
 use Rattle.std.specs.List.{AllByRecursion}
@@ -138,6 +142,22 @@ IsLoadFault _ = ⊥
 pub record Rested (old new : State) : Type 0 where
   pub commit : KeepsCommit old new
   pub rests : old.now ≡ old.committed → Rests old new
+
+-- ---- Rows of held that are read one at a time.
+
+-- The query has given all its rows, and this is the verdict on them. Nothing has changed.
+pub record HasJudged (text : List ℕ) (old new : State) (verdict : Verdict) : Type 0 where
+  pub same : IsUnchanged old new
+  pub answer : List Row
+  pub all : (tree : ℕ) → AsksAll old.now.schema text tree → IsPermutation (old.now.trees tree) answer
+  pub found : HasVerdict verdict answer
+
+-- The query has given some of its rows, and this is the verdict on them. Nothing has changed.
+pub record IsJudging {S : Type 0} (g : Ghosts S) (text : List ℕ) (old new : Held S) (verdict : Verdict) : Type 0 where
+  pub same : IsUnchanged (state g old) (state g new)
+  pub some : List Row
+  pub given : HasGiven g text [] new some
+  pub found : HasVerdict verdict some
 
 -- ---- What the rows stand for.
 

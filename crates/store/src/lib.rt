@@ -40,6 +40,7 @@ mod span_rows;
 mod store;
 mod table_rows;
 mod tables;
+mod verdict;
 
 pub use fault::{Applied, StoreFault};
 pub use listing::{List, Listed};

@@ -12,8 +12,9 @@ ghost use Rattle.store.specs.Judge.{IsMeta};
 ghost use Rattle.store.specs.Load.{StatesLayout, AsksAll, Ascends, by_order, IsMetaFirst, Rested, OnSeen, Judges, IsLoadFault, all_held_text, all_spans_text, all_follow_text, all_executed_text, IsLoaded, IsFirstLoaded};
 
 use crate::fault::StoreFault;
-use crate::table_rows::{executed_from, follow_from, judge_held, meta_in, spans_from};
+use crate::table_rows::{executed_from, follow_from, meta_in, spans_from};
 use crate::tables::Meta;
+use crate::verdict::{answer, judge_rows};
 use binlog::Follow;
 use gtid::GtidSet;
 use sqlite::{Alter, Connection, Error, Row};
@@ -57,7 +58,7 @@ pub(crate) fn read_meta<S: Alter>(conn: &mut Connection<S>) -> Result<Meta, Erro
     meta_in(&rows)
 }
 
-/// Checks the rows of `held`.
+/// Checks the rows of `held`, one at a time.
 fn load_held<S: Alter>(alloc: Global, conn: &mut Connection<S>) -> Result<(), StoreFault>
     requires { conn.old.in_transaction ≡ false }
     ensures autocommit { conn.new.in_transaction ≡ false }
@@ -67,11 +68,14 @@ fn load_held<S: Alter>(alloc: Global, conn: &mut Connection<S>) -> Result<(), St
     ensures crash { Survives (state S.Store conn.old) (state S.Store conn.new) (λ _. (tree : ℕ) → ¬ AsksAll (state S.Store conn.old).now.schema all_held_text tree) }
     ensures fault { IfErr result IsLoadFault }
 {
-    let rows = read_all(
-        conn,
+    // For the prover: what the connection shows is a database. The call does nothing at run time.
+    conn.schema();
+    let mut rows = conn.query(
         "SELECT rowid, schema_name, table_name, image, n FROM held ORDER BY rowid",
+        &[],
     )?;
-    judge_held(alloc, &rows)
+    let verdict = judge_rows(alloc, &mut rows)?;
+    answer(verdict)
 }
 
 /// The names in `follow`.

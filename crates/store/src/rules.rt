@@ -78,7 +78,7 @@ fn number_at(row: &Row, at: usize) -> Result<Option<u64>, Error>
 }
 
 /// Whether a row is a lawful row of `held`.
-fn is_held(alloc: Global, row: &Row) -> Result<bool, StoreFault>
+pub(crate) fn is_held(alloc: Global, row: &Row) -> Result<bool, StoreFault>
     ensures judged { IfOk result (λ b. MatchBool b (IsHeldRow row.now) (¬ IsHeldRow row.now)) }
     ensures fault { IfErr result IsCause }
 {
@@ -114,23 +114,10 @@ fn is_image(alloc: Global, bytes: &[u8]) -> Result<bool, StoreFault>
     }
 }
 
-/// Whether all rows are lawful rows of `held`.
-pub(crate) fn are_held(alloc: Global, rows: &[Row]) -> Result<bool, StoreFault>
-    ensures judged { IfOk result (λ b. MatchBool b (AllByRecursion IsHeldRow rows.now) (¬ AllByRecursion IsHeldRow rows.now)) }
-    ensures fault { IfErr result IsCause }
-{
-    for row in rows {
-        if !is_held(alloc, row)? {
-            return Ok(false);
-        }
-    }
-    Ok(true)
-}
-
 // ---- rowids
 
 /// Whether a rowid is above the last one, if there is one.
-fn is_after(last: Option<i64>, id: i64) -> bool
+pub(crate) fn is_after(last: Option<i64>, id: i64) -> bool
     ensures { result ≡ true → IsAfter last id }
 {
     match last {

@@ -6,7 +6,7 @@ ghost use Rattle.std.specs.FinSet as set;
 ghost use Rattle.gtid.specs.Identifier.{id_cmp};
 ghost use Rattle.gtid.specs.Gathering.{start, Rise};
 ghost use Rattle.gtid.specs.declared.span.Span.{Span};
-ghost use Rattle.store.specs.Rows.{IsFollowRow, IsSpanRow, IsHeldRow, IsExecutedRow, HasRowids, AreSpans, AreNames, touches, span_in, id_in};
+ghost use Rattle.store.specs.Rows.{IsFollowRow, IsSpanRow, IsExecutedRow, HasRowids, AreSpans, AreNames, touches, span_in, id_in};
 ghost use Rattle.store.specs.Judge.{IsMeta, apart_from, touches_last};
 ghost use Rattle.store.specs.Load.{Judges, IsLoadFault};
 ghost use Rattle.std.specs.Prelude.{None, IfOk, OnOk};
@@ -14,7 +14,7 @@ ghost use Rattle.gtid.specs.Span.{Covers, IsLawfulSpan};
 ghost use Rattle.store.specs.declared.fault.StoreFault.TheVariants.{Memory};
 
 use crate::fault::StoreFault;
-use crate::rules::{are_held, are_meta, check_rowids, ids_of, layout_in, names_in, spans_of};
+use crate::rules::{are_meta, check_rowids, ids_of, layout_in, names_in, spans_of};
 use crate::tables::Meta;
 use binlog::Follow;
 use gtid::{GtidSet, Span};
@@ -30,18 +30,6 @@ pub(crate) fn meta_in(rows: &[Row]) -> Result<Meta, Error>
     let layout = layout_in(rows)?;
     let lawful = are_meta(rows)?;
     Ok(Meta { layout, lawful })
-}
-
-/// Checks rows of `held`.
-pub(crate) fn judge_held(alloc: Global, rows: &[Row]) -> Result<(), StoreFault>
-    ensures judged { Judges result (λ _. AllByRecursion IsHeldRow rows.now × HasRowids rows.now) (AllByRecursion IsHeldRow rows.now) }
-    ensures fault { IfErr result IsLoadFault }
-{
-    if !are_held(alloc, rows)? {
-        return Err(StoreFault::Damaged);
-    }
-    check_rowids(rows)?;
-    Ok(())
 }
 
 /// The list of tables in the rows of `follow`.
