@@ -1,11 +1,10 @@
 -- The verdict on rows of held that come one at a time, and what reading them leaves.
-use Rattle.std.proofs.Common.{◌≡◌, ◌⊎◌, inl, inr, ◌++◌, ℕ, List, [], ◌∷◌, ℤ, Option, None, Some, Result, Ok, Err, IfOk, IsTrue, refl, subst, sym, ◌∙◌, append_assoc, append-nil, arith}
+use Rattle.std.proofs.Common.{inl, ◌++◌, ℕ, List, [], ◌∷◌, ℤ, Option, None, Some, Result, Ok, Err, IfOk, refl, subst, sym, append_assoc, append-nil, arith}
 use Rattle.std.specs.List.{AllByRecursion}
 use Rattle.std.specs.List.Sorted.{IsPermutation}
 use Rattle.sqlite_trees.specs.declared.store.Store.{Ghosts}
-use Rattle.sqlite.specs.declared.error.Error.{Error}
 use Rattle.sqlite.specs.Effect.{Database, IsDatabase}
-use Rattle.sqlite.specs.State.{State, IsLive, IsUnchanged, Fails, FailsToQuery, Survives, CommitsShowing}
+use Rattle.sqlite.specs.State.{State, IsLive, IsUnchanged, Survives, CommitsShowing}
 use Rattle.sqlite.specs.Held.{Held, state}
 use Rattle.sqlite.specs.Given.{HasGiven, HasBegun, Advances}
 use Rattle.sqlite.proofs.Callers.{unchanged_then, begun_plain}
@@ -19,10 +18,9 @@ use Rattle.store.specs.Judge.{Rise, HasVerdict, HasOrder}
 use Rattle.store.specs.declared.fault.StoreFault.{StoreFault}
 use Rattle.store.specs.Load.{AsksAll, Judges, OnSeen, Rested, HasJudged, IsJudging, all_held_text}
 use Rattle.store.proofs.Judging.{rise_rowids}
-use Rattle.store.proofs.Keeps.{kept_unchanged, kept_rolled, kept_then}
 use Rattle.store.proofs.Loading.{held_table, on_seen}
-use Rattle.store.proofs.Readings.{all_rows, all_rests, all_survives}
-use Rattle.store.proofs.Steps.{rested_unchanged, rested_after, still_asks}
+use Rattle.store.proofs.Readings.{all_rows, all_survives}
+use Rattle.store.proofs.Steps.{rested_after, still_asks}
 
 pub still_unlawful : (rows : List Row) (row : Row) → ¬ AllByRecursion IsHeldRow rows → ¬ AllByRecursion IsHeldRow (rows ++ row ∷ [])
 still_unlawful [] row off all = off tt
@@ -56,19 +54,6 @@ rested_self a = record { commit = record { was_open = λ is_open. is_open; commi
 pub survives_self : (a : State) → Survives a a (λ _. ⊥)
 survives_self a = record { clean = omega arith; shield = λ on. on; counts = omega arith; limit = refl; closes = λ clean is_open. inl is_open; crash = λ clean db left. inl left }
 
-pub rested_then : (a b c : State) → Rested a b → Rested b c → Rested a c
-rested_then a b c one two = record {
-  commit = kept_then a b c one.commit two.commit;
-  rests = λ settled is_open.
-      let first = one.rests settled (two.commit.was_open is_open) in
-      let second = two.rests (first.0 ∙ settled ∙ sym first.1) is_open in
-      (second.0 ∙ first.0, second.1 ∙ first.1);
-}
-
-pub rested_kept : (a b : State) (e : Error) → Fails a b ⊥ e ⊎ IsUnchanged a b → Rested a b
-rested_kept a b e (inl failed) = record { commit = kept_rolled a b failed.3; rests = λ settled is_open. let undone = failed.3.undone is_open in (undone.0 ∙ sym settled, undone.1) }
-rested_kept a b e (inr same) = rested_unchanged a b same
-
 -- ---- One row after the other.
 
 live_still : (a b : State) → IsUnchanged a b → IsLive a → IsLive b
@@ -82,15 +67,6 @@ module _ {S : Type 0} (g : Ghosts S) (sql : List ℕ) where
     some = [];
     given = it;
     found = (tt, λ more rise. rise);
-  }
-
-  pub judging_more : (a b c : Held S) (verdict after : Verdict) (row : Row) → IsJudging g sql a b verdict → Advances g b c (Some row) → IsUnchanged (state g b) (state g c)
-      → ((rows : List Row) → HasVerdict verdict rows → HasVerdict after (rows ++ row ∷ [])) → IsJudging g sql a c after
-  judging_more a b c verdict after row it more same step = record {
-    same = unchanged_then (state g a) (state g b) (state g c) it.same same;
-    some = it.some ++ row ∷ [];
-    given = more sql [] it.some it.given;
-    found = step it.some it.found;
   }
 
   pub judged_all : (a b c : Held S) (verdict : Verdict) → IsJudging g sql a b verdict → Advances g b c None → IsUnchanged (state g b) (state g c) → IsLive (state g a) → HasJudged sql (state g a) (state g c) verdict

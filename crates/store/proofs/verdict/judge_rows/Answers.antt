@@ -1,8 +1,8 @@
-use Rattle.std.proofs.Common.{refl, sym, subst, ◌∙◌, rules}
+use Rattle.std.proofs.Common.{refl, sym, subst}
 use Rattle.sqlite.specs.Held.{state}
 use Rattle.sqlite.specs.Given.{Advances}
 use Rattle.store.proofs.Steps.{clean_before}
-use Rattle.store.proofs.Verdicts.{survives_self, rested_self, rested_then, rested_kept, judging_none, judging_more, judged_all}
+use Rattle.store.proofs.Verdicts.{survives_self, rested_self, judging_none, judged_all}
 use Rattle.store.proofs.verdict.judge_rows.Goals as goal
 
 pub rows-init : goal.rows-init
