@@ -1,26 +1,40 @@
 -- What an opening reads of a file.
-use Rattle.std.proofs.Common.{◌≡◌, inl, inr, [], length, refl, sym, ap, subst, ◌∙◌, arith}
+use Rattle.std.proofs.Common.{◌≡◌, inl, inr, [], Some, codes, length, refl, sym, ap, subst, ◌∙◌, arith}
 use Rattle.std.proofs.Math.Logic.{∥∥₁_elim}
 use Rattle.sqlite_wal.specs.Recovery.{Image}
 use Rattle.sqlite_trees.specs.Tree.{Trees}
 use Rattle.sqlite_trees.specs.Objects.{catalog_tree}
 use Rattle.sqlite_trees.specs.Props.{Trees-set}
 use Rattle.sqlite_schema.specs.declared.schema.Schema.{Schema}
+use Rattle.sqlite_schema.specs.Names.{table_named}
 use Rattle.sqlite.specs.Effect.{Database}
 use Rattle.sqlite.specs.State.{State, Opens, Survives}
 use Rattle.sqlite.specs.Start.{FindsIn}
 use Rattle.sqlite.proofs.ListingLemmas.{empty_is_sound}
 use Rattle.binlog.specs.Filter.{Names}
 use Rattle.store.specs.State.{Content}
-use Rattle.store.specs.Layout.{IsLaidOut, no_schema}
+use Rattle.store.specs.Layout.{IsLaidOut, IsVacant, no_schema}
 use Rattle.store.specs.Open.{nothing}
 use Rattle.store.specs.Entering.{IsLeft, ReadsLeft}
 use Rattle.replica.specs.File.{FilesHold, LeavesContent}
 
 not_laid_out : (schema : Schema) → schema ≡ no_schema → ¬ IsLaidOut schema
 not_laid_out schema none laid =
-    let tables = ap (λ (s : Schema). length s.tables) (sym none ∙ laid.is) in
-    omega (arith, tables)
+    let found : table_named no_schema (codes "held") ≡ Some laid.held.at = ap (λ s. table_named s (codes "held")) (sym none) ∙ laid.held.found.by_name in
+    absurd (cc)
+
+no_table : IsVacant no_schema
+no_table = record {
+  no_meta = refl;
+  no_executed = refl;
+  no_held = refl;
+  no_spans = refl;
+  no_follow = refl;
+  held_free = tt;
+  spans_free = tt;
+  counted = refl;
+  room = omega arith;
+}
 
 -- trees with nothing in them are those of a database to be made
 left_empty : (only names : Names) (content : Content) (trees : Trees) → names ≡ only → content ≡ nothing → trees catalog_tree ≡ [] → IsLeft only names content trees
@@ -28,7 +42,7 @@ left_empty only names content trees names_is content_is none = record {
   db = record { schema = no_schema; trees = trees };
   trees_are = refl;
   sound = empty_is_sound trees none;
-  of = inl ((refl, content_is), names_is);
+  of = inl ((no_table, content_is), names_is);
   spans_apart = λ laid. absurd (not_laid_out no_schema refl laid);
 }
 

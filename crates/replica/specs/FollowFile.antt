@@ -1,7 +1,6 @@
 -- A source that was followed into a database file.
 use Rattle.std.specs.Prelude.{◌≡◌, ◌≤◌, ◌<◌, ◌↔◌, ℕ, Bool, false, List, Option, Result, Ok, Err, MatchResult}
 use Rattle.sqlite_disk.specs.declared.Disk.{Ghosts as Disk}
-use Rattle.sqlite_disk.specs.declared.Files.{Files}
 use Rattle.sqlite_wal.specs.Reads.{AreClean}
 use Rattle.sqlite_trees.specs.Tree.{Trees}
 use Rattle.sqlite_trees.specs.declared.store.Store.{Ghosts}

@@ -1,20 +1,18 @@
 -- Queries outside a transaction.
-use Rattle.std.proofs.Common.{◌≡◌, inl, inr, ℕ, List, [], ◌∷◌, map, filter, Option, Some, None, Ok, Err, Result, unwrap_or, IfOk, IfErr, OnOk, IsTrue, sym, ap, subst, ◌∙◌}
+use Rattle.std.proofs.Common.{◌≡◌, inl, inr, ℕ, List, [], ◌∷◌, map, filter, Option, Some, None, Ok, Err, Result, unwrap_or, IfOk, IfErr, OnOk, IsTrue, refl, sym, ap, ◌∙◌}
 use Rattle.std.specs.List.Sorted.{IsPermutation}
 use Rattle.sqlite_value.specs.Order.{Row, column}
 use Rattle.sqlite_resolve.specs.declared.compiled.Compiled.{Compiled}
 use Rattle.sqlite.specs.declared.error.Error.{Error}
-use Rattle.sqlite.specs.Listing.{understood}
 use Rattle.sqlite.specs.State.{State, Survives, IsUnchanged, IsRolledBack, IsNotRun, FailsToQuery, FailsToShow, Shown, CommitsShowing}
-use Rattle.sqlite.proofs.Callers.{IsPlain}
 use Rattle.binlog.specs.Cell.{CellValue}
 use Rattle.binlog.specs.Filter.{Names}
 use Rattle.gather.specs.Image.{IsImage}
 use Rattle.store.specs.State.{Content, row_of}
-use Rattle.store.specs.Layout.{IsLaidOut, tree_at, held_tree, read_text}
+use Rattle.store.specs.Layout.{IsLaidOut, held_tree, read_text}
 use Rattle.store.specs.Rows.{Key, key_of, Finds, is_at, held_rows, count}
 use Rattle.store.specs.Apply.{IsAtRest, Rests}
-use Rattle.store.proofs.Texts.{read_plain}
+use Rattle.store.proofs.AnySchema.{read_plain}
 use Rattle.store.proofs.Selects.{key_params}
 use Rattle.store.proofs.Statements.{shown_reads, shown_same}
 use Rattle.store.proofs.Keeps.{query_survives}
@@ -48,19 +46,15 @@ rests_read sql params old new (Ok x) settled same failed = rests_unchanged old n
 rests_read sql params old new (Err e) settled same failed = rests_query sql params old new e settled failed
 
 module _ (old new : State) (key : Key) (l : IsLaidOut old.now.schema) where
-  held_is : held_rows old.now ≡ old.now.trees (held_tree l.origin)
-  held_is = ap (λ s. old.now.trees (tree_at s 1)) l.is
-
   pub find_read : {X : Type 0} (items : X → List Row) (r : Result X Error) → IfOk r (λ x. Shown read_text (key_params key []) old new (items x))
       → IfOk r (λ x. IsPermutation (map (λ r. column r 4 ∷ []) (filter (is_at key) (held_rows old.now))) (items x))
-  find_read items r h = subst (λ rows. IfOk r (λ x. IsPermutation (map (λ r. column r 4 ∷ []) (filter (is_at key) rows)) (items x))) (sym held_is)
-      (shown_reads l.origin l.others l.indexes l.views items r old new key l.is h)
+  find_read items r h = shown_reads old.now.schema l items r old new key refl h
 
   pub find_same : {X : Type 0} (items : X → List Row) (r : Result X Error) → IfOk r (λ x. Shown read_text (key_params key []) old new (items x)) → OnOk r (IsUnchanged old new)
-  find_same items r h = shown_same l.origin l.others l.indexes l.views items r old new key l.is h
+  find_same items r h = shown_same old.now.schema l items r old new key refl h
 
   pub find_survives : Survives old new (CommitsShowing read_text (key_params key []) old) → Survives old new (λ _. ⊥)
-  find_survives s = query_survives read_text (key_params key []) old new (subst (λ s. IsPlain (understood s read_text)) (sym l.is) (read_plain l.origin l.others l.indexes l.views)) s
+  find_survives s = query_survives read_text (key_params key []) old new (read_plain old.now.schema l.held.at (held_tree old.now.schema) l.held.found) s
 
 pub found_count : (key : Key) (rows : List Row) (found : Option ℕ) → Finds key rows found → unwrap_or found 0 ≡ count rows key
 found_count key rows None f = sym (counted_none key rows f)

@@ -1,6 +1,5 @@
 -- What each call on one row of held does, where it succeeds.
-use Rattle.std.proofs.Common.{◌≡◌, ◌+◌, ◌≤◌, ℕ, ℤ, pos, List, [], ◌∷◌, map, filter, Some, None, Ok, Err, Result, IfOk, OnOk, refl, sym, ap, subst, ◌∙◌, Option, length, slice_index_or, arith}
-use Rattle.std.specs.List.{AllByRecursion}
+use Rattle.std.proofs.Common.{◌≡◌, ◌+◌, ◌≤◌, ℕ, ℤ, pos, List, [], ◌∷◌, map, filter, Some, None, Ok, Err, Result, IfOk, OnOk, refl, ap, subst, ◌∙◌, Option, length, slice_index_or, arith}
 use Rattle.std.specs.List.Sorted.{IsPermutation}
 use Rattle.std.proofs.lemmas.List.Sorted.{length_permutation, IsPermutation-sym}
 use Rattle.sqlite_value.specs.declared.value.Value.TheVariants.{Int}
@@ -8,13 +7,13 @@ use Rattle.sqlite_value.specs.Order.{Row, column}
 use Rattle.sqlite.specs.declared.error.Error.{Error}
 use Rattle.sqlite.specs.State.{State, ExecutesInside, Shown, IsUnchanged}
 use Rattle.sqlite.proofs.Callers.{one_permutation}
-use Rattle.store.specs.Layout.{IsLaidOut, IsApart, layout, held_tree, read_text, insert_text, update_text, delete_text}
+use Rattle.store.specs.Layout.{IsLaidOut, read_text, insert_text, update_text, delete_text}
 use Rattle.store.specs.Take.{most}
 use Rattle.store.specs.Rows.{Key, IsStored, Finds, IsCount, is_at, held_rows, count, with_one, without_one}
 use Rattle.store.specs.Inside.{IsWorking, HasCounts}
 use Rattle.store.proofs.Selects.{key_params}
 use Rattle.store.proofs.Statements.{inserts, deletes, updates, shown_reads, shown_same}
-use Rattle.store.proofs.Effects.{rows_old, holds_inserted, holds_deleted, holds_raised, holds_lowered}
+use Rattle.store.proofs.Effects.{holds_inserted, holds_deleted, holds_raised, holds_lowered}
 
 module _ (old new : State) (key : Key) (was : IsWorking old) where
   abbrev l : IsLaidOut old.now.schema
@@ -22,44 +21,34 @@ module _ (old new : State) (key : Key) (was : IsWorking old) where
 
   pub done_read : {X : Type 0} (items : X → List Row) (r : Result X Error) → IfOk r (λ x. Shown read_text (key_params key []) old new (items x))
       → IfOk r (λ x. IsPermutation (map (λ r. column r 4 ∷ []) (filter (is_at key) (held_rows old.now))) (items x))
-  done_read items r h = subst (λ rows. IfOk r (λ x. IsPermutation (map (λ r. column r 4 ∷ []) (filter (is_at key) rows)) (items x))) (sym (rows_old old new was))
-      (shown_reads l.origin l.others l.indexes l.views items r old new key l.is h)
+  done_read items r h = shown_reads old.now.schema l items r old new key refl h
 
   pub done_same : {X : Type 0} (items : X → List Row) (r : Result X Error) → IfOk r (λ x. Shown read_text (key_params key []) old new (items x)) → OnOk r (IsUnchanged old new)
-  done_same items r h = shown_same l.origin l.others l.indexes l.views items r old new key l.is h
-
-  free : AllByRecursion (IsApart (layout l.origin l.others l.indexes l.views) (held_tree l.origin)) l.others
-  free = subst (λ s. AllByRecursion (IsApart s (held_tree l.origin)) l.others) l.is l.held_free
+  done_same items r h = shown_same old.now.schema l items r old new key refl h
 
   pub done_insert : (r : Result ℕ Error) → IsStored key.image → ExecutesInside 0 insert_text (key_params key []) old new r → OnOk r (HasCounts old new (with_one key (count (held_rows old.now))))
-  done_insert (Ok n) stored h = holds_inserted old new was key stored (inserts l.origin l.others l.indexes l.views old new l.is key n h.0)
+  done_insert (Ok n) stored h = holds_inserted old new was key stored (inserts old.now.schema l old new refl key n h.0)
   done_insert (Err e) stored h = tt
-
-  found_old : (n : ℕ) → Finds key (held_rows old.now) (Some n) → Finds key (old.now.trees (held_tree l.origin)) (Some n)
-  found_old n found = subst (λ rows. Finds key rows (Some n)) (rows_old old new was) found
 
   pub done_delete : (r : Result ℕ Error) → Finds key (held_rows old.now) (Some 1) → ExecutesInside 0 delete_text (key_params key []) old new r
       → OnOk r (HasCounts old new (without_one key (count (held_rows old.now))))
   done_delete (Ok n) found h =
-      let it = deletes l.origin l.others l.indexes l.views old new l.is free key n h.0 in
-      let one = found_old 1 found in
-      holds_deleted old new was key one.0 one.1 it.0 it.1 one.2 it.2
+      let it = deletes old.now.schema l old new refl l.held_free key n h.0 in
+      holds_deleted old new was key found.0 found.1 it.0 it.1 found.2 it.2
   done_delete (Err e) found h = tt
 
   pub done_raise : (m : ℕ) (to : ℤ) (r : Result ℕ Error) → m + 1 ≤ most → Finds key (held_rows old.now) (Some m) → to ≡ pos (m + 1)
       → ExecutesInside 0 update_text (key_params key (Int to ∷ [])) old new r → OnOk r (HasCounts old new (with_one key (count (held_rows old.now))))
   done_raise m to (Ok n) high found is h =
-      let it = updates l.origin l.others l.indexes l.views old new l.is free key (pos (m + 1)) n (subst (λ z. ExecutesInside 0 update_text (key_params key (Int z ∷ [])) old new (Ok n)) is h).0 in
-      let one = found_old m found in
-      holds_raised old new was key one.0 one.1 m it.0 high it.1 one.2 it.2
+      let it = updates old.now.schema l old new refl l.held_free key (pos (m + 1)) n (subst (λ z. ExecutesInside 0 update_text (key_params key (Int z ∷ [])) old new (Ok n)) is h).0 in
+      holds_raised old new was key found.0 found.1 m it.0 high it.1 found.2 it.2
   done_raise m to (Err e) high found is h = tt
 
   pub done_lower : (m : ℕ) (to : ℤ) (r : Result ℕ Error) → 1 ≤ m → m ≤ most → Finds key (held_rows old.now) (Some (m + 1)) → to ≡ pos m
       → ExecutesInside 0 update_text (key_params key (Int to ∷ [])) old new r → OnOk r (HasCounts old new (without_one key (count (held_rows old.now))))
   done_lower m to (Ok n) low high found is h =
-      let it = updates l.origin l.others l.indexes l.views old new l.is free key (pos m) n (subst (λ z. ExecutesInside 0 update_text (key_params key (Int z ∷ [])) old new (Ok n)) is h).0 in
-      let one = found_old (m + 1) found in
-      holds_lowered old new was key one.0 one.1 m it.0 low high it.1 one.2 it.2
+      let it = updates old.now.schema l old new refl l.held_free key (pos m) n (subst (λ z. ExecutesInside 0 update_text (key_params key (Int z ∷ [])) old new (Ok n)) is h).0 in
+      holds_lowered old new was key found.0 found.1 m it.0 low high it.1 found.2 it.2
   done_lower m to (Err e) low high found is h = tt
 
 -- the one row of an answer is that of the one row with the key

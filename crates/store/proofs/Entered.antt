@@ -7,7 +7,7 @@ use Rattle.sqlite.proofs.StateLemmas.{survives_then}
 use Rattle.gtid.specs.Identifier.{Ids}
 use Rattle.binlog.specs.Filter.{Names}
 use Rattle.store.specs.declared.fault.StoreFault.TheVariants.{Follows}
-use Rattle.store.specs.Layout.{no_schema}
+use Rattle.store.specs.Layout.{IsVacant}
 use Rattle.store.specs.Rows.{StandsFor, StandsForFirst}
 use Rattle.store.specs.Load.{IsLoaded, IsFirstLoaded}
 use Rattle.store.specs.Apply.{IsAtRest, Rests}
@@ -25,10 +25,10 @@ weaken a b P Q f s = record {
   crash = λ clean db left. elim (s.crash clean db left) [ inl was ↦ inl was | inr made ↦ inr (f db made) ];
 }
 
-pub blank : (s : State) → IsReady s → s.now.schema ≡ no_schema → IsBlank s
-blank s ready none = record { is_open = ready.is_open; settled = ready.settled; schema = none }
+pub blank : (s : State) → IsReady s → IsVacant s.now.schema → IsBlank s
+blank s ready none = record { is_open = ready.is_open; settled = ready.settled; vacant = none }
 
-pub entered_new : (any : Bool) (only following : Names) (executed : Ids) (old new : State) → old.now.schema ≡ no_schema → following ≡ only → executed ≡ nothing.executed → IsAtRest new following nothing → IsEntered any only old new executed following
+pub entered_new : (any : Bool) (only following : Names) (executed : Ids) (old new : State) → IsVacant old.now.schema → following ≡ only → executed ≡ nothing.executed → IsAtRest new following nothing → IsEntered any only old new executed following
 entered_new any only following executed old new none same empty rest = record {
   content = nothing;
   of = inl ((none, refl), same);
@@ -37,7 +37,7 @@ entered_new any only following executed old new none same empty rest = record {
   wanted = λ _. same;
 }
 
-pub may_new : (only following : Names) (old new : State) → old.now.schema ≡ no_schema → following ≡ only → Survives old new (MayStandFor following nothing) → Survives old new (MayEnter only old)
+pub may_new : (only following : Names) (old new : State) → IsVacant old.now.schema → following ≡ only → Survives old new (MayStandFor following nothing) → Survives old new (MayEnter only old)
 may_new only following old new none same s = weaken old new (MayStandFor following nothing) (MayEnter only old) (λ db may. record { names = following; content = nothing; of = inl ((none, refl), same); may = may }) s
 
 pub rests_after : (old mid new : State) → IsUnchanged old mid → Rests mid new → Rests old new

@@ -11,12 +11,11 @@ use Rattle.gtid.specs.Identifier.{id_cmp}
 use Rattle.binlog.specs.Filter.{Name, Names, name_cmp}
 use Rattle.binlog.specs.FilterView.{names_of}
 use Rattle.binlog.proofs.Admitted.{name_cmp_total, name_cmp-same}
-use Rattle.store.specs.Layout.{IsLaidOut, made, tree_at}
 use Rattle.gtid.specs.Span.{IsLeastList}
-use Rattle.store.specs.Rows.{AreSpans, HasRowids, bag_of, count, meta_rows, held_rows, span_rows}
+use Rattle.store.specs.Rows.{AreSpans, HasRowids, bag_of, count}
 use Rattle.store.specs.State.{has_image}
 use Rattle.store.specs.Open.{nothing}
-use Rattle.store.specs.Making.{IsNaming, HasMade, new_layout, layout_row}
+use Rattle.store.specs.Making.{IsNaming, HasMade}
 use Rattle.store.proofs.RowLemmas.{same_function}
 
 -- ---- the names so far
@@ -61,44 +60,26 @@ pub no_rowids : HasRowids []
 unfolding IsDistinct
 no_rowids = record { apart = tt; keyed = tt }
 
-laid_out : IsLaidOut new_layout
-laid_out = record { origin = made; others = []; indexes = new_layout.indexes; views = []; is = refl; held_free = tt; spans_free = tt }
-
 module _ (s : State) (names : Names) (was : IsNaming names s) where
-  rows_at : (at : ℕ) → s.now.trees (tree_at s.now.schema at) ≡ s.now.trees (tree_at new_layout at)
-  rows_at at = ap (λ k. s.now.trees (tree_at k at)) was.schema_is
-
-  meta_is : meta_rows s.now ≡ layout_row ∷ []
-  meta_is = rows_at 0 ∙ was.meta
-
-  held_is : held_rows s.now ≡ []
-  held_is = rows_at 1 ∙ was.held
-
-  spans_is : span_rows s.now ≡ []
-  spans_is = rows_at 2 ∙ was.spans
-
-  new_laid_out : IsLaidOut s.now.schema
-  new_laid_out = subst IsLaidOut (sym was.schema_is) laid_out
-
   pub has_made : HasMade s names nothing
   has_made = record {
     working = record {
       is_open = was.is_open;
       inside = was.inside;
-      laid_out = new_laid_out;
-      held_apart = rw held_is no_rowids;
-      spans_apart = rw spans_is no_rowids;
-      lawful = rw held_is tt;
+      laid_out = was.laid_out;
+      held_apart = rw (was.held) no_rowids;
+      spans_apart = rw (was.spans) no_rowids;
+      lawful = rw (was.held) tt;
       sound = was.sound;
     };
     stands = record {
-      laid_out = new_laid_out;
-      says = rw meta_is refl;
-      meta = rw meta_is ((pos 1, codes "layout", pos 2, refl), tt);
-      follow = rw (rows_at 3) was.follow;
-      held = rw held_is tt;
-      executed = rw spans_is no_spans;
-      rows = rw held_is no_rows;
+      laid_out = was.laid_out;
+      says = rw (was.meta) refl;
+      meta = rw (was.meta) ((pos 1, codes "layout", pos 2, refl), tt);
+      follow = was.follow;
+      held = rw (was.held) tt;
+      executed = rw (was.spans) no_spans;
+      rows = rw (was.held) no_rows;
     };
   }
 

@@ -1,5 +1,5 @@
 -- Which tables a known schema has, and one reading after another.
-use Rattle.std.proofs.Common.{◌≡◌, ℤ, pos, Bool, true, false, not, MatchBool, Some, List, ◌||◌, Result, Ok, Err, IfOk, IfErr, arith, refl, sym, ap, subst, ◌∙◌}
+use Rattle.std.proofs.Common.{◌≡◌, ℤ, pos, Bool, true, false, is_some, not, MatchBool, Some, List, ◌||◌, Result, Ok, Err, IfOk, IfErr, arith, refl, sym, ap, subst, ◌∙◌}
 use Rattle.std.proofs.lemmas.Bool.{false≢true, true≢false, and_parts, not-false, not-true}
 use Rattle.sqlite_trees.specs.Tree.{Trees}
 use Rattle.sqlite_schema.specs.declared.schema.Schema.{Schema}
@@ -11,50 +11,50 @@ use Rattle.gtid.specs.Identifier.{Ids}
 use Rattle.binlog.specs.Filter.{Names}
 use Rattle.store.specs.declared.fault.StoreFault.{StoreFault}
 use Rattle.store.specs.declared.tables.Tables.{Tables}
-use Rattle.store.specs.Layout.{no_schema, first_layout, IsLaidOut}
+use Rattle.store.specs.Layout.{first_layout, HasMeta, IsLaidOut, IsVacant}
 use Rattle.std.specs.List.{AllByRecursion}
 use Rattle.sqlite_value.specs.Order.{Row}
 use Rattle.store.specs.declared.tables.Meta.{Meta}
 use Rattle.store.specs.Judge.{IsMeta, IsOnly, layouts}
 use Rattle.store.specs.Rows.{SaysLayout, first_meta_rows, meta_rows, IsMetaRow}
-use Rattle.store.specs.Load.{IsMetaFirst, StatesLayout}
+use Rattle.store.specs.Load.{StatesLayout}
 use Rattle.store.specs.Entering.{IsReady, IsKnown, blank, first, second, lacking, IsOf, IsWhy, IsEntered, IsTurned, MayEnter, tables_of, has_any, has_first, has_second}
-use Rattle.store.proofs.Wholes.{laid_meta_first, first_meta_first, meta_place}
+use Rattle.store.proofs.Wholes.{first_has_meta}
 use Rattle.store.proofs.Lives.{narrowed}
 use Rattle.store.proofs.Entered.{rests_after, weaken}
 
 -- ---- known schemas
 
-pub none_meta : (tables_of no_schema).meta ≡ false
-none_meta = refl
+pub none_meta : (schema : Schema) → IsVacant schema → (tables_of schema).meta ≡ false
+none_meta schema v = ap is_some v.no_meta
 
-pub none_any : has_any (tables_of no_schema) ≡ false
-none_any = refl
+pub none_any : (schema : Schema) → IsVacant schema → has_any (tables_of schema) ≡ false
+none_any schema v = rw (v.no_meta, v.no_executed, v.no_held, v.no_spans, v.no_follow) refl
 
-none_first : has_first (tables_of no_schema) ≡ false
-none_first = refl
+none_first : (schema : Schema) → IsVacant schema → has_first (tables_of schema) ≡ false
+none_first schema v = rw (v.no_executed) refl
 
-none_second : has_second (tables_of no_schema) ≡ false
-none_second = refl
+none_second : (schema : Schema) → IsVacant schema → has_second (tables_of schema) ≡ false
+none_second schema v = rw (v.no_held) refl
 
 first_second : has_second (tables_of first_layout) ≡ false
 unfolding same_name
 first_second = refl
 
-pub meta_first : (db : Stored) → IsKnown db → (tables_of db.schema).meta ≡ true → IsMetaFirst db.schema
-meta_first db (blank is) there = absurd (false≢true (sym none_meta ∙ ap (λ s. (tables_of s).meta) (sym is) ∙ there))
-meta_first db (first is) there = first_meta_first db.schema is
-meta_first db (second laid none) there = laid_meta_first db.schema laid
-meta_first db (lacking meta one two) there = meta
+pub known_meta : (db : Stored) → IsKnown db → (tables_of db.schema).meta ≡ true → HasMeta db.schema
+known_meta db (blank is) there = absurd (false≢true (sym (none_meta db.schema is) ∙ there))
+known_meta db (first is) there = first_has_meta db.schema is
+known_meta db (second laid none) there = laid.meta
+known_meta db (lacking meta one two) there = meta
 
 pub known_first : (db : Stored) → IsKnown db → SaysLayout (pos 1) (first_meta_rows db) → has_first (tables_of db.schema) ≡ true → db.schema ≡ first_layout
-known_first db (blank is) says there = absurd (false≢true (sym none_first ∙ ap (λ s. has_first (tables_of s)) (sym is) ∙ there))
+known_first db (blank is) says there = absurd (false≢true (sym (none_first db.schema is) ∙ there))
 known_first db (first is) says there = is
 known_first db (second laid none) says there = absurd (none (and_parts _ _ there).0 says)
 known_first db (lacking meta one two) says there = absurd (false≢true (sym (one says) ∙ there))
 
 pub known_second : (db : Stored) → IsKnown db → SaysLayout (pos 2) (first_meta_rows db) → has_second (tables_of db.schema) ≡ true → IsLaidOut db.schema
-known_second db (blank is) says there = absurd (false≢true (sym none_second ∙ ap (λ s. has_second (tables_of s)) (sym is) ∙ there))
+known_second db (blank is) says there = absurd (false≢true (sym (none_second db.schema is) ∙ there))
 known_second db (first is) says there = absurd (false≢true (sym first_second ∙ ap (λ s. has_second (tables_of s)) (sym is) ∙ there))
 known_second db (second laid none) says there = laid
 known_second db (lacking meta one two) says there = absurd (false≢true (sym (two says) ∙ there))
@@ -115,21 +115,20 @@ laid_after_second old mid same laid = subst (λ (db : Stored). IsLaidOut db.sche
 pub states_after : (n : ℤ) (old mid : State) → IsUnchanged old mid → StatesLayout n (first_meta_rows old.now) → StatesLayout n (first_meta_rows mid.now)
 states_after n old mid same states = subst (λ (db : Stored). StatesLayout n (first_meta_rows db)) (sym same.0.now_is) states
 
-pub meta_there : (schema : Schema) → IsMetaFirst schema → (tables_of schema).meta ≡ true
-unfolding same_name
-meta_there schema m = ap (λ s. (tables_of s).meta) m.is
+pub meta_there : (schema : Schema) → HasMeta schema → (tables_of schema).meta ≡ true
+meta_there schema m = ap is_some m.found.by_name
 
 any_there : (t : Tables) → t.meta ≡ true → has_any t ≡ true
 any_there t is = ap (λ b. b || (t.executed || (t.held || (t.spans || t.follow)))) is
 
-no_meta_first : (schema : Schema) → has_any (tables_of schema) ≡ false → IsMetaFirst schema → ⊥
-no_meta_first schema none m = true≢false (sym (any_there (tables_of schema) (meta_there schema m)) ∙ none)
+none_without_meta : (schema : Schema) → has_any (tables_of schema) ≡ false → HasMeta schema → ⊥
+none_without_meta schema none m = true≢false (sym (any_there (tables_of schema) (meta_there schema m)) ∙ none)
 
-pub known_none : (db : Stored) → IsKnown db → has_any (tables_of db.schema) ≡ false → db.schema ≡ no_schema
+pub known_none : (db : Stored) → IsKnown db → has_any (tables_of db.schema) ≡ false → IsVacant db.schema
 known_none db (blank is) none = is
-known_none db (first is) none = absurd (no_meta_first db.schema none (first_meta_first db.schema is))
-known_none db (second laid other) none = absurd (no_meta_first db.schema none (laid_meta_first db.schema laid))
-known_none db (lacking meta one two) none = absurd (no_meta_first db.schema none meta)
+known_none db (first is) none = absurd (none_without_meta db.schema none (first_has_meta db.schema is))
+known_none db (second laid other) none = absurd (none_without_meta db.schema none (laid.meta))
+known_none db (lacking meta one two) none = absurd (none_without_meta db.schema none meta)
 
 pub meta_after : (old mid : State) → IsUnchanged old mid → (tables_of old.now.schema).meta ≡ true → (tables_of mid.now.schema).meta ≡ true
 meta_after old mid same there = ap (λ (db : Stored). (tables_of db.schema).meta) same.0.now_is ∙ there
@@ -139,8 +138,8 @@ meta_after old mid same there = ap (λ (db : Stored). (tables_of db.schema).meta
 pub there : (old : State) (tables : Tables) → tables ≡ tables_of old.now.schema → tables.meta ≡ true → (tables_of old.now.schema).meta ≡ true
 there old tables is has = ap (λ t. t.meta) (sym is) ∙ has
 
-pub meta_is_first : (old : State) (tables : Tables) → IsReady old → tables ≡ tables_of old.now.schema → tables.meta ≡ true → IsMetaFirst old.now.schema
-meta_is_first old tables ready is has = meta_first old.now ready.known (there old tables is has)
+pub has_meta : (old : State) (tables : Tables) → IsReady old → tables ≡ tables_of old.now.schema → tables.meta ≡ true → HasMeta old.now.schema
+has_meta old tables ready is has = known_meta old.now ready.known (there old tables is has)
 
 pub says_at : (rows : List Row) (m : Meta) (k n : ℤ) → IsMeta rows m → m.layout ≡ Some k → k ≡ n → SaysLayout n rows
 says_at rows m k n h is one = subst (λ x. SaysLayout x rows) one (subst (IsOnly (layouts rows)) is h.layout)
@@ -155,7 +154,7 @@ pub breaks_meta : (rows : List Row) (m : Meta) → IsMeta rows m → not m.lawfu
 breaks_meta rows m h is = subst (Judged rows) (not-true m.lawful is) h.lawful
 
 pub breaks_meta_second : (db : Stored) → IsLaidOut db.schema → (m : Meta) → IsMeta (first_meta_rows db) m → not m.lawful ≡ true → ¬ AllByRecursion IsMetaRow (meta_rows db)
-breaks_meta_second db laid m h is all = breaks_meta (first_meta_rows db) m h is (subst (λ t. AllByRecursion IsMetaRow (db.trees t)) (meta_place db.schema laid) all)
+breaks_meta_second db laid m h is all = breaks_meta (first_meta_rows db) m h is all
 
 pub may_none : (only : Names) (old mid : State) → Survives old mid (λ _. ⊥) → Survives old mid (MayEnter only old)
 may_none only old mid s = weaken old mid (λ _. ⊥) (MayEnter only old) (λ _ none. absurd none) s

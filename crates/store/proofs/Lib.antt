@@ -1,4 +1,8 @@
-pub mod Texts
+pub mod Compiling
+pub mod AnySchema
+pub mod AnyWhole
+pub mod AnyMaking
+pub mod Beside
 pub mod Selects
 pub mod Works
 pub mod RowLemmas
@@ -16,7 +20,6 @@ pub mod Ran
 pub mod Keeps
 pub mod Taken
 pub mod Counted
-pub mod MakingTexts
 pub mod Making
 pub mod Filling
 pub mod MigratingTexts

@@ -1,5 +1,5 @@
 -- The rows of held in order, and the rows that a list hands out.
-use Rattle.std.proofs.Common.{◌≡◌, ◌⊎◌, inl, inr, ℕ, ◌+◌, ◌<◌, ◌≤◌, pos, true, false, List, [], ◌∷◌, ◌++◌, map, drop, length, get_or, codes, Option, Some, None, Err, refl, sym, ap, subst, ◌∙◌, arith}
+use Rattle.std.proofs.Common.{◌≡◌, ◌⊎◌, inl, inr, ℕ, ◌+◌, ◌<◌, ◌≤◌, pos, true, false, List, [], ◌∷◌, ◌++◌, map, drop, length, get_or, Option, Some, None, Err, refl, sym, ap, subst, ◌∙◌, arith}
 use Rattle.std.specs.List.{AllByRecursion, sum_by}
 use Rattle.std.specs.List.Sorted.{IsPermutation, IsStrictlySortedBy}
 use Rattle.std.specs.declared.cmp.Ordering.TheVariants.{Less, Equal}
@@ -13,12 +13,7 @@ use Rattle.sqlite_trees.proofs.ListLemmas.{all-permutation}
 use Rattle.sqlite_value.specs.declared.value.Value.{Value}
 use Rattle.sqlite_value.specs.declared.value.Value.TheVariants.{Int, Blob}
 use Rattle.sqlite_value.specs.Order.{Row, column}
-use Rattle.sqlite_tied.specs.Compute.{everything}
-use Rattle.sqlite_schema.specs.declared.schema.Table.{Table}
-use Rattle.sqlite_schema.specs.declared.schema.Index.{Index}
-use Rattle.sqlite_schema.specs.declared.schema.View.{View}
 use Rattle.sqlite_schema.specs.declared.schema.Schema.{Schema}
-use Rattle.sqlite.specs.Listing.{understood}
 use Rattle.sqlite.specs.State.{State, Survives}
 use Rattle.binlog.specs.Cell.{CellValue}
 use Rattle.gather.specs.Image.{IsImage, HasImage, image}
@@ -27,52 +22,27 @@ use Rattle.store.specs.declared.fault.StoreFault.{StoreFault}
 use Rattle.store.specs.declared.fault.StoreFault.TheVariants.{NoSuchRow, CountFull, Database, Memory, Damaged, Layout, Broken, Follows}
 use Rattle.store.specs.declared.listing.List.{List as Listing}
 use Rattle.store.specs.State.{TableRow, row_of, Bag, has_image}
-use Rattle.store.specs.Layout.{Origin, made, migrated, layout, held_at, IsLaidOut, tree_at}
+use Rattle.store.specs.Layout.{IsLaidOut, held_tree}
 use Rattle.store.specs.Load.{AsksAll}
 use Rattle.store.specs.Rows.{Key, key_for, IsHeldRow, is_at, share, count, bag_of, blob_in, number_in}
 use Rattle.store.specs.Listing.{Entry, key_cmp, row_cmp, entry_rows, AreRows, shown_entry, without_rowids, IsToCome, Gives, Hands, listed_text, HasKey, KeysRise}
+use Rattle.store.proofs.AnyWhole.{listed_by_key, listed_asks as any_listed}
 use Rattle.store.proofs.Bags.{image_has, has_its_image}
-use Rattle.sqlite_rules.specs.Lists.{Has}
-use Rattle.sqlite_schema.specs.declared.command.Command.TheVariants.{Select}
-use Rattle.sqlite.specs.Listing.{reads_listing}
-use Rattle.sqlite.proofs.Callers.{IsPlain, command_of}
-use Rattle.store.specs.Load.{whole}
 use Rattle.store.proofs.Keyed.{key_total}
 use Rattle.store.proofs.Ordered.{key_order}
 use Rattle.store.proofs.Steps.{first_step}
 
 -- ---- What the text means.
 
-listed_is : (o : Origin) (others : List Table) (indexes : List Index) (views : List View)
-    → (command_of (understood (layout o others indexes views) listed_text) ≡ Select (record { lets = []; body = whole (tree_at (layout o others indexes views) 1) 5 key_order }) (codes "rowid" ∷ codes "schema_name" ∷ codes "table_name" ∷ codes "image" ∷ codes "n" ∷ []))
-    × IsPlain (understood (layout o others indexes views) listed_text) × (reads_listing (layout o others indexes views) listed_text ≡ false)
-unfolding understood everything
-listed_is made others indexes views = (refl, (refl, refl), refl)
-listed_is migrated others indexes views = (refl, (refl, refl), refl)
-
-pub listed_asks : (schema : Schema) (l : IsLaidOut schema) → AsksAll schema listed_text (tree_at schema 1)
-listed_asks schema l =
-    let it = listed_is l.origin l.others l.indexes l.views in
-    let names = codes "rowid" ∷ codes "schema_name" ∷ codes "table_name" ∷ codes "image" ∷ codes "n" ∷ [] in
-    record {
-      table = held_at l.origin;
-      there = subst (λ (s : Schema). Has s.tables (held_at l.origin)) (sym l.is) (inr (inl refl));
-      tree_is = sym (ap (λ s. tree_at s 1) l.is);
-      rowid_apart = refl;
-      filled = refl;
-      order = key_order;
-      names = names;
-      is = subst (λ s. command_of (understood s listed_text) ≡ Select (record { lets = []; body = whole (tree_at s 1) 5 key_order }) names) (sym l.is) it.0;
-      plain = subst (λ s. IsPlain (understood s listed_text)) (sym l.is) it.1;
-      elsewhere = subst (λ s. reads_listing s listed_text ≡ false) (sym l.is) it.2;
-    }
+pub listed_asks : (schema : Schema) (l : IsLaidOut schema) → AsksAll schema listed_text (held_tree schema)
+listed_asks schema l = any_listed schema l.held.at (held_tree schema) l.held.found
 
 pub listed_order : (schema : Schema) (l : IsLaidOut schema) → (listed_asks schema l).order ≡ key_order
 unfolding listed_asks
-listed_order schema l = refl
+listed_order schema l = listed_by_key schema l.held.at (held_tree schema) l.held.found
 
 pub listed_survives : (old new : State) → IsLaidOut old.now.schema → Survives old new (λ _. (tree : ℕ) → ¬ AsksAll old.now.schema listed_text tree) → Survives old new (λ _. ⊥)
-listed_survives old new l s = first_step old new listed_text (tree_at old.now.schema 1) (listed_asks old.now.schema l) s
+listed_survives old new l s = first_step old new listed_text (held_tree old.now.schema) (listed_asks old.now.schema l) s
 
 -- ---- A row and its entry.
 

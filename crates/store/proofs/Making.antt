@@ -1,5 +1,5 @@
 -- What each statement that makes the tables does, where it succeeds.
-use Rattle.std.proofs.Common.{◌≡◌, ℕ, ◌++◌, codes, pos, List, [], ◌∷◌, false, map, None, Ok, Err, Result, OnOk, refl, sym, ap, subst, ◌∙◌, arith}
+use Rattle.std.proofs.Common.{◌≡◌, inl, inr, ℕ, ◌++◌, codes, pos, List, [], ◌∷◌, false, map, None, Ok, Err, Result, OnOk, refl, sym, ap, subst, ◌∙◌}
 use Rattle.std.specs.List.{AllByRecursion}
 use Rattle.std.specs.List.Sorted.{IsPermutation}
 use Rattle.std.proofs.lemmas.List.Sorted.{IsPermutation-map, list_any-IsPermutation}
@@ -12,7 +12,6 @@ use Rattle.sqlite_schema.specs.declared.schema.Schema.{Schema}
 use Rattle.sqlite_schema.specs.declared.schema.Keys.TheVariants.{Enforced}
 use Rattle.sqlite_schema.specs.declared.command.Command.TheVariants.{Insert, CreateTable}
 use Rattle.sqlite_schema.specs.declared.command.Source.TheVariants.{Values}
-use Rattle.sqlite_resolve.specs.Compile.{table_defined_by}
 use Rattle.sqlite_catalog.specs.Change.{created, next_tree, KeepsRows}
 use Rattle.sqlite_rules.specs.Edit.{edit_of, are_fresh, is_taken, next_rowid, Applies, put_all}
 use Rattle.sqlite_rules.specs.declared.error.Rowids.TheVariants.{Chosen}
@@ -21,108 +20,193 @@ use Rattle.sqlite_trees.proofs.TreeLemmas.{all-put_row}
 use Rattle.sqlite.specs.declared.error.Error.{Error}
 use Rattle.sqlite.specs.Effect.{Database}
 use Rattle.sqlite.specs.Rows.{Written}
-use Rattle.sqlite.specs.Does.{Tally, Does, lacks_sequence}
+use Rattle.sqlite.specs.Does.{Tally, OnRows, lacks_sequence}
+use Rattle.sqlite_rules.specs.Lists.{Has}
+use Rattle.sqlite_rules.proofs.ListLemmas.{all_has}
 use Rattle.sqlite.specs.Listing.{understood}
 use Rattle.sqlite.specs.State.{State, mode_of, Writes, ExecutesInside, Executes}
 use Rattle.sqlite.proofs.Callers.{IsPlain, command_of, statement_of, runs_as, one_step}
 use Rattle.binlog.specs.Filter.{Name, Names, name_cmp}
 use Rattle.binlog.proofs.Admitted.{name_cmp_total, name_cmp-same}
-use Rattle.store.specs.Layout.{meta, meta_text, held, held_text, spans, spans_text, follow, follow_text, no_schema}
-use Rattle.store.specs.Rows.{AreNames, IsFollowRow, name_in}
-use Rattle.store.specs.Making.{IsMaking, IsNaming, layout_row, with_meta, with_held, with_spans, new_layout, layout_text, layout_terms, add_name_text, add_name_terms}
-use Rattle.store.proofs.Texts.{meta_defined, held_defined, spans_defined, follow_defined}
-use Rattle.store.proofs.MakingTexts.{meta_is, meta_plain, held_is, held_plain, spans_is, spans_plain, follow_is, follow_plain, layout_is, layout_plain, add_name_is, add_name_plain}
-use Rattle.store.proofs.Statements.{went, same_value, cast_null, cast_int}
+use Rattle.store.specs.Layout.{meta, meta_text, held, held_text, spans, spans_text, follow, follow_text, IsVacant, IsLaidOut, meta_at, held_at, spans_at, follow_at, meta_tree, held_tree, spans_tree, follow_tree}
+use Rattle.store.specs.Rows.{AreNames, IsFollowRow, name_in, meta_rows, held_rows, span_rows, follow_rows}
+use Rattle.store.specs.Making.{IsMaking, IsNaming, layout_row, with_tables, trees_of, with_meta, with_held, with_spans, new_layout, layout_text, layout_terms, add_name_text, add_name_terms}
+use Rattle.store.proofs.Beside.{made, laid_out, meta_at_base, held_at_one, spans_at_two, follow_at_three, counted_base, counted_one, counted_two, counted_three}
+use Rattle.store.proofs.AnyMaking.{MakesTable, runs_made, meta_makes, held_makes, spans_makes, follow_makes, layout_is, layout_plain, add_name_is, add_name_plain}
+use Rattle.store.proofs.Works.{no_works}
+use Rattle.store.proofs.Statements.{Applied, on_table, went, same_value, cast_null, cast_int}
 use Rattle.store.proofs.RowLemmas.{put_among}
-use Rattle.store.proofs.Effects.{fresh_alone}
+use Rattle.store.proofs.Effects.{fresh_alone, same_rows, stays, meta_held, meta_spans, follow_held, follow_spans, follow_meta}
 
 -- ---- tables
 
-all_more : {X : Type 0} (P : X → Type 0) (xs : List X) (x : X) → AllByRecursion P xs → P x → AllByRecursion P (xs ++ x ∷ [])
-all_more P [] x all h = (h, tt)
-all_more P (y ∷ ys) x all h = (all.0, all_more P ys x all.1 h)
+-- the trees of the tables that have been made are those of tables of the schema
+made_trees : (base : Schema) (ts : List Table) → AllByRecursion (λ tree. (t : Table) × Has (with_tables base ts).tables t × (t.tree ≡ tree)) (trees_of base ts)
+made_trees base [] = tt
+made_trees base (t ∷ ts) = (
+  (made (with_tables base ts) t, has_last (with_tables base ts).tables (made (with_tables base ts) t), refl),
+  later (with_tables base ts) t (trees_of base ts) (made_trees base ts),
+)
+  where
+    has_last : (xs : List Table) (x : Table) → Has (xs ++ x ∷ []) x
+    has_last [] x = inl refl
+    has_last (y ∷ ys) x = inr (has_last ys x)
 
-still_empty : (tables : List Table) (old new : Trees) → KeepsRows tables old new → AllByRecursion (λ t. old t.tree ≡ []) tables → AllByRecursion (λ t. new t.tree ≡ []) tables
-still_empty [] old new kept empty = tt
-still_empty (t ∷ tables) old new kept empty = (kept.0 ∙ empty.0, still_empty tables old new kept.1 empty.1)
+    has_more : (xs : List Table) (x y : Table) → Has xs y → Has (xs ++ x ∷ []) y
+    has_more [] x y h = absurd h
+    has_more (z ∷ zs) x y (inl h) = inl h
+    has_more (z ∷ zs) x y (inr h) = inr (has_more zs x y h)
 
-module _ (schema : Schema) (sql : List ℕ) (table : Table) (is : (command_of (understood schema sql) ≡ CreateTable) × (statement_of sql (understood schema sql) ≡ sql)) (plain : IsPlain (understood schema sql))
-    (defined : table_defined_by sql ≡ Ok table) (counted : lacks_sequence (created schema table) ≡ false) (old new : State) (has : old.now.schema ≡ schema) where
+    later : (schema : Schema) (x : Table) (trees : List ℕ) → AllByRecursion (λ tree. (t : Table) × Has schema.tables t × (t.tree ≡ tree)) trees → AllByRecursion (λ tree. (t : Table) × Has (created schema x).tables t × (t.tree ≡ tree)) trees
+    later schema x [] all = tt
+    later schema x (tree ∷ trees) all = ((all.0.0, has_more schema.tables (made schema x) all.0.0 all.0.1, all.0.2), later schema x trees all.1)
+
+still_empty : (schema : Schema) (trees : List ℕ) (old new : Trees) → KeepsRows schema.tables old new → AllByRecursion (λ tree. (t : Table) × Has schema.tables t × (t.tree ≡ tree)) trees → AllByRecursion (λ tree. old tree ≡ []) trees
+    → AllByRecursion (λ tree. new tree ≡ []) trees
+still_empty schema [] old new kept there empty = tt
+still_empty schema (tree ∷ trees) old new kept there empty =
+    let same = all_has (λ (t : Table). new t.tree ≡ old t.tree) schema.tables there.0.0 kept there.0.1 in
+    (subst (λ n. new n ≡ old n) there.0.2 same ∙ empty.0, still_empty schema trees old new kept there.1 empty.1)
+
+module _ (schema : Schema) (sql : List ℕ) (table : Table) (m : MakesTable sql table) (counted : lacks_sequence (created schema table) ≡ false) (old new : State) (has : old.now.schema ≡ schema) where
   -- a table is made, with no row in it, and the rows of the others stay
   pub creates : (count : ℕ) → Executes sql [] old new (Ok count) → (new.now.schema ≡ created schema table) × (new.now.trees (next_tree schema) ≡ []) × KeepsRows schema.tables old.now.trees new.now.trees × Writes old new None CreateTable sql [] count
   creates count h =
-      let w = subst (λ t. Writes old new None CreateTable t [] count) is.1 (runs_as sql [] old new schema has CreateTable is.0 plain count h) in
+      let known = runs_made schema sql table m [] old new count has h in
+      let text : statement_of sql (understood schema sql) ≡ sql = ap (statement_of sql) known ∙ m.whole in
+      let plain : IsPlain (understood schema sql) = rw known (refl, refl) in
+      let w = subst (λ t. Writes old new None CreateTable t [] count) text (runs_as sql [] old new schema has CreateTable (ap command_of known) plain count h) in
       let all = went w.changed in
       let first = went all.1 in
-      let made = first.1 in
-      let both : Ok made.table ≡ Ok table = sym made.defined ∙ defined in
-      let same : made.table ≡ table = same_value both in
-      let schema_is : first.0.schema ≡ created schema table = made.is ∙ ap (λ s. created s made.table) has ∙ ap (created schema) same in
+      let done = first.1 in
+      let both : Ok done.table ≡ Ok table = sym done.defined ∙ m.makes in
+      let same : done.table ≡ table = same_value both in
+      let schema_is : first.0.schema ≡ created schema table = done.is ∙ ap (λ s. created s done.table) has ∙ ap (created schema) same in
       let none : lacks_sequence first.0.schema ≡ false = ap lacks_sequence schema_is ∙ counted in
       let now : new.now ≡ first.0 = ap (λ (p : Tally × Database). p.1) (same_value all.2) ∙ same_value (rw none at first.2) in
-      let empty : new.now.trees (next_tree schema) ≡ [] = ap (λ (d : Database). d.trees (next_tree schema)) now ∙ subst (λ s. first.0.trees (next_tree s) ≡ []) has made.empty in
+      let empty : new.now.trees (next_tree schema) ≡ [] = ap (λ (d : Database). d.trees (next_tree schema)) now ∙ subst (λ s. first.0.trees (next_tree s) ≡ []) has done.empty in
       let kept : KeepsRows schema.tables old.now.trees new.now.trees =
-      subst (λ (d : Database). KeepsRows schema.tables old.now.trees d.trees) (sym now) (subst (λ (s : Schema). KeepsRows s.tables old.now.trees first.0.trees) has made.others) in
+      subst (λ (d : Database). KeepsRows schema.tables old.now.trees d.trees) (sym now) (subst (λ (s : Schema). KeepsRows s.tables old.now.trees first.0.trees) has done.others) in
       (ap (λ (d : Database). d.schema) now ∙ schema_is, empty, kept, w)
 
-module _ (schema : Schema) (sql : List ℕ) (table : Table) (is : (command_of (understood schema sql) ≡ CreateTable) × (statement_of sql (understood schema sql) ≡ sql)) (plain : IsPlain (understood schema sql))
-    (defined : table_defined_by sql ≡ Ok table) (counted : lacks_sequence (created schema table) ≡ false) (old new : State) where
-  done : (r : Result ℕ Error) → IsMaking schema old → ExecutesInside 0 sql [] old new r → OnOk r (IsMaking (created schema table) new)
+module _ (ts : List Table) (sql : List ℕ) (table : Table) (m : MakesTable sql table) (counted : (base : Schema) → IsVacant base → lacks_sequence (created (with_tables base ts) table) ≡ false) (old new : State) where
+  done : (r : Result ℕ Error) → IsMaking ts old → ExecutesInside 0 sql [] old new r → OnOk r (IsMaking (table ∷ ts) new)
   done (Ok count) was h =
-      let it = creates schema sql table is plain defined counted old new was.schema_is count h.0 in
+      let schema = with_tables was.base ts in
+      let it = creates schema sql table m (counted was.base was.vacant) old new was.schema_is count h.0 in
       record {
         is_open = it.3.shown.is_open;
         inside = it.3.shown.mode ∙ was.inside;
+        base = was.base;
+        vacant = was.vacant;
         schema_is = it.0;
-        empty = all_more (λ t. new.now.trees t.tree ≡ []) schema.tables (record table { tree = next_tree schema }) (still_empty schema.tables old.now.trees new.now.trees it.2 was.empty) it.1;
+        empty = (it.1, still_empty schema (trees_of was.base ts) old.now.trees new.now.trees it.2 (made_trees was.base ts) was.empty);
       }
   done (Err e) was h = tt
 
-pub done_meta : (old new : State) (r : Result ℕ Error) → IsMaking no_schema old → ExecutesInside 0 meta_text [] old new r → OnOk r (IsMaking with_meta new)
-done_meta old new r was h = done no_schema meta_text meta meta_is meta_plain meta_defined refl old new r was h
+pub done_meta : (old new : State) (r : Result ℕ Error) → IsMaking [] old → ExecutesInside 0 meta_text [] old new r → OnOk r (IsMaking with_meta new)
+done_meta old new r was h = done [] meta_text meta meta_makes counted_base old new r was h
 
 pub done_held : (old new : State) (r : Result ℕ Error) → IsMaking with_meta old → ExecutesInside 0 held_text [] old new r → OnOk r (IsMaking with_held new)
-done_held old new r was h = done with_meta held_text held held_is held_plain held_defined refl old new r was h
+done_held old new r was h = done with_meta held_text held held_makes counted_one old new r was h
 
 pub done_spans : (old new : State) (r : Result ℕ Error) → IsMaking with_held old → ExecutesInside 0 spans_text [] old new r → OnOk r (IsMaking with_spans new)
-done_spans old new r was h = done with_held spans_text spans spans_is spans_plain spans_defined refl old new r was h
+done_spans old new r was h = done with_held spans_text spans spans_makes counted_two old new r was h
 
 pub done_follow : (old new : State) (r : Result ℕ Error) → IsMaking with_spans old → ExecutesInside 0 follow_text [] old new r → OnOk r (IsMaking new_layout new)
-done_follow old new r was h = done with_spans follow_text follow follow_is follow_plain follow_defined refl old new r was h
+done_follow old new r was h = done with_spans follow_text follow follow_makes counted_three old new r was h
 
 -- ---- the row of meta
 
-abbrev meta_table : Table
-meta_table = record meta { tree = 0 }
+-- the tables are there, and none has a row
+record IsBare (s : State) : Type 0 where
+  laid_out : IsLaidOut s.now.schema
+  meta : meta_rows s.now ≡ []
+  held : held_rows s.now ≡ []
+  spans : span_rows s.now ≡ []
+  follow : follow_rows s.now ≡ []
 
-news_marked : (db : Trees) → db 0 ≡ [] → (edit_of db meta_table [] Chosen 0 ((Null ∷ Text (codes "layout") ∷ Int (pos 2) ∷ []) ∷ [])).news ≡ layout_row ∷ []
-news_marked db none = rw (none, cast_null, cast_int (pos 2)) refl
+bare : (s : State) → IsMaking new_layout s → IsBare s
+bare s was =
+    let schema = with_tables was.base new_layout in
+    let rows : (tree : Schema → ℕ) (at : ℕ) → tree schema ≡ at → s.now.trees at ≡ [] → s.now.trees (tree s.now.schema) ≡ [] = λ tree at is none. ap (λ x. s.now.trees (tree x)) was.schema_is ∙ ap s.now.trees is ∙ none in
+    record {
+      laid_out = subst IsLaidOut (sym was.schema_is) (laid_out was.base was.vacant);
+      meta = rows meta_tree (next_tree was.base) (meta_at_base was.base was.vacant) was.empty.1.1.1.0;
+      held = rows held_tree (next_tree (with_tables was.base with_meta)) (held_at_one was.base was.vacant) was.empty.1.1.0;
+      spans = rows spans_tree (next_tree (with_tables was.base with_held)) (spans_at_two was.base was.vacant) was.empty.1.0;
+      follow = rows follow_tree (next_tree (with_tables was.base with_spans)) (follow_at_three was.base was.vacant) was.empty.0;
+    }
+
+news_marked : (db : Trees) (table : Table) → table ≡ record meta { tree = table.tree } → db table.tree ≡ [] → (edit_of db (record meta { tree = table.tree }) [] Chosen 0 ((Null ∷ Text (codes "layout") ∷ Int (pos 2) ∷ []) ∷ [])).news ≡ layout_row ∷ []
+news_marked db table is none = rw (none, cast_null, cast_int (pos 2)) refl
+
+-- a row that is put into a table of the store, with the rows of the other tables as they were
+module _ (old new : State) (l : IsLaidOut old.now.schema) where
+  abbrev schema : Schema
+  schema = old.now.schema
+
+  abbrev db : Trees
+  db = old.now.trees
+
+  marked : (count : ℕ) → Executes layout_text [] old new (Ok count) → Applied schema old new (edit_of db (meta_at schema) [] Chosen 0 ((Null ∷ Text (codes "layout") ∷ Int (pos 2) ∷ []) ∷ []))
+  marked count h =
+      let command = Insert l.meta.at (Values layout_terms 3) in
+      let w = runs_as layout_text [] old new schema refl command (layout_is schema l.meta.at (meta_tree schema) l.meta.found) (layout_plain schema l.meta.at (meta_tree schema) l.meta.found) count h in
+      let done = went (on_table old.step_limit (mode_of old) [] old.now l.meta.at (meta_at schema) (λ task. OnRows task (mode_of old) None command db) (Ok (w.tally, new.now)) l.meta.found.by_index w.changed) in
+      let now = ap (λ (p : Tally × Database). p.1) (same_value (went (went done.2).2).2) in
+      let given = went done.1 in
+      let written = went (went given.2).2 in
+      let counted = went written.2 in
+      let trees : done.0.trees ≡ written.0 = ap (λ (it : Written). it.trees) (same_value counted.2) ∙ same_value counted.1 in
+      let edit = edit_of db (meta_at schema) [] Chosen 0 given.0 in
+      let step = one_step schema _ db written.0 edit (no_works schema (meta_tree schema) [] edit.news (inl refl)) written.1 in
+      let sourced = subst (λ x. Applies schema Enforced db (edit_of db (meta_at schema) [] Chosen 0 x) written.0) given.1.1 step in
+      record {
+        step = subst (Applies schema Enforced db (edit_of db (meta_at schema) [] Chosen 0 ((Null ∷ Text (codes "layout") ∷ Int (pos 2) ∷ []) ∷ []))) (sym (ap (λ (d : Database). d.trees) now ∙ trees)) sourced;
+        schema_is = ap (λ (d : Database). d.schema) now;
+        shown = w.shown;
+        sound = w.sound;
+      }
+
+  named : (name : Name) (count : ℕ) → Executes add_name_text (Blob name.0 ∷ Blob name.1 ∷ []) old new (Ok count) → Applied schema old new (edit_of db (follow_at schema) [] Chosen 0 ((Null ∷ Blob name.0 ∷ Blob name.1 ∷ []) ∷ []))
+  named name count h =
+      let params = Blob name.0 ∷ Blob name.1 ∷ [] in
+      let command = Insert l.follow.at (Values add_name_terms 3) in
+      let w = runs_as add_name_text params old new schema refl command (add_name_is schema l.follow.at (follow_tree schema) l.follow.found) (add_name_plain schema l.follow.at (follow_tree schema) l.follow.found) count h in
+      let done = went (on_table old.step_limit (mode_of old) params old.now l.follow.at (follow_at schema) (λ task. OnRows task (mode_of old) None command db) (Ok (w.tally, new.now)) l.follow.found.by_index w.changed) in
+      let now = ap (λ (p : Tally × Database). p.1) (same_value (went (went done.2).2).2) in
+      let given = went done.1 in
+      let written = went (went given.2).2 in
+      let counted = went written.2 in
+      let trees : done.0.trees ≡ written.0 = ap (λ (it : Written). it.trees) (same_value counted.2) ∙ same_value counted.1 in
+      let edit = edit_of db (follow_at schema) [] Chosen 0 given.0 in
+      let step = one_step schema _ db written.0 edit (no_works schema (follow_tree schema) [] edit.news (inl refl)) written.1 in
+      let sourced = subst (λ x. Applies schema Enforced db (edit_of db (follow_at schema) [] Chosen 0 x) written.0) given.1.1 step in
+      record {
+        step = subst (Applies schema Enforced db (edit_of db (follow_at schema) [] Chosen 0 ((Null ∷ Blob name.0 ∷ Blob name.1 ∷ []) ∷ []))) (sym (ap (λ (d : Database). d.trees) now ∙ trees)) sourced;
+        schema_is = ap (λ (d : Database). d.schema) now;
+        shown = w.shown;
+        sound = w.sound;
+      }
 
 marks : (old new : State) (count : ℕ) → IsMaking new_layout old → Executes layout_text [] old new (Ok count) → IsNaming set.empty new
 marks old new count was h =
-    let db = old.now.trees in
-    let command = Insert 0 (Values layout_terms 3) in
-    let w = runs_as layout_text [] old new new_layout was.schema_is command layout_is layout_plain count h in
-    let text = statement_of layout_text (understood new_layout layout_text) in
-    let done = went (subst (λ s. Does old.step_limit (mode_of old) [] (record old.now { schema = s }) text None command (Ok (w.tally, new.now))) was.schema_is w.changed) in
-    let now = ap (λ (p : Tally × Database). p.1) (same_value (went (went done.2).2).2) in
-    let given = went done.1 in
-    let written = went (went given.2).2 in
-    let counted = went written.2 in
-    let trees : done.0.trees ≡ written.0 = ap (λ (it : Written). it.trees) (same_value counted.2) ∙ same_value counted.1 in
-    let step = one_step new_layout _ db written.0 (edit_of db meta_table [] Chosen 0 given.0) refl written.1 in
-    let sourced = subst (λ l. Applies new_layout Enforced db (edit_of db meta_table [] Chosen 0 l) written.0) given.1.1 step in
-    let same : new.now.trees ≡ written.0 = ap (λ (d : Database). d.trees) now ∙ trees in
-    let follow_is : new.now.trees 6 ≡ [] = ap (λ (t : Trees). t 6) same ∙ sourced.tables.1.1.1.0 (λ e. absurd (omega arith)) ∙ was.empty.1.1.1.0 in
+    let b = bare old was in
+    let l = b.laid_out in
+    let schema = old.now.schema in
+    let a = marked old new l count h in
+    let edit = edit_of old.now.trees (meta_at schema) [] Chosen 0 ((Null ∷ Text (codes "layout") ∷ Int (pos 2) ∷ []) ∷ []) in
+    let follow_is : follow_rows new.now ≡ [] = same_rows old new (codes "follow") a.schema_is (stays schema l.follow.at (follow_at schema) old.now.trees new.now.trees edit l.follow.found a.step (follow_meta schema l)) ∙ b.follow in
     record {
-      is_open = w.shown.is_open;
-      inside = w.shown.mode ∙ was.inside;
-      schema_is = ap (λ (d : Database). d.schema) now;
-      meta = ap (λ (t : Trees). t 0) same ∙ sourced.rows ∙ ap (put_all (db 0)) (news_marked db was.empty.0) ∙ ap (λ rows. put_all rows (layout_row ∷ [])) was.empty.0;
-      held = ap (λ (t : Trees). t 2) same ∙ sourced.tables.1.0 (λ e. absurd (omega arith)) ∙ was.empty.1.0;
-      spans = ap (λ (t : Trees). t 4) same ∙ sourced.tables.1.1.0 (λ e. absurd (omega arith)) ∙ was.empty.1.1.0;
+      is_open = a.shown.is_open;
+      inside = a.shown.mode ∙ was.inside;
+      laid_out = subst IsLaidOut (sym a.schema_is) l;
+      meta = ap (λ s. new.now.trees (meta_tree s)) a.schema_is ∙ a.step.rows ∙ ap (put_all (old.now.trees (meta_tree schema))) (news_marked old.now.trees (meta_at schema) refl b.meta) ∙ ap (λ rows. put_all rows (layout_row ∷ [])) b.meta;
+      held = same_rows old new (codes "held") a.schema_is (stays schema l.held.at (held_at schema) old.now.trees new.now.trees edit l.held.found a.step (λ same. meta_held schema l (sym same))) ∙ b.held;
+      spans = same_rows old new (codes "spans") a.schema_is (stays schema l.spans.at (spans_at schema) old.now.trees new.now.trees edit l.spans.found a.step (λ same. meta_spans schema l (sym same))) ∙ b.spans;
       follow = rw follow_is (record { lawful = tt; names_are = refl });
-      sound = w.sound;
+      sound = a.sound;
     }
 
 pub done_layout : (old new : State) (r : Result ℕ Error) → IsMaking new_layout old → ExecutesInside 0 layout_text [] old new r → OnOk r (IsNaming set.empty new)
@@ -130,9 +214,6 @@ done_layout old new (Ok count) was h = marks old new count was h.0
 done_layout old new (Err e) was h = tt
 
 -- ---- a row of follow
-
-abbrev follow_table : Table
-follow_table = record follow { tree = 6 }
 
 -- a set is that of any order of its list
 pub same_names : (a b : List Name) → IsPermutation a b → set.from_list {R = name_cmp} a ≡ set.from_list b
@@ -150,37 +231,28 @@ named_put rows names name free was = record {
       (IsPermutation-map name_in (new_name rows name ∷ rows) (put_row (new_name rows name) rows) (put_among (new_name rows name) rows free));
 }
 
-news_named : (db : Trees) (name : Name) → (edit_of db follow_table [] Chosen 0 ((Null ∷ Blob name.0 ∷ Blob name.1 ∷ []) ∷ [])).news ≡ new_name (db 6) name ∷ []
-news_named db name = rw cast_null refl
+news_named : (db : Trees) (tree : ℕ) (name : Name) → (edit_of db (record follow { tree = tree }) [] Chosen 0 ((Null ∷ Blob name.0 ∷ Blob name.1 ∷ []) ∷ [])).news ≡ new_name (db tree) name ∷ []
+news_named db tree name = rw cast_null refl
 
 names_one : (old new : State) (names : Names) (name : Name) (count : ℕ) → IsNaming names old → Executes add_name_text (Blob name.0 ∷ Blob name.1 ∷ []) old new (Ok count) → IsNaming (set.insert names name) new
 names_one old new names name count was h =
-    let db = old.now.trees in
-    let params = Blob name.0 ∷ Blob name.1 ∷ [] in
-    let command = Insert 3 (Values add_name_terms 3) in
-    let w = runs_as add_name_text params old new new_layout was.schema_is command add_name_is add_name_plain count h in
-    let text = statement_of add_name_text (understood new_layout add_name_text) in
-    let done = went (subst (λ s. Does old.step_limit (mode_of old) params (record old.now { schema = s }) text None command (Ok (w.tally, new.now))) was.schema_is w.changed) in
-    let now = ap (λ (p : Tally × Database). p.1) (same_value (went (went done.2).2).2) in
-    let given = went done.1 in
-    let written = went (went given.2).2 in
-    let counted = went written.2 in
-    let trees : done.0.trees ≡ written.0 = ap (λ (it : Written). it.trees) (same_value counted.2) ∙ same_value counted.1 in
-    let step = one_step new_layout _ db written.0 (edit_of db follow_table [] Chosen 0 given.0) refl written.1 in
-    let sourced = subst (λ l. Applies new_layout Enforced db (edit_of db follow_table [] Chosen 0 l) written.0) given.1.1 step in
-    let same : new.now.trees ≡ written.0 = ap (λ (d : Database). d.trees) now ∙ trees in
-    let news = news_named db name in
-    let free : is_taken (db 6) (new_name (db 6) name) ≡ false = fresh_alone (db 6) (new_name (db 6) name) (ap (are_fresh (db 6)) (sym news) ∙ sourced.fresh) in
-    let follow_is : new.now.trees 6 ≡ put_row (new_name (db 6) name) (db 6) = ap (λ (t : Trees). t 6) same ∙ sourced.rows ∙ ap (put_all (db 6)) news in
+    let l = was.laid_out in
+    let schema = old.now.schema in
+    let rows = follow_rows old.now in
+    let a = named old new l name count h in
+    let edit = edit_of old.now.trees (follow_at schema) [] Chosen 0 ((Null ∷ Blob name.0 ∷ Blob name.1 ∷ []) ∷ []) in
+    let news = news_named old.now.trees (follow_tree schema) name in
+    let free : is_taken rows (new_name rows name) ≡ false = fresh_alone rows (new_name rows name) (ap (are_fresh rows) (sym news) ∙ a.step.fresh) in
+    let follow_is : follow_rows new.now ≡ put_row (new_name rows name) rows = ap (λ s. new.now.trees (follow_tree s)) a.schema_is ∙ a.step.rows ∙ ap (put_all rows) news in
     record {
-      is_open = w.shown.is_open;
-      inside = w.shown.mode ∙ was.inside;
-      schema_is = ap (λ (d : Database). d.schema) now;
-      meta = ap (λ (t : Trees). t 0) same ∙ sourced.tables.0 (λ e. absurd (omega arith)) ∙ was.meta;
-      held = ap (λ (t : Trees). t 2) same ∙ sourced.tables.1.0 (λ e. absurd (omega arith)) ∙ was.held;
-      spans = ap (λ (t : Trees). t 4) same ∙ sourced.tables.1.1.0 (λ e. absurd (omega arith)) ∙ was.spans;
-      follow = rw follow_is (named_put (db 6) names name free was.follow);
-      sound = w.sound;
+      is_open = a.shown.is_open;
+      inside = a.shown.mode ∙ was.inside;
+      laid_out = subst IsLaidOut (sym a.schema_is) l;
+      meta = same_rows old new (codes "meta") a.schema_is (stays schema l.meta.at (meta_at schema) old.now.trees new.now.trees edit l.meta.found a.step (λ same. follow_meta schema l (sym same))) ∙ was.meta;
+      held = same_rows old new (codes "held") a.schema_is (stays schema l.held.at (held_at schema) old.now.trees new.now.trees edit l.held.found a.step (λ same. follow_held schema l (sym same))) ∙ was.held;
+      spans = same_rows old new (codes "spans") a.schema_is (stays schema l.spans.at (spans_at schema) old.now.trees new.now.trees edit l.spans.found a.step (λ same. follow_spans schema l (sym same))) ∙ was.spans;
+      follow = rw follow_is (named_put rows names name free was.follow);
+      sound = a.sound;
     }
 
 pub done_name : (old new : State) (names : Names) (name : Name) (r : Result ℕ Error) → IsNaming names old → ExecutesInside 0 add_name_text (Blob name.0 ∷ Blob name.1 ∷ []) old new r → OnOk r (IsNaming (set.insert names name) new)

@@ -38,8 +38,8 @@ use Rattle.store.specs.State.{Content}
 use Rattle.store.specs.Layout.{meta, spans, spans_text, follow, follow_text, first_layout}
 use Rattle.store.specs.Rows.{HasRowids, IsMetaRow, SaysLayout, is_text}
 use Rattle.store.specs.Migrating.{without_executed, migrated_spans, migrated_layout, drop_executed_text, raise_text, says_layout, raise_query, IsMigrating}
-use Rattle.store.proofs.Texts.{spans_defined, follow_defined}
-use Rattle.store.proofs.MigratingTexts.{drop_is, drop_plain, spans_is, spans_plain, follow_is, follow_plain, raise_is, raise_plain}
+use Rattle.store.proofs.AnyMaking.{spans_makes, follow_makes}
+use Rattle.store.proofs.MigratingTexts.{drop_is, drop_plain, raise_is, raise_plain}
 use Rattle.store.proofs.Making.{creates}
 use Rattle.store.proofs.Selects.{shown_bool, and_true, answers}
 use Rattle.store.proofs.Statements.{went, same_value, cast_int}
@@ -89,14 +89,14 @@ done_drop content old new (Err e) was h = tt
 pub done_spans : (content : Content) (old new : State) (r : Result ℕ Error) → IsMigrating without_executed (pos 1) [] content old → ExecutesInside 0 spans_text [] old new r
     → OnOk r (IsMigrating migrated_spans (pos 1) (6 ∷ []) content new)
 done_spans content old new (Ok count) was h =
-    let it = creates without_executed spans_text spans spans_is spans_plain spans_defined refl old new was.schema_is count h.0 in
+    let it = creates without_executed spans_text spans spans_makes refl old new was.schema_is count h.0 in
     stays without_executed migrated_spans (pos 1) [] (6 ∷ []) content old new was (it.3.shown.is_open, it.3.shown.mode ∙ was.inside, it.3.sound) it.0 (it.1, tt) it.2.0 it.2.1.0
 done_spans content old new (Err e) was h = tt
 
 pub done_follow : (content : Content) (old new : State) (r : Result ℕ Error) → IsMigrating migrated_spans (pos 1) (6 ∷ []) content old → ExecutesInside 0 follow_text [] old new r
     → OnOk r (IsMigrating migrated_layout (pos 1) (6 ∷ 8 ∷ []) content new)
 done_follow content old new (Ok count) was h =
-    let it = creates migrated_spans follow_text follow follow_is follow_plain follow_defined refl old new was.schema_is count h.0 in
+    let it = creates migrated_spans follow_text follow follow_makes refl old new was.schema_is count h.0 in
     stays migrated_spans migrated_layout (pos 1) (6 ∷ []) (6 ∷ 8 ∷ []) content old new was (it.3.shown.is_open, it.3.shown.mode ∙ was.inside, it.3.sound) it.0 (it.2.1.1.0 ∙ was.empty.0, (it.1, tt)) it.2.0 it.2.1.0
 done_follow content old new (Err e) was h = tt
 

@@ -19,7 +19,6 @@ use Rattle.sqlite_schema.specs.declared.schema.Schema.{Schema}
 use Rattle.sqlite_schema.specs.Names.{same_name}
 use Rattle.sqlite_rules.specs.Edit.{id_in}
 use Rattle.sqlite_rules.proofs.TableLemmas.{int_is}
-use Rattle.sqlite_catalog.specs.Listing.{IsSound}
 use Rattle.sqlite.specs.Effect.{Database, IsDatabase}
 use Rattle.gtid.specs.Identifier.{Id, Ids, IsSource, IsGtid, id_cmp}
 use Rattle.gtid.specs.Span.{is_in, Covers, IsLawfulSpan}
@@ -27,10 +26,11 @@ use Rattle.gtid.specs.declared.span.Span.{Span}
 use Rattle.gtid.proofs.Sets.{id_cmp_total, id_cmp-same, tied}
 use Rattle.binlog.specs.Filter.{Names}
 use Rattle.store.specs.State.{Content}
-use Rattle.store.specs.Layout.{Origin, made, migrated, layout, spans_at, spans_tree, tree_at, no_schema, first_layout, IsLaidOut}
+use Rattle.store.specs.Layout.{spans_at, first_layout, IsLaidOut, IsVacant}
 use Rattle.store.specs.Rows.{SaysLayout, StandsFor, StandsForFirst, KeepsRules, AreSpans, HasRowids, IsSpanRow, first_meta_rows, first_held_rows, executed_rows, follow_rows, held_rows, span_rows, bag_of, count, id_in as id_at, name_in, span, span_in, stored_span, shown_span, shown_spans, touches, blob_in, number_in}
 use Rattle.store.specs.Entering.{IsStored, IsOf, IsDamaged, no_meta, no_layout, lacks_first, lacks_second, breaks_first, breaks_second, IsOther, IsKnown, blank, first, second, tables_of, has_any, has_first, has_second}
-use Rattle.store.proofs.Wholes.{meta_place, laid_meta_first, first_meta_first}
+use Rattle.store.proofs.Wholes.{first_has_meta}
+use Rattle.store.proofs.AnyWhole.{has_index}
 use Rattle.store.proofs.Known.{meta_there, none_meta, none_any, known_first, known_second}
 use Rattle.store.proofs.Readings.{row_lengths}
 use Rattle.store.proofs.SpanRows
@@ -49,7 +49,7 @@ two_layouts rows p q =
     absurd (omega (arith, n))
 
 pub says_second : (db : Database) (names : Names) (content : Content) → StandsFor db names content → SaysLayout (pos 2) (first_meta_rows db)
-says_second db names content h = subst (λ t. SaysLayout (pos 2) (db.trees t)) (meta_place db.schema h.laid_out) h.says
+says_second db names content h = h.says
 
 -- ---- One set of the rows of spans.
 
@@ -83,19 +83,14 @@ one_stored db n m a b (inr p) (inr q) = (p.0 ∙ sym q.0, same_content a b (p.1.
 -- ---- Which tables are there.
 
 pub stored_meta : (db : Database) (n : Names) (a : Content) → IsStored n db a → (tables_of db.schema).meta ≡ true
-stored_meta db n a (inl p) = meta_there db.schema (laid_meta_first db.schema p.laid_out)
-stored_meta db n a (inr p) = meta_there db.schema (first_meta_first db.schema p.1.laid_out)
+stored_meta db n a (inl p) = meta_there db.schema (p.laid_out.meta)
+stored_meta db n a (inr p) = meta_there db.schema (first_has_meta db.schema p.1.laid_out)
 
-pub blank_meta : (schema : Schema) → schema ≡ no_schema → (tables_of schema).meta ≡ true → ⊥
-blank_meta schema is there = false≢true (sym none_meta ∙ ap (λ s. (tables_of s).meta) (sym is) ∙ there)
+pub blank_meta : (schema : Schema) → IsVacant schema → (tables_of schema).meta ≡ true → ⊥
+blank_meta schema vacant there = false≢true (sym (none_meta schema vacant) ∙ there)
 
 laid_second : (schema : Schema) → IsLaidOut schema → has_second (tables_of schema) ≡ true
-unfolding same_name
-laid_second schema l = ap (λ s. has_second (tables_of s)) l.is ∙ go l.origin
-  where
-    go : (o : Origin) → has_second (tables_of (layout o l.others l.indexes l.views)) ≡ true
-    go made = refl
-    go migrated = refl
+laid_second schema l = rw (l.held.found.by_name, l.spans.found.by_name, l.follow.found.by_name) refl
 
 first_first : has_first (tables_of first_layout) ≡ true
 unfolding same_name
@@ -152,9 +147,7 @@ pub rules_kept : (db : Database) (n : Names) (a : Content) → IsDatabase db →
 rules_kept db n a sound rowids h =
     let l = h.laid_out in
     let e = h.executed in
-    let place : span_rows db ≡ db.trees (spans_tree l.origin) = ap (λ s. db.trees (tree_at s 2)) l.is in
-    let long : AllByRecursion (λ r. length r ≡ 4) (span_rows db) = subst (AllByRecursion (λ (r : Row). length r ≡ 4)) (sym place)
-    (row_lengths (layout l.origin l.others l.indexes l.views) db.trees (spans_at l.origin) (inr (inr (inl refl))) refl refl (subst (λ s. IsSound s db.trees) l.is sound)) in
+    let long : AllByRecursion (λ r. length r ≡ 4) (span_rows db) = row_lengths db.schema db.trees (spans_at db.schema) (has_index db.schema.tables l.spans.at (spans_at db.schema) l.spans.found.by_index) refl refl sound in
     let shown : AllByRecursion IsShown (shown_spans (span_rows db)) = all-permutation IsShown (map stored_span e.spans) (shown_spans (span_rows db)) e.rows_are
     (lawful_shown e.spans (λ q there. e.lawful q (e.least.covers q ∙ there)) (all_some e.spans e.least.least)) in
     record {
@@ -170,7 +163,7 @@ rules_kept db n a sound rowids h =
 -- ---- It is not damaged, and of no other layout.
 
 pub not_damaged : (only : Names) (db : Database) (n : Names) (a : Content) → IsDatabase db → (IsLaidOut db.schema → HasRowids (span_rows db)) → IsOf only n db a → IsDamaged db → ⊥
-not_damaged only db n a sound rowids (inl p) (no_meta none any) = false≢true (sym none_any ∙ ap (λ s. has_any (tables_of s)) (sym p.0.0) ∙ any)
+not_damaged only db n a sound rowids (inl p) (no_meta none any) = false≢true (sym (none_any db.schema p.0.0) ∙ any)
 not_damaged only db n a sound rowids (inl p) (no_layout there off) = blank_meta db.schema p.0.0 there
 not_damaged only db n a sound rowids (inl p) (lacks_first there says lacks) = blank_meta db.schema p.0.0 there
 not_damaged only db n a sound rowids (inl p) (lacks_second there says lacks) = blank_meta db.schema p.0.0 there
@@ -274,7 +267,7 @@ some_state db known any none sound alike = elim (cases_Bool (tables_of db.schema
           let ids = set.from_list {R = id_cmp} (runs (map span_in (span_rows db))) in
           none (set.from_list (map name_in (follow_rows db))) (record { executed = ids; rows = bag_of (count (held_rows db)) }) (inl (record {
             laid_out = laid;
-            says = subst (λ t. SaysLayout (pos 2) (db.trees t)) (sym (meta_place db.schema laid)) says;
+            says = says;
             meta = rules.meta;
             follow = record { lawful = rules.follow; names_are = refl };
             held = rules.held;

@@ -1,5 +1,5 @@
 -- The rows of held in the order of a query.
-use Rattle.std.proofs.Common.{◌≡◌, inl, inr, ℕ, ℤ, pos, List, [], ◌∷◌, Bool, true, false, not, ◌&&◌, ◌||◌, bytes_eq, None, Some, Ok, Err, Result, IfOk, refl, sym, ap, ap₂, subst, subst₂, ◌∙◌}
+use Rattle.std.proofs.Common.{◌≡◌, inl, inr, ℕ, ℤ, pos, List, [], ◌∷◌, Bool, true, false, not, ◌&&◌, ◌||◌, bytes_eq, None, Some, Ok, Err, Result, IfOk, refl, sym, ap, ap₂, subst₂, ◌∙◌}
 use Rattle.std.specs.List.{AllByRecursion, IsDistinct, list_any}
 use Rattle.std.specs.List.Sorted.{IsPermutation}
 use Rattle.std.specs.Ordering.{nat_cmp, is_eq, is_ne, is_lt, ordering_then, ordering_reverse}
@@ -22,13 +22,13 @@ use Rattle.sqlite_trees.specs.Tree.{rowid}
 use Rattle.sqlite_trees.proofs.ListLemmas.{all-permutation}
 use Rattle.sqlite_schema.specs.Rules.{agree, differ, clashes}
 use Rattle.sqlite_rules.specs.Lists.{Has}
-use Rattle.sqlite_catalog.specs.Listing.{IsSound}
 use Rattle.sqlite_catalog.proofs.AlterLemmas.{keys_are_unique}
 use Rattle.sqlite.specs.Effect.{Database, IsDatabase}
-use Rattle.store.specs.Layout.{IsLaidOut, layout, held_at, held_tree, tree_at}
+use Rattle.store.specs.Layout.{IsLaidOut, held_at}
 use Rattle.store.specs.Rows.{Key, key_of, same_key, alike, blob_in, HasRowids, IsHeldRow, held_rows}
 use Rattle.store.specs.Listing.{key_cmp, HasKey, KeysRise}
 use Rattle.store.specs.Load.{Ascends, by_order}
+use Rattle.store.proofs.AnyWhole.{has_index}
 use Rattle.store.proofs.Keyed.{key_total}
 use Rattle.store.proofs.Selects.{shown_bool, and_true, equals_blob}
 use Rattle.store.proofs.SpanRows.{bytes_flip}
@@ -165,13 +165,8 @@ all_by_has P [] h = tt
 all_by_has P (r ∷ rows) h = (h r (inl refl), all_by_has P rows (λ x there. h x (inr there)))
 
 pub unique_keys : (db : Database) → IsLaidOut db.schema → IsDatabase db → AllByRecursion (λ b. clashes plain places (held_rows db) b ≡ false) (held_rows db)
-unique_keys db l sound =
-    let o = l.origin in
-    let place : held_rows db ≡ db.trees (held_tree o) = ap (λ s. db.trees (tree_at s 1)) l.is in
-    let under : IsSound (layout o l.others l.indexes l.views) db.trees = subst (λ s. IsSound s db.trees) l.is sound in
-    subst (λ rows. AllByRecursion (λ b. clashes plain places rows b ≡ false) rows) (sym place)
-    (all_by_has (λ b. clashes plain places (db.trees (held_tree o)) b ≡ false) (db.trees (held_tree o))
-    (λ r there. keys_are_unique (layout o l.others l.indexes l.views) db.trees (held_at o) 0 places r under (inr (inl refl)) refl there))
+unique_keys db l sound = all_by_has (λ b. clashes plain places (held_rows db) b ≡ false) (held_rows db)
+    (λ r there. keys_are_unique db.schema db.trees (held_at db.schema) 0 places r sound (has_index db.schema.tables l.held.at (held_at db.schema) l.held.found.by_index) refl there)
 
 pub listed_rise : {X E : Type 0} (items : X → List Row) (r : Result X E) (db : Database) → IsLaidOut db.schema → AllByRecursion IsHeldRow (held_rows db) → HasRowids (held_rows db) → IsDatabase db
     → IfOk r (λ x. IsPermutation (held_rows db) (items x)) → IfOk r (λ x. Ascends (by_order key_order) (items x)) → IfOk r (λ x. KeysRise None (items x))

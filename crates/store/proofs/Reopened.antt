@@ -2,7 +2,9 @@
 use Rattle.std.proofs.Common.{◌≡◌, inl, inr, ℕ, pos, IsTrue, Bool, refl, sym, ap, subst, subst₂, ◌∙◌}
 use Rattle.std.specs.List.{AllByRecursion}
 use Rattle.std.specs.Option.{option_map}
-use Rattle.std.specs.Prelude.{slice_get, unwrap_or, IfSome, ◌≢◌}
+use Rattle.std.specs.Prelude.{slice_get, find, ◌==◌, codes, List, unwrap_or, option_and_then, IfSome, ◌≢◌}
+use Rattle.std.specs.List.{position_from}
+use Rattle.sqlite_schema.specs.Names.{same_name}
 use Rattle.sqlite_trees.specs.Tree.{Trees}
 use Rattle.sqlite_schema.specs.declared.schema.Schema.{Schema}
 use Rattle.sqlite_schema.specs.declared.schema.Table.{Table}
@@ -14,56 +16,84 @@ use Rattle.binlog.specs.Filter.{Names}
 use Rattle.store.specs.declared.fault.StoreFault.{StoreFault}
 use Rattle.store.specs.declared.fault.StoreFault.TheVariants.{NoSuchRow, CountFull, Database, Memory, Damaged, Layout, Broken, Follows}
 use Rattle.store.specs.State.{Content}
-use Rattle.store.specs.Layout.{IsLaidOut, layout, held_tree, spans_tree, tree_at}
+use Rattle.store.specs.Layout.{IsLaidOut, IsFound, HasTable, IsApart, tree_named, meta, held, spans, follow, meta_tree, held_tree, spans_tree, follow_tree}
 use Rattle.store.specs.Rows.{StandsFor, SaysLayout, HasRowids, IsMetaRow, IsHeldRow, AreNames, AreSpans, span_rows, bag_of, count}
 use Rattle.store.specs.Apply.{AreOf, IsAtRest}
 use Rattle.store.specs.Entering.{IsOf, IsReady, IsWanted, IsTurned, IsLeft, MayEnter}
 use Rattle.store.specs.Faults.{IsFailure}
-use Rattle.store.proofs.SameSchema.{same_schema, tables_again, none_again, first_again}
+use Rattle.store.proofs.SameSchema.{tables_again, vacant_again, first_again}
 use Rattle.store.proofs.OneState.{one_of, known_of, not_damaged, not_other}
 use Rattle.store.proofs.Entered.{weaken}
 
 -- ---- The same trees under another schema that they list.
 
-laid_again : (s u : Schema) → s.tables ≡ u.tables → IsLaidOut s → IsLaidOut u
-laid_again s u same l = record {
-  origin = l.origin;
-  others = l.others;
-  indexes = u.indexes;
-  views = u.views;
-  is = same_schema u (layout l.origin l.others u.indexes u.views) (sym same ∙ ap (λ (x : Schema). x.tables) l.is) refl refl;
-  held_free = subst (λ ts. AllByRecursion (λ t. AllByRecursion (λ ref. IfSome (parent_key ts ref) (λ key. key.0 ≢ held_tree l.origin)) t.references) l.others) same l.held_free;
-  spans_free = subst (λ ts. AllByRecursion (λ t. AllByRecursion (λ ref. IfSome (parent_key ts ref) (λ key. key.0 ≢ spans_tree l.origin)) t.references) l.others) same l.spans_free;
-}
+module _ (s u : Schema) (same : s.tables ≡ u.tables) where
+  tree_again : (name : List ℕ) → tree_named s name ≡ tree_named u name
+  unfolding tree_named
+  tree_again name = ap (λ ts. unwrap_or (option_map (λ (t : Table). t.tree) (option_and_then (slice_get ts) (position_from (λ t. same_name t.name name) 0 ts))) 0) same
+
+  found_again : (at : ℕ) (table : Table) → IsFound s at table → IsFound u at table
+  found_again at table f = record {
+    by_name = ap (λ ts. position_from (λ (t : Table). same_name t.name table.name) 0 ts) (sym same) ∙ f.by_name;
+    by_index = ap (λ (ts : List Table). slice_get ts at) (sym same) ∙ f.by_index;
+    by_tree = ap (λ (ts : List Table). find (λ t. t.tree == table.tree) ts) (sym same) ∙ f.by_tree;
+    stored = f.stored;
+  }
+
+  has_again : (table : Table) → HasTable s table → HasTable u table
+  has_again table h = record { at = h.at; found = subst (λ n. IsFound u h.at (record table { tree = n })) (tree_again table.name) (found_again h.at (record table { tree = tree_named s table.name }) h.found) }
+
+  free_again : (name : List ℕ) → AllByRecursion (IsApart s (tree_named s name)) s.tables → AllByRecursion (IsApart u (tree_named u name)) u.tables
+  free_again name all = subst (λ n. AllByRecursion (IsApart u n) u.tables) (tree_again name)
+      (subst (λ ts. AllByRecursion (λ (t : Table). AllByRecursion (λ ref. IfSome (parent_key ts ref) (λ key. key.0 ≢ tree_named s name)) t.references) ts) same all)
+
+  laid_again : IsLaidOut s → IsLaidOut u
+  laid_again l = record {
+    meta = has_again meta l.meta;
+    held = has_again held l.held;
+    spans = has_again spans l.spans;
+    follow = has_again follow l.follow;
+    held_free = free_again (codes "held") l.held_free;
+    spans_free = free_again (codes "spans") l.spans_free;
+  }
 
 module _ (s u : Schema) (trees : Trees) (same : s.tables ≡ u.tables) where
-  at_same : (at : ℕ) → tree_at s at ≡ tree_at u at
-  at_same at = ap (λ ts. unwrap_or (option_map (λ (t : Table). t.tree) (slice_get ts at)) 0) same
+  meta_same : meta_tree s ≡ meta_tree u
+  meta_same = tree_again s u same (codes "meta")
+
+  held_same : held_tree s ≡ held_tree u
+  held_same = tree_again s u same (codes "held")
+
+  spans_same : spans_tree s ≡ spans_tree u
+  spans_same = tree_again s u same (codes "spans")
+
+  follow_same : follow_tree s ≡ follow_tree u
+  follow_same = tree_again s u same (codes "follow")
 
   stands_again : (names : Names) (content : Content) → StandsFor (record { schema = s; trees = trees }) names content → StandsFor (record { schema = u; trees = trees }) names content
   stands_again names content h = record {
     laid_out = laid_again s u same h.laid_out;
-    says = subst (λ at. SaysLayout (pos 2) (trees at)) (at_same 0) h.says;
-    meta = subst (λ at. AllByRecursion IsMetaRow (trees at)) (at_same 0) h.meta;
-    follow = subst (λ at. AreNames (trees at) names) (at_same 3) h.follow;
-    held = subst (λ at. AllByRecursion IsHeldRow (trees at)) (at_same 1) h.held;
-    executed = subst (λ at. AreSpans (trees at) content.executed) (at_same 2) h.executed;
-    rows = h.rows ∙ ap (λ at. bag_of (count (trees at))) (at_same 1);
+    says = subst (λ at. SaysLayout (pos 2) (trees at)) meta_same h.says;
+    meta = subst (λ at. AllByRecursion IsMetaRow (trees at)) meta_same h.meta;
+    follow = subst (λ at. AreNames (trees at) names) follow_same h.follow;
+    held = subst (λ at. AllByRecursion IsHeldRow (trees at)) held_same h.held;
+    executed = subst (λ at. AreSpans (trees at) content.executed) spans_same h.executed;
+    rows = h.rows ∙ ap (λ at. bag_of (count (trees at))) held_same;
   }
 
   rowids_again : (IsLaidOut s → HasRowids (span_rows (record { schema = s; trees = trees }))) → IsLaidOut u → HasRowids (span_rows (record { schema = u; trees = trees }))
-  rowids_again h laid = subst (λ at. HasRowids (trees at)) (at_same 2) (h (laid_again u s (sym same) laid))
+  rowids_again h laid = subst (λ at. HasRowids (trees at)) spans_same (h (laid_again u s (sym same) laid))
 
 module _ (only names : Names) (content : Content) (trees : Trees) (s u : Schema) (p : IsSound s trees) (q : IsSound u trees) where
   of_again : IsOf only names (record { schema = s; trees = trees }) content → IsOf only names (record { schema = u; trees = trees }) content
-  of_again (inl h) = inl ((none_again trees s u p q h.0.0, h.0.1), h.1)
+  of_again (inl h) = inl ((vacant_again trees s u p q h.0.0, h.0.1), h.1)
   of_again (inr (inl h)) = inr (inl (stands_again s u trees (tables_again trees s u p q) names content h))
   of_again (inr (inr h)) = inr (inr (
     h.0,
     record {
       laid_out = first_again trees s u p q h.1.laid_out;
-      says = h.1.says;
-      rules = record { meta = h.1.rules.meta; executed = h.1.rules.executed; held = h.1.rules.held };
+      says = subst (λ at. SaysLayout (pos 1) (trees at)) (meta_same s u trees (tables_again trees s u p q)) h.1.says;
+      rules = record { meta = subst (λ at. AllByRecursion IsMetaRow (trees at)) (meta_same s u trees (tables_again trees s u p q)) h.1.rules.meta; executed = h.1.rules.executed; held = h.1.rules.held };
       executed = h.1.executed;
       rows = h.1.rows;
     },

@@ -1,8 +1,9 @@
 -- What a query by key shows.
-use Rattle.std.proofs.Common.{◌≡◌, ℕ, List, [], ◌∷◌, ◌++◌, map, filter, Bool, true, false, cond, ◌&&◌, Some, refl, sym, ap, subst, ◌∙◌, flat_map, ℤ}
+use Rattle.std.proofs.Common.{◌≡◌, ◌<◌, ◌^◌, ℕ, List, [], ◌∷◌, ◌++◌, map, filter, Bool, true, false, cond, ◌&&◌, Some, refl, sym, ap, subst, ◌∙◌, flat_map, ℤ}
 use Rattle.std.specs.List.Sorted.{IsPermutation}
 use Rattle.std.specs.List.{list_all}
 use Rattle.std.proofs.lemmas.List.Sorted.{IsPermutation-map}
+use Rattle.std.proofs.lemmas.Bool.{lt-leb}
 use Rattle.std.proofs.lemmas.Map.Text.{is_eq-slice_cmp}
 use Rattle.std.specs.Ordering.{is_eq}
 use Rattle.sqlite_value.specs.declared.value.Value.{Value}
@@ -17,7 +18,7 @@ use Rattle.sqlite_sql.specs.Term.{Term, eval_all, holds}
 use Rattle.sqlite_sql.specs.Query.{IsAnswerAs, output, Output}
 use Rattle.sqlite_trees.specs.Tree.{Trees}
 use Rattle.sqlite_sql.specs.Program.{overlay}
-use Rattle.store.specs.Layout.{Origin, made, migrated, held_tree, spans_tree, among, has_key, has_start}
+use Rattle.store.specs.Layout.{among, has_key, has_start}
 use Rattle.sqlite_sql.specs.declared.ops.UnaryOp.TheVariants.{ToNumeric}
 use Rattle.store.specs.Rows.{Key, is_blob, is_at, begins_at, shown_span}
 
@@ -92,11 +93,6 @@ module _ (tests : List Term) (params : Row) (p : Row → Bool) (says : (row : Ro
       ap (map (λ (o : Output). o.1)) kept ∙ map_twice (output q) (λ (o : Output). o.1) _ ∙ map_twice _ _ found in
       subst (IsPermutation (map (λ r. eval_all shown (params ∷ r ∷ [])) found)) (sym a.shown) (subst (λ l. IsPermutation l (map (λ (o : Output). o.1) a.ordered)) first same)
 
--- The trees of the store are not those of lists that a query makes.
-pub held_read : (o : Origin) (db : Trees) → overlay db [] (held_tree o) ≡ db (held_tree o)
-held_read made db = refl
-held_read migrated db = refl
-
-pub spans_read : (o : Origin) (db : Trees) → overlay db [] (spans_tree o) ≡ db (spans_tree o)
-spans_read made db = refl
-spans_read migrated db = refl
+-- A tree of the file is not that of a list that a query makes.
+pub stored_read : (db : Trees) (tree : ℕ) → tree < 2 ^ 31 → overlay db [] tree ≡ db tree
+stored_read db tree stored = rw (lt-leb (2 ^ 31) tree stored) refl

@@ -1,5 +1,5 @@
 -- What each call on one row of spans does, where it succeeds.
-use Rattle.std.proofs.Common.{◌≡◌, inl, ℕ, ℤ, List, [], ◌∷◌, map, filter, not, Bool, true, false, cond, Ok, Err, Result, OnOk, refl, sym, ap, subst, ◌∙◌}
+use Rattle.std.proofs.Common.{◌≡◌, inl, ℕ, ℤ, List, [], ◌∷◌, map, filter, codes, not, Bool, true, false, cond, Ok, Err, Result, OnOk, refl, sym, ap, subst, ◌∙◌}
 use Rattle.std.specs.List.{AllByRecursion}
 use Rattle.std.specs.List.Sorted.{IsPermutation}
 use Rattle.std.proofs.lemmas.List.Sorted.{IsPermutation-map}
@@ -17,12 +17,12 @@ use Rattle.sqlite_schema.specs.declared.schema.Schema.{Schema}
 use Rattle.sqlite.specs.declared.error.Error.{Error}
 use Rattle.sqlite.specs.State.{State, ExecutesInside}
 use Rattle.sqlite.proofs.Callers.{one_permutation}
-use Rattle.store.specs.Layout.{Origin, IsLaidOut, IsApart, layout, spans_tree, spans_at, tree_at, add_span_text, drop_span_text}
+use Rattle.store.specs.Layout.{IsLaidOut, meta_at, held_at, spans_at, follow_at, spans_tree, add_span_text, drop_span_text}
 use Rattle.store.specs.Rows.{IsHeldRow, HasRowids, held_rows, span_rows, shown_span, shown_spans, begins_at}
 use Rattle.store.specs.Inside.{IsWorking, GoesOn, Moves, Begins}
 use Rattle.store.proofs.Statements.{Applied, cast_null, cast_int, adds_span, drops_span}
 use Rattle.store.proofs.RowLemmas.{rowids_put, rowids_without, left_is, put_among}
-use Rattle.store.proofs.Effects.{fresh_alone, keyed_row, own_id, same_rows, meta_spans, held_spans, follow_spans}
+use Rattle.store.proofs.Effects.{fresh_alone, keyed_row, own_id, same_rows, stays, meta_spans, held_spans, follow_spans}
 
 -- ---- what is stored of spans, and what passes a test
 
@@ -72,71 +72,63 @@ module _ (old new : State) (was : IsWorking old) where
   abbrev l : IsLaidOut old.now.schema
   l = was.laid_out
 
-  abbrev o : Origin
-  o = was.laid_out.origin
-
   abbrev schema : Schema
-  schema = layout was.laid_out.origin was.laid_out.others was.laid_out.indexes was.laid_out.views
+  schema = old.now.schema
 
   abbrev rows : List Row
-  rows = old.now.trees (spans_tree was.laid_out.origin)
-
-  rows_old : span_rows old.now ≡ rows
-  rows_old = ap (λ s. old.now.trees (tree_at s 2)) was.laid_out.is
+  rows = span_rows old.now
 
   shaped_old : HasRowids rows
-  shaped_old = subst HasRowids rows_old was.spans_apart
+  shaped_old = was.spans_apart
 
-  rows_new : (edit : Edit) → Applied schema old new edit → span_rows new.now ≡ new.now.trees (spans_tree o)
-  rows_new edit h = ap (λ s. new.now.trees (tree_at s 2)) h.schema_is
+  rows_new : (edit : Edit) → Applied schema old new edit → span_rows new.now ≡ new.now.trees (spans_tree schema)
+  rows_new edit h = ap (λ s. new.now.trees (spans_tree s)) h.schema_is
 
-  held_stays : (edit : Edit) → Applied schema old new edit → edit.table ≡ spans_at o → held_rows new.now ≡ held_rows old.now
-  held_stays edit h at = same_rows old new schema 1 was.laid_out.is h.schema_is (h.step.tables.1.0 (rw at (held_spans o)))
+  held_stays : (edit : Edit) → Applied schema old new edit → edit.table ≡ spans_at schema → held_rows new.now ≡ held_rows old.now
+  held_stays edit h at = same_rows old new (codes "held") h.schema_is (stays schema l.held.at (held_at schema) old.now.trees new.now.trees edit l.held.found h.step (rw at (held_spans schema l)))
 
-  goes_on : (edit : Edit) → Applied schema old new edit → edit.table ≡ spans_at o → HasRowids (new.now.trees (spans_tree o)) → GoesOn old new
+  goes_on : (edit : Edit) → Applied schema old new edit → edit.table ≡ spans_at schema → HasRowids (new.now.trees (spans_tree schema)) → GoesOn old new
   goes_on edit h at shaped = record {
     working = record {
       is_open = h.shown.is_open;
       inside = h.shown.mode ∙ was.inside;
-      laid_out = subst IsLaidOut (was.laid_out.is ∙ sym h.schema_is) was.laid_out;
+      laid_out = subst IsLaidOut (sym h.schema_is) was.laid_out;
       held_apart = subst HasRowids (sym (held_stays edit h at)) was.held_apart;
       spans_apart = subst HasRowids (sym (rows_new edit h)) shaped;
       lawful = subst (AllByRecursion IsHeldRow) (sym (held_stays edit h at)) was.lawful;
       sound = h.sound;
     };
-    schema = h.schema_is ∙ sym was.laid_out.is;
+    schema = h.schema_is;
     committed = h.shown.committed_is ∙ ap (λ b. cond b old.committed new.now) was.inside;
-    meta = same_rows old new schema 0 was.laid_out.is h.schema_is (h.step.tables.0 (rw at (meta_spans o)));
-    follow = same_rows old new schema 3 was.laid_out.is h.schema_is (h.step.tables.1.1.1.0 (rw at (follow_spans o)));
+    meta = same_rows old new (codes "meta") h.schema_is (stays schema l.meta.at (meta_at schema) old.now.trees new.now.trees edit l.meta.found h.step (rw at (meta_spans schema l)));
+    follow = same_rows old new (codes "follow") h.schema_is (stays schema l.follow.at (follow_at schema) old.now.trees new.now.trees edit l.follow.found h.step (rw at (follow_spans schema l)));
   }
 
   abbrev new_span : List ℕ → ℤ → ℤ → Row
   new_span source lo hi = Int (next_rowid rows) ∷ Blob source ∷ Int lo ∷ Int hi ∷ []
 
-  news_added : (source : List ℕ) (lo hi : ℤ) → (edit_of old.now.trees (spans_at o) [] Chosen 0 ((Null ∷ Blob source ∷ Int lo ∷ Int hi ∷ []) ∷ [])).news ≡ new_span source lo hi ∷ []
+  news_added : (source : List ℕ) (lo hi : ℤ) → (edit_of old.now.trees (spans_at schema) [] Chosen 0 ((Null ∷ Blob source ∷ Int lo ∷ Int hi ∷ []) ∷ [])).news ≡ new_span source lo hi ∷ []
   news_added source lo hi = rw (cast_null, cast_int lo, cast_int hi) refl
 
-  moves_added : (source : List ℕ) (lo hi : ℤ) → Applied schema old new (edit_of old.now.trees (spans_at o) [] Chosen 0 ((Null ∷ Blob source ∷ Int lo ∷ Int hi ∷ []) ∷ []))
+  moves_added : (source : List ℕ) (lo hi : ℤ) → Applied schema old new (edit_of old.now.trees (spans_at schema) [] Chosen 0 ((Null ∷ Blob source ∷ Int lo ∷ Int hi ∷ []) ∷ []))
       → Moves old new ((Blob source ∷ Int lo ∷ Int hi ∷ []) ∷ shown_spans (span_rows old.now))
   moves_added source lo hi h =
       let row = new_span source lo hi in
       let news = news_added source lo hi in
-      let is : new.now.trees (spans_tree o) ≡ put_row row rows = h.step.rows ∙ ap (put_all rows) news in
+      let is : new.now.trees (spans_tree schema) ≡ put_row row rows = h.step.rows ∙ ap (put_all rows) news in
       let free : is_taken rows row ≡ false = fresh_alone rows row (ap (are_fresh rows) (sym news) ∙ h.step.fresh) in
       let among : IsPermutation (shown_spans (row ∷ rows)) (shown_spans (put_row row rows)) = IsPermutation-map shown_span (row ∷ rows) (put_row row rows) (put_among row rows free) in
       record {
         on = goes_on _ h refl (rw is (rowids_put row rows refl free shaped_old));
         held = held_stays _ h refl;
-        stored = subst (λ l. IsPermutation ((Blob source ∷ Int lo ∷ Int hi ∷ []) ∷ shown_spans l) (shown_spans (span_rows new.now))) (sym rows_old)
-            (subst (λ l. IsPermutation ((Blob source ∷ Int lo ∷ Int hi ∷ []) ∷ shown_spans rows) (shown_spans l)) (sym (rows_new _ h ∙ is)) among);
+        stored = subst (λ l. IsPermutation ((Blob source ∷ Int lo ∷ Int hi ∷ []) ∷ shown_spans rows) (shown_spans l)) (sym (rows_new _ h ∙ is)) among;
       }
 
   moves_dropped : (source : List ℕ) (lo : ℤ) (span : Row) (others answer : List Row) → Begins source lo (shown_spans (span_rows old.now)) span others
       → IsPermutation (map (λ r. column r 0 ∷ []) (filter (λ r. begins_at source lo (shown_span r)) rows)) answer
-      → Applied schema old new (edit_of old.now.trees (spans_at o) (ids_of answer) Given 0 []) → Moves old new others
+      → Applied schema old new (edit_of old.now.trees (spans_at schema) (ids_of answer) Given 0 []) → Moves old new others
   moves_dropped source lo span others answer begins same h =
-      let begun : Begins source lo (shown_spans rows) span others = subst (λ l. Begins source lo (shown_spans l) span others) rows_old begins in
-      let one = one_begins source lo rows span others begun in
+      let one = one_begins source lo rows span others begins in
       let p : Row → Bool = λ r. begins_at source lo (shown_span r) in
       let r = one.0 in
       let id = id_in (rowid r) in
@@ -144,32 +136,29 @@ module _ (old new : State) (was : IsWorking old) where
       let keyed = keyed_row rows r shaped_old has in
       let at_id : has_rowid id r ≡ true = ap (λ v. is_eq (value_cmp v (Int id))) keyed ∙ own_id id in
       let one_row : answer ≡ (column r 0 ∷ []) ∷ [] = one_permutation _ answer (subst (λ l. IsPermutation (map (λ r. column r 0 ∷ []) l) answer) one.1 same) in
-      let is : new.now.trees (spans_tree o) ≡ without_rowid id rows = h.step.rows ∙ ap (λ l. without_all rows (ids_of l)) one_row in
-      let left : new.now.trees (spans_tree o) ≡ filter (λ r. not (begins_at source lo (shown_span r))) rows = is ∙ left_is p id r rows shaped_old.apart one.1 at_id in
+      let is : new.now.trees (spans_tree schema) ≡ without_rowid id rows = h.step.rows ∙ ap (λ l. without_all rows (ids_of l)) one_row in
+      let left : new.now.trees (spans_tree schema) ≡ filter (λ r. not (begins_at source lo (shown_span r))) rows = is ∙ left_is p id r rows shaped_old.apart one.1 at_id in
       record {
         on = goes_on _ h refl (rw is (rowids_without id rows shaped_old));
         held = held_stays _ h refl;
-        stored = subst (λ l. IsPermutation others (shown_spans l)) (sym (rows_new _ h ∙ left)) (others_left source lo rows span others begun);
+        stored = subst (λ l. IsPermutation others (shown_spans l)) (sym (rows_new _ h ∙ left)) (others_left source lo rows span others begins);
       }
 
   pub done_add : (source : List ℕ) (lo hi : ℤ) (r : Result ℕ Error) → ExecutesInside 0 add_span_text (Blob source ∷ Int lo ∷ Int hi ∷ []) old new r
       → OnOk r (Moves old new ((Blob source ∷ Int lo ∷ Int hi ∷ []) ∷ shown_spans (span_rows old.now)))
-  done_add source lo hi (Ok n) h = moves_added source lo hi (adds_span l.origin l.others l.indexes l.views old new l.is source lo hi n h.0)
+  done_add source lo hi (Ok n) h = moves_added source lo hi (adds_span schema l old new refl source lo hi n h.0)
   done_add source lo hi (Err e) h = tt
-
-  free : AllByRecursion (IsApart (layout l.origin l.others l.indexes l.views) (spans_tree l.origin)) l.others
-  free = subst (λ s. AllByRecursion (IsApart s (spans_tree l.origin)) l.others) l.is l.spans_free
 
   pub done_drop : (source : List ℕ) (lo : ℤ) (span : Row) (others : List Row) (r : Result ℕ Error) → Begins source lo (shown_spans (span_rows old.now)) span others
       → ExecutesInside 0 drop_span_text (Blob source ∷ Int lo ∷ []) old new r → OnOk r (Moves old new others)
   done_drop source lo span others (Ok n) begins h =
-      let it = drops_span l.origin l.others l.indexes l.views old new l.is free source lo n h.0 in
+      let it = drops_span schema l old new refl l.spans_free source lo n h.0 in
       moves_dropped source lo span others it.0 begins it.1 it.2
   done_drop source lo span others (Err e) begins h = tt
 
   -- whichever rows there were
   pub drop_goes : (source : List ℕ) (lo : ℤ) (r : Result ℕ Error) → ExecutesInside 0 drop_span_text (Blob source ∷ Int lo ∷ []) old new r → OnOk r (GoesOn old new)
   drop_goes source lo (Ok n) h =
-      let it = drops_span l.origin l.others l.indexes l.views old new l.is free source lo n h.0 in
+      let it = drops_span schema l old new refl l.spans_free source lo n h.0 in
       goes_on _ it.2 refl (rw it.2.step.rows (rowids_without_all (ids_of it.0) rows shaped_old))
   drop_goes source lo (Err e) h = tt

@@ -4,15 +4,13 @@ use Rattle.std.proofs.lemmas.Bool.{ne_eqb}
 use Rattle.std.specs.List.{AllByRecursion, filter_map, flat_map}
 use Rattle.sqlite_value.specs.Order.{Row}
 use Rattle.sqlite_schema.specs.declared.schema.Table.{Table}
-use Rattle.sqlite_schema.specs.declared.schema.Index.{Index}
-use Rattle.sqlite_schema.specs.declared.schema.View.{View}
 use Rattle.sqlite_schema.specs.declared.schema.Schema.{Schema}
 use Rattle.sqlite_schema.specs.declared.schema.Reference.{Reference}
 use Rattle.sqlite_schema.specs.declared.schema.Keys.TheVariants.{Enforced}
 use Rattle.sqlite_schema.specs.Rules.{ParentKey, parent_key}
 use Rattle.sqlite_rules.specs.declared.action.Deed.{Deed}
 use Rattle.sqlite_rules.specs.Action.{Work, works, work_for, work_by, deed_for, pairs}
-use Rattle.store.specs.Layout.{Origin, layout, IsApart}
+use Rattle.store.specs.Layout.{IsApart}
 
 apart_by : (tree : ℕ) (moves : List (Row × Row)) (child : Table) (ref : Reference) (deed : Option Deed) (key : Option ParentKey) → IfSome key (λ k. k.0 ≢ tree) → work_by 0 tree moves child ref deed key ≡ None
 apart_by tree moves child ref None key apart = refl
@@ -46,7 +44,6 @@ module _ (schema : Schema) (tree : ℕ) (olds news : List Row) where
   of_tables (t ∷ tables) (inl none) = rw (of_refs t t.references (inl none)) (of_tables tables (inl none))
   of_tables (t ∷ tables) (inr all) = rw (of_refs t t.references (inr all.0)) (of_tables tables (inr all.1))
 
--- nothing is taken out, or no other table refers to the one that is written
-pub no_works : (o : Origin) (others : List Table) (indexes : List Index) (views : List View) (tree : ℕ) (olds news : List Row)
-    → (olds ≡ []) ⊎ AllByRecursion (IsApart (layout o others indexes views) tree) others → works (layout o others indexes views) Enforced 0 tree olds news ≡ []
-no_works o others indexes views tree olds news h = of_tables (layout o others indexes views) tree olds news others h
+-- nothing is taken out, or no table refers to the one that is written
+pub no_works : (schema : Schema) (tree : ℕ) (olds news : List Row) → (olds ≡ []) ⊎ AllByRecursion (IsApart schema tree) schema.tables → works schema Enforced 0 tree olds news ≡ []
+no_works schema tree olds news h = of_tables schema tree olds news schema.tables h

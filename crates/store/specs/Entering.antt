@@ -11,10 +11,9 @@ use Rattle.store.specs.declared.fault.StoreFault.{StoreFault}
 use Rattle.store.specs.declared.fault.StoreFault.TheVariants.{Database as Db, Memory, Damaged, Layout, Follows}
 use Rattle.store.specs.declared.tables.Tables.{Tables}
 use Rattle.store.specs.State.{Content}
-use Rattle.store.specs.Layout.{no_schema, first_layout, IsLaidOut}
+use Rattle.store.specs.Layout.{IsVacant, first_layout, HasMeta, IsLaidOut}
 use Rattle.store.specs.Rows.{StandsFor, StandsForFirst, SaysLayout, KeepsRules, KeepsFirstRules, HasRowids, first_meta_rows, span_rows}
 use Rattle.store.specs.Apply.{IsAtRest, Rests}
-use Rattle.store.specs.Load.{IsMetaFirst}
 use Rattle.store.specs.Open.{nothing, all, MayStandFor}
 
 -- ---- Which tables are there.
@@ -41,13 +40,13 @@ has_second t = t.held && (t.spans && t.follow)
 abbrev pub has_any : Tables → Bool
 has_any t = t.meta || (t.executed || (t.held || (t.spans || t.follow)))
 
--- The tables are those of a layout as they were made, or not all tables of the layout that `meta` names are there. A table
--- named `executed` may stand beside layout 2.
+-- There is none of the tables; or there are those of layout 1 as they were made, and no others; or those of layout 2 among any
+-- others; or not all tables of the layout that `meta` names are there. A table named `executed` may stand beside layout 2.
 pub data IsKnown (db : Database) : Type 0 where
-  blank : db.schema ≡ no_schema → IsKnown db
+  blank : IsVacant db.schema → IsKnown db
   first : db.schema ≡ first_layout → IsKnown db
   second : IsLaidOut db.schema → ((tables_of db.schema).executed ≡ true → ¬ SaysLayout (pos 1) (first_meta_rows db)) → IsKnown db
-  lacking : IsMetaFirst db.schema → (SaysLayout (pos 1) (first_meta_rows db) → has_first (tables_of db.schema) ≡ false) → (SaysLayout (pos 2) (first_meta_rows db) → has_second (tables_of db.schema) ≡ false) → IsKnown db
+  lacking : HasMeta db.schema → (SaysLayout (pos 1) (first_meta_rows db) → has_first (tables_of db.schema) ≡ false) → (SaysLayout (pos 2) (first_meta_rows db) → has_second (tables_of db.schema) ≡ false) → IsKnown db
 
 -- The connection is open and in no transaction that has changed anything, and its tables are known.
 pub record IsReady (s : State) : Type 0 where
@@ -62,7 +61,7 @@ IsStored names db content = StandsFor db names content ⊎ ((names ≡ all) × S
 
 -- A database without any of the tables stands for the empty content, and is made for these names.
 abbrev pub IsOf : Names → Names → Database → Content → Type 0
-IsOf only names db content = (((db.schema ≡ no_schema) × (content ≡ nothing)) × (names ≡ only)) ⊎ IsStored names db content
+IsOf only names db content = ((IsVacant db.schema × (content ≡ nothing)) × (names ≡ only)) ⊎ IsStored names db content
 
 -- ---- Why a database is refused.
 

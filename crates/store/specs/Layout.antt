@@ -1,5 +1,5 @@
 -- The tables of the store, and the statements on them.
-use Rattle.std.specs.Prelude.{◌≡◌, ◌≢◌, true, false, [], ◌∷◌, None, codes, List, ℕ, pos, negsuc, IfSome, slice_get, unwrap_or}
+use Rattle.std.specs.Prelude.{◌≡◌, ◌≢◌, ◌<◌, ◌≤◌, ◌+◌, ◌^◌, ◌==◌, true, false, [], ◌∷◌, None, Some, codes, List, ℕ, pos, negsuc, IfSome, find, slice_get, unwrap_or, option_and_then}
 use Rattle.std.specs.Option.{option_map}
 use Rattle.std.specs.List.{AllByRecursion}
 use Rattle.sqlite_value.specs.declared.value.Value.TheVariants.{Null, Int}
@@ -11,14 +11,14 @@ use Rattle.sqlite_sql.specs.declared.ops.UnaryOp.TheVariants.{ToNumeric}
 use Rattle.sqlite_sql.specs.Term.{Term, lit, col, op1, op2}
 use Rattle.sqlite_sql.specs.Query.{Query, inner, end}
 use Rattle.sqlite_schema.specs.declared.schema.Table.{Table}
-use Rattle.sqlite_schema.specs.declared.schema.Index.{Index}
-use Rattle.sqlite_schema.specs.declared.schema.View.{View}
 use Rattle.sqlite_schema.specs.declared.schema.Column.{Column}
 use Rattle.sqlite_schema.specs.declared.schema.Schema.{Schema}
 use Rattle.sqlite_schema.specs.declared.schema.Kind.{Kind}
 use Rattle.sqlite_schema.specs.declared.schema.Kind.TheVariants.{Integer, Text, Any}
+use Rattle.sqlite_schema.specs.Names.{same_name, table_named}
 use Rattle.sqlite_schema.specs.Rules.{parent_key}
-use Rattle.sqlite_catalog.specs.Change.{created}
+use Rattle.sqlite_catalog.specs.Change.{created, next_tree}
+use Rattle.sqlite.specs.Does.{lacks_sequence}
 
 -- ---- the texts that make the tables
 
@@ -77,62 +77,76 @@ follow = keyed (codes "follow") (required (codes "schema_name") Any ∷ required
 abbrev pub executed : Table
 executed = keyed (codes "executed") (required (codes "source") Any ∷ required (codes "number") Integer ∷ []) (1 ∷ 2 ∷ []) []
 
--- How the tables came about: they were made as layout 2, or migrated from layout 1 and then have other trees of the
--- file.
-pub data Origin : Type 0 where
-  made : Origin
-  migrated : Origin
+-- ---- where a schema has them
 
--- which tree each table has
-abbrev pub meta_tree : Origin → ℕ
-meta_tree made = 0
-meta_tree migrated = 0
+-- the tree of the table that the name finds
+unfoldable pub tree_named : Schema → List ℕ → ℕ
+tree_named schema name = unwrap_or (option_map (λ t. t.tree) (option_and_then (slice_get schema.tables) (table_named schema name))) 0
 
-abbrev pub held_tree : Origin → ℕ
-held_tree made = 2
-held_tree migrated = 4
+abbrev pub meta_tree : Schema → ℕ
+meta_tree schema = tree_named schema (codes "meta")
 
-abbrev pub spans_tree : Origin → ℕ
-spans_tree made = 4
-spans_tree migrated = 6
+abbrev pub held_tree : Schema → ℕ
+held_tree schema = tree_named schema (codes "held")
 
-abbrev pub follow_tree : Origin → ℕ
-follow_tree made = 6
-follow_tree migrated = 8
+abbrev pub spans_tree : Schema → ℕ
+spans_tree schema = tree_named schema (codes "spans")
 
-abbrev pub meta_at : Origin → Table
-meta_at o = record meta { tree = meta_tree o }
+abbrev pub follow_tree : Schema → ℕ
+follow_tree schema = tree_named schema (codes "follow")
 
-abbrev pub held_at : Origin → Table
-held_at o = record held { tree = held_tree o }
+abbrev pub meta_at : Schema → Table
+meta_at schema = record meta { tree = meta_tree schema }
 
-abbrev pub spans_at : Origin → Table
-spans_at o = record spans { tree = spans_tree o }
+abbrev pub held_at : Schema → Table
+held_at schema = record held { tree = held_tree schema }
 
-abbrev pub follow_at : Origin → Table
-follow_at o = record follow { tree = follow_tree o }
+abbrev pub spans_at : Schema → Table
+spans_at schema = record spans { tree = spans_tree schema }
 
--- the tables of the store, and others after them
-abbrev pub layout : Origin → List Table → List Index → List View → Schema
-layout o others indexes views = record {
-  tables = meta_at o ∷ held_at o ∷ spans_at o ∷ follow_at o ∷ others;
-  indexes = indexes;
-  views = views;
-}
+abbrev pub follow_at : Schema → Table
+follow_at schema = record follow { tree = follow_tree schema }
+
+-- The name of the table, its index in the list and its tree each find the table.
+pub record IsFound (schema : Schema) (at : ℕ) (table : Table) : Type 0 where
+  pub by_name : table_named schema table.name ≡ Some at
+  pub by_index : slice_get schema.tables at ≡ Some table
+  pub by_tree : find (λ t. t.tree == table.tree) schema.tables ≡ Some table
+  pub stored : table.tree < 2 ^ 31
+
+-- The schema has the table, as it is declared, anywhere in the list and on any tree.
+pub record HasTable (schema : Schema) (table : Table) : Type 0 where
+  pub at : ℕ
+  pub found : IsFound schema at (record table { tree = tree_named schema table.name })
+
+abbrev pub HasMeta : Schema → Type 0
+HasMeta schema = HasTable schema meta
 
 -- No reference of the table points to this tree.
 abbrev pub IsApart : Schema → ℕ → Table → Type 0
 IsApart schema tree table = AllByRecursion (λ ref. IfSome (parent_key schema.tables ref) (λ key. key.0 ≢ tree)) table.references
 
--- The schema has the tables of the store first, and no other table refers to them.
+-- The schema has the tables of the store among any others, and no table refers to held or spans.
 pub record IsLaidOut (schema : Schema) : Type 0 where
-  pub origin : Origin
-  pub others : List Table
-  pub indexes : List Index
-  pub views : List View
-  pub is : schema ≡ layout origin others indexes views
-  pub held_free : AllByRecursion (IsApart schema (held_tree origin)) others
-  pub spans_free : AllByRecursion (IsApart schema (spans_tree origin)) others
+  pub meta : HasMeta schema
+  pub held : HasTable schema held
+  pub spans : HasTable schema spans
+  pub follow : HasTable schema follow
+  pub held_free : AllByRecursion (IsApart schema (held_tree schema)) schema.tables
+  pub spans_free : AllByRecursion (IsApart schema (spans_tree schema)) schema.tables
+
+-- The schema has no table of either layout, and the tables of layout 2 can be made beside its own: no reference names held
+-- or spans, AUTOINCREMENT has its counters if a table has it, and there are trees for four tables and their indexes.
+pub record IsVacant (schema : Schema) : Type 0 where
+  pub no_meta : table_named schema (codes "meta") ≡ None
+  pub no_executed : table_named schema (codes "executed") ≡ None
+  pub no_held : table_named schema (codes "held") ≡ None
+  pub no_spans : table_named schema (codes "spans") ≡ None
+  pub no_follow : table_named schema (codes "follow") ≡ None
+  pub held_free : AllByRecursion (λ t. AllByRecursion (λ ref. same_name (codes "held") ref.parent ≡ false) t.references) schema.tables
+  pub spans_free : AllByRecursion (λ t. AllByRecursion (λ ref. same_name (codes "spans") ref.parent ≡ false) t.references) schema.tables
+  pub counted : lacks_sequence schema ≡ false
+  pub room : next_tree schema + 8 ≤ 2 ^ 31
 
 abbrev pub no_schema : Schema
 no_schema = record { tables = []; indexes = []; views = [] }
@@ -140,10 +154,6 @@ no_schema = record { tables = []; indexes = []; views = [] }
 -- the tables of layout 1, as they were made
 abbrev pub first_layout : Schema
 first_layout = created (created (created no_schema meta) executed) held
-
--- the tree of the table with this index in the list
-abbrev pub tree_at : Schema → ℕ → ℕ
-tree_at schema at = unwrap_or (option_map (λ t. t.tree) (slice_get schema.tables at)) 0
 
 -- ---- the statements on one row of held
 

@@ -9,8 +9,6 @@ use Rattle.std.specs.Ordering.{is_lt}
 use Rattle.std.specs.declared.cmp.Ordering.{Ordering}
 use Rattle.sqlite_schema.specs.declared.schema.Schema.{Schema}
 use Rattle.sqlite_schema.specs.declared.schema.Table.{Table}
-use Rattle.sqlite_schema.specs.declared.schema.Index.{Index}
-use Rattle.sqlite_schema.specs.declared.schema.View.{View}
 use Rattle.sqlite_schema.specs.declared.schema.Column.{Column}
 use Rattle.sqlite_schema.specs.declared.command.Command.TheVariants.{Select}
 use Rattle.sqlite_rules.specs.Lists.{Has}
@@ -29,7 +27,6 @@ use Rattle.store.specs.Judge.{HasVerdict}
 use Rattle.store.specs.State.{Content}
 use Rattle.store.specs.Rows.{SaysLayout, IsMetaRow, HasRowids}
 use Rattle.std.specs.List.{AllByRecursion}
-use Rattle.store.specs.Layout.{meta_at, made}
 use Rattle.store.specs.Apply.{IsAtRest, Rests}
 use Rattle.store.specs.Open.{IsFirstAtRest}
 
@@ -100,13 +97,6 @@ pub record AsksAll (schema : Schema) (text : List ℕ) (tree : ℕ) : Type 0 whe
   pub is : command_of (understood schema text) ≡ Select (record { lets = []; body = whole tree (suc (length table.columns)) order }) names
   pub plain : IsPlain (understood schema text)
   pub elsewhere : reads_listing schema text ≡ false
-
--- The table `meta` is first, whatever tables follow.
-pub record IsMetaFirst (schema : Schema) : Type 0 where
-  pub others : List Table
-  pub indexes : List Index
-  pub views : List View
-  pub is : schema ≡ record { tables = meta_at made ∷ others; indexes = indexes; views = views }
 
 -- The rows are lawful rows of meta, and state this layout.
 pub record StatesLayout (n : ℤ) (rows : List Row) : Type 0 where

@@ -5,29 +5,40 @@ use Rattle.sqlite_value.specs.declared.value.Value.TheVariants.{Null, Int, Text}
 use Rattle.sqlite_value.specs.Order.{Row}
 use Rattle.sqlite_sql.specs.Term.{Term, lit, col}
 use Rattle.sqlite_schema.specs.declared.schema.Schema.{Schema}
-use Rattle.sqlite_catalog.specs.Change.{created}
+use Rattle.sqlite_schema.specs.declared.schema.Table.{Table}
+use Rattle.sqlite_catalog.specs.Change.{created, next_tree}
 use Rattle.sqlite.specs.Effect.{IsDatabase}
 use Rattle.sqlite.specs.State.{State}
 use Rattle.binlog.specs.Filter.{Names}
 use Rattle.store.specs.State.{Content}
-use Rattle.store.specs.Layout.{no_schema, meta, held, spans, follow}
-use Rattle.store.specs.Rows.{StandsFor, AreNames}
+use Rattle.store.specs.Layout.{meta, held, spans, follow, IsVacant, IsLaidOut}
+use Rattle.store.specs.Rows.{StandsFor, AreNames, meta_rows, held_rows, span_rows, follow_rows}
 use Rattle.store.specs.Inside.{IsWorking}
 
 -- ---- the tables, one after another
 
-abbrev pub with_meta : Schema
-with_meta = created no_schema meta
+-- the schema with these tables, the last of them first
+abbrev pub with_tables : Schema → List Table → Schema
+with_tables base [] = base
+with_tables base (t ∷ ts) = created (with_tables base ts) t
 
-abbrev pub with_held : Schema
-with_held = created with_meta held
+-- their trees
+abbrev pub trees_of : Schema → List Table → List ℕ
+trees_of base [] = []
+trees_of base (t ∷ ts) = next_tree (with_tables base ts) ∷ trees_of base ts
 
-abbrev pub with_spans : Schema
-with_spans = created with_held spans
+abbrev pub with_meta : List Table
+with_meta = meta ∷ []
+
+abbrev pub with_held : List Table
+with_held = held ∷ with_meta
+
+abbrev pub with_spans : List Table
+with_spans = spans ∷ with_held
 
 -- all four of them
-abbrev pub new_layout : Schema
-new_layout = created with_spans follow
+abbrev pub new_layout : List Table
+new_layout = follow ∷ with_spans
 
 -- ---- the rows of a new database
 
@@ -49,22 +60,24 @@ layout_row = Int (pos 1) ∷ Text (codes "layout") ∷ Int (pos 2) ∷ []
 
 -- ---- inside the transaction
 
--- There are these tables, and no row in them.
-pub record IsMaking (schema : Schema) (s : State) : Type 0 where
+-- These tables have been made, and there is no row in them.
+pub record IsMaking (made : List Table) (s : State) : Type 0 where
   pub is_open : IsTrue s.is_open
   pub inside : s.in_transaction ≡ true
-  pub schema_is : s.now.schema ≡ schema
-  pub empty : AllByRecursion (λ t. s.now.trees t.tree ≡ []) schema.tables
+  pub base : Schema
+  pub vacant : IsVacant base
+  pub schema_is : s.now.schema ≡ with_tables base made
+  pub empty : AllByRecursion (λ tree. s.now.trees tree ≡ []) (trees_of base made)
 
--- There are all tables, the row of meta and these names, and no other row.
+-- There are all tables, the row of meta and these names, and no other row of theirs.
 pub record IsNaming (names : Names) (s : State) : Type 0 where
   pub is_open : IsTrue s.is_open
   pub inside : s.in_transaction ≡ true
-  pub schema_is : s.now.schema ≡ new_layout
-  pub meta : s.now.trees 0 ≡ layout_row ∷ []
-  pub held : s.now.trees 2 ≡ []
-  pub spans : s.now.trees 4 ≡ []
-  pub follow : AreNames (s.now.trees 6) names
+  pub laid_out : IsLaidOut s.now.schema
+  pub meta : meta_rows s.now ≡ layout_row ∷ []
+  pub held : held_rows s.now ≡ []
+  pub spans : span_rows s.now ≡ []
+  pub follow : AreNames (follow_rows s.now) names
   pub sound : IsDatabase s.now
 
 -- The database of the transaction stands for this content.

@@ -7,7 +7,7 @@ use Rattle.sqlite.specs.State.{State}
 use Rattle.gtid.specs.Identifier.{Ids}
 use Rattle.binlog.specs.Filter.{Names}
 use Rattle.store.specs.State.{Content}
-use Rattle.store.specs.Layout.{no_schema}
+use Rattle.store.specs.Layout.{IsVacant}
 use Rattle.store.specs.Rows.{StandsFor, StandsForFirst, HasRowids, span_rows, first_meta_rows, first_held_rows}
 
 -- nothing is executed, and there is no row
@@ -18,11 +18,12 @@ nothing = record { executed = set.empty; rows = λ _. 0 }
 abbrev pub all : Names
 all = set.empty
 
--- The connection is open and in no transaction that has changed anything, and its database has no table.
+-- The connection is open and in no transaction that has changed anything, and its database has none of the
+-- tables.
 pub record IsBlank (s : State) : Type 0 where
   pub is_open : IsTrue s.is_open
   pub settled : s.now ≡ s.committed
-  pub schema : s.now.schema ≡ no_schema
+  pub vacant : IsVacant s.now.schema
 
 -- The connection is open and in no transaction that has changed anything, and its database has layout 1 and stands for
 -- this content.

@@ -18,21 +18,21 @@ use Rattle.gather.specs.Image.{IsImage, image}
 use Rattle.store.specs.declared.held_rows.RowKey.{RowKey}
 use Rattle.store.specs.State.{TableRow, Bag, Content, has_image}
 use Rattle.store.specs.Take.{most}
-use Rattle.store.specs.Layout.{IsLaidOut, first_layout, tree_at}
+use Rattle.store.specs.Layout.{IsLaidOut, first_layout, meta_tree, held_tree, spans_tree, follow_tree}
 
 -- ---- The tables.
 
 abbrev pub meta_rows : Database → List Row
-meta_rows db = db.trees (tree_at db.schema 0)
+meta_rows db = db.trees (meta_tree db.schema)
 
 abbrev pub held_rows : Database → List Row
-held_rows db = db.trees (tree_at db.schema 1)
+held_rows db = db.trees (held_tree db.schema)
 
 abbrev pub span_rows : Database → List Row
-span_rows db = db.trees (tree_at db.schema 2)
+span_rows db = db.trees (spans_tree db.schema)
 
 abbrev pub follow_rows : Database → List Row
-follow_rows db = db.trees (tree_at db.schema 3)
+follow_rows db = db.trees (follow_tree db.schema)
 
 -- whether two rows have the same rowid
 abbrev pub alike : Row → Row → Bool
@@ -227,7 +227,7 @@ pub record StandsFor (db : Database) (names : Names) (content : Content) : Type 
 -- ---- Layout 1.
 
 abbrev pub first_meta_rows : Database → List Row
-first_meta_rows db = db.trees 0
+first_meta_rows db = meta_rows db
 
 abbrev pub executed_rows : Database → List Row
 executed_rows db = db.trees 2

@@ -6,10 +6,10 @@ ghost use Rattle.std.specs.FinSet as set;
 ghost use Rattle.sqlite.specs.State.{HasCleanDisk, IsUnchanged, Survives};
 ghost use Rattle.sqlite.specs.Held.{state};
 ghost use Rattle.store.specs.Inside.{WasOpen};
-ghost use Rattle.store.specs.Layout.{IsLaidOut, first_layout};
+ghost use Rattle.store.specs.Layout.{HasMeta, IsLaidOut, first_layout};
 ghost use Rattle.store.specs.Rows.{meta_rows, first_meta_rows, HasRowids, IsHeldRow, IsFollowRow, IsSpanRow, IsExecutedRow, AreNames, AreSpans, KeepsRules, KeepsFirstRules, touches, span_in, id_in};
 ghost use Rattle.store.specs.Judge.{IsMeta};
-ghost use Rattle.store.specs.Load.{StatesLayout, AsksAll, Ascends, by_order, IsMetaFirst, Rested, OnSeen, Judges, IsLoadFault, all_held_text, all_spans_text, all_follow_text, all_executed_text, IsLoaded, IsFirstLoaded};
+ghost use Rattle.store.specs.Load.{StatesLayout, AsksAll, Ascends, by_order, Rested, OnSeen, Judges, IsLoadFault, all_held_text, all_spans_text, all_follow_text, all_executed_text, IsLoaded, IsFirstLoaded};
 
 use crate::fault::StoreFault;
 use crate::table_rows::{executed_from, follow_from, meta_in, spans_from};
@@ -48,10 +48,10 @@ pub(crate) fn read_all<S: Alter>(conn: &mut Connection<S>, sql: &str) -> Result<
 pub(crate) fn read_meta<S: Alter>(conn: &mut Connection<S>) -> Result<Meta, Error>
     requires { conn.old.in_transaction ≡ false }
     ensures autocommit { conn.new.in_transaction ≡ false }
-    ensures says { HasCleanDisk (state S.Store conn.new) → IsMetaFirst (state S.Store conn.old).now.schema → IfOk result (IsMeta (first_meta_rows (state S.Store conn.old).now)) }
-    ensures same { HasCleanDisk (state S.Store conn.new) → IsMetaFirst (state S.Store conn.old).now.schema → OnOk result (IsUnchanged (state S.Store conn.old) (state S.Store conn.new)) }
-    ensures rested { HasCleanDisk (state S.Store conn.new) → IsMetaFirst (state S.Store conn.old).now.schema → Rested (state S.Store conn.old) (state S.Store conn.new) }
-    ensures crash { IsMetaFirst (state S.Store conn.old).now.schema → Survives (state S.Store conn.old) (state S.Store conn.new) (λ _. ⊥) }
+    ensures says { HasCleanDisk (state S.Store conn.new) → HasMeta (state S.Store conn.old).now.schema → IfOk result (IsMeta (first_meta_rows (state S.Store conn.old).now)) }
+    ensures same { HasCleanDisk (state S.Store conn.new) → HasMeta (state S.Store conn.old).now.schema → OnOk result (IsUnchanged (state S.Store conn.old) (state S.Store conn.new)) }
+    ensures rested { HasCleanDisk (state S.Store conn.new) → HasMeta (state S.Store conn.old).now.schema → Rested (state S.Store conn.old) (state S.Store conn.new) }
+    ensures crash { HasMeta (state S.Store conn.old).now.schema → Survives (state S.Store conn.old) (state S.Store conn.new) (λ _. ⊥) }
     ensures clean { HasCleanDisk (state S.Store conn.new) → HasCleanDisk (state S.Store conn.old) }
 {
     let rows = read_all(conn, "SELECT rowid, k, v FROM meta ORDER BY rowid")?;

@@ -1,12 +1,11 @@
 //! Making the tables of a new database.
 
-ghost use Rattle.std.specs.Prelude.{◌≡◌, false, OnOk, OnErr};
+ghost use Rattle.std.specs.Prelude.{◌≡◌, [], false, OnOk, OnErr};
 ghost use Rattle.std.specs.FinSet as set;
 ghost use Rattle.sqlite.specs.State.{HasCleanDisk, Survives, KeepsCommit};
 ghost use Rattle.sqlite.specs.Held.{state};
 ghost use Rattle.binlog.specs.Filter.{Names};
 ghost use Rattle.binlog.specs.FilterView.{names_of};
-ghost use Rattle.store.specs.Layout.{no_schema};
 ghost use Rattle.store.specs.Apply.{IsAtRest, Rests};
 ghost use Rattle.store.specs.Open.{nothing, IsBlank, MayStandFor};
 ghost use Rattle.store.specs.Making.{with_meta, with_held, with_spans, new_layout, IsMaking, IsNaming, HasMade};
@@ -17,8 +16,8 @@ use sqlite::{Alter, Connection, Error, Transaction};
 
 fn make_meta<S: Alter>(tx: &mut Transaction<'_, S>) -> Result<usize, Error>
     ensures same_reference { tx.new.conn.ghost_name ≡ tx.old.conn.ghost_name }
-    ensures made { HasCleanDisk (state S.Store tx.new.conn.now) → IsMaking no_schema (state S.Store tx.old.conn.now) → OnOk result (IsMaking with_meta (state S.Store tx.new.conn.now)) }
-    ensures kept { HasCleanDisk (state S.Store tx.new.conn.now) → IsMaking no_schema (state S.Store tx.old.conn.now) → KeepsCommit (state S.Store tx.old.conn.now) (state S.Store tx.new.conn.now) }
+    ensures made { HasCleanDisk (state S.Store tx.new.conn.now) → IsMaking [] (state S.Store tx.old.conn.now) → OnOk result (IsMaking with_meta (state S.Store tx.new.conn.now)) }
+    ensures kept { HasCleanDisk (state S.Store tx.new.conn.now) → IsMaking [] (state S.Store tx.old.conn.now) → KeepsCommit (state S.Store tx.old.conn.now) (state S.Store tx.new.conn.now) }
     ensures survives { Survives (state S.Store tx.old.conn.now) (state S.Store tx.new.conn.now) (λ _. ⊥) }
 {
     tx.execute(
@@ -66,8 +65,8 @@ fn make_follow<S: Alter>(tx: &mut Transaction<'_, S>) -> Result<usize, Error>
 /// Makes the four tables.
 fn make_tables<S: Alter>(tx: &mut Transaction<'_, S>) -> Result<(), Error>
     ensures same_reference { tx.new.conn.ghost_name ≡ tx.old.conn.ghost_name }
-    ensures made { HasCleanDisk (state S.Store tx.new.conn.now) → IsMaking no_schema (state S.Store tx.old.conn.now) → OnOk result (IsMaking new_layout (state S.Store tx.new.conn.now)) }
-    ensures kept { HasCleanDisk (state S.Store tx.new.conn.now) → IsMaking no_schema (state S.Store tx.old.conn.now) → KeepsCommit (state S.Store tx.old.conn.now) (state S.Store tx.new.conn.now) }
+    ensures made { HasCleanDisk (state S.Store tx.new.conn.now) → IsMaking [] (state S.Store tx.old.conn.now) → OnOk result (IsMaking new_layout (state S.Store tx.new.conn.now)) }
+    ensures kept { HasCleanDisk (state S.Store tx.new.conn.now) → IsMaking [] (state S.Store tx.old.conn.now) → KeepsCommit (state S.Store tx.old.conn.now) (state S.Store tx.new.conn.now) }
     ensures survives { Survives (state S.Store tx.old.conn.now) (state S.Store tx.new.conn.now) (λ _. ⊥) }
 {
     make_meta(tx)?;
@@ -123,8 +122,8 @@ fn add_names<S: Alter>(
 /// Makes the tables and their first rows.
 fn fill<S: Alter>(tx: &mut Transaction<'_, S>, follow: &Follow) -> Result<(), Error>
     ensures same_reference { tx.new.conn.ghost_name ≡ tx.old.conn.ghost_name }
-    ensures made { HasCleanDisk (state S.Store tx.new.conn.now) → IsMaking no_schema (state S.Store tx.old.conn.now) → OnOk result (HasMade (state S.Store tx.new.conn.now) follow.now nothing) }
-    ensures kept { HasCleanDisk (state S.Store tx.new.conn.now) → IsMaking no_schema (state S.Store tx.old.conn.now) → KeepsCommit (state S.Store tx.old.conn.now) (state S.Store tx.new.conn.now) }
+    ensures made { HasCleanDisk (state S.Store tx.new.conn.now) → IsMaking [] (state S.Store tx.old.conn.now) → OnOk result (HasMade (state S.Store tx.new.conn.now) follow.now nothing) }
+    ensures kept { HasCleanDisk (state S.Store tx.new.conn.now) → IsMaking [] (state S.Store tx.old.conn.now) → KeepsCommit (state S.Store tx.old.conn.now) (state S.Store tx.new.conn.now) }
     ensures survives { Survives (state S.Store tx.old.conn.now) (state S.Store tx.new.conn.now) (λ _. ⊥) }
 {
     make_tables(tx)?;

@@ -4,7 +4,7 @@ ghost use Rattle.std.specs.Prelude.{◌≡◌, ◌≢◌, false, true, pos, Err,
 ghost use Rattle.sqlite.specs.State.{HasCleanDisk, IsLive, Survives};
 ghost use Rattle.sqlite.specs.Held.{state};
 ghost use Rattle.store.specs.declared.fault.StoreFault.TheVariants.{Memory, Damaged};
-ghost use Rattle.store.specs.Layout.{no_schema, first_layout, IsLaidOut};
+ghost use Rattle.store.specs.Layout.{IsVacant, first_layout, IsLaidOut};
 ghost use Rattle.store.specs.Rows.{first_meta_rows};
 ghost use Rattle.store.specs.Load.{StatesLayout};
 ghost use Rattle.store.specs.Open.{all};
@@ -70,9 +70,9 @@ fn enter_new<S: Alter>(
 ) -> Result<Loaded, StoreFault>
     requires { conn.old.in_transaction ≡ false }
     ensures autocommit { conn.new.in_transaction ≡ false }
-    ensures entered { HasCleanDisk (state S.Store conn.new) → IsReady (state S.Store conn.old) → (state S.Store conn.old).now.schema ≡ no_schema → IfOk result (λ l. IsEntered any only.now (state S.Store conn.old) (state S.Store conn.new) l.executed l.following) }
-    ensures turned { HasCleanDisk (state S.Store conn.new) → IsReady (state S.Store conn.old) → (state S.Store conn.old).now.schema ≡ no_schema → IfErr result (IsTurned any only.now (state S.Store conn.old) (state S.Store conn.new)) }
-    ensures crash { IsReady (state S.Store conn.old) → (state S.Store conn.old).now.schema ≡ no_schema → Survives (state S.Store conn.old) (state S.Store conn.new) (MayEnter only.now (state S.Store conn.old)) }
+    ensures entered { HasCleanDisk (state S.Store conn.new) → IsReady (state S.Store conn.old) → IsVacant (state S.Store conn.old).now.schema → IfOk result (λ l. IsEntered any only.now (state S.Store conn.old) (state S.Store conn.new) l.executed l.following) }
+    ensures turned { HasCleanDisk (state S.Store conn.new) → IsReady (state S.Store conn.old) → IsVacant (state S.Store conn.old).now.schema → IfErr result (IsTurned any only.now (state S.Store conn.old) (state S.Store conn.new)) }
+    ensures crash { IsReady (state S.Store conn.old) → IsVacant (state S.Store conn.old).now.schema → Survives (state S.Store conn.old) (state S.Store conn.new) (MayEnter only.now (state S.Store conn.old)) }
     ensures fault { IfErr result (IsOpenFault any) }
     ensures clean { HasCleanDisk (state S.Store conn.new) → HasCleanDisk (state S.Store conn.old) }
 {

@@ -3,7 +3,6 @@ use Rattle.std.specs.Bool.{IsTrue}
 use Rattle.sqlite.specs.Held.{state}
 use Rattle.store.specs.Rows.{meta_rows}
 use Rattle.store.specs.Load.{StatesLayout}
-use Rattle.store.proofs.Wholes.{meta_place}
 use Rattle.store.proofs.Entered.{entered_second, other_second}
 use Rattle.store.proofs.opening.enter_second.Goals as goal
 
@@ -11,7 +10,7 @@ pub returns-then-differs-clause-turned : goal.returns-then-differs-clause-turned
 returns-then-differs-clause-turned g c clean ready laid says there =
     let old = state g.S.Store c.args.conn.now in
     let new = state g.S.Store c.load.new.conn in
-    let there : StatesLayout (pos 2) (meta_rows old.now) = subst (λ t. StatesLayout (pos 2) (old.now.trees t)) (sym (meta_place old.now.schema laid)) says in
+    let there : StatesLayout (pos 2) (meta_rows old.now) = says in
     other_second c.args.any c.args.only.now c.in_ok-loaded.loaded.following c.in_ok-loaded.loaded.executed old new
     (c.in_ok-loaded.ensures.same clean laid) (c.in_ok-loaded.ensures.loads clean laid ready.settled there) (c.differs.ensures.other (subst IsTrue (sym c.if-differs.true) refl))
 
@@ -19,6 +18,6 @@ pub returns-clause-entered : goal.returns-clause-entered
 returns-clause-entered g c clean ready laid says =
     let old = state g.S.Store c.args.conn.now in
     let new = state g.S.Store c.load.new.conn in
-    let there : StatesLayout (pos 2) (meta_rows old.now) = subst (λ t. StatesLayout (pos 2) (old.now.trees t)) (sym (meta_place old.now.schema laid)) says in
+    let there : StatesLayout (pos 2) (meta_rows old.now) = says in
     entered_second c.args.any c.args.only.now c.in_ok-loaded.loaded.following c.in_ok-loaded.loaded.executed old new
     (c.in_ok-loaded.ensures.same clean laid) (c.in_ok-loaded.ensures.loads clean laid ready.settled there) (c.differs.ensures.wanted c.if-differs.false)

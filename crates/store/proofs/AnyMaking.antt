@@ -1,0 +1,228 @@
+-- What a text means that makes a table, in any schema: it makes the table, or is refused.
+use Rattle.std.proofs.Common.{◌≡◌, ◌==◌, ◌&&◌, not, List, ℕ, length, Bool, true, false, cond, is_some, codes, Ok, Err, None, [], ◌∷◌, refl, sym, ap, ◌∙◌}
+use Rattle.std.specs.Option.{option_or}
+use Rattle.sqlite_schema.specs.declared.schema.Table.{Table}
+use Rattle.sqlite_schema.specs.declared.schema.Schema.{Schema}
+use Rattle.sqlite_schema.specs.declared.command.Command.{Command}
+use Rattle.sqlite_schema.specs.declared.command.Command.TheVariants.{CreateTable, Nothing}
+use Rattle.sqlite_schema.specs.Names.{table_named, index_named, view_named}
+use Rattle.sqlite_ast.specs.declared.CreateTable.{CreateTable as Definition}
+use Rattle.sqlite_ast.specs.declared.Statement.{Statement}
+use Rattle.sqlite_ast.specs.declared.Statement.TheVariants as written
+use Rattle.sqlite_syntax.specs.declared.statement.Parsed.{Parsed}
+use Rattle.sqlite_resolve.specs.declared.compiled.Compiled.{Compiled}
+use Rattle.sqlite_resolve.specs.declared.error.CompileError.{CompileError}
+use Rattle.sqlite_resolve.specs.declared.error.CompileError.TheVariants.{NoSuchTable, Exists, Unsupported}
+use Rattle.sqlite_resolve.specs.Lowering.{Checked, and_then}
+use Rattle.sqlite_resolve.specs.Define as define
+use Rattle.sqlite_resolve.specs.Compile.{first, table_defined_by, compiled, planned, timed, meaning, returning, command, creates, create_table, is_reserved, is_attached, with_command}
+use Rattle.sqlite.specs.Listing.{understood, misses_table}
+use Rattle.std.specs.Prelude.{slice_range}
+use Rattle.sqlite_value.specs.Order.{Row}
+use Rattle.sqlite_schema.specs.declared.command.Command.TheVariants.{Insert}
+use Rattle.sqlite_schema.specs.declared.command.Source.TheVariants.{Values}
+use Rattle.sqlite_ast.specs.declared.Expr.{Expr}
+use Rattle.sqlite_ast.specs.declared.Expr.TheVariants as e
+use Rattle.sqlite_ast.specs.declared.Rows.TheVariants as rows
+use Rattle.sqlite_ast.specs.declared.Conflict.TheVariants.{Abort}
+use Rattle.sqlite_resolve.specs.declared.write.NewRows.TheVariants as new
+use Rattle.sqlite_resolve.specs.Write.{inserted}
+use Rattle.sqlite.specs.State.{State, ExecutesIn, Executes}
+use Rattle.sqlite.proofs.Callers.{IsPlain, command_of}
+use Rattle.store.specs.Making.{layout_text, layout_terms, add_name_text, add_name_terms}
+use Rattle.store.proofs.Compiling.{compiled_insert}
+use Rattle.store.proofs.AnySchema.{Means, means}
+use Rattle.sqlite_tied.specs.Compute.{everything}
+use Rattle.store.specs.Layout.{IsFound, meta, meta_text, held, held_text, spans, spans_text, follow, follow_text}
+
+-- an outcome: this command, or an error that is not of a missing table
+abbrev Makes : {A : Type 0} → Checked A → A → (CompileError → Type 0) → Type 0
+Makes (Ok a) c Other = a ≡ c
+Makes (Err e) c Other = Other e
+
+abbrev IsOther : CompileError → Type 0
+IsOther NoSuchTable = ⊥
+IsOther _ = Unit {0}
+
+module _ (schema : Schema) (def : Definition) (table : Table) (named : is_reserved def.name ≡ false) (plain : def.if_missing ≡ false) (fits : (length table.computed == length table.stamps.places && not def.resolves) ≡ true)
+    (defined : define.table [] def ≡ Ok table) where
+  by_tests : (attached taken same : Bool) → Makes {A = Command} (cond attached (Err Unsupported) (and_then (cond taken (Err Exists) (cond same (Err Exists) (Ok true))) (λ is_new. cond is_new (Ok CreateTable) (Ok Nothing)))) CreateTable IsOther
+  by_tests true taken same = tt
+  by_tests false true same = tt
+  by_tests false false true = tt
+  by_tests false false false = refl
+
+  made_or_refused : Makes (create_table schema [] def) CreateTable IsOther
+  unfolding create_table creates
+  made_or_refused = rw (named, defined, fits, plain) (by_tests (is_attached schema def.name) (is_some (index_named schema def.name)) (is_some (option_or (table_named schema def.name) (view_named schema def.name))))
+
+-- the parts of a text's parse
+abbrev parsed_in : Checked Parsed → Parsed
+parsed_in (Ok p) = p
+parsed_in (Err e) = record { statement = written.Empty; names = []; formats = []; start = 0; end = 0; tail = 0 }
+
+abbrev definition_in : Statement → Definition
+definition_in (written.CreateTable def) = def
+definition_in _ = record { if_missing = false; name = []; body = record { columns = []; rules = [] }; is_strict = false; resolves = false }
+
+-- The text makes this table.
+pub record MakesTable (text : List ℕ) (table : Table) : Type 0 where
+  pub p : Parsed
+  pub def : Definition
+  pub parses : first text ≡ Ok p
+  pub is : p.statement ≡ written.CreateTable def
+  pub untimed : p.formats ≡ []
+  pub whole : slice_range text p.start p.end ≡ text
+  pub named : is_reserved def.name ≡ false
+  pub plain : def.if_missing ≡ false
+  pub fits : (length table.computed == length table.stamps.places && not def.resolves) ≡ true
+  pub defined : define.table [] def ≡ Ok table
+  pub makes : table_defined_by text ≡ Ok table
+
+module _ (schema : Schema) (text : List ℕ) (table : Table) (m : MakesTable text table) where
+  abbrev made : Compiled
+  made = with_command m.p ([], (CreateTable, None))
+
+  with_made : (r : Checked Command) → Makes r CreateTable IsOther
+      → Makes (and_then (and_then (and_then {A = Command} r (λ c. Ok (c, None))) (λ found. Ok ([], found))) (λ plan. Ok (with_command m.p plan))) made IsOther
+  with_made (Ok c) is = rw is refl
+  with_made (Err e) other = other
+
+  makes_compiled : Makes (compiled schema text) made IsOther
+  unfolding compiled planned timed meaning returning command
+  makes_compiled = rw (m.parses, m.is, m.untimed) (with_made (create_table schema [] m.def) (made_or_refused schema m.def table m.named m.plain m.fits m.defined))
+
+  understood_made : (other r : Checked Compiled) (c : Compiled) → Makes r made IsOther → cond (misses_table r) other r ≡ Ok c → c ≡ made
+  understood_made other (Ok a) c is same = (let back : a ≡ c = cc in sym back) ∙ is
+  understood_made other (Err NoSuchTable) c is same = absurd is
+  understood_made other (Err e) c is same = absurd (cc)
+
+  -- where the text is understood, it makes the table
+  pub makes_table : (c : Compiled) → understood schema text ≡ Ok c → c ≡ made
+  unfolding understood
+  makes_table c is = understood_made _ (compiled schema text) c makes_compiled is
+
+  -- so it does where it ran
+  pub runs_made : (params : Row) (old new : State) (count : ℕ) → old.now.schema ≡ schema → Executes text params old new (Ok count) → understood schema text ≡ Ok made
+  unfolding ExecutesIn
+  runs_made params old new count has h = let known : understood schema text ≡ Ok h.0 = ap (λ s. understood s text) (sym has) ∙ h.1.is in known ∙ ap Ok (makes_table h.0 known)
+
+-- ---- The tables of the store.
+
+pub meta_makes : MakesTable meta_text meta
+unfolding everything
+meta_makes = record {
+  p = parsed_in (first meta_text);
+  def = definition_in (parsed_in (first meta_text)).statement;
+  parses = refl;
+  is = refl;
+  untimed = refl;
+  whole = refl;
+  named = refl;
+  plain = refl;
+  fits = refl;
+  defined = refl;
+  makes = refl;
+}
+
+pub held_makes : MakesTable held_text held
+unfolding everything
+held_makes = record {
+  p = parsed_in (first held_text);
+  def = definition_in (parsed_in (first held_text)).statement;
+  parses = refl;
+  is = refl;
+  untimed = refl;
+  whole = refl;
+  named = refl;
+  plain = refl;
+  fits = refl;
+  defined = refl;
+  makes = refl;
+}
+
+pub spans_makes : MakesTable spans_text spans
+unfolding everything
+spans_makes = record {
+  p = parsed_in (first spans_text);
+  def = definition_in (parsed_in (first spans_text)).statement;
+  parses = refl;
+  is = refl;
+  untimed = refl;
+  whole = refl;
+  named = refl;
+  plain = refl;
+  fits = refl;
+  defined = refl;
+  makes = refl;
+}
+
+pub follow_makes : MakesTable follow_text follow
+unfolding everything
+follow_makes = record {
+  p = parsed_in (first follow_text);
+  def = definition_in (parsed_in (first follow_text)).statement;
+  parses = refl;
+  is = refl;
+  untimed = refl;
+  whole = refl;
+  named = refl;
+  plain = refl;
+  fits = refl;
+  defined = refl;
+  makes = refl;
+}
+
+-- ---- Their first rows.
+
+abbrev layout_values : List (List Expr)
+layout_values = (e.Text (codes "layout") ∷ e.Integer (codes "2") ∷ []) ∷ []
+
+abbrev layout_parsed : Parsed
+layout_parsed = record { statement = written.Insert Abort (codes "meta") [] (rows.Values layout_values) [] []; names = []; formats = []; start = 0; end = 37; tail = 37 }
+
+layout_parses : first layout_text ≡ Ok layout_parsed
+unfolding everything
+layout_parses = refl
+
+abbrev name_values : List (List Expr)
+name_values = (e.Parameter 1 ∷ e.Parameter 2 ∷ []) ∷ []
+
+abbrev name_parsed : Parsed
+name_parsed = record { statement = written.Insert Abort (codes "follow") [] (rows.Values name_values) [] []; names = codes "?1" ∷ codes "?2" ∷ []; formats = []; start = 0; end = 34; tail = 34 }
+
+name_parses : first add_name_text ≡ Ok name_parsed
+unfolding everything
+name_parses = refl
+
+module _ (schema : Schema) (at tree : ℕ) (f : IsFound schema at (record meta { tree = tree })) where
+  layout_inserted : inserted schema (record meta { tree = tree }) 0 [] (rows.Values layout_values) ≡ Ok (new.Values layout_terms)
+  unfolding everything
+  layout_inserted = refl
+
+  layout_means : Means schema layout_text (with_command layout_parsed ([], (Insert at (Values layout_terms 3), None)))
+  layout_means =
+      means schema layout_text _
+      (compiled_insert schema (codes "meta") at (record meta { tree = tree }) f.by_name f.by_index layout_values layout_text layout_parsed 0 layout_terms layout_parses refl refl refl refl layout_inserted refl)
+
+  pub layout_is : command_of (understood schema layout_text) ≡ Insert at (Values layout_terms 3)
+  layout_is = ap command_of layout_means.is
+
+  pub layout_plain : IsPlain (understood schema layout_text)
+  layout_plain = rw (layout_means.is) (refl, refl)
+
+module _ (schema : Schema) (at tree : ℕ) (f : IsFound schema at (record follow { tree = tree })) where
+  name_inserted : inserted schema (record follow { tree = tree }) 2 [] (rows.Values name_values) ≡ Ok (new.Values add_name_terms)
+  unfolding everything
+  name_inserted = refl
+
+  name_means : Means schema add_name_text (with_command name_parsed ([], (Insert at (Values add_name_terms 3), None)))
+  name_means =
+      means schema add_name_text _
+      (compiled_insert schema (codes "follow") at (record follow { tree = tree }) f.by_name f.by_index name_values add_name_text name_parsed 2 add_name_terms name_parses refl refl refl refl name_inserted refl)
+
+  pub add_name_is : command_of (understood schema add_name_text) ≡ Insert at (Values add_name_terms 3)
+  add_name_is = ap command_of name_means.is
+
+  pub add_name_plain : IsPlain (understood schema add_name_text)
+  add_name_plain = rw (name_means.is) (refl, refl)

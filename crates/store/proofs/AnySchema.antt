@@ -1,0 +1,279 @@
+-- What the statements mean, in any schema in which the table's name finds it.
+use Rattle.std.proofs.Common.{◌≡◌, ◌<◌, ℕ, Bool, false, true, List, [], ◌∷◌, codes, Ok, Some, None, refl, ap, arith}
+use Rattle.sqlite_value.specs.declared.keys.Collation.TheVariants.{Binary}
+use Rattle.sqlite_sql.specs.declared.ops.BinaryOp.TheVariants.{Compare}
+use Rattle.sqlite_sql.specs.declared.ops.CompareOp.TheVariants.{Eq}
+use Rattle.sqlite_sql.specs.declared.ops.UnaryOp.TheVariants.{ToNumeric}
+use Rattle.sqlite_sql.specs.Term.{Term, col, op1, op2}
+use Rattle.sqlite_schema.specs.declared.schema.Table.{Table}
+use Rattle.sqlite_schema.specs.declared.schema.Schema.{Schema}
+use Rattle.sqlite_schema.specs.declared.schema.Kind.TheVariants.{Integer, Any}
+use Rattle.sqlite_schema.specs.declared.command.Command.TheVariants.{Select, Insert, Update, Delete}
+use Rattle.sqlite_schema.specs.declared.command.Source.TheVariants.{Values}
+use Rattle.sqlite_schema.specs.Names.{same_name}
+use Rattle.sqlite_ast.specs.declared.Expr.{Expr}
+use Rattle.sqlite_ast.specs.declared.Expr.TheVariants as e
+use Rattle.sqlite_ast.specs.declared.Binary.TheVariants.{And}
+use Rattle.sqlite_ast.specs.declared.Core.{Core, roll-Core}
+use Rattle.sqlite_ast.specs.declared.Select as select
+use Rattle.sqlite_ast.specs.declared.Rows.TheVariants as rows
+use Rattle.sqlite_ast.specs.declared.Conflict.TheVariants.{Abort}
+use Rattle.sqlite_ast.specs.declared.Statement.TheVariants as written
+use Rattle.sqlite_syntax.specs.declared.statement.Parsed.{Parsed}
+use Rattle.sqlite_resolve.specs.declared.state.Carried.{Carried}
+use Rattle.sqlite_resolve.specs.declared.scope.Output.{Output}
+use Rattle.sqlite_resolve.specs.declared.write.NewRows.TheVariants as new
+use Rattle.sqlite_resolve.specs.declared.compiled.Compiled.{Compiled}
+use Rattle.sqlite_resolve.specs.Lowering.{nothing, max_budget}
+use Rattle.sqlite_resolve.specs.Scope.{Name, Context, declared}
+use Rattle.sqlite_resolve.specs.Compare.{converted, may_be_text, is_parameter}
+use Rattle.sqlite_resolve.specs.Body.{tests}
+use Rattle.sqlite_resolve.specs.Order.{sorts}
+use Rattle.sqlite_resolve.specs.Expr.{lower}
+use Rattle.sqlite_resolve.specs.Program.{query}
+use Rattle.sqlite_resolve.specs.Write.{inserted, assigned, row}
+use Rattle.sqlite_resolve.specs.Compile.{first, compiled, with_command}
+use Rattle.sqlite_tied.specs.Compute.{everything}
+use Rattle.sqlite.specs.Listing.{understood, reads_listing}
+use Rattle.sqlite.proofs.Callers.{IsPlain, command_of}
+use Rattle.store.specs.Layout.{required, held, spans, read_text, insert_text, update_text, delete_text, add_span_text, drop_span_text, equals, has_key, has_start, read_query, delete_query, update_query, insert_terms, add_span_terms, drop_span_query}
+use Rattle.store.specs.Layout.{IsFound}
+use Rattle.store.proofs.Compiling.{written_trees, only_over, only_bound, after_reading, less, stands_for_column, Compares, compares, is_given, Field, IsField, written_columns, with_outputs, outputs_are, tests_are, lowered_both, lowered_all, from_table, IsOver, IsOrdered, drafted, program_is, query_is, compiled_select, compiled_insert, compiled_update, compiled_delete, understood_as}
+
+-- What a text means under the schema: what it is compiled to, and that it is no query on sqlite_schema.
+pub record Means (schema : Schema) (text : List ℕ) (c : Compiled) : Type 0 where
+  pub is : understood schema text ≡ Ok c
+  pub elsewhere : reads_listing schema text ≡ false
+
+pub means : (schema : Schema) (text : List ℕ) (c : Compiled) → compiled schema text ≡ Ok c → Means schema text c
+means schema text c is = let it = understood_as schema text c is in record { is = it.0; elsewhere = it.1 }
+
+-- ---- The texts as they are written.
+
+abbrev names_of_three : List (List ℕ)
+names_of_three = codes "?1" ∷ codes "?2" ∷ codes "?3" ∷ []
+
+abbrev key_test : Expr
+key_test = e.Binary And (e.Binary And (is_given (codes "schema_name") 1) (is_given (codes "table_name") 2)) (is_given (codes "image") 3)
+
+abbrev start_test : Expr
+start_test = e.Binary And (is_given (codes "source") 1) (is_given (codes "lo") 2)
+
+abbrev read_core : Core
+read_core = roll-Core (record { distinct = false; shown = written_columns (codes "n" ∷ []); from = from_table (codes "held") ∷ []; filter = Some key_test; group = []; having = None })
+
+abbrev read_select : select.Select
+read_select = select.roll-Select (record { with = []; first = read_core; others = []; order = []; limit = None; offset = None })
+
+abbrev read_parsed : Parsed
+read_parsed = record { statement = written.Select read_select; names = names_of_three; formats = []; start = 0; end = 76; tail = 76 }
+
+read_parses : first read_text ≡ Ok read_parsed
+unfolding everything
+read_parses = refl
+
+read_over : IsOver read_core (codes "held") (written_columns (codes "n" ∷ [])) (Some key_test)
+unfolding written_trees
+read_over = record { shown = refl; from = refl; filter = refl; distinct = refl; group = refl; having = refl }
+
+read_ordered : IsOrdered read_select read_core []
+unfolding written_trees
+read_ordered = record { with = refl; first = refl; others = refl; order = refl; limit = refl; offset = refl }
+
+abbrev inserted_row : List (List Expr)
+inserted_row = (e.Parameter 1 ∷ e.Parameter 2 ∷ e.Parameter 3 ∷ e.Integer (codes "1") ∷ []) ∷ []
+
+abbrev insert_parsed : Parsed
+insert_parsed = record { statement = written.Insert Abort (codes "held") [] (rows.Values inserted_row) [] []; names = names_of_three; formats = []; start = 0; end = 39; tail = 39 }
+
+insert_parses : first insert_text ≡ Ok insert_parsed
+unfolding everything
+insert_parses = refl
+
+abbrev delete_parsed : Parsed
+delete_parsed = record { statement = written.Delete (codes "held") (Some key_test) []; names = names_of_three; formats = []; start = 0; end = 74; tail = 74 }
+
+delete_parses : first delete_text ≡ Ok delete_parsed
+unfolding everything
+delete_parses = refl
+
+abbrev set_count : List (Name × Expr)
+set_count = (codes "n", e.Parameter 4) ∷ []
+
+abbrev update_parsed : Parsed
+update_parsed = record { statement = written.Update (codes "held") set_count (Some key_test) []; names = codes "?1" ∷ codes "?2" ∷ codes "?3" ∷ codes "?4" ∷ []; formats = []; start = 0; end = 80; tail = 80 }
+
+update_parses : first update_text ≡ Ok update_parsed
+unfolding everything
+update_parses = refl
+
+abbrev added_row : List (List Expr)
+added_row = (e.Parameter 1 ∷ e.Parameter 2 ∷ e.Parameter 3 ∷ []) ∷ []
+
+abbrev add_span_parsed : Parsed
+add_span_parsed = record { statement = written.Insert Abort (codes "spans") [] (rows.Values added_row) [] []; names = names_of_three; formats = []; start = 0; end = 37; tail = 37 }
+
+add_span_parses : first add_span_text ≡ Ok add_span_parsed
+unfolding everything
+add_span_parses = refl
+
+abbrev drop_span_parsed : Parsed
+drop_span_parsed = record { statement = written.Delete (codes "spans") (Some start_test) []; names = codes "?1" ∷ codes "?2" ∷ []; formats = []; start = 0; end = 47; tail = 47 }
+
+drop_span_parses : first drop_span_text ≡ Ok drop_span_parsed
+unfolding everything
+drop_span_parses = refl
+
+-- ---- Statements on one row of held.
+
+module _ (schema : Schema) (at tree : ℕ) (f : IsFound schema at (record held { tree = tree })) where
+  abbrev held_table : Table
+  held_table = record held { tree = tree }
+
+  module _ (shown : List Output) (may_aggregate : Bool) where
+    abbrev over_held : Context
+    over_held = only_over schema (codes "held") at shown may_aggregate
+
+    schema_name_is : Compares over_held (codes "schema_name") 1 (equals 1 0)
+    unfolding same_name converted
+    schema_name_is = compares schema at held_table f.by_index (codes "held") shown may_aggregate (codes "schema_name") 0 1 (required (codes "schema_name") Any) refl refl refl
+
+    table_name_is : Compares over_held (codes "table_name") 2 (equals 2 1)
+    unfolding same_name converted
+    table_name_is = compares schema at held_table f.by_index (codes "held") shown may_aggregate (codes "table_name") 1 2 (required (codes "table_name") Any) refl refl refl
+
+    image_is : Compares over_held (codes "image") 3 (equals 3 2)
+    unfolding same_name converted
+    image_is = compares schema at held_table f.by_index (codes "held") shown may_aggregate (codes "image") 2 3 (required (codes "image") Any) refl refl refl
+
+    key_tests : (next budget : ℕ) (last : Carried) → 11 < budget → tests lower over_held [] (Some key_test) (after_reading next budget last) ≡ Ok (has_key, after_reading next (less 11 budget) nothing)
+    key_tests next budget last enough =
+        tests_are over_held key_test _ (after_reading next budget last) (after_reading next (less 11 budget) nothing)
+        (lowered_all over_held (codes "schema_name") (codes "table_name") (equals 1 0) (equals 2 1) schema_name_is table_name_is (codes "image") (equals 3 2) image_is next budget last 696 enough)
+
+  abbrev count_field : Field
+  count_field = record { name = codes "n"; term = col 1 4; carried = declared held_table 3 (required (codes "n") Integer); label = codes "n" }
+
+  count_stands : IsField (only_over schema (codes "held") at [] true) count_field
+  unfolding same_name
+  count_stands = stands_for_column schema at held_table f.by_index (codes "held") [] true (codes "n") 3 (required (codes "n") Integer) refl refl
+
+  read_query_is : query schema read_select ≡ Ok ((drafted tree has_key (col 1 4 ∷ []) [], codes "n" ∷ [], Some Binary ∷ []), [])
+  unfolding sorts
+  read_query_is =
+      query_is schema (codes "held") at held_table f.by_name f.by_index read_core (written_columns (codes "n" ∷ [])) (Some key_test) read_over (with_outputs [] (count_field ∷ [])) has_key [] []
+      (after_reading 2 99999 (count_field.carried)) 99988 99988 nothing nothing
+      (outputs_are (only_over schema (codes "held") at [] true) (only_bound (codes "held") at ∷ []) (count_field ∷ []) (count_stands, tt) 2 max_budget nothing (omega arith))
+      (key_tests (with_outputs [] (count_field ∷ [])) false 2 99999 (count_field.carried) (omega arith)) refl read_select read_ordered
+
+  read_means : Means schema read_text (with_command read_parsed ([], (Select (record { lets = []; body = read_query tree }) (codes "n" ∷ []), None)))
+  read_means =
+      means schema read_text _
+      (compiled_select schema read_text read_parsed read_parses refl read_select _ (codes "n" ∷ []) (Some Binary ∷ []) (read_query tree) refl read_query_is
+      (program_is schema at held_table f has_key (col 1 4 ∷ []) [] refl refl refl))
+
+  pub read_is : (command_of (understood schema read_text) ≡ Select (record { lets = []; body = read_query tree }) (codes "n" ∷ [])) × (reads_listing schema read_text ≡ false)
+  read_is = (ap command_of read_means.is, read_means.elsewhere)
+
+  pub read_plain : IsPlain (understood schema read_text)
+  read_plain = rw (read_means.is) (refl, refl)
+
+  insert_row : inserted schema held_table 3 [] (rows.Values inserted_row) ≡ Ok (new.Values insert_terms)
+  unfolding everything
+  insert_row = refl
+
+  insert_means : Means schema insert_text (with_command insert_parsed ([], (Insert at (Values insert_terms 5), None)))
+  insert_means =
+      means schema insert_text _
+      (compiled_insert schema (codes "held") at held_table f.by_name f.by_index inserted_row insert_text insert_parsed 3 insert_terms insert_parses refl refl refl refl insert_row refl)
+
+  pub insert_is : command_of (understood schema insert_text) ≡ Insert at (Values insert_terms 5)
+  insert_is = ap command_of insert_means.is
+
+  pub insert_plain : IsPlain (understood schema insert_text)
+  insert_plain = rw (insert_means.is) (refl, refl)
+
+  delete_means : Means schema delete_text (with_command delete_parsed ([], (Delete at (record { lets = []; body = delete_query tree }), None)))
+  delete_means =
+      means schema delete_text _
+      (compiled_delete schema (codes "held") at held_table f.by_name f.by_index (Some key_test) has_key 100000 99989 nothing nothing delete_text delete_parsed (delete_query tree) delete_parses refl refl refl refl
+      (key_tests [] false 2 100000 nothing (omega arith)) (program_is schema at held_table f has_key (col 1 0 ∷ []) [] refl refl refl))
+
+  pub delete_is : command_of (understood schema delete_text) ≡ Delete at (record { lets = []; body = delete_query tree })
+  delete_is = ap command_of delete_means.is
+
+  pub delete_plain : IsPlain (understood schema delete_text)
+  delete_plain = rw (delete_means.is) (refl, refl)
+
+  -- the old rowid, and then the new row
+  abbrev updated_row : List Term
+  updated_row = col 1 0 ∷ col 1 0 ∷ col 1 1 ∷ col 1 2 ∷ col 1 3 ∷ col 0 3 ∷ []
+
+  update_assigns : assigned (only_over schema (codes "held") at [] false) held_table set_count (after_reading 2 100000 nothing) ≡ Ok ((4 ∷ [], col 0 3 ∷ []), after_reading 2 99999 nothing)
+  unfolding everything
+  update_assigns = refl
+
+  update_row : row held_table None (4 ∷ []) (col 1 0 ∷ []) (col 0 3 ∷ []) ≡ Ok updated_row
+  unfolding everything
+  update_row = refl
+
+  update_means : Means schema update_text (with_command update_parsed ([], (Update at (record { lets = []; body = update_query tree }), None)))
+  update_means =
+      means schema update_text _
+      (compiled_update schema (codes "held") at held_table f.by_name f.by_index (Some key_test) has_key 99999 99988 nothing nothing set_count (4 ∷ []) (col 0 3 ∷ []) updated_row (update_query tree) update_assigns update_row
+      (key_tests [] false 2 99999 nothing (omega arith)) update_text update_parsed update_parses refl refl (program_is schema at held_table f has_key updated_row [] refl refl refl))
+
+  pub update_is : command_of (understood schema update_text) ≡ Update at (record { lets = []; body = update_query tree })
+  update_is = ap command_of update_means.is
+
+  pub update_plain : IsPlain (understood schema update_text)
+  update_plain = rw (update_means.is) (refl, refl)
+
+-- ---- Statements on one row of spans.
+
+module _ (schema : Schema) (at tree : ℕ) (f : IsFound schema at (record spans { tree = tree })) where
+  abbrev spans_table : Table
+  spans_table = record spans { tree = tree }
+
+  abbrev over_spans : Context
+  over_spans = only_over schema (codes "spans") at [] false
+
+  source_is : Compares over_spans (codes "source") 1 (equals 1 0)
+  unfolding same_name converted
+  source_is = compares schema at spans_table f.by_index (codes "spans") [] false (codes "source") 0 1 (required (codes "source") Any) refl refl refl
+
+  start_is : Compares over_spans (codes "lo") 2 (op2 (Compare Eq Binary) (col 1 2) (op1 ToNumeric (col 0 1)))
+  unfolding same_name converted may_be_text is_parameter
+  start_is = compares schema at spans_table f.by_index (codes "spans") [] false (codes "lo") 1 2 (required (codes "lo") Integer) refl refl refl
+
+  start_tests : tests lower over_spans [] (Some start_test) (after_reading 2 100000 nothing) ≡ Ok (has_start, after_reading 2 99993 nothing)
+  start_tests =
+      tests_are over_spans start_test _ (after_reading 2 100000 nothing) (after_reading 2 99993 nothing)
+      (lowered_both over_spans (codes "source") (codes "lo") (equals 1 0) (op2 (Compare Eq Binary) (col 1 2) (op1 ToNumeric (col 0 1))) source_is start_is 2 100000 nothing 697 (omega arith))
+
+  add_span_row : inserted schema spans_table 3 [] (rows.Values added_row) ≡ Ok (new.Values add_span_terms)
+  unfolding everything
+  add_span_row = refl
+
+  add_span_means : Means schema add_span_text (with_command add_span_parsed ([], (Insert at (Values add_span_terms 4), None)))
+  add_span_means =
+      means schema add_span_text _
+      (compiled_insert schema (codes "spans") at spans_table f.by_name f.by_index added_row add_span_text add_span_parsed 3 add_span_terms add_span_parses refl refl refl refl add_span_row refl)
+
+  pub add_span_is : command_of (understood schema add_span_text) ≡ Insert at (Values add_span_terms 4)
+  add_span_is = ap command_of add_span_means.is
+
+  pub add_span_plain : IsPlain (understood schema add_span_text)
+  add_span_plain = rw (add_span_means.is) (refl, refl)
+
+  drop_span_means : Means schema drop_span_text (with_command drop_span_parsed ([], (Delete at (record { lets = []; body = drop_span_query tree }), None)))
+  drop_span_means =
+      means schema drop_span_text _
+      (compiled_delete schema (codes "spans") at spans_table f.by_name f.by_index (Some start_test) has_start 100000 99993 nothing nothing drop_span_text drop_span_parsed (drop_span_query tree) drop_span_parses refl refl refl refl
+      start_tests (program_is schema at spans_table f has_start (col 1 0 ∷ []) [] refl refl refl))
+
+  pub drop_span_is : command_of (understood schema drop_span_text) ≡ Delete at (record { lets = []; body = drop_span_query tree })
+  drop_span_is = ap command_of drop_span_means.is
+
+  pub drop_span_plain : IsPlain (understood schema drop_span_text)
+  drop_span_plain = rw (drop_span_means.is) (refl, refl)
