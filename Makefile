@@ -2,7 +2,7 @@
 #             a new database, whose rows and executed set are shown
 # make test   runs the whole gate, tests/run: a program that must not compile, every proof from nothing, the tests and the
 #             program, the wrong bodies, the libraries out of memory, and then, with the program that was built, what else
-#             tests/ has: the commands, messages, rows as CSV and JSON, files read by sqlite3, damaged databases, streams and their faults,
+#             tests/ has: the commands, messages, rows as CSV and JSON, the change feed, files read by sqlite3, damaged databases, streams and their faults,
 #             captured streams, a source over loopback, streams compared with an independent reading, changed bytes,
 #             running out of memory, kills, copies beside a writer, and the commands, examples and names of the pages
 # make bench  times mrep, the sets and the transactions against plain Rust programs that do the same jobs, the store

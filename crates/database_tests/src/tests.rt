@@ -5,6 +5,7 @@ mod deliveries;
 mod fixtures;
 mod follows;
 mod memory;
+mod observers;
 mod resumes;
 mod sessions;
 mod sources;

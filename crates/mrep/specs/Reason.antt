@@ -1,11 +1,11 @@
 -- The exit statuses of connections.
 use Rattle.std.specs.Prelude.{ℕ, ◌==◌, if◌then◌else◌, List, [], ◌∷◌}
 use Rattle.replica.specs.declared.end.Reason.{Reason}
-use Rattle.replica.specs.declared.end.Reason.TheVariants.{EndOfInput, SourceEof, SourceError, Wire, Greet, Event, Gather, Refused, Database, Memory, ReadFailed, WriteFailed}
+use Rattle.replica.specs.declared.end.Reason.TheVariants.{EndOfInput, SourceEof, SourceError, Wire, Greet, Event, Gather, Refused, Database, Memory, ReadFailed, WriteFailed, Halted}
 use Rattle.replica.specs.declared.end.Ended.{Ended}
 
 -- 0 if the input or the source's log has ended, 1 for a refusal by the source or because of what its data says, 3 for a
--- file, a socket or the database, 4 if memory ran out
+-- file, a socket, the database or the change feed, 4 if memory ran out
 abbrev pub status_of : Reason → ℕ
 status_of EndOfInput = 0
 status_of SourceEof = 0
@@ -19,6 +19,7 @@ status_of (Database cause) = 3
 status_of Memory = 4
 status_of ReadFailed = 3
 status_of WriteFailed = 3
+status_of Halted = 3
 
 -- the first status that is not 0, or 0 if there is none
 unfoldable pub first_status : List Ended → ℕ

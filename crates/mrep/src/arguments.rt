@@ -129,17 +129,37 @@ fn flag<'a>(alloc: Global, name: &'a str, help: &'a str) -> Arg<'a> {
         .help(help)
 }
 
+/// The options for what `mrep replay` and `mrep follow` report.
+fn reporting<'a>(
+    alloc: Global,
+    command: Command<'a>,
+    progress: &'a str,
+) -> Result<Command<'a>, AllocError> {
+    let changes =
+        "Write each transaction as JSON lines to the end of this file, or to standard output for `-`";
+    let bytes =
+        "Write bytes in JSON lines as text where they are UTF-8, as hexadecimal digits or as base64. Without it: hex";
+    let changes = Arg::new(alloc, "changes")
+        .long("changes")
+        .value_name("FILE")
+        .action(ArgAction::Set)
+        .help(changes)
+        .allow_hyphen_values(true);
+    command
+        .arg(flag(alloc, "progress", progress))?
+        .arg(changes)?
+        .arg(one_of(alloc, "bytes", "FORM", ENCODINGS.as_slice(), bytes))
+}
+
 /// `mrep follow`.
 fn follow<'a>(alloc: Global) -> Result<Command<'a>, AllocError> {
     let about =
         "Follow a source over a socket, apply its transactions to a database, and print how the connection ended";
     let once = "End at the end of the source's log instead of waiting for more events";
     let progress =
-        "Report on standard error how many bytes have been received, at most once a second";
-    who(alloc, over(alloc, "follow", about)?)?
-        .arg(flag(alloc, "once", once))?
-        .arg(flag(alloc, "progress", progress))?
-        .arg(only(alloc))
+        "Report on standard error how many bytes have been read and how many transactions applied, at most once a second";
+    let command = who(alloc, over(alloc, "follow", about)?)?.arg(flag(alloc, "once", once))?;
+    reporting(alloc, command, progress)?.arg(only(alloc))
 }
 
 /// The files to replay.
@@ -153,13 +173,14 @@ fn streams<'a>(alloc: Global) -> Arg<'a> {
 
 /// `mrep replay`.
 fn replay<'a>(alloc: Global) -> Result<Command<'a>, AllocError> {
-    over(
-        alloc,
-        "replay",
-        "Read streams, each as one connection, apply their transactions to a database, and print how each ended",
-    )?
-    .arg(only(alloc))?
-    .arg(streams(alloc))
+    let about =
+        "Read streams, each as one connection, apply their transactions to a database, and print how each ended";
+    let progress =
+        "Report on standard error how many bytes have been read and how many transactions applied, at most once a second";
+    let command = over(alloc, "replay", about)?;
+    reporting(alloc, command, progress)?
+        .arg(only(alloc))?
+        .arg(streams(alloc))
 }
 
 /// `mrep missing`.

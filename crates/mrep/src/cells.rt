@@ -46,3 +46,24 @@ pub fn write_cells<W: Write>(row: &Image, out: &mut W) -> io::Result<()> {
     }
     Ok(())
 }
+
+/// Writes the first cells of a row, until they have as many bytes of text as this or more, and of a long cell as many
+/// bytes. What is left out is `...`.
+pub fn write_first_cells(row: &Image, most: usize, out: &mut Vec<u8>) -> io::Result<()> {
+    let end = out.len().saturating_add(most);
+    let mut first = true;
+    for cell in row.cells() {
+        if out.len() >= end {
+            return out.write_all(b",...");
+        }
+        if let Cell::Bytes(bytes) = cell
+            && let Some((head, [_, ..])) = bytes.split_at_checked(most)
+        {
+            write_next(Cell::Bytes(head), first, out)?;
+            return out.write_all(b"...");
+        }
+        write_next(cell, first, out)?;
+        first = false;
+    }
+    Ok(())
+}

@@ -9,7 +9,7 @@ use crate::failure::{DONE, Failure, MEMORY};
 use crate::follow::{Words, follow_source};
 use crate::minus::minus;
 use crate::name::Shown;
-use crate::replay::replay;
+use crate::replay::{Choice as Picked, Report, replay};
 use crate::sets::{gtids, missing};
 use crate::show::{Choice, show};
 use crate::skip::skip;
@@ -76,6 +76,15 @@ fn run_reading<'a, W: Write>(
     Ok(Some(status))
 }
 
+/// The arguments of what `mrep replay` and `mrep follow` report.
+fn report<'a>(given: &ArgMatches<'a>) -> Report<'a> {
+    Report {
+        progress: given.get_flag("progress"),
+        changes: given.get_str("changes"),
+        bytes: given.get_str("bytes"),
+    }
+}
+
 fn run_replay<'a, W: Write, E: Write>(
     rt: &HostRuntime,
     given: &ArgMatches<'a>,
@@ -85,14 +94,12 @@ fn run_replay<'a, W: Write, E: Write>(
     ensures { IfOk result (λ status. status ≤ MEMORY) }
 {
     let streams = given.get_strs("STREAM").unwrap_or(&[]);
-    replay(
-        rt,
-        word(given, "db"),
-        given.get_strs("only"),
-        streams,
-        out,
-        err,
-    )
+    let choice = Picked {
+        db: word(given, "db"),
+        only: given.get_strs("only"),
+        report: report(given),
+    };
+    replay(rt, choice, streams, out, err)
 }
 
 /// The arguments of `mrep follow`.
@@ -105,7 +112,7 @@ fn source<'a>(given: &ArgMatches<'a>) -> Words<'a> {
         server_id: word(given, "server-id"),
         db: word(given, "db"),
         once: given.get_flag("once"),
-        progress: given.get_flag("progress"),
+        report: report(given),
     }
 }
 

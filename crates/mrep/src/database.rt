@@ -58,34 +58,35 @@ pub fn open<'a>(
 }
 
 /// Reads captured connections into the database in a file, which is opened as by [`open`] and closed at the end.
-pub fn replay_into<'a, R: Read + Drop, W: Observer + Drop>(
+pub fn replay_into<'a, R: Read + Drop, W: Observer>(
     rt: &HostRuntime,
     name: &'a str,
     only: Option<&Follow>,
     config: &Config,
     captures: Vec<Capture<R>>,
-    mut observer: W,
-) -> Result<(Replayed<File>, W), Failure<'a>> {
+    observer: &mut W,
+) -> Result<Replayed<File>, Failure<'a>> {
     let log = missing_log(rt, name)?;
-    match replica::replay(rt, name, Unknown, only, config, captures, &mut observer) {
-        Ok(done) => Ok((done, observer)),
+    match replica::replay(rt, name, Unknown, only, config, captures, observer) {
+        Ok(done) => Ok(done),
         Err(unopened) => Err(refusal(rt, name, leave(rt, log, unopened))),
     }
 }
 
 /// Follows a source into the database in a file, which is opened as by [`open`] before `connect` is called, and closed at
 /// the end.
-pub fn follow_into<'a, T: Duplex + Drop, F: FnOnce() -> io::Result<T> + Drop>(
+pub fn follow_into<'a, T: Duplex + Drop, F: FnOnce() -> io::Result<T> + Drop, W: Observer>(
     rt: &HostRuntime,
     name: &'a str,
     only: Option<&Follow>,
     config: Config,
     connect: F,
+    observer: &mut W,
 ) -> Result<FollowedFile<T, io::Error, File>, Failure<'a>>
     requires { F.IsAlwaysCallable connect }
 {
     let log = missing_log(rt, name)?;
-    match follow_file(rt, name, Unknown, only, config, connect) {
+    match follow_file(rt, name, Unknown, only, config, connect, observer) {
         Ok(done) => Ok(done),
         Err(unopened) => Err(refusal(rt, name, leave(rt, log, unopened))),
     }

@@ -130,7 +130,10 @@ impl Failure<'_> {
                     Shown(word)
                 )
             }
-            Failure::Bytes => writeln!(err, "mrep: --bytes needs --format csv or json"),
+            Failure::Bytes => writeln!(
+                err,
+                "mrep: --bytes needs --format csv or json, or --changes"
+            ),
             Failure::User { word, cause } => writeln!(err, "mrep: {}: {cause}", Shown(word)),
             Failure::File { name, cause } | Failure::Host { name, cause } => {
                 writeln!(err, "mrep: {}: {cause}", Shown(name))

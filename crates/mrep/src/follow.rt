@@ -4,13 +4,12 @@ ghost use Rattle.std.specs.Prelude.{◌≤◌, IfOk};
 
 use crate::database::{closed, follow_into};
 use crate::failure::{Failure, MEMORY};
-use crate::name::Shown;
-use crate::progress::Progress;
-use crate::reason::{write_cause, write_end};
-use crate::replay::{status_of, tables};
+use crate::feed::{OUTPUT, remove};
+use crate::replay::{Report, check, feed_of, status_of, stop_of, tables};
 use crate::socket::Socket;
+use crate::watch::{Reporting, Source, Watch};
 use binlog::Follow;
-use replica::{Config, ConfigFault, Duplex, Ended, FollowedFile};
+use replica::{Config, ConfigFault, Ended, FollowedFile, Observer};
 use std::io::{ErrorKind, Write};
 use std::net::TcpStream;
 use std::{fs, io};
@@ -30,8 +29,7 @@ pub struct Words<'a> {
     pub db: &'a str,
     /// Whether the source is to send an EOF at the end of its log instead of waiting there.
     pub once: bool,
-    /// Whether to report how many bytes have been received.
-    pub progress: bool,
+    pub report: Report<'a>,
 }
 
 /// Follows a source into a database until the connection ends, prints how it ended, and returns the exit status. With a
@@ -48,6 +46,7 @@ pub fn follow_source<'a, W: Write, E: Write>(
 ) -> Result<u8, Failure<'a>>
     ensures { IfOk result (λ status. status ≤ MEMORY) }
 {
+    check(words.report)?;
     let port = number(words.port, 65_535)? as u16;
     let server_id = number(words.server_id, u32::MAX)?;
     let only = match only {
@@ -55,17 +54,44 @@ pub fn follow_source<'a, W: Write, E: Write>(
         None => None,
     };
     let config = settings(rt, words, server_id)?;
-    let host = Host {
+    let streams = [words.host];
+    let feed = feed_of(rt, words.report, words.db, &[])?;
+    let is_new = match &feed {
+        Some(feed) => feed.is_new,
+        None => false,
+    };
+    let source = Source {
         rt,
-        name: words.host,
+        streams: &streams,
         port,
+        db: words.db,
     };
-    let followed = if words.progress {
-        follow_reporting(host, words, only.as_ref(), config, err)?
-    } else {
-        follow_quietly(host, words, only.as_ref(), config)?
+    let reporting = Reporting {
+        progress: words.report.progress,
+        total: None,
     };
-    report(words, followed, out, err)
+    let mut watch = Watch::new(source, reporting, feed, out, err);
+    let followed = follow_over(rt, words, port, only.as_ref(), config, &mut watch);
+    if followed.is_err() {
+        remove(rt, words.report.changes.unwrap_or(OUTPUT), is_new);
+    }
+    let Followed { connection, closed } = followed?;
+    let (end, failure) = match connection {
+        Ok(ended) => ended,
+        Err(cause) => {
+            return Err(Failure::Host {
+                name: words.host,
+                cause,
+            });
+        }
+    };
+    let printed = watch.report(1, &end, failure);
+    let stopped = stop_of(watch.stop(), words.report);
+    let written = match printed {
+        Ok(()) => stopped.and(closed),
+        Err(cause) => Err(Failure::Output(cause)),
+    };
+    status_of(&[end], written, err)
 }
 
 /// A number from 1 to the largest, in decimal digits.
@@ -112,32 +138,6 @@ struct Followed<'a> {
     closed: Result<(), Failure<'a>>,
 }
 
-/// Writes the line of the end, and returns the exit status.
-fn report<'a, W: Write, E: Write>(
-    words: Words<'a>,
-    followed: Followed<'a>,
-    out: &mut W,
-    err: &mut E,
-) -> Result<u8, Failure<'a>>
-    ensures { IfOk result (λ status. status ≤ MEMORY) }
-{
-    let name = words.host;
-    let Followed { connection, closed } = followed;
-    let (end, failure) = match connection {
-        Ok(ended) => ended,
-        Err(cause) => return Err(Failure::Host { name, cause }),
-    };
-    let _ = match failure {
-        Some(kind) => writeln!(err, "mrep: {}: {kind}", Shown(name)),
-        None => write_cause(name, words.db, &end.reason, err),
-    };
-    let written = match write_end(1, &end, out) {
-        Ok(()) => closed,
-        Err(cause) => Err(Failure::Output(cause)),
-    };
-    status_of(&[end], written, err)
-}
-
 /// Where the source listens.
 #[derive(Clone, Copy)]
 struct Host<'r> {
@@ -155,61 +155,24 @@ impl Host<'_> {
     }
 }
 
-fn follow_quietly<'a, 'r>(
-    host: Host<'r>,
-    words: Words<'a>,
-    only: Option<&Follow>,
-    config: Config,
-) -> Result<Followed<'a>, Failure<'a>> {
-    follow_over(host.rt, words, only, config, move || host.connect())
-}
-
-/// A host whose connection is reported on.
-#[derive(Drop)]
-struct Reported<'r, E> {
-    host: Host<'r>,
-    err: &'r mut E,
-}
-
-impl<'r, E: Write> Reported<'r, E> {
-    fn connect(self) -> io::Result<Progress<'r, Socket, E>> {
-        let Reported { host, err } = self;
-        let stream = match host.connect() {
-            Ok(stream) => stream,
-            Err(cause) => return Err(cause),
-        };
-        let (name, port) = (Shown(host.name), host.port);
-        let _ = writeln!(err, "mrep: connected to {name} port {port}");
-        Ok(Progress::new(stream, host.rt, err))
-    }
-}
-
-/// Follows, and reports on standard error that the source has been reached, and how many bytes have come.
-fn follow_reporting<'a, 'r, E: Write>(
-    host: Host<'r>,
-    words: Words<'a>,
-    only: Option<&Follow>,
-    config: Config,
-    err: &'r mut E,
-) -> Result<Followed<'a>, Failure<'a>> {
-    let reported = Reported { host, err };
-    follow_over(host.rt, words, only, config, move || reported.connect())
-}
-
-/// Follows over the stream of a connection.
-fn follow_over<'a, T: Duplex + Drop, F: FnOnce() -> io::Result<T> + Drop>(
+/// Follows over a socket.
+fn follow_over<'a, W: Observer>(
     rt: &HostRuntime,
     words: Words<'a>,
+    port: u16,
     only: Option<&Follow>,
     config: Config,
-    connect: F,
-) -> Result<Followed<'a>, Failure<'a>>
-    requires { F.IsAlwaysCallable connect }
-{
+    observer: &mut W,
+) -> Result<Followed<'a>, Failure<'a>> {
+    let host = Host {
+        rt,
+        name: words.host,
+        port,
+    };
     let FollowedFile {
         connection,
         closed: files,
-    } = follow_into(rt, words.db, only, config, connect)?;
+    } = follow_into(rt, words.db, only, config, move || host.connect(), observer)?;
     let connection = match connection {
         Ok((end, stream)) => Ok((end, stream.failure())),
         Err(cause) => Err(cause),

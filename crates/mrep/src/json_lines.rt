@@ -20,7 +20,7 @@ fn write_text<W: Write>(alloc: Global, text: &str, out: &mut W) -> io::Result<()
 }
 
 /// Writes a name as a JSON string; one that is not UTF-8 as the text format has it.
-fn write_label<W: Write>(alloc: Global, name: &[u8], out: &mut W) -> io::Result<()> {
+pub fn write_label<W: Write>(alloc: Global, name: &[u8], out: &mut W) -> io::Result<()> {
     if let Ok(text) = str::from_utf8(name) {
         return write_text(alloc, text, out);
     }
@@ -112,6 +112,32 @@ fn write_widths<W: Write>(row: &Image, out: &mut W) -> io::Result<()> {
     Ok(())
 }
 
+/// Writes the members of an object for the cells of a row and their widths.
+fn write_row<W: Write>(
+    alloc: Global,
+    row: &Image,
+    encoding: Encoding,
+    out: &mut W,
+) -> io::Result<()> {
+    out.write_all(b"\"cells\":[")?;
+    write_cells(alloc, row, encoding, out)?;
+    out.write_all(b"],\"widths\":[")?;
+    write_widths(row, out)?;
+    out.write_all(b"]")
+}
+
+/// Writes an object with the cells of a row and their widths.
+pub fn write_image<W: Write>(
+    alloc: Global,
+    row: &Image,
+    encoding: Encoding,
+    out: &mut W,
+) -> io::Result<()> {
+    out.write_all(b"{")?;
+    write_row(alloc, row, encoding, out)?;
+    out.write_all(b"}")
+}
+
 /// Writes the object of a row and a line feed.
 pub fn write_object<W: Write>(
     alloc: Global,
@@ -123,9 +149,7 @@ pub fn write_object<W: Write>(
     write_label(alloc, &row.schema, out)?;
     out.write_all(b",\"table\":")?;
     write_label(alloc, &row.table, out)?;
-    write!(out, ",\"count\":{},\"cells\":[", row.count)?;
-    write_cells(alloc, &row.image, encoding, out)?;
-    out.write_all(b"],\"widths\":[")?;
-    write_widths(&row.image, out)?;
-    out.write_all(b"]}\n")
+    write!(out, ",\"count\":{},", row.count)?;
+    write_row(alloc, &row.image, encoding, out)?;
+    out.write_all(b"}\n")
 }

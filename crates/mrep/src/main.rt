@@ -12,8 +12,10 @@ mod copy;
 mod csv_lines;
 mod damage;
 mod database;
+mod details;
 mod events;
 mod failure;
+mod feed;
 mod follow;
 mod forge;
 mod format;
@@ -30,6 +32,7 @@ mod skip;
 mod socket;
 mod stream;
 mod tables;
+mod watch;
 
 use crate::command::command;
 use crate::failure::{MEMORY, USAGE};

@@ -1,90 +1,91 @@
-//! A stream that reports how many bytes have been read.
+//! Lines that report how far a command has come.
 
-ghost use Rattle.std.specs.Prelude.{◌≡◌, is_err, if◌then◌else◌, length};
-ghost use Rattle.std.specs.Io.{ReadsAtMost, WritesAtMost};
-ghost use Rattle.std.specs.Io.KnownBytes.{ReadConsumes, WriteAppends, Keeps};
-ghost use Rattle.replica.specs.Failing.{HaveFailed, failed_to_write};
-
-use replica::Duplex;
-use std::io;
-use std::io::{Read, Write};
+use std::io::Write;
 use std::time::{Duration, Instant};
 
-/// A stream that writes a line with the number of bytes read, at most once a second. Otherwise it behaves like the
-/// inner stream.
+/// How far a command has come. It is reported at most once a second.
 #[derive(Drop)]
-pub struct Progress<'a, T, E> {
-    stream: T,
-    clock: &'a HostRuntime,
-    err: &'a mut E,
-    /// How many bytes have been read, and when the last line was written.
-    count: u64,
+pub struct Progress {
+    /// How many bytes are to be read, if that is known.
+    total: Option<u64>,
+    /// Whether standard error is a terminal, on which one line is written again and again.
+    redraws: bool,
+    bytes: u64,
+    applied: u64,
+    /// When the last line was written, and how many transactions had been applied then.
     printed: Option<Instant>,
+    before: u64,
+    /// Whether the last line has no line feed yet.
+    open: bool,
 }
 
-impl<'a, T, E: Write> Progress<'a, T, E> {
-    /// The stream, before any read.
-    pub fn new(stream: T, clock: &'a HostRuntime, err: &'a mut E) -> Progress<'a, T, E> {
-        let printed = Instant::now(clock).ok();
+impl Progress {
+    /// Nothing has been read.
+    pub fn new(clock: &HostRuntime, total: Option<u64>, redraws: bool) -> Progress {
         Progress {
-            stream,
-            clock,
-            err,
-            count: 0,
-            printed,
+            total,
+            redraws,
+            bytes: 0,
+            applied: 0,
+            printed: Instant::now(clock).ok(),
+            before: 0,
+            open: false,
         }
     }
 
-    /// Counts the bytes of a read. If the clock or the writing of a line fails, the stream is not affected.
-    fn tell(&mut self, count: usize)
-        ensures { self.new.stream ≡ self.old.stream }
-    {
-        self.count = self.count.saturating_add(count as u64);
-        let Ok(now) = Instant::now(self.clock) else {
+    /// Counts a transaction.
+    pub fn count(&mut self) {
+        self.applied = self.applied.saturating_add(1);
+    }
+
+    /// Counts the bytes of a read, and writes a line if the last one was written a second ago. If the clock or the writing
+    /// fails, nothing else is affected.
+    pub fn read<E: Write>(&mut self, clock: &HostRuntime, count: usize, err: &mut E) {
+        self.bytes = self.bytes.saturating_add(count as u64);
+        let Ok(now) = Instant::now(clock) else {
             return;
         };
-        if let Some(printed) = self.printed
-            && now.duration_since(printed) < Duration::from_secs(1)
-        {
+        let passed = match self.printed {
+            Some(printed) => now.duration_since(printed),
+            None => Duration::from_secs(1),
+        };
+        if passed < Duration::from_secs(1) {
             return;
         }
+        let rate = per_second(self.applied.saturating_sub(self.before), passed);
         self.printed = Some(now);
-        let _ = writeln!(self.err, "mrep: {} bytes received", self.count);
-    }
-}
-
-impl<'a, T: Read, E> Read for Progress<'a, T, E> {
-    ghost remaining = { λ p. T.remaining p.stream };
-
-    fn read(&mut self, buf: &mut [u8]) -> io::Result<usize> {
-        self.stream.read(buf)
-    }
-}
-
-impl<'a, T: Write, E> Write for Progress<'a, T, E> {
-    ghost contents = { λ p. T.contents p.stream };
-
-    fn write(&mut self, buf: &[u8]) -> io::Result<usize> {
-        self.stream.write(buf)
+        self.before = self.applied;
+        let _ = self.write(rate, err);
     }
 
-    fn flush(&mut self) -> io::Result<()> {
-        self.stream.flush()
-    }
-}
-
-impl<'a, T: Duplex, E: Write> Duplex for Progress<'a, T, E> {
-    ghost failures = { λ p. T.failures p.stream };
-
-    fn receive(&mut self, buf: &mut [u8]) -> io::Result<usize> {
-        let received = self.stream.receive(buf);
-        if let Ok(count) = &received {
-            self.tell(*count);
+    fn write<E: Write>(&mut self, rate: u64, err: &mut E) -> std::io::Result<()> {
+        if self.redraws {
+            self.open = true;
+            err.write_all(b"\r")?;
         }
-        received
+        let (bytes, applied) = (self.bytes, self.applied);
+        match self.total {
+            Some(total) => write!(err, "mrep: {bytes} of {total} bytes read")?,
+            None => write!(err, "mrep: {bytes} bytes read")?,
+        }
+        write!(err, ", {applied} transactions applied, {rate} a second")?;
+        if self.redraws {
+            return err.write_all(b"\x1b[K");
+        }
+        writeln!(err)
     }
 
-    fn send(&mut self, buf: &[u8]) -> io::Result<usize> {
-        self.stream.send(buf)
+    /// Ends the line of a terminal, so that another can follow.
+    pub fn end_line<E: Write>(&mut self, err: &mut E) {
+        if self.open {
+            self.open = false;
+            let _ = writeln!(err);
+        }
     }
+}
+
+/// How many there were in a second, on average.
+fn per_second(count: u64, passed: Duration) -> u64 {
+    let millis = u64::try_from(passed.as_millis()).unwrap_or(u64::MAX);
+    count.saturating_mul(1000) / millis.max(1)
 }

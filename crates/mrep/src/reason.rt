@@ -86,6 +86,7 @@ fn plain_reason(reason: &Reason) -> &'static str {
         Reason::Memory => "Memory",
         Reason::ReadFailed => "ReadFailed",
         Reason::WriteFailed => "WriteFailed",
+        Reason::Halted => "Halted",
     }
 }
 
@@ -133,21 +134,28 @@ pub fn write_cause<W: Write>(
         }
         Reason::Database(fault) => writeln!(out, "mrep: {file}: {fault}"),
         Reason::Memory => writeln!(out, "mrep: {stream}: out of memory"),
+        Reason::Halted => writeln!(out, "mrep: {stream}: stopped before a transaction"),
         Reason::EndOfInput | Reason::SourceEof | Reason::ReadFailed | Reason::WriteFailed => Ok(()),
     }
 }
 
-/// Writes the message of a source. Printable ASCII except the backslash is written as it is, any other byte as `\x` and
-/// two hexadecimal digits.
+/// Writes the message of a source.
 fn write_message<W: Write>(stream: Shown<'_>, message: &[u8], out: &mut W) -> io::Result<()> {
     write!(out, "mrep: {stream}: the source says: ")?;
-    for byte in message {
+    write_escaped(message, out)?;
+    writeln!(out)
+}
+
+/// Writes a text of the source. Printable ASCII except the backslash is written as it is, any other byte as `\x` and two
+/// hexadecimal digits.
+pub fn write_escaped<W: Write>(text: &[u8], out: &mut W) -> io::Result<()> {
+    for byte in text {
         match *byte {
             plain @ (b' '..=b'[' | b']'..=b'~') => out.write_all(&[plain])?,
             other => write!(out, "\\x{other:02x}")?,
         }
     }
-    writeln!(out)
+    Ok(())
 }
 
 /// The exit status of a reason.
@@ -163,7 +171,7 @@ fn status_of(reason: &Reason) -> u8
         | Reason::Event(_)
         | Reason::Gather(_)
         | Reason::Refused(_) => REFUSED,
-        Reason::Database(_) | Reason::ReadFailed | Reason::WriteFailed => FILES,
+        Reason::Database(_) | Reason::ReadFailed | Reason::WriteFailed | Reason::Halted => FILES,
         Reason::Memory => MEMORY,
     }
 }

@@ -1,14 +1,17 @@
 //! `mrep replay`: connections read from files into a database.
 
-ghost use Rattle.std.specs.Prelude.{◌≡◌, ◌≤◌, Err, IfOk, IfErr, is_err};
+ghost use Rattle.std.specs.Prelude.{◌≡◌, ◌≤◌, Err, IfOk, IfErr};
 ghost use Rattle.mrep.specs.Reason.{first_status};
 
 use crate::database::{closed, replay_into};
 use crate::failure::{DONE, Failure, MEMORY};
+use crate::feed::{Feed, OUTPUT, remove};
+use crate::format::{Format, encoding_of};
 use crate::name::read_table;
-use crate::reason::{first_status, write_cause, write_end};
+use crate::reason::first_status;
+use crate::watch::{Reporting, Source, Stop, Watch};
 use binlog::Follow;
-use replica::{Capture, Config, Ended, Halt, Observer, Replayed, read_some};
+use replica::{Capture, Config, Ended, Halt, Replayed, read_some};
 use std::alloc::Global;
 use std::fs::File;
 use std::io::Write;
@@ -18,33 +21,64 @@ use wire::LARGEST_PAYLOAD;
 /// The server id of the replica. It is never sent: a replay sends nothing.
 const SERVER_ID: u32 = 1;
 
-/// Prints the line of each stream as it ends.
-#[derive(Drop)]
-struct Printer<'a, W> {
-    out: &'a mut W,
-    /// How many have ended.
-    ended: usize,
-    /// How the last writing of a line went.
-    printed: io::Result<()>,
+/// The arguments besides the streams.
+#[derive(Clone, Copy)]
+pub struct Choice<'g, 'a> {
+    /// The database file.
+    pub db: &'a str,
+    /// The tables whose rows are kept.
+    pub only: Option<&'g [&'a str]>,
+    pub report: Report<'a>,
 }
 
-impl<'a, W> Printer<'a, W> {
-    fn new(out: &'a mut W) -> Printer<'a, W> {
-        Printer {
-            out,
-            ended: 0,
-            printed: Ok(()),
-        }
+/// What is reported.
+#[derive(Clone, Copy)]
+pub struct Report<'a> {
+    /// Whether to report how far the command has come.
+    pub progress: bool,
+    /// Where the change feed goes.
+    pub changes: Option<&'a str>,
+    /// How it has bytes.
+    pub bytes: Option<&'a str>,
+}
+
+/// Whether the words go together: a form of bytes is that of a feed.
+pub fn check<'a>(report: Report<'a>) -> Result<(), Failure<'a>> {
+    if report.bytes.is_some() && report.changes.is_none() {
+        return Err(Failure::Bytes);
+    }
+    Ok(())
+}
+
+/// The change feed that is asked for, if one is.
+pub fn feed_of<'a>(
+    rt: &HostRuntime,
+    report: Report<'a>,
+    db: &str,
+    streams: &[&str],
+) -> Result<Option<Feed>, Failure<'a>> {
+    let Some(name) = report.changes else {
+        return Ok(None);
+    };
+    let encoding = encoding_of(report.bytes, Format::Json)?;
+    if name == OUTPUT {
+        return Ok(Some(Feed::to_output(rt.alloc(), encoding)));
+    }
+    match Feed::to_file(rt, name, db, streams, encoding) {
+        Ok(feed) => Ok(Some(feed)),
+        Err(failure) => Err(failure),
     }
 }
 
-impl<'a, W: Write> Observer for Printer<'a, W> {
-    ghost has_stopped = { λ p. is_err p.printed };
-
-    fn ended(&mut self, end: &Ended) -> bool {
-        self.ended = self.ended.saturating_add(1);
-        self.printed = write_end(self.ended, end, self.out);
-        self.printed.is_ok()
+/// The failure that stopped the reading, if there is one.
+pub fn stop_of<'a>(stop: Option<Stop>, report: Report<'a>) -> Result<(), Failure<'a>> {
+    match (stop, report.changes) {
+        (None, _) => Ok(()),
+        (Some(Stop::Feed(cause)), Some(name)) if name != OUTPUT => Err(Failure::File {
+            name,
+            cause,
+        }),
+        (Some(Stop::Feed(cause) | Stop::Output(cause)), _) => Err(Failure::Output(cause)),
     }
 }
 
@@ -54,42 +88,58 @@ impl<'a, W: Write> Observer for Printer<'a, W> {
 /// All streams are opened and their first bytes are read before the database is opened.
 pub fn replay<'a, W: Write, E: Write>(
     rt: &HostRuntime,
-    file: &'a str,
-    only: Option<&[&'a str]>,
+    choice: Choice<'_, 'a>,
     names: &[&'a str],
     out: &mut W,
     err: &mut E,
 ) -> Result<u8, Failure<'a>>
     ensures { IfOk result (λ status. status ≤ MEMORY) }
 {
+    let Choice { db, only, report } = choice;
+    check(report)?;
     let only = match only {
         Some(words) => Some(tables(rt.alloc(), words)?),
         None => None,
     };
-    let captures = open_streams(rt, names)?;
+    let (captures, total) = open_streams(rt, names)?;
     let Ok(config) = Config::new(rt.alloc(), b"", b"", SERVER_ID, false, LARGEST_PAYLOAD) else {
         return Err(Failure::Memory);
     };
-    let printer = Printer::new(out);
-    let (done, printer) = replay_into(rt, file, only.as_ref(), &config, captures, printer)?;
-    let Printer { printed, .. } = printer;
+    let feed = feed_of(rt, report, db, names)?;
+    let is_new = match &feed {
+        Some(feed) => feed.is_new,
+        None => false,
+    };
+    let source = Source {
+        rt,
+        streams: names,
+        port: 0,
+        db,
+    };
+    let reporting = Reporting {
+        progress: report.progress,
+        total: if total == 0 { None } else { Some(total) },
+    };
+    let mut watch = Watch::new(source, reporting, feed, out, err);
+    let done = replay_into(rt, db, only.as_ref(), &config, captures, &mut watch);
+    let stopped = stop_of(watch.stop(), report);
+    let done = match done {
+        Ok(done) => done,
+        Err(failure) => {
+            remove(rt, report.changes.unwrap_or(OUTPUT), is_new);
+            return Err(failure);
+        }
+    };
     let Replayed {
         ends,
         read,
         closed: files,
     } = done;
-    for (name, end) in names.iter().zip(&ends) {
-        let _ = write_cause(name, file, &end.reason, err);
-    }
     let read = match read {
-        Ok(()) => Ok(()),
-        Err(Halt::Observer) => match printed {
-            Ok(()) => Ok(()),
-            Err(cause) => Err(Failure::Output(cause)),
-        },
         Err(Halt::Reader(cause)) => Err(unread(names, ends.len(), cause)),
+        Ok(()) | Err(Halt::Observer) => stopped,
     };
-    status_of(&ends, read.and(closed(file, files)), err)
+    status_of(&ends, read.and(closed(db, files)), err)
 }
 
 /// The failure of the reading of a stream, the one after this many.
@@ -136,25 +186,32 @@ pub fn tables<'a>(alloc: Global, words: &[&'a str]) -> Result<Follow, Failure<'a
     }
 }
 
-/// Opens the streams, in order, and reads the first byte of each.
+/// Opens the streams, in order, reads the first byte of each, and adds up their sizes.
 fn open_streams<'a>(
     rt: &HostRuntime,
     names: &[&'a str],
-) -> Result<Vec<Capture<File>>, Failure<'a>> {
+) -> Result<(Vec<Capture<File>>, u64), Failure<'a>> {
     let mut streams = Vec::with_capacity(rt.alloc(), names.len())?;
+    let mut total = 0u64;
     for name in names {
-        streams.push(open_stream(rt, name)?)?;
+        let (stream, size) = open_stream(rt, name)?;
+        streams.push(stream)?;
+        total = total.saturating_add(size);
     }
-    Ok(streams)
+    Ok((streams, total))
 }
 
-fn open_stream<'a>(rt: &HostRuntime, name: &'a str) -> Result<Capture<File>, Failure<'a>> {
+fn open_stream<'a>(rt: &HostRuntime, name: &'a str) -> Result<(Capture<File>, u64), Failure<'a>> {
     let mut reader = fs::open(rt, name).map_err(|cause| Failure::File { name, cause })?;
+    let size = match reader.metadata() {
+        Ok(metadata) => metadata.len(),
+        Err(cause) => return Err(Failure::File { name, cause }),
+    };
     let mut byte = [0u8; 1];
     let first = match read_some(&mut reader, &mut byte) {
         Ok(0) => None,
         Ok(_) => Some(byte[0]),
         Err(cause) => return Err(Failure::File { name, cause }),
     };
-    Ok(Capture { first, reader })
+    Ok((Capture { first, reader }, size))
 }

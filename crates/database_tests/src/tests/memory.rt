@@ -10,7 +10,9 @@ use super::streams::{HISTORY_END, ONE_TRANSACTION, SENT, cut};
 use binlog::Follow;
 use gather::Delivery;
 use gtid::{Gtid, GtidSet};
-use replica::{Config, ConfigFault, Counted, Ended, Reason, Session, follow, read_stream, run};
+use replica::{
+    Config, ConfigFault, Counted, Ended, Reason, Session, Unobserved, follow, read_stream, run,
+};
 use scripted_source::{ForgeFault, answer, check, opening};
 use sqlite::{Connection, Error, ErrorCode, MemStore};
 use std::alloc::Global;
@@ -255,7 +257,7 @@ fn read_one(alloc: Global, store: &mut Store<MemStore>, number: u8) -> Option<En
     let bytes = stream(number);
     let (first, mut rest) = bytes.split_at(250);
     let mut piece = [0; 64];
-    let end = read_stream(config, store, first, &mut rest, &mut piece);
+    let end = read_stream(config, store, first, &mut rest, &mut piece, &mut Unobserved);
     Some(end_of_connection(&end.ok()?))
 }
 

@@ -18,6 +18,7 @@ pub(super) fn name(reason: &Reason) -> &'static str {
         Reason::Wire(WireFault::TooLarge) => "Wire.TooLarge",
         Reason::ReadFailed => "ReadFailed",
         Reason::WriteFailed => "WriteFailed",
+        Reason::Halted => "Halted",
         _ => "another",
     }
 }
@@ -44,7 +45,7 @@ pub(super) fn ends<S: Alter>(
 }
 
 /// How a connection ended: why, the bytes of the payloads taken, and how many transactions were applied.
-fn line(alloc: Global, end: &Ended) -> Result<String, Fail> {
+pub(super) fn line(alloc: Global, end: &Ended) -> Result<String, Fail> {
     let name = name(&end.reason);
     Ok(format!(in alloc; "{name} at {} applied {}", end.at, end.applied)?)
 }

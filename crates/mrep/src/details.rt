@@ -1,0 +1,184 @@
+//! What is known of the transaction in which a connection ended.
+
+use crate::cells::write_first_cells;
+use crate::name::{Shown, write_table};
+use crate::reason::write_escaped;
+use binlog::{EventFault, EventFaultKind};
+use gather::{Change, Delivery, Image};
+use gtid::Gtid;
+use replica::{Reason, Refusal};
+use std::alloc::Global;
+use std::io;
+use std::io::Write;
+
+/// How much of a statement or a row is printed, in bytes.
+const MOST: usize = 512;
+
+/// The transaction at hand, and lines of text that say where in it the connection has ended.
+#[derive(Drop)]
+pub struct Details {
+    /// The transaction that has begun and not ended.
+    pub gtid: Option<Gtid>,
+    lines: Vec<u8>,
+}
+
+impl Details {
+    /// Nothing is known.
+    pub fn new(alloc: Global) -> Details {
+        Details {
+            gtid: None,
+            lines: Vec::new(alloc),
+        }
+    }
+
+    /// Notes the payload of an event that ends a connection. What does not fit into memory is left out.
+    pub fn refuse(&mut self, payload: &[u8], reason: &Reason) {
+        let ([0, event @ ..], Reason::Event(fault)) = (payload, reason) else {
+            return;
+        };
+        let _ = write_fault(*fault, event, &mut self.lines);
+    }
+
+    /// Notes the transaction that ends a connection, and its refused change.
+    pub fn refuse_change(&mut self, delivery: &Delivery, reason: &Reason) {
+        self.gtid = Some(delivery.gtid);
+        let Reason::Refused(refusal) = reason else {
+            return;
+        };
+        let at = match refusal {
+            Refusal::NoSuchRow(at) | Refusal::CountFull(at) => *at,
+        };
+        if let Some(change) = delivery.changes.get(at) {
+            let _ = write_change(change, *refusal, &mut self.lines);
+        }
+    }
+
+    /// Writes the lines, each after the name of the stream, and how the transaction can be left out. Ends that no
+    /// transaction has caused have no lines.
+    pub fn write<E: Write>(
+        &self,
+        stream: &str,
+        db: &str,
+        reason: &Reason,
+        err: &mut E,
+    ) -> io::Result<()> {
+        let can_skip = match reason {
+            Reason::Event(_) | Reason::Gather(_) | Reason::Refused(_) => true,
+            Reason::Database(_) | Reason::Memory | Reason::Halted => false,
+            _ => return Ok(()),
+        };
+        let (stream, db) = (Shown(stream), Shown(db));
+        for line in self.lines.split(|byte| *byte == b'\n') {
+            if !line.is_empty() {
+                write!(err, "mrep: {stream}: ")?;
+                err.write_all(line)?;
+                writeln!(err)?;
+            }
+        }
+        let Some(gtid) = self.gtid else {
+            return Ok(());
+        };
+        writeln!(err, "mrep: {stream}: in transaction {gtid}")?;
+        if !can_skip {
+            return Ok(());
+        }
+        writeln!(
+            err,
+            "mrep: {stream}: to leave it out: mrep skip --db {db} {gtid}"
+        )
+    }
+
+    /// Forgets all.
+    pub fn clear(&mut self) {
+        self.gtid = None;
+        self.lines.clear();
+    }
+}
+
+/// Writes the statement of a QUERY event that is not supported, or the table and the column of a table map that is not.
+fn write_fault(fault: EventFault, event: &[u8], out: &mut Vec<u8>) -> io::Result<()> {
+    match fault.kind {
+        EventFaultKind::Statement => write_statement(event.get(fault.at..).unwrap_or(&[]), out),
+        EventFaultKind::ColumnType(_) => match table_in(event) {
+            Some((schema, table, types)) => {
+                write_place(schema, table, out)?;
+                match fault.at.checked_sub(types) {
+                    Some(column) => writeln!(out, ", column {}", column.saturating_add(1)),
+                    None => writeln!(out),
+                }
+            }
+            None => Ok(()),
+        },
+        EventFaultKind::Metadata => match table_in(event) {
+            Some((schema, table, _)) => {
+                write_place(schema, table, out)?;
+                writeln!(out)
+            }
+            None => Ok(()),
+        },
+        _ => Ok(()),
+    }
+}
+
+/// Writes the first bytes of a statement.
+fn write_statement(text: &[u8], out: &mut Vec<u8>) -> io::Result<()> {
+    out.write_all(b"the statement is: ")?;
+    match text.split_at_checked(MOST) {
+        Some((head, [_, ..])) => {
+            write_escaped(head, out)?;
+            out.write_all(b"...\n")
+        }
+        _ => {
+            write_escaped(text, out)?;
+            writeln!(out)
+        }
+    }
+}
+
+fn write_place(schema: &[u8], table: &[u8], out: &mut Vec<u8>) -> io::Result<()> {
+    out.write_all(b"table ")?;
+    write_table(schema, table, out)
+}
+
+/// The names in a table map, and the offset at which the types of its columns begin (MySQL Source Documentation, "Binlog
+/// Event", the page `binary_log::Table_map_event`).
+fn table_in(event: &[u8]) -> Option<(&[u8], &[u8], usize)> {
+    let schema_end = 28 + usize::from(*event.get(27)?);
+    let schema = event.get(28..schema_end)?;
+    let table_end = schema_end + 2 + usize::from(*event.get(schema_end + 1)?);
+    let table = event.get(schema_end + 2..table_end)?;
+    let count = table_end + 1;
+    // The number of columns is a length-encoded integer.
+    let width = match *event.get(count)? {
+        0..=250 => 1,
+        252 => 3,
+        253 => 4,
+        _ => 9,
+    };
+    Some((schema, table, count + width))
+}
+
+/// Writes the table and the row of a change that is refused.
+fn write_change(change: &Change, refusal: Refusal, out: &mut Vec<u8>) -> io::Result<()> {
+    let (table, row) = match change {
+        Change::Insert { table, after } => (table, after),
+        Change::Delete { table, before } => (table, before),
+        Change::Update {
+            table,
+            before,
+            after,
+        } => match refusal {
+            Refusal::NoSuchRow(_) => (table, before),
+            Refusal::CountFull(_) => (table, after),
+        },
+    };
+    write_place(&table.schema, &table.table, out)?;
+    write_line(row, out)
+}
+
+/// Writes the cells of a row, or the first of them.
+fn write_line(row: &Image, out: &mut Vec<u8>) -> io::Result<()> {
+    out.write_all(b", row ")?;
+    write_first_cells(row, MOST, out)?;
+    writeln!(out)
+}

@@ -1,0 +1,248 @@
+//! The change feed of `mrep replay` and `mrep follow`: each transaction as JSON lines.
+//!
+//! The changes of a transaction are written before they are committed, and to a file they are synced, so none is missing
+//! that the database has. After the commit a line says so. A feed begins with the executed set of the database, which says
+//! of the last transaction of an earlier run whether it was committed.
+
+use crate::failure::Failure;
+use crate::format::Encoding;
+use crate::json_lines::{write_image, write_label};
+use gather::{Change, Delivery, Image};
+use gtid::{Gtid, GtidSet};
+use std::alloc::{AllocError, Global};
+use std::fs::{File, OpenOptions};
+use std::io::{BufWriter, ErrorKind, Read, Seek, SeekFrom, Write};
+use std::{fs, io};
+
+/// The word for the output of the command.
+pub const OUTPUT: &str = "-";
+
+const TAKEN: &str = "it is the database, its log or one of the streams";
+
+/// What is written at once.
+#[derive(Clone, Copy)]
+pub enum Entry<'a> {
+    /// The executed set at the start.
+    Opened(&'a GtidSet),
+    /// The changes of a transaction that is to be committed.
+    Changes(&'a Delivery),
+    /// The transaction has been committed.
+    Committed(Gtid),
+    /// The transaction was refused, and none of its changes is in the database.
+    RolledBack(Gtid),
+}
+
+/// A change feed.
+#[derive(Drop)]
+pub struct Feed {
+    /// The file, or `None` for the output of the command.
+    file: Option<BufWriter<File>>,
+    encoding: Encoding,
+    alloc: Global,
+    /// Whether the file was made for the feed.
+    pub is_new: bool,
+    /// Whether the file ends inside a line.
+    is_cut: bool,
+}
+
+impl Feed {
+    /// A feed to the output.
+    pub fn to_output(alloc: Global, encoding: Encoding) -> Feed {
+        Feed {
+            file: None,
+            encoding,
+            alloc,
+            is_new: false,
+            is_cut: false,
+        }
+    }
+
+    /// A feed to the end of a file, which is made if it does not exist. The file must be none of those that the command
+    /// uses.
+    pub fn to_file<'a>(
+        rt: &HostRuntime,
+        name: &'a str,
+        db: &str,
+        streams: &[&str],
+        encoding: Encoding,
+    ) -> Result<Feed, Failure<'a>> {
+        let is_new = !fs::exists(rt, name).unwrap_or(true);
+        let opened = open(rt, name, db, streams);
+        match opened {
+            Ok(Some((file, is_cut))) => Ok(Feed {
+                file: Some(file),
+                encoding,
+                alloc: rt.alloc(),
+                is_new,
+                is_cut,
+            }),
+            Ok(None) => {
+                remove(rt, name, is_new);
+                Err(Failure::Unusable { name, why: TAKEN })
+            }
+            Err(cause) => {
+                remove(rt, name, is_new);
+                Err(Failure::File { name, cause })
+            }
+        }
+    }
+
+    /// Whether the feed goes to the output.
+    pub fn is_output(&self) -> bool {
+        self.file.is_none()
+    }
+
+    /// Writes an entry. When the changes of a transaction are written, a file has them on its disk.
+    pub fn write<O: Write>(&mut self, entry: Entry<'_>, out: &mut O) -> io::Result<()> {
+        let Some(file) = &mut self.file else {
+            write_entry(self.alloc, self.encoding, entry, out)?;
+            return out.flush();
+        };
+        if self.is_cut {
+            file.write_all(b"\n")?;
+            self.is_cut = false;
+        }
+        write_entry(self.alloc, self.encoding, entry, file)?;
+        file.flush()?;
+        match entry {
+            Entry::Changes(delivery) if !delivery.changes.is_empty() => file.get_ref().sync_data(),
+            _ => Ok(()),
+        }
+    }
+}
+
+/// Removes a file that was made for a feed.
+pub fn remove(rt: &HostRuntime, name: &str, is_new: bool) {
+    if is_new {
+        let _ = fs::remove_file(rt, name);
+    }
+}
+
+/// Opens the file of a feed, and finds out whether it ends inside a line. `None` if it is one that the command uses.
+fn open(
+    rt: &HostRuntime,
+    name: &str,
+    db: &str,
+    streams: &[&str],
+) -> io::Result<Option<(BufWriter<File>, bool)>> {
+    let mut file = OpenOptions::new()
+        .read(true)
+        .append(true)
+        .create(true)
+        .open(rt, name)?;
+    if is_taken(rt, name, db, streams)? {
+        return Ok(None);
+    }
+    let is_cut = ends_inside(&mut file)?;
+    Ok(Some((BufWriter::new(rt.alloc(), file)?, is_cut)))
+}
+
+/// Whether a file is one of those that the command uses.
+fn is_taken(rt: &HostRuntime, name: &str, db: &str, streams: &[&str]) -> io::Result<bool> {
+    let path = fs::canonicalize(rt, name)?;
+    for stream in streams {
+        if is_path(rt, stream, path.as_str()) {
+            return Ok(true);
+        }
+    }
+    let log = format!(in rt.alloc(); "{db}-wal")?;
+    Ok(is_path(rt, db, path.as_str()) || is_path(rt, log.as_str(), path.as_str()))
+}
+
+/// Whether a name leads to this path.
+fn is_path(rt: &HostRuntime, name: &str, path: &str) -> bool {
+    match fs::canonicalize(rt, name) {
+        Ok(other) => other.as_str() == path,
+        Err(_) => false,
+    }
+}
+
+/// Whether a file ends inside a line.
+fn ends_inside(file: &mut File) -> io::Result<bool> {
+    let metadata = file.metadata()?;
+    if !metadata.is_file() || metadata.len() == 0 {
+        return Ok(false);
+    }
+    let mut last = [0; 1];
+    file.seek(SeekFrom::End(-1))?;
+    file.read_exact(&mut last)?;
+    Ok(last != *b"\n")
+}
+
+/// Writes the lines of an entry.
+fn write_entry<W: Write>(
+    alloc: Global,
+    encoding: Encoding,
+    entry: Entry<'_>,
+    out: &mut W,
+) -> io::Result<()> {
+    match entry {
+        Entry::Opened(executed) => {
+            let text = text_of(alloc, executed)?;
+            writeln!(out, "{{\"type\":\"open\",\"executed\":\"{text}\"}}")
+        }
+        Entry::Changes(delivery) => {
+            for change in &delivery.changes {
+                write_change(alloc, encoding, delivery.gtid, change, out)?;
+            }
+            Ok(())
+        }
+        Entry::Committed(gtid) => write_end("commit", gtid, out),
+        Entry::RolledBack(gtid) => write_end("rollback", gtid, out),
+    }
+}
+
+/// Writes the line of a transaction's end.
+fn write_end<W: Write>(kind: &str, gtid: Gtid, out: &mut W) -> io::Result<()> {
+    writeln!(out, "{{\"type\":\"{kind}\",\"gtid\":\"{gtid}\"}}")
+}
+
+/// The text of a set.
+fn text_of(alloc: Global, ids: &GtidSet) -> io::Result<String> {
+    let mut text = String::new(alloc);
+    match ids.print(&mut text) {
+        Ok(()) => Ok(text),
+        Err(_) => Err(ErrorKind::OutOfMemory.into()),
+    }
+}
+
+/// Writes the line of a change: an object with the row before it, the row after it, or both.
+fn write_change<W: Write>(
+    alloc: Global,
+    encoding: Encoding,
+    gtid: Gtid,
+    change: &Change,
+    out: &mut W,
+) -> io::Result<()> {
+    let (kind, table, before, after) = match change {
+        Change::Insert { table, after } => ("insert", table, None, Some(after)),
+        Change::Delete { table, before } => ("delete", table, Some(before), None),
+        Change::Update {
+            table,
+            before,
+            after,
+        } => ("update", table, Some(before), Some(after)),
+    };
+    write!(out, "{{\"type\":\"{kind}\",\"gtid\":\"{gtid}\",\"schema\":")?;
+    write_label(alloc, &table.schema, out)?;
+    out.write_all(b",\"table\":")?;
+    write_label(alloc, &table.table, out)?;
+    write_side(alloc, encoding, "before", before, out)?;
+    write_side(alloc, encoding, "after", after, out)?;
+    out.write_all(b"}\n")
+}
+
+/// Writes the row before or after a change, if there is one.
+fn write_side<W: Write>(
+    alloc: Global,
+    encoding: Encoding,
+    side: &str,
+    row: Option<&Image>,
+    out: &mut W,
+) -> io::Result<()> {
+    let Some(row) = row else {
+        return Ok(());
+    };
+    write!(out, ",\"{side}\":")?;
+    write_image(alloc, row, encoding, out)
+}

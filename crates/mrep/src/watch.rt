@@ -1,0 +1,226 @@
+//! What `mrep replay` and `mrep follow` report while they read: the line of each end, progress, and the change feed.
+
+ghost use Rattle.std.specs.Prelude.{◌≡◌, true, is_some};
+
+use crate::details::Details;
+use crate::feed::{Entry, Feed};
+use crate::name::Shown;
+use crate::progress::Progress;
+use crate::reason::{write_cause, write_end};
+use binlog::Event;
+use gather::Delivery;
+use gtid::GtidSet;
+use replica::{Ended, Observer, Reason};
+use std::io;
+use std::io::{IsTerminal, Write};
+
+/// Why reading is stopped.
+#[derive(Drop)]
+pub enum Stop {
+    /// The line of an end could not be written.
+    Output(io::Error),
+    /// The change feed could not be written.
+    Feed(io::Error),
+}
+
+/// What is read, and into which database file.
+#[derive(Clone, Copy)]
+pub struct Source<'a> {
+    pub rt: &'a HostRuntime,
+    /// The names of the streams.
+    pub streams: &'a [&'a str],
+    pub port: u16,
+    pub db: &'a str,
+}
+
+/// An observer that reports.
+#[derive(Drop)]
+pub struct Watch<'a, O, E> {
+    source: Source<'a>,
+    out: &'a mut O,
+    err: &'a mut E,
+    progress: Option<Progress>,
+    feed: Option<Feed>,
+    details: Details,
+    /// How many connections have ended.
+    ended: usize,
+    stop: Option<Stop>,
+}
+
+/// Whether progress is reported, and how many bytes are to be read, if that is known.
+#[derive(Clone, Copy)]
+pub struct Reporting {
+    pub progress: bool,
+    pub total: Option<u64>,
+}
+
+impl<'a, O: Write, E: Write> Watch<'a, O, E> {
+    /// An observer that has been told nothing.
+    pub fn new(
+        source: Source<'a>,
+        reporting: Reporting,
+        feed: Option<Feed>,
+        out: &'a mut O,
+        err: &'a mut E,
+    ) -> Watch<'a, O, E> {
+        let progress = if reporting.progress {
+            let redraws = source.rt.stderr().is_terminal();
+            Some(Progress::new(source.rt, reporting.total, redraws))
+        } else {
+            None
+        };
+        Watch {
+            source,
+            out,
+            err,
+            progress,
+            feed,
+            details: Details::new(source.rt.alloc()),
+            ended: 0,
+            stop: None,
+        }
+    }
+
+    /// Writes an entry of the change feed, unless reading is stopped.
+    fn put(&mut self, entry: Entry<'_>)
+        ensures { is_some self.old.stop ≡ true → is_some self.new.stop ≡ true }
+    {
+        if self.stop.is_some() {
+            return;
+        }
+        let Some(feed) = &mut self.feed else {
+            return;
+        };
+        if let Err(cause) = feed.write(entry, self.out) {
+            self.stop = Some(Stop::Feed(cause));
+        }
+    }
+
+    /// Writes the line of an end: to standard error where the output has the change feed.
+    fn print(&mut self, number: usize, end: &Ended) -> io::Result<()>
+        ensures { self.new.stop ≡ self.old.stop }
+    {
+        let to_err = match &self.feed {
+            Some(feed) => feed.is_output(),
+            None => false,
+        };
+        if to_err {
+            return write_end(number, end, self.err);
+        }
+        write_end(number, end, self.out)
+    }
+
+    /// Writes the cause of an end to standard error, and in which transaction it was.
+    fn explain(&mut self, stream: &str, reason: &Reason)
+        ensures { self.new.stop ≡ self.old.stop }
+    {
+        let _ = write_cause(stream, self.source.db, reason, self.err);
+        let _ = self.details.write(stream, self.source.db, reason, self.err);
+        self.details.clear();
+    }
+
+    /// Writes the line of an end and its cause. A failure of the stream is the cause if there is one.
+    pub fn report(
+        &mut self,
+        number: usize,
+        end: &Ended,
+        failure: Option<io::ErrorKind>,
+    ) -> io::Result<()>
+        ensures { self.new.stop ≡ self.old.stop }
+    {
+        if let Some(progress) = &mut self.progress {
+            progress.end_line(self.err);
+        }
+        let printed = self.print(number, end);
+        let name = self.source.streams.get(number.saturating_sub(1));
+        let stream = name.copied().unwrap_or("");
+        match failure {
+            Some(kind) => {
+                let _ = writeln!(self.err, "mrep: {}: {kind}", Shown(stream));
+            }
+            None => self.explain(stream, &end.reason),
+        }
+        printed
+    }
+
+    /// Why reading was stopped, if it was.
+    pub fn stop(self) -> Option<Stop> {
+        let Watch { stop, .. } = self;
+        stop
+    }
+}
+
+impl<'a, O: Write, E: Write> Observer for Watch<'a, O, E> {
+    ghost has_stopped = { λ w. is_some w.stop };
+
+    fn opened(&mut self, executed: &GtidSet) {
+        self.put(Entry::Opened(executed));
+    }
+
+    fn connected(&mut self) {
+        if self.progress.is_some() {
+            let name = self.source.streams.first().copied().unwrap_or("");
+            let _ = writeln!(
+                self.err,
+                "mrep: connected to {} port {}",
+                Shown(name),
+                self.source.port
+            );
+        }
+    }
+
+    fn received(&mut self, count: usize) {
+        if let Some(progress) = &mut self.progress {
+            progress.read(self.source.rt, count, self.err);
+        }
+    }
+
+    fn event(&mut self, event: &Event<'_>) {
+        match event {
+            Event::Gtid(gtid) => self.details.gtid = Some(*gtid),
+            Event::Format | Event::Rotate { .. } | Event::Stop => self.details.gtid = None,
+            _ => {}
+        }
+    }
+
+    fn before_apply(&mut self, delivery: &Delivery) -> bool {
+        self.put(Entry::Changes(delivery));
+        self.stop.is_none()
+    }
+
+    fn after_apply(&mut self, delivery: &Delivery, outcome: &Result<bool, Reason>) {
+        match outcome {
+            Ok(applied) => {
+                self.details.gtid = None;
+                if *applied {
+                    if let Some(progress) = &mut self.progress {
+                        progress.count();
+                    }
+                    self.put(Entry::Committed(delivery.gtid));
+                }
+            }
+            Err(reason) => {
+                self.details.refuse_change(delivery, reason);
+                // After a failure of the database the transaction may have been committed.
+                if !matches!(reason, Reason::Database(_)) {
+                    self.put(Entry::RolledBack(delivery.gtid));
+                }
+            }
+        }
+    }
+
+    fn refused(&mut self, payload: &[u8], reason: &Reason) {
+        self.details.refuse(payload, reason);
+    }
+
+    fn ended(&mut self, end: &Ended) -> bool {
+        self.ended = self.ended.saturating_add(1);
+        let printed = self.report(self.ended, end, None);
+        if let Err(cause) = printed
+            && self.stop.is_none()
+        {
+            self.stop = Some(Stop::Output(cause));
+        }
+        self.stop.is_none()
+    }
+}
