@@ -96,12 +96,12 @@ fn put_cell<W: Write + Drop>(
 /// Writes the record of a row: schema, table, count, and the cells.
 pub fn write_record<W: Write + Drop>(
     alloc: Global,
-    row: &Listed,
+    row: &Listed<'_>,
     encoding: Encoding,
     out: &mut Writer<W>,
 ) -> io::Result<()> {
-    put_name(alloc, &row.schema, out)?;
-    put_name(alloc, &row.table, out)?;
+    put_name(alloc, row.schema, out)?;
+    put_name(alloc, row.table, out)?;
     put_number(alloc, row.count, out)?;
     for cell in row.image.cells() {
         put_cell(alloc, cell, encoding, out)?;

@@ -141,14 +141,14 @@ pub fn write_image<W: Write>(
 /// Writes the object of a row and a line feed.
 pub fn write_object<W: Write>(
     alloc: Global,
-    row: &Listed,
+    row: &Listed<'_>,
     encoding: Encoding,
     out: &mut W,
 ) -> io::Result<()> {
     out.write_all(b"{\"schema\":")?;
-    write_label(alloc, &row.schema, out)?;
+    write_label(alloc, row.schema, out)?;
     out.write_all(b",\"table\":")?;
-    write_label(alloc, &row.table, out)?;
+    write_label(alloc, row.table, out)?;
     write!(out, ",\"count\":{},", row.count)?;
     write_row(alloc, &row.image, encoding, out)?;
     out.write_all(b"}\n")

@@ -11,11 +11,12 @@ use crate::json_lines::write_object;
 use crate::name::write_table;
 use crate::replay::tables;
 use binlog::Follow;
+use csv::Writer;
 use sqlite::Alter;
 use std::alloc::Global;
 use std::io;
 use std::io::Write;
-use store::{List, Listed, Store};
+use store::{ListError, Listed, Store, Visitor};
 
 /// Which rows are printed, and how.
 #[derive(Clone, Copy)]
@@ -54,106 +55,123 @@ fn write_rows<'a, S: Alter, W: Write>(
     encoding: Encoding,
     out: &mut W,
 ) -> Result<(), Failure<'a>> {
-    let mut rows = list(name, store)?;
     match format {
-        Format::Text => write_lines(name, &mut rows, only, out),
-        Format::Csv => write_records(alloc, name, &mut rows, only, encoding, out),
-        Format::Json => write_objects(alloc, name, &mut rows, only, encoding, out),
+        Format::Text => list(name, store, &mut Lines { only, out }),
+        Format::Csv => write_records(alloc, name, store, only, encoding, out),
+        Format::Json => {
+            let mut objects = Objects {
+                alloc,
+                only,
+                encoding,
+                out,
+            };
+            list(name, store, &mut objects)
+        }
     }
-}
-
-/// Writes a line for each row of these tables, as the store hands it out.
-fn write_lines<'a, W: Write>(
-    name: &'a str,
-    rows: &mut List,
-    only: &Follow,
-    out: &mut W,
-) -> Result<(), Failure<'a>> {
-    for _ in 0..u64::MAX {
-        let Some(row) = next_of(name, rows, only)? else {
-            break;
-        };
-        write_row(&row, out)?;
-    }
-    Ok(())
 }
 
 /// Writes a record for each row of these tables.
-fn write_records<'a, W: Write>(
+fn write_records<'a, S: Alter, W: Write>(
     alloc: Global,
     name: &'a str,
-    rows: &mut List,
+    store: &mut Store<S>,
     only: &Follow,
     encoding: Encoding,
     out: &mut W,
 ) -> Result<(), Failure<'a>> {
-    let mut records = records(out);
-    for _ in 0..u64::MAX {
-        let Some(row) = next_of(name, rows, only)? else {
-            break;
-        };
-        write_record(alloc, &row, encoding, &mut records)?;
-    }
-    match records.flush() {
+    let mut all = Records {
+        alloc,
+        only,
+        encoding,
+        records: records(out),
+    };
+    list(name, store, &mut all)?;
+    match all.records.flush() {
         Ok(()) => Ok(()),
         Err(error) => Err(Failure::Output(cause_of(error))),
     }
 }
 
-/// Writes an object for each row of these tables.
-fn write_objects<'a, W: Write>(
-    alloc: Global,
+/// Hands the rows of a database to a visitor that writes them.
+pub fn list<'a, S: Alter, V: Visitor<Error = io::Error>>(
     name: &'a str,
-    rows: &mut List,
-    only: &Follow,
-    encoding: Encoding,
-    out: &mut W,
+    store: &mut Store<S>,
+    visitor: &mut V,
 ) -> Result<(), Failure<'a>> {
-    for _ in 0..u64::MAX {
-        let Some(row) = next_of(name, rows, only)? else {
-            break;
-        };
-        write_object(alloc, &row, encoding, out)?;
-    }
-    Ok(())
-}
-
-/// The rows of a database.
-pub fn list<'a, S: Alter>(name: &'a str, store: &mut Store<S>) -> Result<List, Failure<'a>> {
-    match store.list() {
-        Ok(rows) => Ok(rows),
-        Err(cause) => Err(Failure::Database { name, cause }),
+    match store.list(visitor) {
+        Ok(()) => Ok(()),
+        Err(ListError::Store(cause)) => Err(Failure::Database { name, cause }),
+        Err(ListError::Visitor(cause)) => Err(Failure::Output(cause)),
     }
 }
 
-/// The next row, if there is one.
-pub fn next_row<'a>(name: &'a str, rows: &mut List) -> Result<Option<Listed>, Failure<'a>> {
-    match rows.next() {
-        Ok(row) => Ok(row),
-        Err(cause) => Err(Failure::Database { name, cause }),
-    }
+/// Writes a line for each row of these tables.
+#[derive(Drop)]
+struct Lines<'o, W> {
+    only: &'o Follow,
+    out: &'o mut W,
 }
 
-/// The next row of these tables, if there is one.
-fn next_of<'a>(
-    name: &'a str,
-    rows: &mut List,
-    only: &Follow,
-) -> Result<Option<Listed>, Failure<'a>> {
-    for _ in 0..u64::MAX {
-        let Some(row) = next_row(name, rows)? else {
-            break;
-        };
-        if only.follows(&row.schema, &row.table) {
-            return Ok(Some(row));
+impl<W: Write> Visitor for Lines<'_, W> {
+    type Error = io::Error;
+
+    ghost row_gives = { λ _ _ _ _. Unit {0} };
+
+    fn row(&mut self, row: &Listed<'_>) -> io::Result<()> {
+        if !self.only.follows(row.schema, row.table) {
+            return Ok(());
         }
+        write_row(row, self.out)
     }
-    Ok(None)
+}
+
+/// Writes a record for each row of these tables.
+#[derive(Drop)]
+struct Records<'o, W: Write> {
+    alloc: Global,
+    only: &'o Follow,
+    encoding: Encoding,
+    records: Writer<&'o mut W>,
+}
+
+impl<W: Write> Visitor for Records<'_, W> {
+    type Error = io::Error;
+
+    ghost row_gives = { λ _ _ _ _. Unit {0} };
+
+    fn row(&mut self, row: &Listed<'_>) -> io::Result<()> {
+        if !self.only.follows(row.schema, row.table) {
+            return Ok(());
+        }
+        write_record(self.alloc, row, self.encoding, &mut self.records)
+    }
+}
+
+/// Writes an object for each row of these tables.
+#[derive(Drop)]
+struct Objects<'o, W> {
+    alloc: Global,
+    only: &'o Follow,
+    encoding: Encoding,
+    out: &'o mut W,
+}
+
+impl<W: Write> Visitor for Objects<'_, W> {
+    type Error = io::Error;
+
+    ghost row_gives = { λ _ _ _ _. Unit {0} };
+
+    fn row(&mut self, row: &Listed<'_>) -> io::Result<()> {
+        if !self.only.follows(row.schema, row.table) {
+            return Ok(());
+        }
+        write_object(self.alloc, row, self.encoding, self.out)
+    }
 }
 
 /// Writes the line of a row: its table, the number of its copies, and its cells.
-fn write_row<W: Write>(row: &Listed, out: &mut W) -> io::Result<()> {
-    write_table(&row.schema, &row.table, out)?;
+fn write_row<W: Write>(row: &Listed<'_>, out: &mut W) -> io::Result<()> {
+    write_table(row.schema, row.table, out)?;
     write!(out, " {} ", row.count)?;
     write_cells(&row.image, out)?;
     writeln!(out)

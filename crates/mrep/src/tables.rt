@@ -5,12 +5,13 @@ ghost use Rattle.std.specs.Prelude.{◌≡◌, IfOk};
 use crate::database::{close_after, open};
 use crate::failure::{DONE, Failure};
 use crate::name::write_table;
-use crate::show::{list, next_row};
+use crate::show::list;
 use binlog::Follow;
 use sqlite::Alter;
+use std::alloc::Global;
 use std::io;
 use std::io::Write;
-use store::{Listed, Store};
+use store::{Listed, Store, Visitor};
 
 /// The rows of a table: how many distinct ones, and how many with their copies.
 #[derive(Drop)]
@@ -26,29 +27,26 @@ pub fn tables<'a, W: Write>(rt: &HostRuntime, file: &'a str, out: &mut W) -> Res
     ensures { IfOk result (λ status. status ≡ DONE) }
 {
     let mut store = open(rt, file, None)?;
-    let written = write_tables(file, &mut store, out);
+    let written = write_tables(rt.alloc(), file, &mut store, out);
     close_after(file, store, written)?;
     Ok(DONE)
 }
 
 /// Writes the filter, and a line for each table with rows.
 fn write_tables<'a, S: Alter, W: Write>(
+    alloc: Global,
     name: &'a str,
     store: &mut Store<S>,
     out: &mut W,
 ) -> Result<(), Failure<'a>> {
     write_filter(store.following(), out)?;
-    let mut rows = list(name, store)?;
-    let mut tally = None;
-    for _ in 0..u64::MAX {
-        let Some(row) = next_row(name, &mut rows)? else {
-            break;
-        };
-        tally = Some(counted(tally, row, out)?);
-    }
-    if let Some(last) = tally {
-        write_tally(&last, out)?;
-    }
+    let mut tallies = Tallies {
+        alloc,
+        last: None,
+        out,
+    };
+    list(name, store, &mut tallies)?;
+    tallies.write_last()?;
     Ok(())
 }
 
@@ -65,28 +63,60 @@ fn write_filter<W: Write>(filter: &Follow, out: &mut W) -> io::Result<()> {
     Ok(())
 }
 
-/// The tally with one more row: of its table, or the first one of the next table, where the line of the last one is
-/// written.
-fn counted<W: Write>(tally: Option<Tally>, row: Listed, out: &mut W) -> io::Result<Tally> {
-    let (rows, copies) = match &tally {
-        Some(last) if is_of(last, &row) => (last.rows, last.copies),
-        Some(last) => {
-            write_tally(last, out)?;
-            (0, 0)
+/// Counts the rows of each table, and writes its line once the next table begins.
+#[derive(Drop)]
+struct Tallies<'o, W> {
+    alloc: Global,
+    /// The table of the last row.
+    last: Option<Tally>,
+    out: &'o mut W,
+}
+
+impl<W: Write> Tallies<'_, W> {
+    /// Writes the line of the last row's table, if there was a row.
+    fn write_last(&mut self) -> io::Result<()> {
+        match &self.last {
+            Some(last) => write_tally(last, self.out),
+            None => Ok(()),
         }
-        None => (0, 0),
-    };
-    Ok(Tally {
-        schema: row.schema,
-        table: row.table,
-        rows: rows.saturating_add(1),
-        copies: copies.saturating_add(row.count as u128),
-    })
+    }
+
+    /// Adds a row to the tally of the last row's table. Returns whether it is of that table.
+    fn add(&mut self, row: &Listed<'_>) -> bool {
+        match &mut self.last {
+            Some(last) if is_of(last, row) => {
+                last.rows = last.rows.saturating_add(1);
+                last.copies = last.copies.saturating_add(row.count as u128);
+                true
+            }
+            _ => false,
+        }
+    }
+}
+
+impl<W: Write> Visitor for Tallies<'_, W> {
+    type Error = io::Error;
+
+    ghost row_gives = { λ _ _ _ _. Unit {0} };
+
+    fn row(&mut self, row: &Listed<'_>) -> io::Result<()> {
+        if self.add(row) {
+            return Ok(());
+        }
+        self.write_last()?;
+        self.last = Some(Tally {
+            schema: Vec::from_slice(self.alloc, row.schema)?,
+            table: Vec::from_slice(self.alloc, row.table)?,
+            rows: 1,
+            copies: row.count as u128,
+        });
+        Ok(())
+    }
 }
 
 /// Whether a row is one of the tally's table.
-fn is_of(tally: &Tally, row: &Listed) -> bool {
-    tally.schema == row.schema && tally.table == row.table
+fn is_of(tally: &Tally, row: &Listed<'_>) -> bool {
+    tally.schema.as_slice() == row.schema && tally.table.as_slice() == row.table
 }
 
 /// Writes the line of a table.

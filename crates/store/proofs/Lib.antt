@@ -39,6 +39,7 @@ pub mod Entered
 pub mod Lives
 pub mod Known
 pub mod Listings
+pub mod Handing
 pub mod SameSchema
 pub mod OneState
 pub mod Reopened

@@ -1,11 +1,10 @@
--- The rows of held in order, and the rows that a list hands out.
-use Rattle.std.proofs.Common.{◌≡◌, ◌⊎◌, inl, inr, ℕ, ◌+◌, ◌<◌, ◌≤◌, pos, true, false, List, [], ◌∷◌, ◌++◌, map, drop, length, get_or, Option, Some, None, Err, refl, sym, ap, subst, ◌∙◌, arith}
+-- The rows of held in order.
+use Rattle.std.proofs.Common.{◌≡◌, ◌⊎◌, inl, inr, ℕ, ◌+◌, ◌≤◌, pos, true, false, List, [], ◌∷◌, ◌++◌, map, drop, Option, Some, None, refl, sym, ap, subst, ◌∙◌, arith}
 use Rattle.std.specs.List.{AllByRecursion, sum_by}
 use Rattle.std.specs.List.Sorted.{IsPermutation, IsStrictlySortedBy}
 use Rattle.std.specs.declared.cmp.Ordering.TheVariants.{Less, Equal}
 use Rattle.std.proofs.lemmas.Bool.{cases_Bool, and_parts, and_from, false_from_ne_true}
 use Rattle.std.proofs.lemmas.Cmp.{tied_itself}
-use Rattle.std.proofs.lemmas.List.{at_drop_all, at_drop_more}
 use Rattle.std.proofs.lemmas.List.Sorted.{sum_by-IsPermutation}
 use Rattle.std.proofs.lemmas.List.Sums.{sum_by-cons}
 use Rattle.std.proofs.lemmas.Slice.Eq.{bytes_eq-Decides}
@@ -18,14 +17,11 @@ use Rattle.sqlite.specs.State.{State, Survives}
 use Rattle.binlog.specs.Cell.{CellValue}
 use Rattle.gather.specs.Image.{IsImage, HasImage, image}
 use Rattle.gather.proofs.WholeImages.{one_list}
-use Rattle.store.specs.declared.fault.StoreFault.{StoreFault}
-use Rattle.store.specs.declared.fault.StoreFault.TheVariants.{NoSuchRow, CountFull, Database, Memory, Damaged, Layout, Broken, Follows}
-use Rattle.store.specs.declared.listing.List.{List as Listing}
 use Rattle.store.specs.State.{TableRow, row_of, Bag, has_image}
 use Rattle.store.specs.Layout.{IsLaidOut, held_tree}
 use Rattle.store.specs.Load.{AsksAll}
 use Rattle.store.specs.Rows.{Key, key_for, IsHeldRow, is_at, share, count, bag_of, blob_in, number_in}
-use Rattle.store.specs.Listing.{Entry, key_cmp, row_cmp, entry_rows, AreRows, shown_entry, without_rowids, IsToCome, Gives, Hands, listed_text, HasKey, KeysRise}
+use Rattle.store.specs.Listing.{Entry, key_cmp, row_cmp, entry_rows, AreRows, shown_entry, without_rowids, listed_text, HasKey, KeysRise}
 use Rattle.store.proofs.AnyWhole.{listed_by_key, listed_asks as any_listed}
 use Rattle.store.proofs.Bags.{image_has, has_its_image}
 use Rattle.store.proofs.Keyed.{key_total}
@@ -73,48 +69,6 @@ given_entry row e key n cells a b has counts is a_is b_is same lawful =
     let c_e : cells ≡ e.0.cells = one_list cells e.0.cells key.image is (record { has_image = lawful; bytes_are = ap (λ (x : Key). x.image) k }) in
     let n_e : n ≡ e.1 = ap number_in (sym counts ∙ s.1) in
     λ i. (record { schema = a_e i; table = b_e i; cells = c_e i }, n_e i)
-
--- ---- The next entry.
-
-module _ (l : Listing) where
-  pub ended : (n : ℕ) → length l.rows.items ≤ n → IsToCome (record l { at = n }) []
-  ended n past = record { rows = sym (at_drop_all without_rowids l.rows.items n past); images = tt }
-
-  no_entry : (entries : List Entry) → map shown_entry entries ≡ [] → entries ≡ []
-  no_entry [] none = refl
-  no_entry (e ∷ entries) none = absurd (Prim.cc)
-
-  pub none_left : (entries : List Entry) → length l.rows.items ≤ l.at → IsToCome l entries → (entries ≡ []) × IsToCome l []
-  none_left entries past come = (no_entry entries (come.rows ∙ at_drop_all without_rowids l.rows.items l.at past), ended l.at past)
-
-  -- The entry in a row, and those after it.
-  pub record IsFirst (entries : List Entry) (row : Row) : Type 0 where
-    pub entry : Entry
-    pub rest : List Entry
-    pub is : entries ≡ entry ∷ rest
-    pub shown : shown_entry entry ≡ drop 1 row
-    pub lawful : HasImage entry.0.cells
-    pub come : IsToCome (record l { at = l.at + 1 }) rest
-
-  pub one_more : (row : Row) (entries : List Entry) → l.at < length l.rows.items → row ≡ get_or l.rows.items l.at row → IsToCome l entries → IsFirst entries row
-  one_more row entries more here come = go entries (come.rows ∙ at_drop_more without_rowids l.rows.items l.at row more) come.images
-    where
-      go : (entries : List Entry) → map shown_entry entries ≡ drop 1 (get_or l.rows.items l.at row) ∷ without_rowids (drop (l.at + 1) l.rows.items) → AllByRecursion (λ (e : Entry). HasImage e.0.cells) entries → IsFirst entries row
-      go [] same lawful = absurd (Prim.cc)
-      go (e ∷ entries) same lawful =
-          let first : shown_entry e ≡ drop 1 (get_or l.rows.items l.at row) = Prim.cc in
-          let others : map shown_entry entries ≡ without_rowids (drop (l.at + 1) l.rows.items) = Prim.cc in
-          record { entry = e; rest = entries; is = refl; shown = first ∙ ap (drop 1) (sym here); lawful = lawful.0; come = record { rows = others; images = lawful.1 } }
-
-  pub refused : (fault : StoreFault) (e : Entry) (entries : List Entry) → Gives e (Err fault) → IsToCome l [] → Hands entries l (Err fault)
-  refused (NoSuchRow at) e entries gives come = absurd gives
-  refused (CountFull at) e entries gives come = absurd gives
-  refused (Database x) e entries gives come = absurd gives
-  refused Memory e entries gives come = come
-  refused Damaged e entries gives come = absurd gives
-  refused (Layout n) e entries gives come = absurd gives
-  refused Broken e entries gives come = absurd gives
-  refused Follows e entries gives come = absurd gives
 
 -- ---- The entries of the rows of held.
 

@@ -1,6 +1,6 @@
 -- The rows of a bag in order.
-use Rattle.std.specs.Prelude.{◌≡◌, ℕ, ◌≤◌, List, [], ◌∷◌, ◌++◌, map, drop, Option, Some, None, Result, Ok, Err, codes, pos}
-use Rattle.std.specs.List.{AllByRecursion}
+use Rattle.std.specs.Prelude.{◌≡◌, ◌⊎◌, ℕ, ◌≤◌, List, [], ◌∷◌, ◌++◌, map, drop, false, Option, Some, None, Result, Ok, Err, codes, pos}
+use Rattle.std.specs.List.{AllByRecursion, FoldsTo}
 use Rattle.std.specs.List.Sorted.{IsStrictlySortedBy}
 use Rattle.std.specs.Ordering.{nat_cmp, ordering_then}
 use Rattle.std.specs.declared.cmp.Ordering.{Ordering}
@@ -9,14 +9,20 @@ use Rattle.std.specs.Cmp.Lexicographic.{slice_cmp}
 use Rattle.sqlite_trees.specs.declared.store.Store.{Ghosts}
 use Rattle.sqlite_value.specs.declared.value.Value.TheVariants.{Int, Blob}
 use Rattle.sqlite_value.specs.Order.{Row, column}
+use Rattle.sqlite.specs.State.{State, IsUnchanged}
+use Rattle.sqlite.specs.Held.{Held, state}
+use Rattle.sqlite.specs.Given.{HasGiven}
 use Rattle.gather.specs.Image.{HasImage, image}
 use Rattle.store.specs.declared.fault.StoreFault.{StoreFault}
 use Rattle.store.specs.declared.fault.StoreFault.TheVariants.{Database, Memory}
 use Rattle.store.specs.declared.listing.Listed.{Listed}
-use Rattle.store.specs.declared.listing.List.{List as Listing}
+use Rattle.store.specs.declared.listing.ListError.{ListError}
+use Rattle.store.specs.declared.listing.ListError.TheVariants.{Store as StoreError, Visitor as VisitorError}
 use Rattle.store.specs.declared.store.Store.{Store}
 use Rattle.store.specs.State.{TableRow, row_of, Bag, Content}
 use Rattle.store.specs.Rows.{Key, key_for}
+use Rattle.store.specs.Faults.{IsReadFault}
+use Rattle.store.specs.Load.{Rested}
 use Rattle.store.specs.Store.{Holds, Keeps}
 
 -- a row, and how often it is there
@@ -40,11 +46,11 @@ pub record AreRows (bag : Bag) (entries : List Entry) : Type 0 where
   pub counted : AllByRecursion (λ (e : Entry). (e.1 ≡ bag e.0) × (1 ≤ e.1)) entries
   pub all : (r : TableRow) → 1 ≤ bag r → (before : List Entry) × (after : List Entry) × (entries ≡ before ++ (r, bag r) ∷ after)
 
--- ---- Rows that are still to be handed out.
+-- ---- Rows that are handed to a visitor.
 
 -- the entry that is handed out
 abbrev pub entry_of : Listed → Entry
-entry_of l = (row_of l.schema.items l.table.items l.image, l.count)
+entry_of l = (row_of l.schema.now l.table.now l.image, l.count)
 
 -- what is stored of an entry, without a rowid
 abbrev pub shown_entry : Entry → Row
@@ -53,23 +59,54 @@ shown_entry e = Blob e.0.schema ∷ Blob e.0.table ∷ Blob (image e.0.cells) �
 abbrev pub without_rowids : List Row → List Row
 without_rowids rows = map (λ (row : Row). drop 1 row) rows
 
--- These entries are still to come.
-pub record IsToCome (listing : Listing) (entries : List Entry) : Type 0 where
-  pub rows : map shown_entry entries ≡ without_rowids (drop listing.at listing.rows.items)
-  pub images : AllByRecursion (λ (e : Entry). HasImage e.0.cells) entries
-
 -- A row is this entry, or an allocation was refused.
 abbrev pub Gives : Entry → Result Listed StoreFault → Type 0
 Gives e (Ok listed) = entry_of listed ≡ e
 Gives e (Err Memory) = Unit {0}
 Gives e (Err _) = ⊥
 
--- The next entry is handed out, or none is left. A fault ends the list.
-abbrev pub Hands : List Entry → Listing → Result (Option Listed) StoreFault → Type 0
-Hands entries new (Ok (Some listed)) = (rest : List Entry) × (entries ≡ entry_of listed ∷ rest) × IsToCome new rest
-Hands entries new (Ok None) = (entries ≡ []) × IsToCome new []
-Hands entries new (Err Memory) = IsToCome new []
-Hands entries new (Err _) = ⊥
+-- reading has failed, or the visitor
+abbrev pub IsListFault : {E : Type 0} → ListError E → Type 0
+IsListFault (StoreError fault) = IsReadFault fault
+IsListFault (VisitorError e) = Unit {0}
+
+-- `gives v e answer w`: the visitor v answers to the entry e in this way, and is w afterwards.
+module _ {V E : Type 0} (gives : V → Entry → Result (Unit {0}) E → V → Type 0) where
+  -- The visitor takes the entry and goes on.
+  abbrev pub Takes : V → Entry → V → Type 0
+  Takes v e w = gives v e (Ok tt) w
+
+  -- The entry was handed to the visitor, or an allocation was refused before.
+  abbrev pub Handed : Entry → V → V → Result (Unit {0}) (ListError E) → Type 0
+  Handed e v w (Ok u) = Takes v e w
+  Handed e v w (Err (VisitorError error)) = gives v e (Err error) w
+  Handed e v w (Err (StoreError Memory)) = w ≡ v
+  Handed e v w (Err (StoreError _)) = ⊥
+
+  -- The visitor has taken the first rows of the bag in order, one after the other; these are left.
+  pub record HasTaken (bag : Bag) (v w : V) (left : List Entry) : Type 0 where
+    pub first : List Entry
+    pub are : AreRows bag (first ++ left)
+    pub taken : FoldsTo Takes v first w
+
+  -- The visitor has taken all rows; or the first of them, and answered an error to the next; or none or the first of them,
+  -- before reading failed.
+  abbrev pub Hands : Bag → V → V → Result (Unit {0}) (ListError E) → Type 0
+  Hands bag v w (Ok u) = HasTaken bag v w []
+  Hands bag v w (Err (VisitorError error)) = (last : V) × (e : Entry) × (left : List Entry) × HasTaken bag v last (e ∷ left) × gives last e (Err error) w
+  Hands bag v w (Err (StoreError fault)) = (w ≡ v) ⊎ ((left : List Entry) × HasTaken bag v w left)
+
+-- Nothing has changed; after a failure of the database, if the connection is still open.
+abbrev pub KeepsListed : {E : Type 0} → State → State → Result (Unit {0}) (ListError E) → Type 0
+KeepsListed old new (Err (StoreError (Database e))) = Rested old new
+KeepsListed old new (Err (StoreError Memory)) = IsUnchanged old new
+KeepsListed old new (Err (StoreError _)) = ⊥
+KeepsListed old new _ = IsUnchanged old new
+
+-- The connection is shut: the database has failed, and the visitor was handed nothing.
+abbrev pub IsShut : {V E : Type 0} → State → V → V → Result (Unit {0}) (ListError E) → Type 0
+IsShut new v w (Err (StoreError (Database e))) = (new.is_open ≡ false) × (w ≡ v)
+IsShut new v w _ = ⊥
 
 -- ---- The order of the rows of held.
 
@@ -93,8 +130,28 @@ KeysRise last (row ∷ rows) = (key : Key) × HasKey key row × IsAbove last key
 -- ---- What a store lists.
 
 module _ {S : Type 0} (g : Ghosts S) where
-  -- The rows of the content are still to come, and the store holds the same content. After a failure it keeps it.
-  abbrev pub Lists : Content → Store S g → Result Listing StoreFault → Type 0
-  Lists content new (Ok listing) = (entries : List Entry) × AreRows content.rows entries × IsToCome listing entries × Holds g new content
-  Lists content new (Err (Database e)) = Keeps g new content
-  Lists content new (Err _) = ⊥
+  -- The store holds the same content. After a failure of the database it keeps it.
+  abbrev pub HoldsListed : {E : Type 0} → Content → Store S g → Result (Unit {0}) (ListError E) → Type 0
+  HoldsListed content new (Err (StoreError (Database e))) = Keeps g new content
+  HoldsListed content new (Err (StoreError Memory)) = Holds g new content
+  HoldsListed content new (Err (StoreError _)) = ⊥
+  HoldsListed content new _ = Holds g new content
+
+  -- The rows of the content are handed to the visitor, and the store holds the same content.
+  abbrev pub Lists : {V E : Type 0} → (V → Entry → Result (Unit {0}) E → V → Type 0) → Content → Store S g → V → V → Result (Unit {0}) (ListError E) → Type 0
+  Lists gives content new v w result = Hands gives content.rows v w result × HoldsListed content new result
+
+  -- The outcome if the connection was shut: the visitor was handed nothing.
+  abbrev pub ListsShut : {V E : Type 0} → Content → Store S g → V → V → Result (Unit {0}) (ListError E) → Type 0
+  ListsShut content new v w (Err (StoreError (Database e))) = Keeps g new content × (w ≡ v)
+  ListsShut content new v w _ = ⊥
+
+  -- The query has given some of its rows, and the visitor has taken them. Nothing has changed.
+  pub record IsListing {V E : Type 0} (gives : V → Entry → Result (Unit {0}) E → V → Type 0) (old new : Held S) (v w : V) : Type 0 where
+    pub same : IsUnchanged (state g old) (state g new)
+    pub rows : List Row
+    pub given : HasGiven g listed_text [] new rows
+    pub first : List Entry
+    pub shown : map shown_entry first ≡ without_rowids rows
+    pub lawful : AllByRecursion (λ (e : Entry). HasImage e.0.cells) first
+    pub taken : FoldsTo (Takes gives) v first w

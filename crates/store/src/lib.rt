@@ -8,8 +8,8 @@
 //! transactions already.
 //!
 //! Rows are kept as a bag: each row with the number of its copies. [`Store::count`] returns that number for one row,
-//! and [`Store::list`] all rows in order, as a [`List`] of [`Listed`]. [`Store::executed`] is the executed set,
-//! [`Store::following`] the list of tables.
+//! and [`Store::list`] hands all rows in order to a [`Visitor`], each as a [`Listed`]. [`Store::executed`] is the executed
+//! set, [`Store::following`] the list of tables.
 //!
 //! A [`StoreFault`] of a refused change, `NoSuchRow` or `CountFull`, leaves the store as it was. After `Database` or
 //! `Memory` of `apply` or `adopt` the store has failed: `apply`, `adopt`, `count` and `list` answer `Broken`, and the
@@ -43,5 +43,5 @@ mod tables;
 mod verdict;
 
 pub use fault::{Applied, StoreFault};
-pub use listing::{List, Listed};
+pub use listing::{ListError, Listed, Visitor};
 pub use store::Store;

@@ -1,49 +1,73 @@
 //! Listing the rows of a store in order.
 
-ghost use Rattle.std.specs.Prelude.{◌≡◌, ℕ, pos, true, false, None, Err, IfOk, IfErr, OnOk, MatchOption, IsPermutation, drop, IsTrue, List as Sequence};
-ghost use Rattle.sqlite.specs.State.{HasCleanDisk, Survives, IsUnchanged};
+ghost use Rattle.std.specs.Prelude.{◌≡◌, ℕ, pos, true, false, None, Ok, Err, Result, IfErr, IfOk, MatchOption, List, [], drop};
+ghost use Rattle.sqlite.specs.State.{HasCleanDisk, Survives};
 ghost use Rattle.sqlite.specs.Held.{state};
+ghost use Rattle.sqlite.specs.Given.{HasGiven};
 ghost use Rattle.gather.specs.Image.{HasImage};
 ghost use Rattle.sqlite_value.specs.Order.{column};
 ghost use Rattle.sqlite_value.specs.declared.value.Value.TheVariants.{Int};
+ghost use Rattle.sqlite.specs.State.{State};
 ghost use Rattle.store.specs.State.{Content};
+ghost use Rattle.binlog.specs.Filter.{Names};
 ghost use Rattle.store.specs.Layout.{IsLaidOut};
-ghost use Rattle.std.specs.List.{AllByRecursion};
-ghost use Rattle.sqlite.specs.Effect.{IsDatabase};
-ghost use Rattle.store.specs.Rows.{Key, key_in, HasRowids, IsHeldRow, held_rows};
+ghost use Rattle.store.specs.Rows.{Key, key_in};
 ghost use Rattle.store.specs.Inside.{WasOpen};
-ghost use Rattle.store.specs.Apply.{Rests};
-ghost use Rattle.store.specs.Faults.{IsReadFault};
-ghost use Rattle.store.specs.Store.{Holds, Keeps, AreOf, ReadsShut, database, names_of, IsBroken};
-ghost use Rattle.store.specs.Listing.{Entry, shown_entry, HasKey, KeysRise, IsToCome, Gives, Hands, Lists};
+ghost use Rattle.store.specs.Apply.{IsAtRest};
+ghost use Rattle.store.specs.Load.{Rested};
+ghost use Rattle.store.specs.Faults.{IsReadFault, IsFailure};
+ghost use Rattle.store.specs.Store.{Holds, Keeps, AreOf, database, names_of, IsBroken};
+ghost use Rattle.store.specs.Listing.{Entry, entry_of, shown_entry, HasKey, Gives, Handed, Hands, KeepsListed, Lists, ListsShut, IsShut, IsListFault, listed_text};
 ghost use Rattle.store.specs.declared.fault.StoreFault.TheVariants.{Broken};
 
 use crate::fault::StoreFault;
 use crate::held_rows::RowKey;
-use crate::load::read_all;
 use crate::store::Store;
 use gather::Image;
 use sqlite::types::ValueRef;
-use sqlite::{Alter, Connection, Error, ErrorCode, Row};
+use sqlite::{Alter, Connection, Error, ErrorCode, Row, Rows};
 use std::alloc::Global;
 
 /// A row that a store holds, with the number of its copies.
 #[derive(Debug, Drop)]
-pub struct Listed {
-    pub schema: Vec<u8>,
-    pub table: Vec<u8>,
+pub struct Listed<'a> {
+    pub schema: &'a [u8],
+    pub table: &'a [u8],
     pub image: Image,
     /// The number of copies, from 1 to 2^63 - 1.
     pub count: u64,
 }
 
-/// The rows that a store holds, each once, in ascending order of the bytes of schema, table and image. It keeps them in
-/// memory.
+/// What takes the rows of a list, one at a time.
+pub trait Visitor {
+    /// Why it takes no more rows.
+    type Error: Drop;
+
+    // What it answers to a row, and what it is afterwards.
+    ghost row_gives: { Self → Entry → Result (Unit {0}) Self.Error → Self → Type 0 };
+
+    /// Takes a row. An error ends the list.
+    fn row(&mut self, row: &Listed<'_>) -> Result<(), Self::Error>
+        ensures { row_gives self.old (entry_of row.now) result self.new };
+}
+
+/// Why a list has ended before its last row was taken.
 #[derive(Debug, Drop)]
-pub struct List {
-    pub(crate) rows: Vec<Row>,
-    pub(crate) at: usize,
-    pub(crate) alloc: Global,
+pub enum ListError<E> {
+    /// The store could not read on.
+    Store(StoreFault),
+    /// The visitor answered this error.
+    Visitor(E),
+}
+
+impl<E> From<StoreFault> for ListError<E> {
+    ghost use Rattle.store.specs.declared.listing.ListError.{ListError};
+
+    ghost from_gives = { λ cause error. error ≡ ListError.Store cause };
+
+    fn from(cause: StoreFault) -> ListError<E> {
+        ListError::Store(cause)
+    }
 }
 
 /// The key of a row of `held`.
@@ -66,24 +90,6 @@ fn key_at(row: &Row) -> Option<RowKey<'_>>
     })
 }
 
-/// The rows of `held` in the order of their keys.
-fn rows_in_order<S: Alter>(conn: &mut Connection<S>) -> Result<Vec<Row>, Error>
-    requires { conn.old.in_transaction ≡ false }
-    ensures autocommit { conn.new.in_transaction ≡ false }
-    ensures rows { HasCleanDisk (state S.Store conn.new) → IsLaidOut (state S.Store conn.old).now.schema → IfOk result (λ rows. IsPermutation (held_rows (state S.Store conn.old).now) rows.items) }
-    ensures rise { HasCleanDisk (state S.Store conn.new) → IsLaidOut (state S.Store conn.old).now.schema → AllByRecursion IsHeldRow (held_rows (state S.Store conn.old).now) → HasRowids (held_rows (state S.Store conn.old).now) → IsDatabase (state S.Store conn.old).now → IfOk result (λ rows. KeysRise None rows.items) }
-    ensures same { HasCleanDisk (state S.Store conn.new) → IsLaidOut (state S.Store conn.old).now.schema → OnOk result (IsUnchanged (state S.Store conn.old) (state S.Store conn.new)) }
-    ensures rests { HasCleanDisk (state S.Store conn.new) → IsLaidOut (state S.Store conn.old).now.schema → (state S.Store conn.old).now ≡ (state S.Store conn.old).committed → Rests (state S.Store conn.old) (state S.Store conn.new) }
-    ensures survives { IsLaidOut (state S.Store conn.old).now.schema → Survives (state S.Store conn.old) (state S.Store conn.new) (λ _. ⊥) }
-    ensures opened { HasCleanDisk (state S.Store conn.new) → WasOpen (state S.Store conn.old) (state S.Store conn.new) }
-    ensures live { HasCleanDisk (state S.Store conn.new) → OnOk result (IsTrue (state S.Store conn.old).is_open) }
-{
-    read_all(
-        conn,
-        "SELECT rowid, schema_name, table_name, image, n FROM held ORDER BY schema_name, table_name, image",
-    )
-}
-
 /// The number of copies in a row of `held`.
 fn count_at(row: &Row) -> Option<u64>
     ensures { MatchOption result ((n : ℕ) → column row.now 4 ≡ Int (pos n) → ⊥) (λ n. column row.now 4 ≡ Int (pos n)) }
@@ -98,9 +104,9 @@ fn count_at(row: &Row) -> Option<u64>
 }
 
 /// The row that a row of `held` stores. The only error for such a row is `Memory`.
-fn listed_in(alloc: Global, row: &Row) -> Result<Listed, StoreFault>
+fn listed_in(alloc: Global, row: &Row) -> Result<Listed<'_>, StoreFault>
     ensures gives { (entry : Entry) → shown_entry entry ≡ drop 1 row.now → HasImage entry.0.cells → Gives entry result }
-    ensures fault { IfErr result IsReadFault }
+    ensures fault { IfErr result IsFailure }
 {
     let Some(key) = key_at(row) else {
         return Err(StoreFault::Database(Error::SqliteFailure(ErrorCode::DatabaseCorrupt)));
@@ -115,60 +121,97 @@ fn listed_in(alloc: Global, row: &Row) -> Result<Listed, StoreFault>
         return Err(StoreFault::Database(Error::SqliteFailure(ErrorCode::DatabaseCorrupt)));
     };
     Ok(Listed {
-        schema: Vec::from_slice(alloc, key.schema)?,
-        table: Vec::from_slice(alloc, key.table)?,
+        schema: key.schema,
+        table: key.table,
         image,
         count,
     })
 }
 
-impl List {
-    /// The next row, or `None` after the last one. The only error is `Memory`, which ends the list.
-    pub fn next(&mut self) -> Result<Option<Listed>, StoreFault>
-        ensures hands { (entries : Sequence Entry) → IsToCome self.old entries → Hands entries self.new result }
-        ensures fault { IfErr result IsReadFault }
-    {
-        let Some(row) = self.rows.get(self.at) else {
-            return Ok(None);
-        };
-        match listed_in(self.alloc, row) {
-            Ok(listed) => {
-                self.at += 1;
-                Ok(Some(listed))
-            }
-            Err(fault) => {
-                self.at = self.rows.len();
-                Err(fault)
-            }
-        }
+/// Hands a row of `held` to the visitor.
+fn hand<V: Visitor>(alloc: Global, row: &Row, visitor: &mut V) -> Result<(), ListError<V::Error>>
+    ensures handed { (entry : Entry) → shown_entry entry ≡ drop 1 row.now → HasImage entry.0.cells → Handed V.row_gives entry visitor.old visitor.new result }
+    ensures fault { IfErr result IsListFault }
+{
+    let listed = listed_in(alloc, row)?;
+    match visitor.row(&listed) {
+        Ok(()) => Ok(()),
+        Err(error) => Err(ListError::Visitor(error)),
     }
 }
 
+/// Hands the rows of a query to the visitor as they are read, one at a time.
+fn hand_all<S: Alter, V: Visitor>(
+    alloc: Global,
+    rows: &mut Rows<'_, S>,
+    visitor: &mut V,
+) -> Result<(), ListError<V::Error>>
+    ensures same_reference { rows.new.conn.ghost_name ≡ rows.old.conn.ghost_name }
+    ensures autocommit { rows.old.conn.now.in_transaction ≡ false → rows.new.conn.now.in_transaction ≡ false }
+    ensures hands { HasCleanDisk (state S.Store rows.new.conn.now) → HasGiven S.Store listed_text [] rows.old.conn.now [] → (names : Names) (content : Content) → IsAtRest (state S.Store rows.old.conn.now) names content
+        → Hands V.row_gives content.rows visitor.old visitor.new result × KeepsListed (state S.Store rows.old.conn.now) (state S.Store rows.new.conn.now) result }
+    ensures survives { Survives (state S.Store rows.old.conn.now) (state S.Store rows.new.conn.now) (λ _. ⊥) }
+    ensures fault { IfErr result IsListFault }
+{
+    'rows: for _ in 0..u64::MAX {
+        match rows.advance() {
+            Ok(()) => {}
+            Err(error) => return Err(ListError::Store(StoreFault::Database(error))),
+        }
+        let Some(row) = rows.get() else {
+            return Ok(());
+        };
+        hand(alloc, row, visitor)?;
+    }
+    Err(ListError::Store(StoreFault::Database(Error::SqliteFailure(ErrorCode::DatabaseCorrupt))))
+}
+
+/// Hands the rows of `held` to the visitor, in the order of their keys.
+fn list_held<S: Alter, V: Visitor>(
+    alloc: Global,
+    conn: &mut Connection<S>,
+    visitor: &mut V,
+) -> Result<(), ListError<V::Error>>
+    requires { conn.old.in_transaction ≡ false }
+    ensures autocommit { conn.new.in_transaction ≡ false }
+    ensures hands { HasCleanDisk (state S.Store conn.new) → (names : Names) (content : Content) → IsAtRest (state S.Store conn.old) names content
+        → Hands V.row_gives content.rows visitor.old visitor.new result × KeepsListed (state S.Store conn.old) (state S.Store conn.new) result }
+    ensures survives { IsLaidOut (state S.Store conn.old).now.schema → Survives (state S.Store conn.old) (state S.Store conn.new) (λ _. ⊥) }
+    ensures shut { HasCleanDisk (state S.Store conn.new) → (state S.Store conn.old).is_open ≡ false → IsShut (state S.Store conn.new) visitor.old visitor.new result }
+    ensures fault { IfErr result IsListFault }
+{
+    // For the prover: what the connection shows is a database. The call does nothing at run time.
+    conn.schema();
+    let mut rows = match conn.query(
+        "SELECT rowid, schema_name, table_name, image, n FROM held ORDER BY schema_name, table_name, image",
+        &[],
+    ) {
+        Ok(rows) => rows,
+        Err(error) => return Err(ListError::Store(StoreFault::Database(error))),
+    };
+    hand_all(alloc, &mut rows, visitor)
+}
+
 impl<S: Alter> Store<S> {
-    /// All rows, each once with the number of its copies, in ascending order of the bytes of schema, table and image.
+    /// Hands all rows to the visitor, each once with the number of its copies, in ascending order of the bytes of schema,
+    /// table and image, as they are read from the database. No row is kept, so the memory does not grow with their number.
     /// Nothing changes, and the store can be used further.
     ///
-    /// The faults: `Database` if the database failed, and `Broken` after an earlier failure of `apply` or `adopt`. The
-    /// list keeps the rows in memory.
-    pub fn list(&mut self) -> Result<List, StoreFault>
-        ensures lists { HasCleanDisk (database S.Store self.new) → (content : Content) → Holds S.Store self.old content → Lists S.Store content self.new result }
-        ensures shut { HasCleanDisk (database S.Store self.new) → (content : Content) → Keeps S.Store self.old content → (database S.Store self.old).is_open ≡ false → ReadsShut S.Store content self.new result }
-        ensures broken { IsBroken S.Store self.old → (result ≡ Err Broken) × (self.new ≡ self.old) }
+    /// An error of the visitor ends the list. The faults of the store end it too, after the rows that were read before:
+    /// `Database` if the database failed, `Memory` if an allocation was refused, and `Broken`, before the first row, after
+    /// an earlier failure of `apply` or `adopt`.
+    pub fn list<V: Visitor>(&mut self, visitor: &mut V) -> Result<(), ListError<V::Error>>
+        ensures lists { HasCleanDisk (database S.Store self.new) → (content : Content) → Holds S.Store self.old content → Lists S.Store V.row_gives content self.new visitor.old visitor.new result }
+        ensures shut { HasCleanDisk (database S.Store self.new) → (content : Content) → Keeps S.Store self.old content → (database S.Store self.old).is_open ≡ false → ListsShut S.Store content self.new visitor.old visitor.new result }
+        ensures broken { IsBroken S.Store self.old → (result ≡ Err (ListError.Store Broken)) × (self.new ≡ self.old) × (visitor.new ≡ visitor.old) }
         ensures following { names_of S.Store self.new ≡ names_of S.Store self.old }
         ensures crash { HasCleanDisk (database S.Store self.new) → (content : Content) → Holds S.Store self.old content → (trees : _) → (database S.Store self.new).may_leave trees
             → AreOf (database S.Store self.old).now.schema (names_of S.Store self.old) content trees }
-        ensures fault { IfErr result IsReadFault }
+        ensures fault { IfErr result IsListFault }
     {
         if self.broken {
-            return Err(StoreFault::Broken);
+            return Err(ListError::Store(StoreFault::Broken));
         }
-        match rows_in_order(&mut self.conn) {
-            Ok(rows) => Ok(List {
-                rows,
-                at: 0,
-                alloc: self.alloc,
-            }),
-            Err(error) => Err(StoreFault::Database(error)),
-        }
+        list_held(self.alloc, &mut self.conn, visitor)
     }
 }

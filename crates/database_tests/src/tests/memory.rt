@@ -16,7 +16,7 @@ use replica::{
 use scripted_source::{ForgeFault, answer, check, opening};
 use sqlite::{Connection, Error, ErrorCode, MemStore};
 use std::alloc::Global;
-use store::{Applied, List, Store, StoreFault};
+use store::{Applied, ListError, Listed, Store, StoreFault, Visitor};
 use wire::{LARGEST_PAYLOAD, write_payload};
 
 /// How a call ended.
@@ -72,7 +72,7 @@ static NEW: [(Call, &str); 10] = [
     (Call::Apply(1, "++o"), "1 2 0 1"),
     (Call::Apply(3, "p-=x"), "1:3 1 1 0"),
     (Call::Count(1), "1:3 1 1 0"),
-    (Call::List, "1:3 1 1 0"),
+    (Call::"1:3 1 1 0"),
     (Call::Run(2), "1-3 3 1 0"),
     (Call::Feed(4), "1-4 5 1 0"),
     (Call::Follow(6), "1-4:6 7 1 0"),
@@ -138,31 +138,30 @@ fn count(alloc: Global, store: &mut Store<MemStore>, want: u64) -> Option<End> {
     Some(of_both(first, second))
 }
 
-/// The count of the next row of a list, or 0 after the last one.
-fn next(list: &mut List) -> Result<u64, StoreFault> {
-    match list.next() {
-        Ok(Some(row)) => Ok(row.count),
-        Ok(None) => Ok(0),
-        Err(fault) => Err(fault),
+/// Counts the rows of a list, of which each is there once.
+struct Rows(u64);
+
+impl Visitor for Rows {
+    type Error = ();
+
+    ghost row_gives = { λ _ _ _ _. Unit {0} };
+
+    fn row(&mut self, row: &Listed<'_>) -> Result<(), ()> {
+        if row.count != 1 {
+            return Err(());
+        }
+        self.0 = self.0.saturating_add(1);
+        Ok(())
     }
 }
 
-/// Reads a list of two rows to its end, which is where memory is refused.
-fn read(list: List) -> End {
-    let mut list = list;
-    match (next(&mut list), next(&mut list), next(&mut list)) {
-        (Ok(1), Ok(1), Ok(0)) => End::Done,
-        (Err(fault), Ok(0), Ok(0)) => end_of(fault),
-        (Ok(1), Err(fault), Ok(0)) => end_of(fault),
-        _ => End::Wrong,
-    }
-}
-
-/// Lists the rows.
+/// Lists the two rows.
 fn list_once(store: &mut Store<MemStore>) -> End {
-    match store.list() {
-        Ok(list) => read(list),
-        Err(fault) => end_of(fault),
+    let mut rows = Rows(0);
+    match store.list(&mut rows) {
+        Ok(()) if rows.0 == 2 => End::Done,
+        Err(ListError::Store(fault)) => end_of(fault),
+        _ => End::Wrong,
     }
 }
 
