@@ -1,18 +1,34 @@
 -- The end of a transaction that makes a database.
-use Rattle.std.proofs.Common.{◌≡◌, true, refl, Ok, Err, Result, OnErr, IfErr}
+use Rattle.std.proofs.Common.{◌≡◌, true, false, refl, sym, ap, subst, subst₂, ◌∙◌, Ok, Err, Result, OnOk, OnErr, IfErr, IsTrue, []}
 use Rattle.sqlite.specs.declared.error.Error.{Error}
-use Rattle.sqlite.specs.State.{State, KeepsCommit}
+use Rattle.sqlite.specs.Effect.{Database as Stored, IsDatabase}
+use Rattle.sqlite.specs.State.{State, IsLive, KeepsCommit, KeepsCounts, Shows}
 use Rattle.sqlite.specs.Steps.{FailsToCommit}
 use Rattle.sqlite_trees.specs.declared.store.Store as store
 use Rattle.sqlite.specs.Held.{Held, state}
 use Rattle.sqlite_trees.specs.Tree.{Trees}
 use Rattle.store.specs.State.{Content}
-use Rattle.store.specs.Apply.{Rests}
-use Rattle.store.specs.Open.{IsFirstAtRest, MayStandFor}
-use Rattle.store.specs.Making.{HasMade}
+use Rattle.store.specs.Beside.{LiesBeside}
+use Rattle.store.specs.Rows.{StandsFor, HasRowids, held_rows, span_rows}
+use Rattle.store.specs.Apply.{IsAtRest, Rests}
+use Rattle.store.specs.Open.{IsBlank, IsFirstAtRest, MayStandFor}
+use Rattle.store.specs.Making.{IsMaking, HasMade}
 use Rattle.store.specs.Migrating.{IsFirstInside}
 use Rattle.store.proofs.Ran.{rests_failed}
+use Rattle.store.proofs.Spared.{beside_unchanged}
 use Rattle.binlog.specs.Filter.{Names}
+
+pub making_inside : {S : Type 0} (g : store.Ghosts S) (h : Held S) → IsLive (state g h) → IsBlank (state g h) → IsMaking [] (state g (record h { in_transaction = true }))
+making_inside g h live blank = record {
+  is_open = blank.is_open;
+  inside = refl;
+  base = h.schema;
+  vacant = blank.vacant;
+  schema_is = refl;
+  empty = tt;
+  sound = (live blank.is_open).0;
+  beside = beside_unchanged (state g h).committed (state g h).now blank.settled;
+}
 
 pub first_inside : {S : Type 0} (g : store.Ghosts S) (h : Held S) (content : Content) → IsFirstAtRest (state g h) content → IsFirstInside content (state g (record h { in_transaction = true }))
 first_inside g h content rest = record {
@@ -22,11 +38,37 @@ first_inside g h content rest = record {
   held_apart = rest.held_apart;
   stands = rest.stands;
   sound = rest.sound;
+  begun = ap (λ (d : Stored). d.schema) (sym rest.settled) ∙ rest.stands.laid_out;
 }
 
 pub rests_unless : (t m n : State) (r : Result (Unit {0}) Error) → t.now ≡ t.committed → KeepsCommit t m → m.in_transaction ≡ true → IfErr r (FailsToCommit m n) → OnErr r (Rests t n)
 rests_unless t m n (Ok u) settled kept inside failed = tt
 rests_unless t m n (Err e) settled kept inside failed = rests_failed t m n e settled kept inside failed
 
-pub may_stand : (names : Names) (content : Content) (m : State) (db : Trees) → HasMade m names content → db ≡ m.now.trees → MayStandFor names content db
-may_stand names content m db made is = record { db = m.now; trees_are = is; stands = made.stands; sound = made.working.sound; spans_apart = made.working.spans_apart }
+pub may_stand : (names : Names) (content : Content) (t m : State) (db : Trees) → t.now ≡ t.committed → KeepsCommit t m → HasMade m names content → db ≡ m.now.trees → MayStandFor t.now names content db
+may_stand names content t m db settled kept made is = record {
+  db = m.now;
+  trees_are = is;
+  stands = made.stands;
+  sound = made.working.sound;
+  beside = subst (λ c. LiesBeside c m.now) (kept.committed made.working.is_open ∙ sym settled) made.working.beside;
+  spans_apart = made.working.spans_apart;
+}
+
+-- The transaction has been committed.
+abbrev pub HasEnded : State → State → Type 0
+HasEnded m n = IsTrue m.in_transaction × Shows m n m.now m.now false × KeepsCounts m n × (n.marks ≡ [])
+
+pub made_rest : {E : Type 0} (names : Names) (content : Content) (t m n : State) (r : Result (Unit {0}) E) → t.now ≡ t.committed → KeepsCommit t m → HasMade m names content → OnOk r (HasEnded m n) → OnOk r (IsAtRest n names content × LiesBeside t.now n.now)
+made_rest names content t m n (Ok u) settled kept made (_, h, _, _) = (
+  record {
+    is_open = h.is_open;
+    settled = h.now_is ∙ sym h.committed_is;
+    held_apart = subst (λ (db : Stored). HasRowids (held_rows db)) (sym h.now_is) made.working.held_apart;
+    spans_apart = subst (λ (db : Stored). HasRowids (span_rows db)) (sym h.now_is) made.working.spans_apart;
+    stands = subst (λ (db : Stored). StandsFor db names content) (sym h.now_is) made.stands;
+    sound = subst IsDatabase (sym h.now_is) made.working.sound;
+  },
+  subst₂ LiesBeside (kept.committed made.working.is_open ∙ sym settled) (sym h.now_is) made.working.beside,
+)
+made_rest names content t m n (Err e) settled kept made h = tt

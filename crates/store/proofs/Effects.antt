@@ -1,6 +1,6 @@
 -- What each statement on one row of held makes of the counts.
 use Rattle.std.proofs.Common.{◌≡◌, ◌≢◌, ℕ, ◌+◌, ◌≤◌, ℤ, pos, List, [], ◌∷◌, map, filter, find, length, codes, ◌==◌, Option, Some, unwrap_or, Bool, true, false, cond, refl, sym, ap, ap₂, subst, ◌∙◌, arith}
-use Rattle.std.specs.List.{AllByRecursion}
+use Rattle.std.specs.List.{AllByRecursion, list_any}
 use Rattle.std.specs.List.Sorted.{IsPermutation}
 use Rattle.std.proofs.lemmas.Bool.{and_parts, not-true}
 use Rattle.std.proofs.lemmas.Slice.Eq.{bytes_eq-Decides}
@@ -22,12 +22,16 @@ use Rattle.sqlite_schema.specs.declared.schema.Schema.{Schema}
 use Rattle.sqlite_schema.specs.declared.schema.Table.{Table}
 use Rattle.sqlite_schema.specs.declared.schema.Keys.TheVariants.{Enforced}
 use Rattle.sqlite_trees.specs.Tree.{Trees}
+use Rattle.sqlite_schema.specs.Names.{same_name}
+use Rattle.sqlite.specs.Effect.{IsDatabase}
 use Rattle.sqlite.specs.State.{State}
 use Rattle.sqlite.proofs.Callers.{one_permutation}
 use Rattle.store.specs.Layout.{IsLaidOut, IsFound, tree_named, meta_tree, held_tree, spans_tree, follow_tree, meta_at, held_at, spans_at, follow_at}
 use Rattle.store.specs.Take.{most}
 use Rattle.store.specs.Rows.{Key, IsStored, IsHeldRow, HasRowids, is_at, is_blob, count, with_one, without_one, held_rows, span_rows}
 use Rattle.store.specs.Inside.{IsWorking, GoesOn, HasCounts}
+use Rattle.store.specs.Beside.{LiesBeside, own_names}
+use Rattle.store.proofs.Spared.{beside_written, own_found, own_held}
 use Rattle.store.proofs.AnyWhole.{has_index}
 use Rattle.store.proofs.Statements.{Applied, cast_null, cast_int}
 use Rattle.store.proofs.RowLemmas.{counts_inserted, counts_deleted, counts_raised, counts_lowered, found_alone, rowids_put, rowids_without}
@@ -99,6 +103,13 @@ pub same_rows : (old new : State) (name : List ℕ) → new.now.schema ≡ old.n
     → new.now.trees (tree_named new.now.schema name) ≡ old.now.trees (tree_named old.now.schema name)
 same_rows old new name is same = ap (λ s. new.now.trees (tree_named s name)) is ∙ same
 
+-- what lies beside is as it was committed, also after a table of the store is written
+pub still_beside : (old new : State) (edit : Edit) (at : ℕ) → old.in_transaction ≡ true → LiesBeside old.committed old.now → IsDatabase old.now → Applied old.now.schema old new edit → IsFound old.now.schema at edit.table
+    → list_any (same_name edit.table.name) (own_names old.committed.schema) ≡ true → LiesBeside new.committed new.now
+still_beside old new edit at inside beside sound h found named =
+    subst (λ c. LiesBeside c new.now) (sym (h.shown.committed_is ∙ ap (λ b. cond b old.committed new.now) inside))
+    (beside_written old.committed old.now new.now beside sound h.sound edit.table.tree h.schema_is (own_found (own_names old.committed.schema) old.now.schema at edit.table found named) h.step.tables)
+
 module _ (old new : State) (was : IsWorking old) where
   abbrev schema : Schema
   schema = old.now.schema
@@ -131,6 +142,7 @@ module _ (old new : State) (was : IsWorking old) where
       spans_apart = subst HasRowids (sym (spans_stay edit h at)) was.spans_apart;
       lawful = subst (AllByRecursion IsHeldRow) (sym (rows_new edit h)) lawful;
       sound = h.sound;
+      beside = still_beside old new edit l.held.at was.inside was.beside was.sound h (rw at l.held.found) (rw at (own_held old.committed.schema));
     };
     schema = h.schema_is;
     committed = h.shown.committed_is ∙ ap (λ b. cond b old.committed new.now) was.inside;

@@ -10,6 +10,8 @@ use Rattle.store.specs.declared.fault.StoreFault.TheVariants.{Follows}
 use Rattle.store.specs.Layout.{IsVacant}
 use Rattle.store.specs.Rows.{StandsFor, StandsForFirst}
 use Rattle.store.specs.Load.{IsLoaded, IsFirstLoaded}
+use Rattle.store.specs.Beside.{LiesBeside}
+use Rattle.store.proofs.Spared.{beside_unchanged}
 use Rattle.store.specs.Apply.{IsAtRest, Rests}
 use Rattle.store.specs.Open.{nothing, all, IsBlank, MayStandFor, MayMigrate}
 use Rattle.store.specs.Entering.{IsReady, IsEntered, IsTurned, IsWanted, MayEnter}
@@ -28,17 +30,18 @@ weaken a b P Q f s = record {
 pub blank : (s : State) → IsReady s → IsVacant s.now.schema → IsBlank s
 blank s ready none = record { is_open = ready.is_open; settled = ready.settled; vacant = none }
 
-pub entered_new : (any : Bool) (only following : Names) (executed : Ids) (old new : State) → IsVacant old.now.schema → following ≡ only → executed ≡ nothing.executed → IsAtRest new following nothing → IsEntered any only old new executed following
+pub entered_new : (any : Bool) (only following : Names) (executed : Ids) (old new : State) → IsVacant old.now.schema → following ≡ only → executed ≡ nothing.executed → IsAtRest new following nothing × LiesBeside old.now new.now → IsEntered any only old new executed following
 entered_new any only following executed old new none same empty rest = record {
   content = nothing;
   of = inl ((none, refl), same);
-  rest = rest;
+  rest = rest.0;
   executed_is = empty;
   wanted = λ _. same;
+  beside = rest.1;
 }
 
-pub may_new : (only following : Names) (old new : State) → IsVacant old.now.schema → following ≡ only → Survives old new (MayStandFor following nothing) → Survives old new (MayEnter only old)
-may_new only following old new none same s = weaken old new (MayStandFor following nothing) (MayEnter only old) (λ db may. record { names = following; content = nothing; of = inl ((none, refl), same); may = may }) s
+pub may_new : (only following : Names) (old new : State) → IsVacant old.now.schema → following ≡ only → Survives old new (MayStandFor old.now following nothing) → Survives old new (MayEnter only old)
+may_new only following old new none same s = weaken old new (MayStandFor old.now following nothing) (MayEnter only old) (λ db may. record { names = following; content = nothing; of = inl ((none, refl), same); may = may }) s
 
 pub rests_after : (old mid new : State) → IsUnchanged old mid → Rests mid new → Rests old new
 rests_after old mid new same rests is_open = let r = rests is_open in (r.0 ∙ same.0.now_is, r.1 ∙ same.0.committed_is)
@@ -48,13 +51,14 @@ module _ (any : Bool) (only following : Names) (executed : Ids) (old mid new : S
   stood_first : IsUnchanged old mid → (l : IsFirstLoaded mid executed) → StandsForFirst old.now l.content
   stood_first same l = subst (λ (db : Stored). StandsForFirst db l.content) same.0.now_is l.rest.stands
 
-  pub entered_first : IsUnchanged old mid → (l : IsFirstLoaded mid executed) → following ≡ all → IsWanted any only following → IsAtRest new all l.content → IsEntered any only old new executed following
+  pub entered_first : IsUnchanged old mid → (l : IsFirstLoaded mid executed) → following ≡ all → IsWanted any only following → IsAtRest new all l.content × LiesBeside mid.now new.now → IsEntered any only old new executed following
   entered_first same l is wanted rest = record {
     content = l.content;
     of = inr (inr (is, stood_first same l));
-    rest = subst (λ n. IsAtRest new n l.content) (sym is) rest;
+    rest = subst (λ n. IsAtRest new n l.content) (sym is) rest.0;
     executed_is = l.executed_is;
     wanted = wanted;
+    beside = subst (λ (db : Stored). LiesBeside db new.now) same.0.now_is rest.1;
   }
 
   pub other_first : IsUnchanged old mid → IsFirstLoaded mid executed → following ≡ all → (any ≡ false) × (following ≢ only) → IsTurned any only old mid Follows
@@ -66,7 +70,7 @@ module _ (any : Bool) (only following : Names) (executed : Ids) (old mid new : S
       (λ clean db may.
       let early : HasCleanDisk mid = omega (arith, two.clean, clean) in
       let l = loaded early in
-      record { names = all; content = l.content; of = inr (inr (refl, stood_first (same early) l)); may = may l.content l.rest l.executed_is })
+      record { names = all; content = l.content; of = inr (inr (refl, stood_first (same early) l)); may = subst (λ (b : Stored). MayStandFor b all l.content db) (same early).0.now_is (may l.content l.rest l.executed_is) })
       one two
 
 -- ---- layout 2
@@ -81,6 +85,7 @@ module _ (any : Bool) (only following : Names) (executed : Ids) (old new : State
     rest = l.rest;
     executed_is = l.executed_is;
     wanted = wanted;
+    beside = beside_unchanged old.now new.now same.0.now_is;
   }
 
   pub other_second : IsUnchanged old new → IsLoaded new executed following → (any ≡ false) × (following ≢ only) → IsTurned any only old new Follows

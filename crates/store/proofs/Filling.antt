@@ -71,6 +71,7 @@ module _ (s : State) (names : Names) (was : IsNaming names s) where
       spans_apart = rw (was.spans) no_rowids;
       lawful = rw (was.held) tt;
       sound = was.sound;
+      beside = was.beside;
     };
     stands = record {
       laid_out = was.laid_out;

@@ -18,6 +18,8 @@ use Rattle.store.specs.declared.tables.Meta.{Meta}
 use Rattle.store.specs.Judge.{IsMeta, IsOnly, layouts}
 use Rattle.store.specs.Rows.{SaysLayout, first_meta_rows, meta_rows, IsMetaRow}
 use Rattle.store.specs.Load.{StatesLayout}
+use Rattle.store.specs.Beside.{LiesBeside}
+use Rattle.store.specs.Open.{MayStandFor}
 use Rattle.store.specs.Entering.{IsReady, IsKnown, blank, first, second, lacking, IsOf, IsWhy, IsEntered, IsTurned, MayEnter, tables_of, has_any, has_first, has_second}
 use Rattle.store.proofs.Wholes.{first_has_meta}
 use Rattle.store.proofs.Lives.{narrowed}
@@ -75,6 +77,7 @@ module _ (any : Bool) (only : Names) (old mid new : State) (same : IsUnchanged o
     rest = e.rest;
     executed_is = e.executed_is;
     wanted = e.wanted;
+    beside = subst (λ (db : Stored). LiesBeside db new.now) same.0.now_is e.beside;
   }
 
   pub turned_after : (fault : StoreFault) → IsTurned any only mid new fault → IsTurned any only old new fault
@@ -85,7 +88,7 @@ may_after only old mid db same m = record {
   names = m.names;
   content = m.content;
   of = subst (λ (d : Stored). IsOf only m.names d m.content) same.0.now_is m.of;
-  may = m.may;
+  may = subst (λ (d : Stored). MayStandFor d m.names m.content db) same.0.now_is m.may;
 }
 
 pub may_then : (only : Names) (old mid new : State) → Survives old mid (λ _. ⊥) → Survives mid new (λ _. Unit {0}) → (HasCleanDisk mid → IsUnchanged old mid) → (HasCleanDisk mid → Survives mid new (MayEnter only mid)) → Survives old new (MayEnter only old)

@@ -3,6 +3,7 @@ pub mod AnySchema
 pub mod AnyWhole
 pub mod AnyMaking
 pub mod Beside
+pub mod Spared
 pub mod Selects
 pub mod Works
 pub mod RowLemmas
@@ -27,6 +28,7 @@ pub mod Migrating
 pub mod SpanLists
 pub mod Migrated
 pub mod Committed
+pub mod Replaced
 pub mod Wholes
 pub mod Readings
 pub mod Judging

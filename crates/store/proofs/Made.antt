@@ -1,5 +1,5 @@
 -- From one call to the next.
-use Rattle.std.proofs.Common.{◌≡◌, ◌<◌, ◌≤◌, nat_lt, ℕ, List, true, false, Some, None, Option, refl, sym, ap, subst, ◌∙◌, arith}
+use Rattle.std.proofs.Common.{◌≡◌, ◌<◌, ◌≤◌, nat_lt, ℕ, List, true, false, Some, None, Option, refl, sym, ap, subst, subst₂, ◌∙◌, arith}
 use Rattle.std.specs.List.{AllByRecursion}
 use Rattle.std.proofs.lemmas.Bool.{lt-ltb}
 use Rattle.std.proofs.lemmas.Bool.Decides.{nat_tests}
@@ -8,6 +8,7 @@ use Rattle.sqlite.specs.Effect.{Database, IsDatabase}
 use Rattle.sqlite.specs.State.{State, IsUnchanged}
 use Rattle.store.specs.declared.row_change.Refusal.TheVariants.{NoSuchRow, CountFull}
 use Rattle.store.specs.Layout.{IsLaidOut}
+use Rattle.store.specs.Beside.{LiesBeside}
 use Rattle.store.specs.Take.{most}
 use Rattle.store.specs.Rows.{Key, IsHeldRow, HasRowids, Finds, meta_rows, held_rows, span_rows, follow_rows, count, Counts, with_one, without_one}
 use Rattle.store.specs.Inside.{IsWorking, GoesOn, HasCounts, added, taken, Counted}
@@ -22,6 +23,7 @@ working_same old mid h was = record {
   spans_apart = subst (λ (d : Database). HasRowids (span_rows d)) (sym h.0.now_is) was.spans_apart;
   lawful = subst (λ (d : Database). AllByRecursion IsHeldRow (held_rows d)) (sym h.0.now_is) was.lawful;
   sound = subst IsDatabase (sym h.0.now_is) was.sound;
+  beside = subst₂ LiesBeside (sym h.0.committed_is) (sym h.0.now_is) was.beside;
 }
 
 pub goes_since : (old mid new : State) → IsUnchanged old mid → GoesOn mid new → GoesOn old new

@@ -1,6 +1,6 @@
 -- What each statement that makes the tables does, where it succeeds.
-use Rattle.std.proofs.Common.{◌≡◌, inl, inr, ℕ, ◌++◌, codes, pos, List, [], ◌∷◌, false, map, None, Ok, Err, Result, OnOk, refl, sym, ap, subst, ◌∙◌}
-use Rattle.std.specs.List.{AllByRecursion}
+use Rattle.std.proofs.Common.{◌≡◌, inl, inr, ℕ, ◌++◌, codes, pos, List, [], ◌∷◌, false, true, cond, map, None, Ok, Err, Result, OnOk, refl, sym, ap, subst, ◌∙◌}
+use Rattle.std.specs.List.{AllByRecursion, list_any}
 use Rattle.std.specs.List.Sorted.{IsPermutation}
 use Rattle.std.proofs.lemmas.List.Sorted.{IsPermutation-map, list_any-IsPermutation}
 use Rattle.std.specs.FinSet as set
@@ -12,6 +12,7 @@ use Rattle.sqlite_schema.specs.declared.schema.Schema.{Schema}
 use Rattle.sqlite_schema.specs.declared.schema.Keys.TheVariants.{Enforced}
 use Rattle.sqlite_schema.specs.declared.command.Command.TheVariants.{Insert, CreateTable}
 use Rattle.sqlite_schema.specs.declared.command.Source.TheVariants.{Values}
+use Rattle.sqlite_schema.specs.Names.{same_name}
 use Rattle.sqlite_catalog.specs.Change.{created, next_tree, KeepsRows}
 use Rattle.sqlite_rules.specs.Edit.{edit_of, are_fresh, is_taken, next_rowid, Applies, put_all}
 use Rattle.sqlite_rules.specs.declared.error.Rowids.TheVariants.{Chosen}
@@ -36,7 +37,9 @@ use Rattle.store.proofs.AnyMaking.{MakesTable, runs_made, meta_makes, held_makes
 use Rattle.store.proofs.Works.{no_works}
 use Rattle.store.proofs.Statements.{Applied, on_table, went, same_value, cast_null, cast_int}
 use Rattle.store.proofs.RowLemmas.{put_among}
-use Rattle.store.proofs.Effects.{fresh_alone, same_rows, stays, meta_held, meta_spans, follow_held, follow_spans, follow_meta}
+use Rattle.store.specs.Beside.{LiesBeside, own_names}
+use Rattle.store.proofs.Spared.{beside_made, own_meta, own_held, own_spans, own_follow}
+use Rattle.store.proofs.Effects.{fresh_alone, same_rows, stays, still_beside, meta_held, meta_spans, follow_held, follow_spans, follow_meta}
 
 -- ---- tables
 
@@ -89,7 +92,8 @@ module _ (schema : Schema) (sql : List ℕ) (table : Table) (m : MakesTable sql 
       subst (λ (d : Database). KeepsRows schema.tables old.now.trees d.trees) (sym now) (subst (λ (s : Schema). KeepsRows s.tables old.now.trees first.0.trees) has done.others) in
       (ap (λ (d : Database). d.schema) now ∙ schema_is, empty, kept, w)
 
-module _ (ts : List Table) (sql : List ℕ) (table : Table) (m : MakesTable sql table) (counted : (base : Schema) → IsVacant base → lacks_sequence (created (with_tables base ts) table) ≡ false) (old new : State) where
+module _ (ts : List Table) (sql : List ℕ) (table : Table) (m : MakesTable sql table) (named : (schema : Schema) → list_any (same_name table.name) (own_names schema) ≡ true) (counted : (base : Schema) → IsVacant base → lacks_sequence (created (with_tables base ts) table) ≡ false)
+    (old new : State) where
   done : (r : Result ℕ Error) → IsMaking ts old → ExecutesInside 0 sql [] old new r → OnOk r (IsMaking (table ∷ ts) new)
   done (Ok count) was h =
       let schema = with_tables was.base ts in
@@ -101,20 +105,24 @@ module _ (ts : List Table) (sql : List ℕ) (table : Table) (m : MakesTable sql 
         vacant = was.vacant;
         schema_is = it.0;
         empty = (it.1, still_empty schema (trees_of was.base ts) old.now.trees new.now.trees it.2 (made_trees was.base ts) was.empty);
+        sound = it.3.sound;
+        beside = subst (λ c. LiesBeside c new.now) (sym (it.3.shown.committed_is ∙ ap (λ b. cond b old.committed new.now) was.inside))
+            (beside_made old.committed old.now new.now table was.beside was.sound it.3.sound (named old.committed.schema) (it.0 ∙ ap (λ s. created s table) (sym was.schema_is))
+            (subst (λ (s : Schema). KeepsRows s.tables old.now.trees new.now.trees) (sym was.schema_is) it.2));
       }
   done (Err e) was h = tt
 
 pub done_meta : (old new : State) (r : Result ℕ Error) → IsMaking [] old → ExecutesInside 0 meta_text [] old new r → OnOk r (IsMaking with_meta new)
-done_meta old new r was h = done [] meta_text meta meta_makes counted_base old new r was h
+done_meta old new r was h = done [] meta_text meta meta_makes own_meta counted_base old new r was h
 
 pub done_held : (old new : State) (r : Result ℕ Error) → IsMaking with_meta old → ExecutesInside 0 held_text [] old new r → OnOk r (IsMaking with_held new)
-done_held old new r was h = done with_meta held_text held held_makes counted_one old new r was h
+done_held old new r was h = done with_meta held_text held held_makes own_held counted_one old new r was h
 
 pub done_spans : (old new : State) (r : Result ℕ Error) → IsMaking with_held old → ExecutesInside 0 spans_text [] old new r → OnOk r (IsMaking with_spans new)
-done_spans old new r was h = done with_held spans_text spans spans_makes counted_two old new r was h
+done_spans old new r was h = done with_held spans_text spans spans_makes own_spans counted_two old new r was h
 
 pub done_follow : (old new : State) (r : Result ℕ Error) → IsMaking with_spans old → ExecutesInside 0 follow_text [] old new r → OnOk r (IsMaking new_layout new)
-done_follow old new r was h = done with_spans follow_text follow follow_makes counted_three old new r was h
+done_follow old new r was h = done with_spans follow_text follow follow_makes own_follow counted_three old new r was h
 
 -- ---- the row of meta
 
@@ -207,6 +215,7 @@ marks old new count was h =
       spans = same_rows old new (codes "spans") a.schema_is (stays schema l.spans.at (spans_at schema) old.now.trees new.now.trees edit l.spans.found a.step (λ same. meta_spans schema l (sym same))) ∙ b.spans;
       follow = rw follow_is (record { lawful = tt; names_are = refl });
       sound = a.sound;
+      beside = still_beside old new edit l.meta.at was.inside was.beside was.sound a l.meta.found (own_meta old.committed.schema);
     }
 
 pub done_layout : (old new : State) (r : Result ℕ Error) → IsMaking new_layout old → ExecutesInside 0 layout_text [] old new r → OnOk r (IsNaming set.empty new)
@@ -253,6 +262,7 @@ names_one old new names name count was h =
       spans = same_rows old new (codes "spans") a.schema_is (stays schema l.spans.at (spans_at schema) old.now.trees new.now.trees edit l.spans.found a.step (λ same. follow_spans schema l (sym same))) ∙ was.spans;
       follow = rw follow_is (named_put rows names name free was.follow);
       sound = a.sound;
+      beside = still_beside old new edit l.follow.at was.inside was.beside was.sound a l.follow.found (own_follow old.committed.schema);
     }
 
 pub done_name : (old new : State) (names : Names) (name : Name) (r : Result ℕ Error) → IsNaming names old → ExecutesInside 0 add_name_text (Blob name.0 ∷ Blob name.1 ∷ []) old new r → OnOk r (IsNaming (set.insert names name) new)

@@ -1,5 +1,5 @@
 -- From the statements of the migration to what the database stands for.
-use Rattle.std.proofs.Common.{◌≡◌, ℕ, List, [], ◌∷◌, map, pos, inl, inr, Ok, Err, Result, OnOk, append-nil, refl, sym, ap, subst, ◌∙◌, arith}
+use Rattle.std.proofs.Common.{◌≡◌, ℕ, List, [], ◌∷◌, map, pos, inl, inr, Ok, Err, Result, OnOk, append-nil, refl, sym, ap, subst, subst₂, ◌∙◌, arith}
 use Rattle.std.specs.List.{AllByRecursion}
 use Rattle.std.specs.List.Sorted.{IsPermutation}
 use Rattle.std.specs.FinSet as set
@@ -15,6 +15,8 @@ use Rattle.store.specs.State.{Content}
 use Rattle.store.specs.Rows.{IsExecutedRow, id_in, first_meta_rows, meta_rows, held_rows, span_rows, follow_rows, bag_of, count, shown_spans, stored_span}
 use Rattle.store.specs.Layout.{IsLaidOut, tree_named, meta_tree, held_tree, spans_tree, follow_tree, first_layout}
 use Rattle.store.specs.Inside.{IsWorking, HasLeft}
+use Rattle.store.specs.Beside.{own_names, is_own, tables_beside, indexes_beside, LiesBeside}
+use Rattle.sqlite_trees.specs.Tree.{Trees}
 use Rattle.store.specs.Open.{all}
 use Rattle.store.specs.Making.{HasMade}
 use Rattle.store.specs.Migrating.{migrated_layout, IsFirstInside, IsMigrating}
@@ -73,7 +75,13 @@ first_begun content s was = record {
   rows = was.stands.rows;
   lawful = subst AreGtids (sym was.stands.executed) (lawful_rows _ was.stands.rules.executed);
   sound = was.sound;
+  begun = was.begun;
 }
+
+-- layout 1 has nothing beside, and neither has what it is migrated to
+none_beside : (old new : Trees) → LiesBeside (record { schema = first_layout; trees = old }) (record { schema = migrated_layout; trees = new })
+unfolding own_names is_own tables_beside indexes_beside same_name
+none_beside old new = record { tables = refl; indexes = refl; views = refl; rows = tt; entries = tt }
 
 module _ (content : Content) (s : State) (was : IsMigrating migrated_layout (pos 2) (6 ∷ 8 ∷ []) content s) where
   meta_is : meta_rows s.now ≡ s.now.trees 0
@@ -97,6 +105,7 @@ module _ (content : Content) (s : State) (was : IsMigrating migrated_layout (pos
     spans_apart = rw spans_none no_rowids;
     lawful = rw held_is was.held;
     sound = was.sound;
+    beside = subst₂ (λ b n. LiesBeside (record s.committed { schema = b }) (record s.now { schema = n })) (sym was.begun) (sym was.schema_is) (none_beside s.committed.trees s.now.trees);
   }
 
   module _ (new : State) (spans : List Span) (least : IsLeastList spans content.executed) (h : HasLeft s new spans []) where

@@ -1,5 +1,5 @@
 -- What each statement of the migration does, where it succeeds.
-use Rattle.std.proofs.Common.{◌≡◌, ℕ, ℤ, codes, pos, List, [], ◌∷◌, map, filter, not, Bool, true, false, None, Ok, Err, Result, OnOk, IsTrue, inl, inr, refl, sym, ap, ap₂, subst, ◌∙◌, arith}
+use Rattle.std.proofs.Common.{◌≡◌, ℕ, ℤ, codes, pos, List, [], ◌∷◌, map, filter, not, Bool, true, false, cond, None, Ok, Err, Result, OnOk, IsTrue, inl, inr, refl, sym, ap, ap₂, subst, ◌∙◌, arith}
 use Rattle.std.specs.List.{AllByRecursion}
 use Rattle.std.specs.List.Sorted.{IsPermutation}
 use Rattle.std.specs.Ordering.{is_eq}
@@ -47,7 +47,7 @@ use Rattle.store.proofs.RowLemmas.{put_among, rowids_put, rowids_without, left_i
 use Rattle.store.proofs.Effects.{all_filtered, fresh_alone, own_id}
 
 -- meta and held stay
-stays : (schema after : Schema) (layout : ℤ) (bare more : List ℕ) (content : Content) (old new : State) → IsMigrating schema layout bare content old → IsTrue new.is_open × (new.in_transaction ≡ true) × IsDatabase new.now → new.now.schema ≡ after → AllByRecursion (λ tree. new.now.trees tree ≡ []) more
+stays : (schema after : Schema) (layout : ℤ) (bare more : List ℕ) (content : Content) (old new : State) → IsMigrating schema layout bare content old → IsTrue new.is_open × (new.in_transaction ≡ true) × IsDatabase new.now × (new.committed ≡ cond old.in_transaction old.committed new.now) → new.now.schema ≡ after → AllByRecursion (λ tree. new.now.trees tree ≡ []) more
     → new.now.trees 0 ≡ old.now.trees 0 → new.now.trees 4 ≡ old.now.trees 4 → IsMigrating after layout more content new
 stays schema after layout bare more content old new was shown is empty meta held = record {
   is_open = shown.0;
@@ -62,6 +62,7 @@ stays schema after layout bare more content old new was shown is empty meta held
   rows = rw held was.rows;
   lawful = was.lawful;
   sound = shown.2;
+  begun = ap (λ (d : Database). d.schema) (shown.3 ∙ ap (λ b. cond b old.committed new.now) was.inside) ∙ was.begun;
 }
 
 -- ---- dropping executed
@@ -76,7 +77,7 @@ drops content old new count was h =
     let left = went tested.2 in
     let now : new.now ≡ left.0 = ap (λ (p : Tally × Database). p.1) (same_value left.2) in
     let trees : uncounted.0 ≡ old.now.trees = same_value uncounted.1 ∙ same_value emptied.1 in
-    stays first_layout without_executed (pos 1) [] [] content old new was (w.shown.is_open, w.shown.mode ∙ was.inside, w.sound) (ap (λ (d : Database). d.schema) now ∙ left.1.0) tt
+    stays first_layout without_executed (pos 1) [] [] content old new was (w.shown.is_open, w.shown.mode ∙ was.inside, w.sound, w.shown.committed_is) (ap (λ (d : Database). d.schema) now ∙ left.1.0) tt
     (ap (λ (d : Database). d.trees 0) now ∙ left.1.1.0 ∙ ap (λ (t : Trees). t 0) trees) (ap (λ (d : Database). d.trees 4) now ∙ left.1.1.1.0 ∙ ap (λ (t : Trees). t 4) trees)
 
 pub done_drop : (content : Content) (old new : State) (r : Result ℕ Error) → IsMigrating first_layout (pos 1) [] content old → ExecutesInside 0 drop_executed_text [] old new r
@@ -90,14 +91,14 @@ pub done_spans : (content : Content) (old new : State) (r : Result ℕ Error) �
     → OnOk r (IsMigrating migrated_spans (pos 1) (6 ∷ []) content new)
 done_spans content old new (Ok count) was h =
     let it = creates without_executed spans_text spans spans_makes refl old new was.schema_is count h.0 in
-    stays without_executed migrated_spans (pos 1) [] (6 ∷ []) content old new was (it.3.shown.is_open, it.3.shown.mode ∙ was.inside, it.3.sound) it.0 (it.1, tt) it.2.0 it.2.1.0
+    stays without_executed migrated_spans (pos 1) [] (6 ∷ []) content old new was (it.3.shown.is_open, it.3.shown.mode ∙ was.inside, it.3.sound, it.3.shown.committed_is) it.0 (it.1, tt) it.2.0 it.2.1.0
 done_spans content old new (Err e) was h = tt
 
 pub done_follow : (content : Content) (old new : State) (r : Result ℕ Error) → IsMigrating migrated_spans (pos 1) (6 ∷ []) content old → ExecutesInside 0 follow_text [] old new r
     → OnOk r (IsMigrating migrated_layout (pos 1) (6 ∷ 8 ∷ []) content new)
 done_follow content old new (Ok count) was h =
     let it = creates migrated_spans follow_text follow follow_makes refl old new was.schema_is count h.0 in
-    stays migrated_spans migrated_layout (pos 1) (6 ∷ []) (6 ∷ 8 ∷ []) content old new was (it.3.shown.is_open, it.3.shown.mode ∙ was.inside, it.3.sound) it.0 (it.2.1.1.0 ∙ was.empty.0, (it.1, tt)) it.2.0 it.2.1.0
+    stays migrated_spans migrated_layout (pos 1) (6 ∷ []) (6 ∷ 8 ∷ []) content old new was (it.3.shown.is_open, it.3.shown.mode ∙ was.inside, it.3.sound, it.3.shown.committed_is) it.0 (it.2.1.1.0 ∙ was.empty.0, (it.1, tt)) it.2.0 it.2.1.0
 done_follow content old new (Err e) was h = tt
 
 -- ---- the row of meta
@@ -201,6 +202,7 @@ raises content old new count was h =
       rows = rw held_is was.rows;
       lawful = was.lawful;
       sound = w.sound;
+      begun = ap (λ (d : Database). d.schema) (w.shown.committed_is ∙ ap (λ b. cond b old.committed new.now) was.inside) ∙ was.begun;
     }
 
 pub done_raise : (content : Content) (old new : State) (r : Result ℕ Error) → IsMigrating migrated_layout (pos 1) (6 ∷ 8 ∷ []) content old → ExecutesInside 0 raise_text [] old new r

@@ -14,7 +14,9 @@ use Rattle.store.specs.declared.row_change.Refusal.{Refusal}
 use Rattle.store.specs.State.{Content}
 use Rattle.store.specs.Rows.{StandsFor, HasRowids, held_rows, span_rows}
 use Rattle.store.specs.Inside.{IsWorking, GoesOn}
-use Rattle.store.specs.Apply.{IsApplied, IsAtRest, Rests, HasApplied, Runs, MayCommit}
+use Rattle.store.proofs.Spared.{beside_unchanged}
+use Rattle.store.specs.Beside.{LiesBeside}
+use Rattle.store.specs.Apply.{IsApplied, IsTaken, IsAtRest, Rests, HasApplied, Runs, MayCommit}
 
 pub begun_working : {S : Type 0} (g : store.Ghosts S) (h : Held S) (names : Names) (content : Content) → IsAtRest (state g h) names content → IsWorking (state g (record h { in_transaction = true }))
 begun_working g h names content rest = record {
@@ -25,6 +27,7 @@ begun_working g h names content rest = record {
   spans_apart = rest.spans_apart;
   lawful = rest.stands.held;
   sound = rest.sound;
+  beside = beside_unchanged (state g h).committed (state g h).now rest.settled;
 }
 
 -- ---- given up
@@ -46,8 +49,8 @@ module _ (names : Names) (content : Content) (d : DeliveryValue) where
 
   -- ---- taken
 
-  pub has_taken : (t m n : State) → GoesOn t m × IsApplied names content d m.now.schema m.now.trees → Shows m n m.now m.now false → HasApplied names content d n × (n.now.schema ≡ t.now.schema)
-  has_taken t m n it h = (
+  pub has_taken : (t m n : State) → GoesOn t m × IsApplied names content d m.now.schema m.now.trees → Shows m n m.now m.now false → t.now ≡ t.committed → HasApplied names content d n × (n.now.schema ≡ t.now.schema) × LiesBeside t.now n.now
+  has_taken t m n it h settled = (
     record {
       after = it.1.after;
       takes = it.1.takes;
@@ -61,13 +64,17 @@ module _ (names : Names) (content : Content) (d : DeliveryValue) where
       };
     },
     ap (λ (db : Database). db.schema) h.now_is ∙ it.0.schema,
+    subst₂ LiesBeside (it.0.committed ∙ sym settled) (sym h.now_is) it.0.working.beside,
   )
 
   -- ---- what a crash leaves
 
-  pub leaves : (t m : State) → GoesOn t m × IsApplied names content d m.now.schema m.now.trees → (db : Trees) → db ≡ m.now.trees → IsApplied names content d t.now.schema db
-  leaves t m it db is = subst₂ (λ s trees. IsApplied names content d s trees) it.0.schema (sym is) it.1
+  pub leaves : (t m : State) → GoesOn t m × IsApplied names content d m.now.schema m.now.trees → (db : Trees) → db ≡ m.now.trees → t.now ≡ t.committed → IsTaken names content d t db
+  leaves t m it db is settled = (
+    subst₂ (λ s trees. IsApplied names content d s trees) it.0.schema (sym is) it.1,
+    subst₂ (λ s trees. LiesBeside t.now (record { schema = s; trees = trees })) it.0.schema (sym is) (subst (λ c. LiesBeside c m.now) (it.0.committed ∙ sym settled) it.0.working.beside),
+  )
 
-  pub may_commit_err : {E : Type 0} (a : State) (r : Result (Option (ℕ × Refusal)) E) (db : Trees) → IsErr r → IsApplied names content d a.now.schema db → MayCommit names content d a r db
+  pub may_commit_err : {E : Type 0} (a : State) (r : Result (Option (ℕ × Refusal)) E) (db : Trees) → IsErr r → IsTaken names content d a db → MayCommit names content d a r db
   may_commit_err a (Ok o) db is taken = absurd (cc)
   may_commit_err a (Err e) db is taken = taken

@@ -22,7 +22,8 @@ use Rattle.store.specs.Rows.{IsHeldRow, HasRowids, held_rows, span_rows, shown_s
 use Rattle.store.specs.Inside.{IsWorking, GoesOn, Moves, Begins}
 use Rattle.store.proofs.Statements.{Applied, cast_null, cast_int, adds_span, drops_span}
 use Rattle.store.proofs.RowLemmas.{rowids_put, rowids_without, left_is, put_among}
-use Rattle.store.proofs.Effects.{fresh_alone, keyed_row, own_id, same_rows, stays, meta_spans, held_spans, follow_spans}
+use Rattle.store.proofs.Effects.{fresh_alone, keyed_row, own_id, same_rows, stays, still_beside, meta_spans, held_spans, follow_spans}
+use Rattle.store.proofs.Spared.{own_spans}
 
 -- ---- what is stored of spans, and what passes a test
 
@@ -97,6 +98,7 @@ module _ (old new : State) (was : IsWorking old) where
       spans_apart = subst HasRowids (sym (rows_new edit h)) shaped;
       lawful = subst (AllByRecursion IsHeldRow) (sym (held_stays edit h at)) was.lawful;
       sound = h.sound;
+      beside = still_beside old new edit l.spans.at was.inside was.beside was.sound h (rw at l.spans.found) (rw at (own_spans old.committed.schema));
     };
     schema = h.schema_is;
     committed = h.shown.committed_is ∙ ap (λ b. cond b old.committed new.now) was.inside;

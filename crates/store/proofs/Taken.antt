@@ -8,7 +8,7 @@ use Rattle.sqlite.specs.declared.error.Error.{Error}
 use Rattle.sqlite.specs.Effect.{Database as Stored, IsDatabase}
 use Rattle.sqlite_trees.specs.declared.store.Store.{Ghosts}
 use Rattle.sqlite.specs.Held.{Held, state}
-use Rattle.sqlite.specs.State.{State, IsNotRun, Survives}
+use Rattle.sqlite.specs.State.{State, HasCleanDisk, IsNotRun, Survives}
 use Rattle.sqlite.proofs.StateLemmas.{survives_then}
 use Rattle.gtid.specs.Identifier.{Id, Ids}
 use Rattle.gtid.specs.Span.{IsLeastList}
@@ -29,7 +29,9 @@ use Rattle.store.specs.Store.{Holds, Applies, AppliesShut, AreOf, Leaves, breaks
 use Rattle.store.specs.State.{Content}
 use Rattle.store.specs.Take.{HasOutcome, is_executed, refused}
 use Rattle.store.specs.Rows.{StandsFor, HasRowids, held_rows, span_rows}
-use Rattle.store.specs.Apply.{IsAtRest, Rests, HasApplied, HasMoved, Comes, MayMove, IsReported, FailsShut}
+use Rattle.store.specs.Beside.{LiesBeside}
+use Rattle.store.proofs.Spared.{beside_same, beside_unchanged}
+use Rattle.store.specs.Apply.{SparesBeside, IsAtRest, Rests, HasApplied, HasMoved, Comes, MayMove, IsReported, FailsShut}
 
 -- ---- the connection as it was
 pub rest_same : (a b : State) (names : Names) (content : Content) → IsTrue b.is_open → b.now ≡ a.now → b.committed ≡ a.committed → IsAtRest a names content → IsAtRest b names content
@@ -71,10 +73,11 @@ beside_known spans executed ids q beside same least joins = subst (λ s. Joins s
 
 -- ---- what it comes to
 module _ (names : Names) (content : Content) (d : DeliveryValue) where
-  pub moved : (old new : State) (executed now : Ids) → executed ≡ content.executed → now ≡ set.insert executed (d.source, d.number) → HasApplied names content d new × (new.now.schema ≡ old.now.schema) → HasMoved names content d old new now
+  pub moved : (old new : State) (executed now : Ids) → executed ≡ content.executed → now ≡ set.insert executed (d.source, d.number) → HasApplied names content d new × (new.now.schema ≡ old.now.schema) × LiesBeside old.now new.now → HasMoved names content d old new now
   moved old new executed now same is taken = record {
     taken = taken.0;
     schema = taken.1;
+    beside = taken.2;
     set = is ∙ ap (λ ids. set.insert ids (d.source, d.number)) same ∙ sym taken.0.takes.2;
   }
 
@@ -82,10 +85,10 @@ module _ (names : Names) (content : Content) (d : DeliveryValue) where
       → HasOutcome names content d (refused at reason) × Rests old mid → IsReported at reason mid new fault → Comes names content d old new executed (Err fault)
   came old mid new executed at reason (NoSuchRow n) same rest h reported =
       let at_rest : IsAtRest new names content = let r = h.1 reported.2.0.was_open in rest_same old new names content reported.2.0.is_open (reported.2.0.now_is ∙ r.0) (reported.2.0.committed_is ∙ r.1) rest in
-      (subst (λ p. HasOutcome names content d (refused p why.NoSuchRow)) (sym reported.0) (subst (λ w. HasOutcome names content d (refused at w)) reported.1 h.0), at_rest, same, ap (λ (db : Stored). db.schema) (reported.2.0.now_is ∙ (h.1 reported.2.0.was_open).0))
+      (subst (λ p. HasOutcome names content d (refused p why.NoSuchRow)) (sym reported.0) (subst (λ w. HasOutcome names content d (refused at w)) reported.1 h.0), at_rest, same, reported.2.0.now_is ∙ (h.1 reported.2.0.was_open).0)
   came old mid new executed at reason (CountFull n) same rest h reported =
       let at_rest : IsAtRest new names content = let r = h.1 reported.2.0.was_open in rest_same old new names content reported.2.0.is_open (reported.2.0.now_is ∙ r.0) (reported.2.0.committed_is ∙ r.1) rest in
-      (subst (λ p. HasOutcome names content d (refused p why.CountFull)) (sym reported.0) (subst (λ w. HasOutcome names content d (refused at w)) reported.1 h.0), at_rest, same, ap (λ (db : Stored). db.schema) (reported.2.0.now_is ∙ (h.1 reported.2.0.was_open).0))
+      (subst (λ p. HasOutcome names content d (refused p why.CountFull)) (sym reported.0) (subst (λ w. HasOutcome names content d (refused at w)) reported.1 h.0), at_rest, same, reported.2.0.now_is ∙ (h.1 reported.2.0.was_open).0)
   came old mid new executed at reason (Database e) same rest h reported = (
     (λ is_open.
         let t = reported is_open in
@@ -154,14 +157,27 @@ module _ {S : Type 0} (g : Ghosts S) (content : Content) (d : DeliveryValue) (ol
       → (state g new.conn).now.schema ≡ (state g old.conn).now.schema
   same_schema (Ok Done) whole broken it = it.schema
   same_schema (Ok Repeat) whole broken it = absurd it
-  same_schema (Err (NoSuchRow at)) whole broken it = it.3
-  same_schema (Err (CountFull at)) whole broken it = it.3
+  same_schema (Err (NoSuchRow at)) whole broken it = ap (λ (db : Stored). db.schema) it.3
+  same_schema (Err (CountFull at)) whole broken it = ap (λ (db : Stored). db.schema) it.3
   same_schema (Err (Database e)) whole broken it = absurd (broke (sym broken ∙ whole))
   same_schema (Err Memory) whole broken it = absurd (broke (sym broken ∙ whole))
   same_schema (Err Damaged) whole broken it = absurd it
   same_schema (Err (Layout n)) whole broken it = absurd it
   same_schema (Err Broken) whole broken it = absurd it
   same_schema (Err Follows) whole broken it = absurd it
+
+  -- and so does what lies beside
+  pub lies_beside : (r : Result Applied StoreFault) → IsTrue (state g new.conn).is_open → Comes old.following content d (state g old.conn) (state g new.conn) new.executed r → LiesBeside (state g old.conn).now (state g new.conn).now
+  lies_beside (Ok Done) is_open it = it.beside
+  lies_beside (Ok Repeat) is_open it = absurd it
+  lies_beside (Err (NoSuchRow at)) is_open it = beside_unchanged (state g old.conn).now (state g new.conn).now it.3
+  lies_beside (Err (CountFull at)) is_open it = beside_unchanged (state g old.conn).now (state g new.conn).now it.3
+  lies_beside (Err (Database e)) is_open it = beside_unchanged (state g old.conn).now (state g new.conn).now (it.0 is_open).0
+  lies_beside (Err Memory) is_open it = beside_unchanged (state g old.conn).now (state g new.conn).now (it.0 is_open).0
+  lies_beside (Err Damaged) is_open it = absurd it
+  lies_beside (Err (Layout n)) is_open it = absurd it
+  lies_beside (Err Broken) is_open it = absurd it
+  lies_beside (Err Follows) is_open it = absurd it
 
   -- on a connection that was shut
   pub applied_shut : (r : Result Applied StoreFault) (was : Ids) → was ≡ content.executed → is_executed content d ≡ false → new.broken ≡ breaks r → FailsShut (state g new.conn) was new.executed r → AppliesShut g content d old new r
@@ -179,6 +195,31 @@ module _ {S : Type 0} (g : Ghosts S) (content : Content) (d : DeliveryValue) (ol
 -- ---- what a crash leaves
 module _ {S : Type 0} (g : Ghosts S) (names : Names) (content : Content)
     (settled : (h : Held S) (db : Trees) → IsTrue (state g h).is_open → (state g h).may_leave db → db ≡ (state g h).committed.trees) where
+  pub spares : (h : Held S) (db : Trees) → IsAtRest (state g h) names content → (state g h).may_leave db → SparesBeside (state g h).now db
+  spares h db r left =
+      let trees : db ≡ (state g h).now.trees = settled h db r.is_open left ∙ sym (ap (λ (b : Stored). b.trees) r.settled) in
+      subst (SparesBeside (state g h).now) (sym trees) (beside_same (state g h).now)
+
+  pub spares_either : {P : Type 0} (old : Held S) (trees : Trees) → IsAtRest (state g old) names content → (state g old).may_leave trees ⊎ (P × SparesBeside (state g old).now trees) → SparesBeside (state g old).now trees
+  spares_either old trees rest (inl was) = spares old trees rest was
+  spares_either old trees rest (inr may) = may.1
+
+  pub spares_kept : (old new : Held S) (trees : Trees) → IsAtRest (state g old) names content → Survives (state g old) (state g new) (λ _. ⊥) → HasCleanDisk (state g new) → (state g new).may_leave trees → SparesBeside (state g old).now trees
+  spares_kept old new trees rest survives clean left = elim (survives.crash clean trees left) [ inl was ↦ spares old trees rest was | inr none ↦ absurd none ]
+
+  pub spares_moved : (d : DeliveryValue) (old : Held S) (r : Result Applied StoreFault) (trees : Trees) → IsAtRest (state g old) names content → (state g old).may_leave trees ⊎ MayMove names content d (state g old) r trees → SparesBeside (state g old).now trees
+  spares_moved d old r trees rest (inl was) = spares old trees rest was
+  spares_moved d old (Ok Done) trees rest (inr may) = may.1
+  spares_moved d old (Ok Repeat) trees rest (inr may) = absurd may
+  spares_moved d old (Err (NoSuchRow at)) trees rest (inr may) = absurd may
+  spares_moved d old (Err (CountFull at)) trees rest (inr may) = absurd may
+  spares_moved d old (Err (Database e)) trees rest (inr may) = may.1
+  spares_moved d old (Err Memory) trees rest (inr may) = absurd may
+  spares_moved d old (Err Damaged) trees rest (inr may) = absurd may
+  spares_moved d old (Err (Layout n)) trees rest (inr may) = absurd may
+  spares_moved d old (Err Broken) trees rest (inr may) = absurd may
+  spares_moved d old (Err Follows) trees rest (inr may) = absurd may
+
   pub stays : (h : Held S) (db : Trees) → (r : IsAtRest (state g h) names content) → (state g h).may_leave db → AreOf h.schema names content db
   stays h db r left =
       let trees : db ≡ (state g h).now.trees = settled h db r.is_open left ∙ sym (ap (λ (b : Stored). b.trees) r.settled) in
@@ -194,14 +235,14 @@ module _ {S : Type 0} (g : Ghosts S) (names : Names) (content : Content)
         takes = it.taken.takes;
         stands = subst₂ (λ s t. AreOf s names it.taken.after t) it.schema (sym trees_are) (record { stands = rest_new.stands; sound = rest_new.sound; spans_apart = rest_new.spans_apart });
       }
-  left_whole d old new (Ok Done) executed trees rest it (inr may) left = may
+  left_whole d old new (Ok Done) executed trees rest it (inr may) left = may.0
   left_whole d old new (Ok Repeat) executed trees rest it was left = absurd it
   left_whole d old new (Err (NoSuchRow at)) executed trees rest it (inl was) left = stays old trees rest was
   left_whole d old new (Err (NoSuchRow at)) executed trees rest it (inr may) left = absurd may
   left_whole d old new (Err (CountFull at)) executed trees rest it (inl was) left = stays old trees rest was
   left_whole d old new (Err (CountFull at)) executed trees rest it (inr may) left = absurd may
   left_whole d old new (Err (Database e)) executed trees rest it (inl was) left = inl (stays old trees rest was)
-  left_whole d old new (Err (Database e)) executed trees rest it (inr may) left = inr may
+  left_whole d old new (Err (Database e)) executed trees rest it (inr may) left = inr may.0
   left_whole d old new (Err Memory) executed trees rest it (inl was) left = stays old trees rest was
   left_whole d old new (Err Memory) executed trees rest it (inr may) left = absurd may
   left_whole d old new (Err Damaged) executed trees rest it was left = absurd it

@@ -3,7 +3,7 @@ use Rattle.std.specs.Prelude.{false, ◌≡◌, ℕ, IsTrue, Option, Some, None,
 use Rattle.sqlite_schema.specs.declared.schema.Schema.{Schema}
 use Rattle.sqlite_trees.specs.Tree.{Trees}
 use Rattle.sqlite_catalog.specs.Listing.{IsSound}
-use Rattle.sqlite.specs.Effect.{IsDatabase}
+use Rattle.sqlite.specs.Effect.{Database as Stored, IsDatabase}
 use Rattle.sqlite.specs.State.{State, IsUnchanged}
 use Rattle.gtid.specs.Identifier.{Ids}
 use Rattle.binlog.specs.Filter.{Names}
@@ -18,6 +18,7 @@ use Rattle.store.specs.State.{Content}
 use Rattle.store.specs.Take.{HasOutcome, done, refused}
 use Rattle.store.specs.Rows.{StandsFor, HasRowids, held_rows, span_rows}
 use Rattle.store.specs.Inside.{GoesOn}
+use Rattle.store.specs.Beside.{LiesBeside}
 
 -- The trees list this schema and obey it, and under it they stand for the content.
 pub record AreOf (schema : Schema) (names : Names) (content : Content) (trees : Trees) : Type 0 where
@@ -30,6 +31,10 @@ pub record IsApplied (names : Names) (content : Content) (d : DeliveryValue) (sc
   pub after : Content
   pub takes : HasOutcome names content d (done after)
   pub stands : AreOf schema names after trees
+
+-- The trees of a database of the same schema leave what lies beside as it is.
+abbrev pub SparesBeside : Stored → Trees → Type 0
+SparesBeside old trees = LiesBeside old (record { schema = old.schema; trees = trees })
 
 -- what making the changes and recording the GTID does inside the database's transaction
 abbrev pub Fills : Names → Content → DeliveryValue → State → State → Option (ℕ × Refusal) → Type 0
@@ -56,15 +61,19 @@ pub record HasApplied (names : Names) (content : Content) (d : DeliveryValue) (n
   pub rest : IsAtRest new names after
 
 abbrev pub Runs : {E : Type 0} → Names → Content → DeliveryValue → State → State → Result (Option (ℕ × Refusal)) E → Type 0
-Runs names content d old new (Ok None) = HasApplied names content d new × (new.now.schema ≡ old.now.schema)
+Runs names content d old new (Ok None) = HasApplied names content d new × (new.now.schema ≡ old.now.schema) × LiesBeside old.now new.now
 Runs names content d old new (Ok (Some why)) = HasOutcome names content d (refused why.0 why.1) × Rests old new
 Runs names content d old new (Err e) = Rests old new
 
+-- The database stands for what the transaction makes of the content, and what lies beside is as it was.
+abbrev pub IsTaken : Names → Content → DeliveryValue → State → Trees → Type 0
+IsTaken names content d old trees = IsApplied names content d old.now.schema trees × SparesBeside old.now trees
+
 -- What may be committed: what the transaction makes of the content, or nothing if it is refused.
 abbrev pub MayCommit : {E : Type 0} → Names → Content → DeliveryValue → State → Result (Option (ℕ × Refusal)) E → Trees → Type 0
-MayCommit names content d old (Ok None) trees = IsApplied names content d old.now.schema trees
+MayCommit names content d old (Ok None) trees = IsTaken names content d old trees
 MayCommit names content d old (Ok (Some why)) trees = ⊥
-MayCommit names content d old (Err e) trees = IsApplied names content d old.now.schema trees
+MayCommit names content d old (Err e) trees = IsTaken names content d old trees
 
 -- ---- The executed set in memory, besides the connection.
 
@@ -72,12 +81,13 @@ MayCommit names content d old (Err e) trees = IsApplied names content d old.now.
 pub record HasMoved (names : Names) (content : Content) (d : DeliveryValue) (old new : State) (executed : Ids) : Type 0 where
   pub taken : HasApplied names content d new
   pub schema : new.now.schema ≡ old.now.schema
+  pub beside : LiesBeside old.now new.now
   pub set : executed ≡ taken.after.executed
 
 -- Nothing has changed, and the change with this index is refused.
 abbrev pub IsGivenUp : Names → Content → DeliveryValue → State → State → Ids → ℕ → Refusal → Type 0
 IsGivenUp names content d old new executed at reason =
-    HasOutcome names content d (refused at reason) × IsAtRest new names content × (executed ≡ content.executed) × (new.now.schema ≡ old.now.schema)
+    HasOutcome names content d (refused at reason) × IsAtRest new names content × (executed ≡ content.executed) × (new.now ≡ old.now)
 
 -- The outcome of a transaction that is not in the executed set.
 abbrev pub Comes : Names → Content → DeliveryValue → State → State → Ids → Result Applied StoreFault → Type 0
@@ -91,8 +101,8 @@ Comes names content d old new executed (Err _) = ⊥
 
 -- What such a transaction may commit.
 abbrev pub MayMove : Names → Content → DeliveryValue → State → Result Applied StoreFault → Trees → Type 0
-MayMove names content d old (Ok Done) trees = IsApplied names content d old.now.schema trees
-MayMove names content d old (Err (Database e)) trees = IsApplied names content d old.now.schema trees
+MayMove names content d old (Ok Done) trees = IsTaken names content d old trees
+MayMove names content d old (Err (Database e)) trees = IsTaken names content d old trees
 MayMove names content d old _ trees = ⊥
 
 -- A refused change is reported and the connection is as it was, or a failure of the database is reported.
@@ -110,7 +120,7 @@ FailsShut new old_set set _ = ⊥
 
 -- ---- Another executed set.
 
--- The connection is at rest with this content, and the schema is the same; or nothing has changed.
+-- The connection is at rest with this content, and the schema and what lies beside are the same; or nothing has changed.
 abbrev pub Replaces : {E : Type 0} → Names → Content → State → State → Result (Unit {0}) E → Type 0
-Replaces names after old new (Ok u) = IsAtRest new names after × (new.now.schema ≡ old.now.schema)
+Replaces names after old new (Ok u) = IsAtRest new names after × (new.now.schema ≡ old.now.schema) × LiesBeside old.now new.now
 Replaces names after old new (Err e) = Rests old new

@@ -12,6 +12,7 @@ use Rattle.store.specs.declared.fault.StoreFault.TheVariants.{Database as Db, Me
 use Rattle.store.specs.declared.tables.Tables.{Tables}
 use Rattle.store.specs.State.{Content}
 use Rattle.store.specs.Layout.{IsVacant, first_layout, HasMeta, IsLaidOut}
+use Rattle.store.specs.Beside.{LiesBeside}
 use Rattle.store.specs.Rows.{StandsFor, StandsForFirst, SaysLayout, KeepsRules, KeepsFirstRules, HasRowids, first_meta_rows, span_rows}
 use Rattle.store.specs.Apply.{IsAtRest, Rests}
 use Rattle.store.specs.Open.{nothing, all, MayStandFor}
@@ -93,24 +94,25 @@ IsWhy any only db _ = ⊥
 
 -- ---- The outcome.
 
--- The connection is at rest with what its database stood for, and the set in memory is that of the content.
+-- The connection is at rest with what its database stood for, and the set in memory is that of the content. What lies beside is as it was.
 pub record IsEntered (any : Bool) (only : Names) (old new : State) (executed : Ids) (names : Names) : Type 0 where
   pub content : Content
   pub of : IsOf only names old.now content
   pub rest : IsAtRest new names content
   pub executed_is : executed ≡ content.executed
   pub wanted : IsWanted any only names
+  pub beside : LiesBeside old.now new.now
 
 -- It is refused with its reason, and nothing has changed.
 abbrev pub IsTurned : Bool → Names → State → State → StoreFault → Type 0
 IsTurned any only old new fault = IsWhy any only old.now fault × Rests old new
 
--- What may be committed stands for the same content as the database did.
+-- What may be committed stands for the same content as the database did, and what lies beside is as it was.
 pub record MayEnter (only : Names) (old : State) (trees : Trees) : Type 0 where
   pub names : Names
   pub content : Content
   pub of : IsOf only names old.now content
-  pub may : MayStandFor names content trees
+  pub may : MayStandFor old.now names content trees
 
 -- ---- What a crash leaves.
 

@@ -12,10 +12,11 @@ use Rattle.gather.specs.Transaction.{ChangeValue}
 use Rattle.store.specs.declared.row_change.Refusal.{Refusal}
 use Rattle.store.specs.declared.row_change.Refusal.TheVariants.{NoSuchRow, CountFull}
 use Rattle.store.specs.Layout.{IsLaidOut}
+use Rattle.store.specs.Beside.{LiesBeside}
 use Rattle.store.specs.Take.{most, IsMade, IsRefused, IsDone, AreDone, is_followed, IsRefusedAt}
 use Rattle.store.specs.Rows.{meta_rows, held_rows, span_rows, follow_rows, HasRowids, IsHeldRow, Key, Counts, count, with_one, without_one, bag_of, shown_spans, begins_at, stored_span}
 
--- The connection is in a transaction on a database of the layout.
+-- The connection is in a transaction on a database of the layout, and what lies beside is as it was committed.
 pub record IsWorking (s : State) : Type 0 where
   pub is_open : IsTrue s.is_open
   pub inside : s.in_transaction ≡ true
@@ -24,6 +25,7 @@ pub record IsWorking (s : State) : Type 0 where
   pub spans_apart : HasRowids (span_rows s.now)
   pub lawful : AllByRecursion IsHeldRow (held_rows s.now)
   pub sound : IsDatabase s.now
+  pub beside : LiesBeside s.committed s.now
 
 -- A connection that is open now was open before.
 abbrev pub WasOpen : State → State → Type 0

@@ -1,6 +1,7 @@
 pub mod State
 pub mod Take
 pub mod Layout
+pub mod Beside
 pub mod Rows
 pub mod Inside
 pub mod Apply

@@ -14,6 +14,7 @@ use Rattle.store.specs.State.{Content}
 use Rattle.store.specs.Layout.{meta, held, spans, follow, IsVacant, IsLaidOut}
 use Rattle.store.specs.Rows.{StandsFor, AreNames, meta_rows, held_rows, span_rows, follow_rows}
 use Rattle.store.specs.Inside.{IsWorking}
+use Rattle.store.specs.Beside.{LiesBeside}
 
 -- ---- the tables, one after another
 
@@ -60,7 +61,7 @@ layout_row = Int (pos 1) ∷ Text (codes "layout") ∷ Int (pos 2) ∷ []
 
 -- ---- inside the transaction
 
--- These tables have been made, and there is no row in them.
+-- These tables have been made, and there is no row in them. What lies beside is as it was committed.
 pub record IsMaking (made : List Table) (s : State) : Type 0 where
   pub is_open : IsTrue s.is_open
   pub inside : s.in_transaction ≡ true
@@ -68,8 +69,10 @@ pub record IsMaking (made : List Table) (s : State) : Type 0 where
   pub vacant : IsVacant base
   pub schema_is : s.now.schema ≡ with_tables base made
   pub empty : AllByRecursion (λ tree. s.now.trees tree ≡ []) (trees_of base made)
+  pub sound : IsDatabase s.now
+  pub beside : LiesBeside s.committed s.now
 
--- There are all tables, the row of meta and these names, and no other row of theirs.
+-- There are all tables, the row of meta and these names, and no other row of theirs. What lies beside is as it was committed.
 pub record IsNaming (names : Names) (s : State) : Type 0 where
   pub is_open : IsTrue s.is_open
   pub inside : s.in_transaction ≡ true
@@ -79,6 +82,7 @@ pub record IsNaming (names : Names) (s : State) : Type 0 where
   pub spans : span_rows s.now ≡ []
   pub follow : AreNames (follow_rows s.now) names
   pub sound : IsDatabase s.now
+  pub beside : LiesBeside s.committed s.now
 
 -- The database of the transaction stands for this content.
 pub record HasMade (s : State) (names : Names) (content : Content) : Type 0 where

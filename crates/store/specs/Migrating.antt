@@ -52,6 +52,7 @@ pub record IsFirstInside (content : Content) (s : State) : Type 0 where
   pub held_apart : HasRowids (first_held_rows s.now)
   pub stands : StandsForFirst s.now content
   pub sound : IsDatabase s.now
+  pub begun : s.committed.schema ≡ first_layout
 
 -- There are these tables, meta says this layout, these trees are empty, and meta and held are those of the content.
 pub record IsMigrating (schema : Schema) (layout : ℤ) (bare : List ℕ) (content : Content) (s : State) : Type 0 where
@@ -67,3 +68,4 @@ pub record IsMigrating (schema : Schema) (layout : ℤ) (bare : List ℕ) (conte
   pub rows : content.rows ≡ bag_of (count (s.now.trees 4))
   pub lawful : AreGtids content.executed
   pub sound : IsDatabase s.now
+  pub begun : s.committed.schema ≡ first_layout

@@ -8,6 +8,7 @@ use Rattle.gtid.specs.Identifier.{Ids}
 use Rattle.binlog.specs.Filter.{Names}
 use Rattle.store.specs.State.{Content}
 use Rattle.store.specs.Layout.{IsVacant}
+use Rattle.store.specs.Beside.{LiesBeside}
 use Rattle.store.specs.Rows.{StandsFor, StandsForFirst, HasRowids, span_rows, first_meta_rows, first_held_rows}
 
 -- nothing is executed, and there is no row
@@ -35,14 +36,15 @@ pub record IsFirstAtRest (s : State) (content : Content) : Type 0 where
   pub stands : StandsForFirst s.now content
   pub sound : IsDatabase s.now
 
--- Under some schema, which they list and obey, the trees stand for this content.
-pub record MayStandFor (names : Names) (content : Content) (trees : Trees) : Type 0 where
+-- Under some schema, which they list and obey, the trees stand for this content, and what lies beside is as in the old database.
+pub record MayStandFor (old : Database) (names : Names) (content : Content) (trees : Trees) : Type 0 where
   pub db : Database
   pub trees_are : trees ≡ db.trees
   pub stands : StandsFor db names content
   pub sound : IsDatabase db
+  pub beside : LiesBeside old db
   pub spans_apart : HasRowids (span_rows db)
 
 -- If the database had layout 1, was at rest and had this executed set, the trees stand for the same content.
 abbrev pub MayMigrate : State → Ids → Trees → Type 0
-MayMigrate old executed trees = (content : Content) → IsFirstAtRest old content → executed ≡ content.executed → MayStandFor all content trees
+MayMigrate old executed trees = (content : Content) → IsFirstAtRest old content → executed ≡ content.executed → MayStandFor old.now all content trees

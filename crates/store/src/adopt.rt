@@ -8,7 +8,8 @@ ghost use Rattle.binlog.specs.Filter.{Names};
 ghost use Rattle.store.specs.State.{Content};
 ghost use Rattle.store.specs.Take.{with_executed};
 ghost use Rattle.store.specs.Inside.{WasOpen};
-ghost use Rattle.store.specs.Apply.{IsAtRest, Replaces, AreOf};
+ghost use Rattle.store.specs.Beside.{LiesBeside};
+ghost use Rattle.store.specs.Apply.{SparesBeside, IsAtRest, Replaces, AreOf};
 ghost use Rattle.store.specs.Faults.{IsReadFault};
 ghost use Rattle.store.specs.Store.{Holds, Keeps, Adopts, AdoptsShut, LeavesAdopted, database, names_of, IsBroken, IsWhole};
 ghost use Rattle.store.specs.declared.fault.StoreFault.TheVariants.{Broken};
@@ -43,7 +44,7 @@ fn replace<S: Alter>(
     ensures done { HasCleanDisk (state S.Store conn.new) → OnOk result (IsTrue (state S.Store conn.new).is_open) }
     ensures lives { Survives (state S.Store conn.old) (state S.Store conn.new) (λ _. Unit {0}) }
     ensures crash { (names : Names) → (content : Content) → IsAtRest (state S.Store conn.old) names content → executed.now ≡ content.executed
-        → Survives (state S.Store conn.old) (state S.Store conn.new) (AreOf (state S.Store conn.old).now.schema names (with_executed after.now content)) }
+        → Survives (state S.Store conn.old) (state S.Store conn.new) (λ trees. AreOf (state S.Store conn.old).now.schema names (with_executed after.now content) trees × SparesBeside (state S.Store conn.old).now trees) }
 {
     let mut tx = conn.transaction();
     replace_all(&mut tx, executed, after)?;
@@ -67,6 +68,8 @@ impl<S: Alter> Store<S> {
         ensures broken { IsBroken S.Store self.old → (result ≡ Err Broken) × (self.new ≡ self.old) }
         ensures following { names_of S.Store self.new ≡ names_of S.Store self.old }
         ensures schema { HasCleanDisk (database S.Store self.new) → (content : Content) → Holds S.Store self.old content → IsWhole S.Store self.new → (database S.Store self.new).now.schema ≡ (database S.Store self.old).now.schema }
+        ensures beside { HasCleanDisk (database S.Store self.new) → (content : Content) → Holds S.Store self.old content → IsTrue (database S.Store self.new).is_open → LiesBeside (database S.Store self.old).now (database S.Store self.new).now }
+        ensures crash_beside { HasCleanDisk (database S.Store self.new) → (content : Content) → Holds S.Store self.old content → (trees : _) → (database S.Store self.new).may_leave trees → SparesBeside (database S.Store self.old).now trees }
         ensures clean { HasCleanDisk (database S.Store self.new) → HasCleanDisk (database S.Store self.old) }
         ensures crash { HasCleanDisk (database S.Store self.new) → (content : Content) → Holds S.Store self.old content → (trees : _) → (database S.Store self.new).may_leave trees
             → LeavesAdopted (database S.Store self.old).now.schema (names_of S.Store self.old) content gtids.now result trees }

@@ -8,7 +8,8 @@ ghost use Rattle.gtid.specs.Identifier.{id};
 ghost use Rattle.gather.specs.View.{delivery_value};
 ghost use Rattle.store.specs.State.{Content};
 ghost use Rattle.store.specs.Take.{is_executed};
-ghost use Rattle.store.specs.Apply.{IsAtRest, Comes, MayMove, IsReported, FailsShut};
+ghost use Rattle.store.specs.Beside.{LiesBeside};
+ghost use Rattle.store.specs.Apply.{SparesBeside, IsAtRest, Comes, MayMove, IsReported, FailsShut};
 ghost use Rattle.store.specs.Faults.{IsApplyFault};
 ghost use Rattle.store.specs.Store.{Holds, Keeps, Applies, AppliesShut, Leaves, breaks, database, names_of, IsBroken, IsWhole};
 ghost use Rattle.store.specs.declared.fault.StoreFault.TheVariants.{Broken, Memory};
@@ -100,6 +101,8 @@ impl<S: Alter> Store<S> {
         ensures broken { IsBroken S.Store self.old → (result ≡ Err Broken) × (self.new ≡ self.old) }
         ensures following { names_of S.Store self.new ≡ names_of S.Store self.old }
         ensures schema { HasCleanDisk (database S.Store self.new) → (content : Content) → Holds S.Store self.old content → IsWhole S.Store self.new → (database S.Store self.new).now.schema ≡ (database S.Store self.old).now.schema }
+        ensures beside { HasCleanDisk (database S.Store self.new) → (content : Content) → Holds S.Store self.old content → IsTrue (database S.Store self.new).is_open → LiesBeside (database S.Store self.old).now (database S.Store self.new).now }
+        ensures crash_beside { HasCleanDisk (database S.Store self.new) → (content : Content) → Holds S.Store self.old content → (trees : _) → (database S.Store self.new).may_leave trees → SparesBeside (database S.Store self.old).now trees }
         ensures clean { HasCleanDisk (database S.Store self.new) → HasCleanDisk (database S.Store self.old) }
         ensures crash { HasCleanDisk (database S.Store self.new) → (content : Content) → Holds S.Store self.old content → (trees : _) → (database S.Store self.new).may_leave trees
             → Leaves (database S.Store self.old).now.schema (names_of S.Store self.old) content (delivery_value delivery.now) result trees }

@@ -8,7 +8,8 @@ ghost use Rattle.store.specs.State.{Content, row_of};
 ghost use Rattle.store.specs.Layout.{IsLaidOut};
 ghost use Rattle.store.specs.Rows.{key_in, is_at, held_rows, count};
 ghost use Rattle.store.specs.Inside.{WasOpen};
-ghost use Rattle.store.specs.Apply.{Rests};
+ghost use Rattle.store.specs.Beside.{LiesBeside};
+ghost use Rattle.store.specs.Apply.{SparesBeside, Rests};
 ghost use Rattle.store.specs.Faults.{IsReadFault};
 ghost use Rattle.store.specs.Store.{Holds, Keeps, Counts, ReadsShut, AreOf, database, names_of, IsBroken};
 ghost use Rattle.store.specs.declared.fault.StoreFault.TheVariants.{Broken};
@@ -67,6 +68,8 @@ impl<S: Alter> Store<S> {
         ensures shut { HasCleanDisk (database S.Store self.new) → (content : Content) → Keeps S.Store self.old content → (database S.Store self.old).is_open ≡ false → ReadsShut S.Store content self.new result }
         ensures broken { IsBroken S.Store self.old → (result ≡ Err Broken) × (self.new ≡ self.old) }
         ensures following { names_of S.Store self.new ≡ names_of S.Store self.old }
+        ensures beside { HasCleanDisk (database S.Store self.new) → (content : Content) → Holds S.Store self.old content → IsTrue (database S.Store self.new).is_open → LiesBeside (database S.Store self.old).now (database S.Store self.new).now }
+        ensures crash_beside { HasCleanDisk (database S.Store self.new) → (content : Content) → Holds S.Store self.old content → (trees : _) → (database S.Store self.new).may_leave trees → SparesBeside (database S.Store self.old).now trees }
         ensures crash { HasCleanDisk (database S.Store self.new) → (content : Content) → Holds S.Store self.old content → (trees : _) → (database S.Store self.new).may_leave trees
             → AreOf (database S.Store self.old).now.schema (names_of S.Store self.old) content trees }
         ensures fault { IfErr result IsReadFault }

@@ -6,6 +6,7 @@ ghost use Rattle.sqlite.specs.State.{HasCleanDisk, Survives, KeepsCommit};
 ghost use Rattle.sqlite.specs.Held.{state};
 ghost use Rattle.binlog.specs.Filter.{Names};
 ghost use Rattle.binlog.specs.FilterView.{names_of};
+ghost use Rattle.store.specs.Beside.{LiesBeside};
 ghost use Rattle.store.specs.Apply.{IsAtRest, Rests};
 ghost use Rattle.store.specs.Open.{nothing, IsBlank, MayStandFor};
 ghost use Rattle.store.specs.Making.{with_meta, with_held, with_spans, new_layout, IsMaking, IsNaming, HasMade};
@@ -135,11 +136,13 @@ fn fill<S: Alter>(tx: &mut Transaction<'_, S>, follow: &Follow) -> Result<(), Er
 pub(crate) fn make<S: Alter>(conn: &mut Connection<S>, follow: &Follow) -> Result<(), Error>
     requires { conn.old.in_transaction ≡ false }
     ensures autocommit { conn.new.in_transaction ≡ false }
-    ensures made { HasCleanDisk (state S.Store conn.new) → IsBlank (state S.Store conn.old) → OnOk result (IsAtRest (state S.Store conn.new) follow.now nothing) }
+    ensures made { HasCleanDisk (state S.Store conn.new) → IsBlank (state S.Store conn.old) → OnOk result (IsAtRest (state S.Store conn.new) follow.now nothing × LiesBeside (state S.Store conn.old).now (state S.Store conn.new).now) }
     ensures refused { HasCleanDisk (state S.Store conn.new) → IsBlank (state S.Store conn.old) → OnErr result (Rests (state S.Store conn.old) (state S.Store conn.new)) }
-    ensures crash { IsBlank (state S.Store conn.old) → Survives (state S.Store conn.old) (state S.Store conn.new) (MayStandFor follow.now nothing) }
+    ensures crash { IsBlank (state S.Store conn.old) → Survives (state S.Store conn.old) (state S.Store conn.new) (MayStandFor (state S.Store conn.old).now follow.now nothing) }
     ensures clean { HasCleanDisk (state S.Store conn.new) → HasCleanDisk (state S.Store conn.old) }
 {
+    // For the prover: what the connection shows is a database. The call does nothing at run time.
+    conn.schema();
     let mut tx = conn.transaction();
     fill(&mut tx, follow)?;
     tx.commit()

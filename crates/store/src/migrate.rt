@@ -6,6 +6,7 @@ ghost use Rattle.sqlite.specs.Held.{state};
 ghost use Rattle.store.specs.State.{Content};
 ghost use Rattle.store.specs.Layout.{first_layout};
 ghost use Rattle.store.specs.Inside.{IsWorking};
+ghost use Rattle.store.specs.Beside.{LiesBeside};
 ghost use Rattle.store.specs.Apply.{IsAtRest, Rests};
 ghost use Rattle.store.specs.Open.{all, IsFirstAtRest, MayMigrate};
 ghost use Rattle.store.specs.Making.{HasMade};
@@ -88,7 +89,7 @@ fn convert<S: Alter>(tx: &mut Transaction<'_, S>, executed: &GtidSet) -> Result<
 pub(crate) fn migrate<S: Alter>(conn: &mut Connection<S>, executed: &GtidSet) -> Result<(), Error>
     requires { conn.old.in_transaction ≡ false }
     ensures autocommit { conn.new.in_transaction ≡ false }
-    ensures migrated { HasCleanDisk (state S.Store conn.new) → (content : Content) → IsFirstAtRest (state S.Store conn.old) content → executed.now ≡ content.executed → OnOk result (IsAtRest (state S.Store conn.new) all content) }
+    ensures migrated { HasCleanDisk (state S.Store conn.new) → (content : Content) → IsFirstAtRest (state S.Store conn.old) content → executed.now ≡ content.executed → OnOk result (IsAtRest (state S.Store conn.new) all content × LiesBeside (state S.Store conn.old).now (state S.Store conn.new).now) }
     ensures refused { HasCleanDisk (state S.Store conn.new) → (content : Content) → IsFirstAtRest (state S.Store conn.old) content → OnErr result (Rests (state S.Store conn.old) (state S.Store conn.new)) }
     ensures crash { Survives (state S.Store conn.old) (state S.Store conn.new) (MayMigrate (state S.Store conn.old) executed.now) }
 {

@@ -7,6 +7,7 @@ ghost use Rattle.store.specs.declared.fault.StoreFault.TheVariants.{Memory, Dama
 ghost use Rattle.store.specs.Layout.{IsVacant, first_layout, IsLaidOut};
 ghost use Rattle.store.specs.Rows.{first_meta_rows};
 ghost use Rattle.store.specs.Load.{StatesLayout};
+ghost use Rattle.store.specs.Beside.{LiesBeside};
 ghost use Rattle.store.specs.Open.{all};
 ghost use Rattle.store.specs.Store.{Holds, Opens, database, names_of};
 ghost use Rattle.binlog.specs.Filter.{Names};
@@ -234,6 +235,7 @@ fn open_with<S: Alter>(
 ) -> Result<Store<S>, (StoreFault, Connection<S>)>
     requires { conn.in_transaction ≡ false }
     ensures opens { IfOk result (λ store. HasCleanDisk (database S.Store store) → IsReady (state S.Store conn) → Opens S.Store any only.now (state S.Store conn) store) }
+    ensures beside { IfOk result (λ store. HasCleanDisk (database S.Store store) → IsReady (state S.Store conn) → LiesBeside (state S.Store conn).now (database S.Store store).now) }
     ensures turned { IfErr result (λ e. HasCleanDisk (state S.Store e.1) → IsReady (state S.Store conn) → IsTurned any only.now (state S.Store conn) (state S.Store e.1) e.0) }
     ensures headless { (tables_of (state S.Store conn).now.schema).meta ≡ false → has_any (tables_of (state S.Store conn).now.schema) ≡ true → result ≡ Err (Damaged, conn) }
     ensures autocommit { IfErr result (λ e. e.1.in_transaction ≡ false) }
@@ -276,6 +278,7 @@ impl<S: Alter> Store<S> {
     pub fn open(alloc: Global, conn: Connection<S>) -> Result<Store<S>, (StoreFault, Connection<S>)>
         requires { conn.in_transaction ≡ false }
         ensures opens { IfOk result (λ store. HasCleanDisk (database S.Store store) → IsReady (state S.Store conn) → Opens S.Store true all (state S.Store conn) store) }
+        ensures beside { IfOk result (λ store. HasCleanDisk (database S.Store store) → IsReady (state S.Store conn) → LiesBeside (state S.Store conn).now (database S.Store store).now) }
         ensures turned { IfErr result (λ e. HasCleanDisk (state S.Store e.1) → IsReady (state S.Store conn) → IsTurned true all (state S.Store conn) (state S.Store e.1) e.0) }
         ensures headless { (tables_of (state S.Store conn).now.schema).meta ≡ false → has_any (tables_of (state S.Store conn).now.schema) ≡ true → result ≡ Err (Damaged, conn) }
         ensures autocommit { IfErr result (λ e. e.1.in_transaction ≡ false) }
@@ -300,6 +303,7 @@ impl<S: Alter> Store<S> {
     ) -> Result<Store<S>, (StoreFault, Connection<S>)>
         requires { conn.in_transaction ≡ false }
         ensures opens { IfOk result (λ store. HasCleanDisk (database S.Store store) → IsReady (state S.Store conn) → Opens S.Store false follow.now (state S.Store conn) store) }
+        ensures beside { IfOk result (λ store. HasCleanDisk (database S.Store store) → IsReady (state S.Store conn) → LiesBeside (state S.Store conn).now (database S.Store store).now) }
         ensures turned { IfErr result (λ e. HasCleanDisk (state S.Store e.1) → IsReady (state S.Store conn) → IsTurned false follow.now (state S.Store conn) (state S.Store e.1) e.0) }
         ensures headless { (tables_of (state S.Store conn).now.schema).meta ≡ false → has_any (tables_of (state S.Store conn).now.schema) ≡ true → result ≡ Err (Damaged, conn) }
         ensures autocommit { IfErr result (λ e. e.1.in_transaction ≡ false) }

@@ -72,7 +72,7 @@ static NEW: [(Call, &str); 10] = [
     (Call::Apply(1, "++o"), "1 2 0 1"),
     (Call::Apply(3, "p-=x"), "1:3 1 1 0"),
     (Call::Count(1), "1:3 1 1 0"),
-    (Call::"1:3 1 1 0"),
+    (Call::List, "1:3 1 1 0"),
     (Call::Run(2), "1-3 3 1 0"),
     (Call::Feed(4), "1-4 5 1 0"),
     (Call::Follow(6), "1-4:6 7 1 0"),

@@ -38,3 +38,6 @@ returns-in-Err-clause-leaves g c names content over =
     let sound : IsDatabase s.now = (c.enter.ensures.live over.is_open).0 in
     survives_again c.args.any c.args.only.now names content s over.is_open over.settled sound over.left (state g.S.Store c.enter.new.conn)
     (c.enter.ensures.crash (left_ready c.args.any c.args.only.now names content s over.is_open over.settled sound over.left))
+
+pub returns-in-Ok-clause-beside : goal.returns-in-Ok-clause-beside
+returns-in-Ok-clause-beside g c clean ready = (c.in-Ok.ensures.entered clean ready).beside

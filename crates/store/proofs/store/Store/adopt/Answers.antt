@@ -4,7 +4,8 @@ use Rattle.sqlite.specs.Held.{state}
 use Rattle.store.specs.Apply.{IsAtRest, AreOf}
 use Rattle.store.specs.Take.{adopted}
 use Rattle.store.specs.Store.{Holds}
-use Rattle.store.proofs.Taken.{rest_same, stays}
+use Rattle.store.proofs.Spared.{beside_same, beside_unchanged}
+use Rattle.store.proofs.Taken.{rest_same, stays, spares, spares_either}
 use Rattle.store.proofs.Adopted.{nothing_new, adopted_is}
 use Rattle.store.proofs.store.Store.adopt.Goals as goal
 
@@ -57,5 +58,29 @@ returns-in-Err-replace-clause-crash g c clean content was trees left =
     let is = adopted_is content c.args.self.now.executed c.in-Ok.after c.args.gtids.now was.executed c.in-Ok.ensures.ok in
     elim ((c.in-Err-replace.ensures.crash names content was.rest was.executed).crash clean trees left) [
       | inl before ↦ inl (stays g.S.Store names content (λ h db is_open may. g.met.S.Store.settled h.store db is_open may) c.args.self.now.conn trees was.rest before)
-      | inr may ↦ inr (subst (λ after. AreOf c.args.self.now.conn.schema names after trees) is may)
+      | inr may ↦ inr (subst (λ after. AreOf c.args.self.now.conn.schema names after trees) is may.0)
     ]
+
+pub returns-then-is_subset-clause-crash_beside : goal.returns-then-is_subset-clause-crash_beside
+returns-then-is_subset-clause-crash_beside g c clean content was trees left = spares g.S.Store c.args.self.now.following content (λ h db is_open may. g.met.S.Store.settled h.store db is_open may) c.args.self.now.conn trees was.rest left
+
+pub returns-in-Err-clause-beside : goal.returns-in-Err-clause-beside
+returns-in-Err-clause-beside g c clean content was is_open = beside_same (state g.S.Store c.args.self.now.conn).now
+
+pub returns-in-Err-clause-crash_beside : goal.returns-in-Err-clause-crash_beside
+returns-in-Err-clause-crash_beside g c clean content was trees left = spares g.S.Store c.args.self.now.following content (λ h db is_open may. g.met.S.Store.settled h.store db is_open may) c.args.self.now.conn trees was.rest left
+
+pub returns-in-Ok-replace-clause-beside : goal.returns-in-Ok-replace-clause-beside
+returns-in-Ok-replace-clause-beside g c clean content was is_open = (c.in-Ok-replace.ensures.replaces clean c.args.self.now.following content was.rest was.executed).2
+
+pub returns-in-Ok-replace-clause-crash_beside : goal.returns-in-Ok-replace-clause-crash_beside
+returns-in-Ok-replace-clause-crash_beside g c clean content was trees left =
+    spares_either g.S.Store c.args.self.now.following content (λ h db is_open may. g.met.S.Store.settled h.store db is_open may) c.args.self.now.conn trees was.rest ((c.in-Ok-replace.ensures.crash c.args.self.now.following content was.rest was.executed).crash clean trees left)
+
+pub returns-in-Err-replace-clause-beside : goal.returns-in-Err-replace-clause-beside
+returns-in-Err-replace-clause-beside g c clean content was is_open =
+    beside_unchanged (state g.S.Store c.args.self.now.conn).now (state g.S.Store c.replace.new.conn).now (c.in-Err-replace.ensures.replaces clean c.args.self.now.following content was.rest was.executed is_open).0
+
+pub returns-in-Err-replace-clause-crash_beside : goal.returns-in-Err-replace-clause-crash_beside
+returns-in-Err-replace-clause-crash_beside g c clean content was trees left =
+    spares_either g.S.Store c.args.self.now.following content (λ h db is_open may. g.met.S.Store.settled h.store db is_open may) c.args.self.now.conn trees was.rest ((c.in-Err-replace.ensures.crash c.args.self.now.following content was.rest was.executed).crash clean trees left)

@@ -3,7 +3,7 @@ use Rattle.std.specs.FinSet as set
 use Rattle.gtid.specs.Identifier.{id}
 use Rattle.gather.specs.View.{delivery_value}
 use Rattle.store.specs.Take.{is_executed}
-use Rattle.store.proofs.Taken.{applied, applied_shut, left_whole, same_schema}
+use Rattle.store.proofs.Taken.{applied, applied_shut, left_whole, same_schema, lies_beside, spares, spares_moved}
 use Rattle.store.proofs.store.Store.apply.Goals as goal
 
 pub returns-clause-applies : goal.returns-clause-applies
@@ -26,6 +26,22 @@ returns-clause-schema g c clean content was whole =
     let same = c.replace-executed.ensures.value ∙ was.executed in
     same_schema g.S.Store content (delivery_value c.args.delivery.now) c.args.self.now (record c.args.self.now { conn = c.take-executed.new.conn; executed = c.take-executed.result.0; broken = c.breaks-self.result; autocommit = c.self-1.given.0 }) c.take-executed.result.1 whole c.breaks-self.ensures
     (c.take-executed.ensures.comes clean content was.rest same)
+
+pub returns-clause-beside : goal.returns-clause-beside
+returns-clause-beside g c clean content was is_open =
+    let same = c.replace-executed.ensures.value ∙ was.executed in
+    lies_beside g.S.Store content (delivery_value c.args.delivery.now) c.args.self.now (record c.args.self.now { conn = c.take-executed.new.conn; executed = c.take-executed.result.0; broken = c.breaks-self.result; autocommit = c.self-1.given.0 }) c.take-executed.result.1 is_open
+    (c.take-executed.ensures.comes clean content was.rest same)
+
+pub returns-clause-crash_beside : goal.returns-clause-crash_beside
+returns-clause-crash_beside g c clean content was trees left =
+    let same = c.replace-executed.ensures.value ∙ was.executed in
+    spares_moved g.S.Store c.args.self.now.following content (λ h db is_open may. g.met.S.Store.settled h.store db is_open may) (delivery_value c.args.delivery.now) c.args.self.now.conn c.take-executed.result.1 trees was.rest
+    ((c.take-executed.ensures.crash content was.rest same).crash clean trees left)
+
+pub returns-then-contains-clause-crash_beside : goal.returns-then-contains-clause-crash_beside
+returns-then-contains-clause-crash_beside g c clean content was trees left =
+    spares g.S.Store c.args.self.now.following content (λ h db is_open may. g.met.S.Store.settled h.store db is_open may) c.args.self.now.conn trees was.rest left
 
 pub returns-clause-shut : goal.returns-clause-shut
 returns-clause-shut g c clean content was shut =

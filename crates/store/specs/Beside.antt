@@ -1,0 +1,33 @@
+-- What lies in a database beside the tables of the store.
+use Rattle.std.specs.Prelude.{◌≡◌, ℕ, Bool, not, ◌&&◌, ◌==◌, is_some, if◌then◌else◌, List, [], ◌∷◌, filter, codes, IsPermutation}
+use Rattle.std.specs.List.{AllByRecursion, list_any}
+use Rattle.sqlite_schema.specs.declared.schema.Table.{Table}
+use Rattle.sqlite_schema.specs.declared.schema.Index.{Index}
+use Rattle.sqlite_schema.specs.declared.schema.Schema.{Schema}
+use Rattle.sqlite_schema.specs.Names.{same_name, table_named}
+use Rattle.sqlite.specs.Effect.{Database}
+
+-- The names of the tables of layout 2, and where there is no table spans, also of layout 1.
+unfoldable pub own_names : Schema → List (List ℕ)
+own_names schema = codes "meta" ∷ codes "held" ∷ codes "spans" ∷ codes "follow" ∷ (if is_some (table_named schema (codes "spans")) then [] else codes "executed" ∷ [])
+
+-- whether a table with one of these names has this tree
+unfoldable pub is_own : List (List ℕ) → Schema → ℕ → Bool
+is_own names schema tree = list_any (λ t. (t.tree == tree) && list_any (same_name t.name) names) schema.tables
+
+-- the other tables
+unfoldable pub tables_beside : List (List ℕ) → Schema → List Table
+tables_beside names schema = filter (λ t. not (is_own names schema t.tree)) schema.tables
+
+-- and their indexes
+unfoldable pub indexes_beside : List (List ℕ) → Schema → List Index
+indexes_beside names schema = filter (λ i. not (is_own names schema i.table)) schema.indexes
+
+-- Beside the tables of the store there are the same tables, indexes and views: declared as they were, on the same trees. The tables have
+-- the same rows, and the indexes the same entries.
+pub record LiesBeside (old new : Database) : Type 0 where
+  pub tables : tables_beside (own_names old.schema) new.schema ≡ tables_beside (own_names old.schema) old.schema
+  pub indexes : indexes_beside (own_names old.schema) new.schema ≡ indexes_beside (own_names old.schema) old.schema
+  pub views : new.schema.views ≡ old.schema.views
+  pub rows : AllByRecursion (λ t. new.trees t.tree ≡ old.trees t.tree) (tables_beside (own_names old.schema) old.schema)
+  pub entries : AllByRecursion (λ i. IsPermutation (old.trees i.tree) (new.trees i.tree)) (indexes_beside (own_names old.schema) old.schema)
