@@ -188,6 +188,19 @@ kept_after old mid new (Err (StoreError (Layout n))) same kept = absurd kept
 kept_after old mid new (Err (StoreError Broken)) same kept = absurd kept
 kept_after old mid new (Err (StoreError Follows)) same kept = absurd kept
 
+-- what a list leaves, if the connection is still open
+pub kept_now : {E : Type 0} (old new : State) (r : Result (Unit {0}) (ListError E)) → KeepsListed old new r → old.now ≡ old.committed → IsTrue new.is_open → new.now ≡ old.now
+kept_now old new (Ok u) kept settled is_open = kept.0.now_is
+kept_now old new (Err (VisitorError e)) kept settled is_open = kept.0.now_is
+kept_now old new (Err (StoreError Memory)) kept settled is_open = kept.0.now_is
+kept_now old new (Err (StoreError (Database e))) kept settled is_open = (kept.rests settled is_open).0
+kept_now old new (Err (StoreError Damaged)) kept settled is_open = absurd kept
+kept_now old new (Err (StoreError (NoSuchRow at))) kept settled is_open = absurd kept
+kept_now old new (Err (StoreError (CountFull at))) kept settled is_open = absurd kept
+kept_now old new (Err (StoreError (Layout n))) kept settled is_open = absurd kept
+kept_now old new (Err (StoreError Broken)) kept settled is_open = absurd kept
+kept_now old new (Err (StoreError Follows)) kept settled is_open = absurd kept
+
 pub begun_open : {S : Type 0} (g : Ghosts S) (sql : List ℕ) (old mid : Held S) → HasBegun g sql [] old mid → IsTrue (state g old).is_open
 begun_open g sql old mid (inl begun) = begun.1.0.was_open
 begun_open g sql old mid (inr made) = open_shown sql [] (state g old) (state g mid) _ made.1

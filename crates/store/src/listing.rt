@@ -1,6 +1,6 @@
 //! Listing the rows of a store in order.
 
-ghost use Rattle.std.specs.Prelude.{◌≡◌, ℕ, pos, true, false, None, Ok, Err, Result, IfErr, IfOk, MatchOption, List, [], drop};
+ghost use Rattle.std.specs.Prelude.{◌≡◌, ℕ, pos, true, false, IsTrue, None, Ok, Err, Result, IfErr, IfOk, MatchOption, List, [], drop};
 ghost use Rattle.sqlite.specs.State.{HasCleanDisk, Survives};
 ghost use Rattle.sqlite.specs.Held.{state};
 ghost use Rattle.sqlite.specs.Given.{HasGiven};
@@ -13,7 +13,8 @@ ghost use Rattle.binlog.specs.Filter.{Names};
 ghost use Rattle.store.specs.Layout.{IsLaidOut};
 ghost use Rattle.store.specs.Rows.{Key, key_in};
 ghost use Rattle.store.specs.Inside.{WasOpen};
-ghost use Rattle.store.specs.Apply.{IsAtRest};
+ghost use Rattle.store.specs.Beside.{LiesBeside};
+ghost use Rattle.store.specs.Apply.{IsAtRest, SparesBeside};
 ghost use Rattle.store.specs.Load.{Rested};
 ghost use Rattle.store.specs.Faults.{IsReadFault, IsFailure};
 ghost use Rattle.store.specs.Store.{Holds, Keeps, AreOf, database, names_of, IsBroken};
@@ -207,6 +208,8 @@ impl<S: Alter> Store<S> {
         ensures following { names_of S.Store self.new ≡ names_of S.Store self.old }
         ensures crash { HasCleanDisk (database S.Store self.new) → (content : Content) → Holds S.Store self.old content → (trees : _) → (database S.Store self.new).may_leave trees
             → AreOf (database S.Store self.old).now.schema (names_of S.Store self.old) content trees }
+        ensures beside { HasCleanDisk (database S.Store self.new) → (content : Content) → Holds S.Store self.old content → IsTrue (database S.Store self.new).is_open → LiesBeside (database S.Store self.old).now (database S.Store self.new).now }
+        ensures crash_beside { HasCleanDisk (database S.Store self.new) → (content : Content) → Holds S.Store self.old content → (trees : _) → (database S.Store self.new).may_leave trees → SparesBeside (database S.Store self.old).now trees }
         ensures fault { IfErr result IsListFault }
     {
         if self.broken {
