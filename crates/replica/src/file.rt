@@ -12,6 +12,7 @@ ghost use Rattle.store.specs.Entering.{ReadsLeft, IsWanted};
 ghost use Rattle.store.specs.Faults.{IsFailure};
 ghost use Rattle.replica.specs.File.{only_of, is_any, FilesHold, LeavesContent, IsRefused};
 
+use crate::file_connection::open_files;
 use binlog::Follow;
 use sqlite::{Alter, Connection, Error, FileFrom, FileStore, Leftover, Start};
 use sqlite_disk::Disk;
@@ -69,7 +70,7 @@ pub fn open_file<P: Start>(
     ensures refused { IfErr result (λ e. (names : Names) (content : Content) → FilesHold (only_of only.entry) names content (image_at P.Start) → IsWanted (is_any only.entry) (only_of only.entry) names
         → IsRefused (only_of only.entry) names content e) }
 {
-    let conn = match Connection::open_from(rt, path, false, start) {
+    let conn = match open_files(rt, path, start) {
         Ok(conn) => conn,
         Err((cause, left)) => return Err(Unopened::Files(cause, left)),
     };

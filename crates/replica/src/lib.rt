@@ -27,6 +27,7 @@ mod dump;
 mod end;
 mod feed;
 mod file;
+mod file_connection;
 mod followed_file;
 mod following;
 pub mod laws;

@@ -1,0 +1,77 @@
+//! A connection to the files of a database, with room for more pages than the crate `sqlite` takes by itself.
+
+ghost use Rattle.std.specs.Prelude.{true, false, IsTrue, IfOk};
+ghost use Rattle.sqlite_wal.specs.Files.{image_at};
+ghost use Rattle.sqlite_std_file.specs.File.{file_is_usable, IsFresh};
+ghost use Rattle.sqlite.specs.State.{HasCleanDisk};
+ghost use Rattle.sqlite.specs.Held.{IsNew};
+ghost use Rattle.sqlite.specs.Start.{FindsIn};
+ghost use Rattle.sqlite.specs.Files.{file_state, IsOpened};
+
+use sqlite::{Connection, Error, ErrorCode, FileFrom, FileStore, Files, Leftover, Start};
+use sqlite_pager::Options;
+use sqlite_std_file::OpenError;
+use std::hash::{BuildHasher, RandomState};
+use std::io::ErrorKind;
+
+/// How many pages that were read are kept in memory: 16 MiB. With 2,000, the crate's own number, an opening reads more of
+/// them again.
+const CACHE_PAGES: usize = 4_000;
+
+/// How many pages that a transaction has written are kept in memory before they go to the log: 47 MiB. A page that is
+/// written again after that goes to the log again, so with fewer pages the log of a large transaction grows faster.
+const SPILL_PAGES: usize = 12_000;
+
+const NO_MEMORY: Error = Error::SqliteFailure(ErrorCode::OutOfMemory);
+
+const CANNOT_OPEN: Error = Error::SqliteFailure(ErrorCode::CannotOpen);
+
+/// Opens the database file and its log, which are made if they are not there, and locks them.
+fn open_pair<P: Start>(rt: &HostRuntime, path: &str, start: P) -> Result<Files<FileFrom<P>>, Error>
+    ensures usable { IfOk result (λ files. IsTrue (file_is_usable P.Start files.log) × IsTrue (file_is_usable P.Start files.db)) }
+    ensures fresh { IfOk result (λ files. IsFresh true files.log × IsFresh false files.db) }
+{
+    match sqlite_std_file::open(rt, path, start) {
+        Ok(files) => Ok(files),
+        Err(OpenError::OutOfMemory) => Err(NO_MEMORY),
+        Err(OpenError::Busy) => Err(Error::SqliteFailure(ErrorCode::DatabaseBusy)),
+        Err(OpenError::Io(error)) if error.kind() == ErrorKind::OutOfMemory => Err(NO_MEMORY),
+        Err(_) => Err(CANNOT_OPEN),
+    }
+}
+
+/// The options of a connection. The log's salts begin with a random number.
+fn options(rt: &HostRuntime) -> Result<Options, Error> {
+    let Ok(state) = RandomState::new(rt) else {
+        return Err(CANNOT_OPEN);
+    };
+    let mut options = Options::new(state.hash_one(&0u8));
+    options.cache_pages = CACHE_PAGES;
+    options.spill_pages = SPILL_PAGES;
+    Ok(options)
+}
+
+/// Opens the files at a path, as `Connection::open_from` does, where `start` stands for what they held. An error comes
+/// with what is left of them, once they were opened.
+pub(crate) fn open_files<P: Start>(
+    rt: &HostRuntime,
+    path: &str,
+    start: P,
+) -> Result<Connection<FileStore<FileFrom<P>>>, (Error, Option<Leftover<FileFrom<P>>>)>
+    ensures opened { IfOk result (λ c. HasCleanDisk (file_state c) → IsOpened c) }
+    ensures found { IfOk result (λ c. HasCleanDisk (file_state c) → FindsIn (image_at P.Start) (file_state c)) }
+    ensures fresh { IfOk result IsNew }
+{
+    let files = match open_pair(rt, path, start) {
+        Ok(files) => files,
+        Err(error) => return Err((error, None)),
+    };
+    let options = match options(rt) {
+        Ok(options) => options,
+        Err(error) => return Err((error, None)),
+    };
+    match Connection::open_files_with(rt.alloc(), files, options, false) {
+        Ok(conn) => Ok(conn),
+        Err((error, left)) => Err((error, Some(left))),
+    }
+}
