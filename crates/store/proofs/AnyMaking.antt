@@ -1,21 +1,21 @@
 -- What a text means that makes a table, in any schema: it makes the table, or is refused.
-use Rattle.std.proofs.Common.{◌≡◌, ◌==◌, ◌&&◌, not, List, ℕ, length, Bool, true, false, cond, is_some, codes, Ok, Err, None, [], ◌∷◌, refl, sym, ap, ◌∙◌}
+use Rattle.std.proofs.Common.{◌≡◌, ◌==◌, ◌&&◌, not, List, ℕ, length, Bool, true, false, cond, is_some, codes, Ok, Err, None, Some, [], ◌∷◌, refl, sym, ap, ◌∙◌}
 use Rattle.std.specs.Option.{option_or}
 use Rattle.sqlite_schema.specs.declared.schema.Table.{Table}
 use Rattle.sqlite_schema.specs.declared.schema.Schema.{Schema}
 use Rattle.sqlite_schema.specs.declared.command.Command.{Command}
-use Rattle.sqlite_schema.specs.declared.command.Command.TheVariants.{CreateTable, Nothing}
-use Rattle.sqlite_schema.specs.Names.{table_named, index_named, view_named}
+use Rattle.sqlite_schema.specs.declared.command.Command.TheVariants.{CreateTable, DropTable, Nothing}
+use Rattle.sqlite_schema.specs.Names.{table_named, index_named, view_named, same_name}
 use Rattle.sqlite_ast.specs.declared.CreateTable.{CreateTable as Definition}
 use Rattle.sqlite_ast.specs.declared.Statement.{Statement}
 use Rattle.sqlite_ast.specs.declared.Statement.TheVariants as written
 use Rattle.sqlite_syntax.specs.declared.statement.Parsed.{Parsed}
 use Rattle.sqlite_resolve.specs.declared.compiled.Compiled.{Compiled}
 use Rattle.sqlite_resolve.specs.declared.error.CompileError.{CompileError}
-use Rattle.sqlite_resolve.specs.declared.error.CompileError.TheVariants.{NoSuchTable, Exists, Unsupported}
+use Rattle.sqlite_resolve.specs.declared.error.CompileError.TheVariants.{NoSuchTable, Exists, Unsupported, Misuse}
 use Rattle.sqlite_resolve.specs.Lowering.{Checked, and_then}
 use Rattle.sqlite_resolve.specs.Define as define
-use Rattle.sqlite_resolve.specs.Compile.{first, table_defined_by, compiled, planned, timed, meaning, returning, command, creates, create_table, is_reserved, is_attached, with_command}
+use Rattle.sqlite_resolve.specs.Compile.{first, table_defined_by, compiled, planned, timed, meaning, returning, command, creates, create_table, drop_table, is_reserved, is_attached, with_command}
 use Rattle.sqlite.specs.Listing.{understood, misses_table}
 use Rattle.std.specs.Prelude.{slice_range}
 use Rattle.sqlite_value.specs.Order.{Row}
@@ -29,6 +29,7 @@ use Rattle.sqlite_resolve.specs.declared.write.NewRows.TheVariants as new
 use Rattle.sqlite_resolve.specs.Write.{inserted}
 use Rattle.sqlite.specs.State.{State, ExecutesIn, Executes}
 use Rattle.sqlite.proofs.Callers.{IsPlain, command_of}
+use Rattle.store.specs.Migrating.{drop_executed_text}
 use Rattle.store.specs.Making.{layout_text, layout_terms, add_name_text, add_name_terms}
 use Rattle.store.proofs.Compiling.{compiled_insert}
 use Rattle.store.proofs.AnySchema.{Means, means}
@@ -79,33 +80,59 @@ pub record MakesTable (text : List ℕ) (table : Table) : Type 0 where
   pub defined : define.table [] def ≡ Ok table
   pub makes : table_defined_by text ≡ Ok table
 
-module _ (schema : Schema) (text : List ℕ) (table : Table) (m : MakesTable text table) where
-  abbrev made : Compiled
-  made = with_command m.p ([], (CreateTable, None))
+with_made : (p : Parsed) (made : Command) (r : Checked Command) → Makes r made IsOther
+    → Makes (and_then (and_then (and_then {A = Command} r (λ c. Ok (c, None))) (λ found. Ok ([], found))) (λ plan. Ok (with_command p plan))) (with_command p ([], (made, None))) IsOther
+with_made p made (Ok c) is = rw is refl
+with_made p made (Err e) other = other
 
-  with_made : (r : Checked Command) → Makes r CreateTable IsOther
-      → Makes (and_then (and_then (and_then {A = Command} r (λ c. Ok (c, None))) (λ found. Ok ([], found))) (λ plan. Ok (with_command m.p plan))) made IsOther
-  with_made (Ok c) is = rw is refl
-  with_made (Err e) other = other
-
-  makes_compiled : Makes (compiled schema text) made IsOther
-  unfolding compiled planned timed meaning returning command
-  makes_compiled = rw (m.parses, m.is, m.untimed) (with_made (create_table schema [] m.def) (made_or_refused schema m.def table m.named m.plain m.fits m.defined))
-
+module _ (schema : Schema) (text : List ℕ) (made : Compiled) (makes : Makes (compiled schema text) made IsOther) where
   understood_made : (other r : Checked Compiled) (c : Compiled) → Makes r made IsOther → cond (misses_table r) other r ≡ Ok c → c ≡ made
   understood_made other (Ok a) c is same = (let back : a ≡ c = cc in sym back) ∙ is
   understood_made other (Err NoSuchTable) c is same = absurd is
   understood_made other (Err e) c is same = absurd (cc)
 
-  -- where the text is understood, it makes the table
-  pub makes_table : (c : Compiled) → understood schema text ≡ Ok c → c ≡ made
+  -- where the text is understood, it is this command
+  makes_it : (c : Compiled) → understood schema text ≡ Ok c → c ≡ made
   unfolding understood
-  makes_table c is = understood_made _ (compiled schema text) c makes_compiled is
+  makes_it c is = understood_made _ (compiled schema text) c makes is
 
-  -- so it does where it ran
-  pub runs_made : (params : Row) (old new : State) (count : ℕ) → old.now.schema ≡ schema → Executes text params old new (Ok count) → understood schema text ≡ Ok made
+  -- so it is where it ran
+  runs_it : (params : Row) (old new : State) (count : ℕ) → old.now.schema ≡ schema → Executes text params old new (Ok count) → understood schema text ≡ Ok made
   unfolding ExecutesIn
-  runs_made params old new count has h = let known : understood schema text ≡ Ok h.0 = ap (λ s. understood s text) (sym has) ∙ h.1.is in known ∙ ap Ok (makes_table h.0 known)
+  runs_it params old new count has h = let known : understood schema text ≡ Ok h.0 = ap (λ s. understood s text) (sym has) ∙ h.1.is in known ∙ ap Ok (makes_it h.0 known)
+
+module _ (schema : Schema) (text : List ℕ) (table : Table) (m : MakesTable text table) where
+  makes_compiled : Makes (compiled schema text) (with_command m.p ([], (CreateTable, None))) IsOther
+  unfolding compiled planned timed meaning returning command
+  makes_compiled = rw (m.parses, m.is, m.untimed) (with_made m.p CreateTable (create_table schema [] m.def) (made_or_refused schema m.def table m.named m.plain m.fits m.defined))
+
+  pub runs_made : (params : Row) (old new : State) (count : ℕ) → old.now.schema ≡ schema → Executes text params old new (Ok count) → understood schema text ≡ Ok (with_command m.p ([], (CreateTable, None)))
+  runs_made params old new count has h = runs_it schema text (with_command m.p ([], (CreateTable, None))) makes_compiled params old new count has h
+
+-- ---- DROP TABLE, which drops the table or is refused.
+
+abbrev drop_parsed : Parsed
+drop_parsed = record { statement = written.DropTable false (codes "executed"); names = []; formats = []; start = 0; end = 19; tail = 19 }
+
+drop_parses : first drop_executed_text ≡ Ok drop_parsed
+unfolding everything
+drop_parses = refl
+
+module _ (schema : Schema) (at : ℕ) (there : table_named schema (codes "executed") ≡ Some at) where
+  by_view : (taken : Bool) → Makes {A = Command} (cond taken (Err Misuse) (Ok (DropTable at))) (DropTable at) IsOther
+  by_view true = tt
+  by_view false = refl
+
+  dropped_or_refused : Makes (drop_table schema false (codes "executed")) (DropTable at) IsOther
+  unfolding drop_table is_reserved same_name
+  dropped_or_refused = rw there (by_view (is_some (view_named schema (codes "executed"))))
+
+  drops_compiled : Makes (compiled schema drop_executed_text) (with_command drop_parsed ([], (DropTable at, None))) IsOther
+  unfolding compiled planned timed meaning returning command
+  drops_compiled = rw drop_parses (with_made drop_parsed (DropTable at) (drop_table schema false (codes "executed")) dropped_or_refused)
+
+  pub runs_dropped : (old new : State) (count : ℕ) → old.now.schema ≡ schema → Executes drop_executed_text [] old new (Ok count) → understood schema drop_executed_text ≡ Ok (with_command drop_parsed ([], (DropTable at, None)))
+  runs_dropped old new count has h = runs_it schema drop_executed_text (with_command drop_parsed ([], (DropTable at, None))) drops_compiled [] old new count has h
 
 -- ---- The tables of the store.
 

@@ -28,8 +28,8 @@ use Rattle.sqlite_resolve.specs.Program.{query}
 use Rattle.sqlite_resolve.specs.Compile.{first, with_command}
 use Rattle.sqlite_tied.specs.Compute.{everything}
 use Rattle.sqlite.proofs.Callers.{command_of}
-use Rattle.store.specs.Layout.{required, meta, held, spans, follow}
-use Rattle.store.specs.Load.{AsksAll, IsFilled, columns_from, whole, all_meta_text, all_held_text, all_spans_text, all_follow_text}
+use Rattle.store.specs.Layout.{required, meta, executed, held, spans, follow}
+use Rattle.store.specs.Load.{AsksAll, IsFilled, columns_from, whole, all_meta_text, all_held_text, all_spans_text, all_follow_text, all_executed_text}
 use Rattle.store.specs.Listing.{listed_text}
 use Rattle.store.specs.Layout.{IsFound}
 use Rattle.store.proofs.AnySchema.{Means, means}
@@ -59,6 +59,9 @@ spans_columns = codes "rowid" ∷ codes "source" ∷ codes "lo" ∷ codes "hi" �
 abbrev follow_columns : List Name
 follow_columns = codes "rowid" ∷ codes "schema_name" ∷ codes "table_name" ∷ []
 
+abbrev executed_columns : List Name
+executed_columns = codes "rowid" ∷ codes "source" ∷ codes "number" ∷ []
+
 abbrev by_rowid : List Name
 by_rowid = codes "rowid" ∷ []
 
@@ -74,6 +77,14 @@ record Reads (text : List ℕ) (table : Name) (columns by : List Name) (len : �
 reads_meta : Reads all_meta_text (codes "meta") meta_columns by_rowid 43
 unfolding everything
 reads_meta = record {
+  parses = refl;
+  over = record { shown = refl; from = refl; filter = refl; distinct = refl; group = refl; having = refl };
+  ordered = record { with = refl; first = refl; others = refl; order = refl; limit = refl; offset = refl };
+}
+
+reads_executed : Reads all_executed_text (codes "executed") executed_columns by_rowid 57
+unfolding everything
+reads_executed = record {
   parses = refl;
   over = record { shown = refl; from = refl; filter = refl; distinct = refl; group = refl; having = refl };
   ordered = record { with = refl; first = refl; others = refl; order = refl; limit = refl; offset = refl };
@@ -145,6 +156,10 @@ record IsListed (table : Table) : Type 0 where
 meta_listed : (tree : ℕ) → IsListed (record meta { tree = tree })
 unfolding same_name
 meta_listed tree = record { columns = ((refl, refl), ((refl, refl), tt)); no_rowid = refl; no_key = refl }
+
+executed_listed : (tree : ℕ) → IsListed (record executed { tree = tree })
+unfolding same_name
+executed_listed tree = record { columns = ((refl, refl), ((refl, refl), tt)); no_rowid = refl; no_key = refl }
 
 held_listed : (tree : ℕ) → IsListed (record held { tree = tree })
 unfolding same_name
@@ -234,6 +249,12 @@ all_meta_asks schema at tree f =
     let t : Table = record meta { tree = tree } in
     let l = meta_listed tree in
     whole_asks schema at t f l all_meta_text 43 (rowid_field ∷ []) 99997 99996 _ nothing reads_meta (rowid_stands schema at t f l _ false, tt) ((refl, refl), tt) (omega arith) (omega arith) refl refl refl refl refl refl
+
+pub all_executed_asks : (schema : Schema) (at tree : ℕ) → IsFound schema at (record executed { tree = tree }) → AsksAll schema all_executed_text tree
+all_executed_asks schema at tree f =
+    let t : Table = record executed { tree = tree } in
+    let l = executed_listed tree in
+    whole_asks schema at t f l all_executed_text 57 (rowid_field ∷ []) 99997 99996 _ nothing reads_executed (rowid_stands schema at t f l _ false, tt) ((refl, refl), tt) (omega arith) (omega arith) refl refl refl refl refl refl
 
 pub all_held_asks : (schema : Schema) (at tree : ℕ) → IsFound schema at (record held { tree = tree }) → AsksAll schema all_held_text tree
 all_held_asks schema at tree f =

@@ -16,12 +16,11 @@ use Rattle.sqlite_schema.specs.declared.schema.Schema.{Schema}
 use Rattle.sqlite_schema.specs.Names.{same_name, table_named}
 use Rattle.sqlite_rules.specs.Lists.{Has}
 use Rattle.sqlite_catalog.specs.Change.{created, next_tree, past_views}
-use Rattle.sqlite_catalog.proofs.StepLemmas.{table_below}
+use Rattle.sqlite_catalog.proofs.StepLemmas.{table_below, same_itself}
 use Rattle.sqlite.specs.Does.{lacks_sequence}
 use Rattle.sqlite.specs.Rows.{sequence}
 use Rattle.store.specs.Layout.{meta, held, spans, follow, tree_named, meta_tree, held_tree, spans_tree, follow_tree, IsFound, HasTable, IsApart, IsLaidOut, IsVacant}
 use Rattle.store.specs.Making.{with_tables, with_meta, with_held, with_spans, new_layout}
-use Rattle.store.proofs.SameSchema.{same_as_itself}
 
 -- ---- Look-ups in a list with one item more.
 
@@ -67,7 +66,7 @@ highest tree a b (x ∷ xs) =
     ap (λ n. fold (λ n x. max n (tree x + 1)) n xs) turned ∙ highest tree (max a (tree x + 1)) b xs
 
 -- what a table with one key takes
-next_created : (schema : Schema) (table : Table) (key : List ℕ) → table.uniques ≡ key ∷ [] → next_tree (created schema table) ≡ next_tree schema + 2
+pub next_created : (schema : Schema) (table : Table) (key : List ℕ) → table.uniques ≡ key ∷ [] → next_tree (created schema table) ≡ next_tree schema + 2
 next_created schema table key one =
     let next = next_tree schema in
     let below = fold (λ n (t : Table). max n (t.tree + 1)) (past_views schema) schema.tables in
@@ -93,7 +92,7 @@ module _ (schema : Schema) (table : Table) where
   -- and so is the new table
   pub found_made : table_named schema table.name ≡ None → next_tree schema < 2 ^ 31 → IsFound after (length schema.tables) made
   found_made free low = record {
-    by_name = last_place (λ u. same_name u.name table.name) 0 schema.tables made free (same_as_itself table.name) ∙ ap Some (omega arith);
+    by_name = last_place (λ u. same_name u.name table.name) 0 schema.tables made free (same_itself table.name) ∙ ap Some (omega arith);
     by_index = last_item schema.tables made;
     by_tree = find-append (λ u. u.tree == next_tree schema) schema.tables (made ∷ [])
         ∙ rw (none_found (λ u. u.tree == next_tree schema) schema.tables (λ t has. ne_eqb t.tree (next_tree schema) (λ same. let below = table_below schema t has in omega (arith, same, below))), eq-eqb (next_tree schema) (next_tree schema) refl) refl;
@@ -156,27 +155,29 @@ here_or_later : {X : Type 0} (p : X → Bool) (ys : List X) (x y : X) (b : Bool)
 here_or_later p ys x y true is h later = let same : y ≡ x = cc in (inl (sym same), subst (λ z. p z ≡ true) same is)
 here_or_later p ys x y false is h later = let found = later h in (inr found.0, found.1)
 
-found_passes : {X : Type 0} (p : X → Bool) (xs : List X) (x : X) → find p xs ≡ Some x → Has xs x × (p x ≡ true)
+pub found_passes : {X : Type 0} (p : X → Bool) (xs : List X) (x : X) → find p xs ≡ Some x → Has xs x × (p x ≡ true)
 found_passes p [] x h = absurd (cc)
 found_passes p (y ∷ ys) x h = here_or_later p ys x y (p y) refl h (found_passes p ys x)
 
--- A reference by another name does not point to the table's tree.
-module _ (schema : Schema) (table : Table) (alone : IsAlone schema table) where
-  off_tree : (t : Table) (key : List ℕ) (o : Option Order) → t.tree ≢ table.tree → IfSome (option_map (λ (x : Order). (t.tree, key, x)) o) (λ (k : ParentKey). k.0 ≢ table.tree)
+-- a key of another table
+module _ (tree : ℕ) where
+  off_tree : (t : Table) (key : List ℕ) (o : Option Order) → t.tree ≢ tree → IfSome (option_map (λ (x : Order). (t.tree, key, x)) o) (λ (k : ParentKey). k.0 ≢ tree)
   off_tree t key None off = tt
   off_tree t key (Some x) off = off
 
-  of_key : (t : Table) (o : Option (List ℕ)) → t.tree ≢ table.tree → IfSome (option_and_then (key_in t) o) (λ k. k.0 ≢ table.tree)
+  of_key : (t : Table) (o : Option (List ℕ)) → t.tree ≢ tree → IfSome (option_and_then (key_in t) o) (λ k. k.0 ≢ tree)
   of_key t None off = tt
   of_key t (Some key) off = off_tree t key (declared_order t key) off
 
+-- A reference by another name does not point to the table's tree.
+module _ (schema : Schema) (table : Table) (alone : IsAlone schema table) where
   of_parent : (ref : Reference) (o : Option Table) → find (λ (t : Table). same_name t.name ref.parent) schema.tables ≡ o → same_name table.name ref.parent ≡ false
       → IfSome (option_and_then (λ t. option_and_then (key_in t) (key_places t ref.parent_columns)) o) (λ k. k.0 ≢ table.tree)
   unfolding IsAlone
   of_parent ref None found other = tt
   of_parent ref (Some t) found other =
       let is = found_passes (λ (u : Table). same_name u.name ref.parent) schema.tables t found in
-      of_key t (key_places t ref.parent_columns) (λ same. absurd (false≢true (sym other ∙ ap (λ (u : Table). same_name u.name ref.parent) (sym (alone t is.0 same)) ∙ is.1)))
+      of_key table.tree t (key_places t ref.parent_columns) (λ same. absurd (false≢true (sym other ∙ ap (λ (u : Table). same_name u.name ref.parent) (sym (alone t is.0 same)) ∙ is.1)))
 
   pub apart_by : (ref : Reference) → same_name table.name ref.parent ≡ false → IfSome (parent_key schema.tables ref) (λ k. k.0 ≢ table.tree)
   apart_by ref other = of_parent ref _ refl other
@@ -185,9 +186,34 @@ apart_refs : (schema : Schema) (table : Table) → IsAlone schema table → (ref
 apart_refs schema table alone [] all = tt
 apart_refs schema table alone (ref ∷ refs) all = (apart_by schema table alone ref all.0, apart_refs schema table alone refs all.1)
 
-apart_tables : (schema : Schema) (table : Table) → IsAlone schema table → (tables : List Table) → AllByRecursion (λ t. AllByRecursion (λ ref. same_name table.name ref.parent ≡ false) t.references) tables → AllByRecursion (IsApart schema table.tree) tables
+pub apart_tables : (schema : Schema) (table : Table) → IsAlone schema table → (tables : List Table) → AllByRecursion (λ t. AllByRecursion (λ ref. same_name table.name ref.parent ≡ false) t.references) tables → AllByRecursion (IsApart schema table.tree) tables
 apart_tables schema table alone [] all = tt
 apart_tables schema table alone (t ∷ tables) all = (apart_refs schema table alone t.references all.0, apart_tables schema table alone tables all.1)
+
+-- What pointed to another tree does so beside a new table.
+module _ (schema : Schema) (table : Table) (tree : ℕ) (low : tree < next_tree schema) where
+  of_found : (ref : Reference) (o m : Option Table) → IfSome (option_and_then (λ t. option_and_then (key_in t) (key_places t ref.parent_columns)) o) (λ k. k.0 ≢ tree) → ((t : Table) → m ≡ Some t → t.tree ≢ tree)
+      → IfSome (option_and_then (λ t. option_and_then (key_in t) (key_places t ref.parent_columns)) (option_or o m)) (λ k. k.0 ≢ tree)
+  of_found ref (Some t) m was off = was
+  of_found ref None None was off = tt
+  of_found ref None (Some t) was off = of_key tree t (key_places t ref.parent_columns) (off t refl)
+
+  refs_still : (refs : List Reference) → AllByRecursion (λ ref. IfSome (parent_key schema.tables ref) (λ k. k.0 ≢ tree)) refs → AllByRecursion (λ ref. IfSome (parent_key (created schema table).tables ref) (λ k. k.0 ≢ tree)) refs
+  refs_still [] all = tt
+  refs_still (ref ∷ refs) all = (
+    rw (find-append (λ (t : Table). same_name t.name ref.parent) schema.tables (made schema table ∷ []))
+        (of_found ref (find (λ (t : Table). same_name t.name ref.parent) schema.tables) (find (λ (t : Table). same_name t.name ref.parent) (made schema table ∷ [])) all.0
+        (λ t found same. absurd (let is = (found_passes (λ (u : Table). same_name u.name ref.parent) (made schema table ∷ []) t found).0 in only_made t is same))),
+    refs_still refs all.1,
+  )
+    where
+      only_made : (t : Table) → Has (made schema table ∷ []) t → t.tree ≡ tree → ⊥
+      only_made t (inl is) same = let at = ap (λ (x : Table). x.tree) is in omega (arith, at, same, low)
+      only_made t (inr none) same = none
+
+  pub apart_still : (ts : List Table) → AllByRecursion (IsApart schema tree) ts → AllByRecursion (IsApart (created schema table) tree) ts
+  apart_still [] all = tt
+  apart_still (t ∷ ts) all = (refs_still t.references all.0, apart_still ts all.1)
 
 pub all_more : {X : Type 0} (P : X → Type 0) (xs : List X) (x : X) → AllByRecursion P xs → P x → AllByRecursion P (xs ++ x ∷ [])
 all_more P [] x all h = (h, tt)
@@ -195,12 +221,19 @@ all_more P (y ∷ ys) x all h = (all.0, all_more P ys x all.1 h)
 
 -- ---- The four tables.
 
-tree_is : (schema : Schema) (at : ℕ) (table : Table) → IsFound schema at table → tree_named schema table.name ≡ table.tree
+pub tree_is : (schema : Schema) (at : ℕ) (table : Table) → IsFound schema at table → tree_named schema table.name ≡ table.tree
 unfolding tree_named
 tree_is schema at table f = rw (f.by_name, f.by_index) refl
 
-has_table : (schema : Schema) (at : ℕ) (table : Table) (tree : ℕ) → IsFound schema at (record table { tree = tree }) → HasTable schema table
+pub has_table : (schema : Schema) (at : ℕ) (table : Table) (tree : ℕ) → IsFound schema at (record table { tree = tree }) → HasTable schema table
 has_table schema at table tree f = record { at = at; found = subst (λ n. IsFound schema at (record table { tree = n })) (sym (tree_is schema at (record table { tree = tree }) f)) f }
+
+module _ (schema : Schema) (made_table table : Table) (h : HasTable schema table) where
+  pub has_still : HasTable (created schema made_table) table
+  has_still = has_table (created schema made_table) h.at table (tree_named schema table.name) (found_still schema made_table h.at (record table { tree = tree_named schema table.name }) h.found)
+
+  pub tree_still : tree_named (created schema made_table) table.name ≡ tree_named schema table.name
+  tree_still = tree_is (created schema made_table) h.at (record table { tree = tree_named schema table.name }) (found_still schema made_table h.at (record table { tree = tree_named schema table.name }) h.found)
 
 module _ (base : Schema) (v : IsVacant base) where
   abbrev one : Schema

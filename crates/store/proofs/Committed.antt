@@ -1,5 +1,5 @@
 -- The end of a transaction that makes a database.
-use Rattle.std.proofs.Common.{◌≡◌, true, false, refl, sym, ap, subst, subst₂, ◌∙◌, Ok, Err, Result, OnOk, OnErr, IfErr, IsTrue, []}
+use Rattle.std.proofs.Common.{◌≡◌, true, false, refl, sym, subst, subst₂, ◌∙◌, Ok, Err, Result, OnOk, OnErr, IfErr, IsTrue, []}
 use Rattle.sqlite.specs.declared.error.Error.{Error}
 use Rattle.sqlite.specs.Effect.{Database as Stored, IsDatabase}
 use Rattle.sqlite.specs.State.{State, IsLive, KeepsCommit, KeepsCounts, Shows}
@@ -34,11 +34,11 @@ pub first_inside : {S : Type 0} (g : store.Ghosts S) (h : Held S) (content : Con
 first_inside g h content rest = record {
   is_open = rest.is_open;
   inside = refl;
+  settled = rest.settled;
   meta_apart = rest.meta_apart;
   held_apart = rest.held_apart;
   stands = rest.stands;
   sound = rest.sound;
-  begun = ap (λ (d : Stored). d.schema) (sym rest.settled) ∙ rest.stands.laid_out;
 }
 
 pub rests_unless : (t m n : State) (r : Result (Unit {0}) Error) → t.now ≡ t.committed → KeepsCommit t m → m.in_transaction ≡ true → IfErr r (FailsToCommit m n) → OnErr r (Rests t n)

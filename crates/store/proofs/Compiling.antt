@@ -159,7 +159,7 @@ module _ (schema : Schema) (at : ℕ) (table : Table) (there : slice_get schema.
   parameter_is n = alike (n == 0) affinity.None
 
   module _ (place : ℕ) (c : Declared) (is : slice_get table.columns place ≡ Some c) where
-    affinity_is : of_column cx 1 (suc place) ≡ of_declared c
+    pub affinity_is : of_column cx 1 (suc place) ≡ of_declared c
     unfolding of_column
     affinity_is = rw (there, is) refl
 

@@ -64,7 +64,7 @@ own_id n = ap is_eq (tied_itself value_cmp_total (Int n))
 -- ---- tables that are not written
 
 -- Different tables that their trees find have different trees.
-other_tree : (schema : Schema) (measure : Table → ℕ) (i j : ℕ) (a b : Table) → IsFound schema i a → IsFound schema j b → measure a ≢ measure b → a.tree ≢ b.tree
+pub other_tree : (schema : Schema) (measure : Table → ℕ) (i j : ℕ) (a b : Table) → IsFound schema i a → IsFound schema j b → measure a ≢ measure b → a.tree ≢ b.tree
 other_tree schema measure i j a b p q unlike same =
     let both : Some a ≡ Some b = sym p.by_tree ∙ ap (λ n. find (λ (t : Table). t.tree == n) schema.tables) same ∙ q.by_tree in
     unlike (ap (λ (t : Option Table). measure (unwrap_or t a)) both)

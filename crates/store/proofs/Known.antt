@@ -1,9 +1,8 @@
 -- Which tables a known schema has, and one reading after another.
-use Rattle.std.proofs.Common.{◌≡◌, ℤ, pos, Bool, true, false, is_some, not, MatchBool, Some, List, ◌||◌, Result, Ok, Err, IfOk, IfErr, arith, refl, sym, ap, subst, ◌∙◌}
+use Rattle.std.proofs.Common.{◌≡◌, ℤ, pos, Bool, true, false, is_some, not, MatchBool, Some, List, ◌||◌, ◌&&◌, Result, Ok, Err, IfOk, IfErr, arith, refl, sym, ap, subst, ◌∙◌}
 use Rattle.std.proofs.lemmas.Bool.{false≢true, true≢false, and_parts, not-false, not-true}
 use Rattle.sqlite_trees.specs.Tree.{Trees}
 use Rattle.sqlite_schema.specs.declared.schema.Schema.{Schema}
-use Rattle.sqlite_schema.specs.Names.{same_name}
 use Rattle.sqlite.specs.Effect.{Database as Stored}
 use Rattle.sqlite.specs.State.{State, Survives, IsUnchanged, HasCleanDisk}
 use Rattle.sqlite.proofs.StateLemmas.{survives_then}
@@ -11,7 +10,7 @@ use Rattle.gtid.specs.Identifier.{Ids}
 use Rattle.binlog.specs.Filter.{Names}
 use Rattle.store.specs.declared.fault.StoreFault.{StoreFault}
 use Rattle.store.specs.declared.tables.Tables.{Tables}
-use Rattle.store.specs.Layout.{first_layout, HasMeta, IsLaidOut, IsVacant}
+use Rattle.store.specs.Layout.{IsFirstLaidOut, HasMeta, IsLaidOut, IsVacant}
 use Rattle.std.specs.List.{AllByRecursion}
 use Rattle.sqlite_value.specs.Order.{Row}
 use Rattle.store.specs.declared.tables.Meta.{Meta}
@@ -21,7 +20,6 @@ use Rattle.store.specs.Load.{StatesLayout}
 use Rattle.store.specs.Beside.{LiesBeside}
 use Rattle.store.specs.Open.{MayStandFor}
 use Rattle.store.specs.Entering.{IsReady, IsKnown, blank, first, second, lacking, IsOf, IsWhy, IsEntered, IsTurned, MayEnter, tables_of, has_any, has_first, has_second}
-use Rattle.store.proofs.Wholes.{first_has_meta}
 use Rattle.store.proofs.Lives.{narrowed}
 use Rattle.store.proofs.Entered.{rests_after, weaken}
 
@@ -39,17 +37,20 @@ none_first schema v = rw (v.no_executed) refl
 none_second : (schema : Schema) → IsVacant schema → has_second (tables_of schema) ≡ false
 none_second schema v = rw (v.no_held) refl
 
-first_second : has_second (tables_of first_layout) ≡ false
-unfolding same_name
-first_second = refl
+and_none : (a b : Bool) → (a && (false && b)) ≡ false
+and_none true b = refl
+and_none false b = refl
+
+first_second : (schema : Schema) → IsFirstLaidOut schema → has_second (tables_of schema) ≡ false
+first_second schema l = rw (l.no_spans) (and_none (tables_of schema).held (tables_of schema).follow)
 
 pub known_meta : (db : Stored) → IsKnown db → (tables_of db.schema).meta ≡ true → HasMeta db.schema
 known_meta db (blank is) there = absurd (false≢true (sym (none_meta db.schema is) ∙ there))
-known_meta db (first is) there = first_has_meta db.schema is
+known_meta db (first is) there = is.meta
 known_meta db (second laid none) there = laid.meta
 known_meta db (lacking meta one two) there = meta
 
-pub known_first : (db : Stored) → IsKnown db → SaysLayout (pos 1) (first_meta_rows db) → has_first (tables_of db.schema) ≡ true → db.schema ≡ first_layout
+pub known_first : (db : Stored) → IsKnown db → SaysLayout (pos 1) (first_meta_rows db) → has_first (tables_of db.schema) ≡ true → IsFirstLaidOut db.schema
 known_first db (blank is) says there = absurd (false≢true (sym (none_first db.schema is) ∙ there))
 known_first db (first is) says there = is
 known_first db (second laid none) says there = absurd (none (and_parts _ _ there).0 says)
@@ -57,7 +58,7 @@ known_first db (lacking meta one two) says there = absurd (false≢true (sym (on
 
 pub known_second : (db : Stored) → IsKnown db → SaysLayout (pos 2) (first_meta_rows db) → has_second (tables_of db.schema) ≡ true → IsLaidOut db.schema
 known_second db (blank is) says there = absurd (false≢true (sym (none_second db.schema is) ∙ there))
-known_second db (first is) says there = absurd (false≢true (sym first_second ∙ ap (λ s. has_second (tables_of s)) (sym is) ∙ there))
+known_second db (first is) says there = absurd (false≢true (sym (first_second db.schema is) ∙ there))
 known_second db (second laid none) says there = laid
 known_second db (lacking meta one two) says there = absurd (false≢true (sym (two says) ∙ there))
 
@@ -109,8 +110,8 @@ pub err_weaker : {T E : Type 0} {P Q : E → Type 0} (r : Result T E) → ((e : 
 err_weaker (Ok x) f h = h
 err_weaker (Err e) f h = f e h
 
-pub laid_after_first : (old mid : State) → IsUnchanged old mid → old.now.schema ≡ first_layout → mid.now.schema ≡ first_layout
-laid_after_first old mid same is = ap (λ (db : Stored). db.schema) same.0.now_is ∙ is
+pub laid_after_first : (old mid : State) → IsUnchanged old mid → IsFirstLaidOut old.now.schema → IsFirstLaidOut mid.now.schema
+laid_after_first old mid same laid = subst (λ (db : Stored). IsFirstLaidOut db.schema) (sym same.0.now_is) laid
 
 pub laid_after_second : (old mid : State) → IsUnchanged old mid → IsLaidOut old.now.schema → IsLaidOut mid.now.schema
 laid_after_second old mid same laid = subst (λ (db : Stored). IsLaidOut db.schema) (sym same.0.now_is) laid
@@ -129,7 +130,7 @@ none_without_meta schema none m = true≢false (sym (any_there (tables_of schema
 
 pub known_none : (db : Stored) → IsKnown db → has_any (tables_of db.schema) ≡ false → IsVacant db.schema
 known_none db (blank is) none = is
-known_none db (first is) none = absurd (none_without_meta db.schema none (first_has_meta db.schema is))
+known_none db (first is) none = absurd (none_without_meta db.schema none is.meta)
 known_none db (second laid other) none = absurd (none_without_meta db.schema none (laid.meta))
 known_none db (lacking meta one two) none = absurd (none_without_meta db.schema none meta)
 
@@ -169,7 +170,7 @@ pub record IsRead (n : ℤ) (IsLaid : Schema → Type 0) (mid : State) : Type 0 
   pub states : StatesLayout n (first_meta_rows mid.now)
 
 module _ (old mid : State) (tables : Tables) (m : Meta) (k : ℤ) (ready : IsReady old) (is : tables ≡ tables_of old.now.schema) (same : IsUnchanged old mid) (meta : IsMeta (first_meta_rows old.now) m) (layout : m.layout ≡ Some k) (lawful : not m.lawful ≡ false) where
-  pub read_first : k ≡ pos 1 → has_first tables ≡ true → IsRead (pos 1) (λ s. s ≡ first_layout) mid
+  pub read_first : k ≡ pos 1 → has_first tables ≡ true → IsRead (pos 1) IsFirstLaidOut mid
   read_first one all =
       let says = says_at (first_meta_rows old.now) m k (pos 1) meta layout one in
       record {

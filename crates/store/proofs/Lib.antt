@@ -9,6 +9,7 @@ pub mod Works
 pub mod RowLemmas
 pub mod Statements
 pub mod Effects
+pub mod Left
 pub mod Done
 pub mod SpanEffects
 pub mod Made
@@ -23,9 +24,10 @@ pub mod Taken
 pub mod Counted
 pub mod Making
 pub mod Filling
+pub mod Cut
 pub mod MigratingTexts
-pub mod Migrating
 pub mod SpanLists
+pub mod Migrating
 pub mod Migrated
 pub mod Committed
 pub mod Replaced

@@ -19,7 +19,7 @@ use Rattle.sqlite_rules.specs.declared.error.Rowids.TheVariants.{Chosen}
 use Rattle.sqlite_trees.specs.Tree.{Trees, put_row}
 use Rattle.sqlite_trees.proofs.TreeLemmas.{all-put_row}
 use Rattle.sqlite.specs.declared.error.Error.{Error}
-use Rattle.sqlite.specs.Effect.{Database}
+use Rattle.sqlite.specs.Effect.{Database, IsDatabase}
 use Rattle.sqlite.specs.Rows.{Written}
 use Rattle.sqlite.specs.Does.{Tally, OnRows, lacks_sequence}
 use Rattle.sqlite_rules.specs.Lists.{Has}
@@ -44,7 +44,7 @@ use Rattle.store.proofs.Effects.{fresh_alone, same_rows, stays, still_beside, me
 -- ---- tables
 
 -- the trees of the tables that have been made are those of tables of the schema
-made_trees : (base : Schema) (ts : List Table) → AllByRecursion (λ tree. (t : Table) × Has (with_tables base ts).tables t × (t.tree ≡ tree)) (trees_of base ts)
+pub made_trees : (base : Schema) (ts : List Table) → AllByRecursion (λ tree. (t : Table) × Has (with_tables base ts).tables t × (t.tree ≡ tree)) (trees_of base ts)
 made_trees base [] = tt
 made_trees base (t ∷ ts) = (
   (made (with_tables base ts) t, has_last (with_tables base ts).tables (made (with_tables base ts) t), refl),
@@ -64,7 +64,7 @@ made_trees base (t ∷ ts) = (
     later schema x [] all = tt
     later schema x (tree ∷ trees) all = ((all.0.0, has_more schema.tables (made schema x) all.0.0 all.0.1, all.0.2), later schema x trees all.1)
 
-still_empty : (schema : Schema) (trees : List ℕ) (old new : Trees) → KeepsRows schema.tables old new → AllByRecursion (λ tree. (t : Table) × Has schema.tables t × (t.tree ≡ tree)) trees → AllByRecursion (λ tree. old tree ≡ []) trees
+pub still_empty : (schema : Schema) (trees : List ℕ) (old new : Trees) → KeepsRows schema.tables old new → AllByRecursion (λ tree. (t : Table) × Has schema.tables t × (t.tree ≡ tree)) trees → AllByRecursion (λ tree. old tree ≡ []) trees
     → AllByRecursion (λ tree. new tree ≡ []) trees
 still_empty schema [] old new kept there empty = tt
 still_empty schema (tree ∷ trees) old new kept there empty =
@@ -92,6 +92,13 @@ module _ (schema : Schema) (sql : List ℕ) (table : Table) (m : MakesTable sql 
       subst (λ (d : Database). KeepsRows schema.tables old.now.trees d.trees) (sym now) (subst (λ (s : Schema). KeepsRows s.tables old.now.trees first.0.trees) has done.others) in
       (ap (λ (d : Database). d.schema) now ∙ schema_is, empty, kept, w)
 
+-- what lies beside is as it was committed, also after a table of the store is made
+pub still_made : (schema : Schema) (table : Table) (old new : State) (sql : List ℕ) (count : ℕ) → old.now.schema ≡ schema → old.in_transaction ≡ true → LiesBeside old.committed old.now → IsDatabase old.now → list_any (same_name table.name) (own_names old.committed.schema) ≡ true
+    → new.now.schema ≡ created schema table → KeepsRows schema.tables old.now.trees new.now.trees → Writes old new None CreateTable sql [] count → LiesBeside new.committed new.now
+still_made schema table old new sql count has inside beside sound named is kept w =
+    subst (λ c. LiesBeside c new.now) (sym (w.shown.committed_is ∙ ap (λ b. cond b old.committed new.now) inside))
+    (beside_made old.committed old.now new.now table beside sound w.sound named (is ∙ ap (λ s. created s table) (sym has)) (subst (λ (s : Schema). KeepsRows s.tables old.now.trees new.now.trees) (sym has) kept))
+
 module _ (ts : List Table) (sql : List ℕ) (table : Table) (m : MakesTable sql table) (named : (schema : Schema) → list_any (same_name table.name) (own_names schema) ≡ true) (counted : (base : Schema) → IsVacant base → lacks_sequence (created (with_tables base ts) table) ≡ false)
     (old new : State) where
   done : (r : Result ℕ Error) → IsMaking ts old → ExecutesInside 0 sql [] old new r → OnOk r (IsMaking (table ∷ ts) new)
@@ -106,9 +113,7 @@ module _ (ts : List Table) (sql : List ℕ) (table : Table) (m : MakesTable sql 
         schema_is = it.0;
         empty = (it.1, still_empty schema (trees_of was.base ts) old.now.trees new.now.trees it.2 (made_trees was.base ts) was.empty);
         sound = it.3.sound;
-        beside = subst (λ c. LiesBeside c new.now) (sym (it.3.shown.committed_is ∙ ap (λ b. cond b old.committed new.now) was.inside))
-            (beside_made old.committed old.now new.now table was.beside was.sound it.3.sound (named old.committed.schema) (it.0 ∙ ap (λ s. created s table) (sym was.schema_is))
-            (subst (λ (s : Schema). KeepsRows s.tables old.now.trees new.now.trees) (sym was.schema_is) it.2));
+        beside = still_made schema table old new sql count was.schema_is was.inside was.beside was.sound (named old.committed.schema) it.0 it.2 it.3;
       }
   done (Err e) was h = tt
 

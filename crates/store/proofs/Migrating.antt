@@ -1,6 +1,7 @@
 -- What each statement of the migration does, where it succeeds.
-use Rattle.std.proofs.Common.{◌≡◌, ℕ, ℤ, codes, pos, List, [], ◌∷◌, map, filter, not, Bool, true, false, cond, None, Ok, Err, Result, OnOk, IsTrue, inl, inr, refl, sym, ap, ap₂, subst, ◌∙◌, arith}
+use Rattle.std.proofs.Common.{◌≡◌, ℕ, ℤ, codes, pos, List, [], ◌∷◌, map, filter, not, Bool, true, false, cond, None, Ok, Err, Result, OnOk, IsTrue, inl, inr, refl, sym, ap, ap₂, subst, subst₂, ◌∙◌}
 use Rattle.std.specs.List.{AllByRecursion}
+use Rattle.std.specs.Prelude.{MatchBool}
 use Rattle.std.specs.List.Sorted.{IsPermutation}
 use Rattle.std.specs.Ordering.{is_eq}
 use Rattle.std.proofs.lemmas.Bool.{cases_Bool}
@@ -18,42 +19,55 @@ use Rattle.sqlite_sql.specs.declared.ops.CompareOp.TheVariants.{Eq}
 use Rattle.sqlite_sql.specs.Ops.{binary, is_true}
 use Rattle.sqlite_sql.specs.Program.{overlay}
 use Rattle.sqlite_sql.specs.Term.{col, lit, holds}
-use Rattle.std.specs.List.{list_all}
+use Rattle.std.specs.List.{list_all, list_any}
 use Rattle.sqlite_schema.specs.declared.schema.Table.{Table}
 use Rattle.sqlite_schema.specs.declared.schema.Schema.{Schema}
 use Rattle.sqlite_schema.specs.declared.command.Command.TheVariants.{Update, DropTable}
 use Rattle.sqlite_rules.specs.Lists.{Has}
 use Rattle.sqlite_rules.proofs.ListLemmas.{all_has, has_filtered}
-use Rattle.sqlite_rules.specs.Edit.{edit_of, is_taken, are_fresh, put_all, without_all}
+use Rattle.sqlite_rules.specs.Edit.{Applies, edit_of, is_taken, are_fresh, put_all, taken_by, without_all}
+use Rattle.sqlite_schema.specs.Names.{same_name, table_named}
+use Rattle.sqlite_schema.specs.declared.schema.Keys.TheVariants.{Enforced}
+use Rattle.sqlite_catalog.specs.Change.{created, without_table, KeepsRows}
+use Rattle.std.specs.FinSet as set
 use Rattle.sqlite_rules.specs.Calls.{ids_of}
 use Rattle.sqlite_rules.specs.declared.error.Rowids.TheVariants.{Given}
 use Rattle.sqlite.specs.declared.error.Error.{Error}
 use Rattle.sqlite.specs.Effect.{Database, IsDatabase}
 use Rattle.sqlite.specs.Rows.{Written}
-use Rattle.sqlite.specs.Does.{Tally, Does}
-use Rattle.sqlite.specs.Listing.{understood}
+use Rattle.sqlite.specs.Does.{Tally, Drops, OnRows, lacks_sequence}
 use Rattle.sqlite.specs.State.{State, mode_of, ExecutesInside, Executes}
-use Rattle.sqlite.proofs.Callers.{statement_of, runs_as, one_step, one_permutation}
+use Rattle.sqlite.proofs.Callers.{command_of, runs_as, one_step, one_permutation}
+use Rattle.gtid.specs.Identifier.{IsGtid, AreGtids, id_cmp}
+use Rattle.gtid.proofs.Sets.{id_cmp_total, id_cmp-same}
 use Rattle.store.specs.State.{Content}
-use Rattle.store.specs.Layout.{meta, spans, spans_text, follow, follow_text, first_layout}
-use Rattle.store.specs.Rows.{HasRowids, IsMetaRow, SaysLayout, is_text}
-use Rattle.store.specs.Migrating.{without_executed, migrated_spans, migrated_layout, drop_executed_text, raise_text, says_layout, raise_query, IsMigrating}
-use Rattle.store.proofs.AnyMaking.{spans_makes, follow_makes}
-use Rattle.store.proofs.MigratingTexts.{drop_is, drop_plain, raise_is, raise_plain}
-use Rattle.store.proofs.Making.{creates}
-use Rattle.store.proofs.Selects.{shown_bool, and_true, answers}
-use Rattle.store.proofs.Statements.{went, same_value, cast_int}
-use Rattle.store.proofs.RowLemmas.{put_among, rowids_put, rowids_without, left_is}
-use Rattle.store.proofs.Effects.{all_filtered, fresh_alone, own_id}
+use Rattle.store.specs.Layout.{meta, held, spans, spans_text, follow, follow_text, tree_named, executed_tree, meta_tree, held_tree, executed_at, meta_at, held_at, spans_at, follow_at, HasMeta, HasTable, IsApart, IsLaidOut}
+use Rattle.store.specs.Beside.{own_names, LiesBeside}
+use Rattle.store.specs.Rows.{HasRowids, IsMetaRow, SaysLayout, IsExecutedRow, id_in, is_text, meta_rows, held_rows}
+use Rattle.store.specs.Making.{with_tables, trees_of}
+use Rattle.store.specs.Migrating.{IsCut, HasTables, HasBare, made_spans, made_both, drop_executed_text, raise_text, says_layout, raise_query, IsFirstInside, IsMigrating}
+use Rattle.store.proofs.AnyMaking.{MakesTable, runs_dropped, spans_makes, follow_makes}
+use Rattle.store.proofs.AnyWhole.{has_index}
+use Rattle.store.proofs.Beside.{tree_still}
+use Rattle.store.proofs.Cut.{base_has, one_has, counted_base, counted_one, bare}
+use Rattle.store.proofs.Left.{cut, not_acted, meta_left, held_left, meta_off, held_off, rows_left, beside_dropped}
+use Rattle.store.proofs.MigratingTexts.{raise_is, raise_plain}
+use Rattle.store.proofs.Making.{creates, still_made, still_empty, made_trees}
+use Rattle.store.proofs.Selects.{shown_bool, and_true, answers, stored_read}
+use Rattle.store.proofs.SpanLists.{or_cases}
+use Rattle.store.proofs.Spared.{beside_unchanged, own_found, own_executed, own_meta, own_spans, own_follow}
+use Rattle.store.proofs.Statements.{Applied, on_table, went, same_value, cast_int}
+use Rattle.store.proofs.RowLemmas.{put_among, rowids_put, rowids_without, left_is, equal_is}
+use Rattle.store.proofs.Works.{no_works}
+use Rattle.store.proofs.Effects.{all_filtered, fresh_alone, own_id, same_rows, stays, still_beside, meta_held, meta_spans, follow_meta}
 
 -- meta and held stay
-stays : (schema after : Schema) (layout : ℤ) (bare more : List ℕ) (content : Content) (old new : State) → IsMigrating schema layout bare content old → IsTrue new.is_open × (new.in_transaction ≡ true) × IsDatabase new.now × (new.committed ≡ cond old.in_transaction old.committed new.now) → new.now.schema ≡ after → AllByRecursion (λ tree. new.now.trees tree ≡ []) more
-    → new.now.trees 0 ≡ old.now.trees 0 → new.now.trees 4 ≡ old.now.trees 4 → IsMigrating after layout more content new
-stays schema after layout bare more content old new was shown is empty meta held = record {
+moves_on : (A B : State → Type 0) (layout : ℤ) (content : Content) (old new : State) → IsMigrating A layout content old → IsTrue new.is_open × (new.in_transaction ≡ true) × IsDatabase new.now × LiesBeside new.committed new.now → B new
+    → meta_rows new.now ≡ meta_rows old.now → held_rows new.now ≡ held_rows old.now → IsMigrating B layout content new
+moves_on A B layout content old new was shown tables meta held = record {
   is_open = shown.0;
   inside = shown.1;
-  schema_is = is;
-  empty = empty;
+  tables = tables;
   meta_apart = rw meta was.meta_apart;
   says = rw meta was.says;
   meta = rw meta was.meta;
@@ -62,43 +76,94 @@ stays schema after layout bare more content old new was shown is empty meta held
   rows = rw held was.rows;
   lawful = was.lawful;
   sound = shown.2;
-  begun = ap (λ (d : Database). d.schema) (shown.3 ∙ ap (λ b. cond b old.committed new.now) was.inside) ∙ was.begun;
+  beside = shown.3;
 }
 
 -- ---- dropping executed
 
-drops : (content : Content) (old new : State) (count : ℕ) → IsMigrating first_layout (pos 1) [] content old → Executes drop_executed_text [] old new (Ok count) → IsMigrating without_executed (pos 1) [] content new
+lawful_rows : (rows : List Row) → AllByRecursion IsExecutedRow rows → AreGtids (set.from_list (map id_in rows))
+lawful_rows [] each q there = absurd (let out = set.contains-empty id_cmp q in cc)
+lawful_rows (row ∷ rows) each q there = elim (or_cases _ _ (sym (set.contains-insert id_cmp_total (set.from_list (map id_in rows)) (id_in row) q) ∙ there)) [
+  | inl here ↦ subst IsGtid (sym (ap id_in each.0.2) ∙ sym (id_cmp-same q (id_in row) (equal_is (id_cmp q (id_in row)) here))) each.0.3
+  | inr further ↦ lawful_rows rows each.1 q further
+]
+
+begun : (content : Content) (s : State) → IsFirstInside content s → IsMigrating (λ s. Unit {0}) (pos 1) content s
+begun content s was = record {
+  is_open = was.is_open;
+  inside = was.inside;
+  tables = tt;
+  meta_apart = was.meta_apart;
+  says = was.stands.says;
+  meta = was.stands.rules.meta;
+  held_apart = was.held_apart;
+  held = was.stands.rules.held;
+  rows = was.stands.rows;
+  lawful = subst AreGtids (sym was.stands.executed) (lawful_rows _ was.stands.rules.executed);
+  sound = was.sound;
+  beside = beside_unchanged s.committed s.now was.settled;
+}
+
+by_flag : (b : Bool) (P Q : Type 0) → b ≡ false → MatchBool b P Q → Q
+by_flag true P Q is h = absurd (cc)
+by_flag false P Q is h = h
+
+drops : (content : Content) (old new : State) (count : ℕ) → IsFirstInside content old → Executes drop_executed_text [] old new (Ok count) → IsMigrating (HasTables []) (pos 1) content new
 drops content old new count was h =
-    let w = runs_as drop_executed_text [] old new first_layout was.schema_is (DropTable 1) drop_is drop_plain count h in
-    let text = statement_of drop_executed_text (understood first_layout drop_executed_text) in
-    let emptied = went (subst (λ s. Does old.step_limit (mode_of old) [] (record old.now { schema = s }) text None (DropTable 1) (Ok (w.tally, new.now))) was.schema_is w.changed) in
+    let schema = old.now.schema in
+    let v = was.stands.laid_out in
+    let at = v.executed.at in
+    let known = runs_dropped schema at v.executed.found.by_name old new count refl h in
+    let w = runs_as drop_executed_text [] old new schema refl (DropTable at) (ap command_of known) (rw known (refl, refl)) count h in
+    let emptied = went (on_table old.step_limit (mode_of old) [] old.now at (executed_at schema) (λ task. Drops task (mode_of old) old.now.trees) (Ok (w.tally, new.now)) v.executed.found.by_index w.changed) in
     let uncounted = went emptied.2 in
     let tested = went uncounted.2 in
     let left = went tested.2 in
     let now : new.now ≡ left.0 = ap (λ (p : Tally × Database). p.1) (same_value left.2) in
-    let trees : uncounted.0 ≡ old.now.trees = same_value uncounted.1 ∙ same_value emptied.1 in
-    stays first_layout without_executed (pos 1) [] [] content old new was (w.shown.is_open, w.shown.mode ∙ was.inside, w.sound, w.shown.committed_is) (ap (λ (d : Database). d.schema) now ∙ left.1.0) tt
-    (ap (λ (d : Database). d.trees 0) now ∙ left.1.1.0 ∙ ap (λ (t : Trees). t 0) trees) (ap (λ (d : Database). d.trees 4) now ∙ left.1.1.1.0 ∙ ap (λ (t : Trees). t 4) trees)
+    let trees : uncounted.0 ≡ old.now.trees = same_value uncounted.1 ∙ same_value (by_flag _ _ _ (not_acted schema v) emptied.1) in
+    let is : new.now.schema ≡ without_table schema (executed_tree schema) = ap (λ (d : Database). d.schema) now ∙ left.1.0 in
+    let kept : KeepsRows (without_table schema (executed_tree schema)).tables old.now.trees new.now.trees =
+    subst₂ (KeepsRows (without_table schema (executed_tree schema)).tables) trees (sym (ap (λ (d : Database). d.trees) now)) left.1.1 in
+    let none : table_named old.committed.schema (codes "spans") ≡ None = subst (λ (d : Database). table_named d.schema (codes "spans") ≡ None) was.settled v.no_spans in
+    let own = own_found (own_names old.committed.schema) schema at (executed_at schema) v.executed.found (own_executed old.committed.schema none) in
+    let beside = beside_dropped old.committed old.now new.now (executed_tree schema) (beside_unchanged old.committed old.now was.settled) was.sound w.sound own is kept in
+    moves_on (λ s. Unit {0}) (HasTables []) (pos 1) content old new (begun content old was)
+    (w.shown.is_open, w.shown.mode ∙ was.inside, w.sound, subst (λ c. LiesBeside c new.now) (sym (w.shown.committed_is ∙ ap (λ b. cond b old.committed new.now) was.inside)) beside)
+    (record { base = without_table schema (executed_tree schema); cut = cut schema v; schema_is = is; empty = tt })
+    (ap (λ s. new.now.trees (meta_tree s)) is ∙ ap new.now.trees (meta_left schema v) ∙ rows_left schema v meta v.meta (meta_off schema v) old.now.trees new.now.trees kept)
+    (ap (λ s. new.now.trees (held_tree s)) is ∙ ap new.now.trees (held_left schema v) ∙ rows_left schema v held v.held (held_off schema v) old.now.trees new.now.trees kept)
 
-pub done_drop : (content : Content) (old new : State) (r : Result ℕ Error) → IsMigrating first_layout (pos 1) [] content old → ExecutesInside 0 drop_executed_text [] old new r
-    → OnOk r (IsMigrating without_executed (pos 1) [] content new)
+pub done_drop : (content : Content) (old new : State) (r : Result ℕ Error) → IsFirstInside content old → ExecutesInside 0 drop_executed_text [] old new r → OnOk r (IsMigrating (HasTables []) (pos 1) content new)
 done_drop content old new (Ok count) was h = drops content old new count was h.0
 done_drop content old new (Err e) was h = tt
 
 -- ---- making spans and follow
 
-pub done_spans : (content : Content) (old new : State) (r : Result ℕ Error) → IsMigrating without_executed (pos 1) [] content old → ExecutesInside 0 spans_text [] old new r
-    → OnOk r (IsMigrating migrated_spans (pos 1) (6 ∷ []) content new)
-done_spans content old new (Ok count) was h =
-    let it = creates without_executed spans_text spans spans_makes refl old new was.schema_is count h.0 in
-    stays without_executed migrated_spans (pos 1) [] (6 ∷ []) content old new was (it.3.shown.is_open, it.3.shown.mode ∙ was.inside, it.3.sound, it.3.shown.committed_is) it.0 (it.1, tt) it.2.0 it.2.1.0
+module _ (ts : List Table) (sql : List ℕ) (table : Table) (m : MakesTable sql table) (named : (schema : Schema) → list_any (same_name table.name) (own_names schema) ≡ true)
+    (counted : (base : Schema) → IsCut base → lacks_sequence (created (with_tables base ts) table) ≡ false) (has : (base : Schema) → IsCut base → HasMeta (with_tables base ts) × HasTable (with_tables base ts) held) where
+  makes : (content : Content) (old new : State) (count : ℕ) → IsMigrating (HasTables ts) (pos 1) content old → Executes sql [] old new (Ok count) → IsMigrating (HasTables (table ∷ ts)) (pos 1) content new
+  makes content old new count was h =
+      let t = was.tables in
+      let schema = with_tables t.base ts in
+      let it = creates schema sql table m (counted t.base t.cut) old new t.schema_is count h in
+      let there = has t.base t.cut in
+      let same : (x : Table) → HasTable schema x → new.now.trees (tree_named new.now.schema x.name) ≡ old.now.trees (tree_named old.now.schema x.name) = λ x hx.
+      ap (λ s. new.now.trees (tree_named s x.name)) it.0 ∙ ap new.now.trees (tree_still schema table x hx)
+      ∙ all_has (λ (u : Table). new.now.trees u.tree ≡ old.now.trees u.tree) schema.tables (record x { tree = tree_named schema x.name }) it.2 (has_index schema.tables hx.at (record x { tree = tree_named schema x.name }) hx.found.by_index)
+      ∙ ap (λ s. old.now.trees (tree_named s x.name)) (sym t.schema_is) in
+      moves_on (HasTables ts) (HasTables (table ∷ ts)) (pos 1) content old new was
+      (it.3.shown.is_open, it.3.shown.mode ∙ was.inside, it.3.sound, still_made schema table old new sql count t.schema_is was.inside was.beside was.sound (named old.committed.schema) it.0 it.2 it.3)
+      (record { base = t.base; cut = t.cut; schema_is = it.0; empty = (it.1, still_empty schema (trees_of t.base ts) old.now.trees new.now.trees it.2 (made_trees t.base ts) t.empty) })
+      (same meta there.0) (same held there.1)
+
+pub done_spans : (content : Content) (old new : State) (r : Result ℕ Error) → IsMigrating (HasTables []) (pos 1) content old → ExecutesInside 0 spans_text [] old new r → OnOk r (IsMigrating (HasTables made_spans) (pos 1) content new)
+done_spans content old new (Ok count) was h = makes [] spans_text spans spans_makes own_spans counted_base base_has content old new count was h.0
 done_spans content old new (Err e) was h = tt
 
-pub done_follow : (content : Content) (old new : State) (r : Result ℕ Error) → IsMigrating migrated_spans (pos 1) (6 ∷ []) content old → ExecutesInside 0 follow_text [] old new r
-    → OnOk r (IsMigrating migrated_layout (pos 1) (6 ∷ 8 ∷ []) content new)
+pub done_follow : (content : Content) (old new : State) (r : Result ℕ Error) → IsMigrating (HasTables made_spans) (pos 1) content old → ExecutesInside 0 follow_text [] old new r → OnOk r (IsMigrating HasBare (pos 1) content new)
 done_follow content old new (Ok count) was h =
-    let it = creates migrated_spans follow_text follow follow_makes refl old new was.schema_is count h.0 in
-    stays migrated_spans migrated_layout (pos 1) (6 ∷ []) (6 ∷ 8 ∷ []) content old new was (it.3.shown.is_open, it.3.shown.mode ∙ was.inside, it.3.sound, it.3.shown.committed_is) it.0 (it.2.1.1.0 ∙ was.empty.0, (it.1, tt)) it.2.0 it.2.1.0
+    let it = makes made_spans follow_text follow follow_makes own_follow counted_one one_has content old new count was h.0 in
+    moves_on (HasTables made_both) HasBare (pos 1) content new new it (it.is_open, it.inside, it.sound, it.beside) (bare it.tables.base it.tables.cut new it.tables.schema_is it.tables.empty) refl refl
 done_follow content old new (Err e) was h = tt
 
 -- ---- the row of meta
@@ -148,52 +213,55 @@ module _ (rows : List Row) (apart : HasRowids rows) (meta : AllByRecursion IsMet
 abbrev raised : ℤ → List ℕ → Row
 raised id key = Int id ∷ Text key ∷ Int (pos 2) ∷ []
 
-abbrev meta_table : Table
-meta_table = record meta { tree = 0 }
+news_raised : (db : Trees) (tree : ℕ) (id : ℤ) (key : List ℕ) (answer : List Row) → answer ≡ (Int id ∷ Int id ∷ Text key ∷ Int (pos 2) ∷ []) ∷ []
+    → (edit_of db (record meta { tree = tree }) (ids_of answer) Given 1 answer).news ≡ raised id key ∷ []
+news_raised db tree id key answer is = rw (is, cast_int id, cast_int (pos 2)) refl
 
-news_raised : (db : Trees) (id : ℤ) (key : List ℕ) (answer : List Row) → answer ≡ (Int id ∷ Int id ∷ Text key ∷ Int (pos 2) ∷ []) ∷ []
-    → (edit_of db meta_table (ids_of answer) Given 1 answer).news ≡ raised id key ∷ []
-news_raised db id key answer is = rw (is, cast_int id, cast_int (pos 2)) refl
-
-raises : (content : Content) (old new : State) (count : ℕ) → IsMigrating migrated_layout (pos 1) (6 ∷ 8 ∷ []) content old → Executes raise_text [] old new (Ok count)
-    → IsMigrating migrated_layout (pos 2) (6 ∷ 8 ∷ []) content new
+raises : (content : Content) (old new : State) (count : ℕ) → IsMigrating HasBare (pos 1) content old → Executes raise_text [] old new (Ok count) → IsMigrating HasBare (pos 2) content new
 raises content old new count was h =
+    let schema = old.now.schema in
+    let l = was.tables.laid_out in
+    let tree = meta_tree schema in
     let db = old.now.trees in
-    let rows = old.now.trees 0 in
-    let command = Update 0 (record { lets = []; body = raise_query }) in
-    let w = runs_as raise_text [] old new migrated_layout was.schema_is command raise_is raise_plain count h in
-    let text = statement_of raise_text (understood migrated_layout raise_text) in
-    let done = went (subst (λ s. Does old.step_limit (mode_of old) [] (record old.now { schema = s }) text None command (Ok (w.tally, new.now))) was.schema_is w.changed) in
+    let rows = meta_rows old.now in
+    let command = Update l.meta.at (record { lets = []; body = raise_query tree }) in
+    let w = runs_as raise_text [] old new schema refl command (raise_is schema l.meta.at tree l.meta.found) (raise_plain schema l.meta.at tree l.meta.found) count h in
+    let done = went (on_table old.step_limit (mode_of old) [] old.now l.meta.at (meta_at schema) (λ task. OnRows task (mode_of old) None command db) (Ok (w.tally, new.now)) l.meta.found.by_index w.changed) in
     let now = ap (λ (p : Tally × Database). p.1) (same_value (went (went done.2).2).2) in
     let queried = went done.1 in
     let written = went queried.2 in
     let trees : done.0.trees ≡ written.0 = ap (λ (it : Written). it.trees) (same_value written.2) in
-    let edit = edit_of db meta_table (ids_of queried.0) Given 1 queried.0 in
-    let step = one_step migrated_layout _ db written.0 edit refl written.1 in
-    let same : new.now.trees ≡ written.0 = ap (λ (d : Database). d.trees) now ∙ trees in
+    let edit = edit_of db (meta_at schema) (ids_of queried.0) Given 1 queried.0 in
+    let a : Applied schema old new edit = record {
+      step = subst (Applies schema Enforced db edit) (sym (ap (λ (d : Database). d.trees) now ∙ trees)) (one_step schema _ db written.0 edit (no_works schema tree (taken_by db edit) edit.news (inr was.tables.meta_free)) written.1);
+      schema_is = ap (λ (d : Database). d.schema) now;
+      shown = w.shown;
+      sound = w.sound;
+    } in
     let it = found rows was.meta_apart was.meta was.says in
     let r : Row = Int it.id ∷ Text it.key ∷ Int it.n ∷ [] in
     let one_row : queried.0 ≡ (Int it.id ∷ Int it.id ∷ Text it.key ∷ Int (pos 2) ∷ []) ∷ [] = one_permutation _ queried.0
     (subst (λ l. IsPermutation (map (λ r. column r 0 ∷ column r 0 ∷ column r 1 ∷ Int (pos 2) ∷ []) l) queried.0) it.alone
-    (answers says_layout [] is_layout layout_holds 0 (col 1 0 ∷ col 1 0 ∷ col 1 1 ∷ lit (Int (pos 2)) ∷ []) (overlay db []) Null queried.0 rows refl (queried.1.answer Null))) in
-    let news = news_raised db it.id it.key queried.0 one_row in
+    (answers says_layout [] is_layout layout_holds tree (col 1 0 ∷ col 1 0 ∷ col 1 1 ∷ lit (Int (pos 2)) ∷ []) (overlay db []) Null queried.0 rows (stored_read db tree l.meta.found.stored) (queried.1.answer Null))) in
+    let news = news_raised db tree it.id it.key queried.0 one_row in
     let left : without_all rows (ids_of queried.0) ≡ without_rowid it.id rows = ap (λ l. without_all rows (ids_of l)) one_row in
     let row = raised it.id it.key in
-    let free : is_taken (without_rowid it.id rows) row ≡ false = fresh_alone _ row (ap₂ are_fresh (sym left) (sym news) ∙ step.fresh) in
-    let meta_is : new.now.trees 0 ≡ put_row row (without_rowid it.id rows) = ap (λ (t : Trees). t 0) same ∙ step.rows ∙ ap₂ put_all left news in
+    let free : is_taken (without_rowid it.id rows) row ≡ false = fresh_alone _ row (ap₂ are_fresh (sym left) (sym news) ∙ a.step.fresh) in
+    let meta_is : meta_rows new.now ≡ put_row row (without_rowid it.id rows) = ap (λ s. new.now.trees (meta_tree s)) a.schema_is ∙ a.step.rows ∙ ap₂ put_all left news in
     let rest : without_rowid it.id rows ≡ filter (λ x. not (is_layout x)) rows = left_is is_layout it.id r rows was.meta_apart.apart it.alone (own_id it.id) in
     let first : filter is_layout (row ∷ without_rowid it.id rows) ≡ row ∷ [] = rw (it.named, rest, none_both is_layout rows) refl in
     let says : filter is_layout (put_row row (without_rowid it.id rows)) ≡ row ∷ [] = one_permutation row _
     (subst (λ l. IsPermutation l (filter is_layout (put_row row (without_rowid it.id rows)))) first (IsPermutation-filter is_layout (row ∷ without_rowid it.id rows) (put_row row (without_rowid it.id rows)) (put_among row (without_rowid it.id rows) free))) in
-    let held_is : new.now.trees 4 ≡ old.now.trees 4 = ap (λ (t : Trees). t 4) same ∙ step.tables.1.0 (λ e. absurd (omega arith)) in
+    let held_is : held_rows new.now ≡ held_rows old.now = same_rows old new (codes "held") a.schema_is (stays schema l.held.at (held_at schema) db new.now.trees edit l.held.found a.step (λ same. meta_held schema l (sym same))) in
     record {
       is_open = w.shown.is_open;
       inside = w.shown.mode ∙ was.inside;
-      schema_is = ap (λ (d : Database). d.schema) now;
-      empty = (
-        ap (λ (t : Trees). t 6) same ∙ step.tables.1.1.0 (λ e. absurd (omega arith)) ∙ was.empty.0,
-        (ap (λ (t : Trees). t 8) same ∙ step.tables.1.1.1.0 (λ e. absurd (omega arith)) ∙ was.empty.1.0, tt),
-      );
+      tables = record {
+        laid_out = subst IsLaidOut (sym a.schema_is) l;
+        spans = same_rows old new (codes "spans") a.schema_is (stays schema l.spans.at (spans_at schema) db new.now.trees edit l.spans.found a.step (λ same. meta_spans schema l (sym same))) ∙ was.tables.spans;
+        follow = same_rows old new (codes "follow") a.schema_is (stays schema l.follow.at (follow_at schema) db new.now.trees edit l.follow.found a.step (follow_meta schema l)) ∙ was.tables.follow;
+        meta_free = subst (λ (s : Schema). AllByRecursion (IsApart s (meta_tree s)) s.tables) (sym a.schema_is) was.tables.meta_free;
+      };
       meta_apart = rw meta_is (rowids_put row (without_rowid it.id rows) refl free (rowids_without it.id rows was.meta_apart));
       says = ap (λ l. map (λ (row : Row). column row 2) (filter is_layout l)) meta_is ∙ ap (map (λ (row : Row). column row 2)) says;
       meta = rw meta_is (all-put_row IsMetaRow row (without_rowid it.id rows) (it.id, it.key, pos 2, refl) (all_filtered IsMetaRow _ rows was.meta));
@@ -202,10 +270,9 @@ raises content old new count was h =
       rows = rw held_is was.rows;
       lawful = was.lawful;
       sound = w.sound;
-      begun = ap (λ (d : Database). d.schema) (w.shown.committed_is ∙ ap (λ b. cond b old.committed new.now) was.inside) ∙ was.begun;
+      beside = still_beside old new edit l.meta.at was.inside was.beside was.sound a l.meta.found (own_meta old.committed.schema);
     }
 
-pub done_raise : (content : Content) (old new : State) (r : Result ℕ Error) → IsMigrating migrated_layout (pos 1) (6 ∷ 8 ∷ []) content old → ExecutesInside 0 raise_text [] old new r
-    → OnOk r (IsMigrating migrated_layout (pos 2) (6 ∷ 8 ∷ []) content new)
+pub done_raise : (content : Content) (old new : State) (r : Result ℕ Error) → IsMigrating HasBare (pos 1) content old → ExecutesInside 0 raise_text [] old new r → OnOk r (IsMigrating HasBare (pos 2) content new)
 done_raise content old new (Ok count) was h = raises content old new count was h.0
 done_raise content old new (Err e) was h = tt

@@ -16,7 +16,6 @@ use Rattle.sqlite_trees.specs.Tree.{rowid}
 use Rattle.sqlite_trees.specs.View.{is_int}
 use Rattle.sqlite_trees.proofs.ListLemmas.{all-permutation}
 use Rattle.sqlite_schema.specs.declared.schema.Schema.{Schema}
-use Rattle.sqlite_schema.specs.Names.{same_name}
 use Rattle.sqlite_rules.specs.Edit.{id_in}
 use Rattle.sqlite_rules.proofs.TableLemmas.{int_is}
 use Rattle.sqlite.specs.Effect.{Database, IsDatabase}
@@ -26,10 +25,9 @@ use Rattle.gtid.specs.declared.span.Span.{Span}
 use Rattle.gtid.proofs.Sets.{id_cmp_total, id_cmp-same, tied}
 use Rattle.binlog.specs.Filter.{Names}
 use Rattle.store.specs.State.{Content}
-use Rattle.store.specs.Layout.{spans_at, first_layout, IsLaidOut, IsVacant}
-use Rattle.store.specs.Rows.{SaysLayout, StandsFor, StandsForFirst, KeepsRules, AreSpans, HasRowids, IsSpanRow, first_meta_rows, first_held_rows, executed_rows, follow_rows, held_rows, span_rows, bag_of, count, id_in as id_at, name_in, span, span_in, stored_span, shown_span, shown_spans, touches, blob_in, number_in}
+use Rattle.store.specs.Layout.{spans_at, IsFirstLaidOut, IsLaidOut, IsVacant}
+use Rattle.store.specs.Rows.{SaysLayout, StandsFor, StandsForFirst, KeepsRules, AreSpans, HasRowids, IsSpanRow, first_meta_rows, executed_rows, follow_rows, held_rows, span_rows, bag_of, count, id_in as id_at, name_in, span, span_in, stored_span, shown_span, shown_spans, touches, blob_in, number_in}
 use Rattle.store.specs.Entering.{IsStored, IsOf, IsDamaged, no_meta, no_layout, lacks_first, lacks_second, breaks_first, breaks_second, IsOther, IsKnown, blank, first, second, tables_of, has_any, has_first, has_second}
-use Rattle.store.proofs.Wholes.{first_has_meta}
 use Rattle.store.proofs.AnyWhole.{has_index}
 use Rattle.store.proofs.Known.{meta_there, none_meta, none_any, known_first, known_second}
 use Rattle.store.proofs.Readings.{row_lengths}
@@ -84,7 +82,7 @@ one_stored db n m a b (inr p) (inr q) = (p.0 ∙ sym q.0, same_content a b (p.1.
 
 pub stored_meta : (db : Database) (n : Names) (a : Content) → IsStored n db a → (tables_of db.schema).meta ≡ true
 stored_meta db n a (inl p) = meta_there db.schema (p.laid_out.meta)
-stored_meta db n a (inr p) = meta_there db.schema (first_has_meta db.schema p.1.laid_out)
+stored_meta db n a (inr p) = meta_there db.schema p.1.laid_out.meta
 
 pub blank_meta : (schema : Schema) → IsVacant schema → (tables_of schema).meta ≡ true → ⊥
 blank_meta schema vacant there = false≢true (sym (none_meta schema vacant) ∙ there)
@@ -92,9 +90,8 @@ blank_meta schema vacant there = false≢true (sym (none_meta schema vacant) ∙
 laid_second : (schema : Schema) → IsLaidOut schema → has_second (tables_of schema) ≡ true
 laid_second schema l = rw (l.held.found.by_name, l.spans.found.by_name, l.follow.found.by_name) refl
 
-first_first : has_first (tables_of first_layout) ≡ true
-unfolding same_name
-first_first = refl
+first_first : (schema : Schema) → IsFirstLaidOut schema → has_first (tables_of schema) ≡ true
+first_first schema l = rw (l.executed.found.by_name, l.held.found.by_name) refl
 
 pub one_of : (only : Names) (db : Database) (n m : Names) (a b : Content) → IsOf only n db a → IsOf only m db b → (n ≡ m) × (a ≡ b)
 one_of only db n m a b (inl p) (inl q) = (p.1 ∙ sym q.1, p.0.1 ∙ sym q.0.1)
@@ -176,7 +173,7 @@ not_damaged only db n a sound rowids (inr (inl p)) (lacks_second there says lack
 not_damaged only db n a sound rowids (inr (inl p)) (breaks_first there says off) = two_layouts (first_meta_rows db) says (says_second db n a p)
 not_damaged only db n a sound rowids (inr (inl p)) (breaks_second there says off) = off (rules_kept db n a sound (rowids p.laid_out) p)
 not_damaged only db n a sound rowids (inr (inr p)) (no_layout there off) = off (pos 1) p.1.says
-not_damaged only db n a sound rowids (inr (inr p)) (lacks_first there says lacks) = false≢true (sym lacks ∙ ap (λ s. has_first (tables_of s)) p.1.laid_out ∙ first_first)
+not_damaged only db n a sound rowids (inr (inr p)) (lacks_first there says lacks) = false≢true (sym lacks ∙ first_first db.schema p.1.laid_out)
 not_damaged only db n a sound rowids (inr (inr p)) (lacks_second there says lacks) = two_layouts (first_meta_rows db) p.1.says says
 not_damaged only db n a sound rowids (inr (inr p)) (breaks_first there says off) = off p.1.rules
 not_damaged only db n a sound rowids (inr (inr p)) (breaks_second there says off) = two_layouts (first_meta_rows db) p.1.says says
@@ -253,7 +250,7 @@ some_state db known any none sound alike = elim (cases_Bool (tables_of db.schema
     at_first : (tables_of db.schema).meta ≡ true → SaysLayout (pos 1) (first_meta_rows db) → ⊥
     at_first there says = elim (cases_Bool (has_first (tables_of db.schema))) [
       | inr lacks ↦ sound (lacks_first there says lacks)
-      | inl all ↦ sound (breaks_first there says (λ rules. none set.empty (record { executed = set.from_list (map id_at (executed_rows db)); rows = bag_of (count (first_held_rows db)) })
+      | inl all ↦ sound (breaks_first there says (λ rules. none set.empty (record { executed = set.from_list (map id_at (executed_rows db)); rows = bag_of (count (held_rows db)) })
           (inr (refl, record { laid_out = known_first db known says all; says = says; rules = rules; executed = refl; rows = refl }))))
     ]
 

@@ -2,9 +2,11 @@
 use Rattle.std.proofs.Common.{◌≡◌, inl, inr, ℕ, pos, IsTrue, Bool, refl, sym, ap, subst, subst₂, ◌∙◌}
 use Rattle.std.specs.List.{AllByRecursion}
 use Rattle.std.specs.Option.{option_map}
-use Rattle.std.specs.Prelude.{slice_get, find, ◌==◌, codes, List, unwrap_or, option_and_then, IfSome, ◌≢◌}
-use Rattle.std.specs.List.{position_from}
-use Rattle.sqlite_schema.specs.Names.{same_name}
+use Rattle.std.specs.Prelude.{slice_get, find, ◌==◌, ◌&&◌, not, is_some, false, None, map, codes, List, unwrap_or, option_and_then, IfSome, ◌≢◌}
+use Rattle.std.specs.List.{position_from, list_any}
+use Rattle.std.specs.FinSet as set
+use Rattle.sqlite_schema.specs.Names.{same_name, table_named}
+use Rattle.sqlite_catalog.specs.Change.{next_tree}
 use Rattle.sqlite_trees.specs.Tree.{Trees}
 use Rattle.sqlite_schema.specs.declared.schema.Schema.{Schema}
 use Rattle.sqlite_schema.specs.declared.schema.Table.{Table}
@@ -16,12 +18,12 @@ use Rattle.binlog.specs.Filter.{Names}
 use Rattle.store.specs.declared.fault.StoreFault.{StoreFault}
 use Rattle.store.specs.declared.fault.StoreFault.TheVariants.{NoSuchRow, CountFull, Database, Memory, Damaged, Layout, Broken, Follows}
 use Rattle.store.specs.State.{Content}
-use Rattle.store.specs.Layout.{IsLaidOut, IsFound, HasTable, IsApart, tree_named, meta, held, spans, follow, meta_tree, held_tree, spans_tree, follow_tree}
-use Rattle.store.specs.Rows.{StandsFor, SaysLayout, HasRowids, IsMetaRow, IsHeldRow, AreNames, AreSpans, span_rows, bag_of, count}
+use Rattle.store.specs.Layout.{IsLaidOut, IsFirstLaidOut, IsFound, HasTable, IsApart, IsNoParent, tree_named, meta, executed, held, spans, follow, meta_tree, executed_tree, held_tree, spans_tree, follow_tree}
+use Rattle.store.specs.Rows.{StandsFor, SaysLayout, HasRowids, IsMetaRow, IsHeldRow, IsExecutedRow, id_in, AreNames, AreSpans, span_rows, bag_of, count}
 use Rattle.store.specs.Apply.{AreOf, IsAtRest}
 use Rattle.store.specs.Entering.{IsOf, IsReady, IsWanted, IsTurned, IsLeft, MayEnter}
 use Rattle.store.specs.Faults.{IsFailure}
-use Rattle.store.proofs.SameSchema.{tables_again, vacant_again, first_again}
+use Rattle.store.proofs.SameSchema.{tables_again, next_again, vacant_again}
 use Rattle.store.proofs.OneState.{one_of, known_of, not_damaged, not_other}
 use Rattle.store.proofs.Entered.{weaken}
 
@@ -57,6 +59,25 @@ module _ (s u : Schema) (same : s.tables ≡ u.tables) where
     spans_free = free_again (codes "spans") l.spans_free;
   }
 
+  first_again : next_tree s ≡ next_tree u → IsFirstLaidOut s → IsFirstLaidOut u
+  first_again next l =
+      let none : (name : List ℕ) → table_named s name ≡ None → table_named u name ≡ None = λ name none. ap (λ ts. position_from (λ (t : Table). same_name t.name name) 0 ts) (sym same) ∙ none in
+      let unnamed : (name : List ℕ) → IsNoParent s name → IsNoParent u name = λ name all. subst (AllByRecursion (λ (t : Table). AllByRecursion (λ ref. same_name name ref.parent ≡ false) t.references)) same all in
+      record {
+        meta = has_again meta l.meta;
+        executed = has_again executed l.executed;
+        held = has_again held l.held;
+        no_spans = none (codes "spans") l.no_spans;
+        no_follow = none (codes "follow") l.no_follow;
+        alone = subst (λ n. AllByRecursion (λ (t : Table). t.tree ≡ n → t.name ≡ codes "executed") u.tables) (tree_again (codes "executed")) (subst (AllByRecursion (λ (t : Table). t.tree ≡ executed_tree s → t.name ≡ codes "executed")) same l.alone);
+        meta_free = free_again (codes "meta") l.meta_free;
+        held_free = free_again (codes "held") l.held_free;
+        executed_free = unnamed (codes "executed") l.executed_free;
+        spans_free = unnamed (codes "spans") l.spans_free;
+        counted = subst (λ (ts : List Table). (list_any (λ t. t.is_counted) ts && not (is_some (option_and_then (slice_get ts) (position_from (λ t. same_name t.name (codes "sqlite_sequence")) 0 ts)))) ≡ false) same l.counted;
+        room = rw (← next) l.room;
+      }
+
 module _ (s u : Schema) (trees : Trees) (same : s.tables ≡ u.tables) where
   meta_same : meta_tree s ≡ meta_tree u
   meta_same = tree_again s u same (codes "meta")
@@ -85,17 +106,20 @@ module _ (s u : Schema) (trees : Trees) (same : s.tables ≡ u.tables) where
   rowids_again h laid = subst (λ at. HasRowids (trees at)) spans_same (h (laid_again u s (sym same) laid))
 
 module _ (only names : Names) (content : Content) (trees : Trees) (s u : Schema) (p : IsSound s trees) (q : IsSound u trees) where
+  executed_same : executed_tree s ≡ executed_tree u
+  executed_same = tree_again s u (tables_again trees s u p q) (codes "executed")
+
   of_again : IsOf only names (record { schema = s; trees = trees }) content → IsOf only names (record { schema = u; trees = trees }) content
   of_again (inl h) = inl ((vacant_again trees s u p q h.0.0, h.0.1), h.1)
   of_again (inr (inl h)) = inr (inl (stands_again s u trees (tables_again trees s u p q) names content h))
   of_again (inr (inr h)) = inr (inr (
     h.0,
     record {
-      laid_out = first_again trees s u p q h.1.laid_out;
+      laid_out = first_again s u (tables_again trees s u p q) (next_again trees s u p q) h.1.laid_out;
       says = subst (λ at. SaysLayout (pos 1) (trees at)) (meta_same s u trees (tables_again trees s u p q)) h.1.says;
-      rules = record { meta = subst (λ at. AllByRecursion IsMetaRow (trees at)) (meta_same s u trees (tables_again trees s u p q)) h.1.rules.meta; executed = h.1.rules.executed; held = h.1.rules.held };
-      executed = h.1.executed;
-      rows = h.1.rows;
+      rules = record { meta = subst (λ at. AllByRecursion IsMetaRow (trees at)) (meta_same s u trees (tables_again trees s u p q)) h.1.rules.meta; executed = subst (λ at. AllByRecursion IsExecutedRow (trees at)) executed_same h.1.rules.executed; held = subst (λ at. AllByRecursion IsHeldRow (trees at)) (held_same s u trees (tables_again trees s u p q)) h.1.rules.held };
+      executed = h.1.executed ∙ ap (λ at. set.from_list (map id_in (trees at))) executed_same;
+      rows = h.1.rows ∙ ap (λ at. bag_of (count (trees at))) (held_same s u trees (tables_again trees s u p q));
     },
   ))
 

@@ -1,5 +1,5 @@
 -- What lies beside the tables of the store stays as it is.
-use Rattle.std.proofs.Common.{◌≡◌, ◌≢◌, ◌<◌, ◌+◌, ◌==◌, ◌&&◌, ◌||◌, not, inl, inr, ℕ, Bool, true, false, List, [], ◌∷◌, ◌++◌, filter, map, codes, append-nil, refl, sym, ap, subst, ◌∙◌, arith}
+use Rattle.std.proofs.Common.{None, ◌≡◌, ◌≢◌, ◌<◌, ◌+◌, ◌==◌, ◌&&◌, ◌||◌, not, inl, inr, ℕ, Bool, true, false, List, [], ◌∷◌, ◌++◌, filter, map, codes, append-nil, refl, sym, ap, subst, ◌∙◌, arith}
 use Rattle.std.specs.List.{AllByRecursion, list_any}
 use Rattle.std.specs.List.Sorted.{IsPermutation}
 use Rattle.std.proofs.lemmas.Bool.{eq-eqb, ne_eqb, false≢true}
@@ -11,7 +11,7 @@ use Rattle.sqlite_sql.specs.Catalog.{entry_of}
 use Rattle.sqlite_schema.specs.declared.schema.Table.{Table}
 use Rattle.sqlite_schema.specs.declared.schema.Index.{Index}
 use Rattle.sqlite_schema.specs.declared.schema.Schema.{Schema}
-use Rattle.sqlite_schema.specs.Names.{same_name}
+use Rattle.sqlite_schema.specs.Names.{same_name, table_named}
 use Rattle.sqlite_rules.specs.Lists.{Has}
 use Rattle.sqlite_rules.proofs.ListLemmas.{all_has, all_from, some_from, has_filtered}
 use Rattle.sqlite_catalog.specs.Listing.{IsIndexRow}
@@ -148,6 +148,11 @@ module _ (schema : Schema) where
   pub own_meta : list_any (same_name (codes "meta")) (own_names schema) ≡ true
   unfolding own_names same_name
   own_meta = refl
+
+  -- in layout 1
+  pub own_executed : table_named schema (codes "spans") ≡ None → list_any (same_name (codes "executed")) (own_names schema) ≡ true
+  unfolding own_names same_name
+  own_executed none = rw none refl
 
   pub own_held : list_any (same_name (codes "held")) (own_names schema) ≡ true
   unfolding own_names same_name

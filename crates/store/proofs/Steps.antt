@@ -12,8 +12,8 @@ use Rattle.gtid.specs.Identifier.{Ids}
 use Rattle.binlog.specs.Filter.{Names}
 use Rattle.store.specs.declared.fault.StoreFault.TheVariants.{NoSuchRow, CountFull, Database, Memory, Damaged, Layout, Broken, Follows}
 use Rattle.store.specs.State.{Content}
-use Rattle.store.specs.Layout.{IsLaidOut, first_layout}
-use Rattle.store.specs.Rows.{meta_rows, held_rows, span_rows, follow_rows, first_meta_rows, executed_rows, first_held_rows, IsHeldRow, IsExecutedRow, HasRowids, AreNames, AreSpans, StandsFor, StandsForFirst, id_in, bag_of, count}
+use Rattle.store.specs.Layout.{IsLaidOut, IsFirstLaidOut}
+use Rattle.store.specs.Rows.{meta_rows, held_rows, span_rows, follow_rows, first_meta_rows, executed_rows, IsHeldRow, IsExecutedRow, HasRowids, AreNames, AreSpans, StandsFor, StandsForFirst, id_in, bag_of, count}
 use Rattle.store.specs.Load.{StatesLayout, AsksAll, Rested, OnDamaged, IsLoaded, IsFirstLoaded}
 use Rattle.store.proofs.Keeps.{kept_unchanged, kept_then}
 
@@ -74,11 +74,11 @@ fault_by f back h = seen_by f (λ off o. off (back o)) h
 
 -- ---- What was loaded.
 
-pub first_loaded : (s t : State) (ids : Ids) → IsLive s → s.now.schema ≡ first_layout → s.now ≡ s.committed → StatesLayout (pos 1) (first_meta_rows s.now) → IsUnchanged s t
+pub first_loaded : (s t : State) (ids : Ids) → IsLive s → IsFirstLaidOut s.now.schema → s.now ≡ s.committed → StatesLayout (pos 1) (first_meta_rows s.now) → IsUnchanged s t
     → AllByRecursion IsExecutedRow (executed_rows s.now) × (ids ≡ set.from_list (map id_in (executed_rows s.now)))
-    → AllByRecursion IsHeldRow (first_held_rows s.now) × HasRowids (first_held_rows s.now) → IsFirstLoaded t ids
+    → AllByRecursion IsHeldRow (held_rows s.now) × HasRowids (held_rows s.now) → IsFirstLoaded t ids
 first_loaded s t ids live made settled meta same executed held =
-    let content : Content = record { executed = ids; rows = bag_of (count (first_held_rows s.now)) } in
+    let content : Content = record { executed = ids; rows = bag_of (count (held_rows s.now)) } in
     record {
       content = content;
       executed_is = refl;
@@ -86,7 +86,7 @@ first_loaded s t ids live made settled meta same executed held =
         is_open = same.0.is_open;
         settled = same.0.now_is ∙ settled ∙ sym same.0.committed_is;
         meta_apart = subst (λ (db : Db). HasRowids (first_meta_rows db)) (sym same.0.now_is) meta.apart;
-        held_apart = subst (λ (db : Db). HasRowids (first_held_rows db)) (sym same.0.now_is) held.1;
+        held_apart = subst (λ (db : Db). HasRowids (held_rows db)) (sym same.0.now_is) held.1;
         stands = subst (λ (db : Db). StandsForFirst db content) (sym same.0.now_is) (record {
           laid_out = made;
           says = meta.says;

@@ -11,7 +11,7 @@ use Rattle.store.specs.declared.fault.StoreFault.{StoreFault}
 use Rattle.store.specs.declared.fault.StoreFault.TheVariants.{Database as Db, Memory, Damaged, Layout, Follows}
 use Rattle.store.specs.declared.tables.Tables.{Tables}
 use Rattle.store.specs.State.{Content}
-use Rattle.store.specs.Layout.{IsVacant, first_layout, HasMeta, IsLaidOut}
+use Rattle.store.specs.Layout.{IsVacant, IsFirstLaidOut, HasMeta, IsLaidOut}
 use Rattle.store.specs.Beside.{LiesBeside}
 use Rattle.store.specs.Rows.{StandsFor, StandsForFirst, SaysLayout, KeepsRules, KeepsFirstRules, HasRowids, first_meta_rows, span_rows}
 use Rattle.store.specs.Apply.{IsAtRest, Rests}
@@ -41,11 +41,11 @@ has_second t = t.held && (t.spans && t.follow)
 abbrev pub has_any : Tables → Bool
 has_any t = t.meta || (t.executed || (t.held || (t.spans || t.follow)))
 
--- There is none of the tables; or there are those of layout 1 as they were made, and no others; or those of layout 2 among any
--- others; or not all tables of the layout that `meta` names are there. A table named `executed` may stand beside layout 2.
+-- There is none of the tables; or there are those of layout 1 among any others, or those of layout 2; or not all tables of the
+-- layout that `meta` names are there. A table named `executed` may stand beside layout 2.
 pub data IsKnown (db : Database) : Type 0 where
   blank : IsVacant db.schema → IsKnown db
-  first : db.schema ≡ first_layout → IsKnown db
+  first : IsFirstLaidOut db.schema → IsKnown db
   second : IsLaidOut db.schema → ((tables_of db.schema).executed ≡ true → ¬ SaysLayout (pos 1) (first_meta_rows db)) → IsKnown db
   lacking : HasMeta db.schema → (SaysLayout (pos 1) (first_meta_rows db) → has_first (tables_of db.schema) ≡ false) → (SaysLayout (pos 2) (first_meta_rows db) → has_second (tables_of db.schema) ≡ false) → IsKnown db
 

@@ -17,7 +17,7 @@ use Rattle.sqlite_schema.specs.declared.schema.Kind.{Kind}
 use Rattle.sqlite_schema.specs.declared.schema.Kind.TheVariants.{Integer, Text, Any}
 use Rattle.sqlite_schema.specs.Names.{same_name, table_named}
 use Rattle.sqlite_schema.specs.Rules.{parent_key}
-use Rattle.sqlite_catalog.specs.Change.{created, next_tree}
+use Rattle.sqlite_catalog.specs.Change.{next_tree}
 use Rattle.sqlite.specs.Does.{lacks_sequence}
 
 -- ---- the texts that make the tables
@@ -95,6 +95,10 @@ spans_tree schema = tree_named schema (codes "spans")
 abbrev pub follow_tree : Schema → ℕ
 follow_tree schema = tree_named schema (codes "follow")
 
+-- of layout 1
+abbrev pub executed_tree : Schema → ℕ
+executed_tree schema = tree_named schema (codes "executed")
+
 abbrev pub meta_at : Schema → Table
 meta_at schema = record meta { tree = meta_tree schema }
 
@@ -106,6 +110,9 @@ spans_at schema = record spans { tree = spans_tree schema }
 
 abbrev pub follow_at : Schema → Table
 follow_at schema = record follow { tree = follow_tree schema }
+
+abbrev pub executed_at : Schema → Table
+executed_at schema = record executed { tree = executed_tree schema }
 
 -- The name of the table, its index in the list and its tree each find the table.
 pub record IsFound (schema : Schema) (at : ℕ) (table : Table) : Type 0 where
@@ -135,6 +142,10 @@ pub record IsLaidOut (schema : Schema) : Type 0 where
   pub held_free : AllByRecursion (IsApart schema (held_tree schema)) schema.tables
   pub spans_free : AllByRecursion (IsApart schema (spans_tree schema)) schema.tables
 
+-- No table has a reference that names this table.
+abbrev pub IsNoParent : Schema → List ℕ → Type 0
+IsNoParent schema name = AllByRecursion (λ t. AllByRecursion (λ ref. same_name name ref.parent ≡ false) t.references) schema.tables
+
 -- The schema has no table of either layout, and the tables of layout 2 can be made beside its own: no reference names held
 -- or spans, AUTOINCREMENT has its counters if a table has it, and there are trees for four tables and their indexes.
 pub record IsVacant (schema : Schema) : Type 0 where
@@ -143,17 +154,27 @@ pub record IsVacant (schema : Schema) : Type 0 where
   pub no_held : table_named schema (codes "held") ≡ None
   pub no_spans : table_named schema (codes "spans") ≡ None
   pub no_follow : table_named schema (codes "follow") ≡ None
-  pub held_free : AllByRecursion (λ t. AllByRecursion (λ ref. same_name (codes "held") ref.parent ≡ false) t.references) schema.tables
-  pub spans_free : AllByRecursion (λ t. AllByRecursion (λ ref. same_name (codes "spans") ref.parent ≡ false) t.references) schema.tables
+  pub held_free : IsNoParent schema (codes "held")
+  pub spans_free : IsNoParent schema (codes "spans")
   pub counted : lacks_sequence schema ≡ false
   pub room : next_tree schema + 8 ≤ 2 ^ 31
 
-abbrev pub no_schema : Schema
-no_schema = record { tables = []; indexes = []; views = [] }
-
--- the tables of layout 1, as they were made
-abbrev pub first_layout : Schema
-first_layout = created (created (created no_schema meta) executed) held
+-- The schema has the tables of layout 1 among any others, none of which is named spans or follow or has the tree of executed.
+-- No table refers to meta or held, and no reference names executed or spans. AUTOINCREMENT has its counters if a table has it, and
+-- there are trees for two tables and their indexes.
+pub record IsFirstLaidOut (schema : Schema) : Type 0 where
+  pub meta : HasMeta schema
+  pub executed : HasTable schema executed
+  pub held : HasTable schema held
+  pub no_spans : table_named schema (codes "spans") ≡ None
+  pub no_follow : table_named schema (codes "follow") ≡ None
+  pub alone : AllByRecursion (λ t. t.tree ≡ executed_tree schema → t.name ≡ codes "executed") schema.tables
+  pub meta_free : AllByRecursion (IsApart schema (meta_tree schema)) schema.tables
+  pub held_free : AllByRecursion (IsApart schema (held_tree schema)) schema.tables
+  pub executed_free : IsNoParent schema (codes "executed")
+  pub spans_free : IsNoParent schema (codes "spans")
+  pub counted : lacks_sequence schema ≡ false
+  pub room : next_tree schema + 4 ≤ 2 ^ 31
 
 -- ---- the statements on one row of held
 

@@ -18,7 +18,7 @@ use Rattle.gather.specs.Image.{IsImage, image}
 use Rattle.store.specs.declared.held_rows.RowKey.{RowKey}
 use Rattle.store.specs.State.{TableRow, Bag, Content, has_image}
 use Rattle.store.specs.Take.{most}
-use Rattle.store.specs.Layout.{IsLaidOut, first_layout, meta_tree, held_tree, spans_tree, follow_tree}
+use Rattle.store.specs.Layout.{IsLaidOut, IsFirstLaidOut, meta_tree, executed_tree, held_tree, spans_tree, follow_tree}
 
 -- ---- The tables.
 
@@ -230,10 +230,7 @@ abbrev pub first_meta_rows : Database → List Row
 first_meta_rows db = meta_rows db
 
 abbrev pub executed_rows : Database → List Row
-executed_rows db = db.trees 2
-
-abbrev pub first_held_rows : Database → List Row
-first_held_rows db = db.trees 4
+executed_rows db = db.trees (executed_tree db.schema)
 
 -- a row of executed: a rowid, and the source and the number of a transaction
 abbrev pub IsExecutedRow : Row → Type 0
@@ -246,12 +243,12 @@ id_in row = (blob_in (column row 1), number_in (column row 2))
 pub record KeepsFirstRules (db : Database) : Type 0 where
   pub meta : AllByRecursion IsMetaRow (first_meta_rows db)
   pub executed : AllByRecursion IsExecutedRow (executed_rows db)
-  pub held : AllByRecursion IsHeldRow (first_held_rows db)
+  pub held : AllByRecursion IsHeldRow (held_rows db)
 
 -- The database is of layout 1, its rows keep its rules, and this is what they stand for.
 pub record StandsForFirst (db : Database) (content : Content) : Type 0 where
-  pub laid_out : db.schema ≡ first_layout
+  pub laid_out : IsFirstLaidOut db.schema
   pub says : SaysLayout (pos 1) (first_meta_rows db)
   pub rules : KeepsFirstRules db
   pub executed : content.executed ≡ set.from_list (map id_in (executed_rows db))
-  pub rows : content.rows ≡ bag_of (count (first_held_rows db))
+  pub rows : content.rows ≡ bag_of (count (held_rows db))

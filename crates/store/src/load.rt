@@ -6,7 +6,7 @@ ghost use Rattle.std.specs.FinSet as set;
 ghost use Rattle.sqlite.specs.State.{HasCleanDisk, IsUnchanged, Survives};
 ghost use Rattle.sqlite.specs.Held.{state};
 ghost use Rattle.store.specs.Inside.{WasOpen};
-ghost use Rattle.store.specs.Layout.{HasMeta, IsLaidOut, first_layout};
+ghost use Rattle.store.specs.Layout.{HasMeta, IsLaidOut, IsFirstLaidOut};
 ghost use Rattle.store.specs.Rows.{meta_rows, first_meta_rows, HasRowids, IsHeldRow, IsFollowRow, IsSpanRow, IsExecutedRow, AreNames, AreSpans, KeepsRules, KeepsFirstRules, touches, span_in, id_in};
 ghost use Rattle.store.specs.Judge.{IsMeta};
 ghost use Rattle.store.specs.Load.{StatesLayout, AsksAll, Ascends, by_order, Rested, OnSeen, Judges, IsLoadFault, all_held_text, all_spans_text, all_follow_text, all_executed_text, IsLoaded, IsFirstLoaded};
@@ -159,11 +159,11 @@ pub(crate) fn load_first<S: Alter>(
 ) -> Result<GtidSet, StoreFault>
     requires { conn.old.in_transaction ≡ false }
     ensures autocommit { conn.new.in_transaction ≡ false }
-    ensures loads { HasCleanDisk (state S.Store conn.new) → (state S.Store conn.old).now.schema ≡ first_layout → (state S.Store conn.old).now ≡ (state S.Store conn.old).committed → StatesLayout (pos 1) (first_meta_rows (state S.Store conn.old).now) → Judges result (IsFirstLoaded (state S.Store conn.new)) (KeepsFirstRules (state S.Store conn.old).now) }
-    ensures same { HasCleanDisk (state S.Store conn.new) → (state S.Store conn.old).now.schema ≡ first_layout → OnSeen result (IsUnchanged (state S.Store conn.old) (state S.Store conn.new)) }
-    ensures rested { HasCleanDisk (state S.Store conn.new) → (state S.Store conn.old).now.schema ≡ first_layout → Rested (state S.Store conn.old) (state S.Store conn.new) }
+    ensures loads { HasCleanDisk (state S.Store conn.new) → IsFirstLaidOut (state S.Store conn.old).now.schema → (state S.Store conn.old).now ≡ (state S.Store conn.old).committed → StatesLayout (pos 1) (first_meta_rows (state S.Store conn.old).now) → Judges result (IsFirstLoaded (state S.Store conn.new)) (KeepsFirstRules (state S.Store conn.old).now) }
+    ensures same { HasCleanDisk (state S.Store conn.new) → IsFirstLaidOut (state S.Store conn.old).now.schema → OnSeen result (IsUnchanged (state S.Store conn.old) (state S.Store conn.new)) }
+    ensures rested { HasCleanDisk (state S.Store conn.new) → IsFirstLaidOut (state S.Store conn.old).now.schema → Rested (state S.Store conn.old) (state S.Store conn.new) }
     ensures lives { Survives (state S.Store conn.old) (state S.Store conn.new) (λ _. Unit {0}) }
-    ensures crash { (state S.Store conn.old).now.schema ≡ first_layout → Survives (state S.Store conn.old) (state S.Store conn.new) (λ _. ⊥) }
+    ensures crash { IsFirstLaidOut (state S.Store conn.old).now.schema → Survives (state S.Store conn.old) (state S.Store conn.new) (λ _. ⊥) }
     ensures fault { IfErr result IsLoadFault }
 {
     // For the prover: what the connection shows is a database. The call does nothing at run time.

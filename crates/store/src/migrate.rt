@@ -1,16 +1,15 @@
 //! Migration from layout 1 to layout 2.
 
-ghost use Rattle.std.specs.Prelude.{◌≡◌, false, pos, [], ◌∷◌, OnOk, OnErr};
+ghost use Rattle.std.specs.Prelude.{◌≡◌, false, pos, [], OnOk, OnErr};
 ghost use Rattle.sqlite.specs.State.{HasCleanDisk, Survives, KeepsCommit};
 ghost use Rattle.sqlite.specs.Held.{state};
 ghost use Rattle.store.specs.State.{Content};
-ghost use Rattle.store.specs.Layout.{first_layout};
 ghost use Rattle.store.specs.Inside.{IsWorking};
 ghost use Rattle.store.specs.Beside.{LiesBeside};
 ghost use Rattle.store.specs.Apply.{IsAtRest, Rests};
 ghost use Rattle.store.specs.Open.{all, IsFirstAtRest, MayMigrate};
 ghost use Rattle.store.specs.Making.{HasMade};
-ghost use Rattle.store.specs.Migrating.{without_executed, migrated_spans, migrated_layout, IsFirstInside, IsMigrating};
+ghost use Rattle.store.specs.Migrating.{made_spans, HasTables, HasBare, IsFirstInside, IsMigrating};
 
 use crate::span_lists::add_all;
 use gtid::GtidSet;
@@ -18,8 +17,8 @@ use sqlite::{Alter, Connection, Error, Transaction};
 
 fn drop_executed<S: Alter>(tx: &mut Transaction<'_, S>) -> Result<usize, Error>
     ensures same_reference { tx.new.conn.ghost_name ≡ tx.old.conn.ghost_name }
-    ensures migrated { HasCleanDisk (state S.Store tx.new.conn.now) → (content : Content) → IsMigrating first_layout (pos 1) [] content (state S.Store tx.old.conn.now) → OnOk result (IsMigrating without_executed (pos 1) [] content (state S.Store tx.new.conn.now)) }
-    ensures kept { HasCleanDisk (state S.Store tx.new.conn.now) → (content : Content) → IsMigrating first_layout (pos 1) [] content (state S.Store tx.old.conn.now) → KeepsCommit (state S.Store tx.old.conn.now) (state S.Store tx.new.conn.now) }
+    ensures migrated { HasCleanDisk (state S.Store tx.new.conn.now) → (content : Content) → IsFirstInside content (state S.Store tx.old.conn.now) → OnOk result (IsMigrating (HasTables []) (pos 1) content (state S.Store tx.new.conn.now)) }
+    ensures kept { HasCleanDisk (state S.Store tx.new.conn.now) → (content : Content) → IsFirstInside content (state S.Store tx.old.conn.now) → KeepsCommit (state S.Store tx.old.conn.now) (state S.Store tx.new.conn.now) }
     ensures survives { Survives (state S.Store tx.old.conn.now) (state S.Store tx.new.conn.now) (λ _. ⊥) }
 {
     tx.execute("DROP TABLE executed", &[])
@@ -27,8 +26,8 @@ fn drop_executed<S: Alter>(tx: &mut Transaction<'_, S>) -> Result<usize, Error>
 
 fn make_spans<S: Alter>(tx: &mut Transaction<'_, S>) -> Result<usize, Error>
     ensures same_reference { tx.new.conn.ghost_name ≡ tx.old.conn.ghost_name }
-    ensures migrated { HasCleanDisk (state S.Store tx.new.conn.now) → (content : Content) → IsMigrating without_executed (pos 1) [] content (state S.Store tx.old.conn.now) → OnOk result (IsMigrating migrated_spans (pos 1) (6 ∷ []) content (state S.Store tx.new.conn.now)) }
-    ensures kept { HasCleanDisk (state S.Store tx.new.conn.now) → (content : Content) → IsMigrating without_executed (pos 1) [] content (state S.Store tx.old.conn.now) → KeepsCommit (state S.Store tx.old.conn.now) (state S.Store tx.new.conn.now) }
+    ensures migrated { HasCleanDisk (state S.Store tx.new.conn.now) → (content : Content) → IsMigrating (HasTables []) (pos 1) content (state S.Store tx.old.conn.now) → OnOk result (IsMigrating (HasTables made_spans) (pos 1) content (state S.Store tx.new.conn.now)) }
+    ensures kept { HasCleanDisk (state S.Store tx.new.conn.now) → (content : Content) → IsMigrating (HasTables []) (pos 1) content (state S.Store tx.old.conn.now) → KeepsCommit (state S.Store tx.old.conn.now) (state S.Store tx.new.conn.now) }
     ensures survives { Survives (state S.Store tx.old.conn.now) (state S.Store tx.new.conn.now) (λ _. ⊥) }
 {
     tx.execute(
@@ -39,8 +38,8 @@ fn make_spans<S: Alter>(tx: &mut Transaction<'_, S>) -> Result<usize, Error>
 
 fn make_follow<S: Alter>(tx: &mut Transaction<'_, S>) -> Result<usize, Error>
     ensures same_reference { tx.new.conn.ghost_name ≡ tx.old.conn.ghost_name }
-    ensures migrated { HasCleanDisk (state S.Store tx.new.conn.now) → (content : Content) → IsMigrating migrated_spans (pos 1) (6 ∷ []) content (state S.Store tx.old.conn.now) → OnOk result (IsMigrating migrated_layout (pos 1) (6 ∷ 8 ∷ []) content (state S.Store tx.new.conn.now)) }
-    ensures kept { HasCleanDisk (state S.Store tx.new.conn.now) → (content : Content) → IsMigrating migrated_spans (pos 1) (6 ∷ []) content (state S.Store tx.old.conn.now) → KeepsCommit (state S.Store tx.old.conn.now) (state S.Store tx.new.conn.now) }
+    ensures migrated { HasCleanDisk (state S.Store tx.new.conn.now) → (content : Content) → IsMigrating (HasTables made_spans) (pos 1) content (state S.Store tx.old.conn.now) → OnOk result (IsMigrating HasBare (pos 1) content (state S.Store tx.new.conn.now)) }
+    ensures kept { HasCleanDisk (state S.Store tx.new.conn.now) → (content : Content) → IsMigrating (HasTables made_spans) (pos 1) content (state S.Store tx.old.conn.now) → KeepsCommit (state S.Store tx.old.conn.now) (state S.Store tx.new.conn.now) }
     ensures survives { Survives (state S.Store tx.old.conn.now) (state S.Store tx.new.conn.now) (λ _. ⊥) }
 {
     tx.execute(
@@ -52,8 +51,8 @@ fn make_follow<S: Alter>(tx: &mut Transaction<'_, S>) -> Result<usize, Error>
 /// Records that the tables have layout 2. Other rows of `meta` stay.
 fn raise_layout<S: Alter>(tx: &mut Transaction<'_, S>) -> Result<usize, Error>
     ensures same_reference { tx.new.conn.ghost_name ≡ tx.old.conn.ghost_name }
-    ensures migrated { HasCleanDisk (state S.Store tx.new.conn.now) → (content : Content) → IsMigrating migrated_layout (pos 1) (6 ∷ 8 ∷ []) content (state S.Store tx.old.conn.now) → OnOk result (IsMigrating migrated_layout (pos 2) (6 ∷ 8 ∷ []) content (state S.Store tx.new.conn.now)) }
-    ensures kept { HasCleanDisk (state S.Store tx.new.conn.now) → (content : Content) → IsMigrating migrated_layout (pos 1) (6 ∷ 8 ∷ []) content (state S.Store tx.old.conn.now) → KeepsCommit (state S.Store tx.old.conn.now) (state S.Store tx.new.conn.now) }
+    ensures migrated { HasCleanDisk (state S.Store tx.new.conn.now) → (content : Content) → IsMigrating HasBare (pos 1) content (state S.Store tx.old.conn.now) → OnOk result (IsMigrating HasBare (pos 2) content (state S.Store tx.new.conn.now)) }
+    ensures kept { HasCleanDisk (state S.Store tx.new.conn.now) → (content : Content) → IsMigrating HasBare (pos 1) content (state S.Store tx.old.conn.now) → KeepsCommit (state S.Store tx.old.conn.now) (state S.Store tx.new.conn.now) }
     ensures survives { Survives (state S.Store tx.old.conn.now) (state S.Store tx.new.conn.now) (λ _. ⊥) }
 {
     tx.execute("UPDATE meta SET v = 2 WHERE k = 'layout'", &[])
@@ -62,8 +61,8 @@ fn raise_layout<S: Alter>(tx: &mut Transaction<'_, S>) -> Result<usize, Error>
 /// Changes the tables to those of layout 2, without spans.
 fn change_tables<S: Alter>(tx: &mut Transaction<'_, S>) -> Result<(), Error>
     ensures same_reference { tx.new.conn.ghost_name ≡ tx.old.conn.ghost_name }
-    ensures migrated { HasCleanDisk (state S.Store tx.new.conn.now) → (content : Content) → IsMigrating first_layout (pos 1) [] content (state S.Store tx.old.conn.now) → OnOk result (IsMigrating migrated_layout (pos 2) (6 ∷ 8 ∷ []) content (state S.Store tx.new.conn.now)) }
-    ensures kept { HasCleanDisk (state S.Store tx.new.conn.now) → (content : Content) → IsMigrating first_layout (pos 1) [] content (state S.Store tx.old.conn.now) → KeepsCommit (state S.Store tx.old.conn.now) (state S.Store tx.new.conn.now) }
+    ensures migrated { HasCleanDisk (state S.Store tx.new.conn.now) → (content : Content) → IsFirstInside content (state S.Store tx.old.conn.now) → OnOk result (IsMigrating HasBare (pos 2) content (state S.Store tx.new.conn.now)) }
+    ensures kept { HasCleanDisk (state S.Store tx.new.conn.now) → (content : Content) → IsFirstInside content (state S.Store tx.old.conn.now) → KeepsCommit (state S.Store tx.old.conn.now) (state S.Store tx.new.conn.now) }
     ensures survives { Survives (state S.Store tx.old.conn.now) (state S.Store tx.new.conn.now) (λ _. ⊥) }
 {
     drop_executed(tx)?;
