@@ -10,7 +10,7 @@ ghost use Rattle.binlog.specs.declared.fault.EventFaultKind.TheVariants.{Memory}
 use crate::bitmap::{is_set, write_bitmap};
 use crate::cell::{Cell, OwnedCell};
 use crate::column::kind::ColumnType;
-use crate::column::value::{read_value, shape_of, value_fits, write_value};
+use crate::column::value::{read_value, shape_of, value_end, value_fits, write_value};
 use crate::fault::EventFault;
 use std::marker::Model;
 
@@ -61,6 +61,7 @@ impl<'a> Model for Cells<'a> {
 impl<'a> Row<'a> {
     /// Reads the row at the front of the bytes, and returns it with the number of bytes that it takes. If its bitmap,
     /// or the length or the bytes of a value, does not fit, the error is the offset of that part.
+    #[inline(always)]
     pub(crate) fn read(types: &'a [ColumnType], bytes: &'a [u8]) -> Result<(Row<'a>, usize), usize>
         ensures found { IfOk result (λ read. IsRow (kinds types.now) read.0 (take read.1 bytes.now)) }
         ensures within { IfOk result (λ read. read.1 ≤ length bytes.now) }
@@ -97,6 +98,7 @@ impl<'a> Iterator for Cells<'a> {
 
     ghost remaining = { item_count (λ rest. rest) };
 
+    #[inline(always)]
     fn next(&mut self) -> Option<Cell<'a>> {
         let column = *self.types.get(self.index)?;
         if is_set(self.bitmap, self.index) {
@@ -126,8 +128,8 @@ fn row_end(types: &[ColumnType], bytes: &[u8]) -> Result<usize, usize>
         if is_set(bitmap, i) {
             continue;
         }
-        match read_value(shape_of(types[i]), &bytes[place..]) {
-            Ok((_, size)) => place += size,
+        match value_end(shape_of(types[i]), &bytes[place..]) {
+            Ok(size) => place += size,
             Err(at) => return Err(place + at),
         }
     }
