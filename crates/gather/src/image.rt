@@ -74,6 +74,7 @@ impl Image {
 
     /// The image of a row. It is written into `scratch`, whose room is used again for the next one, and copied from
     /// there, so that it is one allocation of its size. The only error is `Memory`.
+    #[inline(always)]
     pub(crate) fn of(
         alloc: Global,
         row: &Row<'_>,

@@ -44,6 +44,7 @@ pub(crate) fn write_cells(cells: &[Cell<'_>], out: &mut Vec<u8>) -> Result<(), G
 }
 
 /// Writes the image of a row, or a part of it, in place of what the vector holds.
+#[inline(always)]
 pub(crate) fn write_row(row: &Row<'_>, out: &mut Vec<u8>) -> Result<(), GatherFault>
     requires { HasImage row.now }
     ensures ok { OnOk result (out.new.items ≡ image row.now) }
