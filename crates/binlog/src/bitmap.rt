@@ -1,7 +1,7 @@
 //! Bitmaps of columns, the lowest bit of each byte first. MySQL Source Documentation, "Binlog Event", the pages
 //! `binary_log::Table_map_event` and `binary_log::Rows_event`.
 
-ghost use Rattle.std.specs.Prelude.{◌≡◌, ◌≤◌, ◌++◌, nat_lt, length, take, OnOk, OnErr, Err, ◌*◌, false, map, slice_index_or, ◌<◌, ◌+◌, vec_len, vec_capacity};
+ghost use Rattle.std.specs.Prelude.{◌≡◌, ℕ, ◌≤◌, ◌++◌, nat_lt, length, take, OnOk, OnErr, Err, ◌*◌, false, map, slice_index_or, ◌<◌, ◌+◌, vec_len, vec_capacity};
 ghost use Rattle.binlog.specs.Row.{is_set};
 ghost use Rattle.binlog.specs.RowsWritten.{bits_number, digit, bitmap_byte, bitmap_bytes};
 ghost use Rattle.binlog.specs.Writing.{full_bitmap};
@@ -19,6 +19,18 @@ pub(crate) fn is_set(bitmap: &[u8], i: usize) -> bool
         Some(byte) => (byte >> (i % 8)) % 2 == 1,
         None => false,
     }
+}
+
+/// Whether a bit of a bitmap is set.
+pub(crate) fn has_set(bitmap: &[u8]) -> bool
+    ensures { (i : ℕ) → result ≡ false → is_set bitmap.now i ≡ false }
+{
+    for byte in bitmap {
+        if *byte != 0 {
+            return true;
+        }
+    }
+    false
 }
 
 /// Appends a bitmap of n bits, all set, or a part of it. The unused bits of its last byte are 0.

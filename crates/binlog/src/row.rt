@@ -1,16 +1,16 @@
 //! Rows. MySQL Source Documentation, "Binlog Event", the page `binary_log::Rows_event`.
 
-ghost use Rattle.std.specs.Prelude.{◌≡◌, ℕ, ◌≤◌, ◌++◌, List, length, take, IfOk, IfErr, MatchResult, Err, IsTrue, OnOk, OnErr, ◌<◌, ◌+◌, vec_len, vec_capacity};
+ghost use Rattle.std.specs.Prelude.{◌≡◌, ℕ, false, ◌≤◌, ◌++◌, List, length, take, IfOk, IfErr, MatchResult, Err, IsTrue, OnOk, OnErr, ◌<◌, ◌+◌, vec_len, vec_capacity};
 ghost use Rattle.std.specs.Iterator.{YieldsFirstBy, item_count};
 ghost use Rattle.binlog.specs.Cell.{CellValue, cell_value, owned_values};
 ghost use Rattle.binlog.specs.Row.{kinds, is_set, IsRow, row_end};
 ghost use Rattle.binlog.specs.RowsWritten.{value_fits, row_fits, values_bytes, row_bytes};
 ghost use Rattle.binlog.specs.declared.fault.EventFaultKind.TheVariants.{Memory};
 
-use crate::bitmap::{is_set, write_bitmap};
+use crate::bitmap::{has_set, is_set, write_bitmap};
 use crate::cell::{Cell, OwnedCell};
 use crate::column::kind::ColumnType;
-use crate::column::value::{read_value, shape_of, value_fits, write_value};
+use crate::column::value::{read_value, shape_of, value_end, value_fits, write_value};
 use crate::fault::EventFault;
 use std::marker::Model;
 
@@ -41,10 +41,13 @@ impl<'a> Model for Row<'a> {
 pub struct Cells<'a> {
     types: &'a [ColumnType],
     bitmap: &'a [u8],
+    /// Whether a cell is null.
+    some_null: bool,
     /// The index of the next column.
     index: usize,
     /// The values from the next column on.
     values: &'a [u8],
+    ghost nulls: { (i : ℕ) → some_null ≡ false → is_set bitmap.now i ≡ false },
 }
 
 impl<'a> Model for Cells<'a> {
@@ -61,6 +64,7 @@ impl<'a> Model for Cells<'a> {
 impl<'a> Row<'a> {
     /// Reads the row at the front of the bytes, and returns it with the number of bytes that it takes. If its bitmap,
     /// or the length or the bytes of a value, does not fit, the error is the offset of that part.
+    #[inline(always)]
     pub(crate) fn read(types: &'a [ColumnType], bytes: &'a [u8]) -> Result<(Row<'a>, usize), usize>
         ensures found { IfOk result (λ read. IsRow (kinds types.now) read.0 (take read.1 bytes.now)) }
         ensures within { IfOk result (λ read. read.1 ≤ length bytes.now) }
@@ -84,6 +88,7 @@ impl<'a> Row<'a> {
         Cells {
             types: self.types,
             bitmap: self.bitmap,
+            some_null: has_set(self.bitmap),
             index: 0,
             values: self.values,
         }
@@ -97,9 +102,10 @@ impl<'a> Iterator for Cells<'a> {
 
     ghost remaining = { item_count (λ rest. rest) };
 
+    #[inline(always)]
     fn next(&mut self) -> Option<Cell<'a>> {
         let column = *self.types.get(self.index)?;
-        if is_set(self.bitmap, self.index) {
+        if is_null(self.some_null, self.bitmap, self.index) {
             self.index += 1;
             return Some(Cell::Null);
         }
@@ -121,17 +127,30 @@ fn row_end(types: &[ColumnType], bytes: &[u8]) -> Result<usize, usize>
         return Err(0);
     }
     let bitmap = &bytes[..size];
+    let some_null = has_set(bitmap);
     let mut place = size;
     for i in 0..types.len() {
-        if is_set(bitmap, i) {
+        if is_null(some_null, bitmap, i) {
             continue;
         }
-        match read_value(shape_of(types[i]), &bytes[place..]) {
-            Ok((_, size)) => place += size,
+        match value_end(shape_of(types[i]), &bytes[place..]) {
+            Ok(size) => place += size,
             Err(at) => return Err(place + at),
         }
     }
     Ok(place)
+}
+
+/// Whether cell i is null, by the bitmap; `some_null` is false only where no cell is.
+#[inline(always)]
+fn is_null(some_null: bool, bitmap: &[u8], i: usize) -> bool
+    requires { (j : ℕ) → some_null ≡ false → is_set bitmap.now j ≡ false }
+    ensures { result ≡ is_set bitmap.now i }
+{
+    if !some_null {
+        return false;
+    }
+    is_set(bitmap, i)
 }
 
 /// Whether the row of the cells can be written.

@@ -28,6 +28,7 @@ impl<'a> RowPair<'a> {
 
     /// Reads the pair at the front of the bytes: the pair, and how many bytes it takes. If a part of it does not fit,
     /// the error is the offset of that part.
+    #[inline(always)]
     pub(crate) fn read(
         kind: RowsKind,
         types: &'a [ColumnType],

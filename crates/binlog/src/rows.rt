@@ -104,6 +104,7 @@ impl<'a> Iterator for Rows<'a> {
 
     ghost remaining = { item_count (λ r. r) };
 
+    #[inline(always)]
     fn next(&mut self) -> Option<Result<RowPair<'a>, EventFault>> {
         if self.bytes.is_empty() {
             return None;

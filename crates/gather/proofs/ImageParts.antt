@@ -2,7 +2,7 @@
 use Rattle.std.proofs.Common.{◌≡◌, ℕ, zero, suc, ◌+◌, ◌-◌, ◌*◌, ◌<◌, ◌≤◌, ◌^◌, Some, List, [], ◌∷◌, ◌++◌, length, drop, refl, sym, ap, subst, ◌∙◌, append_assoc, arith}
 use Rattle.std.specs.Prelude.{flat_map, slice_index_or}
 use Rattle.std.specs.List.{AllByRecursion}
-use Rattle.std.proofs.lemmas.List.{length-append}
+use Rattle.std.proofs.lemmas.List.{length-append, append-nil}
 use Rattle.byteorder.specs.Endian.{little_bytes}
 use Rattle.byteorder.specs.Numbers.{length-bytes_low_first}
 use Rattle.binlog.specs.Cell.{CellValue, null_cell, number_cell, bytes_cell, cell_value}
@@ -57,6 +57,21 @@ next_written all now new cells rest cell before is written =
     ∙ append_assoc now (cell_image cell) (flat_map cell_image rest)
     ∙ ap (λ l. now ++ flat_map cell_image l) (sym is)
     ∙ before
+
+-- ---- The number of cells, which is written over two zeros once all cells are.
+
+all_written : (out : List ℕ) (cells left : List CellValue) → left ≡ [] → out ++ flat_map cell_image left ≡ 0 ∷ 0 ∷ flat_map cell_image cells → out ≡ 0 ∷ 0 ∷ flat_map cell_image cells
+all_written out cells left none is = sym (append-nil out) ∙ ap (λ l. out ++ flat_map cell_image l) (sym none) ∙ is
+
+pub begun : (out : List ℕ) (cells left : List CellValue) → left ≡ [] → out ++ flat_map cell_image left ≡ 0 ∷ 0 ∷ flat_map cell_image cells → 2 ≤ length out
+begun out cells left none is = omega (arith, ap length (all_written out cells left none is))
+
+pub counted : (out : List ℕ) (cells left : List CellValue) (count : ℕ) → left ≡ [] → out ++ flat_map cell_image left ≡ 0 ∷ 0 ∷ flat_map cell_image cells → count + length left ≡ length cells →
+    little_bytes 2 count ++ drop 2 out ≡ image cells
+counted out cells left count none is total =
+    let all = all_written out cells left none is in
+    let same : count ≡ length cells = omega (arith, ap length none, total) in
+    λ i. little_bytes 2 (same i) ++ drop 2 (all i)
 
 -- ---- Cells of a slice.
 

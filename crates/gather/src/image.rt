@@ -8,7 +8,7 @@ ghost use Rattle.gather.specs.ImageCells.{cell_values};
 use crate::fault::GatherFault;
 use crate::image_cells::ImageCells;
 use crate::image_check::is_image;
-use crate::image_writing::{image_size, row_size, write_cells, write_row};
+use crate::image_writing::{image_size, write_cells, write_row};
 use binlog::{Cell, Row};
 use std::alloc::Global;
 use std::marker::Model;
@@ -72,16 +72,20 @@ impl Image {
         Ok(Some(Image { bytes }))
     }
 
-    /// The image of a row. It iterates over the cells twice: once to count the bytes, and once to write them. The only
-    /// error is `Memory`.
-    pub(crate) fn of(alloc: Global, row: &Row<'_>) -> Result<Image, GatherFault>
+    /// The image of a row. It is written into `scratch`, whose room is used again for the next one, and copied from
+    /// there, so that it is one allocation of its size. The only error is `Memory`.
+    #[inline(always)]
+    pub(crate) fn of(
+        alloc: Global,
+        row: &Row<'_>,
+        scratch: &mut Vec<u8>,
+    ) -> Result<Image, GatherFault>
         requires { HasImage row.now }
         ensures ok { IfOk result (λ made. made ≡ row.now) }
         ensures err { OnErr result (result ≡ Err GatherFault.Memory) }
     {
-        let (count, size) = row_size(row);
-        let mut bytes = Vec::with_capacity(alloc, size)?;
-        write_row(row, count, &mut bytes)?;
+        write_row(row, scratch)?;
+        let bytes = Vec::from_slice(alloc, scratch.as_slice())?;
         Ok(Image { bytes })
     }
 

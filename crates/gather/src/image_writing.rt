@@ -1,13 +1,15 @@
 //! Images written as bytes.
 
-ghost use Rattle.std.specs.Prelude.{◌≡◌, ◌+◌, ◌≤◌, ◌<◌, ◌^◌, ◌++◌, ◌↔◌, length, nat_lt, IsTrue, OnOk, OnErr, Err, MatchOption};
-ghost use Rattle.binlog.specs.Cell.{cell_value};
+ghost use Rattle.std.specs.Prelude.{◌≡◌, ◌+◌, ◌≤◌, ◌<◌, ◌^◌, ◌++◌, ◌↔◌, length, drop, nat_lt, IsTrue, OnOk, OnErr, Err, MatchOption};
+ghost use Rattle.byteorder.specs.Endian.{little_bytes};
+ghost use Rattle.binlog.specs.Cell.{cell_value, number_cell};
 ghost use Rattle.gather.specs.Image.{cell_image, image, HasCellImage, HasImage};
 ghost use Rattle.gather.specs.ImageCells.{cell_values};
 ghost use Rattle.gather.specs.declared.fault.GatherFault.TheVariants.{Memory};
 
 use crate::fault::GatherFault;
 use binlog::{Cell, Row};
+use byteorder::{ByteOrder, LittleEndian};
 
 /// How many bytes the image of the cells takes, if they have one.
 pub(crate) fn image_size(cells: &[Cell<'_>]) -> Option<usize>
@@ -28,21 +30,6 @@ pub(crate) fn image_size(cells: &[Cell<'_>]) -> Option<usize>
     Some(size)
 }
 
-/// How many cells a row has, and how many bytes their image takes.
-pub(crate) fn row_size(row: &Row<'_>) -> (u16, usize)
-    requires { HasImage row.now }
-    ensures count { result.0 ≡ length row.now }
-    ensures size { result.1 ≡ length (image row.now) }
-{
-    let mut count = 0;
-    let mut size = 2;
-    for cell in row.cells() {
-        count += 1;
-        size += cell_size(cell);
-    }
-    (count, size)
-}
-
 /// Appends the image of the cells, or a part of it.
 pub(crate) fn write_cells(cells: &[Cell<'_>], out: &mut Vec<u8>) -> Result<(), GatherFault>
     requires { HasImage (cell_values cells.now) }
@@ -56,18 +43,30 @@ pub(crate) fn write_cells(cells: &[Cell<'_>], out: &mut Vec<u8>) -> Result<(), G
     Ok(())
 }
 
-/// Appends the image of a row, which has `count` cells, or a part of it.
-pub(crate) fn write_row(row: &Row<'_>, count: u16, out: &mut Vec<u8>) -> Result<(), GatherFault>
-    requires has { HasImage row.now }
-    requires count { count ≡ length row.now }
-    ensures ok { OnOk result (out.new.items ≡ out.old.items ++ image row.now) }
+/// Writes the image of a row, or a part of it, in place of what the vector holds.
+#[inline(always)]
+pub(crate) fn write_row(row: &Row<'_>, out: &mut Vec<u8>) -> Result<(), GatherFault>
+    requires { HasImage row.now }
+    ensures ok { OnOk result (out.new.items ≡ image row.now) }
     ensures err { OnErr result (result ≡ Err Memory) }
 {
-    out.extend_from_slice(&count.to_le_bytes())?;
+    out.clear();
+    out.extend_from_slice(&[0, 0])?;
+    let mut count = 0;
     for cell in row.cells() {
         write_cell(cell, out)?;
+        count += 1;
     }
+    set_count(count, out);
     Ok(())
+}
+
+/// Sets the number of cells of an image whose cells are written.
+fn set_count(count: u16, out: &mut Vec<u8>)
+    requires { 2 ≤ length out.old.items }
+    ensures { out.new.items ≡ little_bytes 2 count ++ drop 2 out.old.items }
+{
+    LittleEndian::write_u16(out.as_mut_slice(), count);
 }
 
 /// Whether a cell has an image.
@@ -112,6 +111,7 @@ fn cell_size(cell: Cell<'_>) -> usize
 }
 
 /// Appends the image of a cell, or a part of it.
+#[inline(always)]
 fn write_cell(cell: Cell<'_>, out: &mut Vec<u8>) -> Result<(), GatherFault>
     requires { HasCellImage (cell_value cell) }
     ensures ok { OnOk result (out.new.items ≡ out.old.items ++ cell_image (cell_value cell.entry)) }
@@ -119,14 +119,33 @@ fn write_cell(cell: Cell<'_>, out: &mut Vec<u8>) -> Result<(), GatherFault>
 {
     match cell {
         Cell::Null => out.push(0)?,
-        Cell::Number { value, width } => {
-            out.extend_from_slice(&[1, width])?;
-            out.extend_from_slice(&value.to_le_bytes()[..width as usize])?;
-        }
+        Cell::Number { value, width } => write_number(value, width, out)?,
         Cell::Bytes(bytes) => {
             let [a, b, c, d] = (bytes.len() as u32).to_le_bytes();
             out.extend_from_slice(&[2, a, b, c, d])?;
             out.extend_from_slice(bytes)?;
+        }
+    }
+    Ok(())
+}
+
+/// Appends the image of a number, or a part of it. One of a usual width is written at once.
+#[inline(always)]
+fn write_number(value: u64, width: u8, out: &mut Vec<u8>) -> Result<(), GatherFault>
+    requires { HasCellImage (number_cell value width) }
+    ensures ok { OnOk result (out.new.items ≡ out.old.items ++ cell_image (number_cell value width)) }
+    ensures err { OnErr result (result ≡ Err Memory) }
+{
+    let bytes = value.to_le_bytes();
+    let [a, b, c, d, e, f, g, h] = bytes;
+    match width {
+        1 => out.extend_from_slice(&[1, 1, a])?,
+        2 => out.extend_from_slice(&[1, 2, a, b])?,
+        4 => out.extend_from_slice(&[1, 4, a, b, c, d])?,
+        8 => out.extend_from_slice(&[1, 8, a, b, c, d, e, f, g, h])?,
+        _ => {
+            out.extend_from_slice(&[1, width])?;
+            out.extend_from_slice(&bytes[..width as usize])?;
         }
     }
     Ok(())

@@ -69,6 +69,7 @@ impl OpenTransaction {
         &mut self,
         alloc: Global,
         event: &RowsEvent<'_>,
+        scratch: &mut Vec<u8>,
     ) -> Result<(), GatherFault>
         ensures gtid { self.new.gtid ≡ self.old.gtid }
         ensures keeps { (body : List EventValue) → Keeps body self.old → OnOk result (Keeps (body ++ rows (rows_value event.now) ∷ []) self.new) }
@@ -78,7 +79,7 @@ impl OpenTransaction {
         match self.maps.get(&event.id) {
             None => Err(GatherFault::UnknownTable(event.id)),
             Some(None) => Ok(()),
-            Some(Some(table)) => push_changes(alloc, table, event, &mut self.changes),
+            Some(Some(table)) => push_changes(alloc, table, event, scratch, &mut self.changes),
         }
     }
 }

@@ -82,6 +82,7 @@ pub(crate) fn take_rows(
     state: &mut State,
     alloc: Global,
     event: &RowsEvent<'_>,
+    scratch: &mut Vec<u8>,
 ) -> Result<Option<Delivery>, GatherFault>
     ensures taken { IfOk result (λ delivery. GoesOn (rows (rows_value event.now)) state.old state.new (delivered delivery)) }
     ensures fault { IfErr result (FaultsAt (rows (rows_value event.now)) state.old) }
@@ -89,7 +90,7 @@ pub(crate) fn take_rows(
 {
     match state {
         State::Inside(current) => {
-            current.take_rows(alloc, event)?;
+            current.take_rows(alloc, event, scratch)?;
             Ok(None)
         }
         _ => Err(GatherFault::Misplaced(match event.kind {

@@ -2,8 +2,10 @@
 
 ghost use Rattle.std.specs.Prelude.{◌≡◌, ◌↔◌, IsTrue, IsSome, IfSome};
 ghost use Rattle.binlog.specs.Column.{type_code, is_lawful};
+ghost use Rattle.binlog.specs.Shape.{shape, is_readable};
 
 use crate::column::codes;
+use crate::column::value::{Shape, shape_of_kind};
 
 /// The type of a column, with what its metadata says. In a table map it is a type code and 0 to 2 bytes of metadata.
 #[derive(Clone, Copy, Debug, PartialEq, Eq)]
@@ -52,7 +54,11 @@ pub enum ColumnKind {
 #[derive(Clone, Copy, Debug, PartialEq, Eq)]
 pub struct ColumnType {
     pub kind: ColumnKind,
+    /// How its values are stored in a row, which the kind determines.
+    pub(crate) storage: Shape,
     ghost lawful: { IsTrue (is_lawful kind) },
+    ghost stored: { storage ≡ shape kind },
+    ghost readable: { IsTrue (is_readable storage) },
 }
 
 impl ColumnType {
@@ -76,9 +82,20 @@ impl ColumnType {
             _ => true,
         };
         if lawful {
-            Some(ColumnType { kind })
+            Some(ColumnType::of(kind))
         } else {
             None
+        }
+    }
+
+    /// The type of a kind whose metadata is in range.
+    pub(crate) fn of(kind: ColumnKind) -> ColumnType
+        requires { IsTrue (is_lawful kind) }
+        ensures { result.kind ≡ kind }
+    {
+        ColumnType {
+            kind,
+            storage: shape_of_kind(kind),
         }
     }
 

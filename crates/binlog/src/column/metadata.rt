@@ -108,27 +108,13 @@ fn plain(code: u8) -> ColumnType
     ensures metadata { metadata result.kind ≡ [] }
 {
     match code {
-        codes::TINY => ColumnType {
-            kind: ColumnKind::Tiny,
-        },
-        codes::SHORT => ColumnType {
-            kind: ColumnKind::Short,
-        },
-        codes::LONG => ColumnType {
-            kind: ColumnKind::Long,
-        },
-        codes::LONGLONG => ColumnType {
-            kind: ColumnKind::LongLong,
-        },
-        codes::INT24 => ColumnType {
-            kind: ColumnKind::Int24,
-        },
-        codes::DATE => ColumnType {
-            kind: ColumnKind::Date,
-        },
-        codes::YEAR => ColumnType {
-            kind: ColumnKind::Year,
-        },
+        codes::TINY => ColumnType::of(ColumnKind::Tiny),
+        codes::SHORT => ColumnType::of(ColumnKind::Short),
+        codes::LONG => ColumnType::of(ColumnKind::Long),
+        codes::LONGLONG => ColumnType::of(ColumnKind::LongLong),
+        codes::INT24 => ColumnType::of(ColumnKind::Int24),
+        codes::DATE => ColumnType::of(ColumnKind::Date),
+        codes::YEAR => ColumnType::of(ColumnKind::Year),
         _ => unreachable!(),
     }
 }
@@ -141,12 +127,8 @@ fn by_byte(code: u8, first: u8) -> Result<ColumnType, EventFaultKind>
     ensures fault { IfErr result (λ kind. (second : ℕ) → metadata_fault code first second ≡ Some kind) }
 {
     match code {
-        codes::FLOAT if first == 4 => Ok(ColumnType {
-            kind: ColumnKind::Float,
-        }),
-        codes::DOUBLE if first == 8 => Ok(ColumnType {
-            kind: ColumnKind::Double,
-        }),
+        codes::FLOAT if first == 4 => Ok(ColumnType::of(ColumnKind::Float)),
+        codes::DOUBLE if first == 8 => Ok(ColumnType::of(ColumnKind::Double)),
         codes::FLOAT | codes::DOUBLE => Err(EventFaultKind::Metadata),
         codes::TIMESTAMP2 => in_range(ColumnKind::Timestamp2 { fraction: first }),
         codes::DATETIME2 => in_range(ColumnKind::Datetime2 { fraction: first }),
@@ -164,11 +146,9 @@ fn by_bytes(code: u8, first: u8, second: u8) -> Result<ColumnType, EventFaultKin
     ensures fault { IfErr result (λ kind. metadata_fault code first second ≡ Some kind) }
 {
     match code {
-        codes::VARCHAR => Ok(ColumnType {
-            kind: ColumnKind::Varchar {
-                maximum: u16::from_le_bytes([first, second]),
-            },
-        }),
+        codes::VARCHAR => Ok(ColumnType::of(ColumnKind::Varchar {
+            maximum: u16::from_le_bytes([first, second]),
+        })),
         codes::BIT if first > 7 => Err(EventFaultKind::Metadata),
         codes::BIT if second > 8 => Err(EventFaultKind::Metadata),
         codes::BIT => in_range(ColumnKind::Bit {
@@ -192,9 +172,7 @@ fn string(first: u8, second: u8) -> Result<ColumnType, EventFaultKind>
 {
     let size = u16::from(second) + 16 * u16::from((first & 0x30) ^ 0x30);
     match first | 0x30 {
-        codes::STRING => Ok(ColumnType {
-            kind: ColumnKind::Char { maximum: size },
-        }),
+        codes::STRING => Ok(ColumnType::of(ColumnKind::Char { maximum: size })),
         codes::ENUM => match u8::try_from(size) {
             Ok(width) => in_range(ColumnKind::Enum { width }),
             Err(_) => Err(EventFaultKind::Metadata),

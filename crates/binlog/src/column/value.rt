@@ -1,7 +1,9 @@
 //! How values are stored in a row. MySQL Source Documentation, "Binlog Event", the page `binary_log::Rows_event`.
 
 ghost use Rattle.std.specs.Prelude.{◌≡◌, ◌≤◌, length, IfOk, IfErr, Ok, Err, IsTrue, ◌<◌, ◌^◌, nat_lt, ◌*◌, ◌++◌, take, OnOk, OnErr, ◌+◌, vec_len, vec_capacity};
+ghost use Rattle.byteorder.specs.Endian.{little_number};
 ghost use Rattle.binlog.specs.Cell.{cell_value, owned_value};
+ghost use Rattle.binlog.specs.Column.{is_lawful};
 ghost use Rattle.binlog.specs.Shape.{shape, digits_size, prefix_of, is_readable, value_end, cell_of};
 ghost use Rattle.binlog.specs.RowsWritten.{value_fits, value_bytes};
 ghost use Rattle.binlog.specs.declared.fault.EventFaultKind.TheVariants.{Memory};
@@ -17,17 +19,27 @@ pub(crate) enum Shape {
     /// A number of `width` bytes.
     Number { width: u8 },
     /// `size` bytes.
-    Fixed { size: usize },
+    Fixed { size: u8 },
     /// A length of `size` bytes, and then that many bytes.
-    Prefixed { size: usize },
+    Prefixed { size: u8 },
 }
 
 /// The shape of a type's values.
+#[inline]
 pub(crate) fn shape_of(column: ColumnType) -> Shape
     ensures shape { result ≡ shape column.kind }
     ensures readable { IsTrue (is_readable result) }
 {
-    match column.kind {
+    column.storage
+}
+
+/// The shape of the values of a kind whose metadata is in range.
+pub(crate) fn shape_of_kind(kind: ColumnKind) -> Shape
+    requires { IsTrue (is_lawful kind) }
+    ensures shape { result ≡ shape kind }
+    ensures readable { IsTrue (is_readable result) }
+{
+    match kind {
         ColumnKind::Tiny => Shape::Number { width: 1 },
         ColumnKind::Short => Shape::Number { width: 2 },
         ColumnKind::Int24 => Shape::Number { width: 3 },
@@ -41,11 +53,9 @@ pub(crate) fn shape_of(column: ColumnType) -> Shape
         ColumnKind::Char { maximum } => Shape::Prefixed {
             size: prefix_of(maximum),
         },
-        ColumnKind::Blob { prefix } => Shape::Prefixed {
-            size: prefix as usize,
-        },
+        ColumnKind::Blob { prefix } => Shape::Prefixed { size: prefix },
         ColumnKind::Bit { bits } => Shape::Fixed {
-            size: (bits as usize + 7) / 8,
+            size: ((bits as usize + 7) / 8) as u8,
         },
         ColumnKind::NewDecimal { precision, scale } => Shape::Fixed {
             size: digits_size(precision - scale) + digits_size(scale),
@@ -55,42 +65,73 @@ pub(crate) fn shape_of(column: ColumnType) -> Shape
         ColumnKind::Date => Shape::Fixed { size: 3 },
         ColumnKind::Year => Shape::Fixed { size: 1 },
         ColumnKind::Timestamp2 { fraction } => Shape::Fixed {
-            size: 4 + (fraction as usize + 1) / 2,
+            size: 4 + (fraction + 1) / 2,
         },
         ColumnKind::Datetime2 { fraction } => Shape::Fixed {
-            size: 5 + (fraction as usize + 1) / 2,
+            size: 5 + (fraction + 1) / 2,
         },
         ColumnKind::Time2 { fraction } => Shape::Fixed {
-            size: 3 + (fraction as usize + 1) / 2,
+            size: 3 + (fraction + 1) / 2,
         },
     }
 }
 
 /// How many bytes the length takes in front of a text of at most `maximum` bytes.
-fn prefix_of(maximum: u16) -> usize
+fn prefix_of(maximum: u16) -> u8
     ensures { result ≡ prefix_of maximum }
 {
     if maximum < 256 { 1 } else { 2 }
 }
 
 /// How many bytes this many decimal digits take.
-fn digits_size(digits: u8) -> usize
-    ensures { result ≡ digits_size digits }
+fn digits_size(digits: u8) -> u8
+    ensures size { result ≡ digits_size digits }
+    ensures bound { result ≤ 116 }
 {
     let digits = digits as usize;
-    4 * (digits / 9) + (digits % 9 + 1) / 2
+    let size = 4 * (digits / 9) + (digits % 9 + 1) / 2;
+    size as u8
+}
+
+/// How many bytes the value at the front of the bytes takes. If its length or its bytes do not fit, the error is the
+/// offset of that part.
+#[inline(always)]
+pub(crate) fn value_end(shape: Shape, bytes: &[u8]) -> Result<usize, usize>
+    requires { IsTrue (is_readable shape) }
+    ensures end { result ≡ value_end shape bytes.now }
+    ensures within { IfOk result (λ size. size ≤ length bytes.now) }
+    ensures fault_within { IfErr result (λ place. place ≤ length bytes.now) }
+{
+    match shape {
+        Shape::Number { width: size } | Shape::Fixed { size } => {
+            if bytes.len() < size as usize {
+                return Err(0);
+            }
+            Ok(size as usize)
+        }
+        Shape::Prefixed { size } => {
+            let size = size as usize;
+            if bytes.len() < size {
+                return Err(0);
+            }
+            let length = stated_length(bytes, size);
+            if bytes.len() - size < length {
+                return Err(size);
+            }
+            Ok(size + length)
+        }
+    }
 }
 
 /// Reads the value at the front of the bytes: its cell, and how many bytes it takes. If its length or its bytes do not
 /// fit, the error is the offset of that part.
-#[inline]
+#[inline(always)]
 pub(crate) fn read_value(shape: Shape, bytes: &[u8]) -> Result<(Cell<'_>, usize), usize>
     requires { IsTrue (is_readable shape) }
     ensures cell { IfOk result (λ read. cell_value read.0 ≡ cell_of shape bytes.now) }
     ensures end { IfOk result (λ read. value_end shape bytes.now ≡ Ok read.1) }
     ensures within { IfOk result (λ read. read.1 ≤ length bytes.now) }
     ensures fault { IfErr result (λ place. value_end shape bytes.now ≡ Err place) }
-    ensures fault_within { IfErr result (λ place. place ≤ length bytes.now) }
 {
     match shape {
         Shape::Number { width } => {
@@ -98,25 +139,60 @@ pub(crate) fn read_value(shape: Shape, bytes: &[u8]) -> Result<(Cell<'_>, usize)
             if bytes.len() < size {
                 return Err(0);
             }
-            let value = LittleEndian::read_uint(bytes, size);
+            let value = stated_number(bytes, size);
             Ok((Cell::Number { value, width }, size))
         }
         Shape::Fixed { size } => {
+            let size = size as usize;
             if bytes.len() < size {
                 return Err(0);
             }
             Ok((Cell::Bytes(&bytes[..size]), size))
         }
         Shape::Prefixed { size } => {
+            let size = size as usize;
             if bytes.len() < size {
                 return Err(0);
             }
-            let length = LittleEndian::read_uint(bytes, size) as usize;
+            let length = stated_length(bytes, size);
             if bytes.len() - size < length {
                 return Err(size);
             }
             Ok((Cell::Bytes(&bytes[size..size + length]), size + length))
         }
+    }
+}
+
+/// The number in the first `size` bytes. Those of a usual size are read at once.
+#[inline(always)]
+fn stated_number(bytes: &[u8], size: usize) -> u64
+    requires low { 1 ≤ size }
+    requires high { size ≤ 8 }
+    requires within { size ≤ length bytes.now }
+    ensures { result ≡ little_number size bytes.now }
+{
+    match size {
+        1 => u64::from(bytes[0]),
+        2 => u64::from(LittleEndian::read_u16(bytes)),
+        3 => u64::from(LittleEndian::read_u24(bytes)),
+        4 => u64::from(LittleEndian::read_u32(bytes)),
+        8 => LittleEndian::read_u64(bytes),
+        _ => LittleEndian::read_uint(bytes, size),
+    }
+}
+
+/// The length in the first `size` bytes. Those of a text, of one or two bytes, are read at once.
+#[inline(always)]
+fn stated_length(bytes: &[u8], size: usize) -> usize
+    requires low { 1 ≤ size }
+    requires high { size ≤ 4 }
+    requires within { size ≤ length bytes.now }
+    ensures { result ≡ little_number size bytes.now }
+{
+    match size {
+        1 => usize::from(bytes[0]),
+        2 => usize::from(LittleEndian::read_u16(bytes)),
+        _ => LittleEndian::read_uint(bytes, size) as usize,
     }
 }
 
@@ -138,8 +214,8 @@ pub(crate) fn value_fits(shape: Shape, cell: &OwnedCell) -> bool
         },
         OwnedCell::Bytes(bytes) => match shape {
             Shape::Number { .. } => false,
-            Shape::Fixed { size } => bytes.len() == size,
-            Shape::Prefixed { size } => is_below(bytes.len() as u64, size),
+            Shape::Fixed { size } => bytes.len() == size as usize,
+            Shape::Prefixed { size } => is_below(bytes.len() as u64, size as usize),
         },
     }
 }
@@ -184,7 +260,7 @@ pub(crate) fn write_value(
         }
         OwnedCell::Bytes(bytes) => match shape {
             Shape::Prefixed { size } => {
-                out.extend_from_slice(&(bytes.len() as u64).to_le_bytes()[..size])?;
+                out.extend_from_slice(&(bytes.len() as u64).to_le_bytes()[..size as usize])?;
                 out.extend_from_slice(bytes)?;
                 Ok(())
             }

@@ -1,8 +1,11 @@
-use Rattle.std.proofs.Common.{◌≡◌, ◌++◌}
+use Rattle.std.proofs.Common.{◌≡◌, ◌+◌, ◌∷◌, ◌++◌, length}
 use Rattle.std.specs.Prelude.{flat_map}
-use Rattle.gather.specs.Image.{cell_image, image}
+use Rattle.gather.specs.Image.{cell_image}
 use Rattle.gather.proofs.ImageParts.{AllHave}
 use Rattle.gather.proofs.image_writing.write_row.Given as goal
 
 abbrev pub invariant-loop-cell : goal.invariant-loop-cell
-invariant-loop-cell l = AllHave l.cell-iterator × (l.out.items ++ flat_map cell_image l.cell-iterator ≡ l.fn.out.items ++ image l.row)
+invariant-loop-cell l =
+    AllHave l.cell-iterator
+    × (l.count + length l.cell-iterator ≡ length l.row)
+    × (l.out.items ++ flat_map cell_image l.cell-iterator ≡ 0 ∷ 0 ∷ flat_map cell_image l.row)

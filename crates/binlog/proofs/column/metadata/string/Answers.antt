@@ -1,17 +1,18 @@
-use Rattle.std.proofs.Common.{◌+◌, ◌*◌, ◌<◌, [], ◌∷◌, arith}
+use Rattle.std.proofs.Common.{◌+◌, ◌*◌, ◌<◌, [], ◌∷◌, ap, ◌∙◌, arith}
 use Rattle.std.proofs.lemmas.Bool.{lt-ltb}
+use Rattle.binlog.specs.Column.{metadata}
 use Rattle.binlog.specs.declared.column.kind.ColumnKind.TheVariants.{Enum, Set}
 use Rattle.binlog.proofs.Columns.{string_bytes, string_small, metadata_of}
 use Rattle.binlog.proofs.column.metadata.string.Goals as goal
 
-pub invariant_of-result : goal.invariant_of-result
-invariant_of-result c =
+pub of-requires : goal.of-requires
+of-requires c =
     let small = string_small c.args.first c.args.second (omega arith) (omega arith) in
     let short : c.from.result + 16 * c.from-2.result < 1024 = omega (arith, small, c.from.ensures, c.from-2.ensures) in
-    record { lawful = lt-ltb _ _ short }
+    lt-ltb _ _ short
 
 pub returns-in-254-clause-metadata : goal.returns-in-254-clause-metadata
-returns-in-254-clause-metadata c = string_bytes 254 c.args.first c.args.second (c.from.result + 16 * c.from-2.result) (omega arith) (omega arith) c.in-254.is (omega (arith, c.from.ensures, c.from-2.ensures))
+returns-in-254-clause-metadata c = ap metadata c.of.ensures ∙ string_bytes 254 c.args.first c.args.second (c.from.result + 16 * c.from-2.result) (omega arith) (omega arith) c.in-254.is (omega (arith, c.from.ensures, c.from-2.ensures))
 
 pub returns-in-Ok-clause-metadata : goal.returns-in-Ok-clause-metadata
 returns-in-Ok-clause-metadata c =

@@ -1,8 +1,0 @@
-use Rattle.std.proofs.Common.{◌≡◌, ◌+◌, length}
-use Rattle.std.specs.Prelude.{flat_map}
-use Rattle.gather.specs.Image.{cell_image, image}
-use Rattle.gather.proofs.ImageParts.{AllHave}
-use Rattle.gather.proofs.image_writing.row_size.Given as goal
-
-abbrev pub invariant-loop-cell : goal.invariant-loop-cell
-invariant-loop-cell l = AllHave l.cell-iterator × (l.count + length l.cell-iterator ≡ length l.row) × (l.size + length (flat_map cell_image l.cell-iterator) ≡ length (image l.row))
