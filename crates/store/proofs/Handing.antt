@@ -29,7 +29,7 @@ use Rattle.store.specs.declared.store.Store.{Store}
 use Rattle.store.specs.Store.{Holds, IsWhole, database}
 use Rattle.store.specs.declared.listing.ListError.{ListError}
 use Rattle.store.specs.declared.listing.ListError.TheVariants.{Store as StoreError, Visitor as VisitorError}
-use Rattle.store.specs.declared.fault.StoreFault.TheVariants.{NoSuchRow, CountFull, Database, Memory, Damaged, Layout, Broken, Follows}
+use Rattle.store.specs.declared.fault.StoreFault.TheVariants.{Database, Memory}
 use Rattle.store.proofs.Counted.{rest_unchanged, rest_read}
 use Rattle.store.proofs.Keeps.{open_shown}
 use Rattle.store.proofs.Listings.{AreEntries, are_entries, given_entry, listed_asks, listed_order}
@@ -166,13 +166,7 @@ module _ {S : Type 0} (g : Ghosts S) (names : Names) (content : Content) where
           → Hands gives content.rows v u (Err error) × KeepsListed {E = E} (state g old) (state g new) (Err error)
       stopped new row same next u (VisitorError e) handed = ((w, next.entry, next.left, next.taken, handed), next_same new same)
       stopped new row same next u (StoreError Memory) handed = (inr (next.entry ∷ next.left, subst (λ x. HasTaken gives content.rows v x (next.entry ∷ next.left)) (sym handed) next.taken), next_same new same)
-      stopped new row same next u (StoreError (Database e)) handed = absurd handed
-      stopped new row same next u (StoreError Damaged) handed = absurd handed
-      stopped new row same next u (StoreError (NoSuchRow at)) handed = absurd handed
-      stopped new row same next u (StoreError (CountFull at)) handed = absurd handed
-      stopped new row same next u (StoreError (Layout n)) handed = absurd handed
-      stopped new row same next u (StoreError Broken) handed = absurd handed
-      stopped new row same next u (StoreError Follows) handed = absurd handed
+      stopped new row same next u _ handed = absurd handed
 
 -- ---- The query before its first row.
 
@@ -181,12 +175,7 @@ kept_after old mid new (Ok u) same kept = unchanged_then old mid new same kept
 kept_after old mid new (Err (VisitorError e)) same kept = unchanged_then old mid new same kept
 kept_after old mid new (Err (StoreError Memory)) same kept = unchanged_then old mid new same kept
 kept_after old mid new (Err (StoreError (Database e))) same kept = rested_after old mid new same kept
-kept_after old mid new (Err (StoreError Damaged)) same kept = absurd kept
-kept_after old mid new (Err (StoreError (NoSuchRow at))) same kept = absurd kept
-kept_after old mid new (Err (StoreError (CountFull at))) same kept = absurd kept
-kept_after old mid new (Err (StoreError (Layout n))) same kept = absurd kept
-kept_after old mid new (Err (StoreError Broken)) same kept = absurd kept
-kept_after old mid new (Err (StoreError Follows)) same kept = absurd kept
+kept_after old mid new _ same kept = absurd kept
 
 -- what a list leaves, if the connection is still open
 pub kept_now : {E : Type 0} (old new : State) (r : Result (Unit {0}) (ListError E)) → KeepsListed old new r → old.now ≡ old.committed → IsTrue new.is_open → new.now ≡ old.now
@@ -194,12 +183,7 @@ kept_now old new (Ok u) kept settled is_open = kept.0.now_is
 kept_now old new (Err (VisitorError e)) kept settled is_open = kept.0.now_is
 kept_now old new (Err (StoreError Memory)) kept settled is_open = kept.0.now_is
 kept_now old new (Err (StoreError (Database e))) kept settled is_open = (kept.rests settled is_open).0
-kept_now old new (Err (StoreError Damaged)) kept settled is_open = absurd kept
-kept_now old new (Err (StoreError (NoSuchRow at))) kept settled is_open = absurd kept
-kept_now old new (Err (StoreError (CountFull at))) kept settled is_open = absurd kept
-kept_now old new (Err (StoreError (Layout n))) kept settled is_open = absurd kept
-kept_now old new (Err (StoreError Broken)) kept settled is_open = absurd kept
-kept_now old new (Err (StoreError Follows)) kept settled is_open = absurd kept
+kept_now old new _ kept settled is_open = absurd kept
 
 pub begun_open : {S : Type 0} (g : Ghosts S) (sql : List ℕ) (old mid : Held S) → HasBegun g sql [] old mid → IsTrue (state g old).is_open
 begun_open g sql old mid (inl begun) = begun.1.0.was_open
@@ -228,9 +212,4 @@ held_listed g old new content r was whole set names kept = go r kept
     go (Err (VisitorError e)) kept = held kept
     go (Err (StoreError Memory)) kept = held kept
     go (Err (StoreError (Database e))) kept = record { whole = whole; executed = executed; rest = λ is_open. subst (λ n. IsAtRest (database g new) n content) (sym names) (rest_read (database g old) (database g new) old.following content was.rest (kept.rests was.rest.settled) is_open) }
-    go (Err (StoreError Damaged)) kept = absurd kept
-    go (Err (StoreError (NoSuchRow at))) kept = absurd kept
-    go (Err (StoreError (CountFull at))) kept = absurd kept
-    go (Err (StoreError (Layout n))) kept = absurd kept
-    go (Err (StoreError Broken)) kept = absurd kept
-    go (Err (StoreError Follows)) kept = absurd kept
+    go _ kept = absurd kept

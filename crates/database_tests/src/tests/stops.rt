@@ -22,51 +22,87 @@ const OPTIONS: Options = Options {
 /// What is interrupted.
 #[derive(Clone, Copy)]
 enum Job {
-    /// A database is made, for a filter of two tables.
+    /// A database is made beside other tables, for a filter of two tables.
     Make,
-    /// A database of layout 1 is migrated.
+    /// A database of layout 1 among other tables is migrated.
     Migrate,
-    /// A store takes a transaction of three changes.
+    /// A store among other tables takes a transaction of three changes.
     Take,
-    /// A store adopts a set, which joins an interval and adds one.
+    /// A store among other tables adopts a set, which joins an interval and adds one.
     Adopt,
-    /// A replica reads a connection with three transactions.
+    /// A replica reads a connection with three transactions into new files.
     Run,
 }
 
-/// A database of layout 1.
+/// Tables of others, with an index, a view and a reference.
+const BESIDE: &str = "BEGIN;
+CREATE TABLE parent (a INTEGER PRIMARY KEY, b UNIQUE);
+CREATE TABLE child (c REFERENCES parent (a) ON DELETE CASCADE, n INTEGER);
+CREATE INDEX by_c ON child (c);
+CREATE VIEW seen AS SELECT * FROM parent, child;
+INSERT INTO parent VALUES (1, 'x'), (2, 'y');
+INSERT INTO child VALUES (1, 5), (2, 7);
+COMMIT;";
+
+/// A database of layout 1, with tables of others before its own, between them and after them.
 pub(super) const FIRST: &str = "BEGIN;
+CREATE TABLE parent (a INTEGER PRIMARY KEY, b UNIQUE);
 CREATE TABLE meta (k TEXT PRIMARY KEY, v INTEGER NOT NULL);
 CREATE TABLE executed (source BLOB NOT NULL, number INTEGER NOT NULL, PRIMARY KEY (source, number));
+CREATE TABLE child (c REFERENCES parent (a) ON DELETE CASCADE, n INTEGER);
 CREATE TABLE held (schema_name BLOB NOT NULL, table_name BLOB NOT NULL, image BLOB NOT NULL, n INTEGER NOT NULL CHECK (n > 0), PRIMARY KEY (schema_name, table_name, image));
+CREATE TABLE last (d);
+CREATE INDEX by_c ON child (c);
+CREATE VIEW seen AS SELECT * FROM parent, child;
+INSERT INTO parent VALUES (1, 'x'), (2, 'y');
+INSERT INTO child VALUES (1, 5), (2, 7);
 INSERT INTO meta VALUES ('layout', 1);
 INSERT INTO executed VALUES (x'3e11fa4771ca11e19e33c80aa9429562', 1), (x'3e11fa4771ca11e19e33c80aa9429562', 2), (x'3e11fa4771ca11e19e33c80aa9429562', 4);
 INSERT INTO held VALUES (x'73686f70', x'6974656d73', x'020001040700000002020000006162', 2);
 COMMIT;";
 
+/// A database of layout 2, with tables of others before its own, between them and after them, and one named `executed`.
 const SECOND: &str = "BEGIN;
+CREATE TABLE parent (a INTEGER PRIMARY KEY, b UNIQUE);
 CREATE TABLE meta (k TEXT PRIMARY KEY, v INTEGER NOT NULL);
 CREATE TABLE held (schema_name BLOB NOT NULL, table_name BLOB NOT NULL, image BLOB NOT NULL, n INTEGER NOT NULL CHECK (n > 0), PRIMARY KEY (schema_name, table_name, image));
+CREATE TABLE child (c REFERENCES parent (a) ON DELETE CASCADE, n INTEGER);
+CREATE TABLE executed (number INTEGER);
 CREATE TABLE spans (source BLOB NOT NULL, lo INTEGER NOT NULL, hi INTEGER NOT NULL, PRIMARY KEY (source, lo));
 CREATE TABLE follow (schema_name BLOB NOT NULL, table_name BLOB NOT NULL, PRIMARY KEY (schema_name, table_name));
+CREATE INDEX by_c ON child (c);
+CREATE VIEW seen AS SELECT * FROM parent, child;
+INSERT INTO parent VALUES (1, 'x'), (2, 'y');
+INSERT INTO child VALUES (1, 5), (2, 7);
+INSERT INTO executed VALUES (9);
 INSERT INTO meta VALUES ('layout', 2);
 INSERT INTO held VALUES (x'73686f70', x'6974656d73', x'020001040700000002020000006162', 2);
 INSERT INTO spans VALUES (x'3e11fa4771ca11e19e33c80aa9429562', 2, 3);
 COMMIT;";
 
-/// What the tables show before the job and after each of its steps: `meta`, `executed`, `held`, `spans`, `follow`.
+/// What the tables show before the job and after each of its steps: `meta`, `executed`, `held`, `spans`, `follow`, and
+/// those of others.
 fn states(job: Job) -> &'static [&'static str] {
     match job {
-        Job::Make => &["none|none|none|none|none|", " 2|none||| 2|"],
-        Job::Migrate => &[" 1| 1 2 4| 2|none|none|", " 2|none| 2| 1 3 4 5| 0|"],
-        Job::Take => &[" 2|none| 2| 2 3| 0|", " 2|none| 1 1| 1 3| 0|"],
-        Job::Adopt => &[" 2|none| 2| 2 3| 0|", " 2|none| 2| 1 3 5 7| 0|"],
+        Job::Make => &[
+            "none|none|none|none|none| 1 5 2 7|",
+            " 2|none||| 2| 1 5 2 7|",
+        ],
+        Job::Migrate => &[
+            " 1| 1 2 4| 2|none|none| 1 5 2 7|",
+            " 2|none| 2| 1 3 4 5| 0| 1 5 2 7|",
+        ],
+        Job::Take => &[" 2| 9| 2| 2 3| 0| 1 5 2 7|", " 2| 9| 1 1| 1 3| 0| 1 5 2 7|"],
+        Job::Adopt => &[
+            " 2| 9| 2| 2 3| 0| 1 5 2 7|",
+            " 2| 9| 2| 1 3 5 7| 0| 1 5 2 7|",
+        ],
         Job::Run => &[
-            "none|none|none|none|none|",
-            " 2|none||| 0|",
-            " 2|none| 1| 1 2| 0|",
-            " 2|none| 1 1| 1 2 3 4| 0|",
-            " 2|none| 1 1| 1 4| 0|",
+            "none|none|none|none|none|none|",
+            " 2|none||| 0|none|",
+            " 2|none| 1| 1 2| 0|none|",
+            " 2|none| 1 1| 1 2 3 4| 0|none|",
+            " 2|none| 1 1| 1 4| 0|none|",
         ],
     }
 }
@@ -95,6 +131,7 @@ fn dump<S: Alter>(alloc: Global, conn: &mut Connection<S>) -> Result<String, Fai
         "SELECT n FROM held ORDER BY image",
         "SELECT lo, hi FROM spans ORDER BY lo",
         "SELECT count(*) FROM follow",
+        "SELECT a, n FROM parent, child WHERE a = c ORDER BY a",
     ] {
         text.push_str(&numbers(alloc, conn, sql)?)?;
         text.push_str("|")?;
@@ -119,7 +156,8 @@ fn connect<D: Disk + Drop>(
 /// The statements that make the database before the job.
 fn beginning(job: Job) -> &'static str {
     match job {
-        Job::Make | Job::Run => "",
+        Job::Make => BESIDE,
+        Job::Run => "",
         Job::Migrate => FIRST,
         Job::Take | Job::Adopt => SECOND,
     }
