@@ -18,7 +18,7 @@ use Rattle.gtid.proofs.Sets.{id_cmp_total, id_cmp-same}
 use Rattle.binlog.specs.Filter.{Names}
 use Rattle.binlog.proofs.Admitted.{name_cmp_total, name_cmp-same}
 use Rattle.store.specs.declared.fault.StoreFault.{StoreFault}
-use Rattle.store.specs.declared.fault.StoreFault.TheVariants.{NoSuchRow, CountFull, Database, Memory, Damaged, Layout, Broken, Follows}
+use Rattle.store.specs.declared.fault.StoreFault.TheVariants.{Damaged}
 use Rattle.store.specs.Rows.{alike, HasRowids, IsMetaRow, IsHeldRow, IsFollowRow, IsSpanRow, IsExecutedRow, AreNames, AreSpans, touches, shown_span, span_in, id_in, name_in}
 use Rattle.store.specs.declared.tables.Meta.{Meta}
 use Rattle.store.specs.Judge.{IsMeta}
@@ -28,25 +28,13 @@ use Rattle.store.proofs.SpanRows.{flips}
 
 pub on_seen : {X P : Type 0} (r : Result X StoreFault) → P → OnSeen r P
 on_seen (Ok x) p = p
-on_seen (Err (NoSuchRow at)) p = tt
-on_seen (Err (CountFull at)) p = tt
-on_seen (Err (Database e)) p = tt
-on_seen (Err Memory) p = tt
 on_seen (Err Damaged) p = p
-on_seen (Err (Layout n)) p = tt
-on_seen (Err Broken) p = tt
-on_seen (Err Follows) p = tt
+on_seen (Err _) p = tt
 
 pub judged_by : {X : Type 0} {Good Other : X → Type 0} {rules others : Type 0} (r : Result X StoreFault) → ((x : X) → Good x → Other x) → (others → rules) → Judges r Good rules → Judges r Other others
 judged_by (Ok x) good back h = good x h
-judged_by (Err (NoSuchRow at)) good back h = tt
-judged_by (Err (CountFull at)) good back h = tt
-judged_by (Err (Database e)) good back h = tt
-judged_by (Err Memory) good back h = tt
 judged_by (Err Damaged) good back h = λ o. h (back o)
-judged_by (Err (Layout n)) good back h = tt
-judged_by (Err Broken) good back h = tt
-judged_by (Err Follows) good back h = tt
+judged_by (Err _) good back h = tt
 
 either_way : (o : Ordering) → is_eq (ordering_reverse o) ≡ is_eq o
 either_way Less = refl

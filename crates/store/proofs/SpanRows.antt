@@ -17,7 +17,7 @@ use Rattle.gtid.specs.Gathering.{Rise, Follows}
 use Rattle.gtid.specs.declared.span.Span.{Span}
 use Rattle.gtid.proofs.Sets.{id_cmp_total, id_cmp-same, tied}
 use Rattle.store.specs.declared.fault.StoreFault.{StoreFault}
-use Rattle.store.specs.declared.fault.StoreFault.TheVariants.{NoSuchRow, CountFull, Database, Memory, Damaged, Layout, Broken, Follows as OtherTables}
+use Rattle.store.specs.declared.fault.StoreFault.TheVariants.{Memory, Damaged}
 use Rattle.store.specs.Rows.{IsSpanRow, IsExecutedRow, HasRowids, AreSpans, touches, stored_span, shown_span, shown_spans, span_in, id_in}
 use Rattle.store.specs.Judge.{span_of_id, apart_from}
 use Rattle.store.specs.Load.{Judges}
@@ -144,13 +144,7 @@ pub spans_judged : (rows : List Row) (spans : List Span) (r : Result Ids StoreFa
     → Judges r (Covers spans) (IsDistinct touches spans) → Judges r (λ ids. AreSpans rows ids × HasRowids rows) (AllByRecursion IsSpanRow rows × IsDistinct touches (map span_in rows))
 spans_judged rows spans (Ok ids) all rowids is up covers = (spans_are rows ids all (subst (IsDistinct touches) is up) (subst (λ l. Covers l ids) is covers), rowids)
 spans_judged rows spans (Err Damaged) all rowids is up off = λ rules. off (subst (IsDistinct touches) (sym is) rules.1)
-spans_judged rows spans (Err Memory) all rowids is up h = tt
-spans_judged rows spans (Err (Database e)) all rowids is up h = tt
-spans_judged rows spans (Err (NoSuchRow at)) all rowids is up h = tt
-spans_judged rows spans (Err (CountFull at)) all rowids is up h = tt
-spans_judged rows spans (Err (Layout n)) all rowids is up h = tt
-spans_judged rows spans (Err Broken) all rowids is up h = tt
-spans_judged rows spans (Err OtherTables) all rowids is up h = tt
+spans_judged rows spans (Err _) all rowids is up h = tt
 
 -- ---- Rows of executed.
 

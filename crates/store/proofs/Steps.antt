@@ -10,7 +10,7 @@ use Rattle.sqlite.proofs.StateLemmas.{survives_then}
 use Rattle.store.specs.declared.fault.StoreFault.{StoreFault}
 use Rattle.gtid.specs.Identifier.{Ids}
 use Rattle.binlog.specs.Filter.{Names}
-use Rattle.store.specs.declared.fault.StoreFault.TheVariants.{NoSuchRow, CountFull, Database, Memory, Damaged, Layout, Broken, Follows}
+use Rattle.store.specs.declared.fault.StoreFault.TheVariants.{Damaged}
 use Rattle.store.specs.State.{Content}
 use Rattle.store.specs.Layout.{IsLaidOut, IsFirstLaidOut}
 use Rattle.store.specs.Rows.{meta_rows, held_rows, span_rows, follow_rows, first_meta_rows, executed_rows, IsHeldRow, IsExecutedRow, HasRowids, AreNames, AreSpans, StandsFor, StandsForFirst, id_in, bag_of, count}
@@ -60,14 +60,8 @@ next_step a b c text tree asks same one two =
 -- ---- A fault is handed on.
 
 pub seen_by : {P Q : Type 0} (f : StoreFault) → (P → Q) → OnDamaged f P → OnDamaged f Q
-seen_by (NoSuchRow at) h p = tt
-seen_by (CountFull at) h p = tt
-seen_by (Database e) h p = tt
-seen_by Memory h p = tt
 seen_by Damaged h p = h p
-seen_by (Layout n) h p = tt
-seen_by Broken h p = tt
-seen_by Follows h p = tt
+seen_by _ h p = tt
 
 pub fault_by : {rules others : Type 0} (f : StoreFault) → (others → rules) → OnDamaged f (¬ rules) → OnDamaged f (¬ others)
 fault_by f back h = seen_by f (λ off o. off (back o)) h

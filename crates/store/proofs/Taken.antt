@@ -20,9 +20,9 @@ use Rattle.gather.specs.Transaction.{DeliveryValue}
 use Rattle.store.specs.declared.row_change.Refusal.{Refusal}
 use Rattle.store.specs.declared.row_change.Refusal.TheVariants as why
 use Rattle.store.specs.declared.fault.Applied.{Applied}
-use Rattle.store.specs.declared.fault.Applied.TheVariants.{Done, Repeat}
+use Rattle.store.specs.declared.fault.Applied.TheVariants.{Done}
 use Rattle.store.specs.declared.fault.StoreFault.{StoreFault}
-use Rattle.store.specs.declared.fault.StoreFault.TheVariants.{NoSuchRow, CountFull, Database, Memory, Damaged, Layout, Broken, Follows}
+use Rattle.store.specs.declared.fault.StoreFault.TheVariants.{NoSuchRow, CountFull, Database, Memory, Broken}
 use Rattle.store.specs.declared.store.Store.{Store}
 use Rattle.store.specs.Inside.{WasOpen}
 use Rattle.store.specs.Store.{Holds, Applies, AppliesShut, AreOf, Leaves, breaks}
@@ -60,11 +60,7 @@ pub refused_shut : (at : ℕ) (reason : Refusal) (old mid new : State) (was now 
 refused_shut at reason old mid new was now (NoSuchRow n) opened shut reported same = absurd (false≢true (sym shut ∙ opened reported.2.0.was_open))
 refused_shut at reason old mid new was now (CountFull n) opened shut reported same = absurd (false≢true (sym shut ∙ opened reported.2.0.was_open))
 refused_shut at reason old mid new was now (Database e) opened shut reported same = (shut_after old new (λ is_open. opened (reported is_open).0) shut, same)
-refused_shut at reason old mid new was now Memory opened shut reported same = absurd reported
-refused_shut at reason old mid new was now Damaged opened shut reported same = absurd reported
-refused_shut at reason old mid new was now (Layout n) opened shut reported same = absurd reported
-refused_shut at reason old mid new was now Broken opened shut reported same = absurd reported
-refused_shut at reason old mid new was now Follows opened shut reported same = absurd reported
+refused_shut at reason old mid new was now _ opened shut reported same = absurd reported
 
 -- ---- the spans next to the number
 pub beside_known : (spans : List Span) (executed ids : Ids) (q : Id) (beside : Beside) → executed ≡ ids → IsLeastList spans ids
@@ -97,11 +93,7 @@ module _ (names : Names) (content : Content) (d : DeliveryValue) where
         (s.0 ∙ r.0, s.1 ∙ r.1)),
     same,
   )
-  came old mid new executed at reason Memory same rest h reported = absurd reported
-  came old mid new executed at reason Damaged same rest h reported = absurd reported
-  came old mid new executed at reason (Layout n) same rest h reported = absurd reported
-  came old mid new executed at reason Broken same rest h reported = absurd reported
-  came old mid new executed at reason Follows same rest h reported = absurd reported
+  came old mid new executed at reason _ same rest h reported = absurd reported
 
   pub given_up : (old mid new : State) (r : Result Applied StoreFault) → Survives old mid (λ _. ⊥) → Survives mid new (λ _. ⊥) → Survives old new (MayMove names content d old r)
   given_up old mid new r one two = survives_then old mid new (λ _. ⊥) (λ _. ⊥) (MayMove names content d old r) (λ _ db none. absurd none) (λ _ db none. absurd none) one two
@@ -127,7 +119,6 @@ module _ {S : Type 0} (g : Ghosts S) (content : Content) (d : DeliveryValue) (ol
       rest = subst (λ n. IsAtRest (state g new.conn) n it.taken.after) (sym names) it.taken.rest;
     };
   }
-  applied (Ok Repeat) was out names broken memory it = absurd it
   applied (Err (NoSuchRow at)) was out names broken memory it = (it.0, record { whole = broken; executed = it.2; rest = subst (λ n. IsAtRest (state g new.conn) n content) (sym names) it.1 })
   applied (Err (CountFull at)) was out names broken memory it = (it.0, record { whole = broken; executed = it.2; rest = subst (λ n. IsAtRest (state g new.conn) n content) (sym names) it.1 })
   applied (Err (Database e)) was out names broken memory it = (
@@ -147,50 +138,32 @@ module _ {S : Type 0} (g : Ghosts S) (content : Content) (d : DeliveryValue) (ol
     },
     memory refl,
   )
-  applied (Err Damaged) was out names broken memory it = absurd it
-  applied (Err (Layout n)) was out names broken memory it = absurd it
-  applied (Err Broken) was out names broken memory it = absurd it
-  applied (Err Follows) was out names broken memory it = absurd it
+  applied _ was out names broken memory it = absurd it
 
   -- the schema stays
   pub same_schema : (r : Result Applied StoreFault) → new.broken ≡ false → new.broken ≡ breaks r → Comes old.following content d (state g old.conn) (state g new.conn) new.executed r
       → (state g new.conn).now.schema ≡ (state g old.conn).now.schema
   same_schema (Ok Done) whole broken it = it.schema
-  same_schema (Ok Repeat) whole broken it = absurd it
   same_schema (Err (NoSuchRow at)) whole broken it = ap (λ (db : Stored). db.schema) it.3
   same_schema (Err (CountFull at)) whole broken it = ap (λ (db : Stored). db.schema) it.3
   same_schema (Err (Database e)) whole broken it = absurd (broke (sym broken ∙ whole))
   same_schema (Err Memory) whole broken it = absurd (broke (sym broken ∙ whole))
-  same_schema (Err Damaged) whole broken it = absurd it
-  same_schema (Err (Layout n)) whole broken it = absurd it
-  same_schema (Err Broken) whole broken it = absurd it
-  same_schema (Err Follows) whole broken it = absurd it
+  same_schema _ whole broken it = absurd it
 
   -- and so does what lies beside
   pub lies_beside : (r : Result Applied StoreFault) → IsTrue (state g new.conn).is_open → Comes old.following content d (state g old.conn) (state g new.conn) new.executed r → LiesBeside (state g old.conn).now (state g new.conn).now
   lies_beside (Ok Done) is_open it = it.beside
-  lies_beside (Ok Repeat) is_open it = absurd it
   lies_beside (Err (NoSuchRow at)) is_open it = beside_unchanged (state g old.conn).now (state g new.conn).now it.3
   lies_beside (Err (CountFull at)) is_open it = beside_unchanged (state g old.conn).now (state g new.conn).now it.3
   lies_beside (Err (Database e)) is_open it = beside_unchanged (state g old.conn).now (state g new.conn).now (it.0 is_open).0
   lies_beside (Err Memory) is_open it = beside_unchanged (state g old.conn).now (state g new.conn).now (it.0 is_open).0
-  lies_beside (Err Damaged) is_open it = absurd it
-  lies_beside (Err (Layout n)) is_open it = absurd it
-  lies_beside (Err Broken) is_open it = absurd it
-  lies_beside (Err Follows) is_open it = absurd it
+  lies_beside _ is_open it = absurd it
 
   -- on a connection that was shut
   pub applied_shut : (r : Result Applied StoreFault) (was : Ids) → was ≡ content.executed → is_executed content d ≡ false → new.broken ≡ breaks r → FailsShut (state g new.conn) was new.executed r → AppliesShut g content d old new r
-  applied_shut (Ok Done) was same out broken it = absurd it
-  applied_shut (Ok Repeat) was same out broken it = absurd it
-  applied_shut (Err (NoSuchRow at)) was same out broken it = absurd it
-  applied_shut (Err (CountFull at)) was same out broken it = absurd it
   applied_shut (Err (Database e)) was same out broken it = (out, record { broken = broken; executed = it.1 ∙ same; rest = λ is_open. absurd (false≢true (sym it.0 ∙ is_open)) })
   applied_shut (Err Memory) was same out broken it = (out, record { broken = broken; executed = it.1 ∙ same; rest = λ is_open. absurd (false≢true (sym it.0 ∙ is_open)) })
-  applied_shut (Err Damaged) was same out broken it = absurd it
-  applied_shut (Err (Layout n)) was same out broken it = absurd it
-  applied_shut (Err Broken) was same out broken it = absurd it
-  applied_shut (Err Follows) was same out broken it = absurd it
+  applied_shut _ was same out broken it = absurd it
 
 -- ---- what a crash leaves
 module _ {S : Type 0} (g : Ghosts S) (names : Names) (content : Content)
@@ -210,15 +183,8 @@ module _ {S : Type 0} (g : Ghosts S) (names : Names) (content : Content)
   pub spares_moved : (d : DeliveryValue) (old : Held S) (r : Result Applied StoreFault) (trees : Trees) → IsAtRest (state g old) names content → (state g old).may_leave trees ⊎ MayMove names content d (state g old) r trees → SparesBeside (state g old).now trees
   spares_moved d old r trees rest (inl was) = spares old trees rest was
   spares_moved d old (Ok Done) trees rest (inr may) = may.1
-  spares_moved d old (Ok Repeat) trees rest (inr may) = absurd may
-  spares_moved d old (Err (NoSuchRow at)) trees rest (inr may) = absurd may
-  spares_moved d old (Err (CountFull at)) trees rest (inr may) = absurd may
   spares_moved d old (Err (Database e)) trees rest (inr may) = may.1
-  spares_moved d old (Err Memory) trees rest (inr may) = absurd may
-  spares_moved d old (Err Damaged) trees rest (inr may) = absurd may
-  spares_moved d old (Err (Layout n)) trees rest (inr may) = absurd may
-  spares_moved d old (Err Broken) trees rest (inr may) = absurd may
-  spares_moved d old (Err Follows) trees rest (inr may) = absurd may
+  spares_moved d old _ trees rest (inr may) = absurd may
 
   pub stays : (h : Held S) (db : Trees) → (r : IsAtRest (state g h) names content) → (state g h).may_leave db → AreOf h.schema names content db
   stays h db r left =
@@ -236,7 +202,6 @@ module _ {S : Type 0} (g : Ghosts S) (names : Names) (content : Content)
         stands = subst₂ (λ s t. AreOf s names it.taken.after t) it.schema (sym trees_are) (record { stands = rest_new.stands; sound = rest_new.sound; spans_apart = rest_new.spans_apart });
       }
   left_whole d old new (Ok Done) executed trees rest it (inr may) left = may.0
-  left_whole d old new (Ok Repeat) executed trees rest it was left = absurd it
   left_whole d old new (Err (NoSuchRow at)) executed trees rest it (inl was) left = stays old trees rest was
   left_whole d old new (Err (NoSuchRow at)) executed trees rest it (inr may) left = absurd may
   left_whole d old new (Err (CountFull at)) executed trees rest it (inl was) left = stays old trees rest was
@@ -245,7 +210,4 @@ module _ {S : Type 0} (g : Ghosts S) (names : Names) (content : Content)
   left_whole d old new (Err (Database e)) executed trees rest it (inr may) left = inr may.0
   left_whole d old new (Err Memory) executed trees rest it (inl was) left = stays old trees rest was
   left_whole d old new (Err Memory) executed trees rest it (inr may) left = absurd may
-  left_whole d old new (Err Damaged) executed trees rest it was left = absurd it
-  left_whole d old new (Err (Layout n)) executed trees rest it was left = absurd it
-  left_whole d old new (Err Broken) executed trees rest it was left = absurd it
-  left_whole d old new (Err Follows) executed trees rest it was left = absurd it
+  left_whole d old new _ executed trees rest it was left = absurd it

@@ -176,6 +176,10 @@ pub record IsFirstLaidOut (schema : Schema) : Type 0 where
   pub counted : lacks_sequence schema ≡ false
   pub room : next_tree schema + 4 ≤ 2 ^ 31
 
+-- of an empty file
+abbrev pub no_schema : Schema
+no_schema = record { tables = []; indexes = []; views = [] }
+
 -- ---- the statements on one row of held
 
 abbrev pub read_text : List ℕ
