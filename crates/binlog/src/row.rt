@@ -41,7 +41,7 @@ impl<'a> Model for Row<'a> {
 pub struct Cells<'a> {
     types: &'a [ColumnType],
     bitmap: &'a [u8],
-    /// Whether a cell is null.
+    /// Whether a bit of it is set.
     some_null: bool,
     /// The index of the next column.
     index: usize,
@@ -141,7 +141,7 @@ fn row_end(types: &[ColumnType], bytes: &[u8]) -> Result<usize, usize>
     Ok(place)
 }
 
-/// Whether cell i is null, by the bitmap; `some_null` is false only where no cell is.
+/// Whether cell i is null, by the bitmap; `some_null` is false only where no bit of it is set.
 #[inline(always)]
 fn is_null(some_null: bool, bitmap: &[u8], i: usize) -> bool
     requires { (j : ℕ) → some_null ≡ false → is_set bitmap.now j ≡ false }
