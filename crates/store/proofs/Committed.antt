@@ -1,8 +1,8 @@
 -- The end of a transaction that makes a database.
-use Rattle.std.proofs.Common.{◌≡◌, true, false, refl, sym, subst, subst₂, ◌∙◌, Ok, Err, Result, OnOk, OnErr, IfErr, IsTrue, []}
+use Rattle.std.proofs.Common.{◌≡◌, true, false, refl, sym, subst, subst₂, ◌∙◌, Ok, Err, Result, OnOk, OnErr, IfErr, IsTrue, [], arith}
 use Rattle.sqlite.specs.declared.error.Error.{Error}
 use Rattle.sqlite.specs.Effect.{Database as Stored, IsDatabase}
-use Rattle.sqlite.specs.State.{State, IsLive, KeepsCommit, KeepsCounts, Shows}
+use Rattle.sqlite.specs.State.{State, HasCleanDisk, IsLive, KeepsCommit, Survives, KeepsCounts, Shows}
 use Rattle.sqlite.specs.Steps.{FailsToCommit}
 use Rattle.sqlite_trees.specs.declared.store.Store as store
 use Rattle.sqlite.specs.Held.{Held, state}
@@ -42,18 +42,8 @@ first_inside g h content rest = record {
 }
 
 pub rests_unless : (t m n : State) (r : Result (Unit {0}) Error) → t.now ≡ t.committed → KeepsCommit t m → m.in_transaction ≡ true → IfErr r (FailsToCommit m n) → OnErr r (Rests t n)
-rests_unless t m n (Ok u) settled kept inside failed = tt
-rests_unless t m n (Err e) settled kept inside failed = rests_failed t m n e settled kept inside failed
-
-pub may_stand : (names : Names) (content : Content) (t m : State) (db : Trees) → t.now ≡ t.committed → KeepsCommit t m → HasMade m names content → db ≡ m.now.trees → MayStandFor t.now names content db
-may_stand names content t m db settled kept made is = record {
-  db = m.now;
-  trees_are = is;
-  stands = made.stands;
-  sound = made.working.sound;
-  beside = subst (λ c. LiesBeside c m.now) (kept.committed made.working.is_open ∙ sym settled) made.working.beside;
-  spans_apart = made.working.spans_apart;
-}
+rests_unless t m n (Ok u) settled kept inside fails = tt
+rests_unless t m n (Err e) settled kept inside fails = rests_failed t m n e settled kept inside fails
 
 -- The transaction has been committed.
 abbrev pub HasEnded : State → State → Type 0
@@ -72,3 +62,31 @@ made_rest names content t m n (Ok u) settled kept made (_, h, _, _) = (
   subst₂ LiesBeside (kept.committed made.working.is_open ∙ sym settled) (sym h.now_is) made.working.beside,
 )
 made_rest names content t m n (Err e) settled kept made h = tt
+
+-- ---- From its begin to its end.
+
+module _ {S : Type 0} (g : store.Ghosts S) (h : Held S) (names : Names) (content : Content) (m n : State) (settled : (state g h).now ≡ (state g h).committed) (kept : HasCleanDisk m → KeepsCommit (state g (record h { in_transaction = true })) m)
+    (made : HasCleanDisk m → HasMade m names content) (r : Result (Unit {0}) Error) (survives : Survives m n (λ db. db ≡ m.now.trees)) where
+  abbrev t : State
+  t = state g (record h { in_transaction = true })
+
+  early : HasCleanDisk n → HasCleanDisk m
+  early late = omega (arith, survives.clean, late)
+
+  pub committed : (HasCleanDisk n → OnOk r (HasEnded m n)) → HasCleanDisk n → OnOk r (IsAtRest n names content × LiesBeside (state g h).now n.now)
+  committed ok late = made_rest names content t m n r settled (kept (early late)) (made (early late)) (ok late)
+
+  pub failed : (HasCleanDisk n → IfErr r (FailsToCommit m n)) → HasCleanDisk n → OnErr r (Rests (state g h) n)
+  failed err late = rests_unless t m n r settled (kept (early late)) (made (early late)).working.inside (err late)
+
+  pub may_stand : HasCleanDisk n → (db : Trees) → db ≡ m.now.trees → MayStandFor (state g h).now names content db
+  may_stand late db is =
+      let it = made (early late) in
+      record {
+        db = m.now;
+        trees_are = is;
+        stands = it.stands;
+        sound = it.working.sound;
+        beside = subst (λ c. LiesBeside c m.now) ((kept (early late)).committed it.working.is_open ∙ sym settled) it.working.beside;
+        spans_apart = it.working.spans_apart;
+      }

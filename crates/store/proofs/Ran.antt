@@ -1,11 +1,11 @@
 -- A transaction from its begin to its end.
-use Rattle.std.proofs.Common.{◌≡◌, inl, inr, ℕ, true, false, Option, Ok, Err, Result, refl, sym, ap, subst, subst₂, ◌∙◌}
+use Rattle.std.proofs.Common.{◌≡◌, inl, inr, ℕ, true, false, Option, Ok, Err, Result, refl, sym, ap, subst, subst₂, ◌∙◌, arith}
 use Rattle.std.specs.Result.{IsErr}
 use Rattle.sqlite_trees.specs.declared.store.Store as store
 use Rattle.sqlite_trees.specs.Tree.{Trees}
 use Rattle.sqlite.specs.declared.error.Error.{Error}
 use Rattle.sqlite.specs.Effect.{Database, IsDatabase}
-use Rattle.sqlite.specs.State.{State, KeepsCommit, IsRolledBack, Shows}
+use Rattle.sqlite.specs.State.{State, HasCleanDisk, Survives, KeepsCommit, IsRolledBack, Shows}
 use Rattle.sqlite.specs.Steps.{FailsToCommit}
 use Rattle.sqlite.specs.Held.{Held, state}
 use Rattle.binlog.specs.Filter.{Names}
@@ -37,6 +37,11 @@ rests_rolled t m n settled kept rolled is_open =
     let u = rolled.undone is_open in
     let k = kept.committed (rolled.was_open is_open) in
     (u.0 ∙ k ∙ sym settled, u.1 ∙ k)
+
+-- the same, from what the calls ensure
+pub rolled : {S : Type 0} (g : store.Ghosts S) (h : Held S) (m n : State) → (state g h).now ≡ (state g h).committed → (HasCleanDisk m → KeepsCommit (state g (record h { in_transaction = true })) m) → Survives m n (λ _. ⊥) → (HasCleanDisk n → IsRolledBack m n)
+    → HasCleanDisk n → Rests (state g h) n
+rolled g h m n settled kept survives undone late = rests_rolled (state g (record h { in_transaction = true })) m n settled (kept (omega (arith, survives.clean, late))) (undone late)
 
 pub rests_failed : (t m n : State) (e : Error) → t.now ≡ t.committed → KeepsCommit t m → m.in_transaction ≡ true → FailsToCommit m n e → Rests t n
 rests_failed t m n e settled kept inside (inl fails) = rests_rolled t m n settled kept fails.3

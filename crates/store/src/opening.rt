@@ -267,7 +267,7 @@ fn open_with<S: Alter>(
 impl<S: Alter> Store<S> {
     /// Opens a database with the list of tables that it was made for. A new database, which has none of the store's
     /// tables, gets them in one transaction, and is made for all tables. A database of layout 1 is migrated in one
-    /// transaction.
+    /// transaction. Other tables, indexes and views of the database stay as they are.
     ///
     /// Each fault comes with the connection. If that is still open, the database is as it was.
     /// - `Damaged` if a table is missing, or the rows break the rules of their layout.

@@ -7,20 +7,17 @@ use Rattle.sqlite_trees.specs.Tree.{Trees}
 use Rattle.store.specs.Take.{with_executed}
 use Rattle.store.specs.Inside.{Records}
 use Rattle.store.specs.Apply.{AreOf, Rests, Replaces, SparesBeside}
-use Rattle.store.proofs.Ran.{begun_working, rests_rolled}
+use Rattle.store.proofs.Ran.{begun_working, rolled}
 use Rattle.store.proofs.Replaced.{stored_of, replaced, may_replace}
 use Rattle.store.proofs.adopt.replace.Goals as goal
 
 pub returns-in_err-replace_all-clause-replaces : goal.returns-in_err-replace_all-clause-replaces
 returns-in_err-replace_all-clause-replaces g c clean names content rest is =
     let h = c.args.conn.now in
-    let t = state g.S.Store (record h { in_transaction = true }) in
-    let m = state g.S.Store c.replace_all.new.tx.conn.now in
     let n = state g.S.Store c.drop-tx.new.self.0 in
     let late : HasCleanDisk n = search (rules, clean) in
-    let early : HasCleanDisk m = omega (arith, c.drop-tx.ensures.survives.clean, late) in
-    let kept : KeepsCommit t m = (rw c.transaction-tx.ensures.begun at c.in_err-replace_all.ensures.kept) early (begun_working g.S.Store h names content rest) in
-    let rests : Rests (state g.S.Store h) n = rests_rolled t m n rest.settled kept (c.drop-tx.ensures.undone late) in
+    let rests : Rests (state g.S.Store h) n = rolled g.S.Store h (state g.S.Store c.replace_all.new.tx.conn.now) n rest.settled
+    (λ early. (rw c.transaction-tx.ensures.begun at c.in_err-replace_all.ensures.kept) early (begun_working g.S.Store h names content rest)) c.drop-tx.ensures.survives c.drop-tx.ensures.undone late in
     search (rules, rests)
 
 pub returns-clause-replaces : goal.returns-clause-replaces

@@ -8,7 +8,7 @@ use Rattle.sqlite_trees.specs.Tree.{Trees}
 use Rattle.gather.specs.View.{delivery_value}
 use Rattle.store.specs.Beside.{LiesBeside}
 use Rattle.store.specs.Apply.{Fills, Runs, MayCommit, HasApplied, IsTaken}
-use Rattle.store.proofs.Ran.{begun_working, rests_rolled, rests_failed, runs_err, has_taken, leaves, may_commit_err}
+use Rattle.store.proofs.Ran.{begun_working, rolled, rests_rolled, rests_failed, runs_err, has_taken, leaves, may_commit_err}
 use Rattle.store.proofs.changes.run.Goals as goal
 
 pub returns-in-Some-clause-runs : goal.returns-in-Some-clause-runs
@@ -97,14 +97,10 @@ returns-clause-crash g c content rest out beside =
 pub returns-in_err-refused-clause-runs : goal.returns-in_err-refused-clause-runs
 returns-in_err-refused-clause-runs g c clean content rest out beside =
     let h = c.args.conn.now in
-    let t = state g.S.Store (record h { in_transaction = true }) in
-    let m = state g.S.Store c.fill.new.tx.conn.now in
     let names = c.args.follow.now in
     let d = delivery_value c.args.delivery.now in
     let same : c.drop-tx.new.self.0 ≡ c.conn-1.given.0 = search rules in
     let n = state g.S.Store c.drop-tx.new.self.0 in
     let late : HasCleanDisk n = subst (λ k. HasCleanDisk (state g.S.Store k)) (sym same) clean in
-    let early : HasCleanDisk m = omega (arith, c.drop-tx.ensures.survives.clean, late) in
-    let kept : KeepsCommit t m = (rw c.transaction-tx.ensures.begun at c.in_err-refused.ensures.kept) early (begun_working g.S.Store h names content rest) in
-    subst (λ k. Runs names content d (state g.S.Store h) (state g.S.Store k) c.from_residual.result) same
-    (runs_err names content d (state g.S.Store h) n c.from_residual.result c.from_residual.ensures.0 (rests_rolled t m n rest.settled kept (c.drop-tx.ensures.undone late)))
+    subst (λ k. Runs names content d (state g.S.Store h) (state g.S.Store k) c.from_residual.result) same (runs_err names content d (state g.S.Store h) n c.from_residual.result c.from_residual.ensures.0
+    (rolled g.S.Store h (state g.S.Store c.fill.new.tx.conn.now) n rest.settled (λ early. (rw c.transaction-tx.ensures.begun at c.in_err-refused.ensures.kept) early (begun_working g.S.Store h names content rest)) c.drop-tx.ensures.survives c.drop-tx.ensures.undone late))
