@@ -40,7 +40,7 @@ pub fn show<'a, W: Write>(
     let encoding = encoding_of(choice.bytes, format)?;
     let only = tables(rt.alloc(), choice.only.unwrap_or(&[]))?;
     let mut store = open(rt, file, None)?;
-    let shown = write_rows(rt.alloc(), file, &mut store, &only, format, encoding, out);
+    let shown = write_rows(rt.alloc(), file, &mut store, only, format, encoding, out);
     close_after(file, store, shown)?;
     Ok(DONE)
 }
@@ -50,7 +50,7 @@ fn write_rows<'a, S: Alter, W: Write>(
     alloc: Global,
     name: &'a str,
     store: &mut Store<S>,
-    only: &Follow,
+    only: Follow,
     format: Format,
     encoding: Encoding,
     out: &mut W,
@@ -75,7 +75,7 @@ fn write_records<'a, S: Alter, W: Write>(
     alloc: Global,
     name: &'a str,
     store: &mut Store<S>,
-    only: &Follow,
+    only: Follow,
     encoding: Encoding,
     out: &mut W,
 ) -> Result<(), Failure<'a>> {
@@ -108,7 +108,7 @@ pub fn list<'a, S: Alter, V: Visitor<Error = io::Error>>(
 /// Writes a line for each row of these tables.
 #[derive(Drop)]
 struct Lines<'o, W> {
-    only: &'o Follow,
+    only: Follow,
     out: &'o mut W,
 }
 
@@ -129,7 +129,7 @@ impl<W: Write> Visitor for Lines<'_, W> {
 #[derive(Drop)]
 struct Records<'o, W: Write> {
     alloc: Global,
-    only: &'o Follow,
+    only: Follow,
     encoding: Encoding,
     records: Writer<&'o mut W>,
 }
@@ -151,7 +151,7 @@ impl<W: Write> Visitor for Records<'_, W> {
 #[derive(Drop)]
 struct Objects<'o, W> {
     alloc: Global,
-    only: &'o Follow,
+    only: Follow,
     encoding: Encoding,
     out: &'o mut W,
 }
