@@ -1,4 +1,4 @@
-use Rattle.std.proofs.Common.{◌≡◌, true, rules, arith, sym, subst}
+use Rattle.std.proofs.Common.{◌≡◌, true, rules, arith}
 use Rattle.sqlite.specs.State.{HasCleanDisk, KeepsCommit, Survives}
 use Rattle.sqlite.specs.Held.{state}
 use Rattle.sqlite.proofs.Callers.{survives_begin}
@@ -27,13 +27,12 @@ returns-clause-replaces g c clean names content rest is =
     let m = state g.S.Store c.replace_all.new.tx.conn.now in
     let n = state g.S.Store c.commit.new.self.0 in
     let working = begun_working g.S.Store h names content rest in
-    let same : c.commit.new.self.0 ≡ c.conn-2-1.given.0 = search rules in
-    let late : HasCleanDisk n = subst (λ k. HasCleanDisk (state g.S.Store k)) (sym same) clean in
+    let late : HasCleanDisk n = search (rules, clean) in
     let early : HasCleanDisk m = omega (arith, c.commit.ensures.survives.clean, late) in
     let kept : KeepsCommit t m = (rw c.transaction-tx.ensures.begun at c.in_ok-replace_all.ensures.kept) early working in
     let records : Records t m c.args.after.now = (rw c.transaction-tx.ensures.begun at c.in_ok-replace_all.ensures.records) early working rest.stands.executed.spans (stored_of g.S.Store h names content rest c.args.executed.now is) in
-    subst (λ k. Replaces names (with_executed c.args.after.now content) (state g.S.Store h) (state g.S.Store k) c.commit.result) same
-    (replaced g.S.Store h names content rest c.args.after.now m c.in_ok-replace_all.ensures.lawful records n c.commit.result kept (c.commit.ensures.ok late) (c.commit.ensures.err late))
+    let done : Replaces names (with_executed c.args.after.now content) (state g.S.Store h) n c.commit.result = replaced g.S.Store h names content rest c.args.after.now m c.in_ok-replace_all.ensures.lawful records n c.commit.result kept (c.commit.ensures.ok late) (c.commit.ensures.err late) in
+    search (rules, done)
 
 pub returns-clause-crash : goal.returns-clause-crash
 returns-clause-crash g c names content rest is =
@@ -42,10 +41,10 @@ returns-clause-crash g c names content rest is =
     let m = state g.S.Store c.replace_all.new.tx.conn.now in
     let n = state g.S.Store c.commit.new.self.0 in
     let working = begun_working g.S.Store h names content rest in
-    let same : c.commit.new.self.0 ≡ c.conn-2-1.given.0 = search rules in
     let records : HasCleanDisk m → Records t m c.args.after.now = λ early. (rw c.transaction-tx.ensures.begun at c.in_ok-replace_all.ensures.records) early working rest.stands.executed.spans (stored_of g.S.Store h names content rest c.args.executed.now is) in
     let may : Trees → Type 0 = λ db. AreOf h.schema names (with_executed c.args.after.now content) db × SparesBeside (state g.S.Store h).now db in
-    subst (λ k. Survives (state g.S.Store h) (state g.S.Store k) may) same
-    (survives_begin g.S.Store h n may (survives_then t m n (λ _. ⊥) (λ db. db ≡ m.now.trees) may (λ _ db none. absurd none)
+    let survives : Survives (state g.S.Store h) n may =
+    survives_begin g.S.Store h n may (survives_then t m n (λ _. ⊥) (λ db. db ≡ m.now.trees) may (λ _ db none. absurd none)
     (λ clean db is. may_replace g.S.Store h names content rest c.args.after.now m c.in_ok-replace_all.ensures.lawful (records (omega (arith, c.commit.ensures.survives.clean, clean))) db is)
-    (rw c.transaction-tx.ensures.begun at c.in_ok-replace_all.ensures.survives) c.commit.ensures.survives))
+    (rw c.transaction-tx.ensures.begun at c.in_ok-replace_all.ensures.survives) c.commit.ensures.survives) in
+    search (rules, survives)
