@@ -139,6 +139,7 @@ fn count(alloc: Global, store: &mut Store<MemStore>, want: u64) -> Option<End> {
 }
 
 /// Counts the rows of a list, of which each is there once.
+#[derive(Drop)]
 struct Rows(u64);
 
 impl Visitor for Rows {
