@@ -1,6 +1,6 @@
 //! A connection to the files of a database, with room for more pages than the crate `sqlite` takes by itself.
 
-ghost use Rattle.std.specs.Prelude.{true, false, IsTrue, IfOk};
+ghost use Rattle.std.specs.Prelude.{◌≡◌, true, false, codes, IsTrue, IfOk, Err};
 ghost use Rattle.sqlite_wal.specs.Files.{image_at};
 ghost use Rattle.sqlite_std_file.specs.File.{file_is_usable, IsFresh};
 ghost use Rattle.sqlite.specs.State.{HasCleanDisk};
@@ -26,11 +26,16 @@ const NO_MEMORY: Error = Error::SqliteFailure(ErrorCode::OutOfMemory);
 
 const CANNOT_OPEN: Error = Error::SqliteFailure(ErrorCode::CannotOpen);
 
-/// Opens the database file and its log, which are made if they are not there, and locks them.
+/// Opens the database file and its log, which are made if they are not there, and locks them. It refuses `:memory:`, which
+/// SQLite takes for no file, and a URI, as `Connection::open_from` does.
 fn open_pair<P: Start>(rt: &HostRuntime, path: &str, start: P) -> Result<Files<FileFrom<P>>, Error>
     ensures usable { IfOk result (λ files. IsTrue (file_is_usable P.Start files.log) × IsTrue (file_is_usable P.Start files.db)) }
     ensures fresh { IfOk result (λ files. IsFresh true files.log × IsFresh false files.db) }
+    ensures memory { path.now ≡ codes ":memory:" → result ≡ Err (Error.SqliteFailure ErrorCode.CannotOpen) }
 {
+    if path == ":memory:" || path.starts_with("file:") {
+        return Err(CANNOT_OPEN);
+    }
     match sqlite_std_file::open(rt, path, start) {
         Ok(files) => Ok(files),
         Err(OpenError::OutOfMemory) => Err(NO_MEMORY),
