@@ -117,6 +117,19 @@ pub listed_same : (groups : List Group) (k : ℕ) (old new : Group) (s : List �
 listed_same groups k old new s short at from to same q =
     listed_set groups k old new s (λ n. false) short at from to (λ n. ap (λ is. has is n) same) q ∙ ap (λ b. b || is_listed q groups) (and_right (bytes_eq q.0 s) false refl)
 
+-- another group of the same source in the place of one
+pub ascend_set : (groups : List Group) (k : ℕ) (old new : Group) → k < length groups → old ≡ slice_index_or groups k old → new.source ≡ old.source → Ascend (sources groups) → Ascend (sources (slice_set groups k new))
+ascend_set groups k old new there is same ascend =
+    let at = any_default groups k old there is in
+    subst Ascend (sym (sources_set groups k new (λ d. ap (λ g. g.source) (at d) ∙ sym same))) ascend
+
+pub same_set : (groups : List Group) (k : ℕ) (old new : Group) (s : List ℕ) → (k < length groups) × ((d : Group) → (slice_index_or groups k d).source ≡ s) → old ≡ slice_index_or groups k old → new.source ≡ old.source →
+    new.intervals.items ≡ old.intervals.items → (q : Id) → is_listed q (slice_set groups k new) ≡ is_listed q groups
+same_set groups k old new s found is same =
+    let at = any_default groups k old found.0 is in
+    let from = ap (λ g. g.source) (sym (at old)) ∙ found.1 old in
+    listed_same groups k old new s found.0 at from (same ∙ from)
+
 pub if_ok : {T E P : Type 0} {A B : T → Type 0} (r : Result T E) → IfOk r A → OnOk r P → ((x : T) → A x → P → B x) → IfOk r B
 if_ok (Ok x) a p f = f x a p
 if_ok (Err e) a p f = tt

@@ -1,15 +1,13 @@
 use Rattle.std.proofs.Common.{◌≡◌, ◌∙◌, not, nat_eq, IfOk, ap, sym, subst}
 use Rattle.std.proofs.lemmas.Bool.{true≢false}
 use Rattle.gtid.specs.Group.{Ascend, sources}
-use Rattle.gtid.proofs.Found.{sources_set, listed_set, listed_same, listed_at, listed_gap, listed_insert, ascend_insert, any_default, on_ok, on_err}
+use Rattle.gtid.proofs.Found.{ascend_set, listed_set, listed_same, listed_at, listed_gap, listed_insert, ascend_insert, any_default, on_ok, on_err}
 use Rattle.gtid.proofs.groups.insert.Goals as goal
 
 pub returns-in-Ok-clause-ascend : goal.returns-in-Ok-clause-ascend
 returns-in-Ok-clause-ascend c =
     let found = rw c.deref.ensures.value at c.in-Ok.ensures.found in
-    let old = c.index_mut.result.now in
-    let at = any_default c.args.groups.now.items c.in-Ok.at old found.0 c.index_mut.ensures.value in
-    subst Ascend (sym (sources_set c.args.groups.now.items c.in-Ok.at c.insert.new.self (λ d. ap (λ g. g.source) (at d) ∙ sym c.insert.ensures.source))) c.requires.ascend
+    ascend_set c.args.groups.now.items c.in-Ok.at c.index_mut.result.now c.insert.new.self found.0 c.index_mut.ensures.value c.insert.ensures.source c.requires.ascend
 
 pub returns-in-Ok-clause-answer : goal.returns-in-Ok-clause-answer
 returns-in-Ok-clause-answer c =

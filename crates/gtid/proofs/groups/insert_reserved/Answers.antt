@@ -1,15 +1,13 @@
 use Rattle.std.proofs.Common.{◌∙◌, nat_eq, ap, sym, subst, arith}
 use Rattle.gtid.specs.Group.{Ascend, sources}
-use Rattle.gtid.proofs.Found.{sources_set, listed_set, listed_insert, ascend_insert, any_default}
+use Rattle.gtid.proofs.Found.{ascend_set, listed_set, listed_insert, ascend_insert, any_default}
 use Rattle.gtid.proofs.Roomy.{on_room, with_room}
 use Rattle.gtid.proofs.groups.insert_reserved.Goals as goal
 
 pub returns-in-Within-clause-ascend : goal.returns-in-Within-clause-ascend
 returns-in-Within-clause-ascend c =
     let fits = rw c.in-Within.is at c.requires.room in
-    let old = c.index_mut.result.now in
-    let at = any_default c.args.groups.now.items c.in-Within.at old fits.there.0 c.index_mut.ensures.value in
-    subst Ascend (sym (sources_set c.args.groups.now.items c.in-Within.at c.insert-new.new.self (λ d. ap (λ g. g.source) (at d) ∙ sym c.insert-new.ensures.source))) c.requires.ascend
+    ascend_set c.args.groups.now.items c.in-Within.at c.index_mut.result.now c.insert-new.new.self fits.there.0 c.index_mut.ensures.value c.insert-new.ensures.source c.requires.ascend
 
 pub returns-in-Within-clause-adds : goal.returns-in-Within-clause-adds
 returns-in-Within-clause-adds c =
