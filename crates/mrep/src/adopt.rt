@@ -10,7 +10,7 @@ ghost use Rattle.store.specs.Store.{Holds, HoldsAs, database};
 
 use crate::database::{close_after, open};
 use crate::failure::{DONE, Failure};
-use crate::minus::read;
+use crate::set_text::read;
 use crate::sets::missing_text;
 use gtid::GtidSet;
 use sqlite::Alter;

@@ -107,18 +107,29 @@ fn option<'a>(alloc: Global, name: &'a str, value: &'a str, help: &'a str) -> Ar
     needed(alloc, name, help).long(name).value_name(value)
 }
 
-/// The options for the source and the account.
-fn who<'a>(alloc: Global, command: Command<'a>) -> Result<Command<'a>, AllocError> {
+/// The options for the source.
+fn source<'a>(alloc: Global, command: Command<'a>) -> Result<Command<'a>, AllocError> {
+    let host = "The source's host name or address";
     let port = "The source's port, from 1 to 65535";
+    command
+        .arg(option(alloc, "host", "H", host))?
+        .arg(option(alloc, "port", "P", port))
+}
+
+/// The options for the account.
+fn account<'a>(alloc: Global, command: Command<'a>) -> Result<Command<'a>, AllocError> {
     let user = "The name of the replication account";
     let password = "The file with the password; one line feed at its end is ignored";
-    let server_id = "The server id of the replica, from 1 to 4294967295";
     command
-        .arg(option(alloc, "host", "H", "The source's host name or address"))?
-        .arg(option(alloc, "port", "P", port))?
         .arg(option(alloc, "user", "U", user).allow_hyphen_values(true))?
-        .arg(option(alloc, "password-file", "W", password).allow_hyphen_values(true))?
-        .arg(option(alloc, "server-id", "I", server_id))
+        .arg(option(alloc, "password-file", "W", password).allow_hyphen_values(true))
+}
+
+/// The options for the source, the account and the replica's own id.
+fn who<'a>(alloc: Global, command: Command<'a>) -> Result<Command<'a>, AllocError> {
+    let server_id = "The server id of the replica, from 1 to 4294967295";
+    let command = source(alloc, command)?;
+    account(alloc, command)?.arg(option(alloc, "server-id", "I", server_id))
 }
 
 /// An optional flag.

@@ -1,12 +1,10 @@
 //! The cells of rows as they are printed.
 
+use crate::hex::write_hex;
 use binlog::Cell;
 use gather::Image;
 use std::io;
 use std::io::Write;
-
-/// The hexadecimal digits by their value.
-const DIGITS: [u8; 16] = *b"0123456789abcdef";
 
 /// Writes a cell: `null`; a number in decimal digits, `/` and its width; or bytes as `x` and hexadecimal digits.
 fn write_cell<W: Write>(cell: Cell<'_>, out: &mut W) -> io::Result<()> {
@@ -18,15 +16,6 @@ fn write_cell<W: Write>(cell: Cell<'_>, out: &mut W) -> io::Result<()> {
             write_hex(bytes, out)
         }
     }
-}
-
-/// Writes bytes as two hexadecimal digits each.
-pub fn write_hex<W: Write>(bytes: &[u8], out: &mut W) -> io::Result<()> {
-    for byte in bytes {
-        let digits = [DIGITS[(*byte / 16) as usize], DIGITS[(*byte % 16) as usize]];
-        out.write_all(&digits)?;
-    }
-    Ok(())
 }
 
 /// Writes a cell, after a comma if it is not the first.

@@ -40,6 +40,8 @@ const DAMAGED: &str =
 const READ_ONLY: &str =
     "the file may only be read, and each command locks it for writing and keeps a log beside it";
 
+const NO_FILE: &str = "not the name of a file to SQLite: put ./ before it";
+
 const NOT_USABLE: &str =
     "unable to open database file: it has several names or is no file, sqlite3 has left a journal, or its log or folder cannot be written";
 
@@ -223,8 +225,12 @@ fn is_database(rt: &HostRuntime, name: &str) -> io::Result<bool> {
     Ok(read_head::<16>(rt, name)? == Some(MAGIC))
 }
 
-/// The failure of a database file that the system does not open: the system's cause, if it refuses the file itself.
+/// The failure of a database file that is not opened: its name, if SQLite has another meaning for that; or the system's
+/// cause, if the system refuses the file itself.
 fn cannot_open<'a>(rt: &HostRuntime, name: &'a str) -> Failure<'a> {
+    if name == ":memory:" || name.starts_with("file:") {
+        return Failure::Unusable { name, why: NO_FILE };
+    }
     match try_open(rt, name) {
         Ok(()) => Failure::Unusable {
             name,

@@ -7,11 +7,12 @@
 use crate::failure::Failure;
 use crate::format::Encoding;
 use crate::json_lines::{write_image, write_label};
+use crate::set_text::text_of;
 use gather::{Change, Delivery, Image};
 use gtid::{Gtid, GtidSet};
 use std::alloc::{AllocError, Global};
 use std::fs::{File, OpenOptions};
-use std::io::{BufWriter, ErrorKind, Read, Seek, SeekFrom, Write};
+use std::io::{BufWriter, Read, Seek, SeekFrom, Write};
 use std::{fs, io};
 
 /// The word for the output of the command.
@@ -195,15 +196,6 @@ fn write_entry<W: Write>(
 /// Writes the line of a transaction's end.
 fn write_end<W: Write>(kind: &str, gtid: Gtid, out: &mut W) -> io::Result<()> {
     writeln!(out, "{{\"type\":\"{kind}\",\"gtid\":\"{gtid}\"}}")
-}
-
-/// The text of a set.
-fn text_of(alloc: Global, ids: &GtidSet) -> io::Result<String> {
-    let mut text = String::new(alloc);
-    match ids.print(&mut text) {
-        Ok(()) => Ok(text),
-        Err(_) => Err(ErrorKind::OutOfMemory.into()),
-    }
 }
 
 /// Writes the line of a change: an object with the row before it, the row after it, or both.

@@ -1,7 +1,7 @@
 //! Rows as JSON objects (RFC 8259).
 
-use crate::cells::write_hex;
 use crate::format::Encoding;
+use crate::hex::write_hex;
 use crate::name::write_name;
 use base64::engine::general_purpose::STANDARD;
 use binlog::Cell;

@@ -1,12 +1,12 @@
 //! `mrep minus`: a GTID set without the members of another.
 
-ghost use Rattle.std.specs.Prelude.{◌≡◌, ◌≤◌, [], string_bytes, IfOk};
+ghost use Rattle.std.specs.Prelude.{◌≡◌, [], string_bytes, IfOk};
 ghost use Rattle.std.specs.FinSet as set;
 ghost use Rattle.gtid.specs.Identifier.{Ids};
 ghost use Rattle.gtid.specs.Text.{IsRead, AppendsText};
 
 use crate::failure::{DONE, Failure};
-use gtid::{GtidFault, GtidSet};
+use crate::set_text::{read, text_of};
 use std::alloc::Global;
 use std::io::Write;
 
@@ -33,20 +33,6 @@ fn difference<'a>(alloc: Global, left: &str, right: &str) -> Result<String, Fail
     let Ok(()) = kept.subtract(&taken) else {
         return Err(Failure::Memory);
     };
-    let mut text = String::new(alloc);
-    let Ok(()) = kept.print(&mut text) else {
-        return Err(Failure::Memory);
-    };
+    let text = text_of(alloc, &kept)?;
     Ok(text)
-}
-
-/// The set whose text this argument is.
-pub fn read<'a>(alloc: Global, word: &'a str, text: &str) -> Result<GtidSet, Failure<'a>>
-    ensures { IfOk result (λ read. (ids : Ids) → IsRead text.now ids → read ≡ ids) }
-{
-    match GtidSet::parse(alloc, text) {
-        Ok(set) => Ok(set),
-        Err(GtidFault::Memory) => Err(Failure::Memory),
-        Err(cause) => Err(Failure::Set { word, cause }),
-    }
 }

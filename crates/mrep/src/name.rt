@@ -1,5 +1,6 @@
 //! Names of schemas and tables, as they are printed and as an argument gives them; and of files, as messages print them.
 
+use crate::hex::{byte_of, digits_of};
 use std::alloc::{AllocError, Global};
 use std::io::Write;
 use std::{fmt, io};
@@ -35,7 +36,10 @@ pub fn write_name<W: Write>(name: &[u8], out: &mut W) -> io::Result<()> {
             plain @ (b'0'..=b'9' | b'A'..=b'Z' | b'a'..=b'z' | b'_' | b'$') => {
                 out.write_all(&[plain])?
             }
-            other => write!(out, "%{other:02x}")?,
+            other => {
+                let [high, low] = digits_of(other);
+                out.write_all(&[MARK, high, low])?;
+            }
         }
     }
     Ok(())
@@ -46,21 +50,6 @@ pub fn write_table<W: Write>(schema: &[u8], table: &[u8], out: &mut W) -> io::Re
     write_name(schema, out)?;
     write!(out, ".")?;
     write_name(table, out)
-}
-
-/// The value of a hexadecimal digit, in either case.
-fn digit(byte: u8) -> Option<u8> {
-    match byte {
-        b'0'..=b'9' => Some(byte - b'0'),
-        b'a'..=b'f' => Some(byte - b'a' + 10),
-        b'A'..=b'F' => Some(byte - b'A' + 10),
-        _ => None,
-    }
-}
-
-/// The byte of two hexadecimal digits.
-fn byte_of(high: u8, low: u8) -> Option<u8> {
-    Some(digit(high)? << 4 | digit(low)?)
 }
 
 /// The bytes of a name that is written as by `write_name`, in which any other byte may be written as itself too. `None`

@@ -4,6 +4,7 @@ ghost use Rattle.std.specs.Prelude.{◌≡◌, ◌≤◌};
 ghost use Rattle.mrep.specs.Reason.{status_of, first_status};
 
 use crate::failure::{DONE, FILES, MEMORY, REFUSED};
+use crate::hex::digits_of;
 use crate::name::Shown;
 use binlog::EventFaultKind;
 use gather::GatherFault;
@@ -152,7 +153,10 @@ pub fn write_escaped<W: Write>(text: &[u8], out: &mut W) -> io::Result<()> {
     for byte in text {
         match *byte {
             plain @ (b' '..=b'[' | b']'..=b'~') => out.write_all(&[plain])?,
-            other => write!(out, "\\x{other:02x}")?,
+            other => {
+                let [high, low] = digits_of(other);
+                out.write_all(&[b'\\', b'x', high, low])?;
+            }
         }
     }
     Ok(())

@@ -9,7 +9,7 @@ ghost use Rattle.store.specs.Store.{HoldsAs};
 
 use crate::database::{close_after, open};
 use crate::failure::{DONE, Failure};
-use crate::minus::read;
+use crate::set_text::{read, text_of};
 use gtid::GtidSet;
 use sqlite::Alter;
 use std::alloc::Global;
@@ -44,22 +44,12 @@ pub fn missing<'a, W: Write>(
     Ok(DONE)
 }
 
-/// The text of a set.
-fn text_of<'a>(alloc: Global, ids: &GtidSet) -> Result<String, Failure<'a>>
-    ensures { IfOk result (λ text. AppendsText ids.now [] (string_bytes text)) }
-{
-    let mut text = String::new(alloc);
-    match ids.print(&mut text) {
-        Ok(()) => Ok(text),
-        Err(_) => Err(Failure::Memory),
-    }
-}
-
 /// The text of the executed set.
 fn executed_text<'a, S: Alter>(alloc: Global, store: &Store<S>) -> Result<String, Failure<'a>>
     ensures { IfOk result (λ text. (broken : Bool) (content : Content) → HoldsAs S.Store broken content store.now → AppendsText content.executed [] (string_bytes text)) }
 {
-    text_of(alloc, store.executed())
+    let text = text_of(alloc, store.executed())?;
+    Ok(text)
 }
 
 /// The text of a set without the members of the executed set.
@@ -73,5 +63,6 @@ pub fn missing_text<'a, S: Alter>(
     let Ok(()) = asked.subtract(store.executed()) else {
         return Err(Failure::Memory);
     };
-    text_of(alloc, &asked)
+    let text = text_of(alloc, &asked)?;
+    Ok(text)
 }

@@ -33,12 +33,17 @@ fn name(letter: u8) -> &'static [u8] {
     }
 }
 
-/// The table map of a letter's table.
-fn table(alloc: Global, letter: u8) -> Option<Rc<TableDef>> {
+/// The schema and the name of a letter's table.
+fn names(alloc: Global, letter: u8) -> Option<(Vec<u8>, Vec<u8>)> {
     let schema = Vec::from_slice(alloc, b"shop").ok()?;
     let table = Vec::from_slice(alloc, name(letter)).ok()?;
-    let def = TableDef::new(schema, table, Vec::new(alloc));
-    Rc::new(alloc, def).ok()
+    Some((schema, table))
+}
+
+/// The table map of a letter's table.
+fn table(alloc: Global, letter: u8) -> Option<Rc<TableDef>> {
+    let (schema, table) = names(alloc, letter)?;
+    Rc::new(alloc, TableDef::new(schema, table, Vec::new(alloc))).ok()
 }
 
 fn insert(alloc: Global, letter: u8) -> Option<Change> {
@@ -106,6 +111,11 @@ fn count<S: Alter>(alloc: Global, store: &mut Store<S>, letter: u8) -> Option<u6
 fn executed<S: Alter>(alloc: Global, store: &Store<S>) -> Option<String> {
     let mut text = String::new(alloc);
     store.executed().print(&mut text).ok()?;
+    numbers_in(alloc, text.as_str())
+}
+
+/// The text of a set, without the source.
+fn numbers_in(alloc: Global, text: &str) -> Option<String> {
     let numbers = text
         .strip_prefix("3e11fa47-71ca-11e1-9e33-c80aa9429562:")
         .unwrap_or("none");
@@ -129,13 +139,11 @@ pub(super) fn held<S: Alter>(alloc: Global, store: &mut Store<S>) -> Result<Stri
 
 /// The filter of these tables of the schema `shop`, each given by its letter.
 pub(super) fn filter(alloc: Global, letters: &str) -> Option<Follow> {
-    let mut names = Vec::new(alloc);
+    let mut all = Vec::new(alloc);
     for letter in letters.as_bytes() {
-        let schema = Vec::from_slice(alloc, b"shop").ok()?;
-        let table = Vec::from_slice(alloc, name(*letter)).ok()?;
-        names.push((schema, table)).ok()?;
+        all.push(names(alloc, *letter)?).ok()?;
     }
-    Follow::new(alloc, names.as_slice()).ok()
+    Follow::new(alloc, all.as_slice()).ok()
 }
 
 /// Opens a database for a filter.

@@ -34,14 +34,24 @@ pub(super) fn ends<S: Alter>(
     store: &mut Store<S>,
     streams: &[&[u8]],
 ) -> Result<Vec<Ended>, Fail> {
+    let config = config(alloc, b"", LARGEST_PAYLOAD)?;
+    let connections = connections(alloc, streams)?;
+    Ok(run(alloc, &config, store, &connections)?)
+}
+
+/// Connections of one piece each.
+fn connections(alloc: Global, streams: &[&[u8]]) -> Result<Vec<Vec<Vec<u8>>>, Fail> {
     let mut connections = Vec::new(alloc);
     for stream in streams {
-        let mut pieces = Vec::new(alloc);
-        pieces.push(Vec::from_slice(alloc, stream)?)?;
-        connections.push(pieces)?;
+        connections.push(one_piece(alloc, stream)?)?;
     }
-    let config = config(alloc, b"", LARGEST_PAYLOAD)?;
-    Ok(run(alloc, &config, store, &connections)?)
+    Ok(connections)
+}
+
+/// The pieces of a connection that comes in one.
+fn one_piece(alloc: Global, stream: &[u8]) -> Result<Vec<Vec<u8>>, Fail> {
+    let piece = Vec::from_slice(alloc, stream)?;
+    Ok(Vec::from_array(alloc, [piece])?)
 }
 
 /// How a connection ended: why, the bytes of the payloads taken, and how many transactions were applied.

@@ -29,11 +29,9 @@ fn items(alloc: Global, long: bool) -> Option<TableDef> {
 
 /// A row of shop.items.
 fn row(alloc: Global, value: u64, text: &[u8]) -> Option<Vec<OwnedCell>> {
-    let mut cells = Vec::new(alloc);
-    cells.push(OwnedCell::Number { value, width: 4 }).ok()?;
     let text = Vec::from_slice(alloc, text).ok()?;
-    cells.push(OwnedCell::Bytes(text)).ok()?;
-    Some(cells)
+    let number = OwnedCell::Number { value, width: 4 };
+    Vec::from_array(alloc, [number, OwnedCell::Bytes(text)]).ok()
 }
 
 /// An insert of a row.

@@ -177,38 +177,56 @@ fn made<S: Alter + Drop>(mut conn: Connection<S>, sql: &str) -> Result<Connectio
     Ok(conn)
 }
 
-/// The files before the job.
-fn before(alloc: Global, job: Job) -> Result<Files<Memory>, Fail> {
-    let files = Files {
+/// Files with nothing in them.
+fn new_files(alloc: Global) -> Files<Memory> {
+    Files {
         log: Memory::new(alloc),
         db: Memory::new(alloc),
-    };
-    let sql = beginning(job);
-    if sql.is_empty() {
-        return Ok(files);
     }
-    match connect(alloc, files) {
+}
+
+/// The files of a database that these statements make.
+fn filled(alloc: Global, sql: &str) -> Result<Files<Memory>, Fail> {
+    match connect(alloc, new_files(alloc)) {
         Ok(conn) => finished(made(conn, sql)?),
         Err(_) => Err("no connection".into()),
     }
+}
+
+/// The files before the job.
+fn before(alloc: Global, job: Job) -> Result<Files<Memory>, Fail> {
+    match beginning(job) {
+        "" => Ok(new_files(alloc)),
+        sql => filled(alloc, sql),
+    }
+}
+
+/// Whether a store takes a transaction: 1, or 0 if it fails.
+fn take<S: Alter>(alloc: Global, store: &mut Store<S>) -> Result<u64, Fail> {
+    let delivery = delivery(alloc, 1, "p-=")?;
+    Ok(u64::from(store.apply(&delivery).is_ok()))
+}
+
+/// Whether a store adopts a set: 1, or 0 if it fails.
+fn adopt<S: Alter>(alloc: Global, store: &mut Store<S>) -> Result<u64, Fail> {
+    let set = gtids(alloc, "1:5-6").ok_or("no set")?;
+    Ok(u64::from(store.adopt(&set).is_ok()))
+}
+
+/// How many transactions of a connection are applied, and 1 for the opening.
+fn read<S: Alter>(alloc: Global, store: &mut Store<S>) -> Result<u64, Fail> {
+    let stream = three_transactions(alloc)?;
+    let ends = ends(alloc, store, &[&stream])?;
+    Ok(ends.iter().fold(1, |done, end| end.applied.saturating_add(done)))
 }
 
 /// How many steps of the job have been done with a store: its opening and the transactions that it takes.
 fn work<S: Alter>(alloc: Global, job: Job, store: &mut Store<S>) -> Result<u64, Fail> {
     match job {
         Job::Make | Job::Migrate => Ok(1),
-        Job::Take => match store.apply(&delivery(alloc, 1, "p-=")?) {
-            Ok(_) => Ok(1),
-            Err(_) => Ok(0),
-        },
-        Job::Adopt => match store.adopt(&gtids(alloc, "1:5-6").ok_or("no set")?) {
-            Ok(()) => Ok(1),
-            Err(_) => Ok(0),
-        },
-        Job::Run => match ends(alloc, store, &[&three_transactions(alloc)?])?.as_slice() {
-            [end] => Ok(end.applied.saturating_add(1)),
-            _ => Ok(1),
-        },
+        Job::Take => take(alloc, store),
+        Job::Adopt => adopt(alloc, store),
+        Job::Run => read(alloc, store),
     }
 }
 

@@ -9,4 +9,4 @@ returns c x y is_x is_y =
     let left = c.in_ok-kept.ensures x is_x in
     let right = c.in_ok-taken.ensures y is_y in
     let kept = c.in-Ok.ensures.ok ∙ (λ i. set.difference (left i) (right i)) in
-    subst (λ t. t) (λ i. AppendsText (kept i) (c.new-text.ensures.bytes i) (string_bytes c.print.new.out)) c.in-Ok-print.ensures.ok
+    subst (λ ids. AppendsText ids [] (string_bytes c.in_ok-text.result)) kept c.in_ok-text.ensures
