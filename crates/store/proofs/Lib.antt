@@ -3,6 +3,7 @@ pub mod AnySchema
 pub mod AnyWhole
 pub mod AnyMaking
 pub mod Beside
+pub mod Frozen
 pub mod Spared
 pub mod Selects
 pub mod Works
