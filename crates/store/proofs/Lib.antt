@@ -40,6 +40,7 @@ pub mod Laid
 pub mod SpanRows
 pub mod Loading
 pub mod Steps
+pub mod InTurn
 pub mod Entered
 pub mod Lives
 pub mod Known
