@@ -108,7 +108,7 @@ pub still_beside : (old new : State) (edit : Edit) (at : ℕ) → old.in_transac
     → list_any (same_name edit.table.name) (own_names old.committed.schema) ≡ true → LiesBeside new.committed new.now
 still_beside old new edit at inside beside sound h found named =
     subst (λ c. LiesBeside c new.now) (sym (h.shown.committed_is ∙ ap (λ b. cond b old.committed new.now) inside))
-    (beside_written old.committed old.now new.now beside sound h.sound edit.table.tree h.schema_is (own_found (own_names old.committed.schema) old.now.schema at edit.table found named) h.step.tables)
+    (beside_written old.committed old.now new.now edit.table.tree beside sound h.sound h.frozen h.schema_is (own_found (own_names old.committed.schema) old.now.schema at edit.table found named) h.step.tables)
 
 module _ (old new : State) (was : IsWorking old) where
   abbrev schema : Schema

@@ -18,13 +18,14 @@ use Rattle.sqlite_rules.proofs.ListLemmas.{all_has, all_from, some_has, some_fro
 use Rattle.sqlite_catalog.specs.Change.{without_table, next_tree, past_views, KeepsRows}
 use Rattle.sqlite.specs.Does.{lacks_sequence, is_acted_on}
 use Rattle.sqlite.specs.Rows.{sequence}
-use Rattle.sqlite.specs.Effect.{Database, IsDatabase}
+use Rattle.sqlite.specs.Effect.{Database, IsDatabase, SparesFrozen}
 use Rattle.store.specs.Layout.{meta, held, tree_named, executed_tree, meta_tree, held_tree, meta_at, held_at, executed_at, IsFound, HasTable, IsApart, IsNoParent, IsFirstLaidOut}
 use Rattle.store.specs.Beside.{own_names, is_own, tables_beside, indexes_beside, LiesBeside}
 use Rattle.store.specs.Migrating.{IsCut}
 use Rattle.store.proofs.AnyWhole.{has_index}
 use Rattle.store.proofs.Beside.{tree_is, has_table}
 use Rattle.store.proofs.Effects.{other_tree}
+use Rattle.store.proofs.Frozen.{follows_left}
 use Rattle.store.proofs.Spared.{beside_then}
 
 -- ---- Look-ups in the items that pass a test.
@@ -274,10 +275,10 @@ module _ (names : List (List ℕ)) (schema : Schema) (tree : ℕ) (own : is_own 
       (all_from (λ (i : Index). not (is_own names (without_table schema tree) i.table) ≡ not (is_own names schema i.table)) (filter q schema.indexes) (λ i has. ap not (owner_left i.table (not_equal i.table (has_filtered q schema.indexes i has).1))))
       ∙ filter-filter (λ (i : Index). not (is_own names schema i.table)) q (λ i. beside_off i.table) schema.indexes
 
-pub beside_dropped : (old mid new : Database) (tree : ℕ) → LiesBeside old mid → IsDatabase mid → IsDatabase new → is_own (own_names old.schema) mid.schema tree ≡ true → new.schema ≡ without_table mid.schema tree
+pub beside_dropped : (old mid new : Database) (tree : ℕ) → LiesBeside old mid → IsDatabase mid → IsDatabase new → SparesFrozen mid new → is_own (own_names old.schema) mid.schema tree ≡ true → new.schema ≡ without_table mid.schema tree
     → KeepsRows (without_table mid.schema tree).tables mid.trees new.trees → LiesBeside old new
-beside_dropped old mid new tree before sound sound_new own is rows =
+beside_dropped old mid new tree before sound sound_new spares own is rows =
     let names = own_names old.schema in
-    beside_then old mid new before sound sound_new (ap (tables_beside names) is ∙ tables_left names mid.schema tree own) (ap (indexes_beside names) is ∙ indexes_left names mid.schema tree own) (ap (λ (s : Schema). s.views) is)
+    beside_then old mid new before sound sound_new spares (follows_left mid new tree is) (ap (tables_beside names) is ∙ tables_left names mid.schema tree own) (ap (indexes_beside names) is ∙ indexes_left names mid.schema tree own)
     (λ t has outside. all_has (λ (t : Table). new.trees t.tree ≡ mid.trees t.tree) (without_table mid.schema tree).tables t rows
     (has_kept (λ (t : Table). not (t.tree == tree)) mid.schema.tables t has (beside_off names mid.schema tree own t.tree (ap not outside))))

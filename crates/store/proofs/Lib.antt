@@ -3,6 +3,7 @@ pub mod AnySchema
 pub mod AnyWhole
 pub mod AnyMaking
 pub mod Beside
+pub mod Frozen
 pub mod Spared
 pub mod Selects
 pub mod Works
@@ -39,6 +40,7 @@ pub mod Laid
 pub mod SpanRows
 pub mod Loading
 pub mod Steps
+pub mod InTurn
 pub mod Entered
 pub mod Lives
 pub mod Known

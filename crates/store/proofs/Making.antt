@@ -9,24 +9,21 @@ use Rattle.sqlite_value.specs.declared.value.Value.TheVariants.{Null, Int, Text,
 use Rattle.sqlite_value.specs.Order.{Row}
 use Rattle.sqlite_schema.specs.declared.schema.Table.{Table}
 use Rattle.sqlite_schema.specs.declared.schema.Schema.{Schema}
-use Rattle.sqlite_schema.specs.declared.schema.Keys.TheVariants.{Enforced}
-use Rattle.sqlite_schema.specs.declared.command.Command.TheVariants.{Insert, CreateTable}
-use Rattle.sqlite_schema.specs.declared.command.Source.TheVariants.{Values}
+use Rattle.sqlite_schema.specs.declared.command.Command.TheVariants.{CreateTable}
 use Rattle.sqlite_schema.specs.Names.{same_name}
 use Rattle.sqlite_catalog.specs.Change.{created, next_tree, KeepsRows}
-use Rattle.sqlite_rules.specs.Edit.{edit_of, are_fresh, is_taken, next_rowid, Applies, put_all}
+use Rattle.sqlite_rules.specs.Edit.{edit_of, are_fresh, is_taken, next_rowid, put_all}
 use Rattle.sqlite_rules.specs.declared.error.Rowids.TheVariants.{Chosen}
 use Rattle.sqlite_trees.specs.Tree.{Trees, put_row}
 use Rattle.sqlite_trees.proofs.TreeLemmas.{all-put_row}
 use Rattle.sqlite.specs.declared.error.Error.{Error}
 use Rattle.sqlite.specs.Effect.{Database, IsDatabase}
-use Rattle.sqlite.specs.Rows.{Written}
-use Rattle.sqlite.specs.Does.{Tally, OnRows, lacks_sequence}
+use Rattle.sqlite.specs.Does.{Tally, lacks_sequence}
 use Rattle.sqlite_rules.specs.Lists.{Has}
 use Rattle.sqlite_rules.proofs.ListLemmas.{all_has}
 use Rattle.sqlite.specs.Listing.{understood}
-use Rattle.sqlite.specs.State.{State, mode_of, Writes, ExecutesInside, Executes}
-use Rattle.sqlite.proofs.Callers.{IsPlain, command_of, statement_of, runs_as, one_step}
+use Rattle.sqlite.specs.State.{State, Writes, ExecutesInside, Executes}
+use Rattle.sqlite.proofs.Callers.{IsPlain, command_of, statement_of, runs_as}
 use Rattle.binlog.specs.Filter.{Name, Names, name_cmp}
 use Rattle.binlog.proofs.Admitted.{name_cmp_total, name_cmp-same}
 use Rattle.store.specs.Layout.{meta, meta_text, held, held_text, spans, spans_text, follow, follow_text, IsVacant, IsLaidOut, meta_at, held_at, spans_at, follow_at, meta_tree, held_tree, spans_tree, follow_tree}
@@ -34,8 +31,7 @@ use Rattle.store.specs.Rows.{AreNames, IsFollowRow, name_in, meta_rows, held_row
 use Rattle.store.specs.Making.{IsMaking, IsNaming, layout_row, with_tables, trees_of, with_meta, with_held, with_spans, new_layout, layout_text, layout_terms, add_name_text, add_name_terms}
 use Rattle.store.proofs.Beside.{made, laid_out, meta_at_base, held_at_one, spans_at_two, follow_at_three, counted_base, counted_one, counted_two, counted_three}
 use Rattle.store.proofs.AnyMaking.{MakesTable, runs_made, meta_makes, held_makes, spans_makes, follow_makes, layout_is, layout_plain, add_name_is, add_name_plain}
-use Rattle.store.proofs.Works.{no_works}
-use Rattle.store.proofs.Statements.{Applied, on_table, went, same_value, cast_null, cast_int}
+use Rattle.store.proofs.Statements.{puts, Applied, went, same_value, cast_null, cast_int}
 use Rattle.store.proofs.RowLemmas.{put_among}
 use Rattle.store.specs.Beside.{LiesBeside, own_names}
 use Rattle.store.proofs.Spared.{beside_made, own_meta, own_held, own_spans, own_follow}
@@ -97,7 +93,7 @@ pub still_made : (schema : Schema) (table : Table) (old new : State) (sql : List
     → new.now.schema ≡ created schema table → KeepsRows schema.tables old.now.trees new.now.trees → Writes old new None CreateTable sql [] count → LiesBeside new.committed new.now
 still_made schema table old new sql count has inside beside sound named is kept w =
     subst (λ c. LiesBeside c new.now) (sym (w.shown.committed_is ∙ ap (λ b. cond b old.committed new.now) inside))
-    (beside_made old.committed old.now new.now table beside sound w.sound named (is ∙ ap (λ s. created s table) (sym has)) (subst (λ (s : Schema). KeepsRows s.tables old.now.trees new.now.trees) (sym has) kept))
+    (beside_made old.committed old.now new.now table beside sound w.sound w.frozen named (is ∙ ap (λ s. created s table) (sym has)) (subst (λ (s : Schema). KeepsRows s.tables old.now.trees new.now.trees) (sym has) kept))
 
 module _ (ts : List Table) (sql : List ℕ) (table : Table) (m : MakesTable sql table) (named : (schema : Schema) → list_any (same_name table.name) (own_names schema) ≡ true) (counted : (base : Schema) → IsVacant base → lacks_sequence (created (with_tables base ts) table) ≡ false)
     (old new : State) where
@@ -163,45 +159,12 @@ module _ (old new : State) (l : IsLaidOut old.now.schema) where
   db = old.now.trees
 
   marked : (count : ℕ) → Executes layout_text [] old new (Ok count) → Applied schema old new (edit_of db (meta_at schema) [] Chosen 0 ((Null ∷ Text (codes "layout") ∷ Int (pos 2) ∷ []) ∷ []))
-  marked count h =
-      let command = Insert l.meta.at (Values layout_terms 3) in
-      let w = runs_as layout_text [] old new schema refl command (layout_is schema l.meta.at (meta_tree schema) l.meta.found) (layout_plain schema l.meta.at (meta_tree schema) l.meta.found) count h in
-      let done = went (on_table old.step_limit (mode_of old) [] old.now l.meta.at (meta_at schema) (λ task. OnRows task (mode_of old) None command db) (Ok (w.tally, new.now)) l.meta.found.by_index w.changed) in
-      let now = ap (λ (p : Tally × Database). p.1) (same_value (went (went done.2).2).2) in
-      let given = went done.1 in
-      let written = went (went given.2).2 in
-      let counted = went written.2 in
-      let trees : done.0.trees ≡ written.0 = ap (λ (it : Written). it.trees) (same_value counted.2) ∙ same_value counted.1 in
-      let edit = edit_of db (meta_at schema) [] Chosen 0 given.0 in
-      let step = one_step schema _ db written.0 edit (no_works schema (meta_tree schema) [] edit.news (inl refl)) written.1 in
-      let sourced = subst (λ x. Applies schema Enforced db (edit_of db (meta_at schema) [] Chosen 0 x) written.0) given.1.1 step in
-      record {
-        step = subst (Applies schema Enforced db (edit_of db (meta_at schema) [] Chosen 0 ((Null ∷ Text (codes "layout") ∷ Int (pos 2) ∷ []) ∷ []))) (sym (ap (λ (d : Database). d.trees) now ∙ trees)) sourced;
-        schema_is = ap (λ (d : Database). d.schema) now;
-        shown = w.shown;
-        sound = w.sound;
-      }
+  marked count h = puts schema l.meta.at (meta_tree schema) _ _ _ _ l.meta.found layout_text [] (layout_plain schema l.meta.at (meta_tree schema) l.meta.found) old new refl count h layout_terms 3 (layout_is schema l.meta.at (meta_tree schema) l.meta.found)
 
   named : (name : Name) (count : ℕ) → Executes add_name_text (Blob name.0 ∷ Blob name.1 ∷ []) old new (Ok count) → Applied schema old new (edit_of db (follow_at schema) [] Chosen 0 ((Null ∷ Blob name.0 ∷ Blob name.1 ∷ []) ∷ []))
   named name count h =
-      let params = Blob name.0 ∷ Blob name.1 ∷ [] in
-      let command = Insert l.follow.at (Values add_name_terms 3) in
-      let w = runs_as add_name_text params old new schema refl command (add_name_is schema l.follow.at (follow_tree schema) l.follow.found) (add_name_plain schema l.follow.at (follow_tree schema) l.follow.found) count h in
-      let done = went (on_table old.step_limit (mode_of old) params old.now l.follow.at (follow_at schema) (λ task. OnRows task (mode_of old) None command db) (Ok (w.tally, new.now)) l.follow.found.by_index w.changed) in
-      let now = ap (λ (p : Tally × Database). p.1) (same_value (went (went done.2).2).2) in
-      let given = went done.1 in
-      let written = went (went given.2).2 in
-      let counted = went written.2 in
-      let trees : done.0.trees ≡ written.0 = ap (λ (it : Written). it.trees) (same_value counted.2) ∙ same_value counted.1 in
-      let edit = edit_of db (follow_at schema) [] Chosen 0 given.0 in
-      let step = one_step schema _ db written.0 edit (no_works schema (follow_tree schema) [] edit.news (inl refl)) written.1 in
-      let sourced = subst (λ x. Applies schema Enforced db (edit_of db (follow_at schema) [] Chosen 0 x) written.0) given.1.1 step in
-      record {
-        step = subst (Applies schema Enforced db (edit_of db (follow_at schema) [] Chosen 0 ((Null ∷ Blob name.0 ∷ Blob name.1 ∷ []) ∷ []))) (sym (ap (λ (d : Database). d.trees) now ∙ trees)) sourced;
-        schema_is = ap (λ (d : Database). d.schema) now;
-        shown = w.shown;
-        sound = w.sound;
-      }
+      puts schema l.follow.at (follow_tree schema) _ _ _ _ l.follow.found add_name_text (Blob name.0 ∷ Blob name.1 ∷ []) (add_name_plain schema l.follow.at (follow_tree schema) l.follow.found) old new refl count h
+      add_name_terms 3 (add_name_is schema l.follow.at (follow_tree schema) l.follow.found)
 
 marks : (old new : State) (count : ℕ) → IsMaking new_layout old → Executes layout_text [] old new (Ok count) → IsNaming set.empty new
 marks old new count was h =

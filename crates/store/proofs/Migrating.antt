@@ -17,27 +17,24 @@ use Rattle.sqlite_value.proofs.OrderLemmas.{value_cmp-Text, value_cmp-apart}
 use Rattle.sqlite_sql.specs.declared.ops.BinaryOp.TheVariants.{Compare}
 use Rattle.sqlite_sql.specs.declared.ops.CompareOp.TheVariants.{Eq}
 use Rattle.sqlite_sql.specs.Ops.{binary, is_true}
-use Rattle.sqlite_sql.specs.Program.{overlay}
 use Rattle.sqlite_sql.specs.Term.{col, lit, holds}
 use Rattle.std.specs.List.{list_all, list_any}
 use Rattle.sqlite_schema.specs.declared.schema.Table.{Table}
 use Rattle.sqlite_schema.specs.declared.schema.Schema.{Schema}
-use Rattle.sqlite_schema.specs.declared.command.Command.TheVariants.{Update, DropTable}
+use Rattle.sqlite_schema.specs.declared.command.Command.TheVariants.{DropTable}
 use Rattle.sqlite_rules.specs.Lists.{Has}
 use Rattle.sqlite_rules.proofs.ListLemmas.{all_has, has_filtered}
-use Rattle.sqlite_rules.specs.Edit.{Applies, edit_of, is_taken, are_fresh, put_all, taken_by, without_all}
+use Rattle.sqlite_rules.specs.Edit.{edit_of, is_taken, are_fresh, put_all, without_all}
 use Rattle.sqlite_schema.specs.Names.{same_name, table_named}
-use Rattle.sqlite_schema.specs.declared.schema.Keys.TheVariants.{Enforced}
 use Rattle.sqlite_catalog.specs.Change.{created, without_table, KeepsRows}
 use Rattle.std.specs.FinSet as set
 use Rattle.sqlite_rules.specs.Calls.{ids_of}
 use Rattle.sqlite_rules.specs.declared.error.Rowids.TheVariants.{Given}
 use Rattle.sqlite.specs.declared.error.Error.{Error}
 use Rattle.sqlite.specs.Effect.{Database, IsDatabase}
-use Rattle.sqlite.specs.Rows.{Written}
-use Rattle.sqlite.specs.Does.{Tally, Drops, OnRows, lacks_sequence}
+use Rattle.sqlite.specs.Does.{Tally, Drops, lacks_sequence}
 use Rattle.sqlite.specs.State.{State, mode_of, ExecutesInside, Executes}
-use Rattle.sqlite.proofs.Callers.{command_of, runs_as, one_step, one_permutation}
+use Rattle.sqlite.proofs.Callers.{command_of, runs_as, one_permutation}
 use Rattle.gtid.specs.Identifier.{IsGtid, AreGtids, id_cmp}
 use Rattle.gtid.proofs.Sets.{id_cmp_total, id_cmp-same}
 use Rattle.store.specs.State.{Content}
@@ -45,7 +42,7 @@ use Rattle.store.specs.Layout.{meta, held, spans, spans_text, follow, follow_tex
 use Rattle.store.specs.Beside.{own_names, LiesBeside}
 use Rattle.store.specs.Rows.{HasRowids, IsMetaRow, SaysLayout, IsExecutedRow, id_in, is_text, meta_rows, held_rows}
 use Rattle.store.specs.Making.{with_tables, trees_of}
-use Rattle.store.specs.Migrating.{IsCut, HasTables, HasBare, made_spans, made_both, drop_executed_text, raise_text, says_layout, raise_query, IsFirstInside, IsMigrating}
+use Rattle.store.specs.Migrating.{IsCut, HasTables, HasBare, made_spans, made_both, drop_executed_text, raise_text, says_layout, IsFirstInside, IsMigrating}
 use Rattle.store.proofs.AnyMaking.{MakesTable, runs_dropped, spans_makes, follow_makes}
 use Rattle.store.proofs.AnyWhole.{has_index}
 use Rattle.store.proofs.Beside.{tree_still}
@@ -53,12 +50,11 @@ use Rattle.store.proofs.Cut.{base_has, one_has, counted_base, counted_one, bare}
 use Rattle.store.proofs.Left.{cut, not_acted, meta_left, held_left, meta_off, held_off, rows_left, beside_dropped}
 use Rattle.store.proofs.MigratingTexts.{raise_is, raise_plain}
 use Rattle.store.proofs.Making.{creates, still_made, still_empty, made_trees}
-use Rattle.store.proofs.Selects.{shown_bool, and_true, answers, stored_read}
+use Rattle.store.proofs.Selects.{shown_bool, and_true}
 use Rattle.store.proofs.SpanLists.{or_cases}
 use Rattle.store.proofs.Spared.{beside_unchanged, own_found, own_executed, own_meta, own_spans, own_follow}
-use Rattle.store.proofs.Statements.{Applied, on_table, went, same_value, cast_int}
+use Rattle.store.proofs.Statements.{changes, on_table, went, same_value, cast_int}
 use Rattle.store.proofs.RowLemmas.{put_among, rowids_put, rowids_without, left_is, equal_is}
-use Rattle.store.proofs.Works.{no_works}
 use Rattle.store.proofs.Effects.{all_filtered, fresh_alone, own_id, same_rows, stays, still_beside, meta_held, meta_spans, follow_meta}
 
 -- meta and held stay
@@ -126,7 +122,7 @@ drops content old new count was h =
     subst₂ (KeepsRows (without_table schema (executed_tree schema)).tables) trees (sym (ap (λ (d : Database). d.trees) now)) left.1.1 in
     let none : table_named old.committed.schema (codes "spans") ≡ None = subst (λ (d : Database). table_named d.schema (codes "spans") ≡ None) was.settled v.no_spans in
     let own = own_found (own_names old.committed.schema) schema at (executed_at schema) v.executed.found (own_executed old.committed.schema none) in
-    let beside = beside_dropped old.committed old.now new.now (executed_tree schema) (beside_unchanged old.committed old.now was.settled) was.sound w.sound own is kept in
+    let beside = beside_dropped old.committed old.now new.now (executed_tree schema) (beside_unchanged old.committed old.now was.settled) was.sound w.sound w.frozen own is kept in
     moves_on (λ s. Unit {0}) (HasTables []) (pos 1) content old new (begun content old was)
     (w.shown.is_open, w.shown.mode ∙ was.inside, w.sound, subst (λ c. LiesBeside c new.now) (sym (w.shown.committed_is ∙ ap (λ b. cond b old.committed new.now) was.inside)) beside)
     (record { base = without_table schema (executed_tree schema); cut = cut schema v; schema_is = is; empty = tt })
@@ -224,27 +220,16 @@ raises content old new count was h =
     let tree = meta_tree schema in
     let db = old.now.trees in
     let rows = meta_rows old.now in
-    let command = Update l.meta.at (record { lets = []; body = raise_query tree }) in
-    let w = runs_as raise_text [] old new schema refl command (raise_is schema l.meta.at tree l.meta.found) (raise_plain schema l.meta.at tree l.meta.found) count h in
-    let done = went (on_table old.step_limit (mode_of old) [] old.now l.meta.at (meta_at schema) (λ task. OnRows task (mode_of old) None command db) (Ok (w.tally, new.now)) l.meta.found.by_index w.changed) in
-    let now = ap (λ (p : Tally × Database). p.1) (same_value (went (went done.2).2).2) in
-    let queried = went done.1 in
-    let written = went queried.2 in
-    let trees : done.0.trees ≡ written.0 = ap (λ (it : Written). it.trees) (same_value written.2) in
-    let edit = edit_of db (meta_at schema) (ids_of queried.0) Given 1 queried.0 in
-    let a : Applied schema old new edit = record {
-      step = subst (Applies schema Enforced db edit) (sym (ap (λ (d : Database). d.trees) now ∙ trees)) (one_step schema _ db written.0 edit (no_works schema tree (taken_by db edit) edit.news (inr was.tables.meta_free)) written.1);
-      schema_is = ap (λ (d : Database). d.schema) now;
-      shown = w.shown;
-      sound = w.sound;
-    } in
+    let answer = changes schema l.meta.at tree _ _ _ _ l.meta.found raise_text [] (raise_plain schema l.meta.at tree l.meta.found) old new refl count h
+    was.tables.meta_free says_layout (col 1 0 ∷ col 1 0 ∷ col 1 1 ∷ lit (Int (pos 2)) ∷ []) is_layout layout_holds (raise_is schema l.meta.at tree l.meta.found) in
+    let a = answer.2 in
+    let edit = edit_of db (meta_at schema) (ids_of answer.0) Given 1 answer.0 in
     let it = found rows was.meta_apart was.meta was.says in
     let r : Row = Int it.id ∷ Text it.key ∷ Int it.n ∷ [] in
-    let one_row : queried.0 ≡ (Int it.id ∷ Int it.id ∷ Text it.key ∷ Int (pos 2) ∷ []) ∷ [] = one_permutation _ queried.0
-    (subst (λ l. IsPermutation (map (λ r. column r 0 ∷ column r 0 ∷ column r 1 ∷ Int (pos 2) ∷ []) l) queried.0) it.alone
-    (answers says_layout [] is_layout layout_holds tree (col 1 0 ∷ col 1 0 ∷ col 1 1 ∷ lit (Int (pos 2)) ∷ []) (overlay db []) Null queried.0 rows (stored_read db tree l.meta.found.stored) (queried.1.answer Null))) in
-    let news = news_raised db tree it.id it.key queried.0 one_row in
-    let left : without_all rows (ids_of queried.0) ≡ without_rowid it.id rows = ap (λ l. without_all rows (ids_of l)) one_row in
+    let one_row : answer.0 ≡ (Int it.id ∷ Int it.id ∷ Text it.key ∷ Int (pos 2) ∷ []) ∷ [] =
+    one_permutation _ answer.0 (subst (λ l. IsPermutation (map (λ r. column r 0 ∷ column r 0 ∷ column r 1 ∷ Int (pos 2) ∷ []) l) answer.0) it.alone answer.1) in
+    let news = news_raised db tree it.id it.key answer.0 one_row in
+    let left : without_all rows (ids_of answer.0) ≡ without_rowid it.id rows = ap (λ l. without_all rows (ids_of l)) one_row in
     let row = raised it.id it.key in
     let free : is_taken (without_rowid it.id rows) row ≡ false = fresh_alone _ row (ap₂ are_fresh (sym left) (sym news) ∙ a.step.fresh) in
     let meta_is : meta_rows new.now ≡ put_row row (without_rowid it.id rows) = ap (λ s. new.now.trees (meta_tree s)) a.schema_is ∙ a.step.rows ∙ ap₂ put_all left news in
@@ -254,8 +239,8 @@ raises content old new count was h =
     (subst (λ l. IsPermutation l (filter is_layout (put_row row (without_rowid it.id rows)))) first (IsPermutation-filter is_layout (row ∷ without_rowid it.id rows) (put_row row (without_rowid it.id rows)) (put_among row (without_rowid it.id rows) free))) in
     let held_is : held_rows new.now ≡ held_rows old.now = same_rows old new (codes "held") a.schema_is (stays schema l.held.at (held_at schema) db new.now.trees edit l.held.found a.step (λ same. meta_held schema l (sym same))) in
     record {
-      is_open = w.shown.is_open;
-      inside = w.shown.mode ∙ was.inside;
+      is_open = a.shown.is_open;
+      inside = a.shown.mode ∙ was.inside;
       tables = record {
         laid_out = subst IsLaidOut (sym a.schema_is) l;
         spans = same_rows old new (codes "spans") a.schema_is (stays schema l.spans.at (spans_at schema) db new.now.trees edit l.spans.found a.step (λ same. meta_spans schema l (sym same))) ∙ was.tables.spans;
@@ -269,7 +254,7 @@ raises content old new count was h =
       held = rw held_is was.held;
       rows = rw held_is was.rows;
       lawful = was.lawful;
-      sound = w.sound;
+      sound = a.sound;
       beside = still_beside old new edit l.meta.at was.inside was.beside was.sound a l.meta.found (own_meta old.committed.schema);
     }
 

@@ -18,10 +18,11 @@ use Rattle.sqlite_catalog.specs.Listing.{IsIndexRow}
 use Rattle.sqlite_catalog.specs.Change.{created, next_tree, automatics, KeepsRows}
 use Rattle.sqlite_catalog.proofs.LayoutLemmas.{index_owner, zipped_left}
 use Rattle.sqlite_catalog.proofs.StepLemmas.{table_below}
-use Rattle.sqlite.specs.Effect.{Database, IsDatabase}
+use Rattle.sqlite.specs.Effect.{Database, IsDatabase, SparesFrozen}
 use Rattle.store.specs.Layout.{IsFound}
 use Rattle.store.specs.Beside.{own_names, is_own, tables_beside, indexes_beside, LiesBeside}
 use Rattle.store.proofs.AnyWhole.{has_index}
+use Rattle.store.proofs.Frozen.{Follows, follows_same, follows_made, still_frozen}
 
 pub beside_same : (db : Database) → LiesBeside db db
 beside_same db = record {
@@ -30,6 +31,9 @@ beside_same db = record {
   views = refl;
   rows = all_from (λ (t : Table). db.trees t.tree ≡ db.trees t.tree) _ (λ t has. refl);
   entries = all_from (λ (i : Index). IsPermutation (db.trees i.tree) (db.trees i.tree)) _ (λ i has. IsPermutation-refl (db.trees i.tree));
+  frozen = λ tree row is. (is, refl);
+  texts = λ row has is. has;
+  version = refl;
 }
 
 -- the database as it was
@@ -48,7 +52,7 @@ owner db sound i has =
     let row = zipped_left (IsIndexRow db.schema.tables) _ db.schema.indexes i sound.lists.listed.indexes has in
     (row.2.table, row.2.listed, index_owner row.2.table i _ row.2.defined)
 
-module _ (old mid new : Database) (before : LiesBeside old mid) (sound : IsDatabase mid) (sound_new : IsDatabase new) where
+module _ (old mid new : Database) (before : LiesBeside old mid) (sound : IsDatabase mid) (sound_new : IsDatabase new) (spares : SparesFrozen mid new) (follows : Follows mid new) where
   abbrev names : List (List ℕ)
   names = own_names old.schema
 
@@ -60,12 +64,12 @@ module _ (old mid new : Database) (before : LiesBeside old mid) (sound : IsDatab
   unfolding indexes_beside
   outside_indexes schema i has = let it = has_filtered (λ (i : Index). not (is_own names schema i.table)) schema.indexes i has in (it.0, not_own _ it.1)
 
-  pub beside_then : tables_beside names new.schema ≡ tables_beside names mid.schema → indexes_beside names new.schema ≡ indexes_beside names mid.schema → new.schema.views ≡ mid.schema.views
+  pub beside_then : tables_beside names new.schema ≡ tables_beside names mid.schema → indexes_beside names new.schema ≡ indexes_beside names mid.schema
       → ((t : Table) → Has mid.schema.tables t → is_own names mid.schema t.tree ≡ false → new.trees t.tree ≡ mid.trees t.tree) → LiesBeside old new
-  beside_then tables indexes views rows = record {
+  beside_then tables indexes rows = record {
     tables = tables ∙ before.tables;
     indexes = indexes ∙ before.indexes;
-    views = views ∙ before.views;
+    views = follows.views ∙ before.views;
     rows = all_from (λ (t : Table). new.trees t.tree ≡ old.trees t.tree) _ (λ t has.
         let there = outside_tables t (subst (λ l. Has l t) (sym before.tables) has) in
         rows t there.0 there.1 ∙ all_has (λ (t : Table). mid.trees t.tree ≡ old.trees t.tree) _ t before.rows has);
@@ -79,12 +83,21 @@ module _ (old mid new : Database) (before : LiesBeside old mid) (sound : IsDatab
         let is = all_has _ new.schema.indexes i sound_new.obeys.indexed now.0 in
         IsPermutation-trans _ _ _ (all_has (λ (i : Index). IsPermutation (old.trees i.tree) (mid.trees i.tree)) _ i before.entries has)
         (IsPermutation-trans _ _ _ (IsPermutation-sym _ _ was) (subst (λ rows. IsPermutation (map (entry_of i.columns) rows) (new.trees i.tree)) same is)));
+    frozen = λ tree row is.
+        let was = before.frozen tree row is in
+        let now = still_frozen mid new sound sound_new spares follows tree row was.0 in
+        (now.0, now.1 ∙ was.1);
+    texts = λ row has is. spares.texts row (before.texts row has is) is;
+    version = spares.version ∙ before.version;
   }
 
-  -- a table of the store is written
-  pub beside_written : (tree : ℕ) → new.schema ≡ mid.schema → is_own names mid.schema tree ≡ true → AllByRecursion (λ (t : Table). t.tree ≢ tree → new.trees t.tree ≡ mid.trees t.tree) mid.schema.tables → LiesBeside old new
-  beside_written tree same own rows = beside_then (ap (tables_beside names) same) (ap (indexes_beside names) same) (ap (λ (s : Schema). s.views) same)
-      (λ t has outside. all_has (λ (t : Table). t.tree ≢ tree → new.trees t.tree ≡ mid.trees t.tree) _ t rows has (λ is. absurd (false≢true (sym outside ∙ ap (is_own names mid.schema) is ∙ own))))
+-- a table of the store is written
+pub beside_written : (old mid new : Database) (tree : ℕ) → LiesBeside old mid → IsDatabase mid → IsDatabase new → SparesFrozen mid new → new.schema ≡ mid.schema → is_own (own_names old.schema) mid.schema tree ≡ true
+    → AllByRecursion (λ (t : Table). t.tree ≢ tree → new.trees t.tree ≡ mid.trees t.tree) mid.schema.tables → LiesBeside old new
+beside_written old mid new tree before sound sound_new spares same own rows =
+    let names = own_names old.schema in
+    beside_then old mid new before sound sound_new spares (follows_same mid new same) (ap (tables_beside names) same) (ap (indexes_beside names) same)
+    (λ t has outside. all_has (λ (t : Table). t.tree ≢ tree → new.trees t.tree ≡ mid.trees t.tree) _ t rows has (λ is. absurd (false≢true (sym outside ∙ ap (is_own names mid.schema) is ∙ own))))
 
 -- ---- A table that is found is the store's by its name.
 
@@ -136,13 +149,13 @@ module _ (names : List (List ℕ)) (schema : Schema) (table : Table) (named : li
       filter-append q schema.indexes (automatics (record table { tree = next }) 0 (next + 1) table.uniques) ∙ rw (none_made 0 (next + 1) table.uniques, append-nil (filter q schema.indexes))
       (filter_same q (λ i. not (is_own names schema i.table)) schema.indexes (all_from (λ (i : Index). q i ≡ not (is_own names schema i.table)) schema.indexes (λ i has. ap not (older i.table (low i has)))))
 
-pub beside_made : (old mid new : Database) (table : Table) → LiesBeside old mid → IsDatabase mid → IsDatabase new → list_any (same_name table.name) (own_names old.schema) ≡ true → new.schema ≡ created mid.schema table
+pub beside_made : (old mid new : Database) (table : Table) → LiesBeside old mid → IsDatabase mid → IsDatabase new → SparesFrozen mid new → list_any (same_name table.name) (own_names old.schema) ≡ true → new.schema ≡ created mid.schema table
     → KeepsRows mid.schema.tables mid.trees new.trees → LiesBeside old new
-beside_made old mid new table before sound sound_new named is rows =
+beside_made old mid new table before sound sound_new spares named is rows =
     let names = own_names old.schema in
     let low : (i : Index) → Has mid.schema.indexes i → i.table < next_tree mid.schema = λ i has. let of = owner mid sound i has in rw (of.2) (table_below mid.schema of.0 of.1) in
-    beside_then old mid new before sound sound_new (ap (tables_beside names) is ∙ tables_made names mid.schema table named) (ap (indexes_beside names) is ∙ indexes_made names mid.schema table named low)
-    (ap (λ (s : Schema). s.views) is) (λ t has outside. all_has (λ (t : Table). new.trees t.tree ≡ mid.trees t.tree) _ t rows has)
+    beside_then old mid new before sound sound_new spares (follows_made mid new table is) (ap (tables_beside names) is ∙ tables_made names mid.schema table named) (ap (indexes_beside names) is ∙ indexes_made names mid.schema table named low)
+    (λ t has outside. all_has (λ (t : Table). new.trees t.tree ≡ mid.trees t.tree) _ t rows has)
 
 module _ (schema : Schema) where
   pub own_meta : list_any (same_name (codes "meta")) (own_names schema) ≡ true

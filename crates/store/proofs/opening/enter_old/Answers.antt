@@ -10,46 +10,25 @@ use Rattle.store.proofs.Known.{there, has_meta, says_at, breaks_meta, breaks_met
 use Rattle.store.proofs.opening.enter_old.Goals as goal
 
 pub returns-in_err-meta-clause-crash : goal.returns-in_err-meta-clause-crash
-returns-in_err-meta-clause-crash g c ready tables has =
-    let old = state g.S.Store c.args.conn.now in
-    let mid = state g.S.Store c.read_meta.new.conn in
-    may_none c.args.only.now old mid (c.read_meta.ensures.crash (has_meta old c.args.tables ready tables has))
+returns-in_err-meta-clause-crash g c ready tables has = may_none c.args.only.now _ _ (c.read_meta.ensures.crash (has_meta _ c.args.tables ready tables has))
 
 pub returns-then-not-has_first-clause-crash : goal.returns-then-not-has_first-clause-crash
-returns-then-not-has_first-clause-crash g c ready tables has =
-    let old = state g.S.Store c.args.conn.now in
-    let mid = state g.S.Store c.read_meta.new.conn in
-    may_none c.args.only.now old mid (c.read_meta.ensures.crash (has_meta old c.args.tables ready tables has))
+returns-then-not-has_first-clause-crash g c ready tables has = may_none c.args.only.now _ _ (c.read_meta.ensures.crash (has_meta _ c.args.tables ready tables has))
 
 pub returns-then-not-meta-clause-crash : goal.returns-then-not-meta-clause-crash
-returns-then-not-meta-clause-crash g c ready tables has =
-    let old = state g.S.Store c.args.conn.now in
-    let mid = state g.S.Store c.read_meta.new.conn in
-    may_none c.args.only.now old mid (c.read_meta.ensures.crash (has_meta old c.args.tables ready tables has))
+returns-then-not-meta-clause-crash g c ready tables has = may_none c.args.only.now _ _ (c.read_meta.ensures.crash (has_meta _ c.args.tables ready tables has))
 
 pub returns-then-not-has_second-clause-crash : goal.returns-then-not-has_second-clause-crash
-returns-then-not-has_second-clause-crash g c ready tables has =
-    let old = state g.S.Store c.args.conn.now in
-    let mid = state g.S.Store c.read_meta.new.conn in
-    may_none c.args.only.now old mid (c.read_meta.ensures.crash (has_meta old c.args.tables ready tables has))
+returns-then-not-has_second-clause-crash g c ready tables has = may_none c.args.only.now _ _ (c.read_meta.ensures.crash (has_meta _ c.args.tables ready tables has))
 
 pub returns-then-not-meta-2-clause-crash : goal.returns-then-not-meta-2-clause-crash
-returns-then-not-meta-2-clause-crash g c ready tables has =
-    let old = state g.S.Store c.args.conn.now in
-    let mid = state g.S.Store c.read_meta.new.conn in
-    may_none c.args.only.now old mid (c.read_meta.ensures.crash (has_meta old c.args.tables ready tables has))
+returns-then-not-meta-2-clause-crash g c ready tables has = may_none c.args.only.now _ _ (c.read_meta.ensures.crash (has_meta _ c.args.tables ready tables has))
 
 pub returns-in-Some-clause-crash : goal.returns-in-Some-clause-crash
-returns-in-Some-clause-crash g c ready tables has =
-    let old = state g.S.Store c.args.conn.now in
-    let mid = state g.S.Store c.read_meta.new.conn in
-    may_none c.args.only.now old mid (c.read_meta.ensures.crash (has_meta old c.args.tables ready tables has))
+returns-in-Some-clause-crash g c ready tables has = may_none c.args.only.now _ _ (c.read_meta.ensures.crash (has_meta _ c.args.tables ready tables has))
 
 pub returns-in-None-clause-crash : goal.returns-in-None-clause-crash
-returns-in-None-clause-crash g c ready tables has =
-    let old = state g.S.Store c.args.conn.now in
-    let mid = state g.S.Store c.read_meta.new.conn in
-    may_none c.args.only.now old mid (c.read_meta.ensures.crash (has_meta old c.args.tables ready tables has))
+returns-in-None-clause-crash g c ready tables has = may_none c.args.only.now _ _ (c.read_meta.ensures.crash (has_meta _ c.args.tables ready tables has))
 
 pub returns-then-not-has_first-clause-turned : goal.returns-then-not-has_first-clause-turned
 returns-then-not-has_first-clause-turned g c clean ready tables has =
