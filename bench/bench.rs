@@ -1,14 +1,16 @@
 //! Times `mrep packets` and `mrep events`, and the jobs of `ours` over the crates, against `packets.rs`, `events.rs` and
 //! `gtid.rs`, plain Rust programs that do the same; stores against `store.py`, which gives the same statements to the C
-//! library of SQLite; `mrep replay` and `mrep follow` against a store and one another; and `mrep replay` against
-//! `replay.c`, which does the whole job in C.
+//! library of SQLite; `mrep replay` and `mrep follow` against a store and one another; `mrep replay` against
+//! `replay.c`, which does the whole job in C; and `mrep` over inputs of which each has twice as much as the one before.
 //!
 //!     bench MREP JOBS PACKETS GTID EVENTS STORE FOLDER
+//!     bench growth MREP FOLDER
 //!
 //! It makes each input from files in the folder. Both programs of a job run in turn, five times each (for stores three
 //! times), and must print the same; the line has their best times, the ratio of these and the greatest resident size of
 //! each. The status is 1 if a goal is missed. If there is no `python3`, the stores are skipped.
 
+mod growth;
 mod replay;
 mod whole;
 
@@ -102,6 +104,8 @@ unsafe extern "C" {
 
 struct Run {
     seconds: f64,
+    /// Of the processor, of the program and of the system for it.
+    processor: f64,
     resident: usize,
     status: i32,
 }
@@ -189,8 +193,10 @@ fn run(program: &[&str], output: &Path) -> io::Result<Run> {
     if unsafe { wait4(child.id() as i32, &mut status, 0, &mut usage) } < 0 {
         return Err(io::Error::last_os_error());
     }
+    let [user, user_micros, system, system_micros] = usage.times;
     Ok(Run {
         seconds: start.elapsed().as_secs_f64(),
+        processor: (user + system) as f64 + (user_micros + system_micros) as f64 / 1e6,
         resident: usage.max_resident_kib as usize * 1024,
         status,
     })
@@ -325,8 +331,13 @@ fn compare_stores(jobs: &str, store: &str, folder: &Path) -> io::Result<bool> {
 
 fn main() -> io::Result<ExitCode> {
     let words: Vec<String> = std::env::args().collect();
+    if let [_, growth, mrep, folder] = words.as_slice()
+        && growth == "growth"
+    {
+        return Ok(if growth::check(mrep, Path::new(folder))? { ExitCode::SUCCESS } else { ExitCode::FAILURE });
+    }
     let [_, mrep, jobs, packets, gtid, events, store, folder] = words.as_slice() else {
-        eprintln!("usage: bench MREP JOBS PACKETS GTID EVENTS STORE FOLDER");
+        eprintln!("usage: bench MREP JOBS PACKETS GTID EVENTS STORE FOLDER, or bench growth MREP FOLDER");
         return Ok(ExitCode::from(2));
     };
     let folder = Path::new(folder);
@@ -356,5 +367,6 @@ fn main() -> io::Result<ExitCode> {
     met &= compare_stores(jobs, store, folder)?;
     met &= replay::compare_connections(mrep, jobs, folder)?;
     met &= whole::compare_with_c(mrep, folder)?;
+    met &= growth::check(mrep, folder)?;
     Ok(if met { ExitCode::SUCCESS } else { ExitCode::FAILURE })
 }
