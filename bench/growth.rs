@@ -4,7 +4,7 @@
 //! A job misses its goal if a ratio is above it by more than a tenth in each of three tries.
 
 use super::whole::{ROWS_HEAD, Stream, make_inserts, row};
-use super::{MAP, remove_store, run};
+use super::{MAP, SLACK, TRIES, remove_store, run};
 use std::fs;
 use std::io;
 use std::path::{Path, PathBuf};
@@ -13,8 +13,6 @@ use std::path::{Path, PathBuf};
 const TIMES: f64 = 2.2;
 /// The goal for a transaction over twice as many rows.
 const HELD_TIMES: f64 = 1.2;
-const SLACK: f64 = 1.1;
-const TRIES: usize = 3;
 const RUNS: usize = 2;
 
 /// How many transactions are applied to a database that has rows.
@@ -139,16 +137,15 @@ fn gaps_text(count: u64) -> String {
 
 /// Whether a job meets its goal over n, 2n and 4n.
 fn grows(job: &str, first: u64, goal: f64, measure: impl Fn(u64) -> io::Result<f64>) -> io::Result<bool> {
-    for attempt in 1..=TRIES {
+    for _ in 0..TRIES {
         let [one, two, four] = [measure(first)?, measure(2 * first)?, measure(4 * first)?];
         let (twice, again) = (two / one, four / two);
         println!(
-            "{job}: {first} {one:.3} s, twice {two:.3} s, ratio {twice:.2}, four times {four:.3} s, ratio {again:.2} (goal {goal})"
+            "| {job}: {first}, twice and four times as many | {one:.3}, {two:.3}, {four:.3} s | | {twice:.2}, {again:.2} | {goal} | |"
         );
         if twice.max(again) <= SLACK * goal {
             return Ok(true);
         }
-        println!("    above its goal in try {attempt}");
     }
     Ok(false)
 }
