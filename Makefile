@@ -6,8 +6,8 @@
 #             captured streams, a source over loopback, streams compared with an independent reading, changed bytes,
 #             running out of memory, kills, copies beside a writer, and the commands, examples and names of the pages
 # make bench  times mrep, the sets and the transactions against plain Rust programs that do the same jobs, the store
-#             against the C library of SQLite, and a whole replay against a C program (needs rustc; the store also python3,
-#             the replay cc and the library of SQLite)
+#             against the C library of SQLite, a whole replay against a C program, and mrep over twice and four times as
+#             much (needs rustc; the store also python3, the replay cc and the library of SQLite)
 
 .PHONY: all build test bench
 

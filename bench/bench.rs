@@ -1,14 +1,17 @@
 //! Times `mrep packets` and `mrep events`, and the jobs of `ours` over the crates, against `packets.rs`, `events.rs` and
 //! `gtid.rs`, plain Rust programs that do the same; stores against `store.py`, which gives the same statements to the C
-//! library of SQLite; `mrep replay` and `mrep follow` against a store and one another; and `mrep replay` against
-//! `replay.c`, which does the whole job in C.
+//! library of SQLite; `mrep replay` and `mrep follow` against a store and one another; `mrep replay` against
+//! `replay.c`, which does the whole job in C; and `mrep` over inputs of which each has twice as much as the one before.
 //!
 //!     bench MREP JOBS PACKETS GTID EVENTS STORE FOLDER
+//!     bench growth MREP FOLDER
 //!
 //! It makes each input from files in the folder. Both programs of a job run in turn, five times each (for stores three
-//! times), and must print the same; the line has their best times, the ratio of these and the greatest resident size of
-//! each. The status is 1 if a goal is missed. If there is no `python3`, the stores are skipped.
+//! times), and must print the same; the row has their best times, the ratio of these and the greatest resident size of
+//! each. The status is 1 if a ratio is above its goal by more than a tenth in each of three tries, or another goal is
+//! missed. If there is no `python3`, the stores are skipped.
 
+mod growth;
 mod replay;
 mod whole;
 
@@ -23,6 +26,10 @@ const RUNS: usize = 5;
 const STORE_RUNS: usize = 3;
 /// Of a job that takes long.
 const RUNS_OF_ONE: usize = 1;
+/// A ratio may be above its goal by this much,
+const SLACK: f64 = 1.1;
+/// and is tried so often.
+const TRIES: usize = 3;
 
 /// The goal of `mrep packets`: at most this many times the time of the Rust program,
 const PACKETS_TIMES: f64 = 1.3;
@@ -102,6 +109,8 @@ unsafe extern "C" {
 
 struct Run {
     seconds: f64,
+    /// Of the processor, of the program and of the system for it.
+    processor: f64,
     resident: usize,
     status: i32,
 }
@@ -189,8 +198,10 @@ fn run(program: &[&str], output: &Path) -> io::Result<Run> {
     if unsafe { wait4(child.id() as i32, &mut status, 0, &mut usage) } < 0 {
         return Err(io::Error::last_os_error());
     }
+    let [user, user_micros, system, system_micros] = usage.times;
     Ok(Run {
         seconds: start.elapsed().as_secs_f64(),
+        processor: (user + system) as f64 + (user_micros + system_micros) as f64 / 1e6,
         resident: usage.max_resident_kib as usize * 1024,
         status,
     })
@@ -239,6 +250,39 @@ impl Goal {
     }
 }
 
+/// A row of the table: a job, its two times, their ratio, its goal, and the memory of both.
+fn print_row(job: &str, other: &str, goal: f64, ours: &[Run], theirs: &[Run]) {
+    let goal = if goal.is_finite() { goal.to_string() } else { String::new() };
+    println!(
+        "| {job} | {:.3} s | {other}: {:.3} s | {:.2} | {goal} | {:.0} / {:.0} MiB |",
+        best(ours),
+        best(theirs),
+        best(ours) / best(theirs),
+        mib(most(ours)),
+        mib(most(theirs)),
+    );
+}
+
+/// Whether a job meets its goal in one of some tries. `attempt` runs both programs, and returns whether all but the ratio
+/// is as it should be, and the runs.
+fn meets(
+    job: &str,
+    other: &str,
+    times: f64,
+    attempt: impl Fn() -> io::Result<(bool, Vec<Run>, Vec<Run>)>,
+) -> io::Result<(bool, Vec<Run>)> {
+    let mut tries = 1;
+    loop {
+        let (is_right, ours, theirs) = attempt()?;
+        print_row(job, other, times, &ours, &theirs);
+        let is_fast = best(&ours) <= SLACK * times * best(&theirs);
+        if !is_right || is_fast || tries == TRIES {
+            return Ok((is_right && is_fast, ours));
+        }
+        tries += 1;
+    }
+}
+
 /// Whether the goal is met by the first of two programs that do the same job. `before` is called before each run.
 fn compare_from(
     job: &str,
@@ -249,34 +293,28 @@ fn compare_from(
     before: impl Fn() -> io::Result<()>,
 ) -> io::Result<bool> {
     let (ours_out, theirs_out) = (folder.join("ours"), folder.join("theirs"));
-    let (mut our_runs, mut their_runs) = (Vec::new(), Vec::new());
-    for _ in 0..goal.runs {
-        before()?;
-        our_runs.push(run(ours, &ours_out)?);
-        before()?;
-        their_runs.push(run(theirs, &theirs_out)?);
-    }
-    let agree = our_runs.iter().zip(&their_runs).all(|(a, b)| a.status == b.status) && same(&ours_out, &theirs_out)?;
-    fs::remove_file(ours_out)?;
-    fs::remove_file(theirs_out)?;
-    let ratio = best(&our_runs) / best(&their_runs);
-    println!(
-        "{job}: ours {:.3} s, {} {:.3} s, ratio {ratio:.2} (goal {}); ours {:.1} MiB, {} {:.1} MiB",
-        best(&our_runs),
-        goal.other,
-        best(&their_runs),
-        goal.times,
-        mib(most(&our_runs)),
-        goal.other,
-        mib(most(&their_runs)),
-    );
-    if !agree {
-        println!("the two programs do not print the same");
-    }
-    if most(&our_runs) > goal.bound {
-        println!("more than {:.1} MiB", mib(goal.bound));
-    }
-    Ok(agree && ratio <= goal.times && most(&our_runs) <= goal.bound)
+    let attempt = || {
+        let (mut our_runs, mut their_runs) = (Vec::new(), Vec::new());
+        for _ in 0..goal.runs {
+            before()?;
+            our_runs.push(run(ours, &ours_out)?);
+            before()?;
+            their_runs.push(run(theirs, &theirs_out)?);
+        }
+        let agree =
+            our_runs.iter().zip(&their_runs).all(|(a, b)| a.status == b.status) && same(&ours_out, &theirs_out)?;
+        fs::remove_file(&ours_out)?;
+        fs::remove_file(&theirs_out)?;
+        if !agree {
+            println!("the two programs do not print the same");
+        }
+        let is_small = most(&our_runs) <= goal.bound;
+        if !is_small {
+            println!("more than {:.1} MiB", mib(goal.bound));
+        }
+        Ok((agree && is_small, our_runs, their_runs))
+    };
+    Ok(meets(job, goal.other, goal.times, attempt)?.0)
 }
 
 /// As `compare_from`, for plain Rust programs, which use their input as it is.
@@ -325,12 +363,18 @@ fn compare_stores(jobs: &str, store: &str, folder: &Path) -> io::Result<bool> {
 
 fn main() -> io::Result<ExitCode> {
     let words: Vec<String> = std::env::args().collect();
+    if let [_, growth, mrep, folder] = words.as_slice()
+        && growth == "growth"
+    {
+        return Ok(if growth::check(mrep, Path::new(folder))? { ExitCode::SUCCESS } else { ExitCode::FAILURE });
+    }
     let [_, mrep, jobs, packets, gtid, events, store, folder] = words.as_slice() else {
-        eprintln!("usage: bench MREP JOBS PACKETS GTID EVENTS STORE FOLDER");
+        eprintln!("usage: bench MREP JOBS PACKETS GTID EVENTS STORE FOLDER, or bench growth MREP FOLDER");
         return Ok(ExitCode::from(2));
     };
     let folder = Path::new(folder);
     let mut met = true;
+    println!("| Job | This | Plain or C | Ratio | Goal | Memory, this / other |\n|---|---|---|---|---|---|");
     let path = folder.join("input");
     let name = path.to_str().ok_or(io::ErrorKind::InvalidInput)?;
     for input in &INPUTS {
@@ -356,5 +400,6 @@ fn main() -> io::Result<ExitCode> {
     met &= compare_stores(jobs, store, folder)?;
     met &= replay::compare_connections(mrep, jobs, folder)?;
     met &= whole::compare_with_c(mrep, folder)?;
+    met &= growth::check(mrep, folder)?;
     Ok(if met { ExitCode::SUCCESS } else { ExitCode::FAILURE })
 }

@@ -5,7 +5,7 @@
 //! The databases are in memory, under /dev/shm, if there is such a folder, so that the times do not include the syncs
 //! of a disk.
 
-use super::{BEGIN, FORMAT, MAP, OPENING, Run, TEXT, best, event, gtid, mib, most, remove_store, run};
+use super::{BEGIN, FORMAT, MAP, OPENING, Run, TEXT, best, event, gtid, meets, mib, most, remove_store, run};
 use std::fs::{self, File, OpenOptions};
 use std::io::{self, BufReader, BufWriter, Read, Write};
 use std::net::{Shutdown, TcpListener};
@@ -145,7 +145,7 @@ impl Files<'_> {
     }
 }
 
-/// Runs two jobs in turn, and returns whether the first meets the goal.
+/// Runs two jobs in turn, and returns whether the first meets the goal, and its time and memory.
 fn compare(
     job: &str,
     other: &str,
@@ -154,26 +154,22 @@ fn compare(
     ours: impl Fn() -> io::Result<Run>,
     theirs: impl Fn() -> io::Result<Run>,
 ) -> io::Result<(bool, f64, usize)> {
-    let (mut our_runs, mut their_runs) = (Vec::new(), Vec::new());
-    for _ in 0..runs {
-        our_runs.push(ours()?);
-        their_runs.push(theirs()?);
-    }
-    let ratio = best(&our_runs) / best(&their_runs);
-    println!(
-        "{job}: {:.3} s, {other} {:.3} s, ratio {ratio:.2} (goal {goal}); {:.1} MiB, {other} {:.1} MiB",
-        best(&our_runs),
-        best(&their_runs),
-        mib(most(&our_runs)),
-        mib(most(&their_runs)),
-    );
-    Ok((ratio <= goal, best(&our_runs), most(&our_runs)))
+    let attempt = || {
+        let (mut our_runs, mut their_runs) = (Vec::new(), Vec::new());
+        for _ in 0..runs {
+            our_runs.push(ours()?);
+            their_runs.push(theirs()?);
+        }
+        Ok((true, our_runs, their_runs))
+    };
+    let (met, runs) = meets(job, other, goal, attempt)?;
+    Ok((met, best(&runs), most(&runs)))
 }
 
 /// How many megabytes and transactions a second these are.
 fn print_rate(path: &Path, transactions: u64, seconds: f64) -> io::Result<()> {
     let megabytes = fs::metadata(path)?.len() as f64 / 1e6;
-    println!("    {:.1} MB/s, {:.0} transactions/s", megabytes / seconds, transactions as f64 / seconds);
+    println!("| | {:.1} MB/s, {:.0} transactions/s | | | | |", megabytes / seconds, transactions as f64 / seconds);
     Ok(())
 }
 
@@ -215,7 +211,8 @@ pub fn compare_connections(mrep: &str, jobs: &str, folder: &Path) -> io::Result<
     let flat = resident as f64 <= MEMORY_TIMES * fifth as f64;
     met &= ok && flat;
     print_rate(&files.stream, 100_000, seconds)?;
-    println!("    {:.1} MiB for 20,000 of them (goal {MEMORY_TIMES} times)", mib(fifth));
+    let times = resident as f64 / fifth as f64;
+    println!("| its memory, beside 20,000 of them | | | {times:.2} | {MEMORY_TIMES} | {:.0} / {:.0} MiB |", mib(resident), mib(fifth));
     let job = "the same followed over loopback";
     let (ok, seconds, _) =
         compare(job, "replay", FOLLOW_TIMES, RUNS, || files.follow(100_000), || files.replay(&files.stream, 100_000))?;

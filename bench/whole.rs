@@ -16,15 +16,16 @@ const TIMES: f64 = 1.7;
 const EVENT: usize = 8192;
 
 /// A stream of a source.
-struct Stream {
+pub struct Stream {
     out: BufWriter<File>,
     sequence: u8,
-    number: u64,
+    /// Of the next transaction.
+    pub number: u64,
 }
 
 impl Stream {
     /// The login, and the format description. The next transaction has this number.
-    fn begin(path: &Path, number: u64) -> io::Result<Stream> {
+    pub fn begin(path: &Path, number: u64) -> io::Result<Stream> {
         let mut out = BufWriter::new(File::create(path)?);
         out.write_all(OPENING)?;
         let mut stream = Stream { out, sequence: 1, number };
@@ -32,14 +33,26 @@ impl Stream {
         Ok(stream)
     }
 
-    fn event(&mut self, code: u8, body: &[u8]) -> io::Result<()> {
+    pub fn event(&mut self, code: u8, body: &[u8]) -> io::Result<()> {
         event(&mut self.out, &mut self.sequence, code, body)
     }
 
-    /// A transaction over a table of this map, with rows of each kind, in events of this type and head.
-    fn transaction(&mut self, map: &[u8], kinds: &[(u8, &[u8], &[Vec<u8>])]) -> io::Result<()> {
+    /// The events that a transaction begins with.
+    pub fn open(&mut self) -> io::Result<()> {
         gtid(&mut self.out, &mut self.sequence, self.number)?;
-        self.event(2, BEGIN)?;
+        self.event(2, BEGIN)
+    }
+
+    /// The event that a transaction ends with.
+    pub fn commit(&mut self) -> io::Result<()> {
+        self.event(16, &self.number.to_le_bytes())?;
+        self.number += 1;
+        Ok(())
+    }
+
+    /// A transaction over a table of this map, with rows of each kind, in events of this type and head.
+    pub fn transaction(&mut self, map: &[u8], kinds: &[(u8, &[u8], &[Vec<u8>])]) -> io::Result<()> {
+        self.open()?;
         self.event(19, map)?;
         for (code, head, rows) in kinds {
             let mut body = head.to_vec();
@@ -54,27 +67,25 @@ impl Stream {
                 self.event(*code, &body)?;
             }
         }
-        self.event(16, &self.number.to_le_bytes())?;
-        self.number += 1;
-        Ok(())
+        self.commit()
     }
 
     /// The EOF at the end of the log.
-    fn end(mut self) -> io::Result<()> {
+    pub fn end(mut self) -> io::Result<()> {
         self.out.write_all(&[5, 0, 0, self.sequence, 0xfe, 0, 0, 2, 0])?;
         self.out.flush()
     }
 }
 
-const ROWS_HEAD: &[u8] = &[1, 0, 0, 0, 0, 0, 1, 0, 2, 0, 2, 3];
+pub const ROWS_HEAD: &[u8] = &[1, 0, 0, 0, 0, 0, 1, 0, 2, 0, 2, 3];
 const UPDATE_HEAD: &[u8] = &[1, 0, 0, 0, 0, 0, 1, 0, 2, 0, 2, 3, 3];
 
-fn row(number: u64) -> Vec<u8> {
+pub fn row(number: u64) -> Vec<u8> {
     [&[0][..], &number.to_le_bytes(), TEXT].concat()
 }
 
 /// Transactions of this many inserts each.
-fn make_inserts(path: &Path, transactions: u64, rows: u64) -> io::Result<()> {
+pub fn make_inserts(path: &Path, transactions: u64, rows: u64) -> io::Result<()> {
     let mut stream = Stream::begin(path, 1)?;
     for at in 0..transactions {
         let rows: Vec<_> = (at * rows..(at + 1) * rows).map(row).collect();
