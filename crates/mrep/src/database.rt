@@ -138,13 +138,21 @@ fn leave(rt: &HostRuntime, log: Option<String>, unopened: Unopened<File>) -> Cau
             }
             Cause::Fault(StoreFault::Database(cause))
         }
-        Unopened::Database(fault, mut conn) => {
-            let cause = cause_in(rt.alloc(), fault, &mut conn);
-            remove_unused(rt, log);
-            let _ = conn.close();
-            cause
-        }
+        Unopened::Database(fault, conn) => leave_database(rt, log, fault, conn),
     }
+}
+
+/// Closes a database that was opened and whose store was not, and returns the cause.
+fn leave_database(
+    rt: &HostRuntime,
+    log: Option<String>,
+    fault: StoreFault,
+    mut conn: Connection<FileOf>,
+) -> Cause {
+    let cause = cause_in(rt.alloc(), fault, &mut conn);
+    remove_unused(rt, log);
+    let _ = conn.close();
+    cause
 }
 
 /// The cause of a fault of opening a database: of damage, what is damaged, if that is found.

@@ -29,9 +29,11 @@ fn items(alloc: Global, long: bool) -> Option<TableDef> {
 
 /// A row of shop.items.
 fn row(alloc: Global, value: u64, text: &[u8]) -> Option<Vec<OwnedCell>> {
+    let mut cells = Vec::new(alloc);
+    cells.push(OwnedCell::Number { value, width: 4 }).ok()?;
     let text = Vec::from_slice(alloc, text).ok()?;
-    let number = OwnedCell::Number { value, width: 4 };
-    Vec::from_array(alloc, [number, OwnedCell::Bytes(text)]).ok()
+    cells.push(OwnedCell::Bytes(text)).ok()?;
+    Some(cells)
 }
 
 /// An insert of a row.
@@ -118,12 +120,18 @@ fn answered(
     flags: u16,
     numbers: &[u64],
 ) -> Result<Result<Vec<u8>, ForgeFault>, Fail> {
+    let set = set_of(alloc, numbers)?;
+    let request = request(alloc, flags, &set).ok_or("no request")?;
+    Ok(answer(alloc, history, &request))
+}
+
+/// The set of the source's GTIDs with these numbers.
+fn set_of(alloc: Global, numbers: &[u64]) -> Result<GtidSet, Fail> {
     let mut set = GtidSet::new(alloc);
     for number in numbers {
         set.insert(Gtid::new(A, *number).ok_or("no GTID")?)?;
     }
-    let request = request(alloc, flags, &set).ok_or("no request")?;
-    Ok(answer(alloc, history, &request))
+    Ok(set)
 }
 
 #[test]

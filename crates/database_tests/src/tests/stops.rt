@@ -3,7 +3,7 @@
 use super::fixtures::{attempt, delivery, gtids};
 use super::sessions::ends;
 use super::streams::three_transactions;
-use sqlite::{Alter, Connection, FileStore, Files, Options};
+use sqlite::{Alter, Connection, FileStore, Files, Options, Row};
 use sqlite_disk::{Crash, Disk, Fuse, Memory};
 use std::alloc::Global;
 use std::test::Fail;
@@ -107,19 +107,30 @@ fn states(job: Job) -> &'static [&'static str] {
     }
 }
 
-/// The numbers that a query gives, each after a space, or `none` if its table is not there.
-fn numbers<S: Alter>(alloc: Global, conn: &mut Connection<S>, sql: &str) -> Result<String, Fail> {
-    let Ok(rows) = conn.query_all(sql, &[]) else {
-        return Ok(String::from_str(alloc, "none")?);
-    };
+/// Appends the numbers of a row, each after a space.
+fn push_row(alloc: Global, row: &Row, text: &mut String) -> Result<(), Fail> {
+    for at in 0..row.column_count() {
+        let number: i64 = row.get(at)?;
+        text.push_str(&format!(in alloc; " {number}")?)?;
+    }
+    Ok(())
+}
+
+/// The numbers of rows, each after a space.
+fn text_of(alloc: Global, rows: &[Row]) -> Result<String, Fail> {
     let mut text = String::new(alloc);
-    for row in &rows {
-        for at in 0..row.column_count() {
-            let number: i64 = row.get(at)?;
-            text.push_str(&format!(in alloc; " {number}")?)?;
-        }
+    for row in rows {
+        push_row(alloc, row, &mut text)?;
     }
     Ok(text)
+}
+
+/// The numbers that a query gives, each after a space, or `none` if its table is not there.
+fn numbers<S: Alter>(alloc: Global, conn: &mut Connection<S>, sql: &str) -> Result<String, Fail> {
+    match conn.query_all(sql, &[]) {
+        Ok(rows) => text_of(alloc, &rows),
+        Err(_) => Ok(String::from_str(alloc, "none")?),
+    }
 }
 
 /// What the tables show.
@@ -217,7 +228,10 @@ fn adopt<S: Alter>(alloc: Global, store: &mut Store<S>) -> Result<u64, Fail> {
 fn read<S: Alter>(alloc: Global, store: &mut Store<S>) -> Result<u64, Fail> {
     let stream = three_transactions(alloc)?;
     let ends = ends(alloc, store, &[&stream])?;
-    Ok(ends.iter().fold(1, |done, end| end.applied.saturating_add(done)))
+    Ok(
+        ends.iter()
+            .fold(1, |done, end| end.applied.saturating_add(done)),
+    )
 }
 
 /// How many steps of the job have been done with a store: its opening and the transactions that it takes.
@@ -251,6 +265,16 @@ fn act<S: Alter + Drop>(
     }
 }
 
+/// Does the job over a connection, which is closed.
+fn act_and_close<D: Disk + Drop>(
+    alloc: Global,
+    job: Job,
+    conn: Connection<FileStore<D>>,
+) -> Result<(u64, Files<D>), Fail> {
+    let (done, conn) = act(alloc, job, conn)?;
+    Ok((done, conn.into_store().close()))
+}
+
 /// Does the job over files, and returns how many of its steps were done.
 fn act_over<D: Disk + Drop>(
     alloc: Global,
@@ -258,10 +282,7 @@ fn act_over<D: Disk + Drop>(
     files: Files<D>,
 ) -> Result<(u64, Files<D>), Fail> {
     match connect(alloc, files) {
-        Ok(conn) => {
-            let (done, conn) = act(alloc, job, conn)?;
-            Ok((done, conn.into_store().close()))
-        }
+        Ok(conn) => act_and_close(alloc, job, conn),
         Err(files) => Ok((0, files)),
     }
 }
