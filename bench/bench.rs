@@ -361,16 +361,24 @@ fn compare_stores(jobs: &str, store: &str, folder: &Path) -> io::Result<bool> {
     Ok(met)
 }
 
+fn usage() -> ExitCode {
+    eprintln!("usage: bench MREP JOBS PACKETS GTID EVENTS STORE FOLDER, or bench growth|whole MREP FOLDER");
+    ExitCode::from(2)
+}
+
 fn main() -> io::Result<ExitCode> {
     let words: Vec<String> = std::env::args().collect();
-    if let [_, growth, mrep, folder] = words.as_slice()
-        && growth == "growth"
-    {
-        return Ok(if growth::check(mrep, Path::new(folder))? { ExitCode::SUCCESS } else { ExitCode::FAILURE });
+    if let [_, part, mrep, folder] = words.as_slice() {
+        let folder = Path::new(folder);
+        let met = match part.as_str() {
+            "growth" => growth::check(mrep, folder)?,
+            "whole" => whole::compare_with_c(mrep, folder)?,
+            _ => return Ok(usage()),
+        };
+        return Ok(if met { ExitCode::SUCCESS } else { ExitCode::FAILURE });
     }
     let [_, mrep, jobs, packets, gtid, events, store, folder] = words.as_slice() else {
-        eprintln!("usage: bench MREP JOBS PACKETS GTID EVENTS STORE FOLDER, or bench growth MREP FOLDER");
-        return Ok(ExitCode::from(2));
+        return Ok(usage());
     };
     let folder = Path::new(folder);
     let mut met = true;
