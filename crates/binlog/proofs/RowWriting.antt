@@ -68,7 +68,7 @@ number_bytes (Prefixed size) n w readable fits = absurd cc
 pub prefix_short : (size : ℕ) → IsTrue (is_readable (Prefixed size)) → size ≤ 8
 prefix_short size readable = let q = and_parts (nat_le 1 size) (nat_le size 4) readable in omega (arith, leb-true _ _ q.1)
 
--- a value behind its length
+-- a value after its length
 pub prefixed_length : (s : Shape) (size : ℕ) (cell : CellValue) (value : List ℕ) → s ≡ Prefixed size → cell ≡ bytes_cell value → length (value_bytes s cell) ≡ size + length value
 prefixed_length s size cell value is_s is =
     let bytes : value_bytes s cell ≡ little_bytes size (length value) ++ value = λ i. value_bytes (is_s i) (is i) in

@@ -43,7 +43,7 @@ pub(crate) fn write_cells(cells: &[Cell<'_>], out: &mut Vec<u8>) -> Result<(), G
     Ok(())
 }
 
-/// Writes the image of a row, or a part of it, in place of what the vector holds.
+/// Writes the image of a row, or a part of it, instead of what the vector holds.
 #[inline(always)]
 pub(crate) fn write_row(row: &Row<'_>, out: &mut Vec<u8>) -> Result<(), GatherFault>
     requires { HasImage row.now }

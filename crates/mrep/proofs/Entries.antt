@@ -1,6 +1,7 @@
 -- A listing to which more bytes come.
 use Rattle.std.proofs.Common.{◌≡◌, ◌≢◌, ℕ, Bool, true, false, ◌+◌, ◌≤◌, ◌<◌, ◌^◌, List, [], ◌∷◌, ◌++◌, length, take, drop, refl, ap, sym, subst, ◌∙◌, append_assoc, arith, length-append, length-take, inl, Option, Some, None, IfNone, IfSome, MatchOption}
 use Rattle.std.proofs.Math.ListN.{get_or-append}
+use Rattle.std.proofs.Math.Seq.{take-append_seam}
 use Rattle.std.proofs.lemmas.List.{append-nil, take-append-drop}
 use Rattle.wire.specs.Payload.{IsWholePayload, IsUnfinished, IsOutOfSequence, IsTooLarge}
 use Rattle.wire.specs.declared.fault.WireFault.{WireFault}
@@ -9,7 +10,7 @@ use Rattle.wire.proofs.OneReading.{more_wrong, more_large}
 use Rattle.wire.specs.declared.packet.TheConstants.{LARGEST_PAYLOAD}
 use Rattle.mrep.specs.declared.listing.Entry.{Entry}
 use Rattle.mrep.specs.declared.listing.Listing.{Listing}
-use Rattle.mrep.specs.Listing.{Lists, held_of, first_id, IsNoPayload, Stands, IsWrong, Faults}
+use Rattle.mrep.specs.Listing.{Lists, held_of, with_entry, first_id, IsNoPayload, Stands, IsWrong, Faults}
 
 -- bytes after the rest are part of the rest
 lists-more : (offset : ℕ) (bytes more : List ℕ) (entries : List Entry) (rest : List ℕ) → Lists offset bytes entries rest → Lists offset (bytes ++ more) entries (rest ++ more)
@@ -44,27 +45,28 @@ lists-push offset bytes more (e ∷ entries) rest entry payload next (packing, o
   lists-push (offset + length packing) others more entries rest entry payload next after whole (omega (arith, at, ap length is, length-append packing others)) long,
 )
 
--- what was taken of a piece, and the listing's position
-pub record Listed (old new : Listing) (piece rest : List ℕ) (listed entries : List Entry) : Type 0 where
+-- what was consumed of a piece, with the payload that it completed at last, and the listing's position
+pub record Listed (old new : Listing) (piece rest : List ℕ) (entry : Option Entry) : Type 0 where
   pub taken : List ℕ
   pub cut : piece ≡ taken ++ rest
-  pub stands : (stream : List ℕ) (before : List Entry) → length stream + length piece < 2 ^ 64 → Stands old stream (before ++ listed) → Stands new (stream ++ taken) (before ++ entries)
+  pub stands : (stream : List ℕ) (entries : List Entry) → length stream + length piece < 2 ^ 64 → Stands old stream entries → Stands new (stream ++ taken) (with_entry entries entry)
 
-pub listed_held : {old mid : Listing} {piece rest : List ℕ} {listed entries : List Entry} (new : Listing) (used : ℕ) → Listed old mid piece rest listed entries →
+-- more bytes of the current payload
+pub listed_held : {old mid : Listing} {piece rest : List ℕ} (new : Listing) (used : ℕ) → Listed old mid piece rest None →
     used ≤ length rest → held_of new ≡ held_of mid ++ take used rest → IsNoPayload (held_of new) → new.assembler.ended ≡ false → new.begin ≡ mid.begin → (mid.seen + used < 2 ^ 64 → new.seen ≡ mid.seen + used) →
-    Listed old new piece (drop used rest) listed entries
-listed_held {old} {mid} {piece} {rest} {listed} {entries} new used l in_range held no_payload goes_on begin seen = record {
+    Listed old new piece (drop used rest) None
+listed_held {old} {mid} {piece} {rest} new used l in_range held no_payload goes_on begin seen = record {
   taken = l.taken ++ take used rest;
   cut = l.cut ∙ ap (λ r. l.taken ++ r) (sym (take-append-drop used rest)) ∙ sym (append_assoc l.taken (take used rest) (drop used rest));
-  stands = λ stream before short at.
-      let m = l.stands stream before short at in
+  stands = λ stream entries short at.
+      let m = l.stands stream entries short at in
       let x = take used rest in
       let long : length x ≡ used = omega (arith, length-take used rest, in_range) in
       let come : length (stream ++ (l.taken ++ x)) ≡ length stream + length l.taken + used = omega (arith, length-append stream (l.taken ++ x), length-append l.taken x, long) in
       let fits : mid.seen + used < 2 ^ 64 = omega (arith, m.seen, length-append stream l.taken, short, ap length l.cut, length-append l.taken rest, in_range) in
       let same : stream ++ l.taken ++ x ≡ stream ++ (l.taken ++ x) = append_assoc stream l.taken x in
       record {
-        lists = subst (λ s. Lists 0 s (before ++ entries) (held_of new)) same (subst (λ h. Lists 0 (stream ++ l.taken ++ x) (before ++ entries) h) (sym held) (lists-more 0 (stream ++ l.taken) x (before ++ entries) (held_of mid) m.lists));
+        lists = subst (λ s. Lists 0 s entries (held_of new)) same (subst (λ h. Lists 0 (stream ++ l.taken ++ x) entries h) (sym held) (lists-more 0 (stream ++ l.taken) x entries (held_of mid) m.lists));
         begin = omega (arith, m.begin, ap length held, length-append (held_of mid) x, long, begin, come, length-append stream l.taken);
         seen = omega (arith, seen fits, m.seen, come, length-append stream l.taken);
         no_payload = no_payload;
@@ -72,24 +74,25 @@ listed_held {old} {mid} {piece} {rest} {listed} {entries} new used l in_range he
       };
 }
 
-pub listed_payload : {old mid : Listing} {piece rest : List ℕ} {listed entries : List Entry} (new : Listing) (used : ℕ) (entry : Entry) (payload : List ℕ) (next : ℕ) (now : List Entry) →
-    Listed old mid piece rest listed entries → used ≤ length rest → IsWholePayload entry.sequence LARGEST_PAYLOAD (held_of mid ++ take used rest) payload next →
-    held_of new ≡ [] → entry.offset ≡ mid.begin → entry.payload.items ≡ payload → now ≡ entries ++ entry ∷ [] →
-    (mid.seen + used < 2 ^ 64 → new.seen ≡ mid.seen + used) → new.begin ≡ new.seen → new.assembler.ended ≡ false → Listed old new piece (drop used rest) listed now
-listed_payload {old} {mid} {piece} {rest} {listed} {entries} new used entry payload next now l in_range whole held offset len now_is seen begin goes_on = record {
+-- the bytes that complete the current payload
+pub listed_payload : {old mid : Listing} {piece rest : List ℕ} (new : Listing) (used : ℕ) (entry : Entry) (payload : List ℕ) (next : ℕ) →
+    Listed old mid piece rest None → used ≤ length rest → IsWholePayload entry.sequence LARGEST_PAYLOAD (held_of mid ++ take used rest) payload next →
+    held_of new ≡ [] → entry.offset ≡ mid.begin → entry.payload.items ≡ payload →
+    (mid.seen + used < 2 ^ 64 → new.seen ≡ mid.seen + used) → new.begin ≡ new.seen → new.assembler.ended ≡ false → Listed old new piece (drop used rest) (Some entry)
+listed_payload {old} {mid} {piece} {rest} new used entry payload next l in_range whole held offset len seen begin goes_on = record {
   taken = l.taken ++ take used rest;
   cut = l.cut ∙ ap (λ r. l.taken ++ r) (sym (take-append-drop used rest)) ∙ sym (append_assoc l.taken (take used rest) (drop used rest));
-  stands = λ stream before short at.
-      let m = l.stands stream before short at in
+  stands = λ stream entries short at.
+      let m = l.stands stream entries short at in
       let x = take used rest in
       let long : length x ≡ used = omega (arith, length-take used rest, in_range) in
       let come : length (stream ++ (l.taken ++ x)) ≡ length stream + length l.taken + used = omega (arith, length-append stream (l.taken ++ x), length-append l.taken x, long) in
       let fits : mid.seen + used < 2 ^ 64 = omega (arith, m.seen, length-append stream l.taken, short, ap length l.cut, length-append l.taken rest, in_range) in
       let same : stream ++ l.taken ++ x ≡ stream ++ (l.taken ++ x) = append_assoc stream l.taken x in
-      let all : (before ++ entries) ++ entry ∷ [] ≡ before ++ now = append_assoc before entries (entry ∷ []) ∙ ap (λ e. before ++ e) (sym now_is) in
-      let pushed = lists-push 0 (stream ++ l.taken) x (before ++ entries) (held_of mid) entry payload next m.lists whole (omega (arith, offset, m.begin)) len in
+      let now = entries ++ entry ∷ [] in
+      let pushed = lists-push 0 (stream ++ l.taken) x entries (held_of mid) entry payload next m.lists whole (omega (arith, offset, m.begin)) len in
       record {
-        lists = subst (λ s. Lists 0 s (before ++ now) (held_of new)) same (subst (λ h. Lists 0 (stream ++ l.taken ++ x) (before ++ now) h) (sym held) (subst (λ e. Lists 0 (stream ++ l.taken ++ x) e []) all pushed));
+        lists = subst (λ s. Lists 0 s now (held_of new)) same (subst (λ h. Lists 0 (stream ++ l.taken ++ x) now h) (sym held) pushed);
         begin = omega (arith, ap length held, begin, seen fits, m.seen, come, length-append stream l.taken);
         seen = omega (arith, seen fits, m.seen, come, length-append stream l.taken);
         no_payload = inl (omega (arith, ap length held));
@@ -97,10 +100,13 @@ listed_payload {old} {mid} {piece} {rest} {listed} {entries} new used entry payl
       };
 }
 
-pub listed_all : {old new : Listing} {piece rest : List ℕ} {listed entries : List Entry} → Listed old new piece rest listed entries → rest ≡ [] →
-    (stream : List ℕ) (before : List Entry) → length stream + length piece < 2 ^ 64 → Stands old stream (before ++ listed) → Stands new (stream ++ piece) (before ++ entries)
-listed_all {new = new} {entries = entries} l none stream before short at =
-    subst (λ t. Stands new (stream ++ t) (before ++ entries)) (sym (l.cut ∙ ap (λ r. l.taken ++ r) none ∙ append-nil l.taken)) (l.stands stream before short at)
+-- by the number of bytes that were consumed
+pub listed_used : {old new : Listing} {piece rest : List ℕ} {entry : Option Entry} (used : ℕ) → Listed old new piece rest entry → used + length rest ≡ length piece →
+    (stream : List ℕ) (entries : List Entry) → length stream + length piece < 2 ^ 64 → Stands old stream entries → Stands new (stream ++ take used piece) (with_entry entries entry)
+listed_used {new = new} {piece} {rest} {entry} used l is stream entries short at =
+    let long : used ≡ length l.taken = omega (arith, is, ap length l.cut, length-append l.taken rest) in
+    let same : take used piece ≡ l.taken = (λ i. take (long i) (l.cut i)) ∙ take-append_seam l.taken rest in
+    subst (λ t. Stands new (stream ++ t) (with_entry entries entry)) (sym same) (l.stands stream entries short at)
 
 -- what the clauses of a step say about its fault
 pub wrong_from : {due room : ℕ} (bytes : List ℕ) (fault : WireFault) → due ≡ first_id bytes → room ≡ LARGEST_PAYLOAD → (fault ≢ Ended) →
@@ -125,16 +131,16 @@ IsWrong-more bytes more TooLarge long wrong = subst (λ id. IsTooLarge id LARGES
 IsWrong-more bytes more Memory long wrong = tt
 IsWrong-more bytes more Ended long wrong = wrong
 
--- a fault, after what was listed
-pub listed_fault : {old mid : Listing} {piece rest : List ℕ} {listed entries : List Entry} (new : Listing) (fault : WireFault) → Listed old mid piece rest listed entries →
+-- a fault, after what was consumed
+pub listed_fault : {old mid : Listing} {piece rest : List ℕ} (new : Listing) (fault : WireFault) → Listed old mid piece rest None →
     new.begin ≡ mid.begin → (mid.assembler.ended ≡ false → IsWrong (held_of mid ++ rest) fault) →
-    (stream : List ℕ) (before : List Entry) → length stream + length piece < 2 ^ 64 → Stands old stream (before ++ listed) → Faults new (stream ++ piece) (before ++ entries) fault
-listed_fault {old} {mid} {piece} {rest} {listed} {entries} new fault l begin wrong stream before short at =
-    let m = l.stands stream before short at in
+    (stream : List ℕ) (entries : List Entry) → length stream + length piece < 2 ^ 64 → Stands old stream entries → Faults new (stream ++ piece) entries fault
+listed_fault {old} {mid} {piece} {rest} new fault l begin wrong stream entries short at =
+    let m = l.stands stream entries short at in
     let same : stream ++ l.taken ++ rest ≡ stream ++ piece = append_assoc stream l.taken rest ∙ ap (λ p. stream ++ p) (sym l.cut) in
     record {
       rest = held_of mid ++ rest;
-      lists = subst (λ s. Lists 0 s (before ++ entries) (held_of mid ++ rest)) same (lists-more 0 (stream ++ l.taken) rest (before ++ entries) (held_of mid) m.lists);
+      lists = subst (λ s. Lists 0 s entries (held_of mid ++ rest)) same (lists-more 0 (stream ++ l.taken) rest entries (held_of mid) m.lists);
       begin = omega (arith, begin, m.begin, length-append (held_of mid) rest, ap length same, length-append (stream ++ l.taken) rest);
       wrong = wrong m.goes_on;
     }

@@ -1,5 +1,5 @@
 -- The payloads of a stream whose first packets may have any sequence id.
-use Rattle.std.specs.Prelude.{◌≡◌, ℕ, ◌+◌, ◌<◌, false, List, [], ◌∷◌, ◌++◌, length, get_or, take, ◌≤◌, ◌⊎◌, MatchOption}
+use Rattle.std.specs.Prelude.{◌≡◌, ℕ, ◌+◌, ◌<◌, false, List, [], ◌∷◌, ◌++◌, length, get_or, take, ◌≤◌, ◌⊎◌, Option, Some, None, MatchOption}
 use Rattle.wire.specs.Payload.{IsWholePayload, IsUnfinished, IsOutOfSequence, IsTooLarge}
 use Rattle.wire.specs.declared.packet.TheConstants.{LARGEST_PAYLOAD}
 use Rattle.wire.specs.declared.assembler.Step.{Step}
@@ -15,6 +15,11 @@ Lists offset bytes [] rest = bytes ≡ rest
 Lists offset bytes (entry ∷ entries) rest =
     (packing : List ℕ) × (others : List ℕ) × (payload : List ℕ) × (next : ℕ) × (bytes ≡ packing ++ others) × IsWholePayload entry.sequence LARGEST_PAYLOAD packing payload next
     × (entry.offset ≡ offset) × (entry.payload.items ≡ payload) × Lists (offset + length packing) others entries rest
+
+-- the entries, and one more if there is one
+abbrev pub with_entry : List Entry → Option Entry → List Entry
+with_entry entries None = entries
+with_entry entries (Some entry) = entries ++ entry ∷ []
 
 -- the bytes of the current payload that have come
 abbrev pub held_of : Listing → List ℕ

@@ -37,8 +37,8 @@ pub struct Listing {
 }
 
 impl Listing {
-    ghost use Rattle.mrep.specs.Listing.{held_of, Advances, Refuses, Stands, Faults};
-    ghost use Rattle.std.specs.Prelude.{◌≡◌, ◌≢◌, ℕ, ◌+◌, ◌^◌, ◌≤◌, ◌<◌, ◌++◌, [], List, false, length, IfOk, IfErr, MatchResult};
+    ghost use Rattle.mrep.specs.Listing.{held_of, with_entry, Advances, Refuses, Stands, Faults};
+    ghost use Rattle.std.specs.Prelude.{◌≡◌, ◌≢◌, ℕ, ◌+◌, ◌^◌, ◌≤◌, ◌<◌, ◌++◌, [], List, false, length, take, IfOk, IfErr, IfNone, MatchResult};
     ghost use Rattle.mrep.specs.declared.listing.Entry.{Entry};
 
     /// A reader at the beginning of a stream.
@@ -107,14 +107,18 @@ impl Listing {
         }
     }
 
-    /// Consumes a piece of the stream, and appends the payloads that are complete now.
+    /// Consumes bytes of a piece of the stream, up to the end of the current payload or all of them, and returns how many
+    /// were consumed, and the payload if it is complete now. The rest of the piece is to be fed next.
     ///
-    /// After a fault the entries of the payloads before it have been appended, and the listing has ended.
-    pub fn feed(&mut self, piece: &[u8], entries: &mut Vec<Entry>) -> Result<(), WireFault>
-        ensures stands { (stream : List ℕ) (before : List Entry) → length stream + length piece.now < 2 ^ 64 → Stands self.old stream (before ++ entries.old.items) →
+    /// After a fault the listing has ended.
+    pub fn feed(&mut self, piece: &[u8]) -> Result<(usize, Option<Entry>), WireFault>
+        ensures within { IfOk result (λ fed. fed.0 ≤ length piece.now) }
+        ensures progress { 0 < length piece.now → IfOk result (λ fed. 0 < fed.0) }
+        ensures all { IfOk result (λ fed. IfNone fed.1 (fed.0 ≡ length piece.now)) }
+        ensures stands { (stream : List ℕ) (entries : List Entry) → length stream + length piece.now < 2 ^ 64 → Stands self.old stream entries →
             MatchResult result
-            (λ _. Stands self.new (stream ++ piece.now) (before ++ entries.new.items))
-            (λ fault. Faults self.new (stream ++ piece.now) (before ++ entries.new.items) fault) }
+            (λ fed. Stands self.new (stream ++ take fed.0 piece.now) (with_entry entries fed.1))
+            (λ fault. Faults self.new (stream ++ piece.now) entries fault) }
     {
         let mut rest = piece;
         while !rest.is_empty() {
@@ -122,15 +126,16 @@ impl Listing {
             rest = &rest[used..];
             self.seen = self.seen.saturating_add(used as u64);
             if let Some(payload) = payload {
-                entries.push(Entry {
+                let entry = Entry {
                     offset: self.begin,
                     sequence: self.sequence,
                     payload,
-                })?;
+                };
                 self.begin = self.seen;
+                return Ok((piece.len() - rest.len(), Some(entry)));
             }
         }
-        Ok(())
+        Ok((piece.len(), None))
     }
 
     /// How many bytes of the current payload have come.

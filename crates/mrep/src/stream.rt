@@ -36,7 +36,6 @@ pub fn list<'a, R: Files + AllocGlobal, W: Write>(
 {
     let mut file = fs::open(rt, name).map_err(|cause| Failure::File { name, cause })?;
     let mut listing = Listing::new(rt.alloc());
-    let mut entries = Vec::new(rt.alloc());
     let mut piece = vec![in rt.alloc(); 0; PIECE]?;
     for _ in 0..u64::MAX {
         let count = match read_some(&mut file, &mut piece) {
@@ -44,7 +43,7 @@ pub fn list<'a, R: Files + AllocGlobal, W: Write>(
             Ok(count) => count,
             Err(cause) => return Err(Failure::File { name, cause }),
         };
-        if !list_piece(&mut listing, lines, &piece[..count], &mut entries, out)? {
+        if !list_piece(&mut listing, lines, &piece[..count], out)? {
             return Ok(REFUSED);
         }
     }
@@ -53,38 +52,39 @@ pub fn list<'a, R: Files + AllocGlobal, W: Write>(
     Ok(if rest == 0 { DONE } else { REFUSED })
 }
 
-/// Lists the payloads that a piece of the file completes, and returns whether there was no fault.
+/// Lists the payloads that a piece of the file completes, each at once, and returns whether there was no fault.
 fn list_piece<'a, W: Write>(
     listing: &mut Listing,
     lines: Lines,
     piece: &[u8],
-    entries: &mut Vec<Entry>,
     out: &mut W,
 ) -> Result<bool, Failure<'a>> {
-    let listed = listing.feed(piece, entries);
-    if !write_entries(lines, entries, out)? {
-        return Ok(false);
-    }
-    entries.clear();
-    match listed {
-        Ok(()) => Ok(true),
-        Err(WireFault::Memory) => Err(Failure::Memory),
-        Err(fault) => {
-            let (reason, begin) = (wire_reason(fault), listing.begin);
-            writeln!(out, "fault {reason} at {begin}")?;
-            Ok(false)
-        }
-    }
-}
-
-/// Writes a line for each payload, up to one with a fault, and returns whether there was none.
-fn write_entries<W: Write>(lines: Lines, entries: &[Entry], out: &mut W) -> io::Result<bool> {
-    for entry in entries {
-        if !write_entry(lines, entry, out)? {
-            return Ok(false);
+    let mut rest = piece;
+    while !rest.is_empty() {
+        match listing.feed(rest) {
+            Ok((used, Some(entry))) => {
+                rest = &rest[used..];
+                if !write_entry(lines, &entry, out)? {
+                    return Ok(false);
+                }
+            }
+            Ok((_, None)) => return Ok(true),
+            Err(WireFault::Memory) => return Err(Failure::Memory),
+            Err(fault) => return write_fault(fault, listing.begin, out),
         }
     }
     Ok(true)
+}
+
+/// Writes the line of a fault of the packets, and returns that there was one.
+fn write_fault<'a, W: Write>(
+    fault: WireFault,
+    begin: u64,
+    out: &mut W,
+) -> Result<bool, Failure<'a>> {
+    let reason = wire_reason(fault);
+    writeln!(out, "fault {reason} at {begin}")?;
+    Ok(false)
 }
 
 /// Writes the line of a payload, and returns whether it is without a fault.

@@ -55,7 +55,7 @@ pub struct Reporting {
 }
 
 impl<'a, O: Write, E: Write> Watch<'a, O, E> {
-    /// An observer that has been told nothing.
+    /// An observer that nothing has been reported to.
     pub fn new(
         source: Source<'a>,
         reporting: Reporting,

@@ -86,7 +86,7 @@ impl Session {
         self.feed_observed(store, bytes, &mut Unobserved)
     }
 
-    /// As [`Session::feed`], with an observer that is told of the events and transactions, and may stop before one.
+    /// As [`Session::feed`], and reports events and transactions to an observer, which may stop it before one.
     pub fn feed_observed<S: Alter, W: Observer>(
         &mut self,
         store: &mut Store<S>,

@@ -167,7 +167,7 @@ pub fn follow<T: Duplex, S: Alter>(
     follow_observed(alloc, stream, store, config, &mut Unobserved)
 }
 
-/// As [`follow`], with an observer that is told of what is read, and may stop before a transaction. After that nothing
+/// As [`follow`], and reports what is read to an observer, which may stop it before a transaction. After that nothing
 /// more is sent.
 pub fn follow_observed<T: Duplex, S: Alter, W: Observer>(
     alloc: Global,

@@ -1,4 +1,4 @@
-//! What is told of connections while they are read.
+//! What is reported of connections while they are read.
 
 ghost use Rattle.std.specs.Prelude.{◌≡◌, Bool, true, false, not};
 
@@ -7,7 +7,7 @@ use binlog::Event;
 use gather::Delivery;
 use gtid::GtidSet;
 
-/// What is told of connections while they are read, and may stop them.
+/// What connections are reported to while they are read, and what may stop them.
 pub trait Observer {
     // Whether it has asked to stop. It never takes that back.
     ghost has_stopped: { Self → Bool };

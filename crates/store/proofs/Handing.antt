@@ -43,7 +43,7 @@ one_entry : (e f : Entry) → HasImage e.0.cells → HasImage f.0.cells → show
 one_entry e f e_has f_has same =
     sym (given_entry (Null ∷ shown_entry f) e (key_for f.0) f.1 f.0.cells f.0.schema f.0.table (refl, refl, refl) refl (record { has_image = f_has; bytes_are = refl }) refl refl same e_has)
 
--- The rest of a list of entries, behind the first ones.
+-- The rest of a list of entries, after the first ones.
 pub record IsCut (all first : List Entry) (tail : List Row) : Type 0 where
   pub left : List Entry
   pub is : all ≡ first ++ left

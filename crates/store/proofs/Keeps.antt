@@ -1,14 +1,14 @@
 -- What a call inside a transaction keeps.
-use Rattle.std.proofs.Common.{◌⊎◌, inl, inr, ℕ, List, Ok, Err, Result, Some, None, false, IfOk, IfErr, OnOk, IsTrue, ◌≡◌, subst, ◌∙◌}
+use Rattle.std.proofs.Common.{arith, ◌⊎◌, inl, inr, ℕ, List, Ok, Err, Result, Some, None, false, IfOk, IfErr, OnOk, IsTrue, ◌≡◌, refl, subst, ◌∙◌}
 use Rattle.std.proofs.lemmas.Bool.{cases_Bool}
 use Rattle.sqlite_value.specs.Order.{Row}
 use Rattle.sqlite_resolve.specs.declared.compiled.Compiled.{Compiled}
 use Rattle.sqlite.specs.declared.error.Error.{Error}
-use Rattle.sqlite.specs.State.{State, Survives, KeepsCommit, IsUnchanged, IsRolledBack, IsNotRun, FailsToQuery, FailsToShow, IsTooLate, Shown, ShowsRows, ExecutesInside, ExecutesIn, CommitsShowing}
+use Rattle.sqlite.specs.State.{State, Survives, KeepsCommit, HasCleanDisk, IsUnchanged, IsRolledBack, IsNotRun, FailsToQuery, FailsToShow, IsTooLate, Shown, ShowsRows, ExecutesInside, ExecutesIn, CommitsShowing}
 use Rattle.sqlite_trees.specs.declared.store.Store.{Ghosts}
 use Rattle.sqlite.specs.Held.{Held, state}
 use Rattle.sqlite.specs.Listing.{understood}
-use Rattle.store.specs.Inside.{WasOpen}
+use Rattle.store.specs.Inside.{IsWorking, WasOpen, Stays}
 use Rattle.sqlite.proofs.Callers.{IsPlain, never_commits}
 use Rattle.sqlite.proofs.StateLemmas.{survives_then}
 
@@ -55,6 +55,14 @@ kept_then a b c one two = record { was_open = λ is_open. one.was_open (two.was_
 pub inside_then : (a b c : State) → Survives a b (λ _. ⊥) → Survives b c (λ _. ⊥) → Survives a c (λ _. ⊥)
 inside_then a b c one two = survives_then a b c (λ _. ⊥) (λ _. ⊥) (λ _. ⊥) (λ _ db none. none) (λ _ db none. none) one two
 
+-- a call after others that went on
+pub stays_then : (a b c : State) → Stays a b → (HasCleanDisk b → IsWorking a → IsWorking b) → Stays b c → Stays a c
+stays_then a b c one on two = record {
+  kept = λ clean was. let early : HasCleanDisk b = omega (arith, two.survives.clean, clean) in kept_then a b c (one.kept early was) (two.kept clean (on early was));
+  survives = inside_then a b c one.survives two.survives;
+  opened = λ clean is_open. one.opened (omega (arith, two.survives.clean, clean)) (two.opened clean is_open);
+}
+
 -- ---- a query outside a transaction
 pub kept_query : {X : Type 0} (sql : List ℕ) (params : Row) (old new : State) (r : Result X Error) → OnOk r (IsUnchanged old new) → IfErr r (FailsToQuery sql params old new) → KeepsCommit old new
 kept_query sql params old new (Ok x) same failed = kept_unchanged old new same
@@ -95,9 +103,27 @@ pub opened_query : {X : Type 0} (items : X → List Row) (sql : List ℕ) (param
 opened_query items sql params old new (Ok x) ok err is_open = open_shown sql params old new (items x) ok
 opened_query items sql params old new (Err e) ok err is_open = (kept_failed sql params old new e (inl err)).was_open is_open
 
-pub opened_executed : {S : Type 0} {P : Type 0} (g : Ghosts S) (h k : Held S) (sql : List ℕ) (params : Row) (r : Result ℕ Error) → (h.in_transaction ≡ false → P × (k ≡ h))
+opened_executed : {S : Type 0} {P : Type 0} (g : Ghosts S) (h k : Held S) (sql : List ℕ) (params : Row) (r : Result ℕ Error) → (h.in_transaction ≡ false → P × (k ≡ h))
     → (IsTrue h.in_transaction → ExecutesInside 0 sql params (state g h) (state g k) r) → WasOpen (state g h) (state g k)
 opened_executed {S = S} g h k sql params r ended runs is_open = elim (cases_Bool h.in_transaction) [
   | inl inside ↦ (kept_executed 0 sql params (state g h) (state g k) r (runs inside)).was_open is_open
   | inr out ↦ subst (λ (x : Held S). IsTrue (state g x).is_open) (ended out).1 is_open
 ]
+
+-- ---- a call inside, from what the database says of it
+pub stays_executed : {S : Type 0} {P : Type 0} (g : Ghosts S) (h k : Held S) (sql : List ℕ) (params : Row) (r : Result ℕ Error) → (h.in_transaction ≡ false → P × (k ≡ h))
+    → (HasCleanDisk (state g k) → IsTrue h.in_transaction → ExecutesInside 0 sql params (state g h) (state g k) r) → Survives (state g h) (state g k) (λ _. ⊥) → Stays (state g h) (state g k)
+stays_executed g h k sql params r ended runs survives = record {
+  kept = λ clean was. kept_executed 0 sql params (state g h) (state g k) r (runs clean (rw was.inside refl));
+  survives = survives;
+  opened = λ clean. opened_executed g h k sql params r ended (runs clean);
+}
+
+pub stays_shown : {X : Type 0} (items : X → List Row) (sql : List ℕ) (params : Row) (old new : State) (r : Result X Error) → (HasCleanDisk new → IfOk r (λ x. Shown sql params old new (items x)))
+    → (HasCleanDisk new → IfErr r (λ e. FailsToQuery sql params old new e ⊎ IsTooLate sql params old new e)) → (HasCleanDisk new → IsWorking old → OnOk r (IsUnchanged old new))
+    → Survives old new (λ _. ⊥) → Stays old new
+stays_shown items sql params old new r ok err same survives = record {
+  kept = λ clean was. kept_shown sql params old new r (same clean was) (err clean);
+  survives = survives;
+  opened = λ clean. opened_shown items sql params old new r (ok clean) (err clean);
+}

@@ -10,6 +10,8 @@ use Rattle.gtid.specs.Identifier.{Ids}
 use Rattle.binlog.specs.Filter.{Names}
 use Rattle.store.specs.declared.fault.StoreFault.{StoreFault}
 use Rattle.store.specs.declared.tables.Tables.{Tables}
+use Rattle.store.specs.declared.tables.KnownLayout.{KnownLayout}
+use Rattle.store.specs.declared.tables.KnownLayout.TheVariants.{First, Second}
 use Rattle.store.specs.Layout.{IsFirstLaidOut, HasMeta, IsLaidOut, IsVacant}
 use Rattle.std.specs.List.{AllByRecursion}
 use Rattle.sqlite_value.specs.Order.{Row}
@@ -19,7 +21,7 @@ use Rattle.store.specs.Rows.{SaysLayout, first_meta_rows, meta_rows, IsMetaRow}
 use Rattle.store.specs.Load.{StatesLayout}
 use Rattle.store.specs.Beside.{LiesBeside}
 use Rattle.store.specs.Open.{MayStandFor}
-use Rattle.store.specs.Entering.{IsReady, IsKnown, blank, first, second, lacking, IsOf, IsWhy, IsEntered, IsTurned, MayEnter, tables_of, has_any, has_first, has_second}
+use Rattle.store.specs.Entering.{IsReady, IsKnown, HasLayout, IsDamaged, lacks_first, lacks_second, breaks_first, breaks_second, blank, first, second, lacking, IsOf, IsWhy, IsEntered, IsTurned, MayEnter, tables_of, has_any, has_first, has_second}
 use Rattle.store.proofs.Lives.{narrowed}
 use Rattle.store.proofs.Entered.{rests_after, weaken}
 
@@ -63,7 +65,7 @@ known_second db (second laid none) says there = laid
 known_second db (lacking meta one two) says there = absurd (false≢true (sym (two says) ∙ there))
 
 -- ---- one reading after another
-pub ready_after : (old mid : State) → IsUnchanged old mid → IsReady old → IsReady mid
+ready_after : (old mid : State) → IsUnchanged old mid → IsReady old → IsReady mid
 ready_after old mid same ready = record {
   is_open = same.0.is_open;
   settled = same.0.now_is ∙ ready.settled ∙ sym same.0.committed_is;
@@ -110,14 +112,13 @@ pub err_weaker : {T E : Type 0} {P Q : E → Type 0} (r : Result T E) → ((e : 
 err_weaker (Ok x) f h = h
 err_weaker (Err e) f h = f e h
 
-pub laid_after_first : (old mid : State) → IsUnchanged old mid → IsFirstLaidOut old.now.schema → IsFirstLaidOut mid.now.schema
-laid_after_first old mid same laid = subst (λ (db : Stored). IsFirstLaidOut db.schema) (sym same.0.now_is) laid
+-- a database of this layout that was read, and is ready as before
+pub record IsFound (mid : State) (layout : KnownLayout) : Type 0 where
+  pub ready : IsReady mid
+  pub has : HasLayout mid.now layout
 
-pub laid_after_second : (old mid : State) → IsUnchanged old mid → IsLaidOut old.now.schema → IsLaidOut mid.now.schema
-laid_after_second old mid same laid = subst (λ (db : Stored). IsLaidOut db.schema) (sym same.0.now_is) laid
-
-pub states_after : (n : ℤ) (old mid : State) → IsUnchanged old mid → StatesLayout n (first_meta_rows old.now) → StatesLayout n (first_meta_rows mid.now)
-states_after n old mid same states = subst (λ (db : Stored). StatesLayout n (first_meta_rows db)) (sym same.0.now_is) states
+pub found : (old mid : State) (layout : KnownLayout) → IsReady old → IsUnchanged old mid → HasLayout old.now layout → IsFound mid layout
+found old mid layout ready same has = record { ready = ready_after old mid same ready; has = subst (λ (db : Stored). HasLayout db layout) (sym same.0.now_is) has }
 
 pub meta_there : (schema : Schema) → HasMeta schema → (tables_of schema).meta ≡ true
 meta_there schema m = ap is_some m.found.by_name
@@ -163,27 +164,31 @@ breaks_meta_second db laid m h is all = breaks_meta (first_meta_rows db) m h is 
 pub may_none : (only : Names) (old mid : State) → Survives old mid (λ _. ⊥) → Survives old mid (MayEnter only old)
 may_none only old mid s = weaken old mid (λ _. ⊥) (MayEnter only old) (λ _ none. absurd none) s
 
--- ---- a database whose layout meta states, after meta was read
-pub record IsRead (n : ℤ) (IsLaid : Schema → Type 0) (mid : State) : Type 0 where
-  pub ready : IsReady mid
-  pub laid : IsLaid mid.now.schema
-  pub states : StatesLayout n (first_meta_rows mid.now)
+-- ---- the layout of a database, from its tables and what its meta says
+module _ (db : Stored) (known : IsKnown db) (tables : Tables) (m : Meta) (meta : IsMeta (first_meta_rows db) m) (is : tables ≡ tables_of db.schema) (has : tables.meta ≡ true) (k : ℤ) (layout : m.layout ≡ Some k) where
+  there_is : (tables_of db.schema).meta ≡ true
+  there_is = ap (λ t. t.meta) (sym is) ∙ has
 
-module _ (old mid : State) (tables : Tables) (m : Meta) (k : ℤ) (ready : IsReady old) (is : tables ≡ tables_of old.now.schema) (same : IsUnchanged old mid) (meta : IsMeta (first_meta_rows old.now) m) (layout : m.layout ≡ Some k) (lawful : not m.lawful ≡ false) where
-  pub read_first : k ≡ pos 1 → has_first tables ≡ true → IsRead (pos 1) IsFirstLaidOut mid
-  read_first one all =
-      let says = says_at (first_meta_rows old.now) m k (pos 1) meta layout one in
-      record {
-        ready = ready_after old mid same ready;
-        laid = laid_after_first old mid same (known_first old.now ready.known says (ap has_first (sym is) ∙ all));
-        states = states_after (pos 1) old mid same (states_at (first_meta_rows old.now) m (pos 1) meta says lawful);
-      }
+  says : (n : ℤ) → k ≡ n → SaysLayout n (first_meta_rows db)
+  says n one = says_at (first_meta_rows db) m k n meta layout one
 
-  pub read_second : k ≡ pos 2 → has_second tables ≡ true → IsRead (pos 2) IsLaidOut mid
-  read_second two all =
-      let says = says_at (first_meta_rows old.now) m k (pos 2) meta layout two in
-      record {
-        ready = ready_after old mid same ready;
-        laid = laid_after_second old mid same (known_second old.now ready.known says (ap has_second (sym is) ∙ all));
-        states = states_after (pos 2) old mid same (states_at (first_meta_rows old.now) m (pos 2) meta says lawful);
-      }
+  pub without_first : k ≡ pos 1 → has_first tables ≡ false → IsDamaged db
+  without_first one none = lacks_first there_is (says (pos 1) one) (ap has_first (sym is) ∙ none)
+
+  pub unlawful_first : k ≡ pos 1 → not m.lawful ≡ true → IsDamaged db
+  unlawful_first one broken = breaks_first there_is (says (pos 1) one) (λ rules. breaks_meta (first_meta_rows db) m meta broken rules.meta)
+
+  pub whole_first : k ≡ pos 1 → has_first tables ≡ true → not m.lawful ≡ false → HasLayout db First
+  whole_first one all lawful = (known_first db known (says (pos 1) one) (ap has_first (sym is) ∙ all), states_at (first_meta_rows db) m (pos 1) meta (says (pos 1) one) lawful)
+
+  pub without_second : k ≡ pos 2 → has_second tables ≡ false → IsDamaged db
+  without_second two none = lacks_second there_is (says (pos 2) two) (ap has_second (sym is) ∙ none)
+
+  second_laid : k ≡ pos 2 → has_second tables ≡ true → IsLaidOut db.schema
+  second_laid two all = known_second db known (says (pos 2) two) (ap has_second (sym is) ∙ all)
+
+  pub unlawful_second : k ≡ pos 2 → has_second tables ≡ true → not m.lawful ≡ true → IsDamaged db
+  unlawful_second two all broken = breaks_second there_is (says (pos 2) two) (λ rules. breaks_meta_second db (second_laid two all) m meta broken rules.meta)
+
+  pub whole_second : k ≡ pos 2 → has_second tables ≡ true → not m.lawful ≡ false → HasLayout db Second
+  whole_second two all lawful = (second_laid two all, states_at (first_meta_rows db) m (pos 2) meta (says (pos 2) two) lawful)

@@ -39,7 +39,7 @@ pub one_removed : (old mid new : State) (span : Span) (rest : List Span) → Lis
     → Lists (span_rows new.now) rest × (held_rows new.now ≡ held_rows old.now)
 one_removed old mid new span rest lists held moved = (record { least = rest_least span rest lists.least; rows_are = moved.stored }, moved.held ∙ held)
 
--- ---- spans in place of others
+-- ---- spans instead of others
 
 pub or_cases : (a b : Bool) → (a || b) ≡ true → (a ≡ true) ⊎ (b ≡ true)
 or_cases true b h = inl refl

@@ -6,7 +6,7 @@ use Rattle.gtid.specs.Identifier.{Ids}
 use Rattle.gtid.specs.Span.{IsLeast, IsLeastList}
 use Rattle.gtid.specs.declared.span.Span.{Span}
 use Rattle.sqlite.specs.Effect.{IsDatabase}
-use Rattle.sqlite.specs.State.{State}
+use Rattle.sqlite.specs.State.{State, HasCleanDisk, KeepsCommit, Survives}
 use Rattle.binlog.specs.Filter.{Names}
 use Rattle.gather.specs.Transaction.{ChangeValue}
 use Rattle.store.specs.declared.row_change.Refusal.{Refusal}
@@ -30,6 +30,12 @@ pub record IsWorking (s : State) : Type 0 where
 -- A connection that is open now was open before.
 abbrev pub WasOpen : State → State → Type 0
 WasOpen old new = IsTrue new.is_open → IsTrue old.is_open
+
+-- What a call inside a transaction keeps, whatever it answers: what was committed, for a crash too, and an open connection.
+pub record Stays (old new : State) : Type 0 where
+  pub kept : HasCleanDisk new → IsWorking old → KeepsCommit old new
+  pub survives : Survives old new (λ _. ⊥)
+  pub opened : HasCleanDisk new → WasOpen old new
 
 -- The transaction goes on, and nothing is committed.
 pub record GoesOn (old new : State) : Type 0 where

@@ -1,7 +1,7 @@
 //! The changes of a transaction of the source, as one transaction of the database.
 
 ghost use Rattle.std.specs.Prelude.{◌≡◌, false, IfOk, IfSome, IsTrue, Ok, None};
-ghost use Rattle.sqlite.specs.State.{HasCleanDisk, Survives, KeepsCommit};
+ghost use Rattle.sqlite.specs.State.{HasCleanDisk, Survives};
 ghost use Rattle.sqlite.specs.Held.{state};
 ghost use Rattle.gather.specs.View.{delivery_value};
 ghost use Rattle.gtid.specs.Identifier.{id};
@@ -10,7 +10,7 @@ ghost use Rattle.gtid.specs.Beside.{Joins};
 ghost use Rattle.store.specs.State.{Content};
 ghost use Rattle.store.specs.Take.{is_executed};
 ghost use Rattle.store.specs.Rows.{StandsFor};
-ghost use Rattle.store.specs.Inside.{IsWorking, WasOpen};
+ghost use Rattle.store.specs.Inside.{IsWorking, WasOpen, Stays};
 ghost use Rattle.store.specs.Apply.{Fills, IsAtRest, Runs, MayCommit};
 
 use crate::row_change::{Refusal, make_all};
@@ -32,9 +32,7 @@ fn fill<S: Alter>(
     ensures same_reference { tx.new.conn.ghost_name ≡ tx.old.conn.ghost_name }
     ensures fills { HasCleanDisk (state S.Store tx.new.conn.now) → IsWorking (state S.Store tx.old.conn.now) → (content : Content) → (stands : StandsFor (state S.Store tx.old.conn.now).now follow.now content) → is_executed content (delivery_value delivery.now) ≡ false
         → Joins content.executed (id delivery.now.gtid) beside.now stands.executed.spans → IfOk result (Fills follow.now content (delivery_value delivery.now) (state S.Store tx.old.conn.now) (state S.Store tx.new.conn.now)) }
-    ensures kept { HasCleanDisk (state S.Store tx.new.conn.now) → IsWorking (state S.Store tx.old.conn.now) → KeepsCommit (state S.Store tx.old.conn.now) (state S.Store tx.new.conn.now) }
-    ensures survives { Survives (state S.Store tx.old.conn.now) (state S.Store tx.new.conn.now) (λ _. ⊥) }
-    ensures opened { HasCleanDisk (state S.Store tx.new.conn.now) → WasOpen (state S.Store tx.old.conn.now) (state S.Store tx.new.conn.now) }
+    ensures stays { Stays (state S.Store tx.old.conn.now) (state S.Store tx.new.conn.now) }
 {
     if let Some(refused) = make_all(tx, follow, delivery.changes.as_slice())? {
         return Ok(Some(refused));

@@ -1,10 +1,12 @@
 //! Opening a database.
 
-ghost use Rattle.std.specs.Prelude.{◌≡◌, ◌≢◌, false, true, pos, Err, IfOk, IfErr, IsTrue, MatchResult};
+ghost use Rattle.std.specs.Prelude.{◌≡◌, ◌≢◌, Bool, false, true, pos, Err, IfOk, IfErr, IsTrue, MatchResult};
 ghost use Rattle.sqlite.specs.State.{HasCleanDisk, IsLive, Survives};
 ghost use Rattle.sqlite.specs.Held.{state};
 ghost use Rattle.store.specs.declared.fault.StoreFault.TheVariants.{Memory, Damaged};
 ghost use Rattle.store.specs.Layout.{IsVacant, IsFirstLaidOut, IsLaidOut};
+ghost use Rattle.sqlite.specs.Effect.{Database as Stored};
+ghost use Rattle.store.specs.Judge.{IsMeta};
 ghost use Rattle.store.specs.Rows.{first_meta_rows};
 ghost use Rattle.store.specs.Load.{StatesLayout};
 ghost use Rattle.store.specs.Beside.{LiesBeside};
@@ -13,14 +15,14 @@ ghost use Rattle.store.specs.Store.{Holds, Opens, database, names_of};
 ghost use Rattle.binlog.specs.Filter.{Names};
 ghost use Rattle.store.specs.State.{Content};
 ghost use Rattle.store.specs.Faults.{IsOpenFault, IsFailure};
-ghost use Rattle.store.specs.Entering.{IsReady, IsLeft, ReadsLeft, IsEntered, IsTurned, IsWanted, MayEnter, tables_of, has_any, has_first, has_second};
+ghost use Rattle.store.specs.Entering.{IsReady, IsKnown, HasLayout, IsWhy, IsLeft, ReadsLeft, IsEntered, IsTurned, IsWanted, MayEnter, tables_of, has_any, has_first, has_second};
 
 use crate::fault::StoreFault;
 use crate::load::{Loaded, load, load_first, read_meta};
 use crate::make::make;
 use crate::migrate::migrate;
 use crate::store::Store;
-use crate::tables::Tables;
+use crate::tables::{KnownLayout, Meta, Tables};
 use binlog::Follow;
 use gtid::GtidSet;
 use sqlite::{Alter, Connection};
@@ -150,6 +152,35 @@ fn has_second(tables: Tables) -> bool
     tables.held && (tables.spans && tables.follow)
 }
 
+/// The layout of a database with these tables, `meta` among them, or why it is refused.
+fn layout_of(tables: Tables, meta: Meta) -> Result<KnownLayout, StoreFault>
+    ensures judged { (db : Stored) → IsKnown db → IsMeta (first_meta_rows db) meta → tables ≡ tables_of db.schema → tables.meta ≡ true → MatchResult result (HasLayout db) (λ fault. (any : Bool) → (only : Names) → IsWhy any only db fault) }
+    ensures fault { (any : Bool) → IfErr result (IsOpenFault any) }
+{
+    match meta.layout {
+        Some(1) => {
+            if !has_first(tables) {
+                return Err(StoreFault::Damaged);
+            }
+            if !meta.lawful {
+                return Err(StoreFault::Damaged);
+            }
+            Ok(KnownLayout::First)
+        }
+        Some(2) => {
+            if !has_second(tables) {
+                return Err(StoreFault::Damaged);
+            }
+            if !meta.lawful {
+                return Err(StoreFault::Damaged);
+            }
+            Ok(KnownLayout::Second)
+        }
+        Some(n) => Err(StoreFault::Layout(n)),
+        None => Err(StoreFault::Damaged),
+    }
+}
+
 /// Reads a database that has the table `meta`.
 fn enter_old<S: Alter>(
     alloc: Global,
@@ -167,27 +198,9 @@ fn enter_old<S: Alter>(
     ensures clean { HasCleanDisk (state S.Store conn.new) → HasCleanDisk (state S.Store conn.old) }
 {
     let meta = read_meta(conn)?;
-    match meta.layout {
-        Some(1) => {
-            if !has_first(tables) {
-                return Err(StoreFault::Damaged);
-            }
-            if !meta.lawful {
-                return Err(StoreFault::Damaged);
-            }
-            enter_first(alloc, conn, any, only)
-        }
-        Some(2) => {
-            if !has_second(tables) {
-                return Err(StoreFault::Damaged);
-            }
-            if !meta.lawful {
-                return Err(StoreFault::Damaged);
-            }
-            enter_second(alloc, conn, any, only)
-        }
-        Some(n) => Err(StoreFault::Layout(n)),
-        None => Err(StoreFault::Damaged),
+    match layout_of(tables, meta)? {
+        KnownLayout::First => enter_first(alloc, conn, any, only),
+        KnownLayout::Second => enter_second(alloc, conn, any, only),
     }
 }
 

@@ -2,12 +2,12 @@
 
 ghost use Rattle.std.specs.Prelude.{◌≡◌, List, OnOk, map, [], ◌∷◌};
 ghost use Rattle.std.specs.List.{AllByRecursion};
-ghost use Rattle.sqlite.specs.State.{HasCleanDisk, Survives, KeepsCommit};
+ghost use Rattle.sqlite.specs.State.{HasCleanDisk};
 ghost use Rattle.sqlite.specs.Held.{state};
 ghost use Rattle.gtid.specs.Identifier.{IsSource, AreGtids};
 ghost use Rattle.gtid.specs.declared.span.Span.{Span};
 ghost use Rattle.store.specs.Rows.{stored_span, span_rows, shown_spans};
-ghost use Rattle.store.specs.Inside.{IsWorking, WasOpen, GoesOn, Moves, HasLeft, Lists, Shows, Records};
+ghost use Rattle.store.specs.Inside.{IsWorking, GoesOn, Moves, HasLeft, Lists, Shows, Records, Stays};
 
 use crate::span_rows::{add_span, drop_span, is_source};
 use gtid::laws::numbers_in_range;
@@ -21,9 +21,7 @@ fn add<S: Alter>(tx: &mut Transaction<'_, S>, span: Span) -> Result<usize, Error
     ensures same_reference { tx.new.conn.ghost_name ≡ tx.old.conn.ghost_name }
     ensures source { IsSource span.source }
     ensures moves { HasCleanDisk (state S.Store tx.new.conn.now) → IsWorking (state S.Store tx.old.conn.now) → OnOk result (Moves (state S.Store tx.old.conn.now) (state S.Store tx.new.conn.now) (stored_span span ∷ shown_spans (span_rows (state S.Store tx.old.conn.now).now))) }
-    ensures kept { HasCleanDisk (state S.Store tx.new.conn.now) → IsWorking (state S.Store tx.old.conn.now) → KeepsCommit (state S.Store tx.old.conn.now) (state S.Store tx.new.conn.now) }
-    ensures survives { Survives (state S.Store tx.old.conn.now) (state S.Store tx.new.conn.now) (λ _. ⊥) }
-    ensures opened { HasCleanDisk (state S.Store tx.new.conn.now) → WasOpen (state S.Store tx.old.conn.now) (state S.Store tx.new.conn.now) }
+    ensures stays { Stays (state S.Store tx.old.conn.now) (state S.Store tx.new.conn.now) }
 {
     is_source(span.source);
     if span.lo >= END {
@@ -40,9 +38,7 @@ pub(crate) fn add_all<S: Alter>(tx: &mut Transaction<'_, S>, spans: Spans<'_>) -
     ensures same_reference { tx.new.conn.ghost_name ≡ tx.old.conn.ghost_name }
     ensures sources { OnOk result (AllByRecursion (λ s. IsSource s.source) spans.entry) }
     ensures moves { HasCleanDisk (state S.Store tx.new.conn.now) → IsWorking (state S.Store tx.old.conn.now) → OnOk result (HasLeft (state S.Store tx.old.conn.now) (state S.Store tx.new.conn.now) spans.entry []) }
-    ensures kept { HasCleanDisk (state S.Store tx.new.conn.now) → IsWorking (state S.Store tx.old.conn.now) → KeepsCommit (state S.Store tx.old.conn.now) (state S.Store tx.new.conn.now) }
-    ensures survives { Survives (state S.Store tx.old.conn.now) (state S.Store tx.new.conn.now) (λ _. ⊥) }
-    ensures opened { HasCleanDisk (state S.Store tx.new.conn.now) → WasOpen (state S.Store tx.old.conn.now) (state S.Store tx.new.conn.now) }
+    ensures stays { Stays (state S.Store tx.old.conn.now) (state S.Store tx.new.conn.now) }
 {
     for span in spans {
         add(tx, span)?;
@@ -55,9 +51,7 @@ fn remove<S: Alter>(tx: &mut Transaction<'_, S>, span: Span) -> Result<usize, Er
     ensures same_reference { tx.new.conn.ghost_name ≡ tx.old.conn.ghost_name }
     ensures moves { HasCleanDisk (state S.Store tx.new.conn.now) → IsWorking (state S.Store tx.old.conn.now) → (rest : List Span) → Lists (span_rows (state S.Store tx.old.conn.now).now) (span ∷ rest) → OnOk result (Moves (state S.Store tx.old.conn.now) (state S.Store tx.new.conn.now) (map stored_span rest)) }
     ensures goes { HasCleanDisk (state S.Store tx.new.conn.now) → IsWorking (state S.Store tx.old.conn.now) → OnOk result (GoesOn (state S.Store tx.old.conn.now) (state S.Store tx.new.conn.now)) }
-    ensures kept { HasCleanDisk (state S.Store tx.new.conn.now) → IsWorking (state S.Store tx.old.conn.now) → KeepsCommit (state S.Store tx.old.conn.now) (state S.Store tx.new.conn.now) }
-    ensures survives { Survives (state S.Store tx.old.conn.now) (state S.Store tx.new.conn.now) (λ _. ⊥) }
-    ensures opened { HasCleanDisk (state S.Store tx.new.conn.now) → WasOpen (state S.Store tx.old.conn.now) (state S.Store tx.new.conn.now) }
+    ensures stays { Stays (state S.Store tx.old.conn.now) (state S.Store tx.new.conn.now) }
 {
     if span.lo >= END {
         return Err(Error::IntegralValueOutOfRange(0));
@@ -70,9 +64,7 @@ fn remove_all<S: Alter>(tx: &mut Transaction<'_, S>, spans: Spans<'_>) -> Result
     ensures same_reference { tx.new.conn.ghost_name ≡ tx.old.conn.ghost_name }
     ensures moves { HasCleanDisk (state S.Store tx.new.conn.now) → IsWorking (state S.Store tx.old.conn.now) → Lists (span_rows (state S.Store tx.old.conn.now).now) spans.entry → OnOk result (Moves (state S.Store tx.old.conn.now) (state S.Store tx.new.conn.now) []) }
     ensures goes { HasCleanDisk (state S.Store tx.new.conn.now) → IsWorking (state S.Store tx.old.conn.now) → OnOk result (GoesOn (state S.Store tx.old.conn.now) (state S.Store tx.new.conn.now)) }
-    ensures kept { HasCleanDisk (state S.Store tx.new.conn.now) → IsWorking (state S.Store tx.old.conn.now) → KeepsCommit (state S.Store tx.old.conn.now) (state S.Store tx.new.conn.now) }
-    ensures survives { Survives (state S.Store tx.old.conn.now) (state S.Store tx.new.conn.now) (λ _. ⊥) }
-    ensures opened { HasCleanDisk (state S.Store tx.new.conn.now) → WasOpen (state S.Store tx.old.conn.now) (state S.Store tx.new.conn.now) }
+    ensures stays { Stays (state S.Store tx.old.conn.now) (state S.Store tx.new.conn.now) }
 {
     for span in spans {
         remove(tx, span)?;
@@ -89,9 +81,7 @@ pub(crate) fn replace_all<S: Alter>(
     ensures same_reference { tx.new.conn.ghost_name ≡ tx.old.conn.ghost_name }
     ensures lawful { OnOk result (AreGtids after.now) }
     ensures records { HasCleanDisk (state S.Store tx.new.conn.now) → IsWorking (state S.Store tx.old.conn.now) → (spans : List Span) → Shows (span_rows (state S.Store tx.old.conn.now).now) spans executed.now → OnOk result (Records (state S.Store tx.old.conn.now) (state S.Store tx.new.conn.now) after.now) }
-    ensures kept { HasCleanDisk (state S.Store tx.new.conn.now) → IsWorking (state S.Store tx.old.conn.now) → KeepsCommit (state S.Store tx.old.conn.now) (state S.Store tx.new.conn.now) }
-    ensures survives { Survives (state S.Store tx.old.conn.now) (state S.Store tx.new.conn.now) (λ _. ⊥) }
-    ensures opened { HasCleanDisk (state S.Store tx.new.conn.now) → WasOpen (state S.Store tx.old.conn.now) (state S.Store tx.new.conn.now) }
+    ensures stays { Stays (state S.Store tx.old.conn.now) (state S.Store tx.new.conn.now) }
 {
     numbers_in_range(after);
     remove_all(tx, executed.spans())?;

@@ -1,12 +1,12 @@
 //! Statements on single rows of the table `spans`, inside a transaction.
 
 ghost use Rattle.std.specs.Prelude.{◌≡◌, ◌<◌, List, OnOk, IfSome, map, [], ◌∷◌, ◌++◌};
-ghost use Rattle.sqlite.specs.State.{HasCleanDisk, Survives, KeepsCommit};
+ghost use Rattle.sqlite.specs.State.{HasCleanDisk};
 ghost use Rattle.sqlite.specs.Held.{state};
 ghost use Rattle.sqlite_value.specs.Order.{Row as Stored};
 ghost use Rattle.sqlite_value.specs.declared.value.Value.TheVariants.{Int, Blob};
 ghost use Rattle.store.specs.Rows.{span_rows, shown_spans, stored_span};
-ghost use Rattle.store.specs.Inside.{IsWorking, WasOpen, GoesOn, Moves, Begins, Lists, Shows, Records};
+ghost use Rattle.store.specs.Inside.{IsWorking, GoesOn, Moves, Begins, Lists, Shows, Records, Stays};
 ghost use Rattle.std.specs.FinSet as set;
 ghost use Rattle.std.specs.List.{AllByRecursion};
 ghost use Rattle.gtid.specs.Identifier.{Ids, id, IsSource, IsGtid};
@@ -27,9 +27,7 @@ pub(crate) fn add_span<S: Alter>(
 ) -> Result<usize, Error>
     ensures same_reference { tx.new.conn.ghost_name ≡ tx.old.conn.ghost_name }
     ensures moves { HasCleanDisk (state S.Store tx.new.conn.now) → IsWorking (state S.Store tx.old.conn.now) → OnOk result (Moves (state S.Store tx.old.conn.now) (state S.Store tx.new.conn.now) ((Blob source.now ∷ Int lo ∷ Int hi ∷ []) ∷ shown_spans (span_rows (state S.Store tx.old.conn.now).now))) }
-    ensures kept { HasCleanDisk (state S.Store tx.new.conn.now) → IsWorking (state S.Store tx.old.conn.now) → KeepsCommit (state S.Store tx.old.conn.now) (state S.Store tx.new.conn.now) }
-    ensures survives { Survives (state S.Store tx.old.conn.now) (state S.Store tx.new.conn.now) (λ _. ⊥) }
-    ensures opened { HasCleanDisk (state S.Store tx.new.conn.now) → WasOpen (state S.Store tx.old.conn.now) (state S.Store tx.new.conn.now) }
+    ensures stays { Stays (state S.Store tx.old.conn.now) (state S.Store tx.new.conn.now) }
 {
     tx.execute(
         "INSERT INTO spans VALUES (?1, ?2, ?3)",
@@ -46,9 +44,7 @@ pub(crate) fn drop_span<S: Alter>(
     ensures same_reference { tx.new.conn.ghost_name ≡ tx.old.conn.ghost_name }
     ensures moves { HasCleanDisk (state S.Store tx.new.conn.now) → IsWorking (state S.Store tx.old.conn.now) → (span : Stored) → (others : List Stored) → Begins source.now lo (shown_spans (span_rows (state S.Store tx.old.conn.now).now)) span others → OnOk result (Moves (state S.Store tx.old.conn.now) (state S.Store tx.new.conn.now) others) }
     ensures goes { HasCleanDisk (state S.Store tx.new.conn.now) → IsWorking (state S.Store tx.old.conn.now) → OnOk result (GoesOn (state S.Store tx.old.conn.now) (state S.Store tx.new.conn.now)) }
-    ensures kept { HasCleanDisk (state S.Store tx.new.conn.now) → IsWorking (state S.Store tx.old.conn.now) → KeepsCommit (state S.Store tx.old.conn.now) (state S.Store tx.new.conn.now) }
-    ensures survives { Survives (state S.Store tx.old.conn.now) (state S.Store tx.new.conn.now) (λ _. ⊥) }
-    ensures opened { HasCleanDisk (state S.Store tx.new.conn.now) → WasOpen (state S.Store tx.old.conn.now) (state S.Store tx.new.conn.now) }
+    ensures stays { Stays (state S.Store tx.old.conn.now) (state S.Store tx.new.conn.now) }
 {
     tx.execute(
         "DELETE FROM spans WHERE source = ?1 AND lo = ?2",
@@ -65,9 +61,7 @@ fn drop_neighbour<S: Alter>(
     ensures same_reference { tx.new.conn.ghost_name ≡ tx.old.conn.ghost_name }
     ensures moves { HasCleanDisk (state S.Store tx.new.conn.now) → IsWorking (state S.Store tx.old.conn.now) → (front : List Span) → (rest : List Span) → Lists (span_rows (state S.Store tx.old.conn.now).now) (front ++ (one_or_none neighbour ++ rest)) → OnOk result (Moves (state S.Store tx.old.conn.now) (state S.Store tx.new.conn.now) (map stored_span (front ++ rest))) }
     ensures goes { HasCleanDisk (state S.Store tx.new.conn.now) → IsWorking (state S.Store tx.old.conn.now) → OnOk result (GoesOn (state S.Store tx.old.conn.now) (state S.Store tx.new.conn.now)) }
-    ensures kept { HasCleanDisk (state S.Store tx.new.conn.now) → IsWorking (state S.Store tx.old.conn.now) → KeepsCommit (state S.Store tx.old.conn.now) (state S.Store tx.new.conn.now) }
-    ensures survives { Survives (state S.Store tx.old.conn.now) (state S.Store tx.new.conn.now) (λ _. ⊥) }
-    ensures opened { HasCleanDisk (state S.Store tx.new.conn.now) → WasOpen (state S.Store tx.old.conn.now) (state S.Store tx.new.conn.now) }
+    ensures stays { Stays (state S.Store tx.old.conn.now) (state S.Store tx.new.conn.now) }
 {
     let Some(span) = neighbour else {
         return Ok(());
@@ -102,9 +96,7 @@ pub(crate) fn record<S: Alter>(
     ensures lawful { IsGtid (id gtid) }
     ensures records { HasCleanDisk (state S.Store tx.new.conn.now) → IsWorking (state S.Store tx.old.conn.now) → (ids : Ids) → (spans : List Span) → Shows (span_rows (state S.Store tx.old.conn.now).now) spans ids
         → Joins ids (id gtid) beside.now spans → OnOk result (Records (state S.Store tx.old.conn.now) (state S.Store tx.new.conn.now) (set.insert ids (id gtid))) }
-    ensures kept { HasCleanDisk (state S.Store tx.new.conn.now) → IsWorking (state S.Store tx.old.conn.now) → KeepsCommit (state S.Store tx.old.conn.now) (state S.Store tx.new.conn.now) }
-    ensures survives { Survives (state S.Store tx.old.conn.now) (state S.Store tx.new.conn.now) (λ _. ⊥) }
-    ensures opened { HasCleanDisk (state S.Store tx.new.conn.now) → WasOpen (state S.Store tx.old.conn.now) (state S.Store tx.new.conn.now) }
+    ensures stays { Stays (state S.Store tx.old.conn.now) (state S.Store tx.new.conn.now) }
 {
     is_source(gtid.source);
     let span = beside.joined(gtid);

@@ -10,6 +10,13 @@ pub(crate) struct Tables {
     pub(crate) follow: bool,
 }
 
+/// The layouts that are read.
+#[derive(Clone, Copy, Debug)]
+pub(crate) enum KnownLayout {
+    First,
+    Second,
+}
+
 /// What the rows of `meta` say.
 #[derive(Clone, Copy, Debug)]
 pub(crate) struct Meta {

@@ -14,7 +14,7 @@ use std::test::Fail;
 use store::Store;
 use wire::LARGEST_PAYLOAD;
 
-/// Counts what it is told, and stops before a transaction.
+/// Counts what is reported to it, and stops before a transaction.
 #[derive(Drop)]
 struct Tally {
     /// How many transactions it lets pass.
@@ -55,7 +55,7 @@ impl Observer for Tally {
     }
 }
 
-/// Reads three transactions, of which so many are let pass. Returns how the connection ended, and what was told.
+/// Reads three transactions, of which so many are let pass. Returns how the connection ended, and what was reported.
 fn watched(
     alloc: Global,
     store: &mut Store<MemStore>,

@@ -17,7 +17,7 @@ returns-in_err-replace_all-clause-replaces g c clean names content rest is =
     let n = state g.S.Store c.drop-tx.new.self.0 in
     let late : HasCleanDisk n = search (rules, clean) in
     let rests : Rests (state g.S.Store h) n = rolled g.S.Store h (state g.S.Store c.replace_all.new.tx.conn.now) n rest.settled
-    (λ early. (rw c.transaction-tx.ensures.begun at c.in_err-replace_all.ensures.kept) early (begun_working g.S.Store h names content rest)) c.drop-tx.ensures.survives c.drop-tx.ensures.undone late in
+    (λ early. (rw c.transaction-tx.ensures.begun at c.in_err-replace_all.ensures.stays.kept) early (begun_working g.S.Store h names content rest)) c.drop-tx.ensures.survives c.drop-tx.ensures.undone late in
     search (rules, rests)
 
 pub returns-clause-replaces : goal.returns-clause-replaces
@@ -29,7 +29,7 @@ returns-clause-replaces g c clean names content rest is =
     let working = begun_working g.S.Store h names content rest in
     let late : HasCleanDisk n = search (rules, clean) in
     let early : HasCleanDisk m = omega (arith, c.commit.ensures.survives.clean, late) in
-    let kept : KeepsCommit t m = (rw c.transaction-tx.ensures.begun at c.in_ok-replace_all.ensures.kept) early working in
+    let kept : KeepsCommit t m = (rw c.transaction-tx.ensures.begun at c.in_ok-replace_all.ensures.stays.kept) early working in
     let records : Records t m c.args.after.now = (rw c.transaction-tx.ensures.begun at c.in_ok-replace_all.ensures.records) early working rest.stands.executed.spans (stored_of g.S.Store h names content rest c.args.executed.now is) in
     let done : Replaces names (with_executed c.args.after.now content) (state g.S.Store h) n c.commit.result = replaced g.S.Store h names content rest c.args.after.now m c.in_ok-replace_all.ensures.lawful records n c.commit.result kept (c.commit.ensures.ok late) (c.commit.ensures.err late) in
     search (rules, done)
@@ -46,5 +46,5 @@ returns-clause-crash g c names content rest is =
     let survives : Survives (state g.S.Store h) n may =
     survives_begin g.S.Store h n may (survives_then t m n (λ _. ⊥) (λ db. db ≡ m.now.trees) may (λ _ db none. absurd none)
     (λ clean db is. may_replace g.S.Store h names content rest c.args.after.now m c.in_ok-replace_all.ensures.lawful (records (omega (arith, c.commit.ensures.survives.clean, clean))) db is)
-    (rw c.transaction-tx.ensures.begun at c.in_ok-replace_all.ensures.survives) c.commit.ensures.survives) in
+    (rw c.transaction-tx.ensures.begun at c.in_ok-replace_all.ensures.stays.survives) c.commit.ensures.survives) in
     search (rules, survives)

@@ -13,7 +13,7 @@ returns-clause-fills g c clean was content stands out beside =
     let new = state g.S.Store c.record.new.tx.conn.now in
     let names = c.args.follow.now in
     let d = delivery_value c.args.delivery.now in
-    let early : HasCleanDisk mid = omega (arith, c.record.ensures.survives.clean) in
+    let early : HasCleanDisk mid = omega (arith, c.record.ensures.stays.survives.clean) in
     let does : DoesAll names (change_values c.args.delivery.now.changes.items) old mid None = rw (c.in_default.is, c.as_slice.ensures.value) at (c.in_ok-refused.ensures.does early was) in
     filled old mid new names d content stands out c.record.ensures.lawful does
     (c.in_ok-record.ensures.records clean does.0.on.working content.executed stands.executed.spans (shows_mid old mid new names d content stands out does.0) beside)

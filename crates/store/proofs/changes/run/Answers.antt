@@ -24,7 +24,7 @@ returns-in-Some-clause-runs g c clean content rest out beside =
     let late : HasCleanDisk n = subst (λ k. HasCleanDisk (state g.S.Store k)) (sym same) clean in
     let early : HasCleanDisk m = omega (arith, c.drop-tx-in-Some.ensures.survives.clean, late) in
     let fills : Fills names content d t m (Some c.in-Some.refused) = rw c.in-Some.is at ((rw c.transaction-tx.ensures.begun at c.in_ok-refused.ensures.fills) early working content rest.stands out beside) in
-    let kept : KeepsCommit t m = (rw c.transaction-tx.ensures.begun at c.in_ok-refused.ensures.kept) early working in
+    let kept : KeepsCommit t m = (rw c.transaction-tx.ensures.begun at c.in_ok-refused.ensures.stays.kept) early working in
     subst (λ k. Runs {E = Error} names content d (state g.S.Store h) (state g.S.Store k) (Ok (Some c.in-Some.refused))) same (fills, rests_rolled t m n rest.settled kept (c.drop-tx-in-Some.ensures.undone late))
 
 pub returns-in_err-commit-clause-runs : goal.returns-in_err-commit-clause-runs
@@ -40,7 +40,7 @@ returns-in_err-commit-clause-runs g c clean content rest out beside =
     let late : HasCleanDisk n = subst (λ k. HasCleanDisk (state g.S.Store k)) (sym same) clean in
     let early : HasCleanDisk m = omega (arith, c.commit.ensures.survives.clean, late) in
     let fills : Fills names content d t m None = rw c.in_default.is at ((rw c.transaction-tx.ensures.begun at c.in_ok-refused.ensures.fills) early working content rest.stands out beside) in
-    let kept : KeepsCommit t m = (rw c.transaction-tx.ensures.begun at c.in_ok-refused.ensures.kept) early working in
+    let kept : KeepsCommit t m = (rw c.transaction-tx.ensures.begun at c.in_ok-refused.ensures.stays.kept) early working in
     subst (λ k. Runs names content d (state g.S.Store h) (state g.S.Store k) c.from_residual-in_err-commit.result) same
     (runs_err names content d (state g.S.Store h) n c.from_residual-in_err-commit.result c.from_residual-in_err-commit.ensures.0
     (rests_failed t m n c.in_err-commit.field-0.0 rest.settled kept fills.0.working.inside (c.in_err-commit.ensures.err late)))
@@ -60,7 +60,7 @@ returns-in_err-commit-clause-crash g c content rest out beside =
     subst (λ k. Survives (state g.S.Store h) (state g.S.Store k) may) same
     (survives_begin g.S.Store h n may (survives_then t m n (λ _. ⊥) (λ db. db ≡ m.now.trees) may (λ _ db none. absurd none)
     (λ clean db is. may_commit_err names content d (state g.S.Store h) c.from_residual-in_err-commit.result db c.from_residual-in_err-commit.ensures.0 (leaves names content d t m (fills (omega (arith, c.commit.ensures.survives.clean, clean))) db is rest.settled))
-    (rw c.transaction-tx.ensures.begun at c.in_ok-refused.ensures.survives) c.commit.ensures.survives))
+    (rw c.transaction-tx.ensures.begun at c.in_ok-refused.ensures.stays.survives) c.commit.ensures.survives))
 
 pub returns-clause-runs : goal.returns-clause-runs
 returns-clause-runs g c clean content rest out beside =
@@ -92,7 +92,7 @@ returns-clause-crash g c content rest out beside =
     subst (λ k. Survives (state g.S.Store h) (state g.S.Store k) may) same
     (survives_begin g.S.Store h n may (survives_then t m n (λ _. ⊥) (λ db. db ≡ m.now.trees) may (λ _ db none. absurd none)
     (λ clean db is. leaves names content d t m (fills (omega (arith, c.commit.ensures.survives.clean, clean))) db is rest.settled)
-    (rw c.transaction-tx.ensures.begun at c.in_ok-refused.ensures.survives) c.commit.ensures.survives))
+    (rw c.transaction-tx.ensures.begun at c.in_ok-refused.ensures.stays.survives) c.commit.ensures.survives))
 
 pub returns-in_err-refused-clause-runs : goal.returns-in_err-refused-clause-runs
 returns-in_err-refused-clause-runs g c clean content rest out beside =
@@ -103,4 +103,4 @@ returns-in_err-refused-clause-runs g c clean content rest out beside =
     let n = state g.S.Store c.drop-tx.new.self.0 in
     let late : HasCleanDisk n = subst (λ k. HasCleanDisk (state g.S.Store k)) (sym same) clean in
     subst (λ k. Runs names content d (state g.S.Store h) (state g.S.Store k) c.from_residual.result) same (runs_err names content d (state g.S.Store h) n c.from_residual.result c.from_residual.ensures.0
-    (rolled g.S.Store h (state g.S.Store c.fill.new.tx.conn.now) n rest.settled (λ early. (rw c.transaction-tx.ensures.begun at c.in_err-refused.ensures.kept) early (begun_working g.S.Store h names content rest)) c.drop-tx.ensures.survives c.drop-tx.ensures.undone late))
+    (rolled g.S.Store h (state g.S.Store c.fill.new.tx.conn.now) n rest.settled (λ early. (rw c.transaction-tx.ensures.begun at c.in_err-refused.ensures.stays.kept) early (begun_working g.S.Store h names content rest)) c.drop-tx.ensures.survives c.drop-tx.ensures.undone late))

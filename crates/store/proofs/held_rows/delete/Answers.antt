@@ -1,7 +1,7 @@
 use Rattle.std.proofs.Common.{refl}
 use Rattle.sqlite.specs.Held.{state}
 use Rattle.store.specs.Rows.{key_in}
-use Rattle.store.proofs.Keeps.{opened_executed}
+use Rattle.store.proofs.Keeps.{stays_executed}
 use Rattle.store.proofs.Done.{done_delete}
 use Rattle.store.proofs.held_rows.delete.Goals as goal
 
@@ -9,5 +9,5 @@ pub returns-clause-holds : goal.returns-clause-holds
 returns-clause-holds g c clean was found =
     done_delete (state g.S.Store c.args.tx.now.conn.now) (state g.S.Store c.execute.new.self.conn.now) (key_in c.args.row.now) was c.execute.result found (c.execute.ensures.runs clean (rw was.inside refl))
 
-pub returns-clause-opened : goal.returns-clause-opened
-returns-clause-opened g c clean = opened_executed g.S.Store c.args.tx.now.conn.now c.execute.new.self.conn.now _ _ c.execute.result c.execute.ensures.ended (c.execute.ensures.runs clean)
+pub returns-clause-stays : goal.returns-clause-stays
+returns-clause-stays g c = stays_executed g.S.Store c.args.tx.now.conn.now c.execute.new.self.conn.now _ _ c.execute.result c.execute.ensures.ended c.execute.ensures.runs c.execute.ensures.survives

@@ -2,7 +2,7 @@ use Rattle.std.proofs.Common.{refl, w64}
 use Rattle.std.proofs.lemmas.Int.{to_z-of_z}
 use Rattle.sqlite.specs.Held.{state}
 use Rattle.store.specs.Rows.{key_in}
-use Rattle.store.proofs.Keeps.{opened_executed}
+use Rattle.store.proofs.Keeps.{stays_executed}
 use Rattle.store.proofs.Done.{done_raise, done_lower}
 use Rattle.store.proofs.held_rows.update.Goals as goal
 
@@ -16,5 +16,5 @@ returns-clause-lowered g c clean was m low high found is =
     done_lower (state g.S.Store c.args.tx.now.conn.now) (state g.S.Store c.execute.new.self.conn.now) (key_in c.args.row.now) was m c.args.n c.execute.result low high found is
     (rw (to_z-of_z w64 c.args.n c.ranges.n) at (c.execute.ensures.runs clean (rw was.inside refl)))
 
-pub returns-clause-opened : goal.returns-clause-opened
-returns-clause-opened g c clean = opened_executed g.S.Store c.args.tx.now.conn.now c.execute.new.self.conn.now _ _ c.execute.result c.execute.ensures.ended (c.execute.ensures.runs clean)
+pub returns-clause-stays : goal.returns-clause-stays
+returns-clause-stays g c = stays_executed g.S.Store c.args.tx.now.conn.now c.execute.new.self.conn.now _ _ c.execute.result c.execute.ensures.ended c.execute.ensures.runs c.execute.ensures.survives

@@ -13,7 +13,7 @@ pub returns-clause-made : goal.returns-clause-made
 returns-clause-made g c clean content was is =
     let a = state g.S.Store c.args.tx.now.conn.now in
     let b = state g.S.Store c.change_tables.new.tx.conn.now in
-    let early : HasCleanDisk b = omega (arith, c.add_all.ensures.survives.clean) in
+    let early : HasCleanDisk b = omega (arith, c.add_all.ensures.stays.survives.clean) in
     let changed = c.in_ok-change_tables.ensures.migrated early content was in
     migrated_of content b (state g.S.Store c.add_all.new.tx.conn.now) c.spans.result c.args.executed.now c.add_all.result changed c.spans.ensures is
     (c.add_all.ensures.moves clean (now_working content b changed))
@@ -21,7 +21,7 @@ returns-clause-made g c clean content was is =
 pub returns-clause-working : goal.returns-clause-working
 returns-clause-working g c clean content was =
     let b = state g.S.Store c.change_tables.new.tx.conn.now in
-    let early : HasCleanDisk b = omega (arith, c.add_all.ensures.survives.clean) in
+    let early : HasCleanDisk b = omega (arith, c.add_all.ensures.stays.survives.clean) in
     let changed = c.in_ok-change_tables.ensures.migrated early content was in
     on_ok_weaker c.add_all.result (λ left. left.on.working) (c.add_all.ensures.moves clean (now_working content b changed))
 
@@ -29,6 +29,6 @@ pub returns-clause-kept : goal.returns-clause-kept
 returns-clause-kept g c clean content was =
     let a = state g.S.Store c.args.tx.now.conn.now in
     let b = state g.S.Store c.change_tables.new.tx.conn.now in
-    let early : HasCleanDisk b = omega (arith, c.add_all.ensures.survives.clean) in
+    let early : HasCleanDisk b = omega (arith, c.add_all.ensures.stays.survives.clean) in
     let changed = c.in_ok-change_tables.ensures.migrated early content was in
-    kept_then a b (state g.S.Store c.add_all.new.tx.conn.now) (c.in_ok-change_tables.ensures.kept early content was) (c.add_all.ensures.kept clean (now_working content b changed))
+    kept_then a b (state g.S.Store c.add_all.new.tx.conn.now) (c.in_ok-change_tables.ensures.kept early content was) (c.add_all.ensures.stays.kept clean (now_working content b changed))

@@ -12,7 +12,7 @@ returns-in_default-clause-counted g c clean was stored =
     let mid = state g.S.Store c.read.new.tx.conn.now in
     let new = state g.S.Store c.insert.new.tx.conn.now in
     let key = key_in c.args.row.now in
-    let early : HasCleanDisk mid = omega (arith, c.insert.ensures.survives.clean) in
+    let early : HasCleanDisk mid = omega (arith, c.insert.ensures.stays.survives.clean) in
     let same : IsUnchanged old mid = c.in_ok-n.ensures.same early was in
     let found : Finds key (held_rows old.now) None = rw c.in_default.is at (c.in_ok-n.ensures.found early was) in
     counted_added old mid new key same 0 (counted_none key _ found) (omega arith) (c.in_ok-insert.ensures.holds clean (working_same old mid same was) stored)
@@ -30,7 +30,7 @@ returns-clause-counted g c clean was stored =
     let new = state g.S.Store c.update.new.tx.conn.now in
     let key = key_in c.args.row.now in
     let n = c.in-Some.n in
-    let early : HasCleanDisk mid = omega (arith, c.update.ensures.survives.clean) in
+    let early : HasCleanDisk mid = omega (arith, c.update.ensures.stays.survives.clean) in
     let same : IsUnchanged old mid = c.in_ok-n.ensures.same early was in
     let found : Finds key (held_rows old.now) (Some n) = rw c.in-Some.is at (c.in_ok-n.ensures.found early was) in
     counted_added old mid new key same n (counted_some key _ n found) (omega arith)

@@ -3,7 +3,7 @@ use Rattle.sqlite.specs.State.{HasCleanDisk}
 use Rattle.sqlite.specs.Held.{state}
 use Rattle.gather.specs.View.{change_value}
 use Rattle.store.specs.Inside.{Does}
-use Rattle.store.proofs.Keeps.{kept_then, inside_then}
+use Rattle.store.proofs.Keeps.{stays_then}
 use Rattle.store.proofs.Loop.{goes_under_way}
 use Rattle.store.proofs.row_change.make_all.Goals as goal
 
@@ -14,17 +14,10 @@ loop-at-preserved g c = record {
       let old = state g.S.Store c.args.tx.now.conn.now in
       let mid = state g.S.Store c.loop-at.tx.conn.now in
       let new = state g.S.Store c.step.new.tx.conn.now in
-      let early : HasCleanDisk mid = omega (arith, c.step.ensures.survives.clean) in
+      let early : HasCleanDisk mid = omega (arith, c.step.ensures.stays.survives.clean) in
       let way = c.loop-at.invariant.under_way early was in
       let done : Does c.args.follow.now (change_value c.index-changes-at.result) mid new None = rw c.in_default.is at (c.in_ok-why.ensures.does clean way.0.on.working) in
       goes_under_way c.args.changes.now c.loop-at.at c.index-changes-at.result (omega arith) c.index-changes-at.is c.args.follow.now old mid new way done;
-  kept = λ clean was.
-      let mid = state g.S.Store c.loop-at.tx.conn.now in
-      let early : HasCleanDisk mid = omega (arith, c.step.ensures.survives.clean) in
-      let way = c.loop-at.invariant.under_way early was in
-      kept_then (state g.S.Store c.args.tx.now.conn.now) mid (state g.S.Store c.step.new.tx.conn.now) (c.loop-at.invariant.kept early was) (c.in_ok-why.ensures.kept clean way.0.on.working);
-  opened = λ clean is_open.
-      let early : HasCleanDisk (state g.S.Store c.loop-at.tx.conn.now) = omega (arith, c.step.ensures.survives.clean) in
-      c.loop-at.invariant.opened early (c.step.ensures.opened clean is_open);
-  survives = inside_then (state g.S.Store c.args.tx.now.conn.now) (state g.S.Store c.loop-at.tx.conn.now) (state g.S.Store c.step.new.tx.conn.now) c.loop-at.invariant.survives c.step.ensures.survives;
+  stays = stays_then (state g.S.Store c.args.tx.now.conn.now) (state g.S.Store c.loop-at.tx.conn.now) (state g.S.Store c.step.new.tx.conn.now) c.loop-at.invariant.stays
+      (λ early was. (c.loop-at.invariant.under_way early was).0.on.working) c.step.ensures.stays;
 }

@@ -2,7 +2,7 @@ use Rattle.std.proofs.Common.{subst, rules, arith}
 use Rattle.sqlite.specs.State.{HasCleanDisk}
 use Rattle.sqlite.specs.Held.{state}
 use Rattle.store.specs.Inside.{HasLeft}
-use Rattle.store.proofs.Keeps.{kept_then, inside_then}
+use Rattle.store.proofs.Keeps.{stays_then}
 use Rattle.store.proofs.SpanLists.{left_less}
 use Rattle.store.proofs.span_lists.add_all.Goals as goal
 
@@ -14,17 +14,10 @@ loop-span-preserved g c = record {
       let old = state g.S.Store c.args.tx.now.conn.now in
       let mid = state g.S.Store c.loop-span.tx.conn.now in
       let new = state g.S.Store c.add.new.tx.conn.now in
-      let early : HasCleanDisk mid = omega (arith, c.add.ensures.survives.clean) in
+      let early : HasCleanDisk mid = omega (arith, c.add.ensures.stays.survives.clean) in
       let way = c.loop-span.invariant.under_way early was in
       left_less old mid new c.args.spans c.next.new.self c.in-Some.span (subst (HasLeft old mid c.args.spans) c.in-Some.ensures.steps way)
       (c.in_ok-add.ensures.moves clean way.on.working);
-  kept = λ clean was.
-      let mid = state g.S.Store c.loop-span.tx.conn.now in
-      let early : HasCleanDisk mid = omega (arith, c.add.ensures.survives.clean) in
-      let way = c.loop-span.invariant.under_way early was in
-      kept_then (state g.S.Store c.args.tx.now.conn.now) mid (state g.S.Store c.add.new.tx.conn.now) (c.loop-span.invariant.kept early was) (c.in_ok-add.ensures.kept clean way.on.working);
-  survives = inside_then (state g.S.Store c.args.tx.now.conn.now) (state g.S.Store c.loop-span.tx.conn.now) (state g.S.Store c.add.new.tx.conn.now) c.loop-span.invariant.survives c.add.ensures.survives;
-  opened = λ clean is_open.
-      let early : HasCleanDisk (state g.S.Store c.loop-span.tx.conn.now) = omega (arith, c.add.ensures.survives.clean) in
-      c.loop-span.invariant.opened early (c.add.ensures.opened clean is_open);
+  stays = stays_then (state g.S.Store c.args.tx.now.conn.now) (state g.S.Store c.loop-span.tx.conn.now) (state g.S.Store c.add.new.tx.conn.now) c.loop-span.invariant.stays
+      (λ early was. (c.loop-span.invariant.under_way early was).on.working) c.add.ensures.stays;
 }

@@ -1,9 +1,9 @@
 use Rattle.std.proofs.Common.{◌≡◌}
 use Rattle.std.specs.List.{AllByRecursion}
 use Rattle.gtid.specs.Identifier.{IsSource}
-use Rattle.sqlite.specs.State.{HasCleanDisk, Survives, KeepsCommit}
+use Rattle.sqlite.specs.State.{HasCleanDisk}
 use Rattle.sqlite.specs.Held.{state}
-use Rattle.store.specs.Inside.{IsWorking, WasOpen, HasLeft}
+use Rattle.store.specs.Inside.{IsWorking, HasLeft, Stays}
 use Rattle.store.proofs.span_lists.add_all.Given as goal
 
 abbrev pub invariant-loop-span : goal.invariant-loop-span
@@ -11,7 +11,5 @@ invariant-loop-span g l = record {
   same_reference : l.tx.conn.ghost_name ≡ l.fn.tx.conn.ghost_name;
   sources : AllByRecursion (λ s. IsSource s.source) l.span-iterator → AllByRecursion (λ s. IsSource s.source) l.fn.spans;
   under_way : HasCleanDisk (state g.S.Store l.tx.conn.now) → IsWorking (state g.S.Store l.fn.tx.conn.now) → HasLeft (state g.S.Store l.fn.tx.conn.now) (state g.S.Store l.tx.conn.now) l.fn.spans l.span-iterator;
-  kept : HasCleanDisk (state g.S.Store l.tx.conn.now) → IsWorking (state g.S.Store l.fn.tx.conn.now) → KeepsCommit (state g.S.Store l.fn.tx.conn.now) (state g.S.Store l.tx.conn.now);
-  survives : Survives (state g.S.Store l.fn.tx.conn.now) (state g.S.Store l.tx.conn.now) (λ _. ⊥);
-  opened : HasCleanDisk (state g.S.Store l.tx.conn.now) → WasOpen (state g.S.Store l.fn.tx.conn.now) (state g.S.Store l.tx.conn.now);
+  stays : Stays (state g.S.Store l.fn.tx.conn.now) (state g.S.Store l.tx.conn.now);
 }

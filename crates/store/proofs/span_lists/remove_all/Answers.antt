@@ -3,7 +3,7 @@ use Rattle.sqlite.specs.State.{HasCleanDisk}
 use Rattle.sqlite.specs.Held.{state}
 use Rattle.store.specs.Rows.{span_rows}
 use Rattle.store.specs.Inside.{Lists}
-use Rattle.store.proofs.Keeps.{kept_then, inside_then}
+use Rattle.store.proofs.Keeps.{stays_then}
 use Rattle.store.proofs.Made.{goes_then}
 use Rattle.store.proofs.SpanLists.{one_removed}
 use Rattle.store.proofs.span_lists.remove_all.Goals as goal
@@ -16,19 +16,13 @@ loop-span-preserved g c =
     record {
       same_reference = search rules;
       goes = λ clean was.
-          let early : HasCleanDisk mid = omega (arith, c.remove.ensures.survives.clean) in
+          let early : HasCleanDisk mid = omega (arith, c.remove.ensures.stays.survives.clean) in
           let so_far = c.loop-span.invariant.goes early was in
           goes_then old mid new so_far (c.in_ok-remove.ensures.goes clean so_far.working);
       left = λ clean was lists.
-          let early : HasCleanDisk mid = omega (arith, c.remove.ensures.survives.clean) in
+          let early : HasCleanDisk mid = omega (arith, c.remove.ensures.stays.survives.clean) in
           let so_far = c.loop-span.invariant.left early was lists in
           let there = subst (Lists (span_rows mid.now)) c.in-Some.ensures.steps so_far.0 in
           one_removed old mid new c.in-Some.span c.next.new.self there so_far.1 (c.in_ok-remove.ensures.moves clean (c.loop-span.invariant.goes early was).working c.next.new.self there);
-      kept = λ clean was.
-          let early : HasCleanDisk mid = omega (arith, c.remove.ensures.survives.clean) in
-          kept_then old mid new (c.loop-span.invariant.kept early was) (c.in_ok-remove.ensures.kept clean (c.loop-span.invariant.goes early was).working);
-      survives = inside_then old mid new c.loop-span.invariant.survives c.remove.ensures.survives;
-      opened = λ clean is_open.
-          let early : HasCleanDisk mid = omega (arith, c.remove.ensures.survives.clean) in
-          c.loop-span.invariant.opened early (c.remove.ensures.opened clean is_open);
+      stays = stays_then old mid new c.loop-span.invariant.stays (λ early was. (c.loop-span.invariant.goes early was).working) c.remove.ensures.stays;
     }

@@ -1,8 +1,8 @@
 use Rattle.std.proofs.Common.{◌≡◌}
-use Rattle.sqlite.specs.State.{HasCleanDisk, Survives, KeepsCommit}
+use Rattle.sqlite.specs.State.{HasCleanDisk}
 use Rattle.sqlite.specs.Held.{state}
 use Rattle.store.specs.Rows.{span_rows, held_rows}
-use Rattle.store.specs.Inside.{IsWorking, WasOpen, GoesOn, Lists}
+use Rattle.store.specs.Inside.{IsWorking, GoesOn, Lists, Stays}
 use Rattle.store.proofs.span_lists.remove_all.Given as goal
 
 abbrev pub invariant-loop-span : goal.invariant-loop-span
@@ -13,7 +13,5 @@ invariant-loop-span g l =
       same_reference : l.tx.conn.ghost_name ≡ l.fn.tx.conn.ghost_name;
       goes : HasCleanDisk new → IsWorking old → GoesOn old new;
       left : HasCleanDisk new → IsWorking old → Lists (span_rows old.now) l.fn.spans → Lists (span_rows new.now) l.span-iterator × (held_rows new.now ≡ held_rows old.now);
-      kept : HasCleanDisk new → IsWorking old → KeepsCommit old new;
-      survives : Survives old new (λ _. ⊥);
-      opened : HasCleanDisk new → WasOpen old new;
+      stays : Stays old new;
     }

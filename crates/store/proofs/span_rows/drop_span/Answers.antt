@@ -1,7 +1,7 @@
 use Rattle.std.proofs.Common.{refl, w64}
 use Rattle.std.proofs.lemmas.Int.{to_z-of_z}
 use Rattle.sqlite.specs.Held.{state}
-use Rattle.store.proofs.Keeps.{opened_executed}
+use Rattle.store.proofs.Keeps.{stays_executed}
 use Rattle.store.proofs.SpanEffects.{done_drop, drop_goes}
 use Rattle.store.proofs.span_rows.drop_span.Goals as goal
 
@@ -15,5 +15,5 @@ returns-clause-goes g c clean was =
     drop_goes (state g.S.Store c.args.tx.now.conn.now) (state g.S.Store c.execute.new.self.conn.now) was c.args.source.now c.args.lo c.execute.result
     (rw (to_z-of_z w64 c.args.lo c.ranges.lo) at (c.execute.ensures.runs clean (rw was.inside refl)))
 
-pub returns-clause-opened : goal.returns-clause-opened
-returns-clause-opened g c clean = opened_executed g.S.Store c.args.tx.now.conn.now c.execute.new.self.conn.now _ _ c.execute.result c.execute.ensures.ended (c.execute.ensures.runs clean)
+pub returns-clause-stays : goal.returns-clause-stays
+returns-clause-stays g c = stays_executed g.S.Store c.args.tx.now.conn.now c.execute.new.self.conn.now _ _ c.execute.result c.execute.ensures.ended c.execute.ensures.runs c.execute.ensures.survives

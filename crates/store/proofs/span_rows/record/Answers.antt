@@ -17,8 +17,8 @@ returns-clause-records g c clean was ids spans shows j =
     let b = state g.S.Store c.drop_neighbour.new.tx.conn.now in
     let d = state g.S.Store c.drop_neighbour-2.new.tx.conn.now in
     let e = state g.S.Store c.add_span.new.tx.conn.now in
-    let early : HasCleanDisk d = omega (arith, c.add_span.ensures.survives.clean, clean) in
-    let first_clean : HasCleanDisk b = omega (arith, c.drop_neighbour-2.ensures.survives.clean, early) in
+    let early : HasCleanDisk d = omega (arith, c.add_span.ensures.stays.survives.clean, clean) in
+    let first_clean : HasCleanDisk b = omega (arith, c.drop_neighbour-2.ensures.stays.survives.clean, early) in
     let first : Moves a b (map stored_span (j.front ++ (one_or_none beside.above ++ j.rest))) =
     c.in_ok-drop_neighbour.ensures.moves first_clean was j.front (one_or_none beside.above ++ j.rest) (both_there ids q beside spans j a shows) in
     let second : Moves b d (map stored_span (j.front ++ j.rest)) = c.in_ok-drop_neighbour-2.ensures.moves early first.on.working j.front j.rest (one_there ids q beside spans j a shows b first) in
