@@ -8,7 +8,7 @@ ghost use Rattle.store.specs.State.{Content};
 ghost use Rattle.store.specs.Take.{with_executed};
 ghost use Rattle.store.specs.Store.{Holds, HoldsAs, database};
 
-use crate::database::{close_after, open};
+use crate::database::{Work, work_on};
 use crate::failure::{DONE, Failure};
 use crate::set_text::read;
 use crate::sets::missing_text;
@@ -29,11 +29,26 @@ pub fn adopt<'a, W: Write>(
     ensures { IfOk result (λ status. status ≡ DONE) }
 {
     let asked = read(rt.alloc(), "SET", text)?;
-    let mut store = open(rt, file, None)?;
-    let new = record(rt.alloc(), file, &mut store, &asked);
-    let new = close_after(file, store, new)?;
+    let new = work_on(rt, file, Adoption(asked))?;
     writeln!(out, "{new}")?;
     Ok(DONE)
+}
+
+/// The adoption of a set.
+#[derive(Drop)]
+struct Adoption(GtidSet);
+
+impl Work for Adoption {
+    type Done = String;
+
+    fn run<'a, S: Alter>(
+        self,
+        alloc: Global,
+        name: &'a str,
+        store: &mut Store<S>,
+    ) -> Result<String, Failure<'a>> {
+        record(alloc, name, store, &self.0)
+    }
 }
 
 /// Adds a set to the executed set, and returns the text of what was new of it.

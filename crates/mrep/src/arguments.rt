@@ -7,256 +7,292 @@ use std::alloc::{AllocError, Global};
 /// The version that `mrep --version` prints.
 const VERSION: &str = "0.1.0";
 
-/// A required argument.
-fn needed<'a>(alloc: Global, name: &'a str, help: &'a str) -> Arg<'a> {
-    Arg::new(alloc, name)
-        .required(true)
-        .action(ArgAction::Set)
-        .help(help)
+/// How an argument is given.
+#[derive(Clone, Copy)]
+enum Kind {
+    /// A word.
+    Word,
+    /// One word or more.
+    Words,
+    /// A required option with a value of this name.
+    Needed(&'static str),
+    /// A required option with a value of this name, which may begin with a hyphen.
+    NeededText(&'static str),
+    /// An option with a value of this name, which may begin with a hyphen.
+    Text(&'static str),
+    /// An option with a value of this name, which may be repeated.
+    Repeated(&'static str),
+    /// An option with a value of this name, which is one of these words.
+    OneOf(&'static str, &'static [&'static str]),
+    /// A flag.
+    Flag,
 }
 
-/// A command that uses a database file.
-fn over<'a>(alloc: Global, name: &'a str, about: &'a str) -> Result<Command<'a>, AllocError> {
-    let help = "The database file; a new one is made if it does not exist";
-    let db = option(alloc, "db", "F", help).allow_hyphen_values(true);
-    Command::new(alloc, name).about(about).arg(db)
+impl Kind {
+    /// Whether the argument has to be there.
+    fn is_required(self) -> bool {
+        matches!(
+            self,
+            Kind::Word | Kind::Words | Kind::Needed(_) | Kind::NeededText(_)
+        )
+    }
+
+    /// Whether its value may begin with a hyphen.
+    fn may_be_hyphenated(self) -> bool {
+        matches!(self, Kind::NeededText(_) | Kind::Text(_))
+    }
+
+    /// What is done with its values.
+    fn action(self) -> ArgAction {
+        match self {
+            Kind::Words | Kind::Repeated(_) => ArgAction::Append,
+            Kind::Flag => ArgAction::SetTrue,
+            _ => ArgAction::Set,
+        }
+    }
 }
 
-/// A command that reads a file with a stream of packets.
-fn listing<'a>(alloc: Global, name: &'a str, about: &'a str) -> Result<Command<'a>, AllocError> {
-    let file = needed(alloc, "FILE", "A file with a stream of packets");
-    Command::new(alloc, name).about(about).arg(file)
-}
+/// An argument: its name, how it is given, and its help.
+#[derive(Clone, Copy)]
+struct Argument(&'static str, Kind, &'static str);
 
-/// `mrep minus`.
-fn minus<'a>(alloc: Global) -> Result<Command<'a>, AllocError> {
-    Command::new(alloc, "minus")
-        .about("Print a GTID set without the members of another")
-        .arg(needed(alloc, "X", "A GTID set"))?
-        .arg(needed(alloc, "Y", "The GTID set to subtract"))
-}
+/// A command: its name, its help, and its arguments in the order of the help.
+struct CommandRow(&'static str, &'static str, &'static [Argument]);
 
-/// A command with one more below it. Each step has one command at hand, which keeps its proof short.
-fn with<'a>(
-    command: Command<'a>,
-    below: Result<Command<'a>, AllocError>,
-) -> Result<Command<'a>, AllocError> {
-    command.subcommand(below?)
-}
+const FILE: Argument = Argument("FILE", Kind::Word, "A file with a stream of packets");
 
-/// The commands that do not use a database.
-fn plain<'a>(alloc: Global, command: Command<'a>) -> Result<Command<'a>, AllocError> {
-    let packets = "List the payloads of a stream of packets: offset, sequence id, length";
-    let events = "List the events of a stream of packets: offset, sequence id, type, size, kind";
-    let command = with(command, listing(alloc, "packets", packets))?;
-    let command = with(command, listing(alloc, "events", events))?;
-    with(command, minus(alloc))
-}
+const SET: Argument = Argument("SET", Kind::Word, "A GTID set");
 
-/// An option for tables.
-fn only_with<'a>(alloc: Global, help: &'a str) -> Arg<'a> {
-    Arg::new(alloc, "only")
-        .long("only")
-        .value_name("SCHEMA.TABLE")
-        .action(ArgAction::Append)
-        .help(help)
-}
+/// The database of the commands that make it.
+const DB: Argument = Argument(
+    "db",
+    Kind::NeededText("F"),
+    "The database file; a new one is made if it does not exist",
+);
 
-/// The option for the tables whose rows are kept.
-fn only<'a>(alloc: Global) -> Arg<'a> {
-    only_with(
-        alloc,
-        "Keep only the rows of this table; may be repeated. Without it: of the tables that the database was made for, or of all tables for a new database",
-    )
-}
+const PROGRESS: Argument = Argument(
+    "progress",
+    Kind::Flag,
+    "Report on standard error how many bytes have been read and how many transactions applied, at most once a second",
+);
 
-/// An option with one of these words.
-fn one_of<'a>(
-    alloc: Global,
-    name: &'a str,
-    value: &'a str,
-    words: &'a [&'a str],
-    help: &'a str,
-) -> Arg<'a> {
-    Arg::new(alloc, name)
-        .long(name)
-        .value_name(value)
-        .action(ArgAction::Set)
-        .value_parser(words)
-        .help(help)
-}
+const CHANGES: Argument = Argument(
+    "changes",
+    Kind::Text("FILE"),
+    "Write each transaction as JSON lines to the end of this file, or to standard output for `-`",
+);
 
-/// `mrep show`.
-fn show<'a>(alloc: Global) -> Result<Command<'a>, AllocError> {
-    let help = "Print only the rows of this table; may be repeated";
-    let format = "Print lines of text, CSV records or JSON objects. Without it: text";
-    let bytes =
-        "Print bytes in CSV and JSON as text where they are UTF-8, as hexadecimal digits or as base64. Without it: hex";
-    over(
-        alloc,
+/// The form of bytes in the lines of changes.
+const BYTES: Argument = Argument(
+    "bytes",
+    Kind::OneOf("FORM", &ENCODINGS),
+    "Write bytes in JSON lines as text where they are UTF-8, as hexadecimal digits or as base64. Without it: hex",
+);
+
+/// The tables whose rows are kept.
+const ONLY: Argument = Argument(
+    "only",
+    Kind::Repeated("SCHEMA.TABLE"),
+    "Keep only the rows of this table; may be repeated. Without it: of the tables that the database was made for, or of all tables for a new database",
+);
+
+/// All commands, in the order of the help.
+static COMMANDS: [CommandRow; 12] = [
+    CommandRow(
+        "packets",
+        "List the payloads of a stream of packets: offset, sequence id, length",
+        &[FILE],
+    ),
+    CommandRow(
+        "events",
+        "List the events of a stream of packets: offset, sequence id, type, size, kind",
+        &[FILE],
+    ),
+    CommandRow(
+        "minus",
+        "Print a GTID set without the members of another",
+        &[
+            Argument("X", Kind::Word, "A GTID set"),
+            Argument("Y", Kind::Word, "The GTID set to subtract"),
+        ],
+    ),
+    CommandRow(
+        "replay",
+        "Read streams, each as one connection, apply their transactions to a database, and print how each ended",
+        &[
+            DB,
+            PROGRESS,
+            CHANGES,
+            BYTES,
+            ONLY,
+            Argument(
+                "STREAM",
+                Kind::Words,
+                "A file with the bytes that a source sent on one connection",
+            ),
+        ],
+    ),
+    CommandRow(
+        "follow",
+        "Follow a source over a socket, apply its transactions to a database, and print how the connection ended",
+        &[
+            DB,
+            Argument(
+                "host",
+                Kind::Needed("H"),
+                "The source's host name or address",
+            ),
+            Argument(
+                "port",
+                Kind::Needed("P"),
+                "The source's port, from 1 to 65535",
+            ),
+            Argument(
+                "user",
+                Kind::NeededText("U"),
+                "The name of the replication account",
+            ),
+            Argument(
+                "password-file",
+                Kind::NeededText("W"),
+                "The file with the password; one line feed at its end is ignored",
+            ),
+            Argument(
+                "server-id",
+                Kind::Needed("I"),
+                "The server id of the replica, from 1 to 4294967295",
+            ),
+            Argument(
+                "once",
+                Kind::Flag,
+                "End at the end of the source's log instead of waiting for more events",
+            ),
+            PROGRESS,
+            CHANGES,
+            BYTES,
+            ONLY,
+        ],
+    ),
+    CommandRow(
         "show",
         "Print the rows of a database: table, count, cells",
-    )?
-    .arg(only_with(alloc, help))?
-    .arg(one_of(alloc, "format", "FORMAT", FORMATS.as_slice(), format))?
-    .arg(one_of(alloc, "bytes", "FORM", ENCODINGS.as_slice(), bytes))
-}
-
-/// A required option.
-fn option<'a>(alloc: Global, name: &'a str, value: &'a str, help: &'a str) -> Arg<'a> {
-    needed(alloc, name, help).long(name).value_name(value)
-}
-
-/// The options for the source.
-fn source<'a>(alloc: Global, command: Command<'a>) -> Result<Command<'a>, AllocError> {
-    let host = "The source's host name or address";
-    let port = "The source's port, from 1 to 65535";
-    command
-        .arg(option(alloc, "host", "H", host))?
-        .arg(option(alloc, "port", "P", port))
-}
-
-/// The options for the account.
-fn account<'a>(alloc: Global, command: Command<'a>) -> Result<Command<'a>, AllocError> {
-    let user = "The name of the replication account";
-    let password = "The file with the password; one line feed at its end is ignored";
-    command
-        .arg(option(alloc, "user", "U", user).allow_hyphen_values(true))?
-        .arg(option(alloc, "password-file", "W", password).allow_hyphen_values(true))
-}
-
-/// The options for the source, the account and the replica's own id.
-fn who<'a>(alloc: Global, command: Command<'a>) -> Result<Command<'a>, AllocError> {
-    let server_id = "The server id of the replica, from 1 to 4294967295";
-    let command = source(alloc, command)?;
-    account(alloc, command)?.arg(option(alloc, "server-id", "I", server_id))
-}
-
-/// An optional flag.
-fn flag<'a>(alloc: Global, name: &'a str, help: &'a str) -> Arg<'a> {
-    Arg::new(alloc, name)
-        .long(name)
-        .action(ArgAction::SetTrue)
-        .help(help)
-}
-
-/// The options for what `mrep replay` and `mrep follow` report.
-fn reporting<'a>(
-    alloc: Global,
-    command: Command<'a>,
-    progress: &'a str,
-) -> Result<Command<'a>, AllocError> {
-    let changes =
-        "Write each transaction as JSON lines to the end of this file, or to standard output for `-`";
-    let bytes =
-        "Write bytes in JSON lines as text where they are UTF-8, as hexadecimal digits or as base64. Without it: hex";
-    let changes = Arg::new(alloc, "changes")
-        .long("changes")
-        .value_name("FILE")
-        .action(ArgAction::Set)
-        .help(changes)
-        .allow_hyphen_values(true);
-    command
-        .arg(flag(alloc, "progress", progress))?
-        .arg(changes)?
-        .arg(one_of(alloc, "bytes", "FORM", ENCODINGS.as_slice(), bytes))
-}
-
-/// `mrep follow`.
-fn follow<'a>(alloc: Global) -> Result<Command<'a>, AllocError> {
-    let about =
-        "Follow a source over a socket, apply its transactions to a database, and print how the connection ended";
-    let once = "End at the end of the source's log instead of waiting for more events";
-    let progress =
-        "Report on standard error how many bytes have been read and how many transactions applied, at most once a second";
-    let command = who(alloc, over(alloc, "follow", about)?)?.arg(flag(alloc, "once", once))?;
-    reporting(alloc, command, progress)?.arg(only(alloc))
-}
-
-/// The files to replay.
-fn streams<'a>(alloc: Global) -> Arg<'a> {
-    Arg::new(alloc, "STREAM")
-        .required(true)
-        .num_args(1..)
-        .action(ArgAction::Append)
-        .help("A file with the bytes that a source sent on one connection")
-}
-
-/// `mrep replay`.
-fn replay<'a>(alloc: Global) -> Result<Command<'a>, AllocError> {
-    let about =
-        "Read streams, each as one connection, apply their transactions to a database, and print how each ended";
-    let progress =
-        "Report on standard error how many bytes have been read and how many transactions applied, at most once a second";
-    let command = over(alloc, "replay", about)?;
-    reporting(alloc, command, progress)?
-        .arg(only(alloc))?
-        .arg(streams(alloc))
-}
-
-/// `mrep missing`.
-fn missing<'a>(alloc: Global) -> Result<Command<'a>, AllocError> {
-    over(
-        alloc,
+        &[
+            DB,
+            Argument(
+                "only",
+                Kind::Repeated("SCHEMA.TABLE"),
+                "Print only the rows of this table; may be repeated",
+            ),
+            Argument(
+                "format",
+                Kind::OneOf("FORMAT", &FORMATS),
+                "Print lines of text, CSV records or JSON objects. Without it: text",
+            ),
+            Argument(
+                "bytes",
+                Kind::OneOf("FORM", &ENCODINGS),
+                "Print bytes in CSV and JSON as text where they are UTF-8, as hexadecimal digits or as base64. Without it: hex",
+            ),
+        ],
+    ),
+    CommandRow(
+        "tables",
+        "Print the tables that a database was made for, and how many rows of each it has",
+        &[DB],
+    ),
+    CommandRow("gtids", "Print the executed GTID set of a database", &[DB]),
+    CommandRow(
         "missing",
         "Print the part of a GTID set that is not in the executed set of a database",
-    )?
-    .arg(needed(alloc, "SET", "A GTID set"))
-}
-
-/// `mrep adopt`.
-fn adopt<'a>(alloc: Global) -> Result<Command<'a>, AllocError> {
-    over(
-        alloc,
+        &[DB, SET],
+    ),
+    CommandRow(
+        "copy",
+        "Copy a database as it is after some transaction, also while another process writes it",
+        &[
+            Argument("db", Kind::NeededText("F"), "The database file"),
+            Argument("TO", Kind::Word, "The file to make"),
+            Argument("force", Kind::Flag, "Replace the file if it exists"),
+        ],
+    ),
+    CommandRow(
         "adopt",
         "Record a GTID set as executed without changes, and print what was new of it",
-    )?
-    .arg(needed(alloc, "SET", "A GTID set"))
-}
-
-/// `mrep skip`.
-fn skip<'a>(alloc: Global) -> Result<Command<'a>, AllocError> {
-    over(
-        alloc,
+        &[DB, SET],
+    ),
+    CommandRow(
         "skip",
         "Record a GTID as executed without changes, and print Done, or Repeat if it was executed already",
-    )?
-    .arg(needed(alloc, "G", "A GTID: a hyphenated UUID, `:` and a number"))
+        &[
+            DB,
+            Argument(
+                "G",
+                Kind::Word,
+                "A GTID: a hyphenated UUID, `:` and a number",
+            ),
+        ],
+    ),
+];
+
+/// The argument of a row.
+fn arg_of<'a>(alloc: Global, row: &Argument) -> Arg<'a> {
+    let Argument(name, kind, help) = *row;
+    let arg = Arg::new(alloc, name)
+        .help(help)
+        .required(kind.is_required())
+        .action(kind.action())
+        .allow_hyphen_values(kind.may_be_hyphenated());
+    match kind {
+        Kind::Word => arg,
+        Kind::Words => arg.num_args(1..),
+        Kind::Flag => arg.long(name),
+        Kind::OneOf(value, words) => arg.long(name).value_name(value).value_parser(words),
+        Kind::Needed(value) | Kind::NeededText(value) | Kind::Text(value) | Kind::Repeated(value) =>
+            arg.long(name).value_name(value),
+    }
 }
 
-/// `mrep copy`.
-fn copy<'a>(alloc: Global) -> Result<Command<'a>, AllocError> {
-    let about =
-        "Copy a database as it is after some transaction, also while another process writes it";
-    let db = option(alloc, "db", "F", "The database file").allow_hyphen_values(true);
-    Command::new(alloc, "copy")
-        .about(about)
-        .arg(db)?
-        .arg(needed(alloc, "TO", "The file to make"))?
-        .arg(flag(alloc, "force", "Replace the file if it exists"))
+/// A command with these arguments.
+fn with_arguments<'a>(
+    alloc: Global,
+    command: Command<'a>,
+    rows: &[Argument],
+) -> Result<Command<'a>, AllocError> {
+    let mut command = command;
+    for row in rows {
+        command = command.arg(arg_of(alloc, row))?;
+    }
+    Ok(command)
 }
 
-/// The commands that use a database, except `replay` and `follow`.
-fn reading<'a>(alloc: Global, command: Command<'a>) -> Result<Command<'a>, AllocError> {
-    let tables = "Print the tables that a database was made for, and how many rows of each it has";
-    let gtids = "Print the executed GTID set of a database";
-    let command = with(command, show(alloc))?;
-    let command = with(command, over(alloc, "tables", tables))?;
-    let command = with(command, over(alloc, "gtids", gtids))?;
-    let command = with(command, missing(alloc))?;
-    let command = with(command, copy(alloc))?;
-    let command = with(command, adopt(alloc))?;
-    with(command, skip(alloc))
+/// The command of a row.
+fn command_of<'a>(alloc: Global, row: &CommandRow) -> Result<Command<'a>, AllocError> {
+    let CommandRow(name, about, rows) = *row;
+    with_arguments(alloc, Command::new(alloc, name).about(about), rows)
+}
+
+/// The command without those below it.
+fn program<'a>(alloc: Global) -> Command<'a> {
+    Command::new(alloc, "mrep")
+        .version(VERSION)
+        .about("A MySQL replication follower")
+        .subcommand_required(true)
+}
+
+/// A command with those of the rows below it.
+fn with_commands<'a>(
+    alloc: Global,
+    command: Command<'a>,
+    rows: &[CommandRow],
+) -> Result<Command<'a>, AllocError> {
+    let mut command = command;
+    for row in rows {
+        command = command.subcommand(command_of(alloc, row)?)?;
+    }
+    Ok(command)
 }
 
 /// All commands and their arguments.
 pub fn grammar<'a>(alloc: Global) -> Result<Command<'a>, AllocError> {
-    let command = Command::new(alloc, "mrep")
-        .version(VERSION)
-        .about("A MySQL replication follower")
-        .subcommand_required(true);
-    let command = plain(alloc, command)?;
-    let command = with(command, replay(alloc))?;
-    let command = with(command, follow(alloc))?;
-    reading(alloc, command)
+    with_commands(alloc, program(alloc), &COMMANDS)
 }

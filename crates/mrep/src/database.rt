@@ -6,7 +6,8 @@ use crate::damage::{Damage, damage_in};
 use crate::failure::Failure;
 use binlog::Follow;
 use replica::{
-    Capture, Config, Duplex, FollowedFile, Observer, Replayed, Unopened, follow_file, open_file,
+    Capture, Config, Duplex, FollowedFile, Observer, Replayed, Unopened, close_file, follow_file,
+    open_file,
 };
 use sqlite::{Alter, Connection, Error, ErrorCode, File, FileStore, Files};
 use sqlite_disk::Unknown;
@@ -47,7 +48,7 @@ const NOT_USABLE: &str =
 
 /// Opens the store in a file, which is made if it does not exist. With a list of tables, the database is made for them
 /// or must have been; without one, its own list holds.
-pub fn open<'a>(
+fn open<'a>(
     rt: &HostRuntime,
     name: &'a str,
     only: Option<&Follow>,
@@ -57,6 +58,32 @@ pub fn open<'a>(
         Ok(store) => Ok(store),
         Err(unopened) => Err(refusal(rt, name, leave(rt, log, unopened))),
     }
+}
+
+/// What a command does with the store in a database file.
+pub trait Work {
+    /// What comes of it.
+    type Done: Drop;
+
+    /// Does it. A failure names the database.
+    fn run<'a, S: Alter>(
+        self,
+        alloc: Global,
+        name: &'a str,
+        store: &mut Store<S>,
+    ) -> Result<Self::Done, Failure<'a>>;
+}
+
+/// Opens the database in a file as [`open`] does with its own list of tables, does some work with its store, and closes it.
+/// A function that hands a store in a file on to a generic one takes long to prove, so there is this one alone.
+pub fn work_on<'a, K: Work + Drop>(
+    rt: &HostRuntime,
+    name: &'a str,
+    work: K,
+) -> Result<K::Done, Failure<'a>> {
+    let mut store = open(rt, name, None)?;
+    let done = work.run(rt.alloc(), name, &mut store);
+    close_after(name, store, done)
 }
 
 /// Reads captured connections into the database in a file, which is opened as by [`open`] and closed at the end.
@@ -273,7 +300,7 @@ fn try_open(rt: &HostRuntime, name: &str) -> io::Result<()> {
 }
 
 /// Closes the file after what was done over it. A failure of that comes before one of the closing.
-pub fn close_after<'a, T: Drop>(
+fn close_after<'a, T: Drop>(
     name: &'a str,
     store: Store<FileOf>,
     done: Result<T, Failure<'a>>,
@@ -288,7 +315,7 @@ pub fn close_after<'a, T: Drop>(
 
 /// Closes the file.
 pub fn close<'a>(name: &'a str, store: Store<FileOf>) -> Result<(), Failure<'a>> {
-    closed(name, store.close().close_files())
+    closed(name, close_file(store))
 }
 
 /// Whether the files were closed.

@@ -7,7 +7,7 @@ ghost use Rattle.gtid.specs.Text.{AppendsText};
 ghost use Rattle.store.specs.State.{Content};
 ghost use Rattle.store.specs.Store.{HoldsAs};
 
-use crate::database::{close_after, open};
+use crate::database::{Work, work_on};
 use crate::failure::{DONE, Failure};
 use crate::set_text::{read, text_of};
 use gtid::GtidSet;
@@ -20,9 +20,7 @@ use store::Store;
 pub fn gtids<'a, W: Write>(rt: &HostRuntime, file: &'a str, out: &mut W) -> Result<u8, Failure<'a>>
     ensures { IfOk result (λ status. status ≡ DONE) }
 {
-    let store = open(rt, file, None)?;
-    let text = executed_text(rt.alloc(), &store);
-    let text = close_after(file, store, text)?;
+    let text = work_on(rt, file, Executed)?;
     writeln!(out, "{text}")?;
     Ok(DONE)
 }
@@ -37,11 +35,43 @@ pub fn missing<'a, W: Write>(
     ensures { IfOk result (λ status. status ≡ DONE) }
 {
     let asked = read(rt.alloc(), "SET", text)?;
-    let store = open(rt, file, None)?;
-    let text = missing_text(rt.alloc(), asked, &store);
-    let text = close_after(file, store, text)?;
+    let text = work_on(rt, file, Difference(asked))?;
     writeln!(out, "{text}")?;
     Ok(DONE)
+}
+
+/// The reading of the executed set.
+#[derive(Drop)]
+struct Executed;
+
+impl Work for Executed {
+    type Done = String;
+
+    fn run<'a, S: Alter>(
+        self,
+        alloc: Global,
+        _name: &'a str,
+        store: &mut Store<S>,
+    ) -> Result<String, Failure<'a>> {
+        executed_text(alloc, store)
+    }
+}
+
+/// The reading of what of a set is missing from the executed set.
+#[derive(Drop)]
+struct Difference(GtidSet);
+
+impl Work for Difference {
+    type Done = String;
+
+    fn run<'a, S: Alter>(
+        self,
+        alloc: Global,
+        _name: &'a str,
+        store: &mut Store<S>,
+    ) -> Result<String, Failure<'a>> {
+        missing_text(alloc, self.0, store)
+    }
 }
 
 /// The text of the executed set.

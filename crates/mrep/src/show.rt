@@ -4,7 +4,7 @@ ghost use Rattle.std.specs.Prelude.{◌≡◌, IfOk};
 
 use crate::cells::write_cells;
 use crate::csv_lines::{cause_of, records, write_record};
-use crate::database::{close_after, open};
+use crate::database::{Work, work_on};
 use crate::failure::{DONE, Failure};
 use crate::format::{Encoding, Format, encoding_of, format_of};
 use crate::json_lines::write_object;
@@ -39,10 +39,47 @@ pub fn show<'a, W: Write>(
     let format = format_of(choice.format);
     let encoding = encoding_of(choice.bytes, format)?;
     let only = tables(rt.alloc(), choice.only.unwrap_or(&[]))?;
-    let mut store = open(rt, file, None)?;
-    let shown = write_rows(rt.alloc(), file, &mut store, only, format, encoding, out);
-    close_after(file, store, shown)?;
+    work_on(
+        rt,
+        file,
+        Showing {
+            only,
+            format,
+            encoding,
+            out,
+        },
+    )?;
     Ok(DONE)
+}
+
+/// The printing of the rows of these tables in this format.
+#[derive(Drop)]
+struct Showing<'o, W> {
+    only: Follow,
+    format: Format,
+    encoding: Encoding,
+    out: &'o mut W,
+}
+
+impl<W: Write> Work for Showing<'_, W> {
+    type Done = ();
+
+    fn run<'a, S: Alter>(
+        self,
+        alloc: Global,
+        name: &'a str,
+        store: &mut Store<S>,
+    ) -> Result<(), Failure<'a>> {
+        write_rows(
+            alloc,
+            name,
+            store,
+            self.only,
+            self.format,
+            self.encoding,
+            self.out,
+        )
+    }
 }
 
 /// Writes the rows of these tables in this format.

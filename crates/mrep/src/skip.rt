@@ -2,7 +2,7 @@
 
 ghost use Rattle.std.specs.Prelude.{◌≡◌, IfOk};
 
-use crate::database::{close_after, open};
+use crate::database::{Work, work_on};
 use crate::failure::{DONE, Failure};
 use gather::Delivery;
 use gtid::Gtid;
@@ -23,14 +23,29 @@ pub fn skip<'a, W: Write>(
     let Some(gtid) = Gtid::parse(text) else {
         return Err(Failure::Gtid { word: "G" });
     };
-    let mut store = open(rt, file, None)?;
-    let recorded = record(rt.alloc(), file, &mut store, gtid);
-    let word = match close_after(file, store, recorded)? {
+    let word = match work_on(rt, file, Skipped(gtid))? {
         Applied::Done => "Done",
         Applied::Repeat => "Repeat",
     };
     writeln!(out, "{word}")?;
     Ok(DONE)
+}
+
+/// The recording of a transaction that is skipped.
+#[derive(Drop)]
+struct Skipped(Gtid);
+
+impl Work for Skipped {
+    type Done = Applied;
+
+    fn run<'a, S: Alter>(
+        self,
+        alloc: Global,
+        name: &'a str,
+        store: &mut Store<S>,
+    ) -> Result<Applied, Failure<'a>> {
+        record(alloc, name, store, self.0)
+    }
 }
 
 /// Applies a transaction without changes.

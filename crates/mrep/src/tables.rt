@@ -2,7 +2,7 @@
 
 ghost use Rattle.std.specs.Prelude.{◌≡◌, IfOk};
 
-use crate::database::{close_after, open};
+use crate::database::{Work, work_on};
 use crate::failure::{DONE, Failure};
 use crate::name::write_table;
 use crate::show::list;
@@ -26,10 +26,25 @@ struct Tally {
 pub fn tables<'a, W: Write>(rt: &HostRuntime, file: &'a str, out: &mut W) -> Result<u8, Failure<'a>>
     ensures { IfOk result (λ status. status ≡ DONE) }
 {
-    let mut store = open(rt, file, None)?;
-    let written = write_tables(rt.alloc(), file, &mut store, out);
-    close_after(file, store, written)?;
+    work_on(rt, file, Counting(out))?;
     Ok(DONE)
+}
+
+/// The counting of the rows of each table.
+#[derive(Drop)]
+struct Counting<'o, W>(&'o mut W);
+
+impl<W: Write> Work for Counting<'_, W> {
+    type Done = ();
+
+    fn run<'a, S: Alter>(
+        self,
+        alloc: Global,
+        name: &'a str,
+        store: &mut Store<S>,
+    ) -> Result<(), Failure<'a>> {
+        write_tables(alloc, name, store, self.0)
+    }
 }
 
 /// Writes the filter, and a line for each table with rows.

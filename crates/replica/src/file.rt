@@ -2,19 +2,23 @@
 
 ghost use Rattle.std.specs.Prelude.{◌≡◌, false, IfOk, IfErr, MatchResult};
 ghost use Rattle.sqlite_wal.specs.Files.{image_at};
+ghost use Rattle.sqlite_wal.specs.Reads.{AreClean};
+ghost use Rattle.sqlite_trees.specs.View.{IsClean};
+ghost use Rattle.sqlite_store.specs.FileStore.{view};
 ghost use Rattle.sqlite.specs.State.{HasCleanDisk};
 ghost use Rattle.sqlite.specs.Held.{state};
-ghost use Rattle.sqlite.specs.Files.{over_files, file_state};
+ghost use Rattle.sqlite.specs.Files.{over_files, file_state, IsClosed, FailsToClose};
+ghost use Rattle.sqlite.specs.Closing.{IsCopied};
 ghost use Rattle.binlog.specs.Filter.{Names};
 ghost use Rattle.store.specs.State.{Content};
-ghost use Rattle.store.specs.Store.{Holds, database, names_of};
+ghost use Rattle.store.specs.Store.{Holds, connection, database, names_of};
 ghost use Rattle.store.specs.Entering.{ReadsLeft, IsWanted};
 ghost use Rattle.store.specs.Faults.{IsFailure};
 ghost use Rattle.replica.specs.File.{only_of, is_any, FilesHold, LeavesContent, IsRefused};
 
 use crate::file_connection::open_files;
 use binlog::Follow;
-use sqlite::{Alter, Connection, Error, FileFrom, FileStore, Leftover, Start};
+use sqlite::{Alter, Connection, Error, FileFrom, FileStore, Files, Leftover, Start};
 use sqlite_disk::Disk;
 use std::alloc::Global;
 use store::{Store, StoreFault};
@@ -78,4 +82,14 @@ pub fn open_file<P: Start>(
         Ok(store) => Ok(store),
         Err((cause, conn)) => Err(Unopened::Database(cause, conn)),
     }
+}
+
+/// Closes a store and its files: the log is copied into the database file. An error comes with what is left of them.
+pub fn close_file<D: Disk + Drop>(
+    store: Store<FileStore<D>>,
+) -> Result<Files<D>, (Error, FileStore<D>)>
+    ensures copied { IfOk result (λ files. AreClean D.Disk files.log files.db → IsCopied (connection over_files store) files) }
+    ensures err { IfErr result (λ e. IsClosed (connection over_files store) e.1 × (IsClean (view e.1) → FailsToClose (connection over_files store) e.1 e.0)) }
+{
+    store.close().close_files()
 }

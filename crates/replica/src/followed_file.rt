@@ -14,7 +14,7 @@ ghost use Rattle.replica.specs.FollowFile.{Connects, FollowsFile, CountsFailures
 use crate::config::Config;
 use crate::counted::{Counted, Duplex};
 use crate::end::Ended;
-use crate::file::{Unopened, open_file};
+use crate::file::{Unopened, close_file, open_file};
 use crate::following::follow_observed;
 use crate::observer::Observer;
 use binlog::Follow;
@@ -102,6 +102,6 @@ pub fn follow_file<
     let mut store = open_file(rt, path, start, only)?;
     observer.opened(store.executed());
     let connection = connect_and_follow(rt.alloc(), &mut store, config, connect, observer);
-    let closed = store.close().close_files();
+    let closed = close_file(store);
     Ok(FollowedFile { connection, closed })
 }

@@ -46,7 +46,7 @@ pub use connections::{NoMemory, run};
 pub use counted::{Counted, Duplex};
 pub use end::{Ended, Reason, Refusal};
 pub use feed::Stopped;
-pub use file::{Unopened, open_file};
+pub use file::{Unopened, close_file, open_file};
 pub use followed_file::{FollowedFile, follow_file};
 pub use following::{follow, follow_observed};
 pub use observer::{Observer, Unobserved};

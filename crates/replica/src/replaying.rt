@@ -12,7 +12,7 @@ ghost use Rattle.replica.specs.Conn.{MayEnd};
 use crate::captures::{Capture, Halt, read_captures};
 use crate::config::Config;
 use crate::end::Ended;
-use crate::file::{Unopened, open_file};
+use crate::file::{Unopened, close_file, open_file};
 use crate::observer::Observer;
 use binlog::Follow;
 use sqlite::{Error, FileFrom, FileStore, Files, Start};
@@ -70,6 +70,6 @@ pub fn replay<P: Start, R: Read + Drop, W: Observer>(
     let read = read_captures(
         config, &mut store, captures, &mut piece, &mut ends, observer,
     );
-    let closed = store.close().close_files();
+    let closed = close_file(store);
     Ok(Replayed { ends, read, closed })
 }

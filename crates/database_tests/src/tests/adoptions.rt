@@ -2,7 +2,7 @@
 
 use super::deliveries::take;
 use super::fixtures::{fresh, gtids, held, open};
-use sqlite::{Connection, MemStore};
+use sqlite::{Alter, Connection};
 use std::alloc::Global;
 use std::test::Fail;
 use store::Store;
@@ -17,7 +17,7 @@ enum Step {
 }
 
 /// Adopts a set.
-fn adopt(alloc: Global, store: &mut Store<MemStore>, numbers: &str) -> Result<String, Fail> {
+fn adopt<S: Alter>(alloc: Global, store: &mut Store<S>, numbers: &str) -> Result<String, Fail> {
     let set = gtids(alloc, numbers).ok_or("no set")?;
     let answer = store.adopt(&set);
     let held = held(alloc, store)?;
@@ -25,7 +25,7 @@ fn adopt(alloc: Global, store: &mut Store<MemStore>, numbers: &str) -> Result<St
 }
 
 /// Does a step. The answer, and then what the store holds.
-fn answer(alloc: Global, store: &mut Store<MemStore>, step: &Step) -> Result<String, Fail> {
+fn answer<S: Alter>(alloc: Global, store: &mut Store<S>, step: &Step) -> Result<String, Fail> {
     match step {
         Step::Adopt(numbers) => adopt(alloc, store, numbers),
         Step::Apply(number, letters) => take(alloc, store, *number, letters),
@@ -33,7 +33,11 @@ fn answer(alloc: Global, store: &mut Store<MemStore>, step: &Step) -> Result<Str
 }
 
 /// Does the steps in order. The error is the first other answer.
-fn answers(alloc: Global, store: &mut Store<MemStore>, steps: &[(Step, &str)]) -> Result<(), Fail> {
+fn answers<S: Alter>(
+    alloc: Global,
+    store: &mut Store<S>,
+    steps: &[(Step, &str)],
+) -> Result<(), Fail> {
     for (step, want) in steps {
         let came = answer(alloc, store, step)?;
         if came.as_str() != *want {
@@ -44,11 +48,11 @@ fn answers(alloc: Global, store: &mut Store<MemStore>, steps: &[(Step, &str)]) -
 }
 
 /// Does the steps in order on a store, and returns its connection.
-fn done(
+fn done<S: Alter + Drop>(
     alloc: Global,
-    mut store: Store<MemStore>,
+    mut store: Store<S>,
     steps: &[(Step, &str)],
-) -> Result<Connection<MemStore>, Fail> {
+) -> Result<Connection<S>, Fail> {
     let done = answers(alloc, &mut store, steps);
     let conn = store.close();
     done?;
@@ -56,7 +60,7 @@ fn done(
 }
 
 /// Whether the table has these intervals: from the first number up to but not including the second.
-fn has_intervals(conn: &mut Connection<MemStore>, want: &[(i64, i64)]) -> Result<bool, Fail> {
+fn has_intervals<S: Alter>(conn: &mut Connection<S>, want: &[(i64, i64)]) -> Result<bool, Fail> {
     let rows = conn.query_all("SELECT lo, hi FROM spans ORDER BY lo", &[])?;
     for (row, (lo, hi)) in rows.iter().zip(want) {
         if row.get::<i64>(0)? != *lo || row.get::<i64>(1)? != *hi {

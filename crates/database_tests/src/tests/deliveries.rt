@@ -1,7 +1,7 @@
 //! Transactions applied to a store, one after the other.
 
 use super::fixtures::{delivery, fresh, held, open};
-use sqlite::{Connection, MemStore};
+use sqlite::{Alter, Connection};
 use std::alloc::Global;
 use std::test::Fail;
 use store::Store;
@@ -10,9 +10,9 @@ use store::Store;
 type Step = (u64, &'static str, &'static str);
 
 /// Applies a transaction. The answer, and then what the store holds.
-pub(super) fn take(
+pub(super) fn take<S: Alter>(
     alloc: Global,
-    store: &mut Store<MemStore>,
+    store: &mut Store<S>,
     number: u64,
     letters: &str,
 ) -> Result<String, Fail> {
@@ -23,7 +23,7 @@ pub(super) fn take(
 }
 
 /// Does the steps in order. The error is the first other outcome.
-fn take_all(alloc: Global, store: &mut Store<MemStore>, steps: &[Step]) -> Result<(), Fail> {
+fn take_all<S: Alter>(alloc: Global, store: &mut Store<S>, steps: &[Step]) -> Result<(), Fail> {
     for (number, letters, want) in steps {
         let came = take(alloc, store, *number, letters)?;
         if came.as_str() != *want {
@@ -34,11 +34,11 @@ fn take_all(alloc: Global, store: &mut Store<MemStore>, steps: &[Step]) -> Resul
 }
 
 /// Does the steps in order on a store, and returns its connection.
-fn steps(
+fn steps<S: Alter + Drop>(
     alloc: Global,
-    mut store: Store<MemStore>,
+    mut store: Store<S>,
     steps: &[Step],
-) -> Result<Connection<MemStore>, Fail> {
+) -> Result<Connection<S>, Fail> {
     let done = take_all(alloc, &mut store, steps);
     let conn = store.close();
     done?;

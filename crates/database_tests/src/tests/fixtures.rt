@@ -176,7 +176,7 @@ pub(super) fn attempt<S: Alter + Drop>(
 }
 
 /// Opens a database in memory.
-pub(super) fn open(alloc: Global, conn: Connection<MemStore>) -> Result<Store<MemStore>, Fail> {
+pub(super) fn open<S: Alter + Drop>(alloc: Global, conn: Connection<S>) -> Result<Store<S>, Fail> {
     match attempt(alloc, conn, None)? {
         Ok(store) => Ok(store),
         Err((fault, _)) => Err(fault.into()),

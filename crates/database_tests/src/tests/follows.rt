@@ -5,7 +5,7 @@ use super::sessions::{config, name};
 use super::stream::Stream;
 use super::streams::{ONE_TRANSACTION, SENT, cut, joined};
 use replica::{Counted, follow};
-use sqlite::MemStore;
+use sqlite::Alter;
 use std::alloc::Global;
 use std::io::ErrorKind;
 use std::test::Fail;
@@ -54,9 +54,9 @@ type Outcome = (
 );
 
 /// Follows a stream into a store, and returns the outcome and what was sent.
-fn follow_into(
+fn follow_into<S: Alter>(
     alloc: Global,
-    store: &mut Store<MemStore>,
+    store: &mut Store<S>,
     password: &[u8],
     bytes: &[u8],
     given: Given,
@@ -92,9 +92,9 @@ fn follow_into(
 
 /// Follows a stream into a store, which then holds the transactions that were applied. What was sent is a prefix of
 /// what is due.
-fn check(
+fn check<S: Alter>(
     alloc: Global,
-    store: &mut Store<MemStore>,
+    store: &mut Store<S>,
     bytes: &[u8],
     given: Given,
 ) -> Result<Outcome, Fail> {

@@ -14,7 +14,7 @@ use replica::{
     Config, ConfigFault, Counted, Ended, Reason, Session, Unobserved, follow, read_stream, run,
 };
 use scripted_source::{ForgeFault, answer, check, opening};
-use sqlite::{Connection, Error, ErrorCode, MemStore};
+use sqlite::{Alter, Connection, Error, ErrorCode};
 use std::alloc::Global;
 use store::{Applied, ListError, Listed, Store, StoreFault, Visitor};
 use wire::{LARGEST_PAYLOAD, write_payload};
@@ -84,7 +84,7 @@ static NEW: [(Call, &str); 10] = [
 static OLD: [(Call, &str); 2] = [(Call::Open, "1-2:4 2 0 0"), (Call::Open, "1-2:4 2 0 0")];
 
 /// How a store answers a transaction.
-fn answered_by(store: &mut Store<MemStore>, delivery: &Delivery) -> End {
+fn answered_by<S: Alter>(store: &mut Store<S>, delivery: &Delivery) -> End {
     match store.apply(delivery) {
         Ok(Applied::Done) => End::Done,
         Ok(Applied::Repeat) => End::Wrong,
@@ -93,13 +93,13 @@ fn answered_by(store: &mut Store<MemStore>, delivery: &Delivery) -> End {
 }
 
 /// Whether a store has failed, and its set does not have this transaction.
-fn has_failed(store: &mut Store<MemStore>, delivery: &Delivery) -> bool {
+fn has_failed<S: Alter>(store: &mut Store<S>, delivery: &Delivery) -> bool {
     let has = store.executed().contains(delivery.gtid);
     !has && store.apply(delivery) == Err(StoreFault::Broken)
 }
 
 /// Applies a transaction.
-fn apply(alloc: Global, store: &mut Store<MemStore>, number: u64, letters: &str) -> Option<End> {
+fn apply<S: Alter>(alloc: Global, store: &mut Store<S>, number: u64, letters: &str) -> Option<End> {
     let delivery = transaction(alloc, number, letters)?;
     let end = answered_by(store, &delivery);
     if end == End::Done || has_failed(store, &delivery) {
@@ -109,7 +109,7 @@ fn apply(alloc: Global, store: &mut Store<MemStore>, number: u64, letters: &str)
 }
 
 /// Adopts a set.
-fn adopt(alloc: Global, store: &mut Store<MemStore>, numbers: &str) -> Option<End> {
+fn adopt<S: Alter>(alloc: Global, store: &mut Store<S>, numbers: &str) -> Option<End> {
     let set = gtids(alloc, numbers)?;
     match store.adopt(&set) {
         Ok(()) => Some(End::Done),
@@ -122,7 +122,7 @@ fn adopt(alloc: Global, store: &mut Store<MemStore>, numbers: &str) -> Option<En
 }
 
 /// Counts the rows (7, "ab") of shop.items.
-fn count_once(alloc: Global, store: &mut Store<MemStore>, want: u64) -> Option<End> {
+fn count_once<S: Alter>(alloc: Global, store: &mut Store<S>, want: u64) -> Option<End> {
     let row = image(alloc, b'+')?;
     Some(match store.count(b"shop", b"items", &row) {
         Ok(count) if count == want => End::Done,
@@ -132,7 +132,7 @@ fn count_once(alloc: Global, store: &mut Store<MemStore>, want: u64) -> Option<E
 }
 
 /// Counts twice.
-fn count(alloc: Global, store: &mut Store<MemStore>, want: u64) -> Option<End> {
+fn count<S: Alter>(alloc: Global, store: &mut Store<S>, want: u64) -> Option<End> {
     let first = count_once(alloc, store, want)?;
     let second = count_once(alloc, store, want)?;
     Some(of_both(first, second))
@@ -157,7 +157,7 @@ impl Visitor for Rows {
 }
 
 /// Lists the two rows.
-fn list_once(store: &mut Store<MemStore>) -> End {
+fn list_once<S: Alter>(store: &mut Store<S>) -> End {
     let mut rows = Rows(0);
     match store.list(&mut rows) {
         Ok(()) if rows.0 == 2 => End::Done,
@@ -167,7 +167,7 @@ fn list_once(store: &mut Store<MemStore>) -> End {
 }
 
 /// Lists the rows twice.
-fn list(store: &mut Store<MemStore>) -> End {
+fn list<S: Alter>(store: &mut Store<S>) -> End {
     let first = list_once(store);
     of_both(first, list_once(store))
 }
@@ -204,7 +204,7 @@ fn connections(alloc: Global, bytes: &[u8]) -> Option<Vec<Vec<Vec<u8>>>> {
 }
 
 /// Reads a list of one connection.
-fn run_all(alloc: Global, store: &mut Store<MemStore>, number: u8) -> Option<End> {
+fn run_all<S: Alter>(alloc: Global, store: &mut Store<S>, number: u8) -> Option<End> {
     let connections = connections(alloc, &stream(number))?;
     let config = settings(alloc)?;
     match run(alloc, &config, store, &connections) {
@@ -232,7 +232,7 @@ fn end_after(sent: &[u8], end: &Ended) -> End {
 }
 
 /// Feeds a session.
-fn feed(alloc: Global, store: &mut Store<MemStore>, number: u8) -> Option<End> {
+fn feed<S: Alter>(alloc: Global, store: &mut Store<S>, number: u8) -> Option<End> {
     let mut session = Session::new(settings(alloc)?);
     let _ = session.feed(store, &stream(number));
     let sent = session.take_out();
@@ -240,7 +240,7 @@ fn feed(alloc: Global, store: &mut Store<MemStore>, number: u8) -> Option<End> {
 }
 
 /// Follows a source.
-fn follow_one(alloc: Global, store: &mut Store<MemStore>, number: u8) -> Option<End> {
+fn follow_one<S: Alter>(alloc: Global, store: &mut Store<S>, number: u8) -> Option<End> {
     let config = settings(alloc)?;
     let written = Vec::with_capacity(alloc, 300).ok()?;
     let bytes = stream(number);
@@ -252,7 +252,7 @@ fn follow_one(alloc: Global, store: &mut Store<MemStore>, number: u8) -> Option<
 }
 
 /// Reads a connection from a reader.
-fn read_one(alloc: Global, store: &mut Store<MemStore>, number: u8) -> Option<End> {
+fn read_one<S: Alter>(alloc: Global, store: &mut Store<S>, number: u8) -> Option<End> {
     let config = settings(alloc)?;
     let bytes = stream(number);
     let (first, mut rest) = bytes.split_at(250);
@@ -262,7 +262,7 @@ fn read_one(alloc: Global, store: &mut Store<MemStore>, number: u8) -> Option<En
 }
 
 /// Makes a call. `None` if what it needs could not be made.
-fn make(alloc: Global, store: &mut Store<MemStore>, call: Call) -> Option<End> {
+fn make<S: Alter>(alloc: Global, store: &mut Store<S>, call: Call) -> Option<End> {
     match call {
         Call::Open => Some(End::Done),
         Call::Apply(number, letters) => apply(alloc, store, number, letters),
@@ -276,10 +276,10 @@ fn make(alloc: Global, store: &mut Store<MemStore>, call: Call) -> Option<End> {
     }
 }
 
-type Opened = Result<Store<MemStore>, (StoreFault, Connection<MemStore>)>;
+type Opened<S> = Result<Store<S>, (StoreFault, Connection<S>)>;
 
 /// Opens a database, for a filter if one is given.
-fn open(alloc: Global, conn: Connection<MemStore>, only: Option<&Follow>) -> Opened {
+fn open<S: Alter + Drop>(alloc: Global, conn: Connection<S>, only: Option<&Follow>) -> Opened<S> {
     if !conn.is_autocommit() {
         return Err((StoreFault::Damaged, conn));
     }
@@ -298,12 +298,12 @@ fn end_of_opening(fault: StoreFault) -> End {
 }
 
 /// Opens a database and makes a call, and returns the closed database.
-fn step(
+fn step<S: Alter + Drop>(
     alloc: Global,
-    conn: Connection<MemStore>,
+    conn: Connection<S>,
     only: Option<&Follow>,
     call: Call,
-) -> (Option<End>, Connection<MemStore>) {
+) -> (Option<End>, Connection<S>) {
     match open(alloc, conn, only) {
         Ok(store) => {
             let mut store = store;
@@ -315,7 +315,11 @@ fn step(
 }
 
 /// What a database holds, once it is opened anew.
-fn reopened(alloc: Global, conn: Connection<MemStore>, only: Option<&Follow>) -> Option<String> {
+fn reopened<S: Alter + Drop>(
+    alloc: Global,
+    conn: Connection<S>,
+    only: Option<&Follow>,
+) -> Option<String> {
     let mut store = open(alloc, conn, only).ok()?;
     let held = content(alloc, &mut store);
     store.close();
@@ -338,9 +342,9 @@ fn is_held(end: End, held: Option<String>, before: &str, after: &str) -> Option<
 }
 
 /// Makes the calls in order, up to the first that is refused memory.
-fn steps(
+fn steps<S: Alter + Drop>(
     alloc: Global,
-    conn: Connection<MemStore>,
+    conn: Connection<S>,
     only: Option<&Follow>,
     calls: &[(Call, &str)],
 ) -> Option<bool> {

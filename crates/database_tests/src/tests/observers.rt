@@ -8,7 +8,7 @@ use super::streams::three_transactions;
 use binlog::Event;
 use gather::Delivery;
 use replica::{Ended, Observer, Reason, Session};
-use sqlite::MemStore;
+use sqlite::Alter;
 use std::alloc::Global;
 use std::test::Fail;
 use store::Store;
@@ -56,9 +56,9 @@ impl Observer for Tally {
 }
 
 /// Reads three transactions, of which so many are let pass. Returns how the connection ended, and what was reported.
-fn watched(
+fn watched<S: Alter>(
     alloc: Global,
-    store: &mut Store<MemStore>,
+    store: &mut Store<S>,
     stream: &[u8],
     most: usize,
 ) -> Result<String, Fail> {

@@ -3,7 +3,7 @@
 use super::fixtures::{fresh, held};
 use super::streams::{ONE_TRANSACTION, SENT, SWITCH, cut, joined};
 use replica::{Config, ConfigFault, Ended, Reason, Session, run};
-use sqlite::{Alter, MemStore};
+use sqlite::Alter;
 use std::alloc::Global;
 use std::test::Fail;
 use store::Store;
@@ -61,7 +61,7 @@ pub(super) fn line(alloc: Global, end: &Ended) -> Result<String, Fail> {
 }
 
 /// Reads connections, and says how they ended and what the store holds then.
-fn lines(alloc: Global, store: &mut Store<MemStore>, streams: &[&[u8]]) -> Result<String, Fail> {
+fn lines<S: Alter>(alloc: Global, store: &mut Store<S>, streams: &[&[u8]]) -> Result<String, Fail> {
     let mut text = String::new(alloc);
     for end in &ends(alloc, store, streams)? {
         text.push_str(&line(alloc, end)?)?;
@@ -89,9 +89,9 @@ EndOfInput at 449 applied 0
 }
 
 /// Feeds a session two pieces, and returns what it sent, what the two calls answered and how it ended.
-fn feed(
+fn feed<S: Alter>(
     alloc: Global,
-    store: &mut Store<MemStore>,
+    store: &mut Store<S>,
     limit: usize,
     pieces: (&[u8], &[u8]),
 ) -> Result<(Vec<u8>, String), Fail> {
