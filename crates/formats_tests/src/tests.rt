@@ -11,4 +11,5 @@ mod memory;
 mod messages;
 mod packets;
 mod rows;
+mod same;
 mod transactions;

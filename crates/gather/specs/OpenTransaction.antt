@@ -1,4 +1,4 @@
--- What is kept of a transaction that has current.
+-- What is kept of an open transaction: one that has begun, and has not ended.
 use Rattle.std.specs.Prelude.{◌≡◌, ℕ, List, [], ◌++◌, map, Option}
 use Rattle.std.specs.Option.{option_map}
 use Rattle.std.specs.Ordering.{nat_cmp}

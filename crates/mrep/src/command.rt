@@ -19,6 +19,7 @@ use clap::error::ErrorKind;
 use clap::{ArgMatches, Command};
 use std::alloc::{AllocError, Global};
 use std::convert::AsStr;
+use std::io;
 use std::io::Write;
 
 /// The argument with this name. Arguments with these names are required.
@@ -140,21 +141,31 @@ fn run_named<'a, W: Write, E: Write>(
     run_reading(rt, name, given, out)
 }
 
-/// The error that words give, with their control characters escaped in its text: that of a second parse, of words that
-/// are escaped. `raw` is that of the first one.
+/// Words with their control characters escaped.
+fn texts_of<S: AsStr>(alloc: Global, words: &[S]) -> Result<Vec<String>, AllocError> {
+    let mut texts = Vec::with_capacity(alloc, words.len())?;
+    for word in words {
+        texts.push(format!(in alloc; "{}", Shown(word.as_str()))?)?;
+    }
+    Ok(texts)
+}
+
+/// The error of a second parse, of words that are escaped, if it has one.
+fn second_error<S: AsStr>(alloc: Global, words: &[S]) -> Result<Option<clap::Error>, AllocError> {
+    let texts = texts_of(alloc, words)?;
+    let mut command = grammar(alloc)?;
+    Ok(command.try_get_matches_from_mut(texts.as_slice()).err())
+}
+
+/// The error that words give, with their control characters escaped in its text. `raw` is that of the first parse.
 fn escaped<S: AsStr>(
     alloc: Global,
     words: &[S],
     raw: clap::Error,
 ) -> Result<clap::Error, AllocError> {
-    let mut texts = Vec::with_capacity(alloc, words.len())?;
-    for word in words {
-        texts.push(format!(in alloc; "{}", Shown(word.as_str()))?)?;
-    }
-    let mut command = grammar(alloc)?;
-    match command.try_get_matches_from_mut(texts.as_slice()) {
-        Ok(_) => Ok(raw),
-        Err(error) => Ok(error),
+    match second_error(alloc, words)? {
+        Some(error) => Ok(error),
+        None => Ok(raw),
     }
 }
 
@@ -211,9 +222,14 @@ fn answer<'a, S: AsStr, O: Write>(
     if error.use_stderr() {
         return Err(Failure::Words(escaped(alloc, words, error)?));
     }
-    write!(out, "{error}")?;
-    out.flush()?;
+    print(&error, out)?;
     Ok(DONE)
+}
+
+/// Prints help or the version, and flushes it.
+fn print<O: Write>(text: &clap::Error, out: &mut O) -> io::Result<()> {
+    write!(out, "{text}")?;
+    out.flush()
 }
 
 /// Flushes the output of a command that ends with this status. If that fails, a command with status 0 fails, and any

@@ -46,20 +46,6 @@ const NO_FILE: &str = "not the name of a file to SQLite: put ./ before it";
 const NOT_USABLE: &str =
     "unable to open database file: it has several names or is no file, sqlite3 has left a journal, or its log or folder cannot be written";
 
-/// Opens the store in a file, which is made if it does not exist. With a list of tables, the database is made for them
-/// or must have been; without one, its own list holds.
-fn open<'a>(
-    rt: &HostRuntime,
-    name: &'a str,
-    only: Option<&Follow>,
-) -> Result<Store<FileOf>, Failure<'a>> {
-    let log = missing_log(rt, name)?;
-    match open_file(rt, name, Unknown, only) {
-        Ok(store) => Ok(store),
-        Err(unopened) => Err(refusal(rt, name, leave(rt, log, unopened))),
-    }
-}
-
 /// What a command does with the store in a database file.
 pub trait Work {
     /// What comes of it.
@@ -74,19 +60,61 @@ pub trait Work {
     ) -> Result<Self::Done, Failure<'a>>;
 }
 
-/// Opens the database in a file as [`open`] does with its own list of tables, does some work with its store, and closes it.
-/// A function that hands a store in a file on to a generic one takes long to prove, so there is this one alone.
+/// Opens the database in a file, which is made if it does not exist, with its own list of tables, does some work with its
+/// store, and closes it.
 pub fn work_on<'a, K: Work + Drop>(
     rt: &HostRuntime,
     name: &'a str,
     work: K,
 ) -> Result<K::Done, Failure<'a>> {
-    let mut store = open(rt, name, None)?;
-    let done = work.run(rt.alloc(), name, &mut store);
-    close_after(name, store, done)
+    let log = missing_log(rt, name)?;
+    work_in(rt, name, log, name, work)
 }
 
-/// Reads captured connections into the database in a file, which is opened as by [`open`] and closed at the end.
+/// Opens and closes a copy of a database in a file, which copies its log back into it. A failure names the database.
+pub fn test<'a>(rt: &HostRuntime, copy: &str, name: &'a str) -> Result<(), Failure<'a>> {
+    work_in(rt, copy, None, name, Nothing)
+}
+
+/// No work.
+#[derive(Drop)]
+struct Nothing;
+
+impl Work for Nothing {
+    type Done = ();
+
+    fn run<'a, S: Alter>(
+        self,
+        _alloc: Global,
+        _name: &'a str,
+        _store: &mut Store<S>,
+    ) -> Result<(), Failure<'a>> {
+        Ok(())
+    }
+}
+
+/// Opens the database at a path, whose log is the one given if that was missing before, does some work with its store, and
+/// closes it. A failure has the name. A function that hands a store in a file on to a generic one takes long to prove, so
+/// there is this one alone.
+fn work_in<'a, K: Work + Drop>(
+    rt: &HostRuntime,
+    path: &str,
+    log: Option<String>,
+    name: &'a str,
+    work: K,
+) -> Result<K::Done, Failure<'a>> {
+    match open_file(rt, path, Unknown, None) {
+        Ok(store) => {
+            let mut store = store;
+            let done = work.run(rt.alloc(), name, &mut store);
+            close_after(name, store, done)
+        }
+        Err(unopened) => Err(refusal(rt, name, leave(rt, log, unopened))),
+    }
+}
+
+/// Reads captured connections into the database in a file, which is made if it does not exist, and closed at the end. With a
+/// list of tables, the database is made for them or must have been; without one, its own list holds.
 pub fn replay_into<'a, R: Read + Drop, W: Observer>(
     rt: &HostRuntime,
     name: &'a str,
@@ -102,8 +130,8 @@ pub fn replay_into<'a, R: Read + Drop, W: Observer>(
     }
 }
 
-/// Follows a source into the database in a file, which is opened as by [`open`] before `connect` is called, and closed at
-/// the end.
+/// Follows a source into the database in a file, which is opened as by [`replay_into`] before `connect` is called, and closed
+/// at the end.
 pub fn follow_into<'a, T: Duplex + Drop, F: FnOnce() -> io::Result<T> + Drop, W: Observer>(
     rt: &HostRuntime,
     name: &'a str,
@@ -118,14 +146,6 @@ pub fn follow_into<'a, T: Duplex + Drop, F: FnOnce() -> io::Result<T> + Drop, W:
     match follow_file(rt, name, Unknown, only, config, connect, observer) {
         Ok(done) => Ok(done),
         Err(unopened) => Err(refusal(rt, name, leave(rt, log, unopened))),
-    }
-}
-
-/// Opens and closes a copy of a database in a file, which copies its log back into it. A failure names the database.
-pub fn test<'a>(rt: &HostRuntime, copy: &str, name: &'a str) -> Result<(), Failure<'a>> {
-    match open_file(rt, copy, Unknown, None) {
-        Ok(store) => close(name, store),
-        Err(unopened) => Err(refusal(rt, name, leave(rt, None, unopened))),
     }
 }
 
@@ -307,15 +327,10 @@ fn close_after<'a, T: Drop>(
 ) -> Result<T, Failure<'a>>
     ensures { IfOk result (λ value. done.entry ≡ Ok value) }
 {
-    let closed = close(name, store);
+    let closed = closed(name, close_file(store));
     let value = done?;
     closed?;
     Ok(value)
-}
-
-/// Closes the file.
-pub fn close<'a>(name: &'a str, store: Store<FileOf>) -> Result<(), Failure<'a>> {
-    closed(name, close_file(store))
 }
 
 /// Whether the files were closed.

@@ -45,25 +45,37 @@ fn read(bytes: &[u8]) -> Result<(Header, Event<'_>), EventFault> {
     Ok((header, event))
 }
 
-/// Writes the kind of an event.
-fn write_kind<W: Write>(event: &Event<'_>, out: &mut W) -> io::Result<()> {
+/// The name of an event's kind.
+fn kind(event: &Event<'_>) -> &'static str {
     match event {
-        Event::Format => write!(out, "Format"),
-        Event::Begin => write!(out, "Begin"),
-        Event::Commit => write!(out, "Commit"),
-        Event::Neutral => write!(out, "Neutral"),
-        Event::Stop => write!(out, "Stop"),
-        Event::Rotate { .. } => write!(out, "Rotate"),
-        Event::Gtid(gtid) => write!(out, "Gtid {gtid}"),
+        Event::Format => "Format",
+        Event::Begin => "Begin",
+        Event::Commit => "Commit",
+        Event::Neutral => "Neutral",
+        Event::Stop => "Stop",
+        Event::Rotate { .. } => "Rotate",
+        Event::Gtid(_) => "Gtid",
+        Event::TableMap(_) => "TableMap",
+        Event::OtherMap { .. } => "OtherMap",
+        Event::Rows(_) => "Rows",
+        Event::Xid { .. } => "Xid",
+    }
+}
+
+/// Writes the kind of an event, and what it is about.
+fn write_kind<W: Write>(event: &Event<'_>, out: &mut W) -> io::Result<()> {
+    out.write_all(kind(event).as_bytes())?;
+    match event {
+        Event::Gtid(gtid) => write!(out, " {gtid}"),
         Event::TableMap(map) => write_map(map, out),
-        Event::OtherMap { id } => write!(out, "OtherMap {id}"),
+        Event::OtherMap { id } => write!(out, " {id}"),
         Event::Rows(rows) => write_rows(rows, out),
-        Event::Xid { .. } => write!(out, "Xid"),
+        _ => Ok(()),
     }
 }
 
 fn write_map<W: Write>(map: &TableMap<'_>, out: &mut W) -> io::Result<()> {
-    write!(out, "TableMap {} ", map.id)?;
+    write!(out, " {} ", map.id)?;
     write_table(map.schema, map.table, out)?;
     write!(out, " {}", map.types.len())
 }
@@ -74,5 +86,5 @@ fn write_rows<W: Write>(rows: &RowsEvent<'_>, out: &mut W) -> io::Result<()> {
         RowsKind::Update => "update",
         RowsKind::Delete => "delete",
     };
-    write!(out, "Rows {} {kind}", rows.id)
+    write!(out, " {} {kind}", rows.id)
 }

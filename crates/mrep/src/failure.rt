@@ -10,6 +10,7 @@ use clap::error::ErrorKind;
 use gtid::GtidFault;
 use replica::ConfigFault;
 use std::alloc::{AllocError, AllocFailed};
+use std::fmt::Display;
 use std::io;
 use std::io::Write;
 use store::StoreFault;
@@ -24,6 +25,14 @@ pub const USAGE: u8 = 2;
 pub const FILES: u8 = 3;
 /// Out of memory.
 pub const MEMORY: u8 = 4;
+
+const NO_GTID: &str =
+    "not a GTID: expected a hyphenated UUID, `:` and a number from 1 to 9223372036854775806";
+
+const NO_TABLE: &str =
+    "not a table: expected SCHEMA.TABLE, with `%` only before two hexadecimal digits";
+
+const NO_BYTES: &[u8] = b"mrep: --bytes needs --format csv or json, or --changes\n";
 
 /// Why a command failed.
 #[derive(Drop)]
@@ -113,16 +122,9 @@ impl Failure<'_> {
     pub fn write<E: Write>(&self, err: &mut E) -> io::Result<()> {
         match self {
             Failure::Words(error) => write!(err, "{error}"),
-            Failure::Set { word, cause } => writeln!(err, "mrep: {word}: {cause}"),
-            Failure::Gtid { word } => writeln!(
-                err,
-                "mrep: {word}: not a GTID: expected a hyphenated UUID, `:` and a number from 1 to 9223372036854775806"
-            ),
-            Failure::Table { word } => writeln!(
-                err,
-                "mrep: {}: not a table: expected SCHEMA.TABLE, with `%` only before two hexadecimal digits",
-                Shown(word)
-            ),
+            Failure::Set { word, cause } => write_cause(word, cause, err),
+            Failure::Gtid { word } => write_cause(word, &NO_GTID, err),
+            Failure::Table { word } => write_cause(word, &NO_TABLE, err),
             Failure::Number { word, largest } => {
                 writeln!(
                     err,
@@ -130,25 +132,27 @@ impl Failure<'_> {
                     Shown(word)
                 )
             }
-            Failure::Bytes => writeln!(
-                err,
-                "mrep: --bytes needs --format csv or json, or --changes"
-            ),
-            Failure::User { word, cause } => writeln!(err, "mrep: {}: {cause}", Shown(word)),
+            Failure::Bytes => err.write_all(NO_BYTES),
+            Failure::User { word, cause } => write_cause(word, cause, err),
             Failure::File { name, cause } | Failure::Host { name, cause } => {
-                writeln!(err, "mrep: {}: {cause}", Shown(name))
+                write_cause(name, cause, err)
             }
-            Failure::Database { name, cause } => writeln!(err, "mrep: {}: {cause}", Shown(name)),
+            Failure::Database { name, cause } => write_cause(name, cause, err),
             Failure::Damaged { name, damage } => {
                 let fault = StoreFault::Damaged;
                 writeln!(err, "mrep: {}: {fault}: {damage}", Shown(name))
             }
-            Failure::Unusable { name, why } => writeln!(err, "mrep: {}: {why}", Shown(name)),
+            Failure::Unusable { name, why } => write_cause(name, why, err),
             Failure::Output(cause) if cause.kind() == io::ErrorKind::BrokenPipe => Ok(()),
-            Failure::Output(cause) => writeln!(err, "mrep: output: {cause}"),
-            Failure::Memory => writeln!(err, "mrep: out of memory"),
+            Failure::Output(cause) => write_cause("output", cause, err),
+            Failure::Memory => err.write_all(b"mrep: out of memory\n"),
         }
     }
+}
+
+/// Writes the message of a cause, after the name of what it is the cause of.
+pub fn write_cause<C: Display, E: Write>(name: &str, cause: &C, err: &mut E) -> io::Result<()> {
+    writeln!(err, "mrep: {}: {cause}", Shown(name))
 }
 
 impl From<clap::Error> for Failure<'_> {

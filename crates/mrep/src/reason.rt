@@ -3,6 +3,7 @@
 ghost use Rattle.std.specs.Prelude.{◌≡◌, ◌≤◌};
 ghost use Rattle.mrep.specs.Reason.{status_of, first_status};
 
+use crate::failure;
 use crate::failure::{DONE, FILES, MEMORY, REFUSED};
 use crate::hex::digits_of;
 use crate::name::Shown;
@@ -117,27 +118,27 @@ pub fn write_cause<W: Write>(
     reason: &Reason,
     out: &mut W,
 ) -> io::Result<()> {
-    let (stream, file) = (Shown(stream), Shown(file));
     match reason {
-        Reason::SourceError { message, .. } => write_message(stream, message, out),
-        Reason::Wire(fault) => writeln!(out, "mrep: {stream}: {fault}"),
-        Reason::Greet(fault) => writeln!(out, "mrep: {stream}: {fault}"),
-        Reason::Event(fault) => writeln!(out, "mrep: {stream}: {fault}"),
-        Reason::Gather(fault) => writeln!(out, "mrep: {stream}: {fault}"),
-        Reason::Refused(Refusal::NoSuchRow(at)) => {
-            writeln!(out, "mrep: {stream}: change {at}: the row is not there")
-        }
-        Reason::Refused(Refusal::CountFull(at)) => {
-            writeln!(
-                out,
-                "mrep: {stream}: change {at}: the count of the row is at its maximum"
-            )
-        }
-        Reason::Database(fault) => writeln!(out, "mrep: {file}: {fault}"),
-        Reason::Memory => writeln!(out, "mrep: {stream}: out of memory"),
-        Reason::Halted => writeln!(out, "mrep: {stream}: stopped before a transaction"),
+        Reason::SourceError { message, .. } => write_message(Shown(stream), message, out),
+        Reason::Wire(fault) => failure::write_cause(stream, fault, out),
+        Reason::Greet(fault) => failure::write_cause(stream, fault, out),
+        Reason::Event(fault) => failure::write_cause(stream, fault, out),
+        Reason::Gather(fault) => failure::write_cause(stream, fault, out),
+        Reason::Refused(refusal) => write_refusal(Shown(stream), *refusal, out),
+        Reason::Database(fault) => failure::write_cause(file, fault, out),
+        Reason::Memory => failure::write_cause(stream, &"out of memory", out),
+        Reason::Halted => failure::write_cause(stream, &"stopped before a transaction", out),
         Reason::EndOfInput | Reason::SourceEof | Reason::ReadFailed | Reason::WriteFailed => Ok(()),
     }
+}
+
+/// Writes which change is refused, and why.
+fn write_refusal<W: Write>(stream: Shown<'_>, refusal: Refusal, out: &mut W) -> io::Result<()> {
+    let (at, why) = match refusal {
+        Refusal::NoSuchRow(at) => (at, "the row is not there"),
+        Refusal::CountFull(at) => (at, "the count of the row is at its maximum"),
+    };
+    writeln!(out, "mrep: {stream}: change {at}: {why}")
 }
 
 /// Writes the message of a source.

@@ -7,6 +7,7 @@ use crate::failure::{DONE, Failure, REFUSED};
 use crate::listing::{Entry, Listing};
 use crate::reason::wire_reason;
 use replica::read_some;
+use std::alloc::Global;
 use std::io::{Read, Write};
 use std::rt::Files;
 use std::{fs, io};
@@ -35,10 +36,24 @@ pub fn list<'a, R: Files + AllocGlobal, W: Write>(
     ensures { IfOk result (λ status. status ≤ REFUSED) }
 {
     let mut file = fs::open(rt, name).map_err(|cause| Failure::File { name, cause })?;
-    let mut listing = Listing::new(rt.alloc());
     let mut piece = vec![in rt.alloc(); 0; PIECE]?;
+    list_all(rt.alloc(), &mut file, name, lines, &mut piece, out)
+}
+
+/// Lists the payloads of a file that is open, which is read to its end or up to a fault.
+fn list_all<'a, F: Read, W: Write>(
+    alloc: Global,
+    file: &mut F,
+    name: &'a str,
+    lines: Lines,
+    piece: &mut [u8],
+    out: &mut W,
+) -> Result<u8, Failure<'a>>
+    ensures { IfOk result (λ status. status ≤ REFUSED) }
+{
+    let mut listing = Listing::new(alloc);
     for _ in 0..u64::MAX {
-        let count = match read_some(&mut file, &mut piece) {
+        let count = match read_some(file, piece) {
             Ok(0) => break,
             Ok(count) => count,
             Err(cause) => return Err(Failure::File { name, cause }),
@@ -47,7 +62,13 @@ pub fn list<'a, R: Files + AllocGlobal, W: Write>(
             return Ok(REFUSED);
         }
     }
-    let rest = listing.rest();
+    write_rest(listing.rest(), out)
+}
+
+/// Writes how many bytes of the last payload have come, and returns the status.
+fn write_rest<'a, W: Write>(rest: u64, out: &mut W) -> Result<u8, Failure<'a>>
+    ensures { IfOk result (λ status. status ≤ REFUSED) }
+{
     writeln!(out, "rest {rest}")?;
     Ok(if rest == 0 { DONE } else { REFUSED })
 }

@@ -68,8 +68,8 @@ fn read_capture<R: Read + Drop, S: Alter, W: Observer>(
     }
 }
 
-/// Reads captured connections in order, and reports each as soon as it has ended. `ends` has the ends of those that were
-/// reported.
+/// Reads captured connections in order into a store that was opened for them, which is reported first, and then each as soon
+/// as it has ended. `ends` has the ends of those that were reported.
 pub(crate) fn read_captures<R: Read + Drop, S: Alter, W: Observer>(
     config: &Config,
     store: &mut Store<S>,
@@ -91,6 +91,7 @@ pub(crate) fn read_captures<R: Read + Drop, S: Alter, W: Observer>(
     ensures broken { IsBroken S.Store store.old → store.new ≡ store.old }
     ensures clean { HasCleanDisk (database S.Store store.new) → HasCleanDisk (database S.Store store.old) }
 {
+    observer.opened(store.executed());
     for capture in captures {
         let end = match read_capture(config, store, capture, piece, observer) {
             Ok(end) => end,

@@ -11,12 +11,19 @@ ghost use Rattle.sqlite.specs.Files.{file_state, IsOpened};
 use sqlite::{Connection, Error, ErrorCode, FileFrom, FileStore, Files, Leftover, Start};
 use sqlite_pager::Options;
 use sqlite_std_file::OpenError;
+use std::fs;
 use std::hash::{BuildHasher, RandomState};
 use std::io::ErrorKind;
 
-/// How many pages that were read are kept in memory: 16 MiB. With 2,000, the crate's own number, an opening reads more of
-/// them again.
-const CACHE_PAGES: usize = 4_000;
+/// The least number of pages that were read and are kept in memory, 4 MiB, and the greatest, 16 MiB. They are allocated when a
+/// database is opened, so a small one is opened in less time and memory with fewer; with 2,000, the crate's own number, an
+/// opening of a large one reads more of them again.
+const LEAST_PAGES: u64 = 1_000;
+
+const MOST_PAGES: u64 = 4_000;
+
+/// The size of a page of a new database, in bytes.
+const PAGE: u64 = 4_096;
 
 /// How many pages that a transaction has written are kept in memory before they go to the log: 47 MiB. A page that is
 /// written again after that goes to the log again, so with fewer pages the log of a large transaction grows faster.
@@ -45,13 +52,22 @@ fn open_pair<P: Start>(rt: &HostRuntime, path: &str, start: P) -> Result<Files<F
     }
 }
 
-/// The options of a connection. The log's salts begin with a random number.
-fn options(rt: &HostRuntime) -> Result<Options, Error> {
+/// How many pages of a database file are kept in memory: as many as it has, within the limits.
+fn cache_pages(rt: &HostRuntime, path: &str) -> usize {
+    let size = match fs::metadata(rt, path) {
+        Ok(metadata) => metadata.len(),
+        Err(_) => 0,
+    };
+    (size / PAGE).max(LEAST_PAGES).min(MOST_PAGES) as usize
+}
+
+/// The options of a connection to a file. The log's salts begin with a random number.
+fn options(rt: &HostRuntime, path: &str) -> Result<Options, Error> {
     let Ok(state) = RandomState::new(rt) else {
         return Err(CANNOT_OPEN);
     };
     let mut options = Options::new(state.hash_one(&0u8));
-    options.cache_pages = CACHE_PAGES;
+    options.cache_pages = cache_pages(rt, path);
     options.spill_pages = SPILL_PAGES;
     Ok(options)
 }
@@ -71,7 +87,7 @@ pub(crate) fn open_files<P: Start>(
         Ok(files) => files,
         Err(error) => return Err((error, None)),
     };
-    let options = match options(rt) {
+    let options = match options(rt, path) {
         Ok(options) => options,
         Err(error) => return Err((error, None)),
     };

@@ -31,7 +31,8 @@ pub struct FollowedFile<T, E, D: Disk> {
     pub closed: Result<Files<D>, (Error, FileStore<D>)>,
 }
 
-/// Connects, and follows the source over the stream until the connection ends. Without a stream the store stays as it is.
+/// Reports the store as opened, connects, and follows the source over the stream until the connection ends. Without a stream
+/// the store stays as it is.
 fn connect_and_follow<
     T: Duplex + Drop,
     E: Drop,
@@ -54,6 +55,7 @@ fn connect_and_follow<
     ensures broken { IsBroken S.Store store.old → store.new ≡ store.old }
     ensures clean { HasCleanDisk (database S.Store store.new) → HasCleanDisk (database S.Store store.old) }
 {
+    observer.opened(store.executed());
     match connect() {
         Ok(stream) => {
             observer.connected();
@@ -100,7 +102,6 @@ pub fn follow_file<
         → IsRefused (only_of only.entry) names content e) }
 {
     let mut store = open_file(rt, path, start, only)?;
-    observer.opened(store.executed());
     let connection = connect_and_follow(rt.alloc(), &mut store, config, connect, observer);
     let closed = close_file(store);
     Ok(FollowedFile { connection, closed })

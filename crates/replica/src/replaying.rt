@@ -66,7 +66,6 @@ pub fn replay<P: Start, R: Read + Drop, W: Observer>(
         return Err(Unopened::Memory);
     };
     let mut store = open_file(rt, path, start, only)?;
-    observer.opened(store.executed());
     let read = read_captures(
         config, &mut store, captures, &mut piece, &mut ends, observer,
     );

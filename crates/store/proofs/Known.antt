@@ -18,10 +18,10 @@ use Rattle.sqlite_value.specs.Order.{Row}
 use Rattle.store.specs.declared.tables.Meta.{Meta}
 use Rattle.store.specs.Judge.{IsMeta, IsOnly, layouts}
 use Rattle.store.specs.Rows.{SaysLayout, first_meta_rows, meta_rows, IsMetaRow}
-use Rattle.store.specs.Load.{StatesLayout}
+use Rattle.store.specs.Load.{StatesLayout, HasLayout}
 use Rattle.store.specs.Beside.{LiesBeside}
 use Rattle.store.specs.Open.{MayStandFor}
-use Rattle.store.specs.Entering.{IsReady, IsKnown, HasLayout, IsDamaged, lacks_first, lacks_second, breaks_first, breaks_second, blank, first, second, lacking, IsOf, IsWhy, IsEntered, IsTurned, MayEnter, tables_of, has_any, has_first, has_second}
+use Rattle.store.specs.Entering.{IsReady, IsKnown, IsDamaged, lacks_first, lacks_second, breaks_first, breaks_second, blank, first, second, lacking, IsOf, IsWhy, IsEntered, IsTurned, MayEnter, tables_of, has_any, has_first, has_second}
 use Rattle.store.proofs.Lives.{narrowed}
 use Rattle.store.proofs.Entered.{rests_after, weaken}
 

@@ -10,11 +10,8 @@ use Rattle.binlog.specs.Filter.{Names}
 use Rattle.store.specs.declared.fault.StoreFault.{StoreFault}
 use Rattle.store.specs.declared.fault.StoreFault.TheVariants.{Database as Db, Memory, Damaged, Layout, Follows}
 use Rattle.store.specs.declared.tables.Tables.{Tables}
-use Rattle.store.specs.declared.tables.KnownLayout.{KnownLayout}
-use Rattle.store.specs.declared.tables.KnownLayout.TheVariants.{First, Second}
 use Rattle.store.specs.State.{Content}
 use Rattle.store.specs.Layout.{IsVacant, IsFirstLaidOut, HasMeta, IsLaidOut}
-use Rattle.store.specs.Load.{StatesLayout}
 use Rattle.store.specs.Beside.{LiesBeside}
 use Rattle.store.specs.Rows.{StandsFor, StandsForFirst, SaysLayout, KeepsRules, KeepsFirstRules, HasRowids, first_meta_rows, span_rows}
 use Rattle.store.specs.Apply.{IsAtRest, Rests}
@@ -51,11 +48,6 @@ pub data IsKnown (db : Database) : Type 0 where
   first : IsFirstLaidOut db.schema → IsKnown db
   second : IsLaidOut db.schema → ((tables_of db.schema).executed ≡ true → ¬ SaysLayout (pos 1) (first_meta_rows db)) → IsKnown db
   lacking : HasMeta db.schema → (SaysLayout (pos 1) (first_meta_rows db) → has_first (tables_of db.schema) ≡ false) → (SaysLayout (pos 2) (first_meta_rows db) → has_second (tables_of db.schema) ≡ false) → IsKnown db
-
--- `meta` states this layout, and its tables are there.
-abbrev pub HasLayout : Database → KnownLayout → Type 0
-HasLayout db First = IsFirstLaidOut db.schema × StatesLayout (pos 1) (first_meta_rows db)
-HasLayout db Second = IsLaidOut db.schema × StatesLayout (pos 2) (first_meta_rows db)
 
 -- The connection is open and in no transaction that has changed anything, and its tables are known.
 pub record IsReady (s : State) : Type 0 where

@@ -12,6 +12,7 @@ use Rattle.sqlite_schema.specs.declared.schema.Table.{Table}
 use Rattle.sqlite_schema.specs.declared.schema.Column.{Column}
 use Rattle.sqlite_schema.specs.declared.command.Command.TheVariants.{Select}
 use Rattle.sqlite_rules.specs.Lists.{Has}
+use Rattle.sqlite.specs.Effect.{Database as Stored}
 use Rattle.sqlite.specs.State.{State, KeepsCommit, IsUnchanged}
 use Rattle.sqlite.specs.Held.{Held, state}
 use Rattle.sqlite_trees.specs.declared.store.Store.{Ghosts}
@@ -25,7 +26,10 @@ use Rattle.store.specs.declared.fault.StoreFault.TheVariants.{Database, Memory, 
 use Rattle.store.specs.declared.verdict.Verdict.{Verdict}
 use Rattle.store.specs.Judge.{HasVerdict}
 use Rattle.store.specs.State.{Content}
-use Rattle.store.specs.Rows.{SaysLayout, IsMetaRow, HasRowids}
+use Rattle.store.specs.declared.tables.KnownLayout.{KnownLayout}
+use Rattle.store.specs.declared.tables.KnownLayout.TheVariants.{First, Second}
+use Rattle.store.specs.Layout.{IsFirstLaidOut, IsLaidOut}
+use Rattle.store.specs.Rows.{SaysLayout, IsMetaRow, HasRowids, first_meta_rows}
 use Rattle.std.specs.List.{AllByRecursion}
 use Rattle.store.specs.Apply.{IsAtRest, Rests}
 use Rattle.store.specs.Open.{IsFirstAtRest}
@@ -103,6 +107,11 @@ pub record StatesLayout (n : ℤ) (rows : List Row) : Type 0 where
   pub says : SaysLayout n rows
   pub lawful : AllByRecursion IsMetaRow rows
   pub apart : HasRowids rows
+
+-- `meta` states this layout, and its tables are there.
+abbrev pub HasLayout : Stored → KnownLayout → Type 0
+HasLayout db First = IsFirstLaidOut db.schema × StatesLayout (pos 1) (first_meta_rows db)
+HasLayout db Second = IsLaidOut db.schema × StatesLayout (pos 2) (first_meta_rows db)
 
 -- ---- A call that reads.
 

@@ -8,14 +8,14 @@ ghost use Rattle.store.specs.Layout.{IsVacant, IsFirstLaidOut, IsLaidOut};
 ghost use Rattle.sqlite.specs.Effect.{Database as Stored};
 ghost use Rattle.store.specs.Judge.{IsMeta};
 ghost use Rattle.store.specs.Rows.{first_meta_rows};
-ghost use Rattle.store.specs.Load.{StatesLayout};
+ghost use Rattle.store.specs.Load.{StatesLayout, HasLayout};
 ghost use Rattle.store.specs.Beside.{LiesBeside};
 ghost use Rattle.store.specs.Open.{all};
 ghost use Rattle.store.specs.Store.{Holds, Opens, database, names_of};
 ghost use Rattle.binlog.specs.Filter.{Names};
 ghost use Rattle.store.specs.State.{Content};
 ghost use Rattle.store.specs.Faults.{IsOpenFault, IsFailure};
-ghost use Rattle.store.specs.Entering.{IsReady, IsKnown, HasLayout, IsWhy, IsLeft, ReadsLeft, IsEntered, IsTurned, IsWanted, MayEnter, tables_of, has_any, has_first, has_second};
+ghost use Rattle.store.specs.Entering.{IsReady, IsKnown, IsWhy, IsLeft, ReadsLeft, IsEntered, IsTurned, IsWanted, MayEnter, tables_of, has_any, has_first, has_second};
 
 use crate::fault::StoreFault;
 use crate::load::{Loaded, load, load_first, read_meta};

@@ -5,7 +5,7 @@ ghost use Rattle.std.specs.Prelude.{◌≡◌, false};
 use binlog::{Cell, Follow, TableDef};
 use gather::{Change, Delivery, Image};
 use gtid::{Gtid, GtidSet};
-use sqlite::{Alter, Connection, MemStore};
+use sqlite::{Alter, Connection, Row};
 use std::alloc::Global;
 use std::rc::Rc;
 use std::test::Fail;
@@ -175,7 +175,7 @@ pub(super) fn attempt<S: Alter + Drop>(
     }
 }
 
-/// Opens a database in memory.
+/// Opens a database.
 pub(super) fn open<S: Alter + Drop>(alloc: Global, conn: Connection<S>) -> Result<Store<S>, Fail> {
     match attempt(alloc, conn, None)? {
         Ok(store) => Ok(store),
@@ -183,7 +183,47 @@ pub(super) fn open<S: Alter + Drop>(alloc: Global, conn: Connection<S>) -> Resul
     }
 }
 
-/// A store over a new database in memory.
-pub(super) fn fresh(alloc: Global) -> Result<Store<MemStore>, Fail> {
-    open(alloc, Connection::open_in_memory(alloc)?)
+/// What a test does with a database.
+pub(super) trait Work {
+    /// What comes of it.
+    type Done: Drop;
+
+    /// Does it over a connection to a new database.
+    fn run<S: Alter + Drop>(self, alloc: Global, conn: Connection<S>) -> Result<Self::Done, Fail>;
+}
+
+/// Does some work over a database in memory. A function that hands a connection of a known type to a generic one takes
+/// long to prove, so there is this one alone.
+pub(super) fn in_memory<K: Work + Drop>(alloc: Global, work: K) -> Result<K::Done, Fail> {
+    work.run(alloc, Connection::open_in_memory(alloc)?)
+}
+
+/// Appends the numbers of a row, each after a space.
+fn push_row(alloc: Global, row: &Row, text: &mut String) -> Result<(), Fail> {
+    for at in 0..row.column_count() {
+        let number: i64 = row.get(at)?;
+        text.push_str(&format!(in alloc; " {number}")?)?;
+    }
+    Ok(())
+}
+
+/// The numbers of rows, each after a space.
+fn text_of(alloc: Global, rows: &[Row]) -> Result<String, Fail> {
+    let mut text = String::new(alloc);
+    for row in rows {
+        push_row(alloc, row, &mut text)?;
+    }
+    Ok(text)
+}
+
+/// The numbers that a query gives, each after a space, or `none` if its table is not there.
+pub(super) fn numbers<S: Alter>(
+    alloc: Global,
+    conn: &mut Connection<S>,
+    sql: &str,
+) -> Result<String, Fail> {
+    match conn.query_all(sql, &[]) {
+        Ok(rows) => text_of(alloc, &rows),
+        Err(_) => Ok(String::from_str(alloc, "none")?),
+    }
 }

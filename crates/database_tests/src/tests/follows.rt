@@ -1,11 +1,12 @@
 //! Sources followed over a stream in memory.
 
-use super::fixtures::{fresh, held};
-use super::sessions::{config, name};
+use super::fixtures::{Work, held, in_memory, open};
+use super::same::same;
+use super::sessions::{config, line};
 use super::stream::Stream;
 use super::streams::{ONE_TRANSACTION, SENT, cut, joined};
-use replica::{Counted, follow};
-use sqlite::Alter;
+use replica::{Counted, Ended, follow};
+use sqlite::{Alter, Connection};
 use std::alloc::Global;
 use std::io::ErrorKind;
 use std::test::Fail;
@@ -40,82 +41,88 @@ const BY_PACKETS: Given = Given {
     ..AT_ONCE
 };
 
-/// The outcome of following: the reason, the bytes of the payloads taken, how many transactions were applied, the bytes
-/// sent, the bytes left, how many reads and writes failed, and the cause of the last failure.
-type Outcome = (
-    &'static str,
-    u64,
-    u64,
-    usize,
-    usize,
-    u64,
-    u64,
-    Option<ErrorKind>,
-);
+/// A stream that is followed with a password.
+#[derive(Drop)]
+struct Followed<'a> {
+    password: &'a [u8],
+    bytes: &'a [u8],
+    given: Given,
+}
+
+/// The text of an outcome: how the connection ended, how many bytes were sent and are left, how many reads and writes
+/// failed, why the last of these did, and what the store holds.
+fn outcome<S: Alter>(
+    alloc: Global,
+    store: &mut Store<S>,
+    end: &Ended,
+    stream: &Stream<'_>,
+    failed: (u64, u64),
+    why: Option<ErrorKind>,
+) -> Result<String, Fail> {
+    let end = line(alloc, end)?;
+    let held = held(alloc, store)?;
+    let (sent, left) = (stream.written().len(), stream.left().len());
+    Ok(format!(in alloc; "{end}, {sent} sent, {left} left, {failed:?} failed {why:?}, {held}")?)
+}
 
 /// Follows a stream into a store, and returns the outcome and what was sent.
 fn follow_into<S: Alter>(
     alloc: Global,
     store: &mut Store<S>,
-    password: &[u8],
-    bytes: &[u8],
-    given: Given,
-) -> Result<(Outcome, Vec<u8>), Fail> {
-    let config = config(alloc, password, LARGEST_PAYLOAD)?;
-    let stream = Stream::new(bytes, Vec::new(alloc), given.gives, given.takes)
+    work: &Followed<'_>,
+) -> Result<(String, Vec<u8>), Fail> {
+    let given = work.given;
+    let config = config(alloc, work.password, LARGEST_PAYLOAD)?;
+    let stream = Stream::new(work.bytes, Vec::new(alloc), given.gives, given.takes)
         .fail_to_read_after(given.readable)
         .fail_to_write_after(given.writable);
     let mut counted = Counted::new(stream);
     let end = follow(alloc, &mut counted, store, config);
-    let (reads, writes) = (counted.failed_reads(), counted.failed_writes());
-    let failure = counted.failure();
+    let failed = (counted.failed_reads(), counted.failed_writes());
+    let why = counted.failure();
     let stream = counted.into_inner();
-    if stream.failures() != Some((reads, writes)) {
+    if stream.failures() != Some(failed) {
         return Err("other failures than the stream's own".into());
     }
-    let left = stream.left().len();
-    let sent = stream.into_written();
-    let name = name(&end.reason);
-    let count = sent.len();
-    let outcome = (
-        name,
-        end.at,
-        end.applied,
-        count,
-        left,
-        reads,
-        writes,
-        failure,
-    );
-    Ok((outcome, sent))
+    let text = outcome(alloc, store, &end, &stream, failed, why)?;
+    Ok((text, stream.into_written()))
 }
 
-/// Follows a stream into a store, which then holds the transactions that were applied. What was sent is a prefix of
-/// what is due.
-fn check<S: Alter>(
-    alloc: Global,
-    store: &mut Store<S>,
-    bytes: &[u8],
-    given: Given,
-) -> Result<Outcome, Fail> {
-    let (outcome, sent) = follow_into(alloc, store, b"", bytes, given)?;
-    let want = if outcome.2 == 1 {
-        "1 2 0 0"
-    } else {
-        "none 0 0 0"
-    };
-    if held(alloc, store)?.as_str() != want || !SENT.starts_with(&sent) {
-        return Err("another content, or other bytes sent".into());
+impl Work for Followed<'_> {
+    type Done = (String, Vec<u8>);
+
+    fn run<S: Alter + Drop>(
+        self,
+        alloc: Global,
+        conn: Connection<S>,
+    ) -> Result<(String, Vec<u8>), Fail> {
+        let mut store = open(alloc, conn)?;
+        let followed = follow_into(alloc, &mut store, &self);
+        store.close();
+        followed
     }
-    Ok(outcome)
 }
 
-/// As `check`, with a new store.
-fn follows(alloc: Global, bytes: &[u8], given: Given) -> Result<Outcome, Fail> {
-    let mut store = fresh(alloc)?;
-    let outcome = check(alloc, &mut store, bytes, given);
-    store.close();
-    outcome
+/// Follows a stream into a new store. What was sent is a prefix of what is due.
+fn follows(alloc: Global, bytes: &[u8], given: Given) -> Result<String, Fail> {
+    let work = Followed {
+        password: b"",
+        bytes,
+        given,
+    };
+    let (text, sent) = in_memory(alloc, work)?;
+    if !SENT.starts_with(&sent) {
+        return Err("other bytes sent".into());
+    }
+    Ok(text)
+}
+
+/// What a store holds after so many transactions.
+fn content(applied: u64) -> &'static str {
+    match applied {
+        1 => "1 2 0 0",
+        _ => "none 0 0 0",
+    }
 }
 
 #[test]
@@ -123,12 +130,15 @@ fn follows_to_the_end(rt: HostRuntime) -> Result<(), Fail> {
     // The end of the log, and a packet that is not read any more.
     let eof = b"\x05\0\0\x07\xfe\0\0\x02\0\x01\0\0\x08\0";
     let longer = joined(rt.alloc(), &[&ONE_TRANSACTION, eof])?;
-    for given in [AT_ONCE, BY_BYTES, BY_PACKETS] {
+    for (given, left) in [(AT_ONCE, 0), (BY_BYTES, 5), (BY_PACKETS, 5)] {
         let whole = follows(rt.alloc(), &ONE_TRANSACTION, given)?;
-        assert_eq!(rt; whole, ("EndOfInput", 449, 1, 138, 0, 0, 0, None));
-        let left = if given.gives > 1 { 0 } else { 5 };
+        let want = "EndOfInput at 449 applied 1, 138 sent, 0 left, (0, 0) failed None, 1 2 0 0";
+        same(&rt, whole.as_str(), want);
         let ended = follows(rt.alloc(), &longer, given)?;
-        assert_eq!(rt; ended, ("SourceEof", 458, 1, 138, left, 0, 0, None));
+        let want = format!(in rt.alloc();
+            "SourceEof at 458 applied 1, 138 sent, {left} left, (0, 0) failed None, 1 2 0 0"
+        )?;
+        same(&rt, ended.as_str(), want.as_str());
     }
     Ok(())
 }
@@ -149,6 +159,17 @@ fn due(read: usize) -> (u64, usize) {
     }
 }
 
+/// The outcome of a read that fails after so many bytes.
+fn failed_read(alloc: Global, readable: usize) -> Result<String, Fail> {
+    let (at, sent) = due(readable);
+    let applied = if readable == 449 { 1 } else { 0 };
+    let left = 449_usize.saturating_sub(readable);
+    let held = content(applied);
+    Ok(format!(in alloc;
+        "ReadFailed at {at} applied {applied}, {sent} sent, {left} left, (1, 0) failed Some(ConnectionReset), {held}"
+    )?)
+}
+
 #[test]
 fn tells_each_failed_read(rt: HostRuntime) -> Result<(), Fail> {
     for readable in 0..=449 {
@@ -158,14 +179,26 @@ fn tells_each_failed_read(rt: HostRuntime) -> Result<(), Fail> {
             readable,
             ..AT_ONCE
         };
-        let (at, sent) = due(readable);
-        let applied = if readable == 449 { 1 } else { 0 };
-        let left = 449 - readable;
-        let failure = Some(ErrorKind::ConnectionReset);
-        let want = ("ReadFailed", at, applied, sent, left, 1, 0, failure);
-        assert_eq!(rt; follows(rt.alloc(), &ONE_TRANSACTION, given)?, want);
+        let text = follows(rt.alloc(), &ONE_TRANSACTION, given)?;
+        same(
+            &rt,
+            text.as_str(),
+            failed_read(rt.alloc(), readable)?.as_str(),
+        );
     }
     Ok(())
+}
+
+/// The outcome of a write that fails after so many bytes.
+fn failed_write(alloc: Global, writable: usize) -> Result<String, Fail> {
+    let (at, left) = match writable {
+        0..64 => (78, 371),
+        64..103 => (89, 360),
+        _ => (100, 349),
+    };
+    Ok(format!(in alloc;
+        "WriteFailed at {at} applied 0, {writable} sent, {left} left, (0, 1) failed Some(BrokenPipe), none 0 0 0"
+    )?)
 }
 
 #[test]
@@ -177,14 +210,12 @@ fn tells_each_failed_write(rt: HostRuntime) -> Result<(), Fail> {
             writable,
             ..BY_PACKETS
         };
-        let (at, left) = match writable {
-            0..64 => (78, 371),
-            64..103 => (89, 360),
-            _ => (100, 349),
-        };
-        let failure = Some(ErrorKind::BrokenPipe);
-        let want = ("WriteFailed", at, 0, writable, left, 0, 1, failure);
-        assert_eq!(rt; follows(rt.alloc(), &ONE_TRANSACTION, given)?, want);
+        let text = follows(rt.alloc(), &ONE_TRANSACTION, given)?;
+        same(
+            &rt,
+            text.as_str(),
+            failed_write(rt.alloc(), writable)?.as_str(),
+        );
     }
     Ok(())
 }
@@ -196,9 +227,10 @@ fn tells_a_write_that_takes_nothing(rt: HostRuntime) -> Result<(), Fail> {
         takes: 0,
         ..AT_ONCE
     };
-    let failure = Some(ErrorKind::WriteZero);
-    let want = ("WriteFailed", 449, 1, 0, 0, 0, 1, failure);
-    assert_eq!(rt; follows(rt.alloc(), &ONE_TRANSACTION, given)?, want);
+    let text = follows(rt.alloc(), &ONE_TRANSACTION, given)?;
+    let want =
+        "WriteFailed at 449 applied 1, 0 sent, 0 left, (0, 1) failed Some(WriteZero), 1 2 0 0";
+    same(&rt, text.as_str(), want);
     Ok(())
 }
 
@@ -208,11 +240,12 @@ fn response(alloc: Global, length: usize) -> Result<Vec<u8>, Fail> {
     for byte in b"secret-".iter().cycle().take(length) {
         password.push(*byte)?;
     }
-    let mut store = fresh(alloc)?;
-    let (greeting, _) = cut(78);
-    let said = follow_into(alloc, &mut store, &password, greeting, AT_ONCE);
-    store.close();
-    Ok(said?.1)
+    let work = Followed {
+        password: &password,
+        bytes: cut(78).0,
+        given: AT_ONCE,
+    };
+    Ok(in_memory(alloc, work)?.1)
 }
 
 /// The bytes of the authentication, which another program computed as
@@ -230,7 +263,7 @@ fn logs_in_with_a_password(rt: HostRuntime) -> Result<(), Fail> {
     for (length, answer) in ANSWERS {
         let sent = response(rt.alloc(), length)?;
         let want = joined(rt.alloc(), &[b"repl\0\x14", &answer])?;
-        assert_eq!(rt; sent.get(36..62), Some(want.as_slice()));
+        same(&rt, sent.get(36..62), Some(want.as_slice()));
     }
     Ok(())
 }

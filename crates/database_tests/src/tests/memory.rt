@@ -3,6 +3,7 @@
 //! as it was. `tests/refused/run` refuses each in turn.
 
 use super::fixtures::{A, content, filter, gtids, image, transaction};
+use super::same::same;
 use super::sources::{request, scripts};
 use super::stops::FIRST;
 use super::stream::Stream;
@@ -362,16 +363,19 @@ fn steps<S: Alter + Drop>(
     is_held(End::Done, reopened(alloc, conn, only), before, before)
 }
 
-fn new(alloc: Global) -> Option<bool> {
-    let only = filter(alloc, "io")?;
-    let conn = Connection::open_in_memory(alloc).ok()?;
-    steps(alloc, conn, Some(&only), &NEW)
-}
-
-fn old(alloc: Global) -> Option<bool> {
-    let mut conn = Connection::open_in_memory(alloc).ok()?;
+/// Makes the calls on a new database, or those on one of layout 1.
+fn all<S: Alter + Drop>(alloc: Global, mut conn: Connection<S>, is_new: bool) -> Option<bool> {
+    if is_new {
+        let only = filter(alloc, "io")?;
+        return steps(alloc, conn, Some(&only), &NEW);
+    }
     conn.execute_batch(FIRST).ok()?;
     steps(alloc, conn, None, &OLD)
+}
+
+/// As `all`, in memory.
+fn in_memory(alloc: Global, is_new: bool) -> Option<bool> {
+    all(alloc, Connection::open_in_memory(alloc).ok()?, is_new)
 }
 
 fn config(alloc: Global) -> Option<bool> {
@@ -425,7 +429,7 @@ fn checked_by_source(alloc: Global) -> Option<bool> {
 /// Whether each call but those on a new database answered rightly. `None` if what it needs could not be made.
 fn others(alloc: Global) -> [Option<bool>; 5] {
     [
-        old(alloc),
+        in_memory(alloc, false),
         config(alloc),
         opened_by_source(alloc),
         answered_by_source(alloc),
@@ -436,14 +440,14 @@ fn others(alloc: Global) -> [Option<bool>; 5] {
 /// With memory to spare what each call needs can be made, so each is made.
 #[test]
 fn answered(rt: HostRuntime) {
-    assert_eq!(rt; new(rt.alloc()), Some(true));
-    assert_eq!(rt; others(rt.alloc()), [Some(true); 5]);
+    same(&rt, in_memory(rt.alloc(), true), Some(true));
+    same(&rt, others(rt.alloc()), [Some(true); 5]);
 }
 
 /// Whichever allocation is refused, no call on a new database answers wrongly.
 #[test]
 fn refused_when_new(rt: HostRuntime) {
-    assert!(rt; new(rt.alloc()) != Some(false));
+    assert!(rt; in_memory(rt.alloc(), true) != Some(false));
 }
 
 /// Nor does any other call.

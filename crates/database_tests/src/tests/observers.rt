@@ -2,13 +2,14 @@
 
 ghost use Rattle.std.specs.Prelude.{◌≡◌, true};
 
-use super::fixtures::fresh;
+use super::fixtures::{Work, in_memory, open};
+use super::same::same;
 use super::sessions::{config, line};
 use super::streams::three_transactions;
 use binlog::Event;
 use gather::Delivery;
 use replica::{Ended, Observer, Reason, Session};
-use sqlite::Alter;
+use sqlite::{Alter, Connection};
 use std::alloc::Global;
 use std::test::Fail;
 use store::Store;
@@ -56,7 +57,7 @@ impl Observer for Tally {
 }
 
 /// Reads three transactions, of which so many are let pass. Returns how the connection ended, and what was reported.
-fn watched<S: Alter>(
+fn watch<S: Alter>(
     alloc: Global,
     store: &mut Store<S>,
     stream: &[u8],
@@ -82,6 +83,21 @@ fn watched<S: Alter>(
     Ok(format!(in alloc; "{end}: {events} {applied} {refused} {stopped}")?)
 }
 
+/// A stream that is watched, and how many transactions are let pass.
+#[derive(Drop)]
+struct Watched<'a>(&'a [u8], usize);
+
+impl Work for Watched<'_> {
+    type Done = String;
+
+    fn run<S: Alter + Drop>(self, alloc: Global, conn: Connection<S>) -> Result<String, Fail> {
+        let mut store = open(alloc, conn)?;
+        let said = watch(alloc, &mut store, self.0, self.1);
+        store.close();
+        said
+    }
+}
+
 #[test]
 fn an_observer_stops(rt: HostRuntime) -> Result<(), Fail> {
     let stream = three_transactions(rt.alloc())?;
@@ -90,10 +106,8 @@ fn an_observer_stops(rt: HostRuntime) -> Result<(), Fail> {
         (1, "Halted at 629 applied 1: 11 1 0 true"),
         (3, "EndOfInput at 890 applied 3: 16 3 0 false"),
     ] {
-        let mut store = fresh(rt.alloc())?;
-        let said = watched(rt.alloc(), &mut store, &stream, most);
-        store.close();
-        assert_eq!(rt; said?.as_str(), want);
+        let said = in_memory(rt.alloc(), Watched(&stream, most))?;
+        same(&rt, said.as_str(), want);
     }
     Ok(())
 }

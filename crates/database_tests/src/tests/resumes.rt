@@ -1,12 +1,13 @@
 //! A history that a replica asks for again after every cut.
 
-use super::fixtures::{attempt, held};
+use super::fixtures::{Work, attempt, held, in_memory};
+use super::same::same;
 use super::sessions::ends;
 use super::sources::{history, request};
 use super::streams::{cut, joined, three_transactions};
 use gtid::GtidSet;
 use scripted_source::{Ending, Script, answer};
-use sqlite::{Alter, Connection, MemStore};
+use sqlite::{Alter, Connection};
 use std::alloc::Global;
 use std::test::Fail;
 use store::Store;
@@ -20,7 +21,7 @@ fn stream(alloc: Global, history: &[Script], set: &GtidSet) -> Result<Vec<u8>, F
 
 /// Reads a part of a stream, asks again and reads the answer. Returns what the store held after the part, the number of
 /// bytes of the answer, and what it holds then.
-fn resumed<S: Alter>(
+fn resume<S: Alter>(
     alloc: Global,
     store: &mut Store<S>,
     history: &[Script],
@@ -33,25 +34,33 @@ fn resumed<S: Alter>(
     Ok((first, next.len(), held(alloc, store)?))
 }
 
-/// A new database in memory, for a filter if one is given.
-fn open(alloc: Global, only: Option<&str>) -> Result<Store<MemStore>, Fail> {
-    match attempt(alloc, Connection::open_in_memory(alloc)?, only)? {
-        Ok(store) => Ok(store),
-        Err((fault, _)) => Err(fault.into()),
-    }
+/// A history that is cut off after its first part, and then resumed.
+#[derive(Drop)]
+struct Resumed<'a> {
+    /// The filter, if there is one.
+    only: Option<&'a str>,
+    history: &'a [Script],
+    part: &'a [u8],
 }
 
-/// As `resumed`, with a new store.
-fn resumed_anew(
-    alloc: Global,
-    only: Option<&str>,
-    history: &[Script],
-    part: &[u8],
-) -> Result<(String, usize, String), Fail> {
-    let mut store = open(alloc, only)?;
-    let held = resumed(alloc, &mut store, history, part);
-    store.close();
-    held
+impl Work for Resumed<'_> {
+    type Done = (String, usize, String);
+
+    fn run<S: Alter + Drop>(
+        self,
+        alloc: Global,
+        conn: Connection<S>,
+    ) -> Result<(String, usize, String), Fail> {
+        match attempt(alloc, conn, self.only)? {
+            Ok(store) => {
+                let mut store = store;
+                let held = resume(alloc, &mut store, self.history, self.part);
+                store.close();
+                held
+            }
+            Err((fault, _)) => Err(fault.into()),
+        }
+    }
 }
 
 /// What a replica holds after so many bytes of the history, and the number of bytes of the opening and the answer that
@@ -70,10 +79,14 @@ fn a_history_is_resumed_after_every_cut(rt: HostRuntime) -> Result<(), Fail> {
     let history = history(rt.alloc())?;
     let whole = three_transactions(rt.alloc())?;
     for read in 0..=890 {
-        let part = whole.get(..read).unwrap_or(&[]);
-        let (first, length, last) = resumed_anew(rt.alloc(), None, &history, part)?;
-        assert_eq!(rt; (first.as_str(), length), expected(read));
-        assert_eq!(rt; last.as_str(), "1-3 0 1 0");
+        let work = Resumed {
+            only: None,
+            history: &history,
+            part: whole.get(..read).unwrap_or(&[]),
+        };
+        let (first, length, last) = in_memory(rt.alloc(), work)?;
+        same(&rt, (first.as_str(), length), expected(read));
+        same(&rt, last.as_str(), "1-3 0 1 0");
     }
     Ok(())
 }
@@ -86,7 +99,7 @@ fn commits_are_resumed_without_a_table(rt: HostRuntime) -> Result<(), Fail> {
         script.ending = Ending::Commit;
     }
     let whole = stream(rt.alloc(), &history, &GtidSet::new(rt.alloc()))?;
-    assert_eq!(rt; whole.len(), 926);
+    same(&rt, whole.len(), 926);
     for (read, set, length) in [
         (452, "none 0 0 0", 926),
         (453, "1 0 0 0", 694),
@@ -95,9 +108,14 @@ fn commits_are_resumed_without_a_table(rt: HostRuntime) -> Result<(), Fail> {
         (925, "1:3 0 0 0", 462),
         (926, "1-3 0 0 0", 221),
     ] {
-        let (first, next, last) = resumed_anew(rt.alloc(), Some("o"), &history, &whole[..read])?;
-        assert_eq!(rt; (first.as_str(), next), (set, length));
-        assert_eq!(rt; last.as_str(), "1-3 0 0 0");
+        let work = Resumed {
+            only: Some("o"),
+            history: &history,
+            part: whole.get(..read).unwrap_or(&[]),
+        };
+        let (first, next, last) = in_memory(rt.alloc(), work)?;
+        same(&rt, (first.as_str(), next), (set, length));
+        same(&rt, last.as_str(), "1-3 0 0 0");
     }
     Ok(())
 }

@@ -1,16 +1,17 @@
 //! Connections read into a store in memory.
 
-use super::fixtures::{fresh, held};
+use super::fixtures::{Work, held, in_memory, open};
+use super::same::same;
 use super::streams::{ONE_TRANSACTION, SENT, SWITCH, cut, joined};
 use replica::{Config, ConfigFault, Ended, Reason, Session, run};
-use sqlite::Alter;
+use sqlite::{Alter, Connection};
 use std::alloc::Global;
 use std::test::Fail;
 use store::Store;
 use wire::{LARGEST_PAYLOAD, WireFault};
 
 /// A short name of a reason.
-pub(super) fn name(reason: &Reason) -> &'static str {
+fn name(reason: &Reason) -> &'static str {
     match reason {
         Reason::EndOfInput => "EndOfInput",
         Reason::SourceEof => "SourceEof",
@@ -71,19 +72,33 @@ fn lines<S: Alter>(alloc: Global, store: &mut Store<S>, streams: &[&[u8]]) -> Re
     Ok(text)
 }
 
+/// Connections that are read in order.
+#[derive(Drop)]
+struct Read<'a>(&'a [&'a [u8]]);
+
+impl Work for Read<'_> {
+    type Done = String;
+
+    fn run<S: Alter + Drop>(self, alloc: Global, conn: Connection<S>) -> Result<String, Fail> {
+        let mut store = open(alloc, conn)?;
+        let said = lines(alloc, &mut store, self.0);
+        store.close();
+        said
+    }
+}
+
 /// A transaction whose end is cut off is not applied; then it is, once.
 #[test]
 fn connections_are_read_in_order(rt: HostRuntime) -> Result<(), Fail> {
-    let mut store = fresh(rt.alloc())?;
-    let streams = [cut(448).0, &ONE_TRANSACTION, &ONE_TRANSACTION];
-    let said = lines(rt.alloc(), &mut store, &streams);
-    store.close();
-    assert_eq!(rt;
-        said?.as_str(),
+    let streams: [&[u8]; 3] = [cut(448).0, &ONE_TRANSACTION, &ONE_TRANSACTION];
+    let said = in_memory(rt.alloc(), Read(&streams))?;
+    same(
+        &rt,
+        said.as_str(),
         "EndOfInput at 417 applied 0
 EndOfInput at 449 applied 1
 EndOfInput at 449 applied 0
-1 2 0 0"
+1 2 0 0",
     );
     Ok(())
 }
@@ -108,22 +123,34 @@ fn feed<S: Alter>(
     ))
 }
 
-/// As `feed`, with a new store.
-fn fed(alloc: Global, limit: usize, pieces: (&[u8], &[u8])) -> Result<(Vec<u8>, String), Fail> {
-    let mut store = fresh(alloc)?;
-    let fed = feed(alloc, &mut store, limit, pieces);
-    store.close();
-    fed
+/// A session with a limit that is fed two pieces.
+#[derive(Drop)]
+struct Fed<'a>(usize, (&'a [u8], &'a [u8]));
+
+impl Work for Fed<'_> {
+    type Done = (Vec<u8>, String);
+
+    fn run<S: Alter + Drop>(
+        self,
+        alloc: Global,
+        conn: Connection<S>,
+    ) -> Result<(Vec<u8>, String), Fail> {
+        let mut store = open(alloc, conn)?;
+        let fed = feed(alloc, &mut store, self.0, self.1);
+        store.close();
+        fed
+    }
 }
 
 #[test]
 fn a_session_reads_pieces(rt: HostRuntime) -> Result<(), Fail> {
     for at in [0, 3, 78, 90, 250, 448, 449] {
-        let (sent, said) = fed(rt.alloc(), LARGEST_PAYLOAD, cut(at))?;
-        assert_eq!(rt; sent.as_slice(), SENT.as_slice());
-        assert_eq!(rt;
+        let (sent, said) = in_memory(rt.alloc(), Fed(LARGEST_PAYLOAD, cut(at)))?;
+        same(&rt, sent.as_slice(), SENT.as_slice());
+        same(
+            &rt,
             said.as_str(),
-            "Ok(()) false Ok(()) EndOfInput at 449 applied 1"
+            "Ok(()) false Ok(()) EndOfInput at 449 applied 1",
         );
     }
     Ok(())
@@ -132,17 +159,19 @@ fn a_session_reads_pieces(rt: HostRuntime) -> Result<(), Fail> {
 /// A session that has ended reads no more.
 #[test]
 fn a_session_ends_at_a_fault(rt: HostRuntime) -> Result<(), Fail> {
-    let (sent, said) = fed(rt.alloc(), 100, cut(200))?;
-    assert_eq!(rt; sent.as_slice(), SENT.as_slice());
-    assert_eq!(rt;
+    let (sent, said) = in_memory(rt.alloc(), Fed(100, cut(200)))?;
+    same(&rt, sent.as_slice(), SENT.as_slice());
+    same(
+        &rt,
         said.as_str(),
-        "Ok(()) true Err(Stopped) Wire.TooLarge at 100 applied 0"
+        "Ok(()) true Err(Stopped) Wire.TooLarge at 100 applied 0",
     );
     let pieces: (&[u8], &[u8]) = (&[0, 0, 0, 9], &ONE_TRANSACTION);
-    let (_, said) = fed(rt.alloc(), LARGEST_PAYLOAD, pieces)?;
-    assert_eq!(rt;
+    let (_, said) = in_memory(rt.alloc(), Fed(LARGEST_PAYLOAD, pieces))?;
+    same(
+        &rt,
         said.as_str(),
-        "Ok(()) true Err(Stopped) Wire.Sequence at 0 applied 0"
+        "Ok(()) true Err(Stopped) Wire.Sequence at 0 applied 0",
     );
     Ok(())
 }
@@ -154,13 +183,15 @@ fn a_session_answers_a_switch(rt: HostRuntime) -> Result<(), Fail> {
     let (greeting, _) = cut(78);
     let ok = b"\x07\0\0\x04\0\0\0\x02\0\0\0\x07\0\0\x01\0\0\0\x02\0\0\0";
     let rest = joined(alloc, &[SWITCH, ok])?;
-    let (sent, said) = fed(alloc, LARGEST_PAYLOAD, (greeting, rest.as_slice()))?;
+    let pieces = (greeting, rest.as_slice());
+    let (sent, said) = in_memory(alloc, Fed(LARGEST_PAYLOAD, pieces))?;
     let (response, query) = SENT.split_at(64);
     let want = joined(alloc, &[response, &[0, 0, 0, 3], query])?;
-    assert_eq!(rt; sent.as_slice(), want.as_slice());
-    assert_eq!(rt;
+    same(&rt, sent.as_slice(), want.as_slice());
+    same(
+        &rt,
         said.as_str(),
-        "Ok(()) false Ok(()) EndOfInput at 148 applied 0"
+        "Ok(()) false Ok(()) EndOfInput at 148 applied 0",
     );
     Ok(())
 }
@@ -182,6 +213,6 @@ fn settings_are_refused(rt: HostRuntime) {
         (b"a", LARGEST_PAYLOAD + 1, Some(ConfigFault::Limit)),
     ];
     for (user, limit, want) in cases {
-        assert_eq!(rt; refusal(rt.alloc(), user, limit), want);
+        same(&rt, refusal(rt.alloc(), user, limit), want);
     }
 }

@@ -1,5 +1,6 @@
 //! A scripted source.
 
+use super::same::same;
 use super::streams::{HISTORY_END, ONE_TRANSACTION, SENT, cut, joined};
 use binlog::{ColumnKind, ColumnType, OwnedCell, OwnedPair, RowsKind, TableDef};
 use greet::Dump;
@@ -141,7 +142,7 @@ fn a_source_opens(rt: HostRuntime) -> Result<(), Fail> {
         *byte = at as u8 + 1;
     }
     let bytes = opening(rt.alloc(), &scramble)?;
-    assert_eq!(rt; bytes.as_slice(), cut(100).0);
+    same(&rt, bytes.as_slice(), cut(100).0);
     Ok(())
 }
 
@@ -153,11 +154,11 @@ fn a_source_answers(rt: HostRuntime) -> Result<(), Fail> {
     let bytes = answered(alloc, &history, 4, &[])??;
     let begun = &ONE_TRANSACTION[100..365];
     let want = joined(alloc, &[begun, &HISTORY_END])?;
-    assert_eq!(rt; bytes.as_slice(), want.as_slice());
+    same(&rt, bytes.as_slice(), want.as_slice());
     let bytes = answered(alloc, &history, 5, &[2, 3])??;
     let eof = b"\x05\0\0\x07\xfe\0\0\x02\0";
     let want = joined(alloc, &[begun, &HISTORY_END[..76], eof])?;
-    assert_eq!(rt; bytes.as_slice(), want.as_slice());
+    same(&rt, bytes.as_slice(), want.as_slice());
     for script in &mut history {
         script.ending = Ending::Commit;
     }
@@ -165,7 +166,7 @@ fn a_source_answers(rt: HostRuntime) -> Result<(), Fail> {
     let commit =
         b"\x28\0\0\x06\0\0\0\0\0\x02\x01\0\0\0\x27\0\0\0\0\0\0\0\0\0\0\0\0\0\0\0\0\0\0\0\0\0\0\0COMMIT";
     let want = joined(alloc, &[begun, &HISTORY_END[..44], commit])?;
-    assert_eq!(rt; bytes.as_slice(), want.as_slice());
+    same(&rt, bytes.as_slice(), want.as_slice());
     Ok(())
 }
 
@@ -192,13 +193,13 @@ fn a_source_refuses(rt: HostRuntime) -> Result<(), Fail> {
     let long = vec![in alloc; 0; 1 << 30]?;
     history.push(too_large(alloc, &long).ok_or("no script")?)?;
     let fault = answered(alloc, &history, 4, &[])?.err();
-    assert_eq!(rt; fault, Some(ForgeFault::Unfit(3)));
+    same(&rt, fault, Some(ForgeFault::Unfit(3)));
     let fault = answered(alloc, &history, 4, &[4])?.err();
-    assert_eq!(rt; fault, Some(ForgeFault::TooLarge));
+    same(&rt, fault, Some(ForgeFault::TooLarge));
     let bytes = answered(alloc, &history, 4, &[4, 5])??;
-    assert_eq!(rt; bytes.len(), 790);
+    same(&rt, bytes.len(), 790);
     let fault = answer(alloc, &history, &SENT[108..]).err();
-    assert_eq!(rt; fault, Some(ForgeFault::Request));
+    same(&rt, fault, Some(ForgeFault::Request));
     Ok(())
 }
 
@@ -210,7 +211,7 @@ fn a_source_reads_what_a_replica_sends(rt: HostRuntime) -> Result<(), Fail> {
     let longer = joined(alloc, &[&SENT, &[0]])?;
     for wrong in [&SENT[..137], longer.as_slice(), &SENT[64..], &[]] {
         let fault = check(alloc, wrong).err();
-        assert_eq!(rt; fault, Some(ForgeFault::Request));
+        same(&rt, fault, Some(ForgeFault::Request));
     }
     Ok(())
 }

@@ -1,15 +1,13 @@
 //! Failures: each call of a disk in turn is the first that fails, then the disks crash and the job is done again.
 
-use super::fixtures::{attempt, delivery, gtids};
+use super::fixtures::{attempt, delivery, gtids, numbers};
 use super::sessions::ends;
 use super::streams::three_transactions;
-use sqlite::{Alter, Connection, FileStore, Files, Options, Row};
+use sqlite::{Alter, Connection, FileStore, Files, Options};
 use sqlite_disk::{Crash, Disk, Fuse, Memory};
 use std::alloc::Global;
 use std::test::Fail;
 use store::Store;
-
-type Fused = Fuse<Memory>;
 
 /// A small cache, which is quickly made.
 const OPTIONS: Options = Options {
@@ -107,32 +105,6 @@ fn states(job: Job) -> &'static [&'static str] {
     }
 }
 
-/// Appends the numbers of a row, each after a space.
-fn push_row(alloc: Global, row: &Row, text: &mut String) -> Result<(), Fail> {
-    for at in 0..row.column_count() {
-        let number: i64 = row.get(at)?;
-        text.push_str(&format!(in alloc; " {number}")?)?;
-    }
-    Ok(())
-}
-
-/// The numbers of rows, each after a space.
-fn text_of(alloc: Global, rows: &[Row]) -> Result<String, Fail> {
-    let mut text = String::new(alloc);
-    for row in rows {
-        push_row(alloc, row, &mut text)?;
-    }
-    Ok(text)
-}
-
-/// The numbers that a query gives, each after a space, or `none` if its table is not there.
-fn numbers<S: Alter>(alloc: Global, conn: &mut Connection<S>, sql: &str) -> Result<String, Fail> {
-    match conn.query_all(sql, &[]) {
-        Ok(rows) => text_of(alloc, &rows),
-        Err(_) => Ok(String::from_str(alloc, "none")?),
-    }
-}
-
 /// What the tables show.
 fn dump<S: Alter>(alloc: Global, conn: &mut Connection<S>) -> Result<String, Fail> {
     let mut text = String::new(alloc);
@@ -154,11 +126,12 @@ fn dump<S: Alter>(alloc: Global, conn: &mut Connection<S>) -> Result<String, Fai
 fn connect<D: Disk + Drop>(
     alloc: Global,
     files: Files<D>,
+    options: Options,
 ) -> Result<Connection<FileStore<D>>, Files<D>> {
     if !files.may_be_used() {
         return Err(files);
     }
-    match Connection::open_files(alloc, files, OPTIONS) {
+    match Connection::open_files(alloc, files, options) {
         Ok(conn) => Ok(conn),
         Err((_, left)) => Err(left.into_files()),
     }
@@ -171,44 +144,6 @@ fn beginning(job: Job) -> &'static str {
         Job::Run => "",
         Job::Migrate => FIRST,
         Job::Take | Job::Adopt => SECOND,
-    }
-}
-
-/// The files of a connection, which is closed.
-fn finished(conn: Connection<FileStore<Memory>>) -> Result<Files<Memory>, Fail> {
-    match conn.close_files() {
-        Ok(files) => Ok(files),
-        Err((error, _)) => Err(error.into()),
-    }
-}
-
-/// Runs statements, and returns the connection.
-fn made<S: Alter + Drop>(mut conn: Connection<S>, sql: &str) -> Result<Connection<S>, Fail> {
-    conn.execute_batch(sql)?;
-    Ok(conn)
-}
-
-/// Files with nothing in them.
-fn new_files(alloc: Global) -> Files<Memory> {
-    Files {
-        log: Memory::new(alloc),
-        db: Memory::new(alloc),
-    }
-}
-
-/// The files of a database that these statements make.
-fn filled(alloc: Global, sql: &str) -> Result<Files<Memory>, Fail> {
-    match connect(alloc, new_files(alloc)) {
-        Ok(conn) => finished(made(conn, sql)?),
-        Err(_) => Err("no connection".into()),
-    }
-}
-
-/// The files before the job.
-fn before(alloc: Global, job: Job) -> Result<Files<Memory>, Fail> {
-    match beginning(job) {
-        "" => Ok(new_files(alloc)),
-        sql => filled(alloc, sql),
     }
 }
 
@@ -244,7 +179,7 @@ fn work<S: Alter>(alloc: Global, job: Job, store: &mut Store<S>) -> Result<u64, 
     }
 }
 
-/// Does the job, and returns how many of its steps were done.
+/// Opens the database and does the job, and returns how many of its steps were done.
 fn act<S: Alter + Drop>(
     alloc: Global,
     job: Job,
@@ -265,62 +200,140 @@ fn act<S: Alter + Drop>(
     }
 }
 
-/// Does the job over a connection, which is closed.
-fn act_and_close<D: Disk + Drop>(
-    alloc: Global,
-    job: Job,
-    conn: Connection<FileStore<D>>,
-) -> Result<(u64, Files<D>), Fail> {
-    let (done, conn) = act(alloc, job, conn)?;
-    Ok((done, conn.into_store().close()))
+/// What came of a job.
+#[derive(Drop)]
+struct Acted {
+    /// How many of its steps were done.
+    done: u64,
+    /// What the tables show before and after it.
+    before: String,
+    after: String,
 }
 
-/// Does the job over files, and returns how many of its steps were done.
-fn act_over<D: Disk + Drop>(
-    alloc: Global,
-    job: Job,
-    files: Files<D>,
-) -> Result<(u64, Files<D>), Fail> {
-    match connect(alloc, files) {
-        Ok(conn) => act_and_close(alloc, job, conn),
-        Err(files) => Ok((0, files)),
-    }
-}
-
-/// Does the job on disks of which one fails after this many calls, and then lets both crash.
-fn stop(alloc: Global, job: Job, calls: (u64, u64)) -> Result<(u64, Files<Fused>), Fail> {
-    let Files { log, db } = before(alloc, job)?;
-    let files = Files {
-        log: Fuse::new(log, calls.0),
-        db: Fuse::new(db, calls.1),
-    };
-    let (done, mut files) = act_over(alloc, job, files)?;
-    files.log.crash();
-    files.db.crash();
-    Ok((done, files))
-}
-
-/// What the tables show, and what they show once the job was done with these.
-fn resume<S: Alter + Drop>(
+/// Reads the tables, does the job, and reads them again.
+fn watch<S: Alter + Drop>(
     alloc: Global,
     job: Job,
     mut conn: Connection<S>,
-) -> Result<(String, String), Fail> {
-    let left = dump(alloc, &mut conn)?;
-    let (_, mut conn) = act(alloc, job, conn)?;
-    Ok((left, dump(alloc, &mut conn)?))
+) -> Result<(Acted, Connection<S>), Fail> {
+    let before = dump(alloc, &mut conn)?;
+    let (done, mut conn) = act(alloc, job, conn)?;
+    let after = dump(alloc, &mut conn)?;
+    let acted = Acted {
+        done,
+        before,
+        after,
+    };
+    Ok((acted, conn))
 }
 
-/// As `resume`, with the tables in files.
-fn reopen<D: Disk + Drop>(
-    alloc: Global,
-    job: Job,
-    files: Files<D>,
-) -> Result<(String, String), Fail> {
-    match connect(alloc, files) {
-        Ok(conn) => resume(alloc, job, conn),
-        Err(_) => Err("no connection".into()),
+/// What is done over files.
+#[derive(Clone, Copy)]
+enum Turn {
+    /// These statements are run, and what they write is copied from the log at once.
+    Fill(&'static str),
+    Act(Job),
+}
+
+/// The options for a turn.
+fn options(turn: Turn) -> Options {
+    match turn {
+        Turn::Fill(_) => Options {
+            checkpoint_frames: 1,
+            ..OPTIONS
+        },
+        Turn::Act(_) => OPTIONS,
     }
+}
+
+/// Nothing has come of a job.
+fn nothing(alloc: Global) -> Acted {
+    Acted {
+        done: 0,
+        before: String::new(alloc),
+        after: String::new(alloc),
+    }
+}
+
+/// Runs statements, and returns the connection.
+fn filled<S: Alter + Drop>(mut conn: Connection<S>, sql: &str) -> Result<Connection<S>, Fail> {
+    conn.execute_batch(sql)?;
+    Ok(conn)
+}
+
+/// Takes a turn, and returns what the connection was over.
+fn take_turn<S: Alter + Drop>(
+    alloc: Global,
+    conn: Connection<S>,
+    turn: Turn,
+) -> Result<(Acted, S), Fail> {
+    let (acted, conn) = match turn {
+        Turn::Fill(sql) => (nothing(alloc), filled(conn, sql)?),
+        Turn::Act(job) => watch(alloc, job, conn)?,
+    };
+    Ok((acted, conn.into_store()))
+}
+
+/// Takes a turn over files. Nothing is done if these cannot be opened. A function that hands a connection to files on to a
+/// generic one takes long to prove, so there is this one alone.
+fn over<D: Disk + Drop>(
+    alloc: Global,
+    files: Files<D>,
+    turn: Turn,
+) -> Result<(Acted, Files<D>), Fail> {
+    match connect(alloc, files, options(turn)) {
+        Ok(conn) => {
+            let (acted, store) = take_turn(alloc, conn, turn)?;
+            Ok((acted, store.close()))
+        }
+        Err(files) => Ok((nothing(alloc), files)),
+    }
+}
+
+/// Disks with the content of these, each of which fails after so many calls.
+fn fused(files: Files<Memory>, calls: (u64, u64)) -> Files<Fuse<Memory>> {
+    let Files { log, db } = files;
+    Files {
+        log: Fuse::new(log, calls.0),
+        db: Fuse::new(db, calls.1),
+    }
+}
+
+/// A disk with the content of another one.
+fn copied(alloc: Global, disk: &Memory) -> Result<Memory, Fail> {
+    let mut copy = Memory::new(alloc);
+    copy.write_at(0, disk.bytes())?;
+    copy.sync()?;
+    Ok(copy)
+}
+
+/// The files before the job. They are filled over disks that could fail, so that all is over one kind of disk.
+fn before(alloc: Global, job: Job) -> Result<Files<Memory>, Fail> {
+    let files = Files {
+        log: Memory::new(alloc),
+        db: Memory::new(alloc),
+    };
+    match beginning(job) {
+        "" => Ok(files),
+        sql => {
+            let never = (u64::MAX, u64::MAX);
+            let (_, files) = over(alloc, fused(files, never), Turn::Fill(sql))?;
+            Ok(Files {
+                log: copied(alloc, files.log.inner())?,
+                db: copied(alloc, files.db.inner())?,
+            })
+        }
+    }
+}
+
+/// Does the job, lets both disks crash, and does it again. Returns how many steps were done at first, and what came of the
+/// second time.
+fn stop<D: Crash + Drop>(alloc: Global, job: Job, files: Files<D>) -> Result<(u64, Acted), Fail> {
+    let (first, mut files) = over(alloc, files, Turn::Act(job))?;
+    files.log.crash();
+    files.db.crash();
+    let (second, _) = over(alloc, files, Turn::Act(job))?;
+    Ok((first.done, second))
 }
 
 /// Whether the tables show the state after this many steps, or after one more.
@@ -332,16 +345,16 @@ fn is_left(job: Job, done: u64, left: &str) -> bool {
     }
 }
 
-/// Interrupts the job, and returns whether all its steps were done. The tables are those after the steps that were done,
-/// or after one more, and those after all steps once the job is done again.
+/// Interrupts the job on disks of which one fails after this many calls, and returns whether all its steps were done. The
+/// tables are those after the steps that were done, or after one more, and those after all steps once the job is done again.
 fn stop_at(alloc: Global, job: Job, calls: (u64, u64)) -> Result<bool, Fail> {
-    let (done, files) = stop(alloc, job, calls)?;
-    let (left, after) = reopen(alloc, job, files)?;
+    let files = fused(before(alloc, job)?, calls);
+    let (done, Acted { before, after, .. }) = stop(alloc, job, files)?;
     let last = states(job).last().copied().unwrap_or("");
-    if is_left(job, done, left.as_str()) && after.as_str() == last {
+    if is_left(job, done, before.as_str()) && after.as_str() == last {
         return Ok(done.saturating_add(1) == states(job).len() as u64);
     }
-    Err(Fail::new(format!(in alloc; "{calls:?}: {done} done, {left} and then {after}")?))
+    Err(Fail::new(format!(in alloc; "{calls:?}: {done} done, {before} and then {after}")?))
 }
 
 /// Interrupts the job at each call of one disk, until it is done.

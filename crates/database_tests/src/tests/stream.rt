@@ -82,6 +82,10 @@ impl<'a> Stream<'a> {
         self.failures
     }
 
+    pub(super) fn written(&self) -> &[u8] {
+        &self.written
+    }
+
     pub(super) fn into_written(self) -> Vec<u8> {
         let Stream { written, .. } = self;
         written

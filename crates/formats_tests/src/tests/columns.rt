@@ -1,6 +1,7 @@
 //! Columns of table maps and their values, by worked values of the layouts.
 
 use crate::tests::event_bytes::{MAP, event};
+use crate::tests::same::same;
 use binlog::{
     Cell, ColumnKind, ColumnType, Event, EventFault, EventFaultKind, RowPair, RowsEvent, RowsKind,
     TableDef, read_event,
@@ -99,7 +100,7 @@ fn kinds(alloc: Global, types: &[u8], metadata: &[u8]) -> Option<Vec<ColumnKind>
 fn columns(rt: HostRuntime) {
     for (types, metadata, want) in &KINDS {
         let found = kinds(rt.alloc(), types, metadata).expect(&rt, "a table map");
-        assert_eq!(rt; found.as_slice(), *want);
+        same(&rt, found.as_slice(), *want);
     }
 }
 
@@ -142,7 +143,7 @@ fn refused_columns(rt: HostRuntime) {
             kind: *kind,
             at: *at,
         };
-        assert_eq!(rt; fault(rt.alloc(), types, metadata), Some(want));
+        same(&rt, fault(rt.alloc(), types, metadata), Some(want));
     }
 }
 
@@ -231,7 +232,7 @@ fn size(alloc: Global, kind: ColumnKind) -> Option<usize> {
 #[test]
 fn sizes_of_values(rt: HostRuntime) {
     for (kind, want) in &SIZES {
-        assert_eq!(rt; size(rt.alloc(), *kind), Some(*want));
+        same(&rt, size(rt.alloc(), *kind), Some(*want));
     }
 }
 
@@ -254,8 +255,8 @@ fn copied(alloc: Global, bytes: &[u8]) -> Option<(TableDef, Vec<u8>)> {
 fn copied_map(rt: HostRuntime) {
     let bytes = event(rt.alloc(), 19, 0, MAP).expect(&rt, "memory");
     let (table, out) = copied(rt.alloc(), &bytes).expect(&rt, "a table map");
-    assert_eq!(rt; table.schema.as_slice(), b"shop".as_slice());
-    assert_eq!(rt; table.table.as_slice(), b"items".as_slice());
-    assert_eq!(rt; table.types.len(), 2);
-    assert_eq!(rt; out.as_slice(), bytes.as_slice());
+    same(&rt, table.schema.as_slice(), b"shop".as_slice());
+    same(&rt, table.table.as_slice(), b"items".as_slice());
+    same(&rt, table.types.len(), 2);
+    same(&rt, out.as_slice(), bytes.as_slice());
 }

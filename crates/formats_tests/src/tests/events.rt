@@ -2,6 +2,7 @@
 
 use crate::tests::bytes::{WHOLE, changed};
 use crate::tests::event_bytes::{BEGIN, COMMIT, FIRST, FORMAT, MAP, ROTATE, ROWS, XID, event};
+use crate::tests::same::same;
 use binlog::{Event, EventFault, EventFaultKind, Header, read_event};
 use std::alloc::Global;
 
@@ -33,7 +34,7 @@ fn headers(rt: HostRuntime) {
             size: u32::from(*size),
             may_ignore: *may_ignore,
         };
-        assert_eq!(rt; header(rt.alloc(), *code, *size, *flags), Some(want));
+        same(&rt, header(rt.alloc(), *code, *size, *flags), Some(want));
     }
 }
 
@@ -95,7 +96,7 @@ fn read(alloc: Global, code: u8, flags: u8, body: &[u8]) -> Option<(&'static str
 #[test]
 fn events(rt: HostRuntime) {
     for (code, flags, body, want) in &EVENTS {
-        assert_eq!(rt; read(rt.alloc(), *code, *flags, body), Some(*want));
+        same(&rt, read(rt.alloc(), *code, *flags, body), Some(*want));
     }
 }
 
@@ -129,7 +130,7 @@ fn written_events(rt: HostRuntime) {
     for (code, body) in &WRITTEN {
         let bytes = event(rt.alloc(), *code, 0, body).expect(&rt, "an event");
         let again = written(rt.alloc(), &bytes).expect(&rt, "an event");
-        assert_eq!(rt; again.as_slice(), bytes.as_slice());
+        same(&rt, again.as_slice(), bytes.as_slice());
     }
 }
 
@@ -350,9 +351,10 @@ fn refused_events(rt: HostRuntime) {
             kind: *kind,
             at: *at,
         };
-        assert_eq!(rt;
+        same(
+            &rt,
             refused(rt.alloc(), (*code, *flags), body, changes),
-            Some(fault)
+            Some(fault),
         );
     }
 }

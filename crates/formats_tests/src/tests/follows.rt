@@ -2,6 +2,7 @@
 
 use crate::tests::bytes::{WHOLE, changed};
 use crate::tests::event_bytes::{MAP, event};
+use crate::tests::same::same;
 use binlog::{Event, EventFault, EventFaultKind, Follow, read_event_only};
 use std::alloc::Global;
 
@@ -75,7 +76,7 @@ static FOLLOWED: [(&[(&[u8], &[u8])], &[u8], &[u8], bool); 9] = [
 fn follows(rt: HostRuntime) {
     for (tables, schema, table, want) in &FOLLOWED {
         let follow = list(rt.alloc(), tables).expect(&rt, "memory");
-        assert_eq!(rt; follow.follows(schema, table), *want);
+        same(&rt, follow.follows(schema, table), *want);
     }
 }
 
@@ -124,6 +125,6 @@ fn read(
 fn followed_maps(rt: HostRuntime) {
     for (tables, len, changes, fault) in &MAPS {
         let found = read(rt.alloc(), tables, *len, changes);
-        assert_eq!(rt; found, Some((fault.is_none(), *fault)));
+        same(&rt, found, Some((fault.is_none(), *fault)));
     }
 }

@@ -1,6 +1,7 @@
 //! GTIDs and sets of them, by worked values of the public formats.
 
 use crate::tests::bytes::{WHOLE, changed};
+use crate::tests::same::same;
 use gtid::{Gtid, GtidFault, GtidSet, Span};
 use std::alloc::Global;
 
@@ -74,7 +75,7 @@ fn spans(rt: HostRuntime) {
             hi: 12,
         },
     ];
-    assert_eq!(rt; found.as_slice(), want.as_slice());
+    same(&rt, found.as_slice(), want.as_slice());
 }
 
 /// Two sets, their union, their difference, and whether the first is a subset of the second.
@@ -151,8 +152,12 @@ fn combined(alloc: Global, first: &str, second: &str) -> Option<(String, String,
 fn operations(rt: HostRuntime) {
     for (first, second, union, difference, is_subset) in &OPERATIONS {
         let found = combined(rt.alloc(), first, second).expect(&rt, "memory");
-        assert_eq!(rt; (found.0.as_str(), found.1.as_str()), (*union, *difference));
-        assert_eq!(rt; found.2, *is_subset);
+        same(
+            &rt,
+            (found.0.as_str(), found.1.as_str()),
+            (*union, *difference),
+        );
+        same(&rt, found.2, *is_subset);
     }
 }
 
@@ -189,7 +194,7 @@ fn broken(alloc: Global, bytes: &[u8]) -> Option<GtidFault> {
 fn broken_encodings(rt: HostRuntime) {
     for (len, changes, fault) in &BROKEN {
         let bytes = changed(rt.alloc(), &ENCODED, *len, changes).expect(&rt, "memory");
-        assert_eq!(rt; broken(rt.alloc(), &bytes), Some(*fault));
+        same(&rt, broken(rt.alloc(), &bytes), Some(*fault));
     }
 }
 
@@ -218,9 +223,9 @@ static ENCODINGS: [(&str, &[u8], usize); 2] = [
 fn encodings(rt: HostRuntime) {
     for (text, bytes, size) in &ENCODINGS {
         let written = encoded(rt.alloc(), text).expect(&rt, "memory");
-        assert_eq!(rt; written.get(1..), Some(*bytes));
+        same(&rt, written.get(1..), Some(*bytes));
         let (read, length) = decoded(rt.alloc(), bytes).expect(&rt, "a set");
-        assert_eq!(rt; (read.as_str(), length), (*text, *size));
+        same(&rt, (read.as_str(), length), (*text, *size));
     }
 }
 
@@ -238,5 +243,5 @@ fn inserted(alloc: Global) -> Option<(bool, String, usize)> {
 fn joins(rt: HostRuntime) {
     let (is_new, text, size) = inserted(rt.alloc()).expect(&rt, "memory");
     let want = (true, "3e11fa47-71ca-11e1-9e33-c80aa9429562:1-5", 48);
-    assert_eq!(rt; (is_new, text.as_str(), size), want);
+    same(&rt, (is_new, text.as_str(), size), want);
 }

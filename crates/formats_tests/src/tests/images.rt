@@ -1,6 +1,7 @@
 //! Images of rows, by worked values.
 
 use crate::tests::bytes::{WHOLE, changed};
+use crate::tests::same::same;
 use binlog::Cell;
 use gather::Image;
 use std::alloc::Global;
@@ -53,8 +54,8 @@ fn has_cells(alloc: Global, bytes: &[u8], cells: &[Cell<'_>]) -> Option<bool> {
 fn images(rt: HostRuntime) {
     for (cells, bytes) in &IMAGES {
         let made = made(rt.alloc(), cells).expect(&rt, "an image");
-        assert_eq!(rt; made.as_slice(), *bytes);
-        assert_eq!(rt; has_cells(rt.alloc(), bytes, cells), Some(true));
+        same(&rt, made.as_slice(), *bytes);
+        same(&rt, has_cells(rt.alloc(), bytes, cells), Some(true));
     }
 }
 
@@ -93,10 +94,10 @@ static BROKEN: [(usize, &[(usize, u8)]); 21] = [
 /// Bytes that are no image, and cells that are too many for one.
 #[test]
 fn no_images(rt: HostRuntime) {
-    assert_eq!(rt; length(rt.alloc(), 65_535), Some(65_537));
-    assert_eq!(rt; length(rt.alloc(), 65_536), None);
+    same(&rt, length(rt.alloc(), 65_535), Some(65_537));
+    same(&rt, length(rt.alloc(), 65_536), None);
     for (len, changes) in &BROKEN {
         let bytes = changed(rt.alloc(), PAIR, *len, changes).expect(&rt, "memory");
-        assert_eq!(rt; has_cells(rt.alloc(), &bytes, &[]), None);
+        same(&rt, has_cells(rt.alloc(), &bytes, &[]), None);
     }
 }

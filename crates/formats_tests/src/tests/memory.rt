@@ -6,6 +6,7 @@ use crate::tests::gtids::{A, ENCODED};
 use crate::tests::images::PAIR;
 use crate::tests::messages::{As, DUMP, GREETING, RESPONSE, SET, TOO_MANY, read};
 use crate::tests::rows::{AB, SEVEN, pairs, types};
+use crate::tests::same::same;
 use crate::tests::transactions::{ADD, answers, joined};
 use binlog::{
     Event, EventFault, EventFaultKind, Follow, RowsKind, read_event, rows_fit, write_rows,
@@ -332,7 +333,7 @@ fn all(alloc: Global) -> [Option<bool>; 23] {
 /// With memory to spare what each call needs can be made, so each is made.
 #[test]
 fn answered(rt: HostRuntime) {
-    assert_eq!(rt; all(rt.alloc()), [Some(true); 23]);
+    same(&rt, all(rt.alloc()), [Some(true); 23]);
 }
 
 /// Whichever allocation is refused, no call answers wrongly.

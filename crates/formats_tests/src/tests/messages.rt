@@ -1,6 +1,7 @@
 //! The messages before the first event, by worked values of the public layouts.
 
 use crate::tests::bytes::{WHOLE, changed};
+use crate::tests::same::same;
 use greet::{AuthReply, Dump, GreetFault, Greeting, Response, native, query, read_eof, read_ok};
 use std::alloc::Global;
 
@@ -192,7 +193,7 @@ pub(crate) fn read(alloc: Global, kind: As, payload: &[u8]) -> (&'static str, u3
 fn messages(rt: HostRuntime) {
     for (kind, bytes, len, changes, want) in &READ {
         let payload = changed(rt.alloc(), bytes, *len, changes).expect(&rt, "memory");
-        assert_eq!(rt; read(rt.alloc(), *kind, &payload), *want);
+        same(&rt, read(rt.alloc(), *kind, &payload), *want);
     }
 }
 
@@ -228,7 +229,7 @@ fn server_errors(rt: HostRuntime) {
         (&long, 1040, None, 512),
     ] {
         let found = server_error(rt.alloc(), payload).expect(&rt, "an ERR");
-        assert_eq!(rt; (found.0, found.1), (want, state));
+        same(&rt, (found.0, found.1), (want, state));
         assert!(rt; found.2.len() == size && payload.ends_with(&found.2));
     }
 }
@@ -303,7 +304,7 @@ fn written(rt: HostRuntime) {
         ),
         (written_dump(alloc, 5, SET), DUMP),
     ] {
-        assert_eq!(rt; found.expect(&rt, "memory").as_slice(), want);
+        same(&rt, found.expect(&rt, "memory").as_slice(), want);
     }
 }
 
@@ -320,10 +321,10 @@ fn parts(rt: HostRuntime) {
         0xc1, 0x7d, 0x60, 0x09, 0xa5, 0xcb, 0x47, 0xe5, 0x9f, 0x74, 0x83, 0xfc, 0xf0, 0x55, 0x53,
         0xbb, 0xbf, 0x7d, 0xd0, 0xd6,
     ];
-    assert_eq!(rt; native(b"password", &SCRAMBLE), due);
+    same(&rt, native(b"password", &SCRAMBLE), due);
     let scramble = NEXT_SCRAMBLE;
     let reply = AuthReply::read(rt.alloc(), SWITCH).ok();
-    assert_eq!(rt; reply, Some(AuthReply::Switch { scramble }));
-    assert_eq!(rt; fields(DUMP), Some((5, 7, SET)));
-    assert_eq!(rt; fields(NAMED), Some((1, 2, b"z".as_slice())));
+    same(&rt, reply, Some(AuthReply::Switch { scramble }));
+    same(&rt, fields(DUMP), Some((5, 7, SET)));
+    same(&rt, fields(NAMED), Some((1, 2, b"z".as_slice())));
 }

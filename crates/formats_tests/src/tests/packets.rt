@@ -4,6 +4,7 @@ ghost use Rattle.std.specs.Prelude.{◌≡◌, ◌≢◌, ℕ, ◌≤◌, [], Li
 ghost use Rattle.wire.specs.Stream as stream;
 ghost use Rattle.wire.specs.Stream.{Held, OutOfSequence, Runs};
 
+use crate::tests::same::same;
 use std::alloc::Global;
 use wire::{
     Assembler, LARGEST_PAYLOAD, Step, WireFault, packing_length, read_int, write_int, write_payload,
@@ -39,8 +40,8 @@ fn spelled(alloc: Global, value: u64) -> Option<Vec<u8>> {
 fn integers(rt: HostRuntime) {
     for (value, bytes) in &SPELLINGS {
         let written = spelled(rt.alloc(), *value).expect(&rt, "memory");
-        assert_eq!(rt; written.as_slice(), *bytes);
-        assert_eq!(rt; read_int(bytes), Some((*value, bytes.len())));
+        same(&rt, written.as_slice(), *bytes);
+        same(&rt, read_int(bytes), Some((*value, bytes.len())));
     }
 }
 
@@ -59,7 +60,7 @@ static OTHER_SPELLINGS: [(&[u8], Option<(u64, usize)>); 7] = [
 #[test]
 fn other_integers(rt: HostRuntime) {
     for (bytes, read) in &OTHER_SPELLINGS {
-        assert_eq!(rt; read_int(bytes), *read);
+        same(&rt, read_int(bytes), *read);
     }
 }
 
@@ -118,14 +119,14 @@ fn is_packed(
 #[test]
 fn packings(rt: HostRuntime) {
     for case in &PACKINGS {
-        assert_eq!(rt; is_packed(rt.alloc(), *case, 65_536), Some(true));
+        same(&rt, is_packed(rt.alloc(), *case, 65_536), Some(true));
     }
 }
 
 /// A long payload of two packets, a byte at a time: the work is linear in its length.
 #[test]
 fn bytes(rt: HostRuntime) {
-    assert_eq!(rt; is_packed(rt.alloc(), LONG, 1), Some(true));
+    same(&rt, is_packed(rt.alloc(), LONG, 1), Some(true));
 }
 
 /// What a reader made of a stream: the payloads that it handed out, and then the stream's fault, if it came to one.
@@ -205,11 +206,12 @@ fn has_payloads(alloc: Global, stream: &[u8], want: &[Vec<u8>], length: usize) -
 #[test]
 fn pieces(rt: HostRuntime) {
     let (payloads, stream, id) = stream(rt.alloc()).expect(&rt, "memory");
-    assert_eq!(rt; id, 44);
+    same(&rt, id, 44);
     for length in [1, 2, 3, 4, 5, 64, 65_536] {
-        assert_eq!(rt;
+        same(
+            &rt,
             has_payloads(rt.alloc(), &stream, &payloads, length),
-            Some(true)
+            Some(true),
         );
     }
 }
@@ -290,9 +292,10 @@ fn is_read(
 #[test]
 fn readings(rt: HostRuntime) {
     for (limit, pieces, want, fault) in &READINGS {
-        assert_eq!(rt;
+        same(
+            &rt,
             is_read(rt.alloc(), *limit, pieces, want, *fault),
-            Some(true)
+            Some(true),
         );
     }
 }
@@ -339,6 +342,6 @@ fn answer(alloc: Global, limit: usize, due: u8, pieces: &[&[u8]]) -> Option<Wire
 #[test]
 fn faults(rt: HostRuntime) {
     for (limit, due, pieces, fault) in &FAULTS {
-        assert_eq!(rt; answer(rt.alloc(), *limit, *due, pieces), *fault);
+        same(&rt, answer(rt.alloc(), *limit, *due, pieces), *fault);
     }
 }

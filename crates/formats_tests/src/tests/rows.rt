@@ -2,6 +2,7 @@
 
 use crate::tests::bytes::{WHOLE, changed};
 use crate::tests::event_bytes::{MAP, ROWS, UPDATE, event};
+use crate::tests::same::same;
 use binlog::{
     Cell, ColumnKind, ColumnType, Event, EventFault, EventFaultKind, OwnedCell, OwnedPair, Row,
     RowPair, RowsEvent, RowsKind, TableDef, read_event, rows_fit, write_rows,
@@ -178,8 +179,8 @@ fn rows_of_events(rt: HostRuntime) {
         let table = table(rt.alloc(), map).expect(&rt, "a table");
         let event = edited(rt.alloc(), *code, body, *len, changes).expect(&rt, "memory");
         let found = rows(rt.alloc(), &event, &table).expect(&rt, "rows");
-        assert_eq!(rt; (found.0.as_slice(), found.2), (*signs, *at));
-        assert_eq!(rt; found.1.as_slice(), *cells);
+        same(&rt, (found.0.as_slice(), found.2), (*signs, *at));
+        same(&rt, found.1.as_slice(), *cells);
     }
 }
 
@@ -314,10 +315,11 @@ fn written_rows(rt: HostRuntime) {
         let types = types(rt.alloc(), *maximum).expect(&rt, "memory");
         let pairs = pairs(rt.alloc(), *of_pair, before, after).expect(&rt, "memory");
         let bytes = written(rt.alloc(), *kind, &types, &pairs);
-        assert_eq!(rt; bytes.is_some(), want.is_some());
-        assert_eq!(rt;
+        same(&rt, bytes.is_some(), want.is_some());
+        same(
+            &rt,
             bytes.unwrap_or(Vec::new(rt.alloc())).as_slice(),
-            want.unwrap_or(&[])
+            want.unwrap_or(&[]),
         );
     }
 }
@@ -335,9 +337,9 @@ fn rows_event(alloc: Global, rows: &[u8]) -> Option<Vec<u8>> {
 /// The cell that an owned cell lends.
 #[test]
 fn lent_cell(rt: HostRuntime) {
-    assert_eq!(rt; OwnedCell::Null.as_cell(), Cell::Null);
+    same(&rt, OwnedCell::Null.as_cell(), Cell::Null);
     let two = b"\0\x07\0\0\0\x02ab\0\x07\0\0\0\x02ab";
     let written = rows_event(rt.alloc(), two).expect(&rt, "memory");
     let want = event(rt.alloc(), 30, 0, ROWS).expect(&rt, "memory");
-    assert_eq!(rt; written.as_slice(), want.as_slice());
+    same(&rt, written.as_slice(), want.as_slice());
 }

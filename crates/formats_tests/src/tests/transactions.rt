@@ -3,6 +3,7 @@
 use crate::tests::event_bytes::{
     BEGIN, COMMIT, FIRST, FORMAT, MAP, ROTATE, ROWS, SECOND, XID, event,
 };
+use crate::tests::same::same;
 use binlog::{EventFault, EventFaultKind, TableDef, read_event_only};
 use gather::{Change, Delivery, Follow, GatherFault, Gatherer, Image};
 use std::alloc::Global;
@@ -220,7 +221,7 @@ fn transactions(rt: HostRuntime) {
         let follow = list(rt.alloc(), *only_old).expect(&rt, "memory");
         let want = joined(rt.alloc(), delivered).expect(&rt, "memory");
         let (found, last) = answers(rt.alloc(), &follow, letters).expect(&rt, "events");
-        assert_eq!(rt; found.as_slice(), want.as_slice());
-        assert_eq!(rt; last, *fault);
+        same(&rt, found.as_slice(), want.as_slice());
+        same(&rt, last, *fault);
     }
 }

@@ -17,7 +17,7 @@ use Rattle.replica.proofs.captures.read_captures.Goals as goal
 pub loop-capture-init : goal.loop-capture-init
 loop-capture-init g c = record {
   piece = search rules;
-  may = subst (λ (l : List Ended). All (λ (e : Ended). MayEnd e.reason (g.W.Observer.has_stopped c.args.observer.now)) l) (sym c.requires.none) (search rules);
+  may = subst (λ (l : List Ended). All (λ (e : Ended). MayEnd e.reason (g.W.Observer.has_stopped c.opened.new.self)) l) (sym c.requires.none) (search rules);
   count = search rules;
   room = search rules;
   clean = λ h. h;
@@ -32,7 +32,7 @@ pub returns-in-Err-clause-reads : goal.returns-in-Err-clause-reads
 returns-in-Err-clause-reads g c clean was old holds =
     let inv = c.loop-capture.invariant in
     let all = c.args.captures.items in
-    let turn = YieldsList-turn (YieldsList-from_vec {s = c.into_iter-capture-iterator.result} all (search rules) (search rules)) c.loop-capture.yielded c.loop-capture.capture-iterator c.loop-capture.yielded_by c.next.result c.next.new.self c.in-Some.capture c.in-Some.is
+    let turn = YieldsList-turn (YieldsList-from_vec {s = c.into_iter-capture-iterator.result} all c.into_iter-capture-iterator.ensures.into_iter_gives.0 (c.into_iter-capture-iterator.ensures.into_iter_gives.1 ∙ c.args.captures.ok.0)) c.loop-capture.yielded c.loop-capture.capture-iterator c.loop-capture.yielded_by c.next.result c.next.new.self c.in-Some.capture c.in-Some.is
     c.next.ensures.steps in
     let t = inv.taken (c.read_capture.ensures.clean clean) was old holds in
     subst (λ n. AreReadUpTo g.R.Read.remaining (HasReadAll g.S.Store c.args.config.now.limit c.read_capture.new.store (state g.S.Store c.args.store.now.conn).now.schema was old) (take n all) (slice_get all n) c.loop-capture.ends.items) (sym inv.count)
@@ -44,7 +44,7 @@ pub returns-then-not-goes_on-clause-reads : goal.returns-then-not-goes_on-clause
 returns-then-not-goes_on-clause-reads g c clean was old holds =
     let inv = c.loop-capture.invariant in
     let all = c.args.captures.items in
-    let turn = YieldsList-turn (YieldsList-from_vec {s = c.into_iter-capture-iterator.result} all (search rules) (search rules)) c.loop-capture.yielded c.loop-capture.capture-iterator c.loop-capture.yielded_by c.next.result c.next.new.self c.in-Some.capture c.in-Some.is
+    let turn = YieldsList-turn (YieldsList-from_vec {s = c.into_iter-capture-iterator.result} all c.into_iter-capture-iterator.ensures.into_iter_gives.0 (c.into_iter-capture-iterator.ensures.into_iter_gives.1 ∙ c.args.captures.ok.0)) c.loop-capture.yielded c.loop-capture.capture-iterator c.loop-capture.yielded_by c.next.result c.next.new.self c.in-Some.capture c.in-Some.is
     c.next.ensures.steps in
     let t = inv.taken (c.read_capture.ensures.clean clean) was old holds in
     let ends = c.push_reserved.ensures.items in
@@ -59,7 +59,7 @@ pub loop-capture-preserved : goal.loop-capture-preserved
 loop-capture-preserved g c =
     let inv = c.loop-capture.invariant in
     let all = c.args.captures.items in
-    let turn = YieldsList-turn (YieldsList-from_vec {s = c.into_iter-capture-iterator.result} all (search rules) (search rules)) c.loop-capture.yielded c.loop-capture.capture-iterator c.loop-capture.yielded_by c.next.result c.next.new.self c.in-Some.capture c.in-Some.is
+    let turn = YieldsList-turn (YieldsList-from_vec {s = c.into_iter-capture-iterator.result} all c.into_iter-capture-iterator.ensures.into_iter_gives.0 (c.into_iter-capture-iterator.ensures.into_iter_gives.1 ∙ c.args.captures.ok.0)) c.loop-capture.yielded c.loop-capture.capture-iterator c.loop-capture.yielded_by c.next.result c.next.new.self c.in-Some.capture c.in-Some.is
     c.next.ensures.steps in
     let ends = c.push_reserved.ensures.items in
     let next = length_push c.loop-capture.yielded c.in-Some.capture in
@@ -85,7 +85,7 @@ pub returns-clause-reads : goal.returns-clause-reads
 returns-clause-reads g c clean was old holds =
     let inv = c.loop-capture.invariant in
     let all = c.args.captures.items in
-    let end = YieldsList-end (YieldsList-from_vec {s = c.into_iter-capture-iterator.result} all (search rules) (search rules)) c.loop-capture.yielded c.loop-capture.capture-iterator c.loop-capture.yielded_by c.next.result c.next.new.self c.in-None.is c.next.ensures.steps in
+    let end = YieldsList-end (YieldsList-from_vec {s = c.into_iter-capture-iterator.result} all c.into_iter-capture-iterator.ensures.into_iter_gives.0 (c.into_iter-capture-iterator.ensures.into_iter_gives.1 ∙ c.args.captures.ok.0)) c.loop-capture.yielded c.loop-capture.capture-iterator c.loop-capture.yielded_by c.next.result c.next.new.self c.in-None.is c.next.ensures.steps in
     subst (λ (l : List (Capture g.row.R.Denot)). AreRead g.R.Read.remaining (HasReadAll g.S.Store c.args.config.now.limit c.loop-capture.store (state g.S.Store c.args.store.now.conn).now.schema was old) l c.loop-capture.ends.items)
     (ap (λ n. take n all) end.1 ∙ take-length all) (inv.taken clean was old holds)
 
