@@ -122,9 +122,9 @@ impl Failure<'_> {
     pub fn write<E: Write>(&self, err: &mut E) -> io::Result<()> {
         match self {
             Failure::Words(error) => write!(err, "{error}"),
-            Failure::Set { word, cause } => write_cause(word, cause, err),
-            Failure::Gtid { word } => write_cause(word, &NO_GTID, err),
-            Failure::Table { word } => write_cause(word, &NO_TABLE, err),
+            Failure::Set { word, cause } => write_named(word, cause, err),
+            Failure::Gtid { word } => write_named(word, &NO_GTID, err),
+            Failure::Table { word } => write_named(word, &NO_TABLE, err),
             Failure::Number { word, largest } => {
                 writeln!(
                     err,
@@ -133,25 +133,25 @@ impl Failure<'_> {
                 )
             }
             Failure::Bytes => err.write_all(NO_BYTES),
-            Failure::User { word, cause } => write_cause(word, cause, err),
+            Failure::User { word, cause } => write_named(word, cause, err),
             Failure::File { name, cause } | Failure::Host { name, cause } => {
-                write_cause(name, cause, err)
+                write_named(name, cause, err)
             }
-            Failure::Database { name, cause } => write_cause(name, cause, err),
+            Failure::Database { name, cause } => write_named(name, cause, err),
             Failure::Damaged { name, damage } => {
                 let fault = StoreFault::Damaged;
                 writeln!(err, "mrep: {}: {fault}: {damage}", Shown(name))
             }
-            Failure::Unusable { name, why } => write_cause(name, why, err),
+            Failure::Unusable { name, why } => write_named(name, why, err),
             Failure::Output(cause) if cause.kind() == io::ErrorKind::BrokenPipe => Ok(()),
-            Failure::Output(cause) => write_cause("output", cause, err),
+            Failure::Output(cause) => write_named("output", cause, err),
             Failure::Memory => err.write_all(b"mrep: out of memory\n"),
         }
     }
 }
 
-/// Writes the message of a cause, after the name of what it is the cause of.
-pub fn write_cause<C: Display, E: Write>(name: &str, cause: &C, err: &mut E) -> io::Result<()> {
+/// Writes a line with a cause, after the name of what it is the cause of.
+pub fn write_named<C: Display, E: Write>(name: &str, cause: &C, err: &mut E) -> io::Result<()> {
     writeln!(err, "mrep: {}: {cause}", Shown(name))
 }
 

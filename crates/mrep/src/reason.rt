@@ -120,14 +120,14 @@ pub fn write_cause<W: Write>(
 ) -> io::Result<()> {
     match reason {
         Reason::SourceError { message, .. } => write_message(Shown(stream), message, out),
-        Reason::Wire(fault) => failure::write_cause(stream, fault, out),
-        Reason::Greet(fault) => failure::write_cause(stream, fault, out),
-        Reason::Event(fault) => failure::write_cause(stream, fault, out),
-        Reason::Gather(fault) => failure::write_cause(stream, fault, out),
+        Reason::Wire(fault) => failure::write_named(stream, fault, out),
+        Reason::Greet(fault) => failure::write_named(stream, fault, out),
+        Reason::Event(fault) => failure::write_named(stream, fault, out),
+        Reason::Gather(fault) => failure::write_named(stream, fault, out),
         Reason::Refused(refusal) => write_refusal(Shown(stream), *refusal, out),
-        Reason::Database(fault) => failure::write_cause(file, fault, out),
-        Reason::Memory => failure::write_cause(stream, &"out of memory", out),
-        Reason::Halted => failure::write_cause(stream, &"stopped before a transaction", out),
+        Reason::Database(fault) => failure::write_named(file, fault, out),
+        Reason::Memory => failure::write_named(stream, &"out of memory", out),
+        Reason::Halted => failure::write_named(stream, &"stopped before a transaction", out),
         Reason::EndOfInput | Reason::SourceEof | Reason::ReadFailed | Reason::WriteFailed => Ok(()),
     }
 }
