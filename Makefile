@@ -1,6 +1,6 @@
 # make        proves and builds mrep, puts it at bin/mrep, and runs it on a sample: a captured stream is replayed into
 #             a new database, whose rows and executed set are shown
-# make test   runs the whole gate, tests/run: a program that must not compile, every proof, the tests and the program, the
+# make test   runs the whole gate, tests/run: every proof, the tests and the program, a program that must not compile, the
 #             libraries out of memory, beside all this the wrong bodies, and then, with the program that was built, what else
 #             tests/ has: the commands, messages, rows as CSV and JSON, the change feed, files read by sqlite3, damaged databases, streams and their faults,
 #             captured streams, a source over loopback, streams compared with an independent reading, changed bytes,

@@ -1,5 +1,5 @@
 -- Parts that are appended one after the other.
-use Rattle.std.proofs.Common.{◌≡◌, ℕ, zero, suc, ◌+◌, ◌<◌, ◌≤◌, Bool, true, false, List, [], ◌∷◌, ◌++◌, length, get_or, take, flat_map, Result, Ok, Err, sym, arith}
+use Rattle.std.proofs.Common.{◌≡◌, ℕ, zero, suc, ◌+◌, ◌<◌, ◌≤◌, true, List, [], ◌∷◌, length, get_or, take, flat_map, Result, Ok, Err, arith}
 use Rattle.std.specs.Prelude.{OnErr}
 use Rattle.std.specs.Result.{is_err}
 use Rattle.std.proofs.lemmas.List.{length-append}

@@ -1,15 +1,14 @@
 -- What is reported as an error of the source is an ERR.
-use Rattle.std.proofs.Common.{◌≡◌, ◌≢◌, ℕ, ◌<◌, ◌≤◌, ◌==◌, ◌&&◌, Bool, true, false, cond, List, [], ◌∷◌, ◌++◌, length, get_or, take, drop, Option, Some, None, refl, sym, ap, ◌∙◌, subst, arith, inl, inr}
-use Rattle.std.specs.Prelude.{◌⊎◌, not, nat_le, nat_lt}
-use Rattle.std.specs.Str.{bytes_eq}
+use Rattle.std.proofs.Common.{◌≡◌, ◌≢◌, ℕ, ◌<◌, ◌≤◌, ◌==◌, ◌&&◌, Bool, true, false, cond, List, [], ◌∷◌, length, get_or, take, drop, Option, Some, None, refl, sym, ap, ◌∙◌, subst, arith, inl, inr}
+use Rattle.std.specs.Prelude.{◌⊎◌, nat_le}
 use Rattle.std.proofs.lemmas.Bool.{false≢true, le-leb, leb-true, eqb-true, le-ltb, lt-ltb, cases_lt}
 use Rattle.std.proofs.lemmas.List.{length-take, take-append-drop}
 use Rattle.byteorder.specs.Endian.{little_number}
 use Rattle.byteorder.specs.Numbers.{little_from-lt}
 use Rattle.wire.proofs.Cuts.{IsBytes, IsBytes-rest, number_at_front}
-use Rattle.greet.specs.Message.{IsErrorText, IsErrPacket, plugin_name}
+use Rattle.greet.specs.Message.{IsErrorText, IsErrPacket}
 use Rattle.greet.specs.Complete.{HasErr, IsErrOf}
-use Rattle.greet.specs.Refusal.{Refusal, server_error, protocol, truncated, capabilities, plugin, old_auth, unexpected, has_state, state_of, message_of, kept_message, error_of, has_zero, before_zero, after_zero, after_int, has_insert_id, fields_refusal, greeting_refusal, ok_refusal, switch_refusal, reply_refusal, eof_refusal}
+use Rattle.greet.specs.Refusal.{Refusal, server_error, protocol, truncated, capabilities, plugin, old_auth, unexpected, has_state, state_of, message_of, error_of, after_zero, fields_refusal, greeting_refusal, ok_refusal, switch_refusal, reply_refusal, eof_refusal}
 
 -- ---- The text of an ERR.
 

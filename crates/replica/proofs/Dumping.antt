@@ -28,7 +28,7 @@ use Rattle.replica.specs.Settings.{Settings}
 use Rattle.replica.specs.Stream.{Payload, Hello, InDump, IsInDump, Answers, next_due, next_id, due_after, due_from}
 use Rattle.replica.specs.End.{Denies, EndsLog}
 use Rattle.replica.specs.Conn.{AppliesAll, Why, NextEnds, BreaksStore}
-use Rattle.replica.specs.Sent.{Sent, SentFor}
+use Rattle.replica.specs.Sent.{Sent}
 use Rattle.replica.specs.Standing.{GoesOn, HasEnded, Stands, HasPayload, due_of, end_of, place_of, MovesOn}
 use Rattle.replica.specs.Crash.{IsLeft}
 use Rattle.replica.specs.Turn.{GathersMore}

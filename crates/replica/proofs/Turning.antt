@@ -18,8 +18,8 @@ use Rattle.replica.specs.declared.phase.Login.{Login}
 use Rattle.replica.specs.declared.phase.Login.TheVariants as login
 use Rattle.replica.specs.declared.session.Session.{Session}
 use Rattle.replica.specs.Settings.{Settings}
-use Rattle.replica.specs.Stream.{Payload, Due, Hello, QueryReply, IsInDump, next_due, next_id, due_after, Reading}
-use Rattle.replica.specs.End.{HasNext, StopsAt, PassesEnd, StopsFor}
+use Rattle.replica.specs.Stream.{Payload, Hello, IsInDump, next_due, next_id, due_after}
+use Rattle.replica.specs.End.{StopsAt}
 use Rattle.replica.specs.Conn.{AppliesAll, Why, BreaksStore}
 use Rattle.replica.specs.Sent.{Sent, SentFor}
 use Rattle.replica.specs.Standing.{GoesOn, HasEnded, Stands, HasPayload, due_at, due_of, first_id_of, room_of}

@@ -1,4 +1,5 @@
 use Rattle.std.proofs.Common.{rules, ◌≡◌, ◌++◌, ◌∷◌, [], ◌+◌, List, slice_get, take, length, refl, sym, ap, ◌∙◌, subst, subst₂, All}
+use Rattle.std.proofs.lemmas.Bool.{not-false}
 use Rattle.std.proofs.lemmas.List.{take_more, length_push}
 use Rattle.std.proofs.Math.Seq.{take-length}
 use Rattle.std.proofs.lemmas.Option.{slice_get_read}
@@ -99,3 +100,6 @@ returns-then-not-goes_on-clause-neither g c =
 
 pub returns-clause-neither : goal.returns-clause-neither
 returns-clause-neither g c = c.loop-capture.invariant.may
+
+pub returns-then-not-goes_on-clause-asked : goal.returns-then-not-goes_on-clause-asked
+returns-then-not-goes_on-clause-asked g c is = not-false _ (sym c.ended-goes_on.ensures.goes_on ∙ c.if-not-goes_on.true)

@@ -1,4 +1,4 @@
-use Rattle.std.proofs.Common.{[], ◌∷◌, true, false, subst}
+use Rattle.std.proofs.Common.{[], ◌∷◌, subst}
 use Rattle.gather.specs.View.{delivery_value, delivered}
 use Rattle.replica.specs.Turn.{GathersMore, EndsDump}
 use Rattle.replica.proofs.Events.{ends_early, goes_on}

@@ -6,3 +6,6 @@ use Rattle.store.proofs.apply.refuse.Goals as goal
 pub returns-in-Err-clause-reported : goal.returns-in-Err-clause-reported
 returns-in-Err-clause-reported g c clean =
     reported_failed _ [] c.args.at c.args.why (state g.S.Store c.args.conn.now) (state g.S.Store c.prepare.new.self) c.in-Err.error (c.in-Err.ensures.err clean [])
+
+pub returns-in-NoSuchRow-clause-autocommit : goal.returns-in-NoSuchRow-clause-autocommit
+returns-in-NoSuchRow-clause-autocommit g c = c.prepare.ensures.mode c.requires

@@ -7,6 +7,7 @@ use Rattle.gtid.specs.Identifier.{id}
 use Rattle.gather.specs.View.{delivery_value}
 use Rattle.store.specs.Take.{is_executed}
 use Rattle.gtid.specs.Beside.{Joins}
+use Rattle.gather.proofs.RowItems.{ok_not_err}
 use Rattle.store.proofs.Taken.{beside_known, moved, came, given_up, fault_in, shut_after, refused_shut}
 use Rattle.store.proofs.apply.take.Goals as goal
 
@@ -69,6 +70,9 @@ returns-in-Err-run-clause-crash g c content rest same =
     let beside : Joins content.executed (id c.args.delivery.now.gtid) c.beside-beside.result rest.stands.executed.spans =
     beside_known rest.stands.executed.spans c.args.executed content.executed (id c.args.delivery.now.gtid) c.beside-beside.result same rest.stands.executed.least (c.beside-beside.ensures.joins c.requires.new) in
     c.in-Err-run.ensures.crash content rest out beside
+
+pub returns-in-Ok-None-clause-memory : goal.returns-in-Ok-None-clause-memory
+returns-in-Ok-None-clause-memory g c is = absurd (ok_not_err _ _ is)
 
 pub returns-in-Ok-Some-clause-memory : goal.returns-in-Ok-Some-clause-memory
 returns-in-Ok-Some-clause-memory g c is = absurd (c.refuse.ensures.other (ap fault_in is))

@@ -1,8 +1,9 @@
-use Rattle.std.proofs.Common.{None, arith}
+use Rattle.std.proofs.Common.{None, Some, sym, subst, arith}
 use Rattle.sqlite.specs.State.{HasCleanDisk}
 use Rattle.sqlite.specs.Held.{state}
 use Rattle.gather.specs.View.{delivery_value, change_values}
 use Rattle.store.specs.Inside.{DoesAll}
+use Rattle.store.specs.Take.{IsRefusedAt}
 use Rattle.store.proofs.Filled.{shows_mid, filled}
 use Rattle.store.proofs.changes.fill.Goals as goal
 
@@ -17,3 +18,13 @@ returns-clause-fills g c clean was content stands out beside =
     let does : DoesAll names (change_values c.args.delivery.now.changes.items) old mid None = rw (c.in_default.is, c.as_slice.ensures.value) at (c.in_ok-refused.ensures.does early was) in
     filled old mid new names d content stands out c.record.ensures.lawful does
     (c.in_ok-record.ensures.records clean does.0.on.working content.executed stands.executed.spans (shows_mid old mid new names d content stands out does.0) beside)
+
+pub returns-in-Some-clause-fills : goal.returns-in-Some-clause-fills
+returns-in-Some-clause-fills g c clean was content stands out beside =
+    let old = state g.S.Store c.args.tx.now.conn.now in
+    let mid = state g.S.Store c.make_all.new.tx.conn.now in
+    let names = c.args.follow.now in
+    let changes = change_values c.args.delivery.now.changes.items in
+    let why = c.in-Some.refused in
+    let does : DoesAll names changes old mid (Some why) = rw (c.in-Some.is, c.as_slice.ensures.value) at (c.in_ok-refused.ensures.does clean was) in
+    (out, subst (λ rows. IsRefusedAt names changes rows why.0 why.1) (sym stands.rows) does)

@@ -1,6 +1,6 @@
 use Rattle.std.proofs.Common.{◌≡◌, ◌+◌, ◌++◌, unwrap_or, refl, sym, ap, subst, ◌∙◌, length, arith}
 use Rattle.replica.specs.Stream.{IsInDump, next_due}
-use Rattle.replica.specs.Standing.{due_at, due_of, end_of, Stands, HasEnded, Meets, HasPayload}
+use Rattle.replica.specs.Standing.{due_at, due_of, end_of, HasEnded}
 use Rattle.replica.specs.declared.end.Ended.{Ended}
 use Rattle.replica.specs.declared.end.Reason.TheVariants.{EndOfInput}
 use Rattle.replica.specs.Conn.{IsOwn}
