@@ -14,7 +14,7 @@ use Rattle.gather.specs.declared.state.State.{State}
 use Rattle.gather.specs.declared.state.State.TheVariants.{Inside}
 use Rattle.gather.proofs.Maps.{or_none, no_end}
 
--- a block that has current is open
+-- a block that has begun is open
 pub open_block : (source : List ℕ) (number : ℕ) (body : List EventValue) (changes : List ChangeValue) → AreChanges [] body changes → is_open (gtid source number ∷ begin ∷ body) ≡ true
 open_block source number body changes are = ap not (no_end [] body changes are)
 

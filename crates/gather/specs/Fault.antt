@@ -38,7 +38,7 @@ abbrev pub is_announced : List EventValue → Bool
 is_announced (gtid source number ∷ []) = true
 is_announced _ = false
 
--- the block has current and not ended
+-- the block has begun and not ended
 abbrev pub is_open : List EventValue → Bool
 is_open (gtid source number ∷ begin ∷ body) = not (list_any is_end body)
 is_open _ = false

@@ -18,7 +18,7 @@ IsAt block Between = (is_announced block ≡ false) × (is_open block ≡ false)
 IsAt block (Announced id) = block ≡ gtid id.source id.number ∷ []
 IsAt block (Inside current) = (body : List EventValue) × (block ≡ gtid current.gtid.source current.gtid.number ∷ begin ∷ body) × Keeps body current
 
--- The event continues a block that has current, ends these transactions, one or none, and brings the gatherer to a new
+-- The event continues a block that has begun, ends these transactions, one or none, and brings the gatherer to a new
 -- state.
 pub record Extends (block : List EventValue) (e : EventValue) (ds : List DeliveryValue) (after : State) : Type 0 where
   pub current : IsAnnounced block ⊎ IsOpen block

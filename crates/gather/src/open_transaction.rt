@@ -1,4 +1,4 @@
-//! A transaction that has current and not ended.
+//! A transaction that has begun and not ended.
 
 use crate::fault::GatherFault;
 use crate::row_changes::push_changes;

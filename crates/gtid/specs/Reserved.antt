@@ -1,4 +1,4 @@
--- Room for one more GTID.
+-- Private: room for one more GTID.
 use Rattle.std.specs.Prelude.{◌≡◌, ℕ, ◌<◌, nat_eq, length, List, slice_index_or, vec_len, vec_capacity}
 use Rattle.gtid.specs.Interval.{has}
 use Rattle.gtid.specs.Group.{IsAt, IsGap}

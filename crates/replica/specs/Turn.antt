@@ -1,4 +1,4 @@
--- What a session does with one payload.
+-- Private: what a session does with one payload.
 use Rattle.std.specs.Prelude.{◌≡◌, ℕ, Bool, true, false, List, [], ◌∷◌, ◌++◌, Option, Some, Result, Ok, Err}
 use Rattle.greet.specs.Refusal.{Refusal, server_error}
 use Rattle.greet.specs.View.{Refuses}

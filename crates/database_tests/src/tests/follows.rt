@@ -171,7 +171,7 @@ fn failed_read(alloc: Global, readable: usize) -> Result<String, Fail> {
 }
 
 #[test]
-fn tells_each_failed_read(rt: HostRuntime) -> Result<(), Fail> {
+fn reports_each_failed_read(rt: HostRuntime) -> Result<(), Fail> {
     for readable in 0..=449 {
         let gives = if readable % 2 == 0 { 1 } else { usize::MAX };
         let given = Given {
@@ -202,7 +202,7 @@ fn failed_write(alloc: Global, writable: usize) -> Result<String, Fail> {
 }
 
 #[test]
-fn tells_each_failed_write(rt: HostRuntime) -> Result<(), Fail> {
+fn reports_each_failed_write(rt: HostRuntime) -> Result<(), Fail> {
     for writable in 0..138 {
         let takes = if writable % 2 == 0 { 1 } else { usize::MAX };
         let given = Given {
@@ -222,7 +222,7 @@ fn tells_each_failed_write(rt: HostRuntime) -> Result<(), Fail> {
 
 /// A write that takes nothing has failed, though it returns no error; what was read before is applied completely.
 #[test]
-fn tells_a_write_that_takes_nothing(rt: HostRuntime) -> Result<(), Fail> {
+fn reports_a_write_that_takes_nothing(rt: HostRuntime) -> Result<(), Fail> {
     let given = Given {
         takes: 0,
         ..AT_ONCE

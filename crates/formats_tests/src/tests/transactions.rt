@@ -150,7 +150,7 @@ fn push(sign: u8, table: &TableDef, image: &Image, out: &mut Vec<u8>) -> Option<
 }
 
 /// Appends a change as in `ADD`.
-fn tell(change: &Change, out: &mut Vec<u8>) -> Option<()> {
+fn push_change(change: &Change, out: &mut Vec<u8>) -> Option<()> {
     match change {
         Change::Insert { table, after } => push(b'+', table, after, out),
         Change::Delete { table, before } => push(b'-', table, before, out),
@@ -170,7 +170,7 @@ fn deliver(delivery: &Delivery, out: &mut Vec<u8>) -> Option<()> {
     out.push(b'0'.checked_add(u8::try_from(delivery.gtid.number).ok()?)?)
         .ok()?;
     for change in &delivery.changes {
-        tell(change, out)?;
+        push_change(change, out)?;
     }
     Some(())
 }
