@@ -14,7 +14,7 @@
 import glob, os, re, sys
 
 root = os.path.abspath(sys.argv[1])
-CRATES = ['wire', 'greet', 'gtid', 'binlog', 'gather', 'store', 'replica', 'mrep']
+CRATES = ['wire', 'greet', 'gtid', 'binlog', 'gather', 'store', 'scripted_source', 'replica', 'mrep']
 TOP = ('crates/', 'docs/', 'tests/', 'bench/', 'samples/', 'specs/', 'src/', 'proofs/', 'must-fail/', '.ci/')
 bad = []
 
