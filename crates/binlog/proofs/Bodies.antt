@@ -8,7 +8,7 @@ use Rattle.binlog.specs.Body.{IsGtid, IsQuery, text_place, statement, is_stateme
 use Rattle.binlog.specs.declared.body.query.Query.{Query}
 use Rattle.binlog.specs.declared.body.query.Query.TheVariants.{Begin, Commit}
 use Rattle.binlog.specs.Fault.{number_at}
-use Rattle.wire.proofs.Cuts.{IsBytes, number_at_front, drop_drop, cut, one, after, drop_at}
+use Rattle.wire.proofs.Cuts.{IsBytes, number_at_front, drop_drop, cut, one, after, drop_at, right_7}
 
 from : (n : ℕ) (xs : List ℕ) → IsBytes xs → IsBytes (drop n xs)
 from n xs fits i = rw get_or-drop (fits (n + i))
@@ -51,9 +51,6 @@ gtid_reported source number bytes is =
     }
 
 -- ---- Queries.
-
-right_7 : (a b c d e f g : List ℕ) → a ++ b ++ c ++ d ++ e ++ f ++ g ≡ a ++ (b ++ (c ++ (d ++ (e ++ (f ++ g)))))
-right_7 a b c d e f g = simp append_assoc
 
 pub is_query : (bytes : List ℕ) → IsBytes bytes → text_place bytes ≤ length bytes → IsQuery (drop (text_place bytes) bytes) (drop 19 bytes)
 is_query bytes fits long =

@@ -1,8 +1,8 @@
 -- Events: bytes are one or are refused, and what they say is determined.
-use Rattle.std.proofs.Common.{◌≡◌, ℕ, ◌+◌, ◌==◌, ◌&&◌, ◌||◌, Bool, true, false, List, [], ◌∷◌, get_or, take, drop, codes, Option, Some, None, refl, sym, ap, subst, ◌∙◌, inl, inr}
+use Rattle.std.proofs.Common.{◌≡◌, ℕ, ◌+◌, ◌==◌, ◌&&◌, Bool, true, false, List, [], ◌∷◌, get_or, take, drop, codes, Option, Some, None, refl, sym, ap, subst, ◌∙◌, inl, inr}
 use Rattle.std.specs.Prelude.{nat_le, not, if◌then◌else◌, Result, Ok, Err, IfOk, IfErr, MatchResult}
 use Rattle.std.specs.Str.{bytes_eq}
-use Rattle.std.proofs.lemmas.Bool.{cases_eq, cases_Bool, ne_eqb, false≢true}
+use Rattle.std.proofs.lemmas.Bool.{cases_eq, cases_Bool, ne_eqb, false≢true, or_parts}
 use Rattle.std.proofs.lemmas.Option.{none-some}
 use Rattle.binlog.specs.Fault.{refuse, first_of, number_at}
 use Rattle.binlog.specs.Header.{IsFramed, HasFrame, header_fault}
@@ -41,10 +41,6 @@ record NotRead (code : ℕ) : Type 0 where
   n32 : (code == 32) ≡ false
   n33 : (code == 33) ≡ false
 
-neither : (a b : Bool) → (a || b) ≡ false → (a ≡ false) × (b ≡ false)
-neither true b is = absurd cc
-neither false b is = (refl, is)
-
 record Unknown (code : ℕ) : Type 0 where
   not_read : NotRead code
   n34 : (code == 34) ≡ false
@@ -54,24 +50,24 @@ record Unknown (code : ℕ) : Type 0 where
 
 unknown : (code : ℕ) → is_one_of known_codes code ≡ false → Unknown code
 unknown code is =
-    let a2 = neither (code == 2) _ is in
-    let a3 = neither (code == 3) _ a2.1 in
-    let a4 = neither (code == 4) _ a3.1 in
-    let a15 = neither (code == 15) _ a4.1 in
-    let a16 = neither (code == 16) _ a15.1 in
-    let a19 = neither (code == 19) _ a16.1 in
-    let a27 = neither (code == 27) _ a19.1 in
-    let a28 = neither (code == 28) _ a27.1 in
-    let a29 = neither (code == 29) _ a28.1 in
-    let a30 = neither (code == 30) _ a29.1 in
-    let a31 = neither (code == 31) _ a30.1 in
-    let a32 = neither (code == 32) _ a31.1 in
-    let a33 = neither (code == 33) _ a32.1 in
-    let a34 = neither (code == 34) _ a33.1 in
-    let a35 = neither (code == 35) _ a34.1 in
-    let a38 = neither (code == 38) _ a35.1 in
-    let a39 = neither (code == 39) _ a38.1 in
-    let a40 = neither (code == 40) _ a39.1 in
+    let a2 = or_parts (code == 2) _ is in
+    let a3 = or_parts (code == 3) _ a2.1 in
+    let a4 = or_parts (code == 4) _ a3.1 in
+    let a15 = or_parts (code == 15) _ a4.1 in
+    let a16 = or_parts (code == 16) _ a15.1 in
+    let a19 = or_parts (code == 19) _ a16.1 in
+    let a27 = or_parts (code == 27) _ a19.1 in
+    let a28 = or_parts (code == 28) _ a27.1 in
+    let a29 = or_parts (code == 29) _ a28.1 in
+    let a30 = or_parts (code == 30) _ a29.1 in
+    let a31 = or_parts (code == 31) _ a30.1 in
+    let a32 = or_parts (code == 32) _ a31.1 in
+    let a33 = or_parts (code == 33) _ a32.1 in
+    let a34 = or_parts (code == 34) _ a33.1 in
+    let a35 = or_parts (code == 35) _ a34.1 in
+    let a38 = or_parts (code == 38) _ a35.1 in
+    let a39 = or_parts (code == 39) _ a38.1 in
+    let a40 = or_parts (code == 40) _ a39.1 in
     record {
       not_read = record { n2 = a2.0; n3 = a3.0; n4 = a4.0; n15 = a15.0; n16 = a16.0; n19 = a19.0; n30 = a30.0; n31 = a31.0; n32 = a32.0; n33 = a33.0 };
       n34 = a34.0;
@@ -123,9 +119,9 @@ is_neutral code may_ignore n none =
     let p3 = passes (refuse (not (is_one_of known_codes code) && not may_ignore) (TypeCode code) 4) _ p2.1 in
     let n34 = not_refused (code == 34) Anonymous 4 p1.0 in
     let refused = not_refused (is_one_of refused_codes code) (TypeCode code) 4 p2.0 in
-    let a38 = neither (code == 38) _ refused in
-    let a39 = neither (code == 39) _ a38.1 in
-    let a40 = neither (code == 40) _ a39.1 in
+    let a38 = or_parts (code == 38) _ refused in
+    let a39 = or_parts (code == 39) _ a38.1 in
+    let a40 = or_parts (code == 40) _ a39.1 in
     let unknown_marked = not_refused (not (is_one_of known_codes code) && not may_ignore) (TypeCode code) 4 p3.0 in
     elim (cases_Bool (is_one_of known_codes code)) as (λ _. IsNeutral code may_ignore) [
       | inl known ↦

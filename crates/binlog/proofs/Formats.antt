@@ -1,5 +1,5 @@
 -- Format descriptions, by the whole event.
-use Rattle.std.proofs.Common.{◌≡◌, ℕ, zero, suc, ◌+◌, ◌-◌, ◌<◌, ◌≤◌, ◌==◌, not, List, [], ◌∷◌, ◌++◌, length, get_or, take, drop, Option, Some, None, refl, sym, ap, ◌∙◌, append_assoc, arith}
+use Rattle.std.proofs.Common.{◌≡◌, ℕ, zero, suc, ◌+◌, ◌-◌, ◌<◌, ◌≤◌, ◌==◌, not, List, [], ◌∷◌, ◌++◌, length, get_or, take, drop, Option, Some, None, refl, sym, ap, ◌∙◌, arith}
 use Rattle.std.proofs.lemmas.Bool.{le-ltb, eqb-true, not-false}
 use Rattle.std.proofs.lemmas.List.{length-append, length-drop, length-take, get_or-drop, get_or-take}
 use Rattle.byteorder.specs.Endian.{little_bytes, little_number}
@@ -9,7 +9,7 @@ use Rattle.binlog.specs.Body.{IsFormat, read_lengths, length_refusal, length_ref
 use Rattle.binlog.specs.declared.fault.EventFault.{EventFault}
 use Rattle.binlog.specs.declared.fault.EventFaultKind.TheVariants.{HeaderLengths, Checksum}
 use Rattle.binlog.proofs.Tables.{passes, not_refused}
-use Rattle.wire.proofs.Cuts.{IsBytes, number_at_front, drop_drop, cut, one, after, drop_front}
+use Rattle.wire.proofs.Cuts.{IsBytes, number_at_front, drop_drop, cut, one, after, drop_front, right_5}
 use Rattle.binlog.proofs.Bodies.{first_left}
 
 -- ---- Tables one after the other.
@@ -58,9 +58,6 @@ pub none_wrong : (bytes : List ℕ) → AreLengths bytes → first_of (length_re
 none_wrong bytes are = rw (are.query, are.rotate, are.table_map, are.write, are.update, are.delete) refl
 
 -- ---- The whole.
-
-right_5 : (a b c d e : List ℕ) → a ++ b ++ c ++ d ++ e ≡ a ++ (b ++ (c ++ (d ++ e)))
-right_5 a b c d e = simp append_assoc
 
 -- a length, as one of all of them
 among : (bytes : List ℕ) (size i wanted : ℕ) → i < size → get_or bytes (76 + i) 0 ≡ wanted → get_or (take size (drop 76 bytes)) i 0 ≡ wanted

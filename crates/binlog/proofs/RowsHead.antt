@@ -4,7 +4,7 @@ use Rattle.std.specs.Prelude.{nat_lt, nat_le}
 use Rattle.std.specs.List.{list_all, range_with_len}
 use Rattle.std.proofs.Math.Seq.{take-add}
 use Rattle.std.proofs.lemmas.Bool.{le-ltb, le-leb, cases_Bool, cases_lt, false≢true, not-false, ltb-false, leb-true}
-use Rattle.std.proofs.lemmas.List.{length-append, length-drop, length-take, get_or-drop, take-append-drop, take_at}
+use Rattle.std.proofs.lemmas.List.{length-append, length-drop, length-take, take-append-drop, take_at}
 use Rattle.std.proofs.lemmas.List.Folds.{list_all_at}
 use Rattle.std.proofs.lemmas.List.FromFn.{length-range_with_len, get_or-range_with_len}
 use Rattle.byteorder.specs.Endian.{little_bytes, little_number}
@@ -19,7 +19,7 @@ use Rattle.binlog.specs.declared.fault.EventFaultKind.TheVariants.{Columns, Part
 use Rattle.binlog.specs.declared.fault.EventFault.{EventFault}
 use Rattle.binlog.specs.declared.body.rows_event.RowsKind.{RowsKind}
 use Rattle.binlog.specs.declared.body.rows_event.RowsKind.TheVariants.{Write, Update, Delete}
-use Rattle.wire.proofs.Cuts.{IsBytes, number_at_front, drop_drop, cut, after, drop_at, drop_front}
+use Rattle.wire.proofs.Cuts.{IsBytes, number_at_front, drop_drop, cut, after, drop_at, drop_front, right_7, IsBytes-drop}
 use Rattle.binlog.proofs.Tables.{passes, not_refused, is_there}
 use Rattle.binlog.proofs.Counts.{counted, count_not_refused, Counted, is_counted}
 
@@ -162,12 +162,6 @@ pub record AreParts (kind : RowsKind) (bytes : List ℕ) : Type 0 where
   pub columns : (1 ≤ columns_of bytes) × (columns_of bytes ≤ 4096)
   pub presents : presents_fault kind bytes (presents_place bytes) (columns_of bytes) ≡ None
 
-right_7 : (a b c d e f g : List ℕ) → a ++ b ++ c ++ d ++ e ++ f ++ g ≡ a ++ (b ++ (c ++ (d ++ (e ++ (f ++ g)))))
-right_7 a b c d e f g = simp append_assoc
-
-from : (n : ℕ) (xs : List ℕ) → IsBytes xs → IsBytes (drop n xs)
-from n xs fits i = rw get_or-drop (fits (n + i))
-
 pub is_rows : (kind : RowsKind) (bytes : List ℕ) → IsBytes bytes → AreParts kind bytes → IsRows (stated kind bytes) (drop 19 bytes)
 is_rows kind bytes fits are =
     let e = number_at 2 bytes 27 in
@@ -193,18 +187,18 @@ is_rows kind bytes fits are =
     let c29 : drop 29 bytes ≡ extra ++ (count ++ (present ++ rows)) = cut 29 (e - 2) bytes ∙ ap (λ k. extra ++ drop k bytes) end ∙ ap (λ t. extra ++ t) c_count in
     let enough_27 : 2 ≤ length (drop 27 bytes) = omega (arith, head, length-drop 27 bytes) in
     let c27 : drop 27 bytes ≡ little_bytes 2 (2 + length extra) ++ (extra ++ (count ++ (present ++ rows))) =
-    number_at_front 2 (drop 27 bytes) enough_27 (from 27 bytes fits) ∙ (λ i. little_bytes 2 (extra_long i) ++ drop_drop 27 2 bytes i) ∙ ap (λ t. little_bytes 2 (2 + length extra) ++ t) c29 in
+    number_at_front 2 (drop 27 bytes) enough_27 (IsBytes-drop 27 bytes fits) ∙ (λ i. little_bytes 2 (extra_long i) ++ drop_drop 27 2 bytes i) ∙ ap (λ t. little_bytes 2 (2 + length extra) ++ t) c29 in
     let c25 = cut 25 2 bytes ∙ ap (λ t. take 2 (drop 25 bytes) ++ t) c27 in
     let enough_19 : 6 ≤ length (drop 19 bytes) = omega (arith, head, length-drop 19 bytes) in
-    let c19 = number_at_front 6 (drop 19 bytes) enough_19 (from 19 bytes fits) ∙ ap (λ t. little_bytes 6 (number_at 6 bytes 19) ++ t) (drop_drop 19 6 bytes ∙ c25) in
-    let small : e < 2 ^ 16 = little_from-lt 0 2 (drop 27 bytes) (from 27 bytes fits) in
+    let c19 = number_at_front 6 (drop 19 bytes) enough_19 (IsBytes-drop 19 bytes fits) ∙ ap (λ t. little_bytes 6 (number_at 6 bytes 19) ++ t) (drop_drop 19 6 bytes ∙ c25) in
+    let small : e < 2 ^ 16 = little_from-lt 0 2 (drop 27 bytes) (IsBytes-drop 27 bytes fits) in
     record {
       flags = take 2 (drop 25 bytes);
       extra = extra;
       count = count;
       present = present;
       body_is = c19 ∙ sym (right_7 (little_bytes 6 (number_at 6 bytes 19)) (take 2 (drop 25 bytes)) (little_bytes 2 (2 + length extra)) extra count present rows);
-      an_id = little_from-lt 0 6 (drop 19 bytes) (from 19 bytes fits);
+      an_id = little_from-lt 0 6 (drop 19 bytes) (IsBytes-drop 19 bytes fits);
       sizes = (omega (arith, head, length-take 2 (drop 25 bytes), length-drop 25 bytes), omega (arith, extra_long, small));
       counted = are.count.encoded;
       columns = are.columns;

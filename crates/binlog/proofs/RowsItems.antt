@@ -192,11 +192,6 @@ enough (suc most) (suc more) kind types (x ∷ bytes) at some a b =
     let left = length-drop size (x ∷ bytes) in
     enough most more kind types (drop size (x ∷ bytes)) (at + size) some (omega (arith, a, not_none, left)) (omega (arith, b, not_none, left)))
 
-pub no_items : (most : ℕ) (kind : RowsKind) (types : List ColumnKind) (bytes : List ℕ) (at : ℕ) → length bytes ≡ 0 → items_of most kind types bytes at ≡ []
-no_items zero kind types bytes at none = refl
-no_items (suc most) kind types [] at none = refl
-no_items (suc most) kind types (x ∷ bytes) at none = absurd (omega (arith, none))
-
 pub pair_first : (most : ℕ) (kind : RowsKind) (types : List ColumnKind) (bytes : List ℕ) (at size : ℕ) → 1 ≤ length types → length bytes ≤ most → 1 ≤ length bytes → pair_end kind types bytes ≡ Ok size →
     items_of most kind types bytes at ≡ Ok (pair_of kind types bytes) ∷ items_of (length (drop size bytes)) kind types (drop size bytes) (at + size)
 pair_first zero kind types bytes at size some all left is = absurd (omega (arith, all, left))

@@ -1,5 +1,5 @@
 -- The names of table maps, by the whole event.
-use Rattle.std.proofs.Common.{◌≡◌, ℕ, suc, ◌+◌, ◌-◌, ◌<◌, ◌≤◌, List, ◌∷◌, ◌++◌, length, get_or, take, drop, None, refl, sym, ap, ◌∙◌, append_assoc, arith}
+use Rattle.std.proofs.Common.{◌≡◌, ℕ, suc, ◌+◌, ◌-◌, ◌<◌, ◌≤◌, List, ◌∷◌, ◌++◌, length, get_or, take, drop, None, refl, sym, ap, ◌∙◌, arith}
 use Rattle.std.proofs.lemmas.Bool.{le-ltb}
 use Rattle.std.proofs.lemmas.List.{length-drop, length-take, get_or-drop, take_at}
 use Rattle.byteorder.specs.Endian.{little_bytes, little_number}
@@ -8,11 +8,8 @@ use Rattle.binlog.specs.Fault.{needs, number_at}
 use Rattle.binlog.specs.Table.{IsNamed, table_place, terminator_place, schema_of, table_of, names_fault}
 use Rattle.binlog.specs.Columns.{HasNames}
 use Rattle.binlog.proofs.Tables.{passes, is_there}
-use Rattle.wire.proofs.Cuts.{IsBytes, number_at_front, drop_drop, cut, one, after, drop_front}
+use Rattle.wire.proofs.Cuts.{IsBytes, number_at_front, drop_drop, cut, one, after, drop_front, right_5}
 use Rattle.binlog.proofs.Bodies.{first_left}
-
-right_5 : (a b c d e : List ℕ) → a ++ b ++ c ++ d ++ e ≡ a ++ (b ++ (c ++ (d ++ e)))
-right_5 a b c d e = simp append_assoc
 
 -- a byte at an offset, and what follows it
 pub one_at : (n m : ℕ) (xs : List ℕ) → m ≡ suc n → n < length xs → drop n xs ≡ get_or xs n 0 ∷ drop m xs

@@ -19,16 +19,13 @@ use Rattle.binlog.specs.declared.fault.EventFault.{EventFault}
 use Rattle.binlog.specs.declared.fault.EventFaultKind.{EventFaultKind}
 use Rattle.binlog.specs.declared.fault.EventFaultKind.TheVariants.{Columns, Metadata}
 use Rattle.binlog.proofs.Tables.{passes, not_refused, is_there}
-use Rattle.wire.proofs.Cuts.{IsBytes, drop_drop, drop_front, drop_at, cut}
+use Rattle.wire.proofs.Cuts.{IsBytes, drop_drop, drop_front, drop_at, cut, right_6}
 use Rattle.binlog.proofs.Columns.{lawful_size, no_fault, some_column}
 use Rattle.binlog.proofs.Counts.{counted, count_not_refused, some_bytes, is_counted}
 use Rattle.binlog.proofs.TableColumns.{metadata_long, after_metadata, before_metadata, column_first, only_line, type_passes_at, first_sized, others_read, length_is, fault_there, column_passes_at, Opened, Counts, Measured, no_line}
 
 abbrev AllLawful : List ColumnKind → Type 0
 AllLawful columns = AllByRecursion (λ kind. IsTrue (is_lawful kind)) columns
-
-right_6 : (a b c d e f : List ℕ) → a ++ b ++ c ++ d ++ e ++ f ≡ a ++ (b ++ (c ++ (d ++ (e ++ f))))
-right_6 a b c d e f = simp append_assoc
 
 -- ---- Bytes without a fault are those of types in range.
 

@@ -3,6 +3,7 @@
 use Rattle.std.specs.Prelude.{◌≡◌, ℕ, ◌+◌, ◌-◌, ◌<◌, ◌≤◌, ◌^◌, Bool, ◌&&◌, ◌||◌, not, List, [], ◌∷◌, ◌++◌, length, drop, map, slice_index, codes, ◌==◌, nat_lt, nat_le, Option}
 use Rattle.std.specs.Str.{bytes_eq}
 use Rattle.byteorder.specs.Endian.{little_bytes}
+use Rattle.binlog.specs.Header.{header_length}
 use Rattle.binlog.specs.EventType as event_type
 use Rattle.binlog.specs.Fault.{refuse, needs, first_of, number_at}
 use Rattle.binlog.specs.declared.body.query.Query.{Query}
@@ -19,7 +20,7 @@ pub record IsFormat (body : List ℕ) : Type 0 where
   pub time : List ℕ
   pub lengths : List ℕ
   pub unread : List ℕ
-  pub body_is : body ≡ little_bytes 2 4 ++ server_version ++ time ++ 19 ∷ lengths ++ 0 ∷ unread
+  pub body_is : body ≡ little_bytes 2 4 ++ server_version ++ time ++ header_length ∷ lengths ++ 0 ∷ unread
   pub sizes : (length server_version ≡ 50) × (length time ≡ 4) × (length unread ≡ 4) × (35 ≤ length lengths)
   pub query : slice_index lengths (event_type.query - 1) ≡ 13
   pub rotate : slice_index lengths (event_type.rotate - 1) ≡ 8
@@ -79,7 +80,7 @@ format_fault bytes =
     first_of (
     needs bytes 19 2 ∷ needs bytes 21 50 ∷ needs bytes 71 4 ∷ needs bytes 75 1 ∷ needs bytes 76 1 ∷ needs bytes 77 4
     ∷ refuse (not (number_at 2 bytes 19 == 4)) FormatVersion 19
-    ∷ refuse (not (slice_index bytes 75 == 19)) HeaderLengths 75
+    ∷ refuse (not (slice_index bytes 75 == header_length)) HeaderLengths 75
     ∷ refuse (nat_lt (length bytes) (81 + 35)) HeaderLengths 76
     ∷ length_refusals bytes read_lengths
     ++ refuse (not (slice_index bytes algorithm == 0)) (Checksum (slice_index bytes algorithm)) algorithm

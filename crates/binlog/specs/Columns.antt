@@ -1,5 +1,6 @@
 -- The columns of a table, as type codes and metadata encode them.
 use Rattle.std.specs.Prelude.{ℕ, ◌+◌, ◌*◌, List, [], ◌∷◌, drop, slice_index, ◌==◌, if◌then◌else◌, Option, Some, None}
+use Rattle.binlog.specs.ColumnCode as codes
 use Rattle.binlog.specs.Column.{real_type, string_length, column_fault}
 use Rattle.binlog.specs.Table.{AreColumns, IsNamed, metadata_length, codes_at, metadata_place}
 use Rattle.binlog.specs.declared.fault.EventFaultKind.{EventFaultKind}
@@ -9,24 +10,24 @@ use Rattle.binlog.specs.declared.column.kind.ColumnKind.TheVariants.{Tiny, Short
 -- the type of a column that is not at fault, from its type code and the first two bytes from its metadata on
 unfoldable pub kind_of : ℕ → ℕ → ℕ → ColumnKind
 kind_of code first second =
-    if code == 1 then Tiny
-    else if code == 2 then Short
-    else if code == 3 then Long
-    else if code == 4 then Float
-    else if code == 5 then Double
-    else if code == 8 then LongLong
-    else if code == 9 then Int24
-    else if code == 10 then Date
-    else if code == 13 then Year
-    else if code == 15 then Varchar (first + 256 * second)
-    else if code == 16 then Bit (8 * second + first)
-    else if code == 17 then Timestamp2 first
-    else if code == 18 then Datetime2 first
-    else if code == 19 then Time2 first
-    else if code == 246 then NewDecimal first second
-    else if code == 252 then Blob first
-    else if real_type first == 254 then Char (string_length first second)
-    else if real_type first == 247 then Enum second
+    if code == codes.tiny then Tiny
+    else if code == codes.short then Short
+    else if code == codes.long then Long
+    else if code == codes.float then Float
+    else if code == codes.double then Double
+    else if code == codes.longlong then LongLong
+    else if code == codes.int24 then Int24
+    else if code == codes.date then Date
+    else if code == codes.year then Year
+    else if code == codes.varchar then Varchar (first + 256 * second)
+    else if code == codes.bit then Bit (8 * second + first)
+    else if code == codes.timestamp2 then Timestamp2 first
+    else if code == codes.datetime2 then Datetime2 first
+    else if code == codes.time2 then Time2 first
+    else if code == codes.newdecimal then NewDecimal first second
+    else if code == codes.blob then Blob first
+    else if real_type first == codes.string then Char (string_length first second)
+    else if real_type first == codes.enum then Enum second
     else Set second
 
 abbrev pub column_front : Option EventFaultKind → ColumnKind → List ColumnKind → List ColumnKind

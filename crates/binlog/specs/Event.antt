@@ -4,7 +4,7 @@ use Rattle.std.specs.Prelude.{◌≡◌, ℕ, ◌+◌, Bool, true, false, ◌&&�
 use Rattle.std.specs.List.{list_any}
 use Rattle.binlog.specs.EventType as event_type
 use Rattle.binlog.specs.Fault.{refuse, first_of}
-use Rattle.binlog.specs.Header.{IsFramed, header_fault}
+use Rattle.binlog.specs.Header.{ignorable_flag, IsFramed, header_fault}
 use Rattle.binlog.specs.Body.{IsFormat, IsRotate, IsXid, IsGtid, IsQuery, statement, format_fault, rotate_fault, xid_fault, gtid_fault, query_fault}
 use Rattle.binlog.specs.Table.{TableValue, IsNamed, IsTableMap, names_fault, columns_fault, schema_of, table_of, terminator_place}
 use Rattle.binlog.specs.Rows.{RowsValue, IsRows, rows_code, rows_fault}
@@ -93,12 +93,12 @@ pub record HasEvent (names : Names) (bytes : List ℕ) : Type 0 where
 
 -- ---- The faults, in order: of the header, of the type, of the body.
 
--- the type, at 4, and the flag 0x0080
+-- the type, at 4, and the flag LOG_EVENT_IGNORABLE_F, at 17
 abbrev pub code_of : List ℕ → ℕ
 code_of bytes = slice_index bytes 4
 
 abbrev pub may_ignore_of : List ℕ → Bool
-may_ignore_of bytes = nat_le 128 (slice_index bytes 17)
+may_ignore_of bytes = nat_le ignorable_flag (slice_index bytes 17)
 
 abbrev pub type_fault : ℕ → Bool → Option EventFault
 type_fault code may_ignore = first_of (

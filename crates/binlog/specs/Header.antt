@@ -5,9 +5,16 @@ use Rattle.binlog.specs.Fault.{refuse, needs, first_of, number_at}
 use Rattle.binlog.specs.declared.fault.EventFault.{EventFault}
 use Rattle.binlog.specs.declared.fault.EventFaultKind.TheVariants.{Size}
 
+-- the length in bytes of a header
+abbrev pub header_length : ℕ
+header_length = 19
+
+-- LOG_EVENT_IGNORABLE_F (0x0080), in the low byte of the flags: of its bits it is the highest
+abbrev pub ignorable_flag : ℕ
+ignorable_flag = 0x80
+
 -- The bytes are an event of this type with this body: a header of 19 bytes (timestamp, type, server id, size of the
--- whole event, next position, flags) and the body. The flag 0x0080, the highest bit of the flags' low byte, is
--- LOG_EVENT_IGNORABLE_F. The other fields are left free.
+-- whole event, next position, flags) and the body. The fields that are not read are left free.
 pub record IsFramed (code : ℕ) (may_ignore : Bool) (body bytes : List ℕ) : Type 0 where
   pub timestamp : List ℕ
   pub server_id : List ℕ
@@ -17,7 +24,7 @@ pub record IsFramed (code : ℕ) (may_ignore : Bool) (body bytes : List ℕ) : T
   pub bytes_are : bytes ≡ timestamp ++ code ∷ server_id ++ little_bytes 4 (length bytes) ++ position ++ low_flags ∷ high_flags ∷ body
   pub sizes : (length timestamp ≡ 4) × (length server_id ≡ 4) × (length position ≡ 4)
   pub a_size : length bytes < 2 ^ 32
-  pub marked : may_ignore ≡ nat_le 128 low_flags
+  pub marked : may_ignore ≡ nat_le ignorable_flag low_flags
 
 -- the faults of a header, in order
 unfoldable pub header_fault : List ℕ → Option EventFault

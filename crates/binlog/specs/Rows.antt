@@ -9,7 +9,7 @@ use Rattle.binlog.specs.Fault.{refuse, needs, first_of, number_at}
 use Rattle.binlog.specs.Count.{count_width, count_at, no_count}
 use Rattle.binlog.specs.Cell.{CellValue}
 use Rattle.binlog.specs.Row.{bitmap_size, is_set, IsRow, EndsInRow, row_end, ◌>>=◌, row_cells}
-use Rattle.binlog.specs.Table.{is_column_count}
+use Rattle.binlog.specs.Table.{most_columns, is_column_count}
 use Rattle.binlog.specs.declared.column.kind.ColumnKind.{ColumnKind}
 use Rattle.binlog.specs.declared.fault.EventFault.{EventFault}
 use Rattle.binlog.specs.declared.fault.EventFaultKind.TheVariants.{Truncated, Size, Columns, Partial}
@@ -49,7 +49,7 @@ pub record IsRows (r : RowsValue) (body : List ℕ) : Type 0 where
   pub an_id : r.id < 2 ^ 48
   pub sizes : (length flags ≡ 2) × (2 + length extra < 2 ^ 16)
   pub counted : IsLengthEncoded r.columns count
-  pub columns : (1 ≤ r.columns) × (r.columns ≤ 4096)
+  pub columns : (1 ≤ r.columns) × (r.columns ≤ most_columns)
   pub all_present : ArePresent r.kind r.columns present
   pub columns_place : r.columns_at ≡ 29 + length extra
   pub bytes_place : r.bytes_at ≡ r.columns_at + length count + length present

@@ -14,6 +14,10 @@ use Rattle.binlog.specs.declared.fault.EventFault.{EventFault}
 
 -- ---- The layout.
 
+-- how many columns a table has at most. MySQL Reference Manual, "Limits on Table Column Count and Row Size"
+abbrev pub most_columns : ℕ
+most_columns = 4096
+
 -- a table's number, its names and the types of its columns
 pub record TableValue : Type 0 where
   pub id : ℕ
@@ -40,7 +44,7 @@ pub record AreColumns (columns : List ColumnKind) (bytes : List ℕ) : Type 0 wh
   pub ignored : List ℕ
   pub bytes_are : bytes ≡ count ++ map type_code columns ++ metadata_length ++ flat_map metadata columns ++ nullable ++ ignored
   pub counted : IsLengthEncoded (length columns) count
-  pub number : (1 ≤ length columns) × (length columns ≤ 4096)
+  pub number : (1 ≤ length columns) × (length columns ≤ most_columns)
   pub lawful : AllByRecursion (λ kind. IsTrue (is_lawful kind)) columns
   pub measured : IsLengthEncoded (length (flat_map metadata columns)) metadata_length
   pub nullable_length : length nullable ≡ bitmap_size (length columns)
@@ -76,7 +80,7 @@ names_fault bytes =
     ∷ [])
 
 abbrev pub is_column_count : ℕ → Bool
-is_column_count n = nat_le 1 n && nat_le n 4096
+is_column_count n = nat_le 1 n && nat_le n most_columns
 
 -- the first type code that is not supported; the codes begin at an offset
 abbrev pub types_fault : ℕ → List ℕ → Option EventFault

@@ -3,7 +3,9 @@
 use Rattle.std.specs.Prelude.{ℕ, ◌+◌, ◌-◌, true, List, [], ◌∷◌, ◌++◌, length, map, flat_map, replicate, ◌==◌, if◌then◌else◌, codes}
 use Rattle.std.specs.FinSet as set
 use Rattle.byteorder.specs.Endian.{little_bytes}
+use Rattle.wire.specs.Integer as lenenc
 use Rattle.wire.specs.Integer.{length_encoded}
+use Rattle.binlog.specs.Header.{header_length}
 use Rattle.binlog.specs.EventType as event_type
 use Rattle.binlog.specs.Column.{type_code, metadata}
 use Rattle.binlog.specs.Body.{statement}
@@ -35,7 +37,7 @@ header_bytes code size = 0 ∷ 0 ∷ 0 ∷ 0 ∷ code ∷ 1 ∷ 0 ∷ 0 ∷ 0 �
 
 -- a format description of server 8.0.36, with the lengths of 35 types, which are 0 for types that are not supported
 abbrev pub format_body : List ℕ
-format_body = 4 ∷ 0 ∷ codes "8.0.36" ++ replicate 44 0 ++ 0 ∷ 0 ∷ 0 ∷ 0 ∷ 19 ∷ 0 ∷ 13 ∷ 0 ∷ 8 ∷ replicate 14 0 ++ 8 ∷ replicate 10 0 ++ 10 ∷ 10 ∷ 10 ∷ 0 ∷ 0 ∷ 0 ∷ 0 ∷ 0 ∷ 0 ∷ 0 ∷ 0 ∷ []
+format_body = 4 ∷ 0 ∷ codes "8.0.36" ++ replicate 44 0 ++ 0 ∷ 0 ∷ 0 ∷ 0 ∷ header_length ∷ 0 ∷ 13 ∷ 0 ∷ 8 ∷ replicate 14 0 ++ 8 ∷ replicate 10 0 ++ 10 ∷ 10 ∷ 10 ∷ 0 ∷ 0 ∷ 0 ∷ 0 ∷ 0 ∷ 0 ∷ 0 ∷ 0 ∷ []
 
 -- a query with zero for thread, time, schema, error and status
 abbrev pub query_body : List ℕ → List ℕ
@@ -62,9 +64,9 @@ table_map_body t =
 abbrev pub count_bytes : ℕ → ℕ → List ℕ
 count_bytes width n =
     if width == 1 then n ∷ []
-    else if width == 3 then 0xFC ∷ little_bytes 2 n
-    else if width == 4 then 0xFD ∷ little_bytes 3 n
-    else 0xFE ∷ little_bytes 8 n
+    else if width == 3 then lenenc.two_bytes ∷ little_bytes 2 n
+    else if width == 4 then lenenc.three_bytes ∷ little_bytes 3 n
+    else lenenc.eight_bytes ∷ little_bytes 8 n
 
 abbrev pub presents_bytes : RowsKind → ℕ → List ℕ
 presents_bytes Update n = full_bitmap n ++ full_bitmap n
@@ -82,12 +84,16 @@ plain_rows id kind columns bytes = record {
   bytes_at = 29 + length (length_encoded columns) + presents_size kind columns;
 }
 
+-- the flag of a rows event that ends its statement: STMT_END_F of binary_log::Rows_event
+abbrev pub stmt_end : ℕ
+stmt_end = 1
+
 -- what comes before the number of columns of an event that ends its statement, with as many bytes of extra data as the
 -- offset of that number requires
 abbrev pub rows_head : RowsValue → List ℕ
 rows_head r =
     let extra = r.columns_at - 29 in
-    little_bytes 6 r.id ++ 1 ∷ 0 ∷ little_bytes 2 (2 + extra) ++ replicate extra 0
+    little_bytes 6 r.id ++ stmt_end ∷ 0 ∷ little_bytes 2 (2 + extra) ++ replicate extra 0
 
 -- a rows event, with the number of columns in as many bytes as its offsets require
 abbrev pub rows_body : RowsValue → List ℕ
@@ -125,7 +131,7 @@ event_body (xid number) = little_bytes 8 number
 
 -- an event with this body
 abbrev pub framed_bytes : ℕ → List ℕ → List ℕ
-framed_bytes code body = header_bytes code (19 + length body) ++ body
+framed_bytes code body = header_bytes code (header_length + length body) ++ body
 
 abbrev pub event_bytes : EventValue → List ℕ
 event_bytes e = framed_bytes (event_code e) (event_body e)

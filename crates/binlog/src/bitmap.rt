@@ -2,6 +2,7 @@
 //! `binary_log::Table_map_event` and `binary_log::Rows_event`.
 
 ghost use Rattle.std.specs.Prelude.{◌≡◌, ℕ, ◌≤◌, ◌++◌, nat_lt, length, take, OnOk, OnErr, Err, ◌*◌, false, map, slice_index_or, ◌<◌, ◌+◌, vec_len, vec_capacity};
+ghost use Rattle.binlog.specs.Table.{most_columns};
 ghost use Rattle.binlog.specs.Row.{is_set};
 ghost use Rattle.binlog.specs.RowsWritten.{bits_number, digit, bitmap_byte, bitmap_bytes};
 ghost use Rattle.binlog.specs.Writing.{full_bitmap};
@@ -35,7 +36,7 @@ pub(crate) fn has_set(bitmap: &[u8]) -> bool
 
 /// Appends a bitmap of n bits, all set, or a part of it. The unused bits of its last byte are 0.
 pub(crate) fn write_full_bitmap(n: usize, out: &mut Vec<u8>) -> Result<(), EventFault>
-    requires { n ≤ 4096 }
+    requires { n ≤ most_columns }
     ensures ok { OnOk result (out.new.items ≡ out.old.items ++ full_bitmap n) }
     ensures err { OnErr result (result ≡ Err (record { kind = Memory; at = 0 })) }
     ensures kept { OnErr result (take (length out.old.items) out.new.items ≡ out.old.items) }

@@ -1,12 +1,15 @@
 //! Counts: length-encoded integers inside an event.
 
 ghost use Rattle.std.specs.Prelude.{◌≡◌, ◌+◌, ◌≤◌, length, take, drop, IfOk, IfErr, Some, None, ◌-◌, ◌++◌, OnOk, OnErr, Err, ◌<◌, vec_len, vec_capacity};
+ghost use Rattle.wire.specs.Integer as lenenc;
 ghost use Rattle.wire.specs.Integer.{IsLengthEncoded, length_encoded};
+ghost use Rattle.binlog.specs.Table.{most_columns};
 ghost use Rattle.binlog.specs.Count.{count_width, count_at, no_count};
 ghost use Rattle.binlog.specs.Writing.{count_bytes};
 ghost use Rattle.binlog.specs.declared.fault.EventFaultKind.TheVariants.{Memory};
 
 use crate::fault::{EventFault, EventFaultKind};
+use wire::lenenc::{EIGHT_BYTES, MOST_IN_ONE_BYTE, THREE_BYTES, TWO_BYTES};
 use wire::{read_int, write_int};
 
 /// Reads the count at an offset: its value, and how many bytes it takes.
@@ -40,11 +43,15 @@ pub(crate) fn read_count(
 
 /// How many bytes the shortest count takes.
 pub(crate) fn count_width(count: usize) -> usize
-    requires { count ≤ 4096 }
+    requires { count ≤ most_columns }
     ensures width { result ≡ length (length_encoded count) }
     ensures bound { result ≤ 3 }
 {
-    if count <= 250 { 1 } else { 3 }
+    if count <= MOST_IN_ONE_BYTE as usize {
+        1
+    } else {
+        3
+    }
 }
 
 /// Appends a count.
@@ -67,8 +74,8 @@ pub(crate) fn write_padded_count(
     count: usize,
     out: &mut Vec<u8>,
 ) -> Result<(), EventFault>
-    requires small { count ≤ 4096 }
-    requires fits { width ≡ 1 → count ≤ 250 }
+    requires small { count ≤ most_columns }
+    requires fits { width ≡ 1 → count ≤ lenenc.most_in_one_byte }
     ensures ok { OnOk result (out.new.items ≡ out.old.items ++ count_bytes width count) }
     ensures err { OnErr result (result ≡ Err (record { kind = Memory; at = 0 })) }
     ensures kept { OnErr result (take (length out.old.items) out.new.items ≡ out.old.items) }
@@ -78,9 +85,9 @@ pub(crate) fn write_padded_count(
     let [a, b, ..] = count.to_le_bytes();
     match width {
         1 => out.push(a)?,
-        3 => out.extend_from_slice(&[0xfc, a, b])?,
-        4 => out.extend_from_slice(&[0xfd, a, b, 0])?,
-        _ => out.extend_from_slice(&[0xfe, a, b, 0, 0, 0, 0, 0, 0])?,
+        3 => out.extend_from_slice(&[TWO_BYTES, a, b])?,
+        4 => out.extend_from_slice(&[THREE_BYTES, a, b, 0])?,
+        _ => out.extend_from_slice(&[EIGHT_BYTES, a, b, 0, 0, 0, 0, 0, 0])?,
     }
     Ok(())
 }

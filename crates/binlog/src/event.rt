@@ -3,7 +3,8 @@
 ghost use Rattle.std.specs.Prelude.{◌≡◌, [], ◌∷◌, drop, IfOk, IfErr, MatchResult, Some, ◌+◌, ◌<◌, ◌++◌, ◌↔◌, IsTrue, length, take, OnOk, OnErr, Err, vec_len, vec_capacity, ◌≤◌};
 ghost use Rattle.std.specs.FinSet as set;
 ghost use Rattle.binlog.specs.Fault.{first_of};
-ghost use Rattle.binlog.specs.Header.{IsFramed};
+ghost use Rattle.binlog.specs.Header.{header_length, IsFramed};
+ghost use Rattle.binlog.specs.EventType as type_code;
 ghost use Rattle.binlog.specs.Filter.{admits};
 ghost use Rattle.binlog.specs.Event.{EventValue, HasBody, IsEvent, type_fault, table_map_fault, body_fault, event_fault, gtid};
 ghost use Rattle.binlog.specs.EventView.{event_value, filter_of};
@@ -22,7 +23,7 @@ use crate::column::list::read_columns;
 use crate::event_type;
 use crate::fault::{EventFault, EventFaultKind};
 use crate::filter::Follow;
-use crate::header::{Header, frame};
+use crate::header::{HEADER_LENGTH, Header, frame};
 use gtid::Gtid;
 
 /// An event of the binary log. It borrows from the bytes that it was read from.
@@ -95,8 +96,8 @@ fn read_body<'a>(
     bytes: &'a [u8],
     filter: Option<&Follow>,
 ) -> Result<Event<'a>, EventFault>
-    requires { IsFramed header.code header.may_ignore (drop 19 bytes.now) bytes.now }
-    ensures found { IfOk result (λ event. HasBody (filter_of filter.entry) (event_value event) header.code header.may_ignore (drop 19 bytes.now)) }
+    requires { IsFramed header.code header.may_ignore (drop header_length bytes.now) bytes.now }
+    ensures found { IfOk result (λ event. HasBody (filter_of filter.entry) (event_value event) header.code header.may_ignore (drop header_length bytes.now)) }
     ensures fault { IfErr result (λ fault. first_of (type_fault header.code header.may_ignore ∷ body_fault (filter_of filter.entry) header.code bytes.now ∷ []) ≡ Some fault) }
 {
     match header.code {
@@ -145,8 +146,8 @@ fn read_map<'a>(
     bytes: &'a [u8],
     filter: Option<&Follow>,
 ) -> Result<Event<'a>, EventFault>
-    requires { header.code ≡ 19 }
-    ensures found { IfOk result (λ event. HasBody (filter_of filter.entry) (event_value event) header.code header.may_ignore (drop 19 bytes.now)) }
+    requires { header.code ≡ type_code.table_map }
+    ensures found { IfOk result (λ event. HasBody (filter_of filter.entry) (event_value event) header.code header.may_ignore (drop header_length bytes.now)) }
     ensures fault { IfErr result (λ fault. table_map_fault (filter_of filter.entry) bytes.now ≡ Some fault) }
 {
     let names = read_names(bytes)?;
@@ -223,7 +224,7 @@ fn write_event(event: &Event<'_>, out: &mut Vec<u8>) -> Result<(), EventFault>
     ensures full { OnErr result (vec_capacity out.old < vec_len out.old + length (event_bytes (event_value event.now))) }
 {
     let start = out.len();
-    out.extend_from_slice(&[0; 19])?;
+    out.extend_from_slice(&[0; HEADER_LENGTH])?;
     let code = write_body(event, out)?;
     frame(code, start, out);
     Ok(())

@@ -2,14 +2,17 @@
 //! `binary_log::Log_event_header`.
 
 ghost use Rattle.std.specs.Prelude.{◌≡◌, ℕ, Bool, List, length, drop, IfOk, IfErr, Ok, Some, ◌+◌, ◌<◌, ◌≤◌, ◌^◌, ◌++◌, take};
-ghost use Rattle.binlog.specs.Header.{IsFramed, header_fault};
+ghost use Rattle.binlog.specs.Header.{header_length, IsFramed, header_fault};
 ghost use Rattle.binlog.specs.Writing.{header_bytes};
 
 use crate::fault::{EventFault, EventFaultKind};
 use byteorder::{ByteOrder, LittleEndian};
 
-/// The flag LOG_EVENT_IGNORABLE_F, in the low byte of the flags: of these bits it is the highest.
-const IGNORABLE: u8 = 0x80;
+/// The length in bytes of a header.
+pub(crate) const HEADER_LENGTH: usize = 19;
+
+/// LOG_EVENT_IGNORABLE_F, in the low byte of the flags: of these bits it is the highest.
+const IGNORABLE_FLAG: u8 = 0x80;
 
 /// The fields of a header that are read.
 #[derive(Clone, Copy, Debug, PartialEq, Eq)]
@@ -31,7 +34,7 @@ impl Header {
     /// number of the bytes as `Size`.
     #[tactic(auto, unfolding(crate::specs::Header::header_fault))]
     pub fn read(bytes: &[u8]) -> Result<Header, EventFault>
-        ensures found { IfOk result (λ header. IsFramed header.code header.may_ignore (drop 19 bytes.now) bytes.now) }
+        ensures found { IfOk result (λ header. IsFramed header.code header.may_ignore (drop header_length bytes.now) bytes.now) }
         ensures size { IfOk result (λ header. header.size ≡ length bytes.now) }
         ensures only { (code : ℕ) (may_ignore : Bool) (body : List ℕ) → IsFramed code may_ignore body bytes.now → result ≡ Ok (record { code = code; size = length bytes.now; may_ignore = may_ignore }) }
         ensures fault { IfErr result (λ fault. header_fault bytes.now ≡ Some fault) }
@@ -52,13 +55,13 @@ impl Header {
         Ok(Header {
             code: bytes[4],
             size,
-            may_ignore: bytes[17] >= IGNORABLE,
+            may_ignore: bytes[17] >= IGNORABLE_FLAG,
         })
     }
 }
 
 /// A header with time 0, server 1, next position 0 and no flags.
-fn header_bytes(code: u8, size: u32) -> [u8; 19]
+fn header_bytes(code: u8, size: u32) -> [u8; HEADER_LENGTH]
     ensures { result ≡ header_bytes code size }
 {
     let [a, b, c, d] = size.to_le_bytes();
@@ -67,20 +70,20 @@ fn header_bytes(code: u8, size: u32) -> [u8; 19]
 
 /// Sets the header of an event whose other bytes are written.
 fn set_header(code: u8, event: &mut [u8])
-    requires whole { 19 ≤ length event.old }
+    requires whole { header_length ≤ length event.old }
     requires size { length event.old < 2 ^ 32 }
-    ensures { event.new ≡ header_bytes code (length event.old) ++ drop 19 event.old }
+    ensures { event.new ≡ header_bytes code (length event.old) ++ drop header_length event.old }
 {
     let size = event.len() as u32;
-    let (front, _) = event.split_at_mut(19);
+    let (front, _) = event.split_at_mut(HEADER_LENGTH);
     front.copy_from_slice(&header_bytes(code, size));
 }
 
 /// Writes the header of the event that begins at `start`: of this type, with its body after 19 bytes of room.
 pub(crate) fn frame(code: u8, start: usize, out: &mut Vec<u8>)
-    requires whole { start + 19 ≤ length out.old.items }
+    requires whole { start + header_length ≤ length out.old.items }
     requires size { length out.old.items < start + 2 ^ 32 }
-    ensures { out.new.items ≡ take start out.old.items ++ header_bytes code (length (drop start out.old.items)) ++ drop (start + 19) out.old.items }
+    ensures { out.new.items ≡ take start out.old.items ++ header_bytes code (length (drop start out.old.items)) ++ drop (start + header_length) out.old.items }
 {
     let (_, event) = out.as_mut_slice().split_at_mut(start);
     set_header(code, event);

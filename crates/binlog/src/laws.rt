@@ -6,7 +6,7 @@ ghost use Rattle.std.specs.Prelude.{◌≡◌, ℕ, ◌<◌, ◌≤◌, ◌++◌
 ghost use Rattle.std.specs.FinSet as set;
 ghost use Rattle.std.specs.List.{AllByRecursion};
 ghost use Rattle.binlog.specs.Column.{type_code, metadata, IsColumn, HasColumn, metadata_size, column_fault};
-ghost use Rattle.binlog.specs.Header.{IsFramed, HasFrame, header_fault};
+ghost use Rattle.binlog.specs.Header.{header_length, IsFramed, HasFrame, header_fault};
 ghost use Rattle.binlog.specs.Cell.{CellValue};
 ghost use Rattle.binlog.specs.Row.{IsRow, HasRow, EndsInRow, row_end};
 ghost use Rattle.binlog.specs.Table.{IsNamed, names_fault, AreColumns, columns_fault};
@@ -58,9 +58,9 @@ pub fn one_pair()
 /// The body of an event either begins with one table number and one pair of names, or the event has a fault in them,
 /// and not both.
 pub fn one_names()
-    ensures some { (bytes : List ℕ) → AllByRecursion (λ b. b < 256) bytes → names_fault bytes ≡ None → HasNames (drop 19 bytes) }
-    ensures no_fault { (id : ℕ) (schema table rest bytes : List ℕ) → IsNamed id schema table rest (drop 19 bytes) → names_fault bytes ≡ None }
-    ensures one { (id id' : ℕ) (schema schema' table table' rest rest' bytes : List ℕ) → IsNamed id schema table rest (drop 19 bytes) → IsNamed id' schema' table' rest' (drop 19 bytes) →
+    ensures some { (bytes : List ℕ) → AllByRecursion (λ b. b < 256) bytes → names_fault bytes ≡ None → HasNames (drop header_length bytes) }
+    ensures no_fault { (id : ℕ) (schema table rest bytes : List ℕ) → IsNamed id schema table rest (drop header_length bytes) → names_fault bytes ≡ None }
+    ensures one { (id id' : ℕ) (schema schema' table table' rest rest' bytes : List ℕ) → IsNamed id schema table rest (drop header_length bytes) → IsNamed id' schema' table' rest' (drop header_length bytes) →
         (id ≡ id') × (schema ≡ schema') × (table ≡ table') × (rest ≡ rest') }
 {}
 
@@ -74,9 +74,9 @@ pub fn one_columns()
 
 /// The body of an event either is that of one rows event of a kind, or has a fault, and not both.
 pub fn one_rows_event()
-    ensures some { (kind : RowsKind) (bytes : List ℕ) → AllByRecursion (λ b. b < 256) bytes → rows_fault kind bytes ≡ None → HasRows kind (drop 19 bytes) }
-    ensures no_fault { (r : RowsValue) (bytes : List ℕ) → IsRows r (drop 19 bytes) → rows_fault r.kind bytes ≡ None }
-    ensures one { (a b : RowsValue) (bytes : List ℕ) → a.kind ≡ b.kind → IsRows a (drop 19 bytes) → IsRows b (drop 19 bytes) → a ≡ b }
+    ensures some { (kind : RowsKind) (bytes : List ℕ) → AllByRecursion (λ b. b < 256) bytes → rows_fault kind bytes ≡ None → HasRows kind (drop header_length bytes) }
+    ensures no_fault { (r : RowsValue) (bytes : List ℕ) → IsRows r (drop header_length bytes) → rows_fault r.kind bytes ≡ None }
+    ensures one { (a b : RowsValue) (bytes : List ℕ) → a.kind ≡ b.kind → IsRows a (drop header_length bytes) → IsRows b (drop header_length bytes) → a ≡ b }
 {}
 
 /// Bytes either are the rows of one list of pairs, or end early after one list of pairs and at one offset, and not

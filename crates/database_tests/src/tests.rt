@@ -2,8 +2,8 @@
 
 mod fixtures;
 mod follows;
-mod memory;
 mod observers;
+mod out_of_memory;
 mod resumes;
 mod same;
 mod sessions;

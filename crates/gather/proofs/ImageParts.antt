@@ -1,16 +1,14 @@
 -- Images written and read cell by cell.
-use Rattle.std.proofs.Common.{◌≡◌, ℕ, zero, suc, ◌+◌, ◌-◌, ◌*◌, ◌<◌, ◌≤◌, ◌^◌, Some, List, [], ◌∷◌, ◌++◌, length, drop, refl, sym, ap, subst, ◌∙◌, append_assoc, arith}
+use Rattle.std.proofs.Common.{◌≡◌, ℕ, zero, suc, ◌+◌, ◌-◌, ◌<◌, ◌≤◌, Some, List, [], ◌∷◌, ◌++◌, length, drop, refl, sym, ap, subst, ◌∙◌, append_assoc, arith}
 use Rattle.std.specs.Prelude.{flat_map, slice_index_or}
 use Rattle.std.specs.List.{AllByRecursion}
 use Rattle.std.proofs.lemmas.List.{length-append, append-nil}
 use Rattle.byteorder.specs.Endian.{little_bytes}
 use Rattle.byteorder.specs.Numbers.{length-bytes_low_first}
-use Rattle.binlog.specs.Cell.{CellValue, null_cell, number_cell, bytes_cell, cell_value}
+use Rattle.binlog.specs.Cell.{CellValue, number_cell, bytes_cell, cell_value}
 use Rattle.binlog.specs.declared.cell.Cell.{Cell}
-use Rattle.binlog.specs.declared.cell.Cell.TheVariants.{Number}
-use Rattle.gather.specs.Image.{cell_image, image, HasCellImage, HasImage}
+use Rattle.gather.specs.Image.{cell_image, image, HasCellImage}
 use Rattle.gather.specs.ImageCells.{cell_values, cell_front, are_images, holds_after}
-use Rattle.gather.proofs.WholeImages.{image_length}
 
 abbrev pub AllHave : List CellValue → Type 0
 AllHave cells = AllByRecursion HasCellImage cells
@@ -23,19 +21,6 @@ number_size n width = omega (arith, length-bytes_low_first 0 width n)
 pub bytes_size : (value : List ℕ) → 5 + length value ≡ length (cell_image (bytes_cell value))
 bytes_size value = omega (arith, length-bytes_low_first 0 4 (length value), length-append (little_bytes 4 (length value)) value)
 
-cell_short : (cell : CellValue) → HasCellImage cell → length (cell_image cell) ≤ 2 ^ 33
-cell_short null_cell has = omega arith
-cell_short (number_cell n width) has = omega (arith, sym (number_size n width), has.1)
-cell_short (bytes_cell value) has = omega (arith, sym (bytes_size value), has)
-
-all_short : (cells : List CellValue) → AllHave cells → length (flat_map cell_image cells) ≤ length cells * 2 ^ 33
-all_short [] has = omega arith
-all_short (cell ∷ cells) has = omega (arith, length-append (cell_image cell) (flat_map cell_image cells), cell_short cell has.0, all_short cells has.1)
-
--- an image's length is counted without overflow
-pub image_short : (cells : List CellValue) → HasImage cells → length (image cells) ≤ 2 ^ 50
-image_short cells has = let few = has.count in omega (arith, few, all_short cells has.each, image_length cells)
-
 -- ---- Cells of an iterator.
 
 pub first_has : (cells rest : List CellValue) (cell : CellValue) → AllHave cells → cells ≡ cell ∷ rest → HasCellImage cell × AllHave rest
@@ -43,9 +28,6 @@ first_has cells rest cell has is = subst AllHave is has
 
 pub first_more : (cells rest : List CellValue) (cell : CellValue) → HasCellImage cell → AllHave rest → cells ≡ cell ∷ rest → AllHave cells
 first_more cells rest cell has others is = subst AllHave {x = cell ∷ rest} (sym {b = cell ∷ rest} is) (has, others)
-
-pub number_has : (cell : Cell) (n width : ℕ) → cell ≡ Number n width → HasCellImage (cell_value cell) → HasCellImage (number_cell n width)
-number_has cell n width is has = subst (λ c. HasCellImage (cell_value c)) is has
 
 pub first_size : (cells rest : List CellValue) (cell : CellValue) → cells ≡ cell ∷ rest → length (flat_map cell_image cells) ≡ length (cell_image cell) + length (flat_map cell_image rest)
 first_size cells rest cell is = ap (λ l. length (flat_map cell_image l)) is ∙ length-append (cell_image cell) (flat_map cell_image rest)

@@ -1,18 +1,13 @@
 -- Messages cut into parts.
-use Rattle.std.proofs.Common.{◌≡◌, ℕ, ◌-◌, ◌≤◌, Bool, true, false, ◌==◌, ◌||◌, List, [], ◌∷◌, ◌++◌, length, get_or, take, drop, refl, ap, ◌∙◌, append_assoc}
-use Rattle.std.proofs.lemmas.Bool.{eqb-false, ne_eqb}
-use Rattle.wire.proofs.Cuts.{first_and_rest}
+use Rattle.std.proofs.Common.{◌≡◌, ℕ, Bool, true, false, ◌==◌, ◌||◌, List, [], ◌∷◌, ◌++◌, refl, ◌∙◌, append_assoc}
+use Rattle.std.proofs.lemmas.Bool.{eqb-false, ne_eqb, or_parts}
+use Rattle.wire.proofs.Cuts.{right_7}
 use Rattle.greet.specs.Message.{IsText}
 use Rattle.greet.specs.Refusal.{has_zero, before_zero, after_zero}
 
 or_true : (b : Bool) → (b || true) ≡ true
 or_true true = refl
 or_true false = refl
-
--- ---- A first byte.
-
-pub begun_by : (first : ℕ) (xs : List ℕ) → 1 ≤ length xs → get_or xs 0 0 ≡ first → xs ≡ first ∷ take (length xs - 1) (drop 1 xs)
-begun_by first xs some is = first_and_rest xs some ∙ ap (λ b. b ∷ take (length xs - 1) (drop 1 xs)) is
 
 -- ---- Texts that end with a zero byte.
 
@@ -28,13 +23,9 @@ pub after_zero-text : (text rest : List ℕ) → IsText text → after_zero (tex
 after_zero-text [] rest is = refl
 after_zero-text (b ∷ text) rest is = rw (ne_eqb b 0 is.0) (after_zero-text text rest is.1)
 
-either_false : (a b : Bool) → (a || b) ≡ false → (a ≡ false) × (b ≡ false)
-either_false true b is = absurd cc
-either_false false b is = (refl, is)
-
 pub IsText-by : (text : List ℕ) → has_zero text ≡ false → IsText text
 IsText-by [] is = tt
-IsText-by (b ∷ text) is = let e = either_false (b == 0) (has_zero text) is in (λ zero_byte. eqb-false b 0 e.0 zero_byte, IsText-by text e.1)
+IsText-by (b ∷ text) is = let e = or_parts (b == 0) (has_zero text) is in (λ zero_byte. eqb-false b 0 e.0 zero_byte, IsText-by text e.1)
 
 pub has_zero-none : (text : List ℕ) → IsText text → has_zero text ≡ false
 has_zero-none [] is = refl
@@ -45,15 +36,6 @@ after_zero-none [] is = refl
 after_zero-none (b ∷ text) is = rw (ne_eqb b 0 is.0) (after_zero-none text is.1)
 
 -- ---- Parts joined from the left and from the right.
-
-pub right_4 : (a b c d : List ℕ) → a ++ b ++ c ++ d ≡ a ++ (b ++ (c ++ d))
-right_4 a b c d = append_assoc (a ++ b) c d ∙ append_assoc a b (c ++ d)
-
-pub right_5 : (a b c d e : List ℕ) → a ++ b ++ c ++ d ++ e ≡ a ++ (b ++ (c ++ (d ++ e)))
-right_5 a b c d e = append_assoc (a ++ b ++ c) d e ∙ right_4 a b c (d ++ e)
-
-pub right_7 : (a b c d e f g : List ℕ) → a ++ b ++ c ++ d ++ e ++ f ++ g ≡ a ++ (b ++ (c ++ (d ++ (e ++ (f ++ g)))))
-right_7 a b c d e f g = append_assoc (a ++ b ++ c ++ d ++ e) f g ∙ append_assoc (a ++ b ++ c ++ d) e (f ++ g) ∙ right_5 a b c d (e ++ (f ++ g))
 
 pub right_9 : (a b c d e f g h i : List ℕ) → a ++ b ++ c ++ d ++ e ++ f ++ g ++ h ++ i ≡ a ++ (b ++ (c ++ (d ++ (e ++ (f ++ (g ++ (h ++ i)))))))
 right_9 a b c d e f g h i = append_assoc (a ++ b ++ c ++ d ++ e ++ f ++ g) h i ∙ append_assoc (a ++ b ++ c ++ d ++ e ++ f) g (h ++ i) ∙ right_7 a b c d e f (g ++ (h ++ i))

@@ -11,8 +11,7 @@ use Rattle.greet.specs.View.{dump_value, Refuses}
 use Rattle.greet.specs.declared.command.Dump.{Dump}
 use Rattle.greet.specs.declared.fault.GreetFault.{GreetFault}
 use Rattle.greet.specs.declared.fault.GreetFault.TheVariants as faults
-use Rattle.wire.proofs.Cuts.{IsBytes, IsBytes-drop, number_at_front, cut, after}
-use Rattle.greet.proofs.Cuts.{right_7}
+use Rattle.wire.proofs.Cuts.{IsBytes, IsBytes-drop, number_at_front, cut, after, right_7}
 
 -- what a dump command says, from the bytes after its first
 abbrev pub dump_of : List ℕ → DumpValue

@@ -14,8 +14,8 @@ use Rattle.byteorder.specs.Numbers.{little_from-lt}
 use Rattle.wire.specs.Integer.{IsLengthEncoded}
 use Rattle.greet.specs.Message.{plugin_name, IsText, IsOkPacket, IsEofPacket, IsSwitch}
 use Rattle.greet.specs.Refusal.{truncated, plugin, after_int, has_counters, has_insert_id, ok_refusal, eof_refusal, switch_refusal, reply_refusal}
-use Rattle.wire.proofs.Cuts.{IsBytes, IsBytes-after, IsBytes-rest, number_at_front}
-use Rattle.greet.proofs.Cuts.{IsText-by, has_zero-none, has_zero-text, before_zero-text, after_zero-text, right_4}
+use Rattle.wire.proofs.Cuts.{IsBytes, IsBytes-after, IsBytes-rest, number_at_front, right_4}
+use Rattle.greet.proofs.Cuts.{IsText-by, has_zero-none, has_zero-text, before_zero-text, after_zero-text}
 
 -- ---- Length-encoded integers.
 

@@ -7,7 +7,8 @@ use Rattle.std.proofs.lemmas.List.{drop_more, length-append, take-append-drop, t
 use Rattle.std.specs.Str.{bytes_eq}
 use Rattle.greet.specs.Message.{IsText, plugin_name, response_lead, ResponseValue, IsResponse}
 use Rattle.greet.specs.Refusal.{protocol, truncated, plugin, after_zero, before_zero, first_difference, end_refusal, response_refusal}
-use Rattle.greet.proofs.Cuts.{IsText-by, has_zero-text, has_zero-none, after_zero-text, before_zero-text, right_5}
+use Rattle.wire.proofs.Cuts.{right_5}
+use Rattle.greet.proofs.Cuts.{IsText-by, has_zero-text, has_zero-none, after_zero-text, before_zero-text}
 
 -- ---- The leading bytes.
 

@@ -1,4 +1,5 @@
 pub mod Native
+pub mod PacketHeader
 pub mod Message
 pub mod Refusal
 pub mod View

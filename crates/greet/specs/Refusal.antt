@@ -3,6 +3,8 @@
 use Rattle.std.specs.Prelude.{ℕ, ◌+◌, ◌-◌, ◌*◌, ◌^◌, Bool, false, ◌&&◌, ◌||◌, not, max, List, [], ◌∷◌, length, take, drop, ◌==◌, nat_lt, nat_le, if◌then◌else◌, Option, Some, None, slice_index, bit_and}
 use Rattle.std.specs.Str.{bytes_eq}
 use Rattle.byteorder.specs.Endian.{little_number}
+use Rattle.wire.specs.Integer as lenenc
+use Rattle.greet.specs.PacketHeader as packet_header
 use Rattle.greet.specs.Message.{plugin_name, needed, response_lead}
 
 pub data Refusal : Type 0 where
@@ -68,8 +70,8 @@ fields_refusal fields =
 unfoldable pub greeting_refusal : List ℕ → Option Refusal
 greeting_refusal [] = Some truncated
 greeting_refusal (first ∷ body) =
-    if first == 0xFF then Some (error_of body)
-    else if not (first == 10) then Some (protocol first)
+    if first == packet_header.err then Some (error_of body)
+    else if not (first == packet_header.handshake_v10) then Some (protocol first)
     else fields_refusal (after_zero body)
 
 -- ---- The response.
@@ -102,10 +104,10 @@ response_refusal payload =
 abbrev pub after_int : List ℕ → Option (List ℕ)
 after_int [] = None
 after_int (first ∷ bytes) =
-    if nat_le first 250 then Some bytes
-    else if (first == 0xFC) && nat_le 2 (length bytes) then Some (drop 2 bytes)
-    else if (first == 0xFD) && nat_le 3 (length bytes) then Some (drop 3 bytes)
-    else if (first == 0xFE) && nat_le 8 (length bytes) then Some (drop 8 bytes)
+    if nat_le first lenenc.most_in_one_byte then Some bytes
+    else if (first == lenenc.two_bytes) && nat_le 2 (length bytes) then Some (drop 2 bytes)
+    else if (first == lenenc.three_bytes) && nat_le 3 (length bytes) then Some (drop 3 bytes)
+    else if (first == lenenc.eight_bytes) && nat_le 8 (length bytes) then Some (drop 8 bytes)
     else None
 
 -- two length-encoded integers, and four bytes more
@@ -121,8 +123,8 @@ has_insert_id (Some bytes) = has_counters (after_int bytes)
 unfoldable pub ok_refusal : List ℕ → Option Refusal
 ok_refusal [] = Some truncated
 ok_refusal (first ∷ body) =
-    if first == 0xFF then Some (error_of body)
-    else if not (first == 0x00) then Some (unexpected first)
+    if first == packet_header.err then Some (error_of body)
+    else if not (first == packet_header.ok) then Some (unexpected first)
     else if not (has_insert_id (after_int body)) then Some truncated
     else None
 
@@ -138,15 +140,15 @@ switch_refusal body =
 -- if the reply to an authentication is expected: an OK or a switch
 unfoldable pub reply_refusal : List ℕ → Option Refusal
 reply_refusal [] = Some truncated
-reply_refusal (first ∷ body) = if first == 0xFE then switch_refusal body else ok_refusal (first ∷ body)
+reply_refusal (first ∷ body) = if first == packet_header.auth_switch then switch_refusal body else ok_refusal (first ∷ body)
 
 -- if an EOF is expected
 unfoldable pub eof_refusal : List ℕ → Option Refusal
 eof_refusal [] = Some truncated
 eof_refusal (first ∷ body) =
-    if first == 0xFF then Some (error_of body)
-    else if not (first == 0xFE) then Some (unexpected first)
-    else if nat_le 8 (length body) then Some (unexpected 0xFE)
+    if first == packet_header.err then Some (error_of body)
+    else if not (first == packet_header.eof) then Some (unexpected first)
+    else if nat_le 8 (length body) then Some (unexpected packet_header.eof)
     else if nat_lt (length body) 4 then Some truncated
     else None
 
@@ -164,6 +166,6 @@ dump_set_size body = little_number 4 (drop (18 + dump_name_size body) body)
 unfoldable pub dump_refusal : List ℕ → Option Refusal
 dump_refusal [] = Some truncated
 dump_refusal (first ∷ body) =
-    if not (first == 0x1E) then Some (unexpected first)
+    if not (first == packet_header.com_binlog_dump_gtid) then Some (unexpected first)
     else if not (length body == 22 + dump_name_size body + dump_set_size body) then Some truncated
     else None

@@ -8,12 +8,9 @@ ghost use Rattle.greet.specs.Refusal.{dump_refusal, dump_name_size, dump_set_siz
 ghost use Rattle.greet.specs.View.{dump_value, Refuses};
 
 use crate::fault::GreetFault;
+use crate::packet_header::{COM_BINLOG_DUMP_GTID, COM_QUERY};
 use crate::parts::append;
 use byteorder::{ByteOrder, LittleEndian};
-
-const COM_QUERY: u8 = 0x03;
-
-const COM_BINLOG_DUMP_GTID: u8 = 0x1e;
 
 /// The position of the first event in a binary log file.
 const FIRST_POSITION: u64 = 4;

@@ -8,9 +8,6 @@ use crate::fault::GreetFault;
 use byteorder::{ByteOrder, LittleEndian};
 use std::alloc::Global;
 
-/// The first byte of an ERR.
-pub(crate) const ERR: u8 = 0xff;
-
 /// How many bytes of an ERR's message are kept.
 const KEPT: usize = 512;
 

@@ -3,22 +3,27 @@
 
 ghost use Rattle.std.specs.Prelude.{◌≡◌, ◌≢◌, ◌⊎◌, ◌<◌, ◌≤◌, ◌+◌, ◌*◌, ◌/◌, ◌^◌, replicate, ◌++◌, ◌∷◌, length, take, drop, slice_index, bit_and, ◌↔◌, IsTrue, IfOk, IfErr, MatchResult, OnOk, OnErr, Err, vec_len, vec_capacity};
 ghost use Rattle.byteorder.specs.Endian.{little_bytes, little_number};
+ghost use Rattle.greet.specs.PacketHeader.{handshake_v10};
 ghost use Rattle.greet.specs.Message.{GreetingValue, IsGreeting, FitsGreeting, greeting_bytes, needed};
 ghost use Rattle.greet.specs.Refusal.{greeting_refusal, fields_refusal, after_zero};
 ghost use Rattle.greet.specs.Complete.{HasErr, HasGreeting};
 ghost use Rattle.greet.specs.View.{greeting_value, Refuses};
 
-use crate::error::{ERR, server_error};
+use crate::error::server_error;
 use crate::fault::GreetFault;
+use crate::packet_header::{ERR, VERSION};
 use crate::parts::{append, is_text, split_text};
 use byteorder::{ByteOrder, LittleEndian};
 use std::alloc::Global;
 
-/// The version of the protocol.
-const VERSION: u8 = 10;
+const CLIENT_PROTOCOL_41: u32 = 0x0000_0200;
 
-/// CLIENT_PROTOCOL_41, CLIENT_SECURE_CONNECTION and CLIENT_PLUGIN_AUTH.
-const NEEDED: u32 = 0x0008_8200;
+const CLIENT_SECURE_CONNECTION: u32 = 0x0000_8000;
+
+const CLIENT_PLUGIN_AUTH: u32 = 0x0008_0000;
+
+/// The capability flags that a source must have.
+const NEEDED: u32 = CLIENT_PROTOCOL_41 | CLIENT_SECURE_CONNECTION | CLIENT_PLUGIN_AUTH;
 
 /// The length in bytes of the fields from the thread id to the end of the reserved bytes.
 const FIXED: usize = 31;
@@ -116,9 +121,9 @@ impl Greeting {
 
 /// Reads the bytes after the first.
 fn read_body(alloc: Global, body: &[u8]) -> Result<Greeting, GreetFault>
-    ensures found { IfOk result (λ greeting. IsGreeting (greeting_value greeting) (10 ∷ body.now)) }
+    ensures found { IfOk result (λ greeting. IsGreeting (greeting_value greeting) (handshake_v10 ∷ body.now)) }
     ensures fault { IfErr result (Refuses (fields_refusal (after_zero body.now))) }
-    ensures memory { result ≡ Err GreetFault.Memory → HasGreeting (10 ∷ body.now) }
+    ensures memory { result ≡ Err GreetFault.Memory → HasGreeting (handshake_v10 ∷ body.now) }
 {
     let Some((version, fields)) = split_text(body) else {
         return Err(GreetFault::Truncated);

@@ -16,6 +16,7 @@ mod fault;
 mod greeting;
 pub mod laws;
 mod native_auth;
+pub mod packet_header;
 mod parts;
 mod reply;
 mod response;

@@ -2,22 +2,18 @@
 //! "Client/Server Protocol": the pages `OK_Packet`, `EOF_Packet`, `ERR_Packet` and `Protocol::AuthSwitchRequest`.
 
 ghost use Rattle.std.specs.Prelude.{◌≡◌, ◌≢◌, ℕ, ◌++◌, ◌∷◌, List, true, false, IfOk, IfErr, IfSome, IfNone, MatchResult, ⊤, OnOk, OnErr, Ok, Err, Some, None};
+ghost use Rattle.greet.specs.PacketHeader.{auth_switch};
 ghost use Rattle.greet.specs.Message.{IsOkPacket, IsSwitch, IsEofPacket};
 ghost use Rattle.greet.specs.Refusal.{reply_refusal, ok_refusal, eof_refusal, switch_refusal, after_int, has_insert_id};
 ghost use Rattle.greet.specs.View.{Refuses};
 ghost use Rattle.greet.specs.Complete.{HasErr};
 
-use crate::error::{ERR, server_error};
+use crate::error::server_error;
 use crate::fault::GreetFault;
+use crate::packet_header::{EOF, ERR, OK};
 use crate::parts::{PLUGIN_NAME, split_text};
 use std::alloc::Global;
 use wire::read_int;
-
-/// The first byte of an OK.
-const OK: u8 = 0x00;
-
-/// The first byte of an EOF and of a request to switch the authentication method.
-const EOF: u8 = 0xfe;
 
 /// An EOF has fewer bytes than this.
 const EOF_END: usize = 9;
@@ -61,7 +57,7 @@ impl AuthReply {
 
 /// The scramble of a switch, from the bytes after its first. Takes no memory.
 fn read_switch(body: &[u8]) -> Result<[u8; 20], GreetFault>
-    ensures found { IfOk result (λ scramble. IsSwitch scramble (0xFE ∷ body.now)) }
+    ensures found { IfOk result (λ scramble. IsSwitch scramble (auth_switch ∷ body.now)) }
     ensures fault { IfErr result (Refuses (switch_refusal body.now)) }
     ensures no_memory { IfErr result (λ fault. fault ≢ GreetFault.Memory) }
 {

@@ -25,22 +25,6 @@ same_value spans out e = Prim.cc
 same_fault : (a b : GtidFault) → ◌≡◌ {A = Result (List Span) GtidFault} (Err a) (Err b) → a ≡ b
 same_fault a b e = Prim.cc
 
-ok_case : (o : Option GtidFault) (one two all : Result (List Span) GtidFault) (out : List Span) → (one ≡ Ok out → two ≡ all) → judged o one ≡ Ok out → judged o two ≡ all
-ok_case None one two all out next e = next e
-ok_case (Some fault) one two all out next e = absurd (no_value out fault e)
-
-pub judge_ok : (spans out : List Span) (xs ys : List Found) → judge spans xs ≡ Ok out → judge spans (xs ++ ys) ≡ judge out ys
-judge_ok spans out [] ys e = ap (λ (s : List Span). judge s ys) (same_value spans out e)
-judge_ok spans out (x ∷ xs) ys e = ok_case (written_fault x.1) _ _ _ out (judge_ok (spans ++ span_of x ∷ []) out xs ys) e
-
-err_case : (o : Option GtidFault) (one two : Result (List Span) GtidFault) (fault : GtidFault) → (one ≡ Err fault → two ≡ Err fault) → judged o one ≡ Err fault → judged o two ≡ Err fault
-err_case None one two fault next e = next e
-err_case (Some other) one two fault next e = e
-
-pub judge_err : (spans : List Span) (fault : GtidFault) (xs ys : List Found) → judge spans xs ≡ Err fault → judge spans (xs ++ ys) ≡ Err fault
-judge_err spans fault [] ys e = absurd (no_error spans fault e)
-judge_err spans fault (x ∷ xs) ys e = err_case (written_fault x.1) _ _ fault (judge_err (spans ++ span_of x ∷ []) fault xs ys) e
-
 abbrev pub faults_of : List Found → List (Option GtidFault)
 faults_of fs = map (λ f. written_fault f.1) fs
 

@@ -136,10 +136,6 @@ merged_none c left right done l r none = rw none
       same = λ q. refl;
     })
 
-keeps_none : (c : Combination) → keeps c false false ≡ false
-keeps_none Union = refl
-keeps_none Difference = refl
-
 kept_alone : (c : Combination) (a b : Bool) → keeps c (a || false) (b || false) ≡ (keeps c a b || keeps c false false)
 kept_alone Union true b = refl
 kept_alone Union false true = refl

@@ -69,12 +69,6 @@ pub missed : (s : List ℕ) (groups : List Group) (r : Result ℕ ℕ) → Ascen
 missed s groups (Ok at) ascend bound position = tt
 missed s groups (Err at) ascend bound position = let p = position (rises s groups ascend) in (bound, taken_below s groups at bound p.0, dropped_above s groups at p.1)
 
-pub ascend_dropped : (groups : List Group) (k : ℕ) → Ascend (sources groups) → Ascend (sources (drop k groups))
-ascend_dropped [] zero ascend = ascend
-ascend_dropped [] (suc k) ascend = ascend
-ascend_dropped (g ∷ groups) zero ascend = ascend
-ascend_dropped (g ∷ groups) (suc k) ascend = ascend_dropped groups k (ascend_first g.source (sources groups) ascend).1
-
 -- one group more, whose numbers the others have
 pub subset_more : (groups of : List Group) (k : ℕ) (g : Group) → k < length groups → g ≡ slice_index_or groups k g → ((n : ℕ) → has g.intervals.items n ≡ true → is_listed (g.source, n) of ≡ true) →
     ((q : Id) → is_listed q (take k groups) ≡ true → is_listed q of ≡ true) → (q : Id) → is_listed q (take (k + 1) groups) ≡ true → is_listed q of ≡ true

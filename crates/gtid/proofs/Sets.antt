@@ -28,7 +28,7 @@ use Rattle.gtid.specs.declared.group.Group.{Group}
 pub id_cmp_total : IsTotalOrder id_cmp
 id_cmp_total = then_total (on_total (λ (a : Id). a.0) nat_list_cmp_total) (on_total (λ (a : Id). a.1) nat_cmp_total)
 
-then_equal : (a b : Ordering) → ordering_then a b ≡ Equal → (a ≡ Equal) × (b ≡ Equal)
+pub then_equal : (a b : Ordering) → ordering_then a b ≡ Equal → (a ≡ Equal) × (b ≡ Equal)
 then_equal Less b e = absurd (Prim.cc)
 then_equal Equal b e = (refl, e)
 then_equal Greater b e = absurd (Prim.cc)

@@ -1,4 +1,4 @@
--- How the intervals of a text are read, byte after byte. The clauses of the steps of `read_spans` use these
+-- Private: how the intervals of a text are read, byte after byte. The clauses of the steps of `read_spans` use these
 -- definitions; those of `read_spans` itself use the grammar alone.
 use Rattle.std.specs.Prelude.{ℕ, ◌+◌, ◌-◌, ◌*◌, ◌/◌, ◌%◌, ◌^◌, ◌==◌, ◌||◌, nat_lt, Option, Some, None, Result, Ok, Err, if◌then◌else◌, List, [], ◌∷◌, ◌++◌, slice_index, set}
 use Rattle.uuid.specs.Text.{is_hex_digit, value_of}

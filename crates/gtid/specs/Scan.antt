@@ -1,5 +1,5 @@
--- How a text is scanned: what was read last, and what may come next. The clauses of the steps of `scan` use these
--- definitions; those of `scan` itself use the grammar alone.
+-- Private: how a text is scanned: what was read last, and what may come next. The clauses of the steps of `scan` use
+-- these definitions; those of `scan` itself use the grammar alone.
 use Rattle.std.specs.Prelude.{◌≡◌, ℕ, ◌+◌, ◌<◌, ◌≤◌, ◌==◌, ◌||◌, ◌&&◌, Bool, true, false, nat_le, Option, Some, None, List, [], ◌∷◌, ◌++◌, if◌then◌else◌}
 use Rattle.uuid.specs.Text.{is_hex_digit, is_hyphen_place}
 use Rattle.gtid.specs.declared.grammar.State.{State}

@@ -8,9 +8,9 @@ use Rattle.wire.specs.declared.fault.WireFault.{WireFault}
 use Rattle.wire.specs.declared.fault.WireFault.TheVariants.{Sequence, TooLarge, Memory, Ended}
 use Rattle.wire.proofs.OneReading.{more_wrong, more_large}
 use Rattle.wire.specs.declared.packet.TheConstants.{LARGEST_PAYLOAD}
-use Rattle.mrep.specs.declared.listing.Entry.{Entry}
-use Rattle.mrep.specs.declared.listing.Listing.{Listing}
-use Rattle.mrep.specs.Listing.{Lists, held_of, with_entry, first_id, IsNoPayload, Stands, IsWrong, Faults}
+use Rattle.mrep.specs.declared.payload_listing.Entry.{Entry}
+use Rattle.mrep.specs.declared.payload_listing.Listing.{Listing}
+use Rattle.mrep.specs.PayloadListing.{Lists, held_of, with_entry, first_id, IsNoPayload, Stands, IsWrong, Faults}
 
 -- bytes after the rest are part of the rest
 lists-more : (offset : ℕ) (bytes more : List ℕ) (entries : List Entry) (rest : List ℕ) → Lists offset bytes entries rest → Lists offset (bytes ++ more) entries (rest ++ more)

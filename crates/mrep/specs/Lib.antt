@@ -1,3 +1,3 @@
 pub mod Failure
-pub mod Listing
+pub mod PayloadListing
 pub mod Reason

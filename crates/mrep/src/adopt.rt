@@ -5,7 +5,7 @@ ghost use Rattle.std.specs.FinSet as set;
 ghost use Rattle.sqlite.specs.State.{HasCleanDisk};
 ghost use Rattle.gtid.specs.Text.{AppendsText};
 ghost use Rattle.store.specs.State.{Content};
-ghost use Rattle.store.specs.Take.{with_executed};
+ghost use Rattle.store.specs.Changes.{with_executed};
 ghost use Rattle.store.specs.Store.{Holds, HoldsAs, database};
 
 use crate::database::{Work, work_on};

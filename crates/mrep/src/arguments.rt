@@ -1,6 +1,6 @@
 //! The arguments of the command line.
 
-use crate::format::{ENCODINGS, FORMATS};
+use crate::output_format::{ENCODINGS, FORMATS};
 use clap::{Arg, ArgAction, Command};
 use std::alloc::{AllocError, Global};
 

@@ -16,7 +16,7 @@ use std::io::ErrorKind;
 use std::{fs, io};
 
 /// How long the header of a log is (SQLite, "Database File Format", section 4.1).
-const HEADER: usize = 32;
+const LOG_HEADER: usize = 32;
 
 /// How often the files are copied, at most.
 const TRIES: u32 = 100;
@@ -158,8 +158,8 @@ fn copy_once(rt: &HostRuntime, from: &Names, part: &Names) -> io::Result<bool> {
 }
 
 /// The header of a log, if it has one.
-fn header(rt: &HostRuntime, log: &str) -> io::Result<Option<[u8; HEADER]>> {
-    match read_head::<HEADER>(rt, log) {
+fn header(rt: &HostRuntime, log: &str) -> io::Result<Option<[u8; LOG_HEADER]>> {
+    match read_head::<LOG_HEADER>(rt, log) {
         Ok(head) => Ok(head),
         Err(cause) if cause.kind() == ErrorKind::NotFound => Ok(None),
         Err(cause) => Err(cause),

@@ -1,8 +1,8 @@
 //! Rows as records of comma-separated fields (RFC 4180).
 
-use crate::format::Encoding;
 use crate::hex::write_hex;
 use crate::name::write_name;
+use crate::output_format::Encoding;
 use base64::engine::general_purpose::STANDARD;
 use binlog::Cell;
 use csv::{Error, ErrorKind, Writer, WriterBuilder};

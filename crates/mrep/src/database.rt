@@ -60,8 +60,8 @@ pub trait Work {
     ) -> Result<Self::Done, Failure<'a>>;
 }
 
-/// Opens the database in a file, which is made if it does not exist, with its own list of tables, does some work with its
-/// store, and closes it.
+/// Opens the database in a file, which is made if it does not exist, with its own filter, does some work with its store, and
+/// closes it.
 pub fn work_on<'a, K: Work + Drop>(
     rt: &HostRuntime,
     name: &'a str,
@@ -103,7 +103,7 @@ fn work_in<'a, K: Work + Drop>(
     name: &'a str,
     work: K,
 ) -> Result<K::Done, Failure<'a>> {
-    match open_file(rt, path, Unknown, None) {
+    match open_file(rt, path, Unknown, 0, None) {
         Ok(store) => {
             let mut store = store;
             let done = work.run(rt.alloc(), name, &mut store);
@@ -114,7 +114,7 @@ fn work_in<'a, K: Work + Drop>(
 }
 
 /// Reads captured connections into the database in a file, which is made if it does not exist, and closed at the end. With a
-/// list of tables, the database is made for them or must have been; without one, its own list holds.
+/// filter, the database is made for it or must have been; without one, its own filter holds.
 pub fn replay_into<'a, R: Read + Drop, W: Observer>(
     rt: &HostRuntime,
     name: &'a str,

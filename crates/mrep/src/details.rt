@@ -12,7 +12,7 @@ use std::io;
 use std::io::Write;
 
 /// How much of a statement or a row is printed, in bytes.
-const MOST: usize = 512;
+const SHOWN: usize = 512;
 
 /// The transaction at hand, and lines of text that say where in it the connection has ended.
 #[derive(Drop)]
@@ -123,7 +123,7 @@ fn write_fault(fault: EventFault, event: &[u8], out: &mut Vec<u8>) -> io::Result
 /// Writes the first bytes of a statement.
 fn write_statement(text: &[u8], out: &mut Vec<u8>) -> io::Result<()> {
     out.write_all(b"the statement is: ")?;
-    match text.split_at_checked(MOST) {
+    match text.split_at_checked(SHOWN) {
         Some((head, [_, ..])) => {
             write_escaped(head, out)?;
             out.write_all(b"...\n")
@@ -179,6 +179,6 @@ fn write_change(change: &Change, refusal: Refusal, out: &mut Vec<u8>) -> io::Res
 /// Writes the cells of a row, or the first of them.
 fn write_line(row: &Image, out: &mut Vec<u8>) -> io::Result<()> {
     out.write_all(b", row ")?;
-    write_first_cells(row, MOST, out)?;
+    write_first_cells(row, SHOWN, out)?;
     writeln!(out)
 }

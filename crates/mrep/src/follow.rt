@@ -2,9 +2,9 @@
 
 ghost use Rattle.std.specs.Prelude.{◌≤◌, IfOk};
 
+use crate::change_feed::{OUTPUT, remove};
 use crate::database::{closed, follow_into};
 use crate::failure::{Failure, MEMORY};
-use crate::feed::{OUTPUT, remove};
 use crate::replay::{Report, check, feed_of, status_of, stop_of, tables};
 use crate::socket::Socket;
 use crate::watch::{Reporting, Source, Watch};
@@ -33,7 +33,7 @@ pub struct Words<'a> {
 }
 
 /// Follows a source into a database until the connection ends, prints how it ended, and returns the exit status. With a
-/// list of tables the database keeps only their rows.
+/// filter the database keeps only the rows of the tables that it admits.
 ///
 /// Faults are looked for in the arguments, the password file, the user name, the database and the socket, in this
 /// order.

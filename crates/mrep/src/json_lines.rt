@@ -1,8 +1,8 @@
 //! Rows as JSON objects (RFC 8259).
 
-use crate::format::Encoding;
 use crate::hex::write_hex;
 use crate::name::write_name;
+use crate::output_format::Encoding;
 use base64::engine::general_purpose::STANDARD;
 use binlog::Cell;
 use gather::Image;

@@ -3,11 +3,11 @@
 ghost use Rattle.std.specs.Prelude.{◌≡◌, ◌≤◌, Err, IfOk, IfErr};
 ghost use Rattle.mrep.specs.Reason.{first_status};
 
+use crate::change_feed::{Feed, OUTPUT, remove};
 use crate::database::{closed, replay_into};
 use crate::failure::{DONE, Failure, MEMORY};
-use crate::feed::{Feed, OUTPUT, remove};
-use crate::format::{Format, encoding_of};
 use crate::name::read_table;
+use crate::output_format::{Format, encoding_of};
 use crate::reason::first_status;
 use crate::watch::{Reporting, Source, Stop, Watch};
 use binlog::Follow;
@@ -181,7 +181,7 @@ pub fn tables<'a>(alloc: Global, words: &[&'a str]) -> Result<Follow, Failure<'a
         names.push(name)?;
     }
     match Follow::new(alloc, &names) {
-        Ok(follow) => Ok(follow),
+        Ok(filter) => Ok(filter),
         Err(_) => Err(Failure::Memory),
     }
 }
@@ -194,14 +194,14 @@ fn open_streams<'a>(
     let mut streams = Vec::with_capacity(rt.alloc(), names.len())?;
     let mut total = 0u64;
     for name in names {
-        let (stream, size) = open_stream(rt, name)?;
+        let stream = open_stream(rt, name)?;
+        total = total.saturating_add(stream.size);
         streams.push(stream)?;
-        total = total.saturating_add(size);
     }
     Ok((streams, total))
 }
 
-fn open_stream<'a>(rt: &HostRuntime, name: &'a str) -> Result<(Capture<File>, u64), Failure<'a>> {
+fn open_stream<'a>(rt: &HostRuntime, name: &'a str) -> Result<Capture<File>, Failure<'a>> {
     let mut reader = fs::open(rt, name).map_err(|cause| Failure::File { name, cause })?;
     let size = match reader.metadata() {
         Ok(metadata) => metadata.len(),
@@ -213,5 +213,9 @@ fn open_stream<'a>(rt: &HostRuntime, name: &'a str) -> Result<(Capture<File>, u6
         Ok(_) => Some(byte[0]),
         Err(cause) => return Err(Failure::File { name, cause }),
     };
-    Ok((Capture { first, reader }, size))
+    Ok(Capture {
+        first,
+        reader,
+        size,
+    })
 }

@@ -2,8 +2,8 @@
 
 ghost use Rattle.std.specs.Prelude.{◌≡◌, true, is_some};
 
+use crate::change_feed::{Feed, FeedEntry};
 use crate::details::Details;
-use crate::feed::{Entry, Feed};
 use crate::name::Shown;
 use crate::progress::Progress;
 use crate::reason::{write_cause, write_end};
@@ -82,7 +82,7 @@ impl<'a, O: Write, E: Write> Watch<'a, O, E> {
     }
 
     /// Writes an entry of the change feed, unless reading is stopped.
-    fn put(&mut self, entry: Entry<'_>)
+    fn put(&mut self, entry: FeedEntry<'_>)
         ensures { is_some self.old.stop ≡ true → is_some self.new.stop ≡ true }
     {
         if self.stop.is_some() {
@@ -154,7 +154,7 @@ impl<'a, O: Write, E: Write> Observer for Watch<'a, O, E> {
     ghost has_stopped = { λ w. is_some w.stop };
 
     fn opened(&mut self, executed: &GtidSet) {
-        self.put(Entry::Opened(executed));
+        self.put(FeedEntry::Opened(executed));
     }
 
     fn connected(&mut self) {
@@ -184,7 +184,7 @@ impl<'a, O: Write, E: Write> Observer for Watch<'a, O, E> {
     }
 
     fn before_apply(&mut self, delivery: &Delivery) -> bool {
-        self.put(Entry::Changes(delivery));
+        self.put(FeedEntry::Changes(delivery));
         self.stop.is_none()
     }
 
@@ -196,14 +196,14 @@ impl<'a, O: Write, E: Write> Observer for Watch<'a, O, E> {
                     if let Some(progress) = &mut self.progress {
                         progress.count();
                     }
-                    self.put(Entry::Committed(delivery.gtid));
+                    self.put(FeedEntry::Committed(delivery.gtid));
                 }
             }
             Err(reason) => {
                 self.details.refuse_change(delivery, reason);
                 // After a failure of the database the transaction may have been committed.
                 if !matches!(reason, Reason::Database(_)) {
-                    self.put(Entry::RolledBack(delivery.gtid));
+                    self.put(FeedEntry::RolledBack(delivery.gtid));
                 }
             }
         }

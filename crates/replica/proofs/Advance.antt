@@ -1,5 +1,6 @@
 -- One step of a session: some bytes, and what they complete.
 use Rattle.std.proofs.Common.{◌≡◌, ℕ, Bool, true, false, List, [], ◌++◌, refl, sym, ap, ◌∙◌, inl, inr, Option, Some, None, is_some, unwrap_or, subst, IfSome, IfNone}
+use Rattle.std.proofs.lemmas.Bool.{true≢false}
 use Rattle.wire.specs.declared.fault.WireFault.{WireFault}
 use Rattle.wire.specs.declared.fault.WireFault.TheVariants as wire
 use Rattle.wire.specs.Payload.{ReaderState, IsWholePayload, IsUnfinished, IsOutOfSequence, IsTooLarge}
@@ -16,22 +17,19 @@ use Rattle.replica.specs.declared.session.Session.{Session}
 use Rattle.replica.specs.Settings.{Settings}
 use Rattle.replica.specs.Stream.{Payload}
 use Rattle.replica.specs.End.{IsWrong}
-use Rattle.replica.specs.Crash.{IsLeft}
-use Rattle.replica.specs.Turn.{reason_of}
+use Rattle.replica.specs.Crash.{IsLeftOfOne}
+use Rattle.replica.specs.PayloadStep.{reason_of}
 use Rattle.replica.specs.Standing.{GoesOn, HasEnded, HasPayload, Stands, end_of}
 use Rattle.replica.specs.Over.{StandsOver, MeetsOver, LeavesOnly}
 use Rattle.replica.proofs.Extend.{extended, left-append}
 use Rattle.replica.proofs.Stood.{stands-append, going}
-
-both : true ≡ false → ⊥
-both e = cc
 
 module _ (settings : Settings) (a : ReaderState) (gatherer : Gatherer) (phase : Phase) (at applied : ℕ) (names : Names) (was is : Bool) (old now : Content) (b all more : List ℕ)
     (g : GoesOn settings a gatherer phase at applied names was is old now b all) where
   -- a header is wrong
   ended-wire : (fault : WireFault) → IsWrong g.reading.id settings.limit (g.reading.rest ++ more) fault → HasEnded settings names was is old now (b ++ more) all (record { reason = Wire fault; at = at; applied = applied })
   ended-wire fault w = record {
-    conn = record { reading = extended settings.limit names b more g.reading; took = g.took; why = inl (g.at_is, inl w); kept = g.kept };
+    conn = record { reading = extended settings.limit names b more g.reading; has_applied = g.has_applied; why = inl (g.at_is, inl w); kept = g.kept };
     more = λ e. cc;
     sent = record { payloads = g.reading.payloads; taken = record { reading = extended settings.limit names b more g.reading; payloads_are = refl; at_is = inl g.at_is }; sent = g.sent };
     store = g.store;
@@ -40,7 +38,7 @@ module _ (settings : Settings) (a : ReaderState) (gatherer : Gatherer) (phase : 
   -- memory ran out
   ended-memory : HasEnded settings names was is old now (b ++ more) all (record { reason = Memory; at = at; applied = applied })
   ended-memory = record {
-    conn = record { reading = extended settings.limit names b more g.reading; took = g.took; why = g.at_is; kept = g.kept };
+    conn = record { reading = extended settings.limit names b more g.reading; has_applied = g.has_applied; why = g.at_is; kept = g.kept };
     more = λ e. cc;
     sent = record { payloads = g.reading.payloads; taken = record { reading = extended settings.limit names b more g.reading; payloads_are = refl; at_is = inl g.at_is }; sent = g.sent };
     store = λ h. g.store ∙ h;
@@ -61,7 +59,7 @@ module _ (settings : Settings) (a : ReaderState) (gatherer : Gatherer) (phase : 
       (subst (λ l. IsTooLarge g.reading.id settings.limit l) (sym rest-now)
       (subst (λ n. IsTooLarge g.reading.id n (a.held ++ more)) g.limit (subst (λ n. IsTooLarge n a.limit (a.held ++ more)) g.id (large refl))))
   reported_as wire.Memory sequence large ended = ended-memory
-  reported_as wire.Ended sequence large ended = absurd (both (sym (ended refl) ∙ g.reads))
+  reported_as wire.Ended sequence large ended = absurd (true≢false (sym (ended refl) ∙ g.reads))
 
   -- no payload is whole yet
   goes_on-unfinished : IsUnfinished a.due a.limit (a.held ++ more) → GoesOn settings (record a { held = a.held ++ more }) gatherer phase at applied names was is old now (b ++ more) all
@@ -75,7 +73,7 @@ module _ (settings : Settings) (a : ReaderState) (gatherer : Gatherer) (phase : 
     unfinished = subst (λ n. IsUnfinished g.reading.id n (a.held ++ more)) g.limit (subst (λ n. IsUnfinished n a.limit (a.held ++ more)) g.id u);
     awaits = g.awaits;
     gathers = g.gathers;
-    took = g.took;
+    has_applied = g.has_applied;
     sent = g.sent;
     store = g.store;
     kept = g.kept;
@@ -93,14 +91,14 @@ module _ (settings : Settings) (a : ReaderState) (gatherer : Gatherer) (phase : 
     reads = g.reads;
     awaits = g.awaits;
     gathers = g.gathers;
-    took = g.took;
+    has_applied = g.has_applied;
     sent = g.sent;
     store = g.store;
     kept = g.kept;
   }
 
 -- what a crash leaves of a session that goes on
-left_here : (session : Session) (limit : ℕ) (names : Names) (old : Content) (b : List ℕ) (now left : Content) → session.ended ≡ None → IsLeft limit names old b now (end_of session) left → left ≡ now
+left_here : (session : Session) (limit : ℕ) (names : Names) (old : Content) (b : List ℕ) (now left : Content) → session.ended ≡ None → IsLeftOfOne limit names old b now (end_of session) left → left ≡ now
 left_here session limit names old b now left none l = elim l [
   | inl e ↦ e
   | inr m ↦ (
@@ -112,14 +110,14 @@ left_here session limit names old b now left none l = elim l [
 
 module _ {S : Type 0} (g : Ghosts S) (store : Store S g) (schema : Schema) (was : Bool) (old : Content) (b o : List ℕ) where
   leaves_now : (session : Session) (limit : ℕ) (now : Content) → session.ended ≡ None
-      → LeavesOnly g schema store (IsLeft limit store.following old b now (end_of session)) → LeavesOnly g schema store (λ left. left ≡ now)
+      → LeavesOnly g schema store (IsLeftOfOne limit store.following old b now (end_of session)) → LeavesOnly g schema store (λ left. left ≡ now)
   leaves_now session limit now none l = record {
     each = λ trees may.
         let e = l.each trees may in
         (e.0, e.1, left_here session limit store.following old b now e.0 none e.2);
   }
 
-  leaves_so : (limit : ℕ) (now : Content) (end : Ended) (bytes : List ℕ) → LeavesOnly g schema store (λ left. left ≡ now) → LeavesOnly g schema store (IsLeft limit store.following old bytes now end)
+  leaves_so : (limit : ℕ) (now : Content) (end : Ended) (bytes : List ℕ) → LeavesOnly g schema store (λ left. left ≡ now) → LeavesOnly g schema store (IsLeftOfOne limit store.following old bytes now end)
   leaves_so limit now end bytes l = record {
     each = λ trees may.
         let e = l.each trees may in
@@ -199,7 +197,7 @@ module _ {S : Type 0} (g : Ghosts S) (store : Store S g) (schema : Schema) (was 
 
 pub none_after : (v : Option Ended) → is_some v ≡ false → v ≡ None
 none_after None e = refl
-none_after (Some end) e = absurd (both e)
+none_after (Some end) e = absurd (true≢false e)
 
 pub at_some : {X : Type 0} (P : X → Type 0) (v : Option X) (x : X) → v ≡ Some x → IfSome v P → P x
 at_some P v x e h = subst (λ (w : Option _). IfSome w P) e h

@@ -18,7 +18,7 @@ use Rattle.replica.specs.declared.end.Reason.TheVariants.{EndOfInput, Memory}
 use Rattle.replica.specs.declared.end.Ended.{Ended}
 use Rattle.replica.specs.Over.{HasRead, HasReadOf, HasReadAll}
 use Rattle.replica.specs.Capture.{IsReadAs, AreReadAs, HasReadOne, HasBrokenOff, AreRead, AreReadUpTo, Reads}
-use Rattle.replica.proofs.Runs.{read_none, taken_none, taken_more}
+use Rattle.replica.proofs.Runs.{read_none, none_read, more_read}
 
 -- the first byte, as a slice
 pub first_of : (first : Option ℕ) (slice : List ℕ) → MatchOption first (slice ≡ []) (λ x. slice ≡ x ∷ []) → slice ≡ option_to_list first
@@ -73,7 +73,7 @@ module _ {S : Type 0} (g : Ghosts S) {R : Type 0} (left : R → Option (List ℕ
 
   pub no_captures : ((h : Held S) (db : Trees) → IsTrue (state g h).is_open → (state g h).may_leave db → db ≡ (state g h).committed.trees) → (limit : ℕ) (store : Store S g) (was : Bool) (old : Content) → HoldsAs g was old store
       → AreRead left (HasReadAll g limit store (state g store.conn).now.schema was old) [] []
-  no_captures settled limit store was old holds = record { bs = []; are_read = tt; holds = taken_none g settled limit store was old holds }
+  no_captures settled limit store was old holds = record { bs = []; are_read = tt; holds = none_read g settled limit store was old holds }
 
   -- one capture more
   pub captures_more : (limit : ℕ) (before after : Store S g) (schema : Schema) (was : Bool) (old : Content) (captures : List (Capture R)) (ends : List Ended) (capture : Capture R) (end : Ended) → (before.broken ≡ true → after ≡ before)
@@ -82,7 +82,7 @@ module _ {S : Type 0} (g : Ghosts S) {R : Type 0} (left : R → Option (List ℕ
   captures_more limit before after schema was old captures ends capture end broken t one = record {
     bs = t.bs ++ one.b ∷ [];
     are_read = one_more left captures t.bs ends capture one.b end t.are_read one.is_read;
-    holds = taken_more g limit before after schema was old t.bs ends one.b end broken t.holds one.has_read;
+    holds = more_read g limit before after schema was old t.bs ends one.b end broken t.holds one.has_read;
   }
 
   pub breaks_off : (limit : ℕ) (before after : Store S g) (schema : Schema) (was : Bool) (old : Content) (captures : List (Capture R)) (ends : List Ended) (next : Option (Capture R)) (capture : Capture R) → (before.broken ≡ true → after ≡ before) → next ≡ Some capture
@@ -97,7 +97,7 @@ module _ {S : Type 0} (g : Ghosts S) {R : Type 0} (left : R → Option (List ℕ
     end = one.end;
     comes = one.comes;
     unended = one.unended;
-    holds = taken_more g limit before after schema was old t.bs ends one.b one.end broken t.holds one.has_read;
+    holds = more_read g limit before after schema was old t.bs ends one.b one.end broken t.holds one.has_read;
   }
 
 -- what follows from what holds of the bytes and ends that were read

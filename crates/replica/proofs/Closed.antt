@@ -122,8 +122,8 @@ module _ {D : Type 0} (g : Ghosts D) (names : Names) (old : Content) (opened aft
         holds = o.0;
         following = o.1;
         over = f;
-        comes = may_hold g names after (same ∙ o.1) (database over_files opened).now.schema (crash.IsLeft settings.limit names old f.follows.read r.new end) e.1 (λ trees may. quiet.outcomes trees may)
-            (subst (λ n. LeavesOnly over_files (database over_files opened).now.schema after (crash.IsLeft settings.limit n old f.follows.read r.new end)) o.1 (r.leaves refl));
+        comes = may_hold g names after (same ∙ o.1) (database over_files opened).now.schema (crash.IsLeftOfOne settings.limit names old f.follows.read r.new end) e.1 (λ trees may. quiet.outcomes trees may)
+            (subst (λ n. LeavesOnly over_files (database over_files opened).now.schema after (crash.IsLeftOfOne settings.limit n old f.follows.read r.new end)) o.1 (r.leaves refl));
       }
   followed_into only left written failures gives settings (Err cause) (Err e) same opens left_there connects copied failed = λ honest.
       let quiet = failed.0.quiet in

@@ -1,6 +1,7 @@
 -- A session over a store takes a payload.
 use Rattle.std.proofs.Common.{◌≡◌, ◌≢◌, ◌⊎◌, ℕ, ◌+◌, ◌^◌, ◌<◌, Bool, true, false, List, [], ◌∷◌, ◌++◌, length, Some, None, unwrap_or, IsTrue, inl, inr, refl, sym, ap, subst, ◌∙◌, append-nil, arith}
 use Rattle.std.proofs.lemmas.List.{length-append}
+use Rattle.std.proofs.lemmas.Bool.{true≢false}
 use Rattle.sqlite_trees.specs.declared.store.Store.{Ghosts}
 use Rattle.sqlite_trees.specs.Tree.{Trees}
 use Rattle.sqlite_schema.specs.declared.schema.Schema.{Schema}
@@ -13,12 +14,12 @@ use Rattle.gather.specs.Transaction.{DeliveryValue}
 use Rattle.gather.specs.declared.gatherer.Gatherer.{Gatherer}
 use Rattle.sqlite.specs.declared.error.Error.{Error}
 use Rattle.store.specs.State.{Content}
-use Rattle.store.specs.Take.{HasOutcome, done}
+use Rattle.store.specs.Changes.{HasOutcome, done}
 use Rattle.store.specs.declared.fault.StoreFault.{StoreFault}
 use Rattle.store.specs.declared.fault.StoreFault.TheVariants as fault
 use Rattle.store.specs.declared.store.Store.{Store}
 use Rattle.store.specs.Store.{Holds, HoldsAs, AreOf}
-use Rattle.store.proofs.Taken.{stays}
+use Rattle.store.proofs.Applying.{stays}
 use Rattle.replica.specs.declared.end.Reason.{Reason}
 use Rattle.replica.specs.declared.end.Reason.TheVariants.{EndOfInput, SourceEof, SourceError, Wire, Greet, Event, Gather, Refused, Database, Memory, ReadFailed, WriteFailed, Halted}
 use Rattle.replica.specs.declared.end.Ended.{Ended}
@@ -29,24 +30,21 @@ use Rattle.replica.specs.Stream.{Payload, Hello, InDump, IsInDump, Answers, next
 use Rattle.replica.specs.End.{Denies, EndsLog}
 use Rattle.replica.specs.Conn.{AppliesAll, Why, NextEnds, BreaksStore}
 use Rattle.replica.specs.Sent.{Sent}
-use Rattle.replica.specs.Standing.{GoesOn, HasEnded, Stands, HasPayload, due_of, end_of, place_of, MovesOn}
-use Rattle.replica.specs.Crash.{IsLeft}
-use Rattle.replica.specs.Turn.{GathersMore}
-use Rattle.replica.specs.Event.{GoesFurther, EndsOne, Rests, EndsSo}
+use Rattle.replica.specs.Standing.{GoesOn, HasEnded, Stands, HasPayload, due_of, end_of, offset_of, MovesOn}
+use Rattle.replica.specs.Crash.{IsLeftOfOne}
+use Rattle.replica.specs.PayloadStep.{GathersMore}
+use Rattle.replica.specs.Event.{GoesFurther, EndsOne, IsAsBefore, EndsSo}
 use Rattle.replica.specs.Over.{LeavesOnly, StandsOver, MeetsOver}
-use Rattle.replica.proofs.Push.{due_push, responds_push, takes_push, with_event}
-use Rattle.replica.proofs.Turning.{stands_going, stands_ended, stops, ended, rest_length}
+use Rattle.replica.proofs.Push.{due_push, responds_push, applies_push, with_event}
+use Rattle.replica.proofs.PayloadSteps.{stands_going, stands_ended, stops, ended, rest_length}
 
-either : (b : Bool) → (b ≡ false) ⊎ (b ≡ true)
+pub either : (b : Bool) → (b ≡ false) ⊎ (b ≡ true)
 either false = inl refl
 either true = inr refl
 
-true-false : true ≡ false → ⊥
-true-false e = cc
-
 was_whole : (is broken : Bool) → (is ≡ true → broken ≡ true) → broken ≡ false → is ≡ false
 was_whole false broken h whole = refl
-was_whole true broken h whole = absurd (true-false (sym (h refl) ∙ whole))
+was_whole true broken h whole = absurd (true≢false (sym (h refl) ∙ whole))
 
 -- ---- an event goes on
 module _ (settings : Settings) (assembly : ReaderState) (gatherer : Gatherer) (waits : Phase) (at applied : ℕ) (names : Names) (was is : Bool) (old now : Content) (b all : List ℕ) (p : Payload)
@@ -59,7 +57,7 @@ module _ (settings : Settings) (assembly : ReaderState) (gatherer : Gatherer) (w
 
   pub event_goes_on : (after_gatherer : Gatherer) (end n : ℕ) (more : List DeliveryValue) (after : Content) → GathersMore names h.reading.events h.reading.deliveries p more after_gatherer → AppliesAll names now more n after
       → end ≡ at + length h.reading.rest → end < 2 ^ 64 → (is ≡ true → after ≡ now) → GoesOn settings assembly after_gatherer waits end (applied + n) names was is old after b all
-  event_goes_on after_gatherer end n more after gathered takes end_is within same =
+  event_goes_on after_gatherer end n more after gathered applies end_is within same =
       let r = h.reading in
       let d = due_after r.payloads in
       let within_at : length r.front + length r.rest < 2 ^ 64 = omega (arith, end_is, within, h.at_is) in
@@ -76,9 +74,9 @@ module _ (settings : Settings) (assembly : ReaderState) (gatherer : Gatherer) (w
         unfinished = subst (λ l. IsUnfinished (next_id d p assembly.due) settings.limit l) (sym h.held) (nothing_yet (next_id d p assembly.due) settings.limit);
         awaits = h.awaits ∙ sym due_after;
         gathers = gathered.gathers;
-        took = record {
-          takes = takes_push names old r.deliveries applied now more n after h.took.takes takes;
-          asked = λ i. h.took.asked (subst IsInDump due_after i);
+        has_applied = record {
+          applies = applies_push names old r.deliveries applied now more n after h.has_applied.applies applies;
+          asked = λ i. h.has_applied.asked (subst IsInDump due_after i);
         };
         sent = subst (λ l. Sent settings old.executed (r.payloads ++ p ∷ []) l) (append-nil all)
             (responds_push settings old.executed Hello r.payloads all p [] h.sent (subst (λ x. Rattle.replica.specs.Sent.Responds settings old.executed x p []) (sym due_is) refl));
@@ -98,7 +96,7 @@ module _ (settings : Settings) (assembly : ReaderState) (gatherer : Gatherer) (w
         at_is = end_is ∙ ap (λ k. k + length r.rest) h.at_is;
       } in
       record {
-        conn = record { reading = r; took = h.took; why = log; kept = h.kept };
+        conn = record { reading = r; has_applied = h.has_applied; why = log; kept = h.kept };
         more = λ e. cc;
         sent = record { payloads = r.payloads; taken = record { reading = r; payloads_are = refl; at_is = inr log }; sent = h.sent };
         store = h.store;
@@ -145,12 +143,12 @@ module _ {S : Type 0} (g : Ghosts S) (settled : (h : Held S) (db : Trees) → Is
     schema_is = same;
     leaves = λ whole.
         let is_whole : is ≡ false = goes.store ∙ whole in
-        leaves_only store schema now (IsLeft s.config.limit store.following old b now (end_of s)) (subst (λ i. HoldsAs g i now store) is_whole holds) (same is_whole) (inl refl);
+        leaves_only store schema now (IsLeftOfOne s.config.limit store.following old b now (end_of s)) (subst (λ i. HoldsAs g i now store) is_whole holds) (same is_whole) (inl refl);
   }
 
   pub over_ended : (s : Session) (store : Store S g) (schema : Schema) (was is : Bool) (old now : Content) (b o : List ℕ) (end : Ended) → s.ended ≡ Some end → HoldsAs g is now store
       → HasEnded s.config store.following was is old now b (o ++ s.out.items) end
-      → (is ≡ false → (state g store.conn).now.schema ≡ schema) → (was ≡ false → LeavesOnly g schema store (IsLeft s.config.limit store.following old b now end))
+      → (is ≡ false → (state g store.conn).now.schema ≡ schema) → (was ≡ false → LeavesOnly g schema store (IsLeftOfOne s.config.limit store.following old b now end))
       → StandsOver g s store schema was old b o
   over_ended s store schema was is old now b o end some holds has same leaves = record {
     is = is;
@@ -160,7 +158,7 @@ module _ {S : Type 0} (g : Ghosts S) (settled : (h : Held S) (db : Trees) → Is
     schema_is = same;
     leaves = λ whole.
         let is_end : end_of s ≡ end = ap (λ v. unwrap_or v (record { reason = EndOfInput; at = s.at; applied = s.applied })) some in
-        subst (λ e. LeavesOnly g schema store (IsLeft s.config.limit store.following old b now e)) (sym is_end) (leaves whole);
+        subst (λ e. LeavesOnly g schema store (IsLeftOfOne s.config.limit store.following old b now e)) (sym is_end) (leaves whole);
   }
 
   -- the store is as it was
@@ -187,23 +185,23 @@ module _ {S : Type 0} (g : Ghosts S) (settled : (h : Held S) (db : Trees) → Is
         (λ whole. f.schema whole ∙ m.schema_is whole)
 
     dump_ended : (new : Session) (is : Bool) (end : Ended) → new.ended ≡ Some end → HoldsAs g is m.now after → HasEnded new.config store.following was is old m.now b (o ++ new.out.items) end
-        → (is ≡ false → (state g after.conn).now.schema ≡ schema) → (was ≡ false → LeavesOnly g schema after (IsLeft new.config.limit store.following old b m.now end)) → StandsOver g new after schema was old b o
+        → (is ≡ false → (state g after.conn).now.schema ≡ schema) → (was ≡ false → LeavesOnly g schema after (IsLeftOfOne new.config.limit store.following old b m.now end)) → StandsOver g new after schema was old b o
     dump_ended new is end some holds has same leaves =
         over_ended new after schema was is old m.now b o end some holds
         (subst (λ n. HasEnded new.config n was is old m.now b (o ++ new.out.items) end) (sym same_names) has)
         same
-        (λ whole. subst (λ n. LeavesOnly g schema after (IsLeft new.config.limit n old b m.now end)) (sym same_names) (leaves whole))
+        (λ whole. subst (λ n. LeavesOnly g schema after (IsLeftOfOne new.config.limit n old b m.now end)) (sym same_names) (leaves whole))
 
     module _ (new : Session) (end : ℕ) (dump : due_of s.phase ≡ InDump) (end_is : end ≡ s.at + packing_length (length p)) (within : end < 2 ^ 64) (config : new.config ≡ s.config) (out : new.out.items ≡ s.out.items) where
-      place : end ≡ s.at + length m.meets.reading.rest
-      place = end_is ∙ ap (λ k. s.at + k) (sym (rest_length s.config s.assembler s.gatherer s.phase s.at s.applied store.following was m.is old m.now b (o ++ s.out.items) p m.meets))
+      end_is_sum : end ≡ s.at + length m.meets.reading.rest
+      end_is_sum = end_is ∙ ap (λ k. s.at + k) (sym (rest_length s.config s.assembler s.gatherer s.phase s.at s.applied store.following was m.is old m.now b (o ++ s.out.items) p m.meets))
 
       room : s.at + length m.meets.reading.rest < 2 ^ 64
-      room = subst (λ n. n < 2 ^ 64) place within
+      room = subst (λ n. n < 2 ^ 64) end_is_sum within
 
       -- the store is whole or broken as it was
       rests_so : (reason : Reason) (at : ℕ) → new.ended ≡ Some (record { reason = reason; at = at; applied = s.applied })
-          → Rests g m.is m.now m.meets.reading.events m.meets.reading.deliveries p store after m.is
+          → IsAsBefore g m.is m.now m.meets.reading.events m.meets.reading.deliveries p store after m.is
           → HasEnded s.config store.following was m.is old m.now b (o ++ s.out.items) (record { reason = reason; at = at; applied = s.applied }) → StandsOver g new after schema was old b o
       rests_so reason at some rests has =
           let e : Ended = record { reason = reason; at = at; applied = s.applied } in
@@ -214,7 +212,7 @@ module _ {S : Type 0} (g : Ghosts S) (settled : (h : Held S) (db : Trees) → Is
           same
           (λ whole.
           let is_whole : m.is ≡ false = m.meets.store ∙ whole in
-          leaves_only after schema m.now (IsLeft new.config.limit store.following old b m.now e) (subst (λ i. HoldsAs g i m.now after) is_whole rests.holds) (same is_whole) (inl refl))
+          leaves_only after schema m.now (IsLeftOfOne new.config.limit store.following old b m.now e) (subst (λ i. HoldsAs g i m.now after) is_whole rests.holds) (same is_whole) (inl refl))
 
       stopped : (reason : Reason) (broken : Bool) → reason ≢ EndOfInput
           → Why s.config.limit store.following (due_after m.meets.reading.payloads) m.meets.reading.events m.meets.reading.deliveries (length m.meets.reading.front) m.meets.reading.id m.meets.reading.rest was old m.now s.at reason
@@ -238,24 +236,24 @@ module _ {S : Type 0} (g : Ghosts S) (settled : (h : Held S) (db : Trees) → Is
 
       one_more : (cause : StoreFault) (error : Error) → cause ≡ fault.Database error → (d : DeliveryValue) → EndsOne g m.is m.now m.meets.reading.events m.meets.reading.deliveries p store after d → (left : Content)
           → (left ≡ m.now) ⊎ HasOutcome store.following m.now d (done left)
-          → IsLeft s.config.limit store.following old b m.now (record { reason = Database cause; at = s.at; applied = s.applied }) left
+          → IsLeftOfOne s.config.limit store.following old b m.now (record { reason = Database cause; at = s.at; applied = s.applied }) left
       one_more cause error is d e left (inl same) = inl same
-      one_more cause error is d e left (inr takes) = inr (record {
+      one_more cause error is d e left (inr outcome) = inr (record {
         cause = error;
         failed = ap Database is;
         reading = m.meets.reading;
         at_is = m.meets.at_is;
-        took = m.meets.took;
+        has_applied = m.meets.has_applied;
         next = d;
         ends = next_ends d e;
-        takes = takes;
+        outcome = outcome;
       })
 
-      pub dump_ends : (reason : Reason) → new.ended ≡ Some (record { reason = reason; at = place_of reason s.at end; applied = s.applied })
+      pub dump_ends : (reason : Reason) → new.ended ≡ Some (record { reason = reason; at = offset_of reason s.at end; applied = s.applied })
           → EndsSo g m.is m.now m.meets.reading.events m.meets.reading.deliveries p store after reason → StandsOver g new after schema was old b o
       dump_ends EndOfInput some e = absurd e.0
       dump_ends SourceEof some e =
-          rests_so SourceEof end some e.1 (log_ends s.config s.assembler s.gatherer s.phase s.at s.applied store.following was m.is old m.now b (o ++ s.out.items) p m.meets dump end place within e.0)
+          rests_so SourceEof end some e.1 (log_ends s.config s.assembler s.gatherer s.phase s.at s.applied store.following was m.is old m.now b (o ++ s.out.items) p m.meets dump end end_is_sum within e.0)
       dump_ends (SourceError code state message) some e =
           rests_so (SourceError code state message) s.at some e.1 (stopped (SourceError code state message) m.is (λ q. cc) (m.meets.at_is, denied (SourceError code state message) e.0) m.meets.store)
       dump_ends (Wire f) some e = absurd e.0
@@ -271,14 +269,14 @@ module _ {S : Type 0} (g : Ghosts S) (settled : (h : Held S) (db : Trees) → Is
           (subst (λ l. HasEnded s.config store.following was true old m.now b (o ++ l) end_at) (sym out)
           (stopped (Database cause) true (λ q. cc)
           (m.meets.at_is, record { delivery = e.0; ends = next_ends e.0 e.1; fails = elim e.2.fails [ inl w ↦ inl (w.0, w.1, sym m.meets.store ∙ w.2, w.3) | inr w ↦ inr (w.0, sym m.meets.store ∙ w.1) ] }) refl)))
-          (λ f. absurd (true-false f))
+          (λ f. absurd (true≢false f))
           (λ whole. record {
             each = λ trees may.
                 let is_whole : m.is ≡ false = m.meets.store ∙ whole in
                 let l = e.2.leaves is_whole trees may in (
                   l.0,
                   subst (λ n. AreOf schema n l.0 trees) (sym same_names) (subst (λ x. AreOf x store.following l.0 trees) (m.schema_is is_whole) l.1),
-                  subst (λ (c : Settings). IsLeft c.limit store.following old b m.now end_at l.0) (sym config) (elim e.2.fails [ inl w ↦ one_more cause w.0 w.1 e.0 e.1 l.0 l.2 | inr w ↦ absurd (true-false (sym w.1 ∙ is_whole)) ]),
+                  subst (λ (c : Settings). IsLeftOfOne c.limit store.following old b m.now end_at l.0) (sym config) (elim e.2.fails [ inl w ↦ one_more cause w.0 w.1 e.0 e.1 l.0 l.2 | inr w ↦ absurd (true≢false (sym w.1 ∙ is_whole)) ]),
                 );
           })
       dump_ends Memory some e =
@@ -291,7 +289,7 @@ module _ {S : Type 0} (g : Ghosts S) (settled : (h : Held S) (db : Trees) → Is
           (stopped Memory e.0 (λ q. cc) m.meets.at_is (λ w. e.1 (m.meets.store ∙ w)))))
           same
           (λ whole. elim (either e.0) [
-            | inl is_whole ↦ leaves_only after schema m.now (IsLeft new.config.limit store.following old b m.now end_at) (subst (λ i. HoldsAs g i m.now after) is_whole e.2.holds) (same is_whole) (inl refl)
+            | inl is_whole ↦ leaves_only after schema m.now (IsLeftOfOne new.config.limit store.following old b m.now end_at) (subst (λ i. HoldsAs g i m.now after) is_whole e.2.holds) (same is_whole) (inl refl)
             | inr broken ↦ record {
               each = λ trees may.
                   let before : m.is ≡ false = m.meets.store ∙ whole in

@@ -1,10 +1,10 @@
 -- A payload of the dump.
-use Rattle.std.proofs.Common.{◌≡◌, ◌⊎◌, ◌≤◌, ◌-◌, ℕ, Bool, true, false, List, [], ◌∷◌, take, drop, length, Result, Ok, Err, get_or, inl, inr, refl, sym, ap, subst, ◌∙◌, arith}
+use Rattle.std.proofs.Common.{◌≡◌, ◌⊎◌, ◌≤◌, ◌-◌, ℕ, Bool, true, false, List, [], ◌∷◌, take, drop, length, Result, Ok, Err, get_or, inl, inr, refl, sym, ap, subst, ◌∙◌}
 use Rattle.sqlite_trees.specs.declared.store.Store.{Ghosts}
 use Rattle.sqlite_trees.specs.Tree.{Trees}
 use Rattle.sqlite.specs.Held.{state}
-use Rattle.std.proofs.Math.Seq.{drop-cons}
-use Rattle.std.proofs.lemmas.List.{take_rest}
+use Rattle.wire.proofs.Cuts.{begun_by}
+use Rattle.std.proofs.lemmas.Bool.{true≢false, false≢true}
 use Rattle.binlog.specs.Filter.{Names}
 use Rattle.binlog.specs.Event.{EventValue, IsEvent}
 use Rattle.gather.specs.Transaction.{DeliveryValue}
@@ -13,7 +13,7 @@ use Rattle.gather.specs.declared.gatherer.Gatherer.{Gatherer}
 use Rattle.gather.specs.declared.fault.GatherFault.{GatherFault}
 use Rattle.gather.specs.declared.fault.GatherFault.TheVariants as gather
 use Rattle.store.specs.State.{Content}
-use Rattle.store.specs.Take.{is_executed}
+use Rattle.store.specs.Changes.{is_executed}
 use Rattle.store.specs.declared.fault.Applied.{Applied}
 use Rattle.store.specs.declared.fault.Applied.TheVariants as applied
 use Rattle.store.specs.declared.fault.StoreFault.{StoreFault}
@@ -23,14 +23,10 @@ use Rattle.store.specs.Store.{Holds, HasFailed, HoldsAs, Applies, Leaves}
 use Rattle.replica.specs.declared.end.Reason.{Reason}
 use Rattle.replica.specs.declared.end.Reason.TheVariants.{EndOfInput, SourceEof, SourceError, Wire, Greet, Event, Gather, Refused, Database, Memory, ReadFailed, WriteFailed, Halted}
 use Rattle.replica.specs.Stream.{Payload, Carries}
-use Rattle.replica.specs.Turn.{EndsDump, GathersMore, outcome_of, reason_of_events}
-use Rattle.replica.specs.Event.{GoesFurther, EndsOne, Rests, EndsSo, TakesEvent}
+use Rattle.replica.specs.PayloadStep.{EndsDump, GathersMore, outcome_of, reason_of_events}
+use Rattle.replica.specs.Event.{GoesFurther, EndsOne, IsAsBefore, EndsSo, TakesEvent}
 
 -- ---- the event
-begun_by : (first : ℕ) (xs : List ℕ) → 1 ≤ length xs → get_or xs 0 0 ≡ first → xs ≡ first ∷ take (length xs - 1) (drop 1 xs)
-begun_by first xs some is =
-    drop-cons xs 0 0 (omega (arith, some)) ∙ ap (λ rest. get_or xs 0 0 ∷ rest) (sym (take_rest xs 1)) ∙ ap (λ b. b ∷ take (length xs - 1) (drop 1 xs)) is
-
 pub carries_event : (names : Names) (payload : List ℕ) (e : EventValue) → 1 ≤ length payload → get_or payload 0 0 ≡ 0 → IsEvent names e (take (length payload - 1) (drop 1 payload)) → Carries names payload e
 carries_event names payload e some first is = record { body = take (length payload - 1) (drop 1 payload); payload_is = begun_by 0 payload some first; is_event = is }
 
@@ -43,16 +39,10 @@ events_end names es p e (gather.Event f) reason carries (inr h) is = subst (Ends
 events_end names es p e gather.Memory reason carries (inr h) is = subst (EndsDump names es p) (sym is) tt
 events_end names es p e gather.Ended reason carries (inr h) is = subst (EndsDump names es p) (sym is) (tt, e, carries, h)
 
-true-false : true ≡ false → ⊥
-true-false e = cc
-
-false-true : false ≡ true → ⊥
-false-true e = cc
-
 -- ---- the store
 module _ {S : Type 0} (g : Ghosts S) (es : List EventValue) (ds : List DeliveryValue) (p : Payload) where
   -- the store is as it was
-  pub rested : (is : Bool) (now : Content) (store : Store S g) → HoldsAs g is now store → Rests g is now es ds p store store is
+  pub rested : (is : Bool) (now : Content) (store : Store S g) → HoldsAs g is now store → IsAsBefore g is now es ds p store store is
   rested is now store holds = record { holds = holds; schema = λ _. refl }
 
   pub ends_early : (is : Bool) (now : Content) (store : Store S g) (reason : Reason) → HoldsAs g is now store → EndsDump store.following es p reason → EndsSo g is now es ds p store store reason
@@ -65,7 +55,7 @@ module _ {S : Type 0} (g : Ghosts S) (es : List EventValue) (ds : List DeliveryV
   ends_early is now store (Gather f) holds h = (h, rested is now store holds)
   ends_early is now store (Refused f) holds h = absurd h
   ends_early is now store (Database f) holds h = absurd h
-  ends_early is now store Memory holds h = (is, (λ b. b), rested is now store holds, λ whole broken. absurd (false-true (sym whole ∙ broken)))
+  ends_early is now store Memory holds h = (is, (λ b. b), rested is now store holds, λ whole broken. absurd (false≢true (sym whole ∙ broken)))
   ends_early is now store ReadFailed holds h = absurd h
   ends_early is now store WriteFailed holds h = absurd h
   ends_early is now store Halted holds h = absurd h
@@ -75,7 +65,7 @@ module _ {S : Type 0} (g : Ghosts S) (es : List EventValue) (ds : List DeliveryV
     more = [];
     gathered = more;
     after = now;
-    takes = (refl, refl);
+    applies = (refl, refl);
     holds = holds;
     schema = λ _. refl;
     kept = λ _. refl;
@@ -99,7 +89,7 @@ module _ {S : Type 0} (g : Ghosts S) (es : List EventValue) (ds : List DeliveryV
         record {
           rests = record { holds = holds; schema = λ _. refl };
           fails = inr (refl, refl);
-          leaves = λ whole. absurd (true-false whole);
+          leaves = λ whole. absurd (true≢false whole);
         },
       ))
 
@@ -112,16 +102,16 @@ module _ {S : Type 0} (g : Ghosts S) (es : List EventValue) (ds : List DeliveryV
     more = d ∷ [];
     gathered = more;
     after = it.after;
-    takes = inl (it.after, 0, it.takes, refl, (refl, refl));
+    applies = inl (it.after, 0, it.outcome, refl, (refl, refl));
     holds = it.holds;
     schema = λ _. schema it.holds.whole;
-    kept = λ b. absurd (false-true b);
+    kept = λ b. absurd (false≢true b);
   })
   over_whole now old new d gatherer (Ok applied.Repeat) out holds more it schema leaves is = subst (TakesEvent g false now es ds p old new gatherer) (sym is) (record {
     more = d ∷ [];
     gathered = more;
     after = now;
-    takes = inr (it.0, (refl, refl));
+    applies = inr (it.0, (refl, refl));
     holds = subst (λ x. Holds g x now) (sym it.1) holds;
     schema = λ _. ap (λ (x : Store S g). (state g x.conn).now.schema) it.1;
     kept = λ b. refl;
@@ -134,16 +124,16 @@ module _ {S : Type 0} (g : Ghosts S) (es : List EventValue) (ds : List DeliveryV
     d,
     ends_one false now old new d gatherer more,
     record {
-      rests = record { holds = it.1; schema = λ b. absurd (true-false b) };
+      rests = record { holds = it.1; schema = λ b. absurd (true≢false b) };
       fails = inl (e, refl, refl, it.0);
       leaves = λ whole trees left. elim (leaves trees left) [
         | inl same ↦ (now, same, inl refl)
-        | inr one ↦ (one.after, one.stands, inr one.takes)
+        | inr one ↦ (one.after, one.stands, inr one.outcome)
       ];
     },
   )
   over_whole now old new d gatherer (Err fault.Memory) out holds more it schema leaves is = subst (TakesEvent g false now es ds p old new gatherer) (sym is)
-      (true, (λ _. refl), record { holds = it.1; schema = λ b. absurd (true-false b) }, λ whole broken trees left. leaves trees left)
+      (true, (λ _. refl), record { holds = it.1; schema = λ b. absurd (true≢false b) }, λ whole broken trees left. leaves trees left)
   over_whole now old new d gatherer (Err fault.Damaged) out holds more it schema leaves is = absurd it
   over_whole now old new d gatherer (Err (fault.Layout n)) out holds more it schema leaves is = absurd it
   over_whole now old new d gatherer (Err fault.Broken) out holds more it schema leaves is = absurd it

@@ -16,7 +16,7 @@ use Rattle.replica.specs.Stream.{Payload, Due, Reading, due_after}
 use Rattle.replica.specs.End.{HasNext, StopsAt, PassesEnd, EndsLog, EndsWith, StopsFor, IsWrong}
 use Rattle.replica.specs.Conn.{NextEnds, NextAnswers, Why, Conn}
 use Rattle.replica.specs.Sent.{Taken, SentFor}
-use Rattle.replica.specs.Crash.{IsOneMore, IsLeft}
+use Rattle.replica.specs.Crash.{IsOneMore, IsLeftOfOne}
 
 pub front-append : (b x rest more : List ℕ) → b ≡ x ++ rest → b ++ more ≡ x ++ (rest ++ more)
 front-append b x rest more h = ap (λ (l : List ℕ). l ++ more) h ∙ append_assoc x rest more
@@ -108,7 +108,7 @@ conn-append limit names was old b more new end h c =
     let r = c.reading in
     record {
       reading = extended limit names b more r;
-      took = c.took;
+      has_applied = c.has_applied;
       why = why-append limit names (due_after r.payloads) r.events (length r.front) r.id r.rest more r.deliveries was old new end.at end.reason h c.why;
       kept = c.kept;
     }
@@ -137,11 +137,11 @@ one_more-append limit names old b more new end left m =
       failed = m.failed;
       reading = extended limit names b more r;
       at_is = m.at_is;
-      took = m.took;
+      has_applied = m.has_applied;
       next = m.next;
       ends = ends-append limit names (due_after r.payloads) r.events (length r.front) r.id r.rest more r.deliveries m.next m.ends;
-      takes = m.takes;
+      outcome = m.outcome;
     }
 
-pub left-append : (limit : ℕ) (names : Names) (old : Content) (b more : List ℕ) (new : Content) (end : Ended) (left : Content) → IsLeft limit names old b new end left → IsLeft limit names old (b ++ more) new end left
+pub left-append : (limit : ℕ) (names : Names) (old : Content) (b more : List ℕ) (new : Content) (end : Ended) (left : Content) → IsLeftOfOne limit names old b new end left → IsLeftOfOne limit names old (b ++ more) new end left
 left-append limit names old b more new end left l = elim l [ inl e ↦ inl e | inr m ↦ inr (one_more-append limit names old b more new end left m) ]

@@ -1,4 +1,4 @@
--- Changes of tables that are not followed are skipped.
+-- Changes of tables that the filter leaves out are skipped.
 use Rattle.std.proofs.Common.{◌≡◌, Bool, true, false, List, [], ◌∷◌, ◌++◌, map, flat_map, if◌then◌else◌, refl, sym, subst, ◌∙◌, MatchBool}
 use Rattle.std.specs.FinSet as set
 use Rattle.binlog.specs.Filter.{Names, admits}
@@ -7,7 +7,7 @@ use Rattle.binlog.specs.Rows.{PairValue, inserted, deleted, updated}
 use Rattle.binlog.proofs.Admitted.{all_follow}
 use Rattle.gather.specs.Transaction.{ChangeValue, change_of}
 use Rattle.store.specs.State.{Bag, Content}
-use Rattle.store.specs.Take.{IsMade, is_followed, AreDone, HasOutcome, done}
+use Rattle.store.specs.Changes.{IsMade, is_admitted, AreDone, HasOutcome, done}
 use Rattle.scripted_source.specs.Script.{PartValue, ScriptValue}
 use Rattle.replica.specs.Resume.{part_changes, transaction}
 
@@ -15,12 +15,12 @@ use Rattle.replica.specs.Resume.{part_changes, transaction}
 pub all_changes : (part : PartValue) → part_changes set.empty part ≡ map (change_of part.table) part.pairs
 all_changes part = rw (all_follow part.table.schema part.table.table) refl
 
-by_table : (names : Names) (t : TableValue) (pair : PairValue) → is_followed names (change_of t pair) ≡ admits names t.schema t.table
+by_table : (names : Names) (t : TableValue) (pair : PairValue) → is_admitted names (change_of t pair) ≡ admits names t.schema t.table
 by_table names t (inserted after) = refl
 by_table names t (deleted before) = refl
 by_table names t (updated before after) = refl
 
--- ---- Changes of a table that is not followed.
+-- ---- Changes of a table that the filter leaves out.
 
 passed : (names : Names) (t : TableValue) (pairs : List PairValue) (old new : Bag) → admits names t.schema t.table ≡ false → AreDone names (map (change_of t) pairs) old new → new ≡ old
 passed names t [] old new other h = h
@@ -49,13 +49,13 @@ both names (x ∷ xs) ys old mid new a b = (a.0, a.1, both names xs ys a.0 mid n
 
 -- ---- A part.
 
-without : (names : Names) (part : PartValue) (followed : Bool) (old new : Bag) → admits names part.table.schema part.table.table ≡ followed → AreDone names (map (change_of part.table) part.pairs) old new
-    → AreDone names (if followed then map (change_of part.table) part.pairs else []) old new
+without : (names : Names) (part : PartValue) (admitted : Bool) (old new : Bag) → admits names part.table.schema part.table.table ≡ admitted → AreDone names (map (change_of part.table) part.pairs) old new
+    → AreDone names (if admitted then map (change_of part.table) part.pairs else []) old new
 without names part true old new is h = h
 without names part false old new is h = passed names part.table part.pairs old new is h
 
-within : (names : Names) (part : PartValue) (followed : Bool) (old new : Bag) → admits names part.table.schema part.table.table ≡ followed
-    → AreDone names (if followed then map (change_of part.table) part.pairs else []) old new → AreDone names (map (change_of part.table) part.pairs) old new
+within : (names : Names) (part : PartValue) (admitted : Bool) (old new : Bag) → admits names part.table.schema part.table.table ≡ admitted
+    → AreDone names (if admitted then map (change_of part.table) part.pairs else []) old new → AreDone names (map (change_of part.table) part.pairs) old new
 within names part true old new is h = h
 within names part false old new is h = subst (λ m. AreDone names (map (change_of part.table) part.pairs) old m) (sym h) (passing names part.table part.pairs old is)
 

@@ -16,11 +16,12 @@ use Rattle.store.specs.Store.{HoldsAs, database}
 use Rattle.replica.specs.declared.end.Reason.{Reason}
 use Rattle.replica.specs.declared.end.Reason.TheVariants.{EndOfInput, SourceEof, SourceError, Wire, Greet, Event, Gather, Refused, Database, Memory, ReadFailed, WriteFailed, Halted}
 use Rattle.replica.specs.declared.end.Ended.{Ended}
+use Rattle.replica.specs.declared.following.TheConstants.{PIECE}
 use Rattle.replica.specs.declared.session.Session.{Session}
 use Rattle.replica.specs.Settings.{Settings}
 use Rattle.replica.specs.Stream.{Due, Reading, due_after}
 use Rattle.replica.specs.Conn.{Why, Conn, BreaksStore, IsNoStreamFailure}
-use Rattle.replica.specs.Crash.{IsLeft}
+use Rattle.replica.specs.Crash.{IsLeftOfOne}
 use Rattle.replica.specs.Sent.{SentFor}
 use Rattle.replica.specs.Standing.{Stands, GoesOn, HasEnded, end_of, room_of}
 use Rattle.replica.specs.Over.{StandsOver, HasRead, LeavesOnly}
@@ -145,7 +146,7 @@ conn-ended_with : (limit : ℕ) (names : Names) (was : Bool) (old : Content) (b 
     → Conn limit names was old b new end → Conn limit names was old b new (reported_as reason end)
 conn-ended_with limit names was old b new end reason f c = record {
   reading = c.reading;
-  took = c.took;
+  has_applied = c.has_applied;
   why = f c.reading c.why;
   kept = c.kept;
 }
@@ -178,8 +179,8 @@ module _ {S : Type 0} (g : Ghosts S) where
     stands = h.stands store.following was s.is old s.now b o s.stands;
     schema_is = s.schema_is;
     leaves = λ w.
-        subst (λ (c : Settings). LeavesOnly g schema store (IsLeft c.limit store.following old b s.now (end_of after))) (sym h.config)
-        (subst (λ (e : Ended). LeavesOnly g schema store (IsLeft session.config.limit store.following old b s.now e)) (sym h.end) (s.leaves w));
+        subst (λ (c : Settings). LeavesOnly g schema store (IsLeftOfOne c.limit store.following old b s.now (end_of after))) (sym h.config)
+        (subst (λ (e : Ended). LeavesOnly g schema store (IsLeftOfOne session.config.limit store.following old b s.now e)) (sym h.end) (s.leaves w));
   }
 
   module _ (session : Session) (before store : Store S g) (was : Bool) (old : Content) (left0 left written0 written : Option (List ℕ)) (names : store.following ≡ before.following) (f : IsFollowing g session before store was old left0 left written0 written) where
@@ -353,7 +354,7 @@ module _ {S : Type 0} (g : Ghosts S) where
 
   -- some bytes were read
   pub following-read : (session after : Session) (before store new : Store S g) (was : Bool) (old : Content) (left0 left left' written0 written written' : Option (List ℕ)) (x : List ℕ)
-      → (f : IsFollowing g session before store was old left0 left written0 written) → store.following ≡ before.following → session.ended ≡ None → after.config ≡ session.config → length x ≤ 65536
+      → (f : IsFollowing g session before store was old left0 left written0 written) → store.following ≡ before.following → session.ended ≡ None → after.config ≡ session.config → length x ≤ PIECE
       → Consumes left left' x → Keeps written written'
       → StandsOver g after new (database g before).now.schema was old (f.read ++ x) f.sent → IsFollowing g after before new was old left0 left' written0 written'
   following-read session after before store new was old left0 left left' written0 written written' x f names going config piece consumes keeps stands = record {
@@ -383,10 +384,6 @@ module _ {S : Type 0} (g : Ghosts S) where
 pub some_after : (o : Option (Bor Ended)) (e : Option Ended) → option_map (λ (r : Bor Ended). r.now) o ≡ e → is_some e ≡ is_some o
 some_after None e h = sym (ap (λ (v : Option Ended). is_some v) h)
 some_after (Some r) e h = sym (ap (λ (v : Option Ended). is_some v) h)
-
-pub none_after : (e : Option Ended) → is_some e ≡ false → e ≡ None
-none_after None h = refl
-none_after (Some e) h = cc
 
 pub same_turns : (before after : Session) → after.ended ≡ before.ended → room_of after ≡ room_of before → turns_left after ≡ turns_left before
 same_turns before after e r = ap (λ (v : Option Ended). while_going v (room_of after + 1)) e ∙ ap (λ (n : ℕ). while_going before.ended (n + 1)) r

@@ -1,5 +1,5 @@
 -- A list of connections, and one more.
-use Rattle.std.proofs.Common.{◌≡◌, ℕ, ◌⊎◌, Bool, true, false, List, [], ◌∷◌, ◌++◌, ◌+◌, take, inl, inr, refl, sym, ap, ◌∙◌, subst, append_assoc, Vec, Global}
+use Rattle.std.proofs.Common.{◌≡◌, ℕ, ◌⊎◌, Bool, false, List, [], ◌∷◌, ◌++◌, ◌+◌, take, inl, inr, refl, sym, ap, ◌∙◌, subst, append_assoc, Vec, Global}
 use Rattle.std.proofs.lemmas.List.{append-nil}
 use Rattle.std.proofs.lemmas.Grind.{flat_map-append}
 use Rattle.binlog.specs.Filter.{Names}
@@ -7,7 +7,7 @@ use Rattle.store.specs.State.{Content}
 use Rattle.replica.specs.declared.end.Ended.{Ended}
 use Rattle.replica.specs.declared.end.Reason.TheVariants.{Memory}
 use Rattle.replica.specs.Conn.{Conn, BreaksStore, History}
-use Rattle.replica.specs.Crash.{IsOneMoreIn, IsLeft, IsLeftOfAll}
+use Rattle.replica.specs.Crash.{IsOneMoreIn, IsLeftOfOne, IsLeftOfAll}
 use Rattle.replica.specs.Pieces.{stream_of}
 use Rattle.replica.proofs.Stood.{unread}
 
@@ -22,10 +22,6 @@ history-append limit names was old (x ∷ bs) is mid (e ∷ ends) b after new en
     (h.0, h.1, h.2, h.3, history-append limit names h.1 h.0 bs is mid ends b after new end h.4 c s)
 history-append limit names was old [] is mid (e ∷ ends) b after new end h c s = absurd h
 history-append limit names was old (x ∷ bs) is mid [] b after new end h c s = absurd h
-
-either : (b : Bool) → (b ≡ false) ⊎ (b ≡ true)
-either false = inl refl
-either true = inr refl
 
 later : (limit : ℕ) (names : Names) (was : Bool) (old : Content) (bs : List (List ℕ)) (ends : List Ended) (left : Content) (b : List ℕ) (end : Ended) → IsOneMoreIn limit names was old bs ends left → IsOneMoreIn limit names was old (bs ++ b ∷ []) (ends ++ end ∷ []) left
 later limit names was old bs ends left b end m = record {
@@ -46,7 +42,7 @@ later limit names was old bs ends left b end m = record {
 
 -- what a crash leaves of one connection more, over a whole store
 pub here : (limit : ℕ) (names : Names) (was : Bool) (old : Content) (bs : List (List ℕ)) (mid : Content) (ends : List Ended) (b : List ℕ) (new : Content) (end : Ended) (left : Content)
-    → History limit names was old bs false mid ends → Conn limit names false mid b new end → IsLeft limit names mid b new end left → IsLeftOfAll limit names was old (bs ++ b ∷ []) new (ends ++ end ∷ []) left
+    → History limit names was old bs false mid ends → Conn limit names false mid b new end → IsLeftOfOne limit names mid b new end left → IsLeftOfAll limit names was old (bs ++ b ∷ []) new (ends ++ end ∷ []) left
 here limit names was old bs mid ends b new end left history conn l = elim l [
   | inl e ↦ inl e
   | inr m ↦ inr (record { before = bs; b = b; after = []; ends_before = ends; end = end; ends_after = []; mid = mid; new = new; connections = refl; ends_are = refl; history = history; conn = conn; more = m })
@@ -64,7 +60,7 @@ stays limit names was old bs mid new ends b end left same l = elim l [
 pub conn-unread : (limit : ℕ) (names : Names) (was : Bool) (content : Content) (b : List ℕ) → Conn limit names was content b content (record { reason = Memory; at = 0; applied = 0 })
 conn-unread limit names was content b = record {
   reading = unread limit names b;
-  took = record { takes = (refl, refl); asked = λ in_dump. absurd in_dump };
+  has_applied = record { applies = (refl, refl); asked = λ in_dump. absurd in_dump };
   why = refl;
   kept = λ w. refl;
 }

@@ -3,7 +3,7 @@ pub mod Sending
 pub mod Messages
 pub mod Events
 pub mod Push
-pub mod Turning
+pub mod PayloadSteps
 pub mod Dumping
 pub mod Extend
 pub mod Stood

@@ -9,7 +9,7 @@ use Rattle.replica.specs.Settings.{Settings}
 use Rattle.replica.specs.Stream.{Payload, Due, Reply, SecondReply, next_due}
 use Rattle.replica.specs.Message.{refusal_of, IsNoEvent}
 use Rattle.replica.specs.Sent.{auth_bytes}
-use Rattle.replica.specs.Turn.{IsReportOf, EndsAt, EndsDump, IsAnswered, Sends}
+use Rattle.replica.specs.PayloadStep.{IsReportOf, EndsAt, EndsDump, IsAnswered, Sends}
 use Rattle.replica.specs.Stream.{InDump}
 use Rattle.binlog.specs.Event.{EventValue}
 

@@ -1,5 +1,5 @@
 -- How an observer may end a connection.
-use Rattle.std.proofs.Common.{◌≡◌, ◌∷◌, ◌++◌, [], List, All, Bool, true, false, sym, subst}
+use Rattle.std.proofs.Common.{◌≡◌, ◌∷◌, ◌++◌, [], List, All, Bool, true, sym, subst}
 use Rattle.std.proofs.lemmas.List.Elements.{All-push}
 use Rattle.replica.specs.declared.end.Ended.{Ended}
 use Rattle.replica.specs.declared.end.Reason.{Reason}
@@ -20,22 +20,6 @@ own_may Memory stopped h = tt
 own_may ReadFailed stopped h = absurd h
 own_may WriteFailed stopped h = absurd h
 own_may Halted stopped h = absurd h
-
--- an observer that never stops
-pub may_own : (reason : Reason) → MayEnd reason false → IsOwn reason
-may_own EndOfInput h = tt
-may_own SourceEof h = tt
-may_own (SourceError code state message) h = tt
-may_own (Wire fault) h = tt
-may_own (Greet fault) h = tt
-may_own (Event fault) h = tt
-may_own (Gather fault) h = tt
-may_own (Refused refusal) h = tt
-may_own (Database cause) h = tt
-may_own Memory h = tt
-may_own ReadFailed h = absurd h
-may_own WriteFailed h = absurd h
-may_own Halted h = cc
 
 -- an observer does not take back that it has stopped
 pub may_later : (reason : Reason) (before after : Bool) → (before ≡ true → after ≡ true) → MayEnd reason before → MayEnd reason after

@@ -3,6 +3,7 @@ use Rattle.std.proofs.Common.{if◌then◌else◌, ◌==◌, ◌≡◌, ◌≢�
 use Rattle.std.proofs.lemmas.List.{length-append}
 use Rattle.std.proofs.Math.Seq.{take-append_seam}
 use Rattle.std.specs.List.{AllByRecursion}
+use Rattle.std.proofs.lemmas.Bool.{true≢false}
 use Rattle.wire.specs.declared.fault.WireFault.{WireFault}
 use Rattle.wire.specs.declared.fault.WireFault.TheVariants as wire
 use Rattle.wire.specs.Payload.{IsWholePayload, IsUnfinished, IsOutOfSequence, IsTooLarge}
@@ -33,9 +34,6 @@ use Rattle.replica.specs.Report as reported
 use Rattle.replica.specs.End.{HasNext, StopsAt, PassesEnd, EndsLog, EndsWith, StopsFor, IsWrong, Denies, End}
 use Rattle.replica.proofs.Bytes.{all_front, all_back, packed_bytes}
 
-both : true ≡ false → ⊥
-both e = cc
-
 -- ---- What a payload carries.
 pub carries_same : (names : Names) (p : Payload) (e f : EventValue) → Carries names p e → Carries names p f → e ≡ f
 carries_same names p e f c d =
@@ -59,7 +57,7 @@ no_eof names p body is eof =
     absurd (omega (arith, first))
 
 begins : (p body : List ℕ) → p ≡ 0x00 ∷ body → IsNoEvent InDump p → ⊥
-begins p body is none = absurd (both (subst (λ l. IsNoEvent InDump l) is none))
+begins p body is none = absurd (true≢false (subst (λ l. IsNoEvent InDump l) is none))
 
 -- the expected message is not refused
 answered : (names : Names) (due : Due) (p : Payload) (es : List EventValue) → Answers names due p es → IsNoEvent due p → refusal_of due p ≡ None
@@ -351,28 +349,28 @@ module _ (limit : ℕ) (names : Names) (due : Due) (es : List EventValue) (taken
   no_log other at Halted l s h = s
 
   -- where it stops
-  place_of : (at : ℕ) (reason : Reason) → StopsFor limit names due es taken id r at reason → ((at ≡ taken) × (reason ≢ SourceEof)) ⊎ EndsLog limit names due es taken id r at
-  place_of at EndOfInput s = inl (s.0, λ e. cc)
-  place_of at SourceEof s = inr s
-  place_of at (SourceError code state message) s = inl (s.0, λ e. cc)
-  place_of at (Wire fault) s = inl (s.0, λ e. cc)
-  place_of at (Greet fault) s = inl (s.0, λ e. cc)
-  place_of at (Event fault) s = inl (s.0, λ e. cc)
-  place_of at (Gather fault) s = inl (s.0, λ e. cc)
-  place_of at (Refused refusal) s = absurd s
-  place_of at (Database cause) s = absurd s
-  place_of at Memory s = absurd s
-  place_of at ReadFailed s = absurd s
-  place_of at WriteFailed s = absurd s
-  place_of at Halted s = absurd s
+  offset_of : (at : ℕ) (reason : Reason) → StopsFor limit names due es taken id r at reason → ((at ≡ taken) × (reason ≢ SourceEof)) ⊎ EndsLog limit names due es taken id r at
+  offset_of at EndOfInput s = inl (s.0, λ e. cc)
+  offset_of at SourceEof s = inr s
+  offset_of at (SourceError code state message) s = inl (s.0, λ e. cc)
+  offset_of at (Wire fault) s = inl (s.0, λ e. cc)
+  offset_of at (Greet fault) s = inl (s.0, λ e. cc)
+  offset_of at (Event fault) s = inl (s.0, λ e. cc)
+  offset_of at (Gather fault) s = inl (s.0, λ e. cc)
+  offset_of at (Refused refusal) s = absurd s
+  offset_of at (Database cause) s = absurd s
+  offset_of at Memory s = absurd s
+  offset_of at ReadFailed s = absurd s
+  offset_of at WriteFailed s = absurd s
+  offset_of at Halted s = absurd s
 
-  one_place : (at other : ℕ) (reason also : Reason) → StopsFor limit names due es taken id r at reason → StopsFor limit names due es taken id r other also → at ≡ other
-  one_place at other reason also s t = elim (place_of at reason s) [
-    | inl h ↦ elim (place_of other also t) [
+  one_offset : (at other : ℕ) (reason also : Reason) → StopsFor limit names due es taken id r at reason → StopsFor limit names due es taken id r other also → at ≡ other
+  one_offset at other reason also s t = elim (offset_of at reason s) [
+    | inl h ↦ elim (offset_of other also t) [
       | inl k ↦ h.0 ∙ sym k.0
       | inr l ↦ absurd (no_log other at reason l s h)
     ]
-    | inr l ↦ elim (place_of other also t) [
+    | inr l ↦ elim (offset_of other also t) [
       | inl k ↦ absurd (no_log at other also l t k)
       | inr m ↦ (
           let n = same_next id limit r m.stops.next.packing m.stops.next.more m.payload l.payload m.stops.next.after l.stops.next m.stops.next.whole m.stops.next.bytes in
@@ -406,7 +404,7 @@ module _ (limit : ℕ) (names : Names) (b : List ℕ) (bytes : AllByRecursion (�
       let x = e.reading in
       let y = f.reading in
       elim (both_read x y) [
-        | inl same ↦ one_place limit names (due_after x.payloads) x.events (length x.front) x.id x.rest at other r s e.stops
+        | inl same ↦ one_offset limit names (due_after x.payloads) x.events (length x.front) x.id x.rest at other r s e.stops
             (stops_same limit names x.payloads y.payloads x.events y.events x.front y.front x.id y.id x.rest y.rest other s same f.stops)
         | inr o ↦ elim o [ inl a ↦ absurd (no_further x y at r e.stops a.further) | inr a ↦ absurd (no_further y x other s f.stops a.further) ]
       ]
@@ -505,7 +503,7 @@ module _ (limit : ℕ) (names : Names) (due : Due) (es : List EventValue) (taken
     carries : Carries names p event
     fault : GatherFault
     is_fault : IsFault es event fault
-    verdict : v ≡ reported.IsOutOfPlace fault
+    verdict : v ≡ reported.IsOutOfOrder fault
 
   abbrev SaysSo : Payload → Verdict → Type 0
   SaysSo p v = (heard names due p ≡ Final v) ⊎ Misplaces p v
@@ -564,7 +562,7 @@ module _ (limit : ℕ) (names : Names) (due : Due) (es : List EventValue) (taken
           let same : h.event ≡ k.event = carries_same names p h.event k.event h.carries k.carries in
           let body : AllByRecursion (λ v. v < 256) (0x00 ∷ k.carries.body) = subst (λ l. AllByRecursion (λ v. v < 256) l) k.carries.payload_is fits in
           let f : h.fault ≡ k.fault = one_fault es k.event h.fault k.fault (record { names = names; bytes = k.carries.body; fits = body.1; is_event = k.carries.is_event }) (subst (λ e. IsFault es e h.fault) same h.is_fault) k.is_fault in
-          h.verdict ∙ ap (λ v. reported.IsOutOfPlace v) f ∙ sym k.verdict
+          h.verdict ∙ ap (λ v. reported.IsOutOfOrder v) f ∙ sym k.verdict
           )
     ]
   ]

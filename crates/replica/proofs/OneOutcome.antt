@@ -11,7 +11,7 @@ use Rattle.gather.specs.Fault.{IsRead}
 use Rattle.gather.proofs.OneList.{one_list_of_deliveries}
 use Rattle.gather.proofs.Shortening as shortening
 use Rattle.store.specs.State.{row_of, Bag, Content}
-use Rattle.store.specs.Take.{IsMade, IsRefused, IsRefusedAt, IsDone, is_followed, AreDone, is_executed, most}
+use Rattle.store.specs.Changes.{IsMade, IsRefused, IsRefusedAt, IsDone, is_admitted, AreDone, is_executed, most}
 use Rattle.store.specs.declared.row_change.Refusal.TheVariants as why
 use Rattle.store.specs.declared.row_change.Refusal as row
 use Rattle.replica.specs.declared.end.Refusal.{Refusal}
@@ -127,13 +127,13 @@ same_why (update schema table before after) bag w v (inl r) (inr s) = absurd (no
 same_why (update schema table before after) bag w v (inr r) (inl s) = absurd (none_left (bag (row_of schema table before)) (r.0 (row_of schema table before)) r.1.one_less s.0)
 same_why (update schema table before after) bag w v (inr r) (inr s) = r.2.1 ∙ sym s.2.1
 
-made_of : (followed : Bool) (P Q : Type 0) → followed ≡ true → MatchBool followed P Q → P
+made_of : (admitted : Bool) (P Q : Type 0) → admitted ≡ true → MatchBool admitted P Q → P
 made_of true P Q h m = m
 made_of false P Q h m = absurd (false≢true h)
 
 -- the change at the front is refused
 record First (names : Names) (change : ChangeValue) (old : Bag) (w : row.Refusal) : Type 0 where
-  followed : is_followed names change ≡ true
+  admitted : is_admitted names change ≡ true
   refused : IsRefused change old w
 
 first_refused : (names : Names) (c : ChangeValue) (cs : List ChangeValue) (old : Bag) (w : row.Refusal) → IsRefusedAt names (c ∷ cs) old zero w → First names c old w
@@ -142,22 +142,22 @@ first_refused names c cs old w r =
     let is : r.change ≡ c = cc in
     let mid : r.mid ≡ old = r.before in
     record {
-      followed = subst (λ v. is_followed names v ≡ true) is r.followed;
+      admitted = subst (λ v. is_admitted names v ≡ true) is r.admitted;
       refused = subst (λ m. IsRefused c m w) mid (subst (λ v. IsRefused v r.mid w) is r.refused);
     }
 
 later_refused : (names : Names) (c : ChangeValue) (cs : List ChangeValue) (old : Bag) (at : ℕ) (w : row.Refusal) → IsRefusedAt names (c ∷ cs) old (suc at) w → (mid : Bag) × IsDone names c old mid × IsRefusedAt names cs mid at w
-later_refused names c cs old at w r = (r.before.0, r.before.1, record { change = r.change; mid = r.mid; there = r.there; before = r.before.2; followed = r.followed; refused = r.refused })
+later_refused names c cs old at w r = (r.before.0, r.before.1, record { change = r.change; mid = r.mid; there = r.there; before = r.before.2; admitted = r.admitted; refused = r.refused })
 
 not_first : (names : Names) (c : ChangeValue) (old mid : Bag) (w : row.Refusal) → First names c old w → IsDone names c old mid → ⊥
-not_first names c old mid w f d = made_or_refused c old mid w (made_of (is_followed names c) (IsMade c old mid) (mid ≡ old) f.followed d) f.refused
+not_first names c old mid w f d = made_or_refused c old mid w (made_of (is_admitted names c) (IsMade c old mid) (mid ≡ old) f.admitted d) f.refused
 
 not_done : (names : Names) (changes : List ChangeValue) (old new : Bag) (at : ℕ) (w : row.Refusal) → IsRefusedAt names changes old at w → AreDone names changes old new → ⊥
 not_done names [] old new at w r d = let no : None ≡ Some r.change = r.there in cc
 not_done names (c ∷ cs) old new zero w r d = not_first names c old d.0 w (first_refused names c cs old w r) d.1
 not_done names (c ∷ cs) old new (suc at) w r d =
     let l = later_refused names c cs old at w r in
-    let mid : l.0 ≡ d.0 = one_by (is_followed names c) c old l.0 d.0 l.1 d.1 in
+    let mid : l.0 ≡ d.0 = one_by (is_admitted names c) c old l.0 d.0 l.1 d.1 in
     not_done names cs d.0 new at w (subst (λ m. IsRefusedAt names cs m at w) mid l.2) d.2
 
 one_refusal : (names : Names) (changes : List ChangeValue) (old : Bag) (i j : ℕ) (w v : row.Refusal) → IsRefusedAt names changes old i w → IsRefusedAt names changes old j v → (i ≡ j) × (w ≡ v)
@@ -168,7 +168,7 @@ one_refusal names (c ∷ cs) old (suc i) zero w v r s = let l = later_refused na
 one_refusal names (c ∷ cs) old (suc i) (suc j) w v r s =
     let l = later_refused names c cs old i w r in
     let k = later_refused names c cs old j v s in
-    let mid : l.0 ≡ k.0 = one_by (is_followed names c) c old l.0 k.0 l.1 k.1 in
+    let mid : l.0 ≡ k.0 = one_by (is_admitted names c) c old l.0 k.0 l.1 k.1 in
     let one = one_refusal names cs k.0 i j w v (subst (λ m. IsRefusedAt names cs m i w) mid l.2) k.2 in
     (ap (λ n. suc n) one.0, one.1)
 
@@ -205,7 +205,7 @@ in_dump_answer names InDump p e h c = (e, c, refl)
 -- ---- The next payload ends a transaction that is refused.
 
 module _ (limit : ℕ) (names : Names) (b : List ℕ) (bytes : AllByRecursion (λ v. v < 256) b) (old new : Content) (refusal : Refusal) (applied : ℕ) (x : Reading limit names b)
-    (took : AppliesAll names old x.deliveries applied new)
+    (has_applied : AppliesAll names old x.deliveries applied new)
     (r : IsRefusedNext limit names (due_after x.payloads) x.events x.deliveries (length x.front) x.id x.rest new refusal) where
   rest_bytes : AllByRecursion (λ v. v < 256) x.rest
   rest_bytes = all_back (λ v. v < 256) x.front x.rest (subst (λ l. AllByRecursion (λ v. v < 256) l) x.bytes bytes)
@@ -228,9 +228,9 @@ module _ (limit : ℕ) (names : Names) (b : List ℕ) (bytes : AllByRecursion (�
       let same : h.first ≡ x.deliveries ++ d ∷ [] = one_list_of_deliveries (x.events ++ ends.event ∷ []) h.first (x.deliveries ++ d ∷ []) read h.are ends.delivers in
       let all : AppliesAll names old ((x.deliveries ++ d ∷ []) ++ h.others) n other = subst (λ l. AppliesAll names old l n other) (h.ds_are ∙ ap (λ l. l ++ h.others) same) took_y in
       let a = halves names old (x.deliveries ++ d ∷ []) h.others n other all in
-      let g = halves names old x.deliveries (d ∷ []) a.first a.mid a.takes_first in
-      let mid : new ≡ g.mid = (all_one names old x.deliveries applied g.first new g.mid took g.takes_first).content in
-      not_taken names new d refusal g.second a.mid (subst (λ v. AppliesAll names v (d ∷ []) g.second a.mid) (sym mid) g.takes_second) r.refused
+      let g = halves names old x.deliveries (d ∷ []) a.first a.mid a.applies_first in
+      let mid : new ≡ g.mid = (all_one names old x.deliveries applied g.first new g.mid has_applied g.applies_first).content in
+      not_taken names new d refusal g.second a.mid (subst (λ v. AppliesAll names v (d ∷ []) g.second a.mid) (sym mid) g.applies_second) r.refused
 
   -- the bytes do not stop the reading there
   not_stopped : (at : ℕ) (reason : Reason) → StopsFor limit names (due_after x.payloads) x.events (length x.front) x.id x.rest at reason → ⊥
@@ -329,8 +329,8 @@ module _ (limit : ℕ) (names : Names) (b : List ℕ) (bytes : AllByRecursion (�
   not_behind h a = elim (kind_of limit names (due_after x.payloads) x.events x.deliveries (length x.front) x.id x.rest was old new end.at end.reason h c.why) [
     | inl s ↦ no_further limit names b bytes x y end.at end.reason s.stops a.further
     | inr o ↦ elim o [
-      | inl r ↦ not_beyond limit names b bytes old new r.refusal end.applied x c.took.takes r.next y last.applied other d.took.takes a.further
-      | inr t ↦ d.took.asked (subst (λ l. IsInDump (due_from Hello l)) (sym a.payloads) (due_beyond Hello x.payloads a.next a.more t.next.due_is)) t.long
+      | inl r ↦ not_beyond limit names b bytes old new r.refusal end.applied x c.has_applied.applies r.next y last.applied other d.has_applied.applies a.further
+      | inr t ↦ d.has_applied.asked (subst (λ l. IsInDump (due_from Hello l)) (sym a.payloads) (due_beyond Hello x.payloads a.next a.more t.next.due_is)) t.long
     ]
   ]
 
@@ -342,10 +342,10 @@ module _ (limit : ℕ) (names : Names) (b : List ℕ) (bytes : AllByRecursion (�
         one_list_of_deliveries x.events x.deliveries y.deliveries read x.talk.delivers (subst (λ l. AreDeliveries l y.deliveries) (sym same.events) y.talk.delivers)
 
     same_content : new ≡ other
-    same_content = (all_one names old x.deliveries end.applied last.applied new other c.took.takes (subst (λ l. AppliesAll names old l last.applied other) (sym one_list) d.took.takes)).content
+    same_content = (all_one names old x.deliveries end.applied last.applied new other c.has_applied.applies (subst (λ l. AppliesAll names old l last.applied other) (sym one_list) d.has_applied.applies)).content
 
     same_count : end.applied ≡ last.applied
-    same_count = (all_one names old x.deliveries end.applied last.applied new other c.took.takes (subst (λ l. AppliesAll names old l last.applied other) (sym one_list) d.took.takes)).count
+    same_count = (all_one names old x.deliveries end.applied last.applied new other c.has_applied.applies (subst (λ l. AppliesAll names old l last.applied other) (sym one_list) d.has_applied.applies)).count
 
 module _ (limit : ℕ) (names : Names) (b : List ℕ) (bytes : AllByRecursion (λ v. v < 256) b) (was is : Bool) (old new other : Content) (end last : Ended) (h : IsInFull end.reason) (k : IsInFull last.reason)
     (c : Conn limit names was old b new end) (d : Conn limit names is old b other last) where
@@ -394,7 +394,7 @@ module _ (limit : ℕ) (names : Names) (b : List ℕ) (bytes : AllByRecursion (�
 
   not_mixed : StopsFor limit names (due_after x'.payloads) x'.events (length x'.front) x'.id x'.rest end.at end.reason
       → (refusal : Refusal) → IsRefusedNext limit names (due_after y'.payloads) y'.events y'.deliveries (length y'.front) y'.id y'.rest other refusal → ⊥
-  not_mixed s refusal r = not_stopped limit names b bytes old new refusal end.applied x' c.took.takes (moved refusal r) end.at end.reason s
+  not_mixed s refusal r = not_stopped limit names b bytes old new refusal end.applied x' c.has_applied.applies (moved refusal r) end.at end.reason s
 
   not_answered : NextAnswers limit names (due_after x'.payloads) x'.events x'.deliveries (length x'.front) x'.id x'.rest
       → StopsFor limit names (due_after y'.payloads) y'.events (length y'.front) y'.id y'.rest last.at last.reason → ⊥
@@ -417,7 +417,7 @@ module _ (limit : ℕ) (names : Names) (b : List ℕ) (bytes : AllByRecursion (�
       → IsRefusedNext limit names (due_after x'.payloads) x'.events x'.deliveries (length x'.front) x'.id x'.rest new r
       → IsRefusedNext limit names (due_after y'.payloads) y'.events y'.deliveries (length y'.front) y'.id y'.rest other s → IsSameEnd end last
   by_refusal r s e f here there n m =
-      let one : r ≡ s = same_refusal limit names b bytes old new r end.applied x' c.took.takes n s (moved s m) in
+      let one : r ≡ s = same_refusal limit names b bytes old new r end.applied x' c.has_applied.applies n s (moved s m) in
       by_reason (e ∙ ap (λ v. Refused v) one ∙ sym f) here there
 
 pub one_ended : (limit : ℕ) (names : Names) (b : List ℕ) → AllByRecursion (λ v. v < 256) b → (was is : Bool) (old new other : Content) (end last : Ended) → IsInFull end.reason → IsInFull last.reason

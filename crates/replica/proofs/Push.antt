@@ -135,14 +135,14 @@ responds_push settings executed d [] o p y h w = (y, [], ap (λ (l : List ℕ). 
 responds_push settings executed d (q ∷ ps) o p y h w = (h.0, h.1 ++ y, ap (λ (l : List ℕ). l ++ y) h.2 ∙ append_assoc h.0 h.1 y, h.3, responds_push settings executed (next_due d q) ps h.1 p y h.4 w)
 
 -- ---- what is taken
-pub takes_push : (names : Names) (old : Content) (ds : List DeliveryValue) (n : ℕ) (mid : Content) (more : List DeliveryValue) (m : ℕ) (new : Content)
+pub applies_push : (names : Names) (old : Content) (ds : List DeliveryValue) (n : ℕ) (mid : Content) (more : List DeliveryValue) (m : ℕ) (new : Content)
     → AppliesAll names old ds n mid → AppliesAll names mid more m new → AppliesAll names old (ds ++ more) (n + m) new
-takes_push names old [] n mid more m new h k =
+applies_push names old [] n mid more m new h k =
     let sum : m ≡ n + m = omega (arith, h.0) in
     subst (λ c. AppliesAll names c more (n + m) new) h.1 (subst (λ i. AppliesAll names mid more i new) sum k)
-takes_push names old (d ∷ ds) n mid more m new (inl h) k =
-    inl (h.0, h.1 + m, h.2, omega (arith, h.3), takes_push names h.0 ds h.1 mid more m new h.4 k)
-takes_push names old (d ∷ ds) n mid more m new (inr h) k = inr (h.0, takes_push names old ds n mid more m new h.1 k)
+applies_push names old (d ∷ ds) n mid more m new (inl h) k =
+    inl (h.0, h.1 + m, h.2, omega (arith, h.3), applies_push names h.0 ds h.1 mid more m new h.4 k)
+applies_push names old (d ∷ ds) n mid more m new (inr h) k = inr (h.0, applies_push names old ds n mid more m new h.1 k)
 
 -- ---- a reading and one payload more
 module _ (limit : ℕ) (names : Names) (b : List ℕ) (r : Reading limit names b) (p : Payload) (after : ℕ) (w : IsWholePayload r.id limit r.rest p after) (within : length r.front + length r.rest < 2 ^ 64) where

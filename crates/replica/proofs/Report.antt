@@ -9,11 +9,11 @@ use Rattle.replica.specs.declared.end.Ended.{Ended}
 use Rattle.replica.specs.declared.session.Session.{Session}
 use Rattle.replica.specs.Stream.{Reading, due_after}
 use Rattle.replica.specs.End.{End, StopsFor}
-use Rattle.replica.specs.Conn.{Conn, TakesFirst, Why, IsOfBytes, IsDumpTooLong}
+use Rattle.replica.specs.Conn.{Conn, AppliesFirst, Why, IsOfBytes, IsDumpTooLong}
 use Rattle.replica.specs.Standing.{GoesOn, HasEnded, Stands, end_of}
 
-pub begun_of : (limit : ℕ) (names : Names) (was : Bool) (old : Content) (b : List ℕ) (new : Content) (end : Ended) → Conn limit names was old b new end → (count : ℕ) × TakesFirst limit names old b count end.applied new
-begun_of limit names was old b new end c = (length c.reading.deliveries, record { reading = c.reading; counted = refl; took = c.took })
+pub begun_of : (limit : ℕ) (names : Names) (was : Bool) (old : Content) (b : List ℕ) (new : Content) (end : Ended) → Conn limit names was old b new end → (count : ℕ) × AppliesFirst limit names old b count end.applied new
+begun_of limit names was old b new end c = (length c.reading.deliveries, record { reading = c.reading; counted = refl; has_applied = c.has_applied })
 
 stops_of : (limit : ℕ) (names : Names) (was : Bool) (old new : Content) (b : List ℕ) (r : Reading limit names b) (at : ℕ) (reason : Reason) → IsOfBytes reason
     → Why limit names (due_after r.payloads) r.events r.deliveries (length r.front) r.id r.rest was old new at reason

@@ -17,12 +17,12 @@ use Rattle.replica.specs.declared.counted.Counted.{Counted}
 use Rattle.replica.specs.declared.end.Ended.{Ended}
 use Rattle.replica.specs.Settings.{Settings}
 use Rattle.replica.specs.Conn.{Conn}
-use Rattle.replica.specs.Crash.{IsLeft}
+use Rattle.replica.specs.Crash.{IsLeftOfOne}
 use Rattle.replica.specs.Follow.{IsInFull}
-use Rattle.replica.specs.Resume.{Reaches, Restarts, end_of}
+use Rattle.replica.specs.Resume.{Reaches, Restarts, end_reason}
 use Rattle.replica.specs.File.{FilesHold, AreClosedWith}
 use Rattle.replica.specs.FollowFile.{FollowsFile}
-use Rattle.replica.specs.Restart.{IsSent, Finds, Starts, IsUncut, AreStarts, HoldFirst, FilesNeverFall}
+use Rattle.replica.specs.Restart.{IsSent, MayFind, Starts, IsUncut, AreStarts, HoldFirst, FilesNeverFall}
 use Rattle.replica.proofs.Bytes.{all_back}
 use Rattle.scripted_source.specs.Source.{is_once}
 use Rattle.replica.proofs.OneOutcome.{one_content}
@@ -48,7 +48,7 @@ module _ (one_dump : (a b : DumpValue) (payload : List ℕ) → IsDump a payload
     (gives : F → Result T E → Type 0) (only names : Names) (history : List ScriptValue) where
   -- a connection over what was read of what the source has sent, and what is left of it
   restart : (limit : ℕ) (held : Content) (given last : Option (List ℕ)) (read : List ℕ) (new content : Content) (end : Ended) → IsSent limit names history held given → Consumes given last read
-      → Conn limit names false held read new end → IsLeft limit names held read new end content → Restarts limit names history held content
+      → Conn limit names false held read new end → IsLeftOfOne limit names held read new end content → Restarts limit names history held content
   restart limit held given last read new content end s consumes conn leaves =
       let r = read_of given last s.part read s.left_is consumes in record {
         last = s.last;
@@ -73,7 +73,7 @@ module _ (one_dump : (a b : DumpValue) (payload : List ℕ) → IsDump a payload
 
   found : (settings : Settings) (connect : F) (j : ℕ) (held : Content) (next : Image) → Reaches names history j held → (connection : Result (Ended × Counted T) E) (closed : Result (Files D) (Error × FileStore D g))
       → FollowsFile left written failures (gives connect) settings only names held (record { connection = connection; closed = closed })
-      → ((stream : T) → gives connect (Ok stream) → IsSent settings.limit names history held (left stream)) → Finds closed next → (i : ℕ) × HoldFirst only names history next (j + i)
+      → ((stream : T) → gives connect (Ok stream) → IsSent settings.limit names history held (left stream)) → MayFind closed next → (i : ℕ) × HoldFirst only names history next (j + i)
   found settings connect j held next reached (Ok (end, counted)) (Ok files) follows sent finds =
       let q = follows finds.0 in
       let f = q.over.follows in
@@ -109,7 +109,7 @@ module _ (one_dump : (a b : DumpValue) (payload : List ℕ) → IsDump a payload
       let w : whole ≡ part ++ [] = is ∙ ap (λ (l : List ℕ). part ++ l) none in
       sym (w ∙ append-nil part ∙ c ∙ append-nil read)
 
-  ends_in_full : (once : Bool) → IsInFull (end_of once)
+  ends_in_full : (once : Bool) → IsInFull (end_reason once)
   ends_in_full true = tt
   ends_in_full false = tt
 
@@ -123,15 +123,15 @@ module _ (one_dump : (a b : DumpValue) (payload : List ℕ) → IsDump a payload
       let whole : Conn limit names false held (s.opening ++ s.answer) new end = subst (λ b. Conn limit names false held b new end) all conn in
       let full : IsInFull l.end.reason = subst IsInFull (sym l.reason_is) (ends_in_full (is_once r.dump.flags)) in
       let same : new ≡ s.last = one_content limit names (s.opening ++ s.answer) s.are_bytes false false held new s.last end l.end in_full full whole l.conn in
-      subst (λ c. Reaches names history (length history) c) (sym same) r.all_taken
+      subst (λ c. Reaches names history (length history) c) (sym same) r.all_applied
 
-  not_one_more : (limit : ℕ) (held : Content) (read : List ℕ) (new content : Content) (end : Ended) → IsInFull end.reason → IsLeft limit names held read new end content → content ≡ new
+  not_one_more : (limit : ℕ) (held : Content) (read : List ℕ) (new content : Content) (end : Ended) → IsInFull end.reason → IsLeftOfOne limit names held read new end content → content ≡ new
   not_one_more limit held read new content end in_full (inl same) = same
   not_one_more limit held read new content end in_full (inr more) = absurd (subst IsInFull more.failed in_full)
 
   all_found : (settings : Settings) (connect : F) (j : ℕ) (held : Content) (next : Image) → Reaches names history j held → (end : Ended) (counted : Counted T) (closed : Result (Files D) (Error × FileStore D g))
       → FollowsFile left written failures (gives connect) settings only names held (record { connection = Ok (end, counted); closed = closed })
-      → ((stream : T) → gives connect (Ok stream) → (s : IsSent settings.limit names history held (left stream)) × (s.more ≡ [])) → IsInFull end.reason → left counted.stream ≡ Some [] → Finds closed next
+      → ((stream : T) → gives connect (Ok stream) → (s : IsSent settings.limit names history held (left stream)) × (s.more ≡ [])) → IsInFull end.reason → left counted.stream ≡ Some [] → MayFind closed next
       → HoldFirst only names history next (length history)
   all_found settings connect j held next reached end counted (Ok files) follows sent in_full nothing finds =
       let q = follows finds.0 in

@@ -1,5 +1,5 @@
 -- A replica that asks a scripted source again.
-use Rattle.std.proofs.Common.{◌≡◌, ℕ, suc, ◌+◌, ◌^◌, ◌<◌, ◌≤◌, Bool, true, false, List, [], ◌∷◌, ◌++◌, length, get_or, take, drop, map, refl, sym, ap, subst, ◌∙◌, append_assoc, append-nil, arith}
+use Rattle.std.proofs.Common.{◌≡◌, ℕ, ◌+◌, ◌^◌, ◌<◌, ◌≤◌, Bool, true, false, List, [], ◌∷◌, ◌++◌, length, take, drop, map, refl, sym, ap, subst, ◌∙◌, append_assoc, append-nil, arith}
 use Rattle.std.proofs.Math.Seq.{take-length}
 use Rattle.std.proofs.lemmas.List.{length-append, length-map, length-take, length-take-le, map-append, take-append-drop}
 use Rattle.std.proofs.lemmas.Bool.{false≢true}
@@ -8,9 +8,8 @@ use Rattle.wire.proofs.OneReading.{nothing_yet}
 use Rattle.greet.specs.Message.{DumpValue, IsDump, dump_bytes}
 use Rattle.wire.specs.Payload.{IsUnfinished}
 use Rattle.gtid.specs.Identifier.{Ids}
-use Rattle.gtid.specs.Encoding.{blocks_bytes, grouped, IsEncoding}
+use Rattle.gtid.specs.Encoding.{IsEncoding}
 use Rattle.gtid.proofs.Decoded.{one_front}
-use Rattle.gtid.proofs.OneLeastList.{one_least_list}
 use Rattle.byteorder.specs.Endian.{little_bytes}
 use Rattle.binlog.specs.Filter.{Names}
 use Rattle.binlog.specs.Event.{EventValue}
@@ -22,22 +21,23 @@ use Rattle.gather.proofs.OneList.{one_list_of_deliveries}
 use Rattle.store.specs.State.{Content}
 use Rattle.replica.specs.declared.end.Ended.{Ended}
 use Rattle.replica.specs.Stream.{Due, Hello, InDump, IsInDump, Talks, Reading, due_after}
-use Rattle.replica.specs.Conn.{AppliesAll, IsDumpTooLong, Why, Conn, TakesFirst}
-use Rattle.replica.proofs.Push.{takes_push}
+use Rattle.replica.specs.Conn.{AppliesAll, IsDumpTooLong, Why, Conn, AppliesFirst}
+use Rattle.replica.proofs.Push.{applies_push}
 use Rattle.scripted_source.specs.Script.{ScriptValue}
 use Rattle.scripted_source.specs.Source.{Payload, ArePackings, CanSend, due, events_of, payloads_of, end_payloads, eof_payload, sent_payloads, is_once}
-use Rattle.replica.specs.Resume.{transaction, transactions, empty_content, Reaches, Resumes, end_of, Leads}
+use Rattle.replica.specs.Resume.{transaction, transactions, empty_content, Reaches, Resumes, end_reason, Leads}
 use Rattle.replica.proofs.Scripted.{seen, delivers}
 use Rattle.replica.proofs.Bytes.{all_front, all_back}
 use Rattle.replica.proofs.Talking.{Cut, are_cut, events_writable, talks_events, talks_all, dump_due, IsBlocked, beginning, ends_there, are_read}
 use Rattle.replica.proofs.Transactions.{all_one, halves, at_most, each_new, due_past, take_both, first_of_map}
+use Rattle.replica.proofs.Sending.{one_encoding}
 
 -- ---- What the replica holds, and what is left of the history.
 
 -- the remaining transactions lead to the last content, each of them new, and their scripts are those that are not in
 -- the set
 pub record Left (names : Names) (history : List ScriptValue) (j : ℕ) (held last : Content) : Type 0 where
-  pub takes : AppliesAll names held (transactions names (drop j history)) (length (transactions names (drop j history))) last
+  pub applies : AppliesAll names held (transactions names (drop j history)) (length (transactions names (drop j history))) last
   pub due_are : due held.executed history ≡ drop j history
 
 count_of : (names : Names) (j : ℕ) (history : List ScriptValue) → j ≤ length history → length (transactions names (take j history)) ≡ j
@@ -56,32 +56,32 @@ left_of names history j held last within reached all =
     let parts : transactions names (take n history) ≡ xs ++ ys =
     ap (transactions names) (take-length history ∙ sym (take-append-drop j history)) ∙ map-append (transaction names) (take j history) (drop j history) in
     let h = halves names empty_content xs ys n last (subst (λ l. AppliesAll names empty_content l n last) parts all) in
-    let s = all_one names empty_content xs h.first j h.mid held h.takes_first reached in
+    let s = all_one names empty_content xs h.first j h.mid held h.applies_first reached in
     let size : length xs ≡ j = count_of names j history within in
     let both : length xs + length ys ≡ n = sym (length-append xs ys) ∙ ap length (sym parts) ∙ length-map (take n history) (transaction names) ∙ ap length (take-length history) in
     let second : h.second ≡ length ys = omega (arith, h.sum, s.count, size, both) in
-    let takes : AppliesAll names held ys (length ys) last = subst (λ c. AppliesAll names c ys (length ys) last) s.content (subst (λ k. AppliesAll names h.mid ys k last) second h.takes_second) in
+    let applies : AppliesAll names held ys (length ys) last = subst (λ c. AppliesAll names c ys (length ys) last) s.content (subst (λ k. AppliesAll names h.mid ys k last) second h.applies_second) in
     let first = each_new names empty_content xs j held size reached in
-    let later = each_new names held ys (length ys) last refl takes in
+    let later = each_new names held ys (length ys) last refl applies in
     record {
-      takes = takes;
+      applies = applies;
       due_are = ap (due held.executed) (sym (take-append-drop j history)) ∙ due_past names held (take j history) (drop j history) first.after later.not_before;
     }
 
 -- some of the remaining transactions, without a gap
 pub reaches_on : (names : Names) (history : List ScriptValue) (j : ℕ) (held last : Content) (ds others : List DeliveryValue) (applied : ℕ) (new : Content) → Reaches names history j held → Left names history j held last
     → transactions names (drop j history) ≡ ds ++ others → AppliesAll names held ds applied new → Reaches names history (j + length ds) new
-reaches_on names history j held last ds others applied new reached left parts takes =
+reaches_on names history j held last ds others applied new reached left parts applies =
     let ys = transactions names (drop j history) in
-    let h = halves names held ds others (length ys) last (subst (λ l. AppliesAll names held l (length ys) last) parts left.takes) in
-    let s = all_one names held ds h.first applied h.mid new h.takes_first takes in
+    let h = halves names held ds others (length ys) last (subst (λ l. AppliesAll names held l (length ys) last) parts left.applies) in
+    let s = all_one names held ds h.first applied h.mid new h.applies_first applies in
     let sizes : length ys ≡ length ds + length others = ap length parts ∙ length-append ds others in
-    let most = at_most names held ds h.first h.mid h.takes_first in
-    let rest = at_most names h.mid others h.second last h.takes_second in
+    let most = at_most names held ds h.first h.mid h.applies_first in
+    let rest = at_most names h.mid others h.second last h.applies_second in
     let count : applied ≡ length ds = omega (arith, s.count, sizes, most, rest, h.sum) in
     let xs = transactions names (take j history) in
     let all : AppliesAll names empty_content (xs ++ ds) (j + length ds) new =
-    takes_push names empty_content xs j held ds (length ds) new reached (subst (λ k. AppliesAll names held ds k new) count takes) in
+    applies_push names empty_content xs j held ds (length ds) new reached (subst (λ k. AppliesAll names held ds k new) count applies) in
     let list : transactions names (take (j + length ds) history) ≡ xs ++ ds =
     ap (transactions names) (take_both j (length ds) history) ∙ map-append (transaction names) (take j history) (take (length ds) (drop j history))
     ∙ ap (λ l. xs ++ l) (first_of_map (transaction names) (drop j history) ds others parts) in
@@ -99,9 +99,6 @@ pub record Sends (limit : ℕ) (names : Names) (history : List ScriptValue) (j :
 one_set : (a b : Ids) (bytes : List ℕ) → IsEncoding a bytes → IsEncoding b bytes → a ≡ b
 one_set a b bytes x y = (one_front a b bytes bytes [] [] x y refl).0
 
-one_encoding : (ids : Ids) (a b : List ℕ) → IsEncoding ids a → IsEncoding ids b → a ≡ b
-one_encoding ids a b x y = x.spelled ∙ ap (λ spans. blocks_bytes (grouped spans)) (one_least_list ids x.spans y.spans x.least y.least) ∙ sym y.spelled
-
 dump_length : (d : DumpValue) (name position : List ℕ) → length position ≡ 8 → length (dump_bytes d name position) ≡ 23 + length name + length d.set
 dump_length d name position eight =
     let f = 0x1E ∷ little_bytes 2 d.flags ++ little_bytes 4 d.server_id ++ little_bytes 4 (length name) in
@@ -112,7 +109,7 @@ dump_length d name position eight =
 
 ends_so : (limit : ℕ) (names : Names) (awaited : Due) (es : List EventValue) (ds : List DeliveryValue) (once : Bool) (front back all : List ℕ) (mid last : ℕ) (old new : Content) → awaited ≡ InDump → all ≡ front ++ back
     → length all < 2 ^ 64 → ArePackings mid (end_payloads once) back last → AllByRecursion (λ p. length p ≤ limit) (end_payloads once)
-    → Why limit names awaited es ds (length front) mid back false old new (length all) (end_of once)
+    → Why limit names awaited es ds (length front) mid back false old new (length all) (end_reason once)
 ends_so limit names awaited es ds true front back all mid last old new in_dump is small a short =
     let whole : back ≡ a.0 = a.3 ∙ ap (λ (l : List ℕ). a.0 ++ l) a.5.0 ∙ append-nil a.0 in
     let sizes : length all ≡ length front + length a.0 = ap length is ∙ length-append front back ∙ ap (λ (l : List ℕ). length front + length l) whole in
@@ -132,7 +129,7 @@ begun_by all first others mine is same = is ∙ ap (λ l. l ++ others) same
 module _ (one_dump : (a b : DumpValue) (payload : List ℕ) → IsDump a payload → IsDump b payload → a ≡ b) (limit : ℕ) (names : Names) (history : List ScriptValue) (j : ℕ) (held last : Content) (request opening answer : List ℕ)
     (r : Resumes limit names history j held last request opening answer) where
   left : Left names history j held last
-  left = left_of names history j held last (no_more names history j held r.reached) r.reached r.all_taken
+  left = left_of names history j held last (no_more names history j held r.reached) r.reached r.all_applied
 
   same_dump : r.answers.dump ≡ r.dump
   same_dump = one_dump r.answers.dump r.dump request r.answers.asks.is_dump r.asks.is_dump
@@ -204,22 +201,22 @@ module _ (one_dump : (a b : DumpValue) (payload : List ℕ) → IsDump a payload
     dump_is_due = dump_due r.greeting r.login r.query (payloads_of (events_of (drop j history))) r.opens.lets_in
 
     abbrev end : Ended
-    end = record { reason = end_of (is_once r.dump.flags); at = length (opening ++ answer); applied = length (transactions names (drop j history)) }
+    end = record { reason = end_reason (is_once r.dump.flags); at = length (opening ++ answer); applied = length (transactions names (drop j history)) }
 
     conn : Conn limit names false held (opening ++ answer) last end
     conn = record {
       reading = reading;
-      took = record { takes = left.takes; asked = λ _ long. not_long long };
+      has_applied = record { applies = left.applies; asked = λ _ long. not_long long };
       why = ends_so limit names (due_after payloads) events (transactions names (drop j history)) (is_once r.dump.flags) (opening ++ c.front) c.back (opening ++ answer) c.mid sends.last held last dump_is_due bytes_are small c.second
           (all_back (λ p. length p ≤ limit) (payloads_of (events_of (drop j history))) (end_payloads (is_once r.dump.flags)) sends.short.1.1.1);
       kept = λ broken. absurd (false≢true broken);
     }
 
-    pub leads : Leads limit names held last (opening ++ answer) (transactions names (drop j history)) (end_of (is_once r.dump.flags))
+    pub leads : Leads limit names held last (opening ++ answer) (transactions names (drop j history)) (end_reason (is_once r.dump.flags))
     unfolding conn
     leads = record { end = end; conn = conn; delivers = refl; applied = refl; at = refl; reason_is = refl }
 
-    pub cut : AllByRecursion (λ b. b < 256) answer → (part more : List ℕ) (count applied : ℕ) (new : Content) → opening ++ answer ≡ part ++ more → TakesFirst limit names held part count applied new → Reaches names history (j + count) new
+    pub cut : AllByRecursion (λ b. b < 256) answer → (part more : List ℕ) (count applied : ℕ) (new : Content) → opening ++ answer ≡ part ++ more → AppliesFirst limit names held part count applied new → Reaches names history (j + count) new
     cut plain part more count applied new is b =
         let q = b.reading in
         let both : (opening ++ c.front) ++ c.back ≡ q.front ++ (q.rest ++ more) = sym bytes_are ∙ is ∙ ap (λ (l : List ℕ). l ++ more) q.bytes ∙ append_assoc q.front q.rest more in
@@ -230,8 +227,4 @@ module _ (one_dump : (a b : DumpValue) (payload : List ℕ) → IsDump a payload
         let read : AllByRecursion IsRead q.events = all_front IsRead q.events g.others (subst (λ l. AllByRecursion IsRead l) g.events_are (are_read names 1 (events_of (drop j history)) c.front c.mid writable front c.first)) in
         let same : f.first ≡ q.deliveries = one_list_of_deliveries q.events f.first q.deliveries read f.are q.talk.delivers in
         let parts : transactions names (drop j history) ≡ q.deliveries ++ f.others = begun_by (transactions names (drop j history)) f.first f.others q.deliveries f.ds_are same in
-        subst (λ k. Reaches names history (j + k) new) b.counted (reaches_on names history j held last q.deliveries f.others applied new r.reached left parts b.took.takes)
-
-pub all_bytes : (xs : List ℕ) → ((i : ℕ) → get_or xs i 0 < 256) → AllByRecursion (λ b. b < 256) xs
-all_bytes [] h = tt
-all_bytes (x ∷ xs) h = (h 0, all_bytes xs (λ i. h (suc i)))
+        subst (λ k. Reaches names history (j + k) new) b.counted (reaches_on names history j held last q.deliveries f.others applied new r.reached left parts b.has_applied.applies)

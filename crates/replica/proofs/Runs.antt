@@ -1,6 +1,7 @@
 -- A session over a store from its begin to its end, and connections in order.
 use Rattle.std.proofs.Common.{◌≡◌, ℕ, ◌⊎◌, Bool, true, false, List, [], ◌∷◌, ◌++◌, ◌+◌, take, inl, inr, refl, sym, ap, ◌∙◌, subst, IsTrue, Vec, Global}
 use Rattle.std.proofs.lemmas.List.{map-append}
+use Rattle.std.proofs.lemmas.Bool.{true≢false}
 use Rattle.sqlite_trees.specs.declared.store.Store.{Ghosts}
 use Rattle.sqlite_trees.specs.Tree.{Trees}
 use Rattle.sqlite_schema.specs.declared.schema.Schema.{Schema}
@@ -8,31 +9,25 @@ use Rattle.sqlite.specs.Held.{Held, state}
 use Rattle.store.specs.State.{Content}
 use Rattle.store.specs.declared.store.Store.{Store}
 use Rattle.store.specs.Store.{HoldsAs, Holds, HasFailed, AreOf}
-use Rattle.store.proofs.Taken as taken
+use Rattle.store.proofs.Applying as applying
 use Rattle.replica.specs.declared.end.Ended.{Ended}
 use Rattle.replica.specs.declared.end.Reason.TheVariants.{Memory}
 use Rattle.replica.specs.declared.session.Session.{Session}
 use Rattle.replica.specs.Conn.{Conn, BreaksStore, History}
-use Rattle.replica.specs.Crash.{IsLeft, IsLeftOfAll}
+use Rattle.replica.specs.Crash.{IsLeftOfOne, IsLeftOfAll}
 use Rattle.replica.specs.Pieces.{stream_of, streams_of}
 use Rattle.replica.specs.Standing.{Stands, end_of}
 use Rattle.replica.specs.Over.{StandsOver, LeavesOnly, HasRead, HasReadAll}
 use Rattle.replica.proofs.Stood.{conn_of, store_of}
 use Rattle.replica.proofs.Histories.{conn-unread, history-append, here, stays}
-
-either : (b : Bool) → (b ≡ false) ⊎ (b ≡ true)
-either false = inl refl
-either true = inr refl
-
-both : true ≡ false → ⊥
-both e = cc
+use Rattle.replica.proofs.Dumping.{either}
 
 module _ {S : Type 0} (g : Ghosts S) (settled : (h : Held S) (db : Trees) → IsTrue (state g h).is_open → (state g h).may_leave db → db ≡ (state g h).committed.trees) where
   -- a crash leaves of a whole store what it holds
   whole_leaves : (was : Bool) (content : Content) (store : Store S g) → was ≡ false → HoldsAs g was content store → LeavesOnly g (state g store.conn).now.schema store (λ left. left ≡ content)
   whole_leaves was content store whole holds =
       let h : Holds g store content = subst (λ v. HoldsAs g v content store) whole holds in
-      record { each = λ trees may. (content, taken.stays g store.following content settled store.conn trees h.rest may, refl) }
+      record { each = λ trees may. (content, applying.stays g store.following content settled store.conn trees h.rest may, refl) }
 
   -- a session that has read nothing, over a store
   pub begins : (session : Session) (store : Store S g) (was : Bool) (content : Content) → HoldsAs g was content store → Stands session store.following was was content content [] []
@@ -67,9 +62,9 @@ module _ {S : Type 0} (g : Ghosts S) (settled : (h : Held S) (db : Trees) → Is
     };
   }
 
-  -- no connection was taken
-  pub taken_none : (limit : ℕ) (store : Store S g) (was : Bool) (content : Content) → HoldsAs g was content store → HasReadAll g limit store (state g store.conn).now.schema was content [] []
-  taken_none limit store was content holds = record {
+  -- no connection was read
+  pub none_read : (limit : ℕ) (store : Store S g) (was : Bool) (content : Content) → HoldsAs g was content store → HasReadAll g limit store (state g store.conn).now.schema was content [] []
+  none_read limit store was content holds = record {
     is = was;
     new = content;
     holds = holds;
@@ -90,9 +85,9 @@ module _ {S : Type 0} (g : Ghosts S) where
       let conn : Conn limit before.following was old b s.now (end_of session) =
       subst (λ n. Conn n before.following was old b s.now (end_of session)) limit_is
       (subst (λ n. Conn session.config.limit n was old b s.now (end_of session)) names (conn_of session store.following was s.is old s.now b o s.stands)) in
-      let leaves : was ≡ false → LeavesOnly g (state g before.conn).now.schema store (IsLeft limit before.following old b s.now (end_of session)) = λ w.
-      subst (λ n. LeavesOnly g (state g before.conn).now.schema store (IsLeft n before.following old b s.now (end_of session))) limit_is
-      (subst (λ n. LeavesOnly g (state g before.conn).now.schema store (IsLeft session.config.limit n old b s.now (end_of session))) names (s.leaves w)) in
+      let leaves : was ≡ false → LeavesOnly g (state g before.conn).now.schema store (IsLeftOfOne limit before.following old b s.now (end_of session)) = λ w.
+      subst (λ n. LeavesOnly g (state g before.conn).now.schema store (IsLeftOfOne n before.following old b s.now (end_of session))) limit_is
+      (subst (λ n. LeavesOnly g (state g before.conn).now.schema store (IsLeftOfOne session.config.limit n old b s.now (end_of session))) names (s.leaves w)) in
       record {
         is = s.is;
         new = s.now;
@@ -101,7 +96,7 @@ module _ {S : Type 0} (g : Ghosts S) where
         conn = subst (λ (e : Ended). Conn limit before.following was old b s.now e) (sym end_is) conn;
         breaks = subst (λ (e : Ended). BreaksStore e.reason was s.is) (sym end_is) (store_of session store.following was s.is old s.now b o s.stands);
         schema_is = s.schema_is;
-        leaves = λ w. subst (λ (e : Ended). LeavesOnly g (state g before.conn).now.schema store (IsLeft limit before.following old b s.now e)) (sym end_is) (leaves w);
+        leaves = λ w. subst (λ (e : Ended). LeavesOnly g (state g before.conn).now.schema store (IsLeftOfOne limit before.following old b s.now e)) (sym end_is) (leaves w);
       }
 
   broken_of : (is : Bool) (content : Content) (store : Store S g) → is ≡ true → HoldsAs g is content store → store.broken ≡ true
@@ -111,9 +106,9 @@ module _ {S : Type 0} (g : Ghosts S) where
   whole_of is content store e holds = let h : Holds g store content = subst (λ v. HoldsAs g v content store) e holds in h.whole
 
   -- one connection more
-  pub taken_more : (limit : ℕ) (before store : Store S g) (schema : Schema) (was : Bool) (old : Content) (bs : List (List ℕ)) (ends : List Ended) (b : List ℕ) (end : Ended) → (before.broken ≡ true → store ≡ before)
+  pub more_read : (limit : ℕ) (before store : Store S g) (schema : Schema) (was : Bool) (old : Content) (bs : List (List ℕ)) (ends : List Ended) (b : List ℕ) (end : Ended) → (before.broken ≡ true → store ≡ before)
       → (t : HasReadAll g limit before schema was old bs ends) → HasRead g limit before store t.is t.new b end → HasReadAll g limit store schema was old (bs ++ b ∷ []) (ends ++ end ∷ [])
-  taken_more limit before store schema was old bs ends b end broken t r = record {
+  more_read limit before store schema was old bs ends b end broken t r = record {
     is = r.is;
     new = r.new;
     holds = r.holds;
@@ -124,7 +119,7 @@ module _ {S : Type 0} (g : Ghosts S) where
           let was_broken : before.broken ≡ true = broken_of t.is t.new before q t.holds in
           let is_whole : store.broken ≡ false = whole_of r.is r.new store w r.holds in
           let same : store.broken ≡ before.broken = ap (λ (s : Store S g). s.broken) (broken was_broken) in
-          absurd (both (sym was_broken ∙ sym same ∙ is_whole))
+          absurd (true≢false (sym was_broken ∙ sym same ∙ is_whole))
           )
     ];
     leaves = λ w. record {
@@ -151,10 +146,10 @@ module _ {S : Type 0} (g : Ghosts S) where
   }
 
   -- as above, for the connections of a run
-  pub taken_next : (limit : ℕ) (before store : Store S g) (schema : Schema) (was : Bool) (old : Content) (connections : List (Vec (Vec ℕ Global) Global)) (i : ℕ) (pieces : Vec (Vec ℕ Global) Global) (ends : List Ended) (end : Ended)
+  pub next_read : (limit : ℕ) (before store : Store S g) (schema : Schema) (was : Bool) (old : Content) (connections : List (Vec (Vec ℕ Global) Global)) (i : ℕ) (pieces : Vec (Vec ℕ Global) Global) (ends : List Ended) (end : Ended)
       → (before.broken ≡ true → store ≡ before) → take (i + 1) connections ≡ take i connections ++ pieces ∷ []
       → (t : HasReadAll g limit before schema was old (streams_of (take i connections)) ends) → HasRead g limit before store t.is t.new (stream_of pieces.items) end → HasReadAll g limit store schema was old (streams_of (take (i + 1) connections)) (ends ++ end ∷ [])
-  taken_next limit before store schema was old connections i pieces ends end broken one t r =
+  next_read limit before store schema was old connections i pieces ends end broken one t r =
       subst (λ (bs : List (List ℕ)). HasReadAll g limit store schema was old bs (ends ++ end ∷ []))
       (sym (ap streams_of one ∙ map-append (λ (p : Vec (Vec ℕ Global) Global). stream_of p.items) (take i connections) (pieces ∷ [])))
-      (taken_more limit before store schema was old (streams_of (take i connections)) ends (stream_of pieces.items) end broken t r)
+      (more_read limit before store schema was old (streams_of (take i connections)) ends (stream_of pieces.items) end broken t r)

@@ -1,16 +1,18 @@
 -- What is appended for a payload.
 use Rattle.std.proofs.Common.{◌≡◌, ◌≤◌, ◌+◌, ℕ, List, [], length, Result, Ok, Err, OnOk, sym, ap, subst, ◌∙◌, arith}
 use Rattle.byteorder.specs.Endian.{little_bytes}
+use Rattle.wire.specs.declared.packet.TheConstants.{LARGEST_PAYLOAD}
 use Rattle.greet.specs.Message.{dump_bytes}
 use Rattle.gtid.specs.Identifier.{Ids}
 use Rattle.gtid.specs.Encoding.{IsEncoding}
 use Rattle.gtid.proofs.OneLeastList.{one_least_list}
 use Rattle.gtid.specs.Encoding.{blocks_bytes, grouped}
 use Rattle.replica.specs.declared.end.Reason.{Reason}
+use Rattle.replica.specs.declared.login.TheConstants.{DUMP_LEAD}
 use Rattle.replica.specs.Settings.{Settings}
 use Rattle.replica.specs.Conn.{IsDumpTooLong}
 use Rattle.replica.specs.Sent.{flags_of}
-use Rattle.replica.specs.Turn.{Sends, AsksFor}
+use Rattle.replica.specs.PayloadStep.{Sends, SendsDump}
 
 pub on_ok : {A : Type 0} (r : Result A Reason) (P Q : Type 0) → (P → Q) → OnOk r P → OnOk r Q
 on_ok (Ok a) P Q f p = f p
@@ -21,17 +23,17 @@ sends_other id p q old new is s = subst (λ x. Sends id x old new) is s
 
 pub asks_for : (settings : Settings) (executed : Ids) (set payload old new : List ℕ) → IsEncoding executed set
     → payload ≡ dump_bytes (record { flags = flags_of settings.once; server_id = settings.server_id; set = set }) [] (little_bytes 8 4)
-    → Sends 0 payload old new → AsksFor settings executed old new
+    → Sends 0 payload old new → SendsDump settings executed old new
 asks_for settings executed set payload old new encodes is s = record {
   set = set;
   encodes = encodes;
   sends = subst (λ x. Sends 0 x old new) is s;
 }
 
-one_encoding : (ids : Ids) (a b : List ℕ) → IsEncoding ids a → IsEncoding ids b → a ≡ b
+pub one_encoding : (ids : Ids) (a b : List ℕ) → IsEncoding ids a → IsEncoding ids b → a ≡ b
 one_encoding ids a b is_a is_b = is_a.spelled ∙ ap (λ spans. blocks_bytes (grouped spans)) (one_least_list ids is_a.spans is_b.spans is_a.least is_b.least) ∙ sym is_b.spelled
 
-pub short_enough : (executed : Ids) (set : List ℕ) → IsEncoding executed set → 23 + length set ≤ 1073741824 → IsDumpTooLong executed → ⊥
+pub short_enough : (executed : Ids) (set : List ℕ) → IsEncoding executed set → DUMP_LEAD + length set ≤ LARGEST_PAYLOAD → IsDumpTooLong executed → ⊥
 short_enough executed set encodes short too_long =
     let same : length set ≡ length too_long.set = ap length (one_encoding executed set too_long.set encodes too_long.encodes) in
     omega (arith, same, short, too_long.long)

@@ -22,9 +22,9 @@ use Rattle.replica.specs.Conn.{AppliesAll, IsDumpTooLong, HasApplied, Why}
 use Rattle.replica.specs.Follow.{IsInFull}
 use Rattle.replica.specs.Outcome.{HasEnd}
 use Rattle.replica.proofs.Bytes.{all_front, all_back, packed_bytes}
-use Rattle.replica.proofs.Push.{due_push, could_ask, talks_push, takes_push}
+use Rattle.replica.proofs.Push.{due_push, could_ask, talks_push, applies_push}
 use Rattle.replica.proofs.OneOutcome.{talked_read, in_dump_answer}
-use Rattle.replica.proofs.SomeOutcome.{Taking, takes, repeats, refuses, some_outcome}
+use Rattle.replica.proofs.SomeOutcome.{Applying, applies, repeats, refuses, some_outcome}
 use Rattle.replica.proofs.TooLong.{too_long}
 use Rattle.replica.proofs.SomeMessage.{IsBytes, Tables, Meets, is_message, goes_on, ends_one, ends_log, is_denied, some_meaning}
 
@@ -96,7 +96,7 @@ module _ (limit : ℕ) (names : Names) (b : List ℕ) (r : Reading limit names b
 -- ---- All payloads.
 
 module _ (limit : ℕ) (names : Names) (old : Content) (b : List ℕ) (bytes : IsBytes b) (short : length b < 2 ^ 64) (tables : Tables) where
-  module _ (r : Reading limit names b) (applied : ℕ) (now : Content) (took : HasApplied names old r.deliveries (due_after r.payloads) applied now) where
+  module _ (r : Reading limit names b) (applied : ℕ) (now : Content) (has_applied : HasApplied names old r.deliveries (due_after r.payloads) applied now) where
     abbrev due : Due
     due = due_after r.payloads
 
@@ -106,7 +106,7 @@ module _ (limit : ℕ) (names : Names) (old : Content) (b : List ℕ) (bytes : I
       new = now;
       end = record { reason = reason; at = at; applied = applied };
       in_full = full;
-      conn = record { reading = r; took = took; why = why; kept = λ e. absurd (false≢true e) };
+      conn = record { reading = r; has_applied = has_applied; why = why; kept = λ e. absurd (false≢true e) };
     }
 
     rest_bytes : IsBytes r.rest
@@ -129,7 +129,7 @@ module _ (limit : ℕ) (names : Names) (old : Content) (b : List ℕ) (bytes : I
         on first more m c a d t could =
             further (longer limit names b r p n within first more a d) (applied + m) c
             (record {
-              takes = takes_push names old r.deliveries applied now more m c took.takes t;
+              applies = applies_push names old r.deliveries applied now more m c has_applied.applies t;
               asked = λ i. could (subst (λ v. IsInDump v) (due_push Hello r.payloads p) i);
             })
             (packing_some limit r.id r.rest p n)
@@ -149,14 +149,14 @@ module _ (limit : ℕ) (names : Names) (old : Content) (b : List ℕ) (bytes : I
 
         -- an event
         could : IsInDump due → IsInDump (next_due due p) → IsDumpTooLong old.executed → ⊥
-        could i j = took.asked i
+        could i j = has_applied.asked i
 
         of_event : IsInDump due → (e : EventValue) → Carries names p e → AreDeliveries (r.events ++ e ∷ []) r.deliveries → HasEnd limit names old b
         of_event i e c d = on (e ∷ []) [] 0 now (in_dump_answer names due p e i c) (subst (λ l. AreDeliveries (r.events ++ e ∷ []) l) (sym (append-nil r.deliveries)) d) (refl, refl) (could i)
 
         -- an event that ends a transaction
-        of_transaction : IsInDump due → (e : EventValue) → Carries names p e → (d : DeliveryValue) → AreDeliveries (r.events ++ e ∷ []) (r.deliveries ++ d ∷ []) → Taking names now d → HasEnd limit names old b
-        of_transaction i e c d are (takes new h) = on (e ∷ []) (d ∷ []) 1 new (in_dump_answer names due p e i c) are (inl (new, 0, h, refl, (refl, refl))) (could i)
+        of_transaction : IsInDump due → (e : EventValue) → Carries names p e → (d : DeliveryValue) → AreDeliveries (r.events ++ e ∷ []) (r.deliveries ++ d ∷ []) → Applying names now d → HasEnd limit names old b
+        of_transaction i e c d are (applies new h) = on (e ∷ []) (d ∷ []) 1 new (in_dump_answer names due p e i c) are (inl (new, 0, h, refl, (refl, refl))) (could i)
         of_transaction i e c d are (repeats h) = on (e ∷ []) (d ∷ []) 0 now (in_dump_answer names due p e i c) are (inr (h, (refl, refl))) (could i)
         of_transaction i e c d are (refuses refusal h) =
             stop (length r.front) (Refused refusal) tt
@@ -178,9 +178,9 @@ module _ (limit : ℕ) (names : Names) (old : Content) (b : List ℕ) (bytes : I
       step (whole p n) = of_payload p n (some_meaning tables names r.events r.deliveries due p (payload_bytes p n) events_read r.talk.delivers)
 
   read_on : (fuel : ℕ) (r : Reading limit names b) (applied : ℕ) (now : Content) → HasApplied names old r.deliveries (due_after r.payloads) applied now → length r.rest < fuel → HasEnd limit names old b
-  read_on zero r applied now took enough = absurd (omega (arith, enough))
-  read_on (suc fuel) r applied now took enough =
-      step r applied now took (λ q m c t less. read_on fuel q m c t (omega (arith, enough, less))) (some_coming r.id limit r.rest (rest_bytes r applied now took))
+  read_on zero r applied now has_applied enough = absurd (omega (arith, enough))
+  read_on (suc fuel) r applied now has_applied enough =
+      step r applied now has_applied (λ q m c t less. read_on fuel q m c t (omega (arith, enough, less))) (some_coming r.id limit r.rest (rest_bytes r applied now has_applied))
 
   pub some_end : HasEnd limit names old b
   some_end =
@@ -195,4 +195,4 @@ module _ (limit : ℕ) (names : Names) (old : Content) (b : List ℕ) (bytes : I
         bytes = refl;
         talk = record { talks = (refl, refl, refl); within = omega arith; delivers = record { blocks = []; cut = refl; each = refl; format_first = refl } };
       })
-      0 old (record { takes = (refl, refl); asked = λ i. absurd i }) (omega arith)
+      0 old (record { applies = (refl, refl); asked = λ i. absurd i }) (omega arith)

@@ -9,7 +9,7 @@ use Rattle.binlog.specs.Filter.{Names}
 use Rattle.binlog.specs.Cell.{CellValue, null_cell, number_cell, bytes_cell}
 use Rattle.gather.specs.Transaction.{ChangeValue, insert, delete, update, DeliveryValue}
 use Rattle.store.specs.State.{TableRow, row_of, Bag, Content}
-use Rattle.store.specs.Take.{IsAdded, IsRemoved, IsMade, IsRefused, IsRefusedAt, IsDone, AreDone, HasOutcome, done, repeat, is_followed, is_executed, most}
+use Rattle.store.specs.Changes.{IsAdded, IsRemoved, IsMade, IsRefused, IsRefusedAt, IsDone, AreDone, HasOutcome, done, repeat, is_admitted, is_executed, most}
 use Rattle.store.specs.declared.row_change.Refusal.TheVariants as why
 use Rattle.store.specs.declared.row_change.Refusal as row
 use Rattle.replica.specs.declared.end.Refusal.{Refusal}
@@ -127,34 +127,34 @@ after_first : (names : Names) (change : ChangeValue) (changes : List ChangeValue
 after_first names change changes old mid first (inl d) = inl (d.0, (mid, first, d.1))
 after_first names change changes old mid first (inr r) =
     let x = r.2 in
-    inr (suc r.0, r.1, record { change = x.change; mid = x.mid; there = x.there; before = (mid, first, x.before); followed = x.followed; refused = x.refused })
+    inr (suc r.0, r.1, record { change = x.change; mid = x.mid; there = x.there; before = (mid, first, x.before); admitted = x.admitted; refused = x.refused })
 
 all_tried : (names : Names) (changes : List ChangeValue) (old : Bag) → AllTried names changes old
 all_tried names [] old = inl (old, refl)
-all_tried names (change ∷ changes) old = elim (cases_Bool (is_followed names change)) [
-  | inl followed ↦ elim (tried change old) [
-    | inl m ↦ after_first names change changes old m.0 (subst (λ b. MatchBool b (IsMade change old m.0) (m.0 ≡ old)) (sym followed) m.1) (all_tried names changes m.0)
-    | inr r ↦ inr (0, r.0, record { change = change; mid = old; there = refl; before = refl; followed = followed; refused = r.1 })
+all_tried names (change ∷ changes) old = elim (cases_Bool (is_admitted names change)) [
+  | inl admitted ↦ elim (tried change old) [
+    | inl m ↦ after_first names change changes old m.0 (subst (λ b. MatchBool b (IsMade change old m.0) (m.0 ≡ old)) (sym admitted) m.1) (all_tried names changes m.0)
+    | inr r ↦ inr (0, r.0, record { change = change; mid = old; there = refl; before = refl; admitted = admitted; refused = r.1 })
   ]
   | inr skipped ↦ after_first names change changes old old (subst (λ b. MatchBool b (IsMade change old old) (old ≡ old)) (sym skipped) refl) (all_tried names changes old)
 ]
 
 -- ---- The outcome of a transaction.
 
-pub data Taking (names : Names) (content : Content) (d : DeliveryValue) : Type 0 where
-  takes : (new : Content) → HasOutcome names content d (done new) → Taking names content d
-  repeats : HasOutcome names content d repeat → Taking names content d
-  refuses : (refusal : Refusal) → IsRefusedBy names content d refusal → Taking names content d
+pub data Applying (names : Names) (content : Content) (d : DeliveryValue) : Type 0 where
+  applies : (new : Content) → HasOutcome names content d (done new) → Applying names content d
+  repeats : HasOutcome names content d repeat → Applying names content d
+  refuses : (refusal : Refusal) → IsRefusedBy names content d refusal → Applying names content d
 
-by_refusal : (names : Names) (content : Content) (d : DeliveryValue) (at : ℕ) (w : row.Refusal) → is_executed content d ≡ false → IsRefusedAt names d.changes content.rows at w → Taking names content d
+by_refusal : (names : Names) (content : Content) (d : DeliveryValue) (at : ℕ) (w : row.Refusal) → is_executed content d ≡ false → IsRefusedAt names d.changes content.rows at w → Applying names content d
 by_refusal names content d at why.NoSuchRow new r = refuses (NoSuchRow at) (new, r)
 by_refusal names content d at why.CountFull new r = refuses (CountFull at) (new, r)
 
-pub some_outcome : (names : Names) (content : Content) (d : DeliveryValue) → Taking names content d
+pub some_outcome : (names : Names) (content : Content) (d : DeliveryValue) → Applying names content d
 some_outcome names content d = elim (cases_Bool (is_executed content d)) [
   | inl old ↦ repeats old
   | inr new ↦ elim (all_tried names d.changes content.rows) [
-    | inl made ↦ takes (record { executed = set.insert content.executed (d.source, d.number); rows = made.0 }) (new, made.1, refl)
+    | inl made ↦ applies (record { executed = set.insert content.executed (d.source, d.number); rows = made.0 }) (new, made.1, refl)
     | inr r ↦ by_refusal names content d r.0 r.1 new r.2
   ]
 ]

@@ -1,5 +1,6 @@
 -- What follows from a session's position.
 use Rattle.std.proofs.Common.{◌≡◌, ℕ, Bool, true, false, List, [], ◌++◌, refl, sym, ap, ◌∙◌, inl, Some, None, is_some, MatchOption, unwrap_or, append-nil, subst, Vec, Global, Option, arith}
+use Rattle.std.proofs.lemmas.Bool.{false≢true}
 use Rattle.binlog.specs.Filter.{Names}
 use Rattle.wire.specs.Payload.{ReaderState, IsUnfinished}
 use Rattle.wire.proofs.OneReading.{nothing_yet}
@@ -17,9 +18,6 @@ use Rattle.replica.specs.Conn.{Conn, BreaksStore}
 use Rattle.replica.specs.Sent.{SentFor}
 use Rattle.replica.specs.Standing.{GoesOn, HasEnded, Stands, end_of}
 use Rattle.replica.proofs.Extend.{conn-append, sent-append}
-
-false-true : false ≡ true → ⊥
-false-true e = cc
 
 -- nothing is read
 abbrev pub unread : (limit : ℕ) (names : Names) (b : List ℕ) → Reading limit names b
@@ -47,7 +45,7 @@ begun settings a gatherer names was old all held limit due ended gathers sent = 
   unfinished = subst (λ h. IsUnfinished 0 settings.limit h) (sym held) (nothing_yet 0 settings.limit);
   awaits = refl;
   gathers = gathers;
-  took = record { takes = (refl, refl); asked = λ in_dump. absurd in_dump };
+  has_applied = record { applies = (refl, refl); asked = λ in_dump. absurd in_dump };
   sent = sent;
   store = refl;
   kept = λ b. refl;
@@ -68,7 +66,7 @@ module _ (session : Session) (names : Names) (was is : Bool) (old now : Content)
   conn_of s = elim session.ended as (λ v. MatchOption v (goes_on b) (has_ended b) → Conn session.config.limit names was old b now (unwrap_or v not_yet)) [
     | None ↦ λ g. record {
       reading = g.reading;
-      took = g.took;
+      has_applied = g.has_applied;
       why = (g.at_is, subst (λ h. IsUnfinished g.reading.id session.config.limit h) (sym g.held) g.unfinished);
       kept = g.kept;
     }
@@ -93,7 +91,7 @@ module _ (session : Session) (names : Names) (was is : Bool) (old now : Content)
   pub stands-append : (more : List ℕ) → is_some session.ended ≡ true → Stands session names was is old now b o → Stands session names was is old now (b ++ more) o
   unfolding Stands
   stands-append more h s = elim session.ended as (λ v. is_some v ≡ true → MatchOption v (goes_on b) (has_ended b) → MatchOption v (goes_on (b ++ more)) (has_ended (b ++ more))) [
-    | None ↦ λ e g. absurd (false-true e)
+    | None ↦ λ e g. absurd (false≢true e)
     | Some end ↦ λ e h. record {
       conn = conn-append session.config.limit names was old b more now end h.more h.conn;
       more = h.more;

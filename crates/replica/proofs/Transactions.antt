@@ -1,6 +1,6 @@
 -- Transactions that are taken in order: their outcome, and which of them a set has.
 use Rattle.std.proofs.Common.{◌≡◌, ◌≢◌, ℕ, zero, suc, ◌+◌, ◌≤◌, Bool, true, false, not, ◌||◌, List, [], ◌∷◌, ◌++◌, length, take, drop, map, refl, sym, ap, subst, ◌∙◌, inl, inr, arith, MatchBool}
-use Rattle.std.proofs.lemmas.Bool.{cases_lt, false≢true}
+use Rattle.std.proofs.lemmas.Bool.{cases_lt, false≢true, or_right}
 use Rattle.std.proofs.lemmas.List.Elements.{filter-append}
 use Rattle.std.specs.List.{AllByRecursion}
 use Rattle.std.specs.Cmp.{tied_itself}
@@ -11,7 +11,7 @@ use Rattle.gtid.proofs.Sets.{id_cmp_total}
 use Rattle.binlog.specs.Filter.{Names}
 use Rattle.gather.specs.Transaction.{ChangeValue, insert, delete, update, DeliveryValue}
 use Rattle.store.specs.State.{TableRow, row_of, Bag, Content}
-use Rattle.store.specs.Take.{IsAdded, IsRemoved, IsMade, is_followed, AreDone, is_executed, HasOutcome, done}
+use Rattle.store.specs.Changes.{IsAdded, IsRemoved, IsMade, is_admitted, AreDone, is_executed, HasOutcome, done}
 use Rattle.replica.specs.Conn.{AppliesAll}
 use Rattle.scripted_source.specs.Script.{ScriptValue}
 use Rattle.scripted_source.specs.Source.{due}
@@ -51,14 +51,14 @@ one_made (update schema table before after) old new other a b =
     let mid : a.0 ≡ b.0 = same_bag a.0 b.0 (taken_at (row_of schema table before) old a.0 b.0 a.1 b.1) in
     same_bag new other (added_at (row_of schema table after) b.0 new other (subst (λ m. IsAdded (row_of schema table after) m new) mid a.2) b.2)
 
-pub one_by : (followed : Bool) (change : ChangeValue) (old new other : Bag) → MatchBool followed (IsMade change old new) (new ≡ old) → MatchBool followed (IsMade change old other) (other ≡ old) → new ≡ other
+pub one_by : (admitted : Bool) (change : ChangeValue) (old new other : Bag) → MatchBool admitted (IsMade change old new) (new ≡ old) → MatchBool admitted (IsMade change old other) (other ≡ old) → new ≡ other
 one_by true change old new other a b = one_made change old new other a b
 one_by false change old new other a b = a ∙ sym b
 
 one_done : (names : Names) (changes : List ChangeValue) (old new other : Bag) → AreDone names changes old new → AreDone names changes old other → new ≡ other
 one_done names [] old new other a b = a ∙ sym b
 one_done names (change ∷ changes) old new other a b =
-    let mid : a.0 ≡ b.0 = one_by (is_followed names change) change old a.0 b.0 a.1 b.1 in
+    let mid : a.0 ≡ b.0 = one_by (is_admitted names change) change old a.0 b.0 a.1 b.1 in
     one_done names changes b.0 new other (subst (λ m. AreDone names changes m new) mid a.2) b.2
 
 one_taken : (names : Names) (old : Content) (d : DeliveryValue) (new other : Content) → HasOutcome names old d (done new) → HasOutcome names old d (done other) → new ≡ other
@@ -87,18 +87,18 @@ pub record Halves (names : Names) (old : Content) (xs ys : List DeliveryValue) (
   pub mid : Content
   pub first : ℕ
   pub second : ℕ
-  pub takes_first : AppliesAll names old xs first mid
-  pub takes_second : AppliesAll names mid ys second new
+  pub applies_first : AppliesAll names old xs first mid
+  pub applies_second : AppliesAll names mid ys second new
   pub sum : n ≡ first + second
 
 pub halves : (names : Names) (old : Content) (xs ys : List DeliveryValue) (n : ℕ) (new : Content) → AppliesAll names old (xs ++ ys) n new → Halves names old xs ys n new
-halves names old [] ys n new t = record { mid = old; first = 0; second = n; takes_first = (refl, refl); takes_second = t; sum = omega arith }
+halves names old [] ys n new t = record { mid = old; first = 0; second = n; applies_first = (refl, refl); applies_second = t; sum = omega arith }
 halves names old (d ∷ xs) ys n new (inl t) =
     let h = halves names t.0 xs ys t.1 new t.4 in
-    record { mid = h.mid; first = h.first + 1; second = h.second; takes_first = inl (t.0, h.first, t.2, refl, h.takes_first); takes_second = h.takes_second; sum = omega (arith, t.3, h.sum) }
+    record { mid = h.mid; first = h.first + 1; second = h.second; applies_first = inl (t.0, h.first, t.2, refl, h.applies_first); applies_second = h.applies_second; sum = omega (arith, t.3, h.sum) }
 halves names old (d ∷ xs) ys n new (inr t) =
     let h = halves names old xs ys n new t.1 in
-    record { mid = h.mid; first = h.first; second = h.second; takes_first = inr (t.0, h.takes_first); takes_second = h.takes_second; sum = h.sum }
+    record { mid = h.mid; first = h.first; second = h.second; applies_first = inr (t.0, h.applies_first); applies_second = h.applies_second; sum = h.sum }
 
 pub at_most : (names : Names) (old : Content) (ds : List DeliveryValue) (n : ℕ) (new : Content) → AppliesAll names old ds n new → n ≤ length ds
 at_most names old [] n new t = omega (arith, t.0)
@@ -110,12 +110,8 @@ at_most names old (d ∷ ds) n new (inr t) = let h = at_most names old ds n new 
 itself : (ids : Ids) (x : Id) → set.contains (set.insert ids x) x ≡ true
 itself ids x = set.contains-insert id_cmp_total ids x x ∙ ap (λ o. is_eq o || set.contains ids x) (tied_itself id_cmp_total x)
 
-or_true : (b : Bool) → (b || true) ≡ true
-or_true true = refl
-or_true false = refl
-
 still : (ids : Ids) (x q : Id) → set.contains ids q ≡ true → set.contains (set.insert ids x) q ≡ true
-still ids x q h = set.contains-insert id_cmp_total ids x q ∙ ap (λ b. is_eq (id_cmp q x) || b) h ∙ or_true (is_eq (id_cmp q x))
+still ids x q h = set.contains-insert id_cmp_total ids x q ∙ ap (λ b. is_eq (id_cmp q x) || b) h ∙ or_right (is_eq (id_cmp q x)) true refl
 
 before : (b c : Bool) → (b ≡ true → c ≡ true) → c ≡ false → b ≡ false
 before true c f h = absurd (false≢true (sym h ∙ f refl))

@@ -37,7 +37,7 @@ module _ {R : Type 0} (left : R → Option (List ℕ)) (P : List (List ℕ) → 
     pub are_read : AreReadAs left captures bs ends
     pub holds : P bs ends
 
-  -- After these captures the reader of the next one failed, before its connection had ended. What it had given was taken
+  -- After these captures the reader of the next one failed, before its connection had ended. What it had given was read
   -- too.
   pub record AreReadUpTo (captures : List (Capture R)) (next : Option (Capture R)) (ends : List Ended) : Type 0 where
     pub bs : List (List ℕ)

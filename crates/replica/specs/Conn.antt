@@ -1,5 +1,6 @@
 -- What a connection does to what a replica holds, and how it ends; what a list of connections does.
 use Rattle.std.specs.Prelude.{◌≡◌, ℕ, ◌+◌, ◌<◌, ◌⊎◌, Bool, true, false, List, [], ◌∷◌, ◌++◌, length}
+use Rattle.wire.specs.declared.packet.TheConstants.{LARGEST_PAYLOAD}
 use Rattle.wire.specs.declared.fault.WireFault.TheVariants as wire
 use Rattle.greet.specs.Message.{IsOkPacket}
 use Rattle.gtid.specs.Identifier.{Ids}
@@ -11,19 +12,20 @@ use Rattle.sqlite.specs.declared.error.Error.{Error}
 use Rattle.store.specs.declared.fault.StoreFault.{StoreFault}
 use Rattle.store.specs.declared.fault.StoreFault.TheVariants as fault
 use Rattle.store.specs.State.{Content}
-use Rattle.store.specs.Take.{HasOutcome, done, repeat, refused, is_executed}
+use Rattle.store.specs.Changes.{HasOutcome, done, repeat, refused, is_executed}
 use Rattle.store.specs.declared.row_change.Refusal.TheVariants as why
 use Rattle.replica.specs.declared.end.Refusal.{Refusal}
 use Rattle.replica.specs.declared.end.Refusal.TheVariants.{NoSuchRow, CountFull}
 use Rattle.replica.specs.declared.end.Reason.{Reason}
 use Rattle.replica.specs.declared.end.Reason.TheVariants.{EndOfInput, SourceEof, SourceError, Wire, Greet, Event, Gather, Refused, Database, Memory, ReadFailed, WriteFailed, Halted}
 use Rattle.replica.specs.declared.end.Ended.{Ended}
+use Rattle.replica.specs.declared.login.TheConstants.{DUMP_LEAD}
 use Rattle.replica.specs.Stream.{Payload, Due, QueryReply, IsInDump, Carries, Reading, due_after}
 use Rattle.replica.specs.End.{StopsAt, EndsLog, StopsFor}
 
 -- ---- Transactions in order.
 
--- Taking the transactions in order refuses none, leads from old to new, and `applied` of them are new.
+-- Applying the transactions in order refuses none, leads from old to new, and `applied` of them are new.
 abbrev pub AppliesAll : Names → Content → List DeliveryValue → ℕ → Content → Type 0
 AppliesAll names old [] applied new = (applied ≡ 0) × (new ≡ old)
 AppliesAll names old (d ∷ ds) applied new =
@@ -37,19 +39,19 @@ IsRefusedBy names content d (CountFull at) = HasOutcome names content d (refused
 
 -- ---- The dump command.
 
--- The dump command for this set has more bytes than a payload may have: 23 and those of the set.
+-- The dump command for this set has more bytes than a payload may have: those before the set, and those of the set.
 pub record IsDumpTooLong (executed : Ids) : Type 0 where
   pub set : List ℕ
   pub encodes : IsEncoding executed set
-  pub long : 1073741824 < 23 + length set
+  pub long : LARGEST_PAYLOAD < DUMP_LEAD + length set
 
 -- If the dump has been asked for, the command was short enough.
 abbrev pub CouldAsk : Due → Ids → Type 0
 CouldAsk due executed = IsInDump due → IsDumpTooLong executed → ⊥
 
--- The transactions that were taken, if this message is expected after them.
+-- The transactions that were applied, if this message is expected after them.
 pub record HasApplied (names : Names) (old : Content) (ds : List DeliveryValue) (due : Due) (applied : ℕ) (new : Content) : Type 0 where
-  pub takes : AppliesAll names old ds applied new
+  pub applies : AppliesAll names old ds applied new
   pub asked : CouldAsk due old.executed
 
 -- ---- A connection.
@@ -115,19 +117,19 @@ module _ (limit : ℕ) (names : Names) (due : Due) (es : List EventValue) (ds : 
   Why was old new at Halted = (at ≡ taken) × IsNextNew new
 
 -- A connection with these bytes, for a store that had failed before or not, leads from old to new and has this end: a
--- prefix of its bytes is a conversation, whose transactions are taken in order and none refused. If the store had
+-- prefix of its bytes is a conversation, whose transactions are applied in order and none refused. If the store had
 -- failed, nothing changes.
 pub record Conn (limit : ℕ) (names : Names) (was_broken : Bool) (old : Content) (b : List ℕ) (new : Content) (end : Ended) : Type 0 where
   pub reading : Reading limit names b
-  pub took : HasApplied names old reading.deliveries (due_after reading.payloads) end.applied new
+  pub has_applied : HasApplied names old reading.deliveries (due_after reading.payloads) end.applied new
   pub why : Why limit names (due_after reading.payloads) reading.events reading.deliveries (length reading.front) reading.id reading.rest was_broken old new end.at end.reason
   pub kept : was_broken ≡ true → new ≡ old
 
--- Taking the first `count` transactions of the bytes refuses none, and leads from old to new.
-pub record TakesFirst (limit : ℕ) (names : Names) (old : Content) (b : List ℕ) (count applied : ℕ) (new : Content) : Type 0 where
+-- Applying the first `count` transactions of the bytes refuses none, and leads from old to new.
+pub record AppliesFirst (limit : ℕ) (names : Names) (old : Content) (b : List ℕ) (count applied : ℕ) (new : Content) : Type 0 where
   pub reading : Reading limit names b
   pub counted : length reading.deliveries ≡ count
-  pub took : HasApplied names old reading.deliveries (due_after reading.payloads) applied new
+  pub has_applied : HasApplied names old reading.deliveries (due_after reading.payloads) applied new
 
 -- Whether the store has failed after a connection with this end: after an end by the database it has, after running out
 -- of memory it may have, and no other end changes it.

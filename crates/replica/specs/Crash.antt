@@ -3,13 +3,13 @@ use Rattle.std.specs.Prelude.{◌≡◌, ℕ, ◌+◌, ◌⊎◌, Bool, false, L
 use Rattle.binlog.specs.Filter.{Names}
 use Rattle.gather.specs.Transaction.{DeliveryValue}
 use Rattle.store.specs.State.{Content}
-use Rattle.store.specs.Take.{HasOutcome, done}
+use Rattle.store.specs.Changes.{HasOutcome, done}
 use Rattle.sqlite.specs.declared.error.Error.{Error}
 use Rattle.store.specs.declared.fault.StoreFault.TheVariants as fault
 use Rattle.replica.specs.declared.end.Reason.TheVariants.{Database}
 use Rattle.replica.specs.declared.end.Ended.{Ended}
 use Rattle.replica.specs.Stream.{Reading, due_after}
-use Rattle.replica.specs.Conn.{HasApplied, NextEnds, Conn, TakesFirst, History}
+use Rattle.replica.specs.Conn.{HasApplied, NextEnds, Conn, AppliesFirst, History}
 
 -- The database failed in the transaction that the next payload ends, and what is left has this transaction too.
 pub record IsOneMore (limit : ℕ) (names : Names) (old : Content) (b : List ℕ) (new : Content) (end : Ended) (left : Content) : Type 0 where
@@ -17,21 +17,21 @@ pub record IsOneMore (limit : ℕ) (names : Names) (old : Content) (b : List ℕ
   pub failed : end.reason ≡ Database (fault.Database cause)
   pub reading : Reading limit names b
   pub at_is : end.at ≡ length reading.front
-  pub took : HasApplied names old reading.deliveries (due_after reading.payloads) end.applied new
+  pub has_applied : HasApplied names old reading.deliveries (due_after reading.payloads) end.applied new
   pub next : DeliveryValue
   pub ends : NextEnds limit names (due_after reading.payloads) reading.events reading.deliveries (length reading.front) reading.id reading.rest next
-  pub takes : HasOutcome names new next (done left)
+  pub outcome : HasOutcome names new next (done left)
 
--- What a crash leaves of a connection: the transactions that were taken, or one more if the database failed.
-abbrev pub IsLeft : ℕ → Names → Content → List ℕ → Content → Ended → Content → Type 0
-IsLeft limit names old b new end left = (left ≡ new) ⊎ IsOneMore limit names old b new end left
+-- What a crash leaves of a connection: the transactions that were applied, or one more if the database failed.
+abbrev pub IsLeftOfOne : ℕ → Names → Content → List ℕ → Content → Ended → Content → Type 0
+IsLeftOfOne limit names old b new end left = (left ≡ new) ⊎ IsOneMore limit names old b new end left
 
--- The connection took the first transactions of its bytes, some number of them, and what is left is the content after
+-- The connection has applied the first transactions of its bytes, some number of them, and what is left is the content after
 -- these; or, if the database failed, after one more transaction, which is new.
 pub record LeavesFirst (limit : ℕ) (names : Names) (old : Content) (b : List ℕ) (new : Content) (end : Ended) (left : Content) : Type 0 where
   pub count : ℕ
-  pub begun : TakesFirst limit names old b count end.applied new
-  pub left_is : (left ≡ new) ⊎ ((cause : Error) × (end.reason ≡ Database (fault.Database cause)) × TakesFirst limit names old b (count + 1) (end.applied + 1) left)
+  pub begun : AppliesFirst limit names old b count end.applied new
+  pub left_is : (left ≡ new) ⊎ ((cause : Error) × (end.reason ≡ Database (fault.Database cause)) × AppliesFirst limit names old b (count + 1) (end.applied + 1) left)
 
 -- As IsOneMore, for a list of connections: the additional transaction is of the first connection in which the database
 -- failed.

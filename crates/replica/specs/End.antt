@@ -3,6 +3,7 @@ use Rattle.std.specs.Prelude.{◌≡◌, ℕ, ◌+◌, ◌^◌, ◌<◌, ◌≤�
 use Rattle.wire.specs.Payload.{IsWholePayload, IsUnfinished, IsOutOfSequence, IsTooLarge}
 use Rattle.wire.specs.declared.fault.WireFault.{WireFault}
 use Rattle.wire.specs.declared.fault.WireFault.TheVariants as wire
+use Rattle.greet.specs.PacketHeader as packet_header
 use Rattle.greet.specs.Message.{IsEofPacket}
 use Rattle.greet.specs.Refusal.{server_error}
 use Rattle.greet.specs.View.{Refuses}
@@ -27,7 +28,7 @@ pub record HasNext (limit id : ℕ) (rest : List ℕ) (p : Payload) : Type 0 whe
 abbrev pub Denies : Names → Due → List EventValue → Payload → Reason → Type 0
 Denies names due es p (SourceError code state message) = IsNoEvent due p × (refusal_of due p ≡ Some (server_error code state message.items))
 Denies names due es p (Greet fault) = IsNoEvent due p × IsOfMessage fault × Refuses (refusal_of due p) fault
-Denies names due es p (Event fault) = IsInDump due × (body : List ℕ) × (p ≡ 0x00 ∷ body) × (event_fault names body ≡ Some fault)
+Denies names due es p (Event fault) = IsInDump due × (body : List ℕ) × (p ≡ packet_header.ok ∷ body) × (event_fault names body ≡ Some fault)
 Denies names due es p (Gather fault) = IsInDump due × (e : EventValue) × Carries names p e × IsFault es e fault
 Denies names due es p _ = ⊥
 

@@ -6,7 +6,7 @@ use Rattle.binlog.specs.Event.{EventValue}
 use Rattle.gather.specs.Transaction.{DeliveryValue, AreDeliveries}
 use Rattle.gather.specs.declared.gatherer.Gatherer.{Gatherer}
 use Rattle.store.specs.State.{Content}
-use Rattle.store.specs.Take.{HasOutcome, done, is_executed}
+use Rattle.store.specs.Changes.{HasOutcome, done, is_executed}
 use Rattle.store.specs.declared.fault.StoreFault.{StoreFault}
 use Rattle.store.specs.declared.store.Store.{Store}
 use Rattle.store.specs.Store.{HoldsAs, AreOf, database, names_of}
@@ -14,15 +14,15 @@ use Rattle.replica.specs.declared.end.Reason.{Reason}
 use Rattle.replica.specs.declared.end.Reason.TheVariants.{Refused, Database, Memory, Halted}
 use Rattle.replica.specs.Stream.{Payload, Carries}
 use Rattle.replica.specs.Conn.{AppliesAll, IsRefusedBy, FailsFor}
-use Rattle.replica.specs.Turn.{GathersMore, EndsDump}
+use Rattle.replica.specs.PayloadStep.{GathersMore, EndsDump}
 
 module _ {S : Type 0} (g : Ghosts S) (is : Bool) (now : Content) (es : List EventValue) (ds : List DeliveryValue) (p : Payload) (old new : Store S g) where
-  -- The event is gathered, and its transactions, one or none, are taken.
+  -- The event is gathered, and its transactions, one or none, are applied.
   pub record GoesFurther (gatherer : Gatherer) (applied : Bool) : Type 0 where
     pub more : List DeliveryValue
     pub gathered : GathersMore (names_of g old) es ds p more gatherer
     pub after : Content
-    pub takes : AppliesAll (names_of g old) now more (if applied then 1 else 0) after
+    pub applies : AppliesAll (names_of g old) now more (if applied then 1 else 0) after
     pub holds : HoldsAs g is after new
     pub schema : is ≡ false → (database g new).now.schema ≡ (database g old).now.schema
     pub kept : is ≡ true → after ≡ now
@@ -34,13 +34,13 @@ module _ {S : Type 0} (g : Ghosts S) (is : Bool) (now : Content) (es : List Even
     pub delivers : AreDeliveries (es ++ event ∷ []) (ds ++ d ∷ [])
 
   -- The store is as it was, except that it may have failed.
-  pub record Rests (broken : Bool) : Type 0 where
+  pub record IsAsBefore (broken : Bool) : Type 0 where
     pub holds : HoldsAs g broken now new
     pub schema : broken ≡ false → (database g new).now.schema ≡ (database g old).now.schema
 
   -- The database failed in the transaction: a crash leaves what was held, or what the transaction makes of it.
   pub record Fails (cause : StoreFault) (d : DeliveryValue) : Type 0 where
-    pub rests : Rests true
+    pub rests : IsAsBefore true
     pub fails : FailsFor is (is_executed now d) cause
     pub leaves : is ≡ false → (trees : Trees) → (database g new).may_leave trees
         → (left : Content) × AreOf (database g old).now.schema (names_of g old) left trees × ((left ≡ now) ⊎ HasOutcome (names_of g old) now d (done left))
@@ -48,12 +48,12 @@ module _ {S : Type 0} (g : Ghosts S) (is : Bool) (now : Content) (es : List Even
   -- The connection ends: because of the payload, since memory ran out, because a transaction is refused, since the
   -- database failed, or since the observer halted it before a new transaction.
   abbrev pub EndsSo : Reason → Type 0
-  EndsSo (Refused refusal) = (d : DeliveryValue) × EndsOne d × IsRefusedBy (names_of g old) now d refusal × Rests is
+  EndsSo (Refused refusal) = (d : DeliveryValue) × EndsOne d × IsRefusedBy (names_of g old) now d refusal × IsAsBefore is
   EndsSo (Database cause) = (d : DeliveryValue) × EndsOne d × Fails cause d
-  EndsSo Memory = (broken : Bool) × (is ≡ true → broken ≡ true) × Rests broken
+  EndsSo Memory = (broken : Bool) × (is ≡ true → broken ≡ true) × IsAsBefore broken
       × (is ≡ false → broken ≡ true → (trees : Trees) → (database g new).may_leave trees → AreOf (database g old).now.schema (names_of g old) now trees)
-  EndsSo Halted = (d : DeliveryValue) × EndsOne d × (is_executed now d ≡ false) × Rests is
-  EndsSo reason = EndsDump (names_of g old) es p reason × Rests is
+  EndsSo Halted = (d : DeliveryValue) × EndsOne d × (is_executed now d ≡ false) × IsAsBefore is
+  EndsSo reason = EndsDump (names_of g old) es p reason × IsAsBefore is
 
   abbrev pub TakesEvent : Gatherer → Result Bool Reason → Type 0
   TakesEvent gatherer (Ok applied) = GoesFurther gatherer applied

@@ -16,12 +16,12 @@ use Rattle.store.specs.Entering.{IsLeft}
 use Rattle.store.specs.Faults.{IsFailure}
 use Rattle.replica.specs.declared.file.Unopened.{Unopened}
 
--- the tables that a database is opened for: the given ones, or all
+-- the filter that a database is opened with: the given one, or the one that admits all tables
 abbrev pub only_of : Option (Bor Names) → Names
 only_of None = all
 only_of (Some given) = given.now
 
--- without a list of tables, the database's own holds
+-- without a filter, the database's own holds
 abbrev pub is_any : Option (Bor Names) → Bool
 is_any None = true
 is_any (Some given) = false
@@ -37,9 +37,9 @@ abbrev pub LeavesContent : Names → Names → Content → State → Type 0
 LeavesContent only names content s = HasCleanDisk s → (trees : Trees) → s.may_leave trees → IsLeft only names content trees
 
 -- A database of this content is refused only by a failure or for memory, and is left as that content.
-abbrev pub IsRefused : {D : Type 0} {g : Ghosts D} → Names → Names → Content → Unopened D g → Type 0
-IsRefused only names content (Unopened.Database cause conn) = (HasCleanDisk (file_state conn) → IsFailure cause) × LeavesContent only names content (file_state conn)
-IsRefused only names content _ = Unit {0}
+abbrev pub IsUnopened : {D : Type 0} {g : Ghosts D} → Names → Names → Content → Unopened D g → Type 0
+IsUnopened only names content (Unopened.Database cause conn) = (HasCleanDisk (file_state conn) → IsFailure cause) × LeavesContent only names content (file_state conn)
+IsUnopened only names content _ = Unit {0}
 
 module _ {D : Type 0} (g : Ghosts D) where
   -- The closed files, and whatever a crash may leave of them, hold a database that stands for this content and these

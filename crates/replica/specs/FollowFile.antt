@@ -68,4 +68,4 @@ MayHold names last among = (trees : Trees) → recovers last trees → (content 
 abbrev pub FollowsFile : {D : Type 0} {g : Disk D} {T E : Type 0} → (T → Option (List ℕ)) → (T → Option (List ℕ)) → (T → Option (ℕ × ℕ)) → (Result T E → Type 0) → Settings → Names → Names → Content → FollowedFile T E D g → Type 0
 FollowsFile {D} {g} left written failures gives settings only names old done = MatchResult done.closed
     (λ files. AreClean g files.log files.db → IsFollowedOr g left written failures gives settings names old (λ read new end. AreClosedWith g names new files) (AreClosedWith g names old files) done.connection)
-    (λ e. IsClean (view e.1) → IsFollowedOr g left written failures gives settings names old (λ read new end. MayHold names e.1 (crash.IsLeft settings.limit names old read new end)) ((trees : Trees) → recovers e.1 trees → IsLeft only names old trees) done.connection)
+    (λ e. IsClean (view e.1) → IsFollowedOr g left written failures gives settings names old (λ read new end. MayHold names e.1 (crash.IsLeftOfOne settings.limit names old read new end)) ((trees : Trees) → recovers e.1 trees → IsLeft only names old trees) done.connection)

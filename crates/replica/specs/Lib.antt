@@ -6,7 +6,7 @@ pub mod End
 pub mod Capture
 pub mod Conn
 pub mod Sent
-pub mod Turn
+pub mod PayloadStep
 pub mod Event
 pub mod Standing
 pub mod Crash

@@ -1,5 +1,6 @@
 -- Payloads that are not the expected message.
 use Rattle.std.specs.Prelude.{◌≡◌, ◌==◌, Bool, false, [], ◌∷◌, Option}
+use Rattle.greet.specs.PacketHeader as packet_header
 use Rattle.greet.specs.Refusal.{Refusal, greeting_refusal, reply_refusal, ok_refusal, eof_refusal}
 use Rattle.greet.specs.declared.fault.GreetFault.{GreetFault}
 use Rattle.greet.specs.declared.fault.GreetFault.TheVariants as greet
@@ -16,7 +17,7 @@ refusal_of InDump p = eof_refusal p
 -- whether the payload begins like one that has an event
 abbrev pub begins_event : Payload → Bool
 begins_event [] = false
-begins_event (byte ∷ bytes) = byte == 0x00
+begins_event (byte ∷ bytes) = byte == packet_header.ok
 
 -- in the dump: the payload does not have an event
 abbrev pub IsNoEvent : Due → Payload → Type 0

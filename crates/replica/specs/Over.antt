@@ -11,7 +11,7 @@ use Rattle.replica.specs.declared.end.Ended.{Ended}
 use Rattle.replica.specs.declared.session.Session.{Session}
 use Rattle.replica.specs.Conn.{Conn, BreaksStore, History}
 use Rattle.replica.specs.Standing.{Stands, Meets, end_of}
-use Rattle.replica.specs.Crash.{IsLeft, IsLeftOfAll}
+use Rattle.replica.specs.Crash.{IsLeftOfOne, IsLeftOfAll}
 
 module _ {S : Type 0} (g : Ghosts S) where
   -- Whatever a crash may leave of the store's database stands, under the schema, for one of these contents.
@@ -26,7 +26,7 @@ module _ {S : Type 0} (g : Ghosts S) where
     pub holds : HoldsAs g is now store
     pub stands : Stands session (names_of g store) was is old now b o
     pub schema_is : is ≡ false → (database g store).now.schema ≡ schema
-    pub leaves : was ≡ false → LeavesOnly schema store (IsLeft session.config.limit (names_of g store) old b now (end_of session))
+    pub leaves : was ≡ false → LeavesOnly schema store (IsLeftOfOne session.config.limit (names_of g store) old b now (end_of session))
 
   -- As StandsOver, with a payload that has come and is still to be taken.
   pub record MeetsOver (session : Session) (store : Store S g) (schema : Schema) (was : Bool) (old : Content) (b o p : List ℕ) : Type 0 where
@@ -46,7 +46,7 @@ module _ {S : Type 0} (g : Ghosts S) where
     pub conn : Conn limit (names_of g before) was old b new end
     pub breaks : BreaksStore end.reason was is
     pub schema_is : is ≡ false → (database g after).now.schema ≡ (database g before).now.schema
-    pub leaves : was ≡ false → LeavesOnly (database g before).now.schema after (IsLeft limit (names_of g before) old b new end)
+    pub leaves : was ≡ false → LeavesOnly (database g before).now.schema after (IsLeftOfOne limit (names_of g before) old b new end)
 
   -- A store that held this content, and had failed or not, has read a connection with this end: these first bytes, and
   -- those that were taken from a reader.
@@ -55,7 +55,7 @@ module _ {S : Type 0} (g : Ghosts S) where
     pub consumes : Consumes left left' read
     pub has_read : HasRead limit before after was old (first ++ read) end
 
-  -- A store that held this content under this schema, and had failed or not, has taken these connections with these
+  -- A store that held this content under this schema, and had failed or not, has read these connections with these
   -- ends.
   pub record HasReadAll (limit : ℕ) (store : Store S g) (schema : Schema) (was : Bool) (old : Content) (bs : List (List ℕ)) (ends : List Ended) : Type 0 where
     pub is : Bool

@@ -34,7 +34,7 @@ module _ {D : Type 0} (g : Ghosts D) where
     pub history : History limit names false old bs is new ends
     pub each : (trees : Trees) → recovers last trees → (left : Content) × IsLeftOfAll limit names false old bs new ends left × ((only : Names) → IsLeft only names left trees)
 
--- The captures were taken in order, each once, from a content to another, which is in the closed files.
+-- The captures were read in order, each once, from a content to another, which is in the closed files.
 abbrev pub Replays : {D : Type 0} {g : Ghosts D} {R : Type 0} → (R → Option (List ℕ)) → ℕ → Names → Content → List (Capture R) → Replayed D g → Type 0
 Replays {D} {g} {R} left limit names old captures done = MatchResult done.closed
     (λ files. AreClean g files.log files.db → Reads left (LeadsTo g limit names old files) captures done.ends.items done.read)

@@ -14,7 +14,7 @@ pub data Verdict : Type 0 where
   EndsLog : Verdict
   IsRefused : Refusal → Verdict
   HasFault : EventFault → Verdict
-  IsOutOfPlace : GatherFault → Verdict
+  IsOutOfOrder : GatherFault → Verdict
 
 -- No payload is whole; a header is wrong, or the payload ends too far on; or this is what the next payload means.
 pub data Report : Type 0 where
@@ -41,7 +41,7 @@ report_of (SourceError code state message) = Says (IsRefused (server_error code 
 report_of (Wire fault) = IsWrongHeader fault
 report_of (Greet fault) = Says (IsRefused (reported_refusal fault))
 report_of (Event fault) = Says (HasFault fault)
-report_of (Gather fault) = Says (IsOutOfPlace fault)
+report_of (Gather fault) = Says (IsOutOfOrder fault)
 report_of (Refused refusal) = Nothing
 report_of (Database cause) = Nothing
 report_of Memory = Nothing

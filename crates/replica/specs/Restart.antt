@@ -42,10 +42,10 @@ pub record IsSent (limit : ℕ) (names : Names) (history : List ScriptValue) (he
 
 -- What the next call may find of the files of this one. Of files that were closed, what they hold, or what a crash leaves
 -- of them, with the log or without; of files that could not be closed, what a crash leaves of them.
-abbrev pub Finds : {D : Type 0} {g : Ghosts D} → Result (Files D) (Error × FileStore D g) → Image → Type 0
-Finds {D} {g} (Ok files) next =
+abbrev pub MayFind : {D : Type 0} {g : Ghosts D} → Result (Files D) (Error × FileStore D g) → Image → Type 0
+MayFind {D} {g} (Ok files) next =
     AreClean g files.log files.db × ((image : Image) × ((image ≡ image_of g files) ⊎ outcomes g files.log files.db image) × ((next ≡ image) ⊎ (next ≡ record image { log = [] })))
-Finds (Err e) next = IsClean (view e.1) × ((trees : Trees) × recovers e.1 trees × ∥ HoldsDatabase next trees ∥₁)
+MayFind (Err e) next = IsClean (view e.1) × ((trees : Trees) × recovers e.1 trees × ∥ HoldsDatabase next trees ∥₁)
 
 module _ {D : Type 0} (g : Ghosts D) {F T E : Type 0} (left written : T → Option (List ℕ)) (failures : T → Option (ℕ × ℕ)) (gives : F → Result T E → Type 0) (only names : Names) (history : List ScriptValue) where
   -- A source with this history was followed once into files that were the first image before; the next call may find the
@@ -57,7 +57,7 @@ module _ {D : Type 0} (g : Ghosts D) {F T E : Type 0} (left written : T → Opti
     pub follows : (content : Content) → FilesHold only names content before → FollowsFile left written failures (gives connect) settings only names content done
     -- each stream that is given has a prefix of what the source sends
     pub sent : (stream : T) → gives connect (Ok stream) → (held : Content) → FilesHold only names held before → IsSent settings.limit names history held (left stream)
-    pub finds : Finds done.closed next
+    pub finds : MayFind done.closed next
 
   -- The stream that was given has all that the source sends, all of it was read, and the connection ended by its bytes.
   pub record IsUncut (before next : Image) (start : Starts before next) : Type 0 where

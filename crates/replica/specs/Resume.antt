@@ -12,13 +12,13 @@ use Rattle.replica.specs.declared.end.Reason.{Reason}
 use Rattle.replica.specs.declared.end.Reason.TheVariants.{EndOfInput, SourceEof}
 use Rattle.replica.specs.declared.end.Ended.{Ended}
 use Rattle.replica.specs.Conn.{AppliesAll, Conn}
-use Rattle.replica.specs.Crash.{IsLeft}
+use Rattle.replica.specs.Crash.{IsLeftOfOne}
 use Rattle.scripted_source.specs.Script.{PartValue, ScriptValue}
 use Rattle.scripted_source.specs.Source.{Payload, Opens, Asks, IsAnswer, is_once, sent_payloads, due}
 
--- ---- What a history means to a replica that follows these tables.
+-- ---- What a history means to a replica with this filter.
 
--- the changes of a part: none if its table is not followed
+-- the changes of a part: none if the filter leaves its table out
 abbrev pub part_changes : Names → PartValue → List ChangeValue
 part_changes names part = if admits names part.table.schema part.table.table then map (change_of part.table) part.pairs else []
 
@@ -32,7 +32,7 @@ transactions names history = map (transaction names) history
 abbrev pub empty_content : Content
 empty_content = record { executed = set.empty; rows = λ row. 0 }
 
--- The first transactions, this many, are each new and can be taken, in their order from the empty content, and lead to
+-- The first transactions, this many, are each new and can be applied, in their order from the empty content, and lead to
 -- this content.
 abbrev pub Reaches : Names → List ScriptValue → ℕ → Content → Type 0
 Reaches names history count content = AppliesAll names empty_content (transactions names (take count history)) count content
@@ -40,11 +40,11 @@ Reaches names history count content = AppliesAll names empty_content (transactio
 -- ---- The law.
 
 -- A source with this history is asked by a replica that holds the content after its first j transactions, all of which
--- can be taken, and that follows these tables and takes payloads up to this limit. These are what the source sends
+-- can be applied, and whose filter is this one, and that takes payloads up to this limit. These are what the source sends
 -- before the dump, and what it sends in it.
 pub record Resumes (limit : ℕ) (names : Names) (history : List ScriptValue) (j : ℕ) (held last : Content) (request : Payload) (opening answer : List ℕ) : Type 0 where
   pub reached : Reaches names history j held
-  pub all_taken : Reaches names history (length history) last
+  pub all_applied : Reaches names history (length history) last
   pub dump : DumpValue
   pub asks : Asks request dump held.executed
   pub short : length request ≤ LARGEST_PAYLOAD
@@ -56,8 +56,8 @@ pub record Resumes (limit : ℕ) (names : Names) (history : List ScriptValue) (j
   pub admits : AllByRecursion (λ p. length p ≤ limit) (greeting ∷ login ∷ query ∷ sent_payloads (is_once dump.flags) (due held.executed history))
 
 -- why the connection ends
-abbrev pub end_of : Bool → Reason
-end_of once = if once then SourceEof else EndOfInput
+abbrev pub end_reason : Bool → Reason
+end_reason once = if once then SourceEof else EndOfInput
 
 -- The connection with these bytes leads from one content to the other by exactly these transactions, in this order,
 -- each of them new; it ends with the bytes, for this reason.
@@ -88,7 +88,7 @@ pub record Restarts (limit : ℕ) (names : Names) (history : List ScriptValue) (
   pub new : Content
   pub end : Ended
   pub conn : Conn limit names was held part new end
-  pub leaves : IsLeft limit names held part new end left
+  pub leaves : IsLeftOfOne limit names held part new end left
 
 -- Each time the replica holds what was left before.
 abbrev pub AreRestarts : ℕ → Names → List ScriptValue → Content → List Content → Type 0

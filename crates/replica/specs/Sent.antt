@@ -1,10 +1,10 @@
 -- The bytes due in reply to the payloads that a replica has taken. MySQL Source Documentation, Client/Server Protocol,
 -- "Connection Phase", "Native Authentication" and COM_QUERY; Replication Protocol: COM_BINLOG_DUMP_GTID.
-use Rattle.std.specs.Prelude.{◌≡◌, ℕ, ◌⊎◌, Bool, if◌then◌else◌, List, [], ◌∷◌, ◌++◌, codes, length}
+use Rattle.std.specs.Prelude.{◌≡◌, ℕ, ◌+◌, ◌⊎◌, Bool, if◌then◌else◌, List, [], ◌∷◌, ◌++◌, length}
 use Rattle.byteorder.specs.Endian.{little_bytes}
 use Rattle.wire.specs.Packet.{IsPacking}
 use Rattle.greet.specs.Native.{native_answer}
-use Rattle.greet.specs.Message.{GreetingValue, IsGreeting, response, IsSwitch, IsOkPacket, query_bytes, dump_bytes}
+use Rattle.greet.specs.Message.{GreetingValue, IsGreeting, response, IsSwitch, IsOkPacket, checksum_query, dump_bytes}
 use Rattle.gtid.specs.Identifier.{Ids}
 use Rattle.gtid.specs.Encoding.{IsEncoding}
 use Rattle.binlog.specs.Filter.{Names}
@@ -17,13 +17,16 @@ abbrev pub auth_bytes : List ℕ → List ℕ → List ℕ
 auth_bytes [] scramble = []
 auth_bytes (byte ∷ bytes) scramble = native_answer (byte ∷ bytes) scramble
 
--- the query that makes a source send its events without checksums
-abbrev pub checksum_query : List ℕ
-checksum_query = query_bytes (codes "SET @master_binlog_checksum='NONE'")
+-- Flags of the dump command.
+abbrev pub binlog_dump_non_block : ℕ
+binlog_dump_non_block = 0x0001
 
--- the flags of the dump command: it has a set of GTIDs, and with `once` the source sends an EOF at the end of its log
+abbrev pub binlog_through_gtid : ℕ
+binlog_through_gtid = 0x0004
+
+-- the flags: it has a set of GTIDs, and with `once` the source sends an EOF at the end of its log
 abbrev pub flags_of : Bool → ℕ
-flags_of once = if once then 5 else 4
+flags_of once = if once then binlog_through_gtid + binlog_dump_non_block else binlog_through_gtid
 
 -- The packing of a payload, the first packet with this sequence id.
 abbrev pub IsPacked : ℕ → Payload → List ℕ → Type 0
@@ -48,7 +51,7 @@ module _ (settings : Settings) (executed : Ids) where
     pub packs : IsPacked 0 checksum_query y
 
   -- The dump command with the executed set.
-  pub record Asks (reply : Payload) (y : List ℕ) : Type 0 where
+  pub record AsksForDump (reply : Payload) (y : List ℕ) : Type 0 where
     pub ok : IsOkPacket reply
     pub set : List ℕ
     pub encodes : IsEncoding executed set
@@ -59,7 +62,7 @@ module _ (settings : Settings) (executed : Ids) where
   Responds Hello p y = LogsIn p y
   Responds Reply p y = LogsInAgain p y ⊎ Queries p y
   Responds SecondReply p y = Queries p y
-  Responds QueryReply p y = Asks p y
+  Responds QueryReply p y = AsksForDump p y
   Responds InDump p y = y ≡ []
 
   -- The bytes due in reply to these payloads, one after the other.

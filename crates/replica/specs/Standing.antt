@@ -46,7 +46,7 @@ pub record GoesOn (settings : Settings) (assembly : ReaderState) (gatherer : Gat
   pub unfinished : IsUnfinished reading.id settings.limit assembly.held
   pub awaits : due_of waits ≡ due_after reading.payloads
   pub gathers : Gathers reading.events reading.deliveries gatherer
-  pub took : HasApplied names old reading.deliveries (due_after reading.payloads) applied now
+  pub has_applied : HasApplied names old reading.deliveries (due_after reading.payloads) applied now
   pub sent : Sent settings old.executed reading.payloads all
   pub store : is ≡ was
   pub kept : was ≡ true → now ≡ old
@@ -76,7 +76,7 @@ pub record HasPayload (settings : Settings) (assembly : ReaderState) (gatherer :
   pub reads : assembly.ended ≡ false
   pub awaits : due_of waits ≡ due_after reading.payloads
   pub gathers : Gathers reading.events reading.deliveries gatherer
-  pub took : HasApplied names old reading.deliveries (due_after reading.payloads) applied now
+  pub has_applied : HasApplied names old reading.deliveries (due_after reading.payloads) applied now
   pub sent : Sent settings old.executed reading.payloads all
   pub store : is ≡ was
   pub kept : was ≡ true → now ≡ old
@@ -104,9 +104,9 @@ taken_of None bytes = bytes
 taken_of (Some n) bytes = take n bytes
 
 -- where a connection ends: after the payloads taken, of which an EOF at the end of the log is one
-abbrev pub place_of : Reason → ℕ → ℕ → ℕ
-place_of SourceEof at end = end
-place_of _ at end = at
+abbrev pub offset_of : Reason → ℕ → ℕ → ℕ
+offset_of SourceEof at end = end
+offset_of _ at end = at
 
 -- The session has gone on to this offset, with this many transactions applied.
 pub record MovesOn (old new : Session) (at applied : ℕ) : Type 0 where

@@ -2,6 +2,7 @@
 -- Client/Server Protocol, "Connection Phase" and "Command Phase"; Replication Protocol: COM_BINLOG_DUMP_GTID.
 use Rattle.std.specs.Prelude.{◌≡◌, ℕ, ◌^◌, ◌<◌, ◌==◌, ◌⊎◌, Bool, false, if◌then◌else◌, List, [], ◌∷◌, ◌++◌, length, ⊤}
 use Rattle.wire.specs.Payload.{IsWholePayload}
+use Rattle.greet.specs.PacketHeader as packet_header
 use Rattle.greet.specs.Message.{IsOkPacket}
 use Rattle.greet.specs.Complete.{HasGreeting, HasSwitch}
 use Rattle.binlog.specs.Filter.{Names}
@@ -23,7 +24,7 @@ pub data Due : Type 0 where
 -- a switch begins with this byte, an OK with 0
 abbrev pub begins_switch : Payload → Bool
 begins_switch [] = false
-begins_switch (byte ∷ bytes) = byte == 0xFE
+begins_switch (byte ∷ bytes) = byte == packet_header.auth_switch
 
 -- the message that is expected after this one
 abbrev pub next_due : Due → Payload → Due
@@ -61,7 +62,7 @@ IsInDump InDump = ⊤
 -- The payload is 0 and the event.
 pub record Carries (names : Names) (p : Payload) (e : EventValue) : Type 0 where
   pub body : List ℕ
-  pub payload_is : p ≡ 0x00 ∷ body
+  pub payload_is : p ≡ packet_header.ok ∷ body
   pub is_event : IsEvent names e body
 
 -- The payload is the expected message, and has these events: one in the dump, otherwise none. A greeting has the needed

@@ -23,6 +23,8 @@ use store::Store;
 pub struct Capture<R> {
     pub first: Option<u8>,
     pub reader: R,
+    /// How many bytes the connection has; 0 if that is not known.
+    pub size: u64,
 }
 
 /// Why connections are left unread.
@@ -54,7 +56,11 @@ fn read_capture<R: Read + Drop, S: Alter, W: Observer>(
     ensures broken { IsBroken S.Store store.old → store.new ≡ store.old }
     ensures clean { HasCleanDisk (database S.Store store.new) → HasCleanDisk (database S.Store store.old) }
 {
-    let Capture { first, mut reader } = capture;
+    let Capture {
+        first,
+        mut reader,
+        ..
+    } = capture;
     match config.copy() {
         Ok(config) => {
             let first = first.as_slice();

@@ -13,9 +13,9 @@ ghost use Rattle.store.specs.State.{Content};
 ghost use Rattle.store.specs.Store.{Holds, HasFailed, HoldsAs, database, names_of, IsBroken};
 ghost use Rattle.replica.specs.Stream.{Payload, Carries, InDump};
 ghost use Rattle.gather.specs.declared.gatherer.Gatherer.{Gatherer};
-ghost use Rattle.replica.specs.Turn.{EndsDump, GathersMore, outcome_of, reason_of_events};
+ghost use Rattle.replica.specs.PayloadStep.{EndsDump, GathersMore, outcome_of, reason_of_events};
 ghost use Rattle.replica.specs.Message.{begins_event};
-ghost use Rattle.store.specs.Take.{is_executed};
+ghost use Rattle.store.specs.Changes.{is_executed};
 ghost use Rattle.replica.specs.Conn.{IsOwn, MayEnd};
 ghost use Rattle.replica.specs.Event.{TakesEvent};
 
@@ -117,7 +117,7 @@ fn apply<S: Alter, W: Observer>(
     ensures stays { W.has_stopped observer.old ≡ true → W.has_stopped observer.new ≡ true }
     ensures following { names_of S.Store store.new ≡ names_of S.Store store.old }
     ensures broken { IsBroken S.Store store.old → store.new ≡ store.old }
-    ensures turn { HasCleanDisk (database S.Store store.new) → (is : Bool) (now : Content) (es : List EventValue) (ds : List DeliveryValue) (p : Payload) (gatherer : Gatherer) → HoldsAs S.Store is now store.old
+    ensures step { HasCleanDisk (database S.Store store.new) → (is : Bool) (now : Content) (es : List EventValue) (ds : List DeliveryValue) (p : Payload) (gatherer : Gatherer) → HoldsAs S.Store is now store.old
         → GathersMore (names_of S.Store store.old) es ds p (delivery_value delivery.now ∷ []) gatherer → TakesEvent S.Store is now es ds p store.old store.new gatherer result }
 {
     if is_halted(store, delivery, observer) {
@@ -142,7 +142,7 @@ pub(crate) fn take_event<S: Alter, W: Observer>(
     ensures stays { W.has_stopped observer.old ≡ true → W.has_stopped observer.new ≡ true }
     ensures following { names_of S.Store store.new ≡ names_of S.Store store.old }
     ensures broken { IsBroken S.Store store.old → store.new ≡ store.old }
-    ensures turn { HasCleanDisk (database S.Store store.new) → (is : Bool) (now : Content) (es : List EventValue) (ds : List DeliveryValue) → Gathers es ds gatherer.old → HoldsAs S.Store is now store.old
+    ensures step { HasCleanDisk (database S.Store store.new) → (is : Bool) (now : Content) (es : List EventValue) (ds : List DeliveryValue) → Gathers es ds gatherer.old → HoldsAs S.Store is now store.old
         → TakesEvent S.Store is now es ds payload.now store.old store.new gatherer.new result }
 {
     match gather(alloc, gatherer, store.following(), payload, observer) {

@@ -10,7 +10,7 @@ ghost use Rattle.replica.specs.Conn.{Conn, BreaksStore, IsOwn, MayEnd};
 ghost use Rattle.replica.specs.Sent.{SentFor};
 ghost use Rattle.replica.specs.Standing.{Stands, end_of, room_of, taken_of};
 ghost use Rattle.replica.specs.Over.{StandsOver};
-ghost use Rattle.replica.specs.Turn.{reason_of};
+ghost use Rattle.replica.specs.PayloadStep.{reason_of};
 ghost use Rattle.store.specs.Store.{database, names_of, IsBroken};
 
 use crate::config::Config;

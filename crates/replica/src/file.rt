@@ -14,7 +14,7 @@ ghost use Rattle.store.specs.State.{Content};
 ghost use Rattle.store.specs.Store.{Holds, connection, database, names_of};
 ghost use Rattle.store.specs.Entering.{ReadsLeft, IsWanted};
 ghost use Rattle.store.specs.Faults.{IsFailure};
-ghost use Rattle.replica.specs.File.{only_of, is_any, FilesHold, LeavesContent, IsRefused};
+ghost use Rattle.replica.specs.File.{only_of, is_any, FilesHold, LeavesContent, IsUnopened};
 
 use crate::file_connection::open_files;
 use binlog::Follow;
@@ -56,11 +56,13 @@ fn open_store<S: Alter>(
 /// one is made and an older one must have been made; without a list, its own list holds.
 ///
 /// `start` stands for what the files held before: the clauses say of each content of them what follows from it. They say
-/// nothing of which file the path names, and of a file that another program writes.
+/// nothing of which file the path names, and of a file that another program writes. `expected` is how many bytes are about
+/// to be written, as far as is known: the more, the more pages are kept in memory, from 4 to 16 MiB.
 pub fn open_file<P: Start>(
     rt: &HostRuntime,
     path: &str,
     start: P,
+    expected: u64,
     only: Option<&Follow>,
 ) -> Result<Store<FileStore<FileFrom<P>>>, Unopened<FileFrom<P>>>
     // If the files held a database that stands for a content, the store holds that content; if there was none, the empty
@@ -72,9 +74,9 @@ pub fn open_file<P: Start>(
     // A database that stands for a content is refused only if the database fails or memory runs out, and is left with that
     // content.
     ensures refused { IfErr result (λ e. (names : Names) (content : Content) → FilesHold (only_of only.entry) names content (image_at P.Start) → IsWanted (is_any only.entry) (only_of only.entry) names
-        → IsRefused (only_of only.entry) names content e) }
+        → IsUnopened (only_of only.entry) names content e) }
 {
-    let conn = match open_files(rt, path, start) {
+    let conn = match open_files(rt, path, start, expected) {
         Ok(conn) => conn,
         Err((cause, left)) => return Err(Unopened::Files(cause, left)),
     };

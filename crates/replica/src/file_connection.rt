@@ -52,32 +52,36 @@ fn open_pair<P: Start>(rt: &HostRuntime, path: &str, start: P) -> Result<Files<F
     }
 }
 
-/// How many pages of a database file are kept in memory: as many as it has, within the limits.
-fn cache_pages(rt: &HostRuntime, path: &str) -> usize {
+/// How many pages of a database file are kept in memory: as many as it has, and as `expected` bytes more take, within the
+/// limits.
+fn cache_pages(rt: &HostRuntime, path: &str, expected: u64) -> usize {
     let size = match fs::metadata(rt, path) {
         Ok(metadata) => metadata.len(),
         Err(_) => 0,
     };
-    (size / PAGE).max(LEAST_PAGES).min(MOST_PAGES) as usize
+    (size.saturating_add(expected) / PAGE)
+        .max(LEAST_PAGES)
+        .min(MOST_PAGES) as usize
 }
 
 /// The options of a connection to a file. The log's salts begin with a random number.
-fn options(rt: &HostRuntime, path: &str) -> Result<Options, Error> {
+fn options(rt: &HostRuntime, path: &str, expected: u64) -> Result<Options, Error> {
     let Ok(state) = RandomState::new(rt) else {
         return Err(CANNOT_OPEN);
     };
     let mut options = Options::new(state.hash_one(&0u8));
-    options.cache_pages = cache_pages(rt, path);
+    options.cache_pages = cache_pages(rt, path, expected);
     options.spill_pages = SPILL_PAGES;
     Ok(options)
 }
 
 /// Opens the files at a path, as `Connection::open_from` does, where `start` stands for what they held. An error comes
-/// with what is left of them, once they were opened.
+/// with what is left of them, once they were opened. `expected` is how many bytes are about to be written, as far as is known.
 pub(crate) fn open_files<P: Start>(
     rt: &HostRuntime,
     path: &str,
     start: P,
+    expected: u64,
 ) -> Result<Connection<FileStore<FileFrom<P>>>, (Error, Option<Leftover<FileFrom<P>>>)>
     ensures opened { IfOk result (λ c. HasCleanDisk (file_state c) → IsOpened c) }
     ensures found { IfOk result (λ c. HasCleanDisk (file_state c) → FindsIn (image_at P.Start) (file_state c)) }
@@ -87,7 +91,7 @@ pub(crate) fn open_files<P: Start>(
         Ok(files) => files,
         Err(error) => return Err((error, None)),
     };
-    let options = match options(rt, path) {
+    let options = match options(rt, path, expected) {
         Ok(options) => options,
         Err(error) => return Err((error, None)),
     };

@@ -7,7 +7,7 @@ ghost use Rattle.binlog.specs.Filter.{Names};
 ghost use Rattle.store.specs.State.{Content};
 ghost use Rattle.store.specs.Store.{HoldsAs, IsBroken, database, names_of};
 ghost use Rattle.store.specs.Entering.{IsWanted};
-ghost use Rattle.replica.specs.File.{only_of, is_any, FilesHold, IsRefused};
+ghost use Rattle.replica.specs.File.{only_of, is_any, FilesHold, IsUnopened};
 ghost use Rattle.replica.specs.declared.end.Reason.TheVariants.{Halted};
 ghost use Rattle.replica.specs.FollowFile.{Connects, FollowsFile, CountsFailures};
 
@@ -99,9 +99,9 @@ pub fn follow_file<
     // A database that stands for a content is refused only if the database fails or memory runs out, and is left with that
     // content.
     ensures refused { IfErr result (λ e. (names : Names) (content : Content) → FilesHold (only_of only.entry) names content (image_at P.Start) → IsWanted (is_any only.entry) (only_of only.entry) names
-        → IsRefused (only_of only.entry) names content e) }
+        → IsUnopened (only_of only.entry) names content e) }
 {
-    let mut store = open_file(rt, path, start, only)?;
+    let mut store = open_file(rt, path, start, u64::MAX, only)?;
     let connection = connect_and_follow(rt.alloc(), &mut store, config, connect, observer);
     let closed = close_file(store);
     Ok(FollowedFile { connection, closed })

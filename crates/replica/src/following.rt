@@ -21,8 +21,8 @@ use sqlite::Alter;
 use std::alloc::Global;
 use store::Store;
 
-/// How many bytes a read asks for: 64 KiB.
-const PIECE: usize = 65_536;
+/// How many bytes a read of a stream asks for, at most: 64 KiB.
+pub const PIECE: usize = 65_536;
 
 /// Whether the connection was ended by the database, by running out of memory or by the observer. Then nothing more is
 /// sent.

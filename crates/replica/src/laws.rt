@@ -15,7 +15,7 @@ ghost use Rattle.gather.specs.Transaction.{change_of};
 ghost use Rattle.scripted_source.specs.Script.{PartValue, ScriptValue};
 ghost use Rattle.scripted_source.specs.Source.{is_once};
 ghost use Rattle.store.specs.State.{Content};
-ghost use Rattle.store.specs.Take.{HasOutcome, done};
+ghost use Rattle.store.specs.Changes.{HasOutcome, done};
 ghost use Rattle.store.specs.Store.{HoldsAs, database, names_of};
 ghost use Rattle.replica.specs.declared.end.Reason.{Reason};
 ghost use Rattle.replica.specs.declared.end.Reason.TheVariants.{EndOfInput, Wire};
@@ -25,15 +25,15 @@ ghost use Rattle.replica.specs.Stream.{Reading};
 ghost use Rattle.replica.specs.End.{End};
 ghost use Rattle.replica.specs.Report.{report_of};
 ghost use Rattle.replica.specs.Outcome.{IsSameEnd, HasEnd};
-ghost use Rattle.replica.specs.Conn.{Conn, TakesFirst, BreaksStore, IsDumpTooLong, IsOfBytes};
-ghost use Rattle.replica.specs.Crash.{IsLeft, LeavesFirst};
+ghost use Rattle.replica.specs.Conn.{Conn, AppliesFirst, BreaksStore, IsDumpTooLong, IsOfBytes};
+ghost use Rattle.replica.specs.Crash.{IsLeftOfOne, LeavesFirst};
 ghost use Rattle.replica.specs.Sent.{SentFor};
 ghost use Rattle.replica.specs.Standing.{Stands, end_of};
 ghost use Rattle.replica.specs.Over.{StandsOver};
 ghost use Rattle.replica.specs.Follow.{HandsOut, IsInFull};
 ghost use Rattle.replica.specs.File.{FilesHold, AreClosedWith};
 ghost use Rattle.replica.specs.Restart.{Starts, IsUncut, AreStarts, HoldFirst, FilesNeverFall};
-ghost use Rattle.replica.specs.Resume.{Resumes, Leads, Reaches, AreRestarts, NeverFalls, part_changes, transaction, transactions, end_of as end_of_log};
+ghost use Rattle.replica.specs.Resume.{Resumes, Leads, Reaches, AreRestarts, NeverFalls, part_changes, transaction, transactions, end_reason};
 
 use crate::counted::Duplex;
 use crate::session::Session;
@@ -60,7 +60,7 @@ pub fn stood(_session: &Session)
         → SentFor _session.now.config names old.executed b (end_of _session.now).at (o ++ _session.now.out.items) }
     // The store holds what the first transactions of the bytes, some number of them, make of what it held.
     ensures state { (names : Names) (was is : Bool) (old now : Content) (b o : List ℕ) → Stands _session.now names was is old now b o
-        → (count : ℕ) × TakesFirst _session.now.config.limit names old b count (end_of _session.now).applied now }
+        → (count : ℕ) × AppliesFirst _session.now.config.limit names old b count (end_of _session.now).applied now }
     // An end caused by the bytes is the end of these bytes, except for a dump command that would be too long.
     ensures reason { (names : Names) (was is : Bool) (old now : Content) (b o : List ℕ) → Stands _session.now names was is old now b o → IsOfBytes (end_of _session.now).reason
         → End _session.now.config.limit names b (end_of _session.now).reason (end_of _session.now).at ⊎ (((end_of _session.now).reason ≡ Wire wire.TooLarge) × IsDumpTooLong old.executed) }
@@ -69,10 +69,10 @@ pub fn stood(_session: &Session)
 {}
 
 /// What a crash leaves of a connection is what the first of its transactions, some number of them, make of what the
-/// store held: all those that were taken, and at most one more, if the database failed.
+/// store held: all those that were applied, and at most one more, if the database failed.
 pub fn left_transactions()
     ensures { (limit : ℕ) (names : Names) (was : Bool) (old : Content) (b : List ℕ) (new : Content) (end : Ended) (left : Content) → Conn limit names was old b new end
-        → IsLeft limit names old b new end left → LeavesFirst limit names old b new end left }
+        → IsLeftOfOne limit names old b new end left → LeavesFirst limit names old b new end left }
 {}
 
 /// Where a connection ends because of its bytes, and what that end reports, is determined by the bytes.
@@ -118,19 +118,19 @@ pub fn longest()
 /// the content after some of them, and none is left out in between.
 pub fn resuming(_opening: &[u8], _answer: &[u8])
     ensures leads { (limit : ℕ) (names : Names) (history : List ScriptValue) (j : ℕ) (held last : Content) (request : List ℕ) → (r : Resumes limit names history j held last request _opening.now _answer.now)
-        → Leads limit names held last (_opening.now ++ _answer.now) (transactions names (drop j history)) (end_of_log (is_once r.dump.flags)) }
+        → Leads limit names held last (_opening.now ++ _answer.now) (transactions names (drop j history)) (end_reason (is_once r.dump.flags)) }
     ensures cut { (limit : ℕ) (names : Names) (history : List ScriptValue) (j : ℕ) (held last : Content) (request : List ℕ) → (r : Resumes limit names history j held last request _opening.now _answer.now)
-        → (part more : List ℕ) (count applied : ℕ) (new : Content) → _opening.now ++ _answer.now ≡ part ++ more → TakesFirst limit names held part count applied new → Reaches names history (j + count) new }
+        → (part more : List ℕ) (count applied : ℕ) (new : Content) → _opening.now ++ _answer.now ≡ part ++ more → AppliesFirst limit names held part count applied new → Reaches names history (j + count) new }
 {
     greet::laws::dumps();
 }
 
-/// Whatever prefix of that connection a replica has followed, and wherever it is stopped: what it took, and what a
+/// Whatever prefix of that connection a replica has followed, and wherever it is stopped: what it has_applied, and what a
 /// crash leaves, is the content after the first transactions of the history, some number of them. None that it had is
 /// lost, and at most one more is there.
 pub fn stopped_anywhere(_opening: &[u8], _answer: &[u8])
     ensures { (limit : ℕ) (names : Names) (history : List ScriptValue) (j : ℕ) (held last : Content) (request : List ℕ) → (r : Resumes limit names history j held last request _opening.now _answer.now)
-        → (part more : List ℕ) (was : Bool) (new : Content) (end : Ended) (left : Content) → _opening.now ++ _answer.now ≡ part ++ more → Conn limit names was held part new end → IsLeft limit names held part new end left
+        → (part more : List ℕ) (was : Bool) (new : Content) (end : Ended) (left : Content) → _opening.now ++ _answer.now ≡ part ++ more → Conn limit names was held part new end → IsLeftOfOne limit names held part new end left
         → (i : ℕ) × Reaches names history (j + i) new × ((left ≡ new) ⊎ Reaches names history (j + (i + 1)) left) }
 {
     resuming(_opening, _answer);
@@ -162,9 +162,9 @@ pub fn restarted_files<D: Disk, T: Duplex + Drop, E: Drop, F: FnOnce() -> Result
     greet::laws::dumps();
 }
 
-/// The transactions of a history, as a connection has them, leave out the changes of tables that are not followed; with
-/// no list they have all changes. A replica takes a transaction without these changes exactly if it takes the whole
-/// one.
+/// The transactions of a history, as a connection has them, leave out the changes of tables that the filter leaves out;
+/// with the empty filter they have all changes. A replica applies a transaction without these changes exactly if it applies
+/// the whole one.
 pub fn filtered()
     ensures all { (part : PartValue) → part_changes set.empty part ≡ map (change_of part.table) part.pairs }
     ensures taken { (names : Names) (script : ScriptValue) (old new : Content) →

@@ -48,7 +48,7 @@ pub use end::{Ended, Reason, Refusal};
 pub use feed::Stopped;
 pub use file::{Unopened, close_file, open_file};
 pub use followed_file::{FollowedFile, follow_file};
-pub use following::{follow, follow_observed};
+pub use following::{PIECE, follow, follow_observed};
 pub use observer::{Observer, Unobserved};
 pub use reader::{read_some, read_stream};
 pub use replaying::{Replayed, replay};

@@ -8,7 +8,7 @@ ghost use Rattle.gtid.specs.Identifier.{Ids};
 ghost use Rattle.replica.specs.Stream.{next_due, next_id, Hello, Reply, SecondReply, QueryReply, InDump};
 ghost use Rattle.replica.specs.Conn.{IsOwn};
 ghost use Rattle.replica.specs.Standing.{due_at, due_of};
-ghost use Rattle.replica.specs.Turn.{IsAnswered, EndsAt, IsReportOf};
+ghost use Rattle.replica.specs.PayloadStep.{IsAnswered, EndsAt, IsReportOf};
 
 use crate::config::Config;
 use crate::end::Reason;

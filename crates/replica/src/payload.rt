@@ -8,7 +8,7 @@ ghost use Rattle.binlog.specs.Filter.{Names};
 ghost use Rattle.gtid.specs.Identifier.{Ids};
 ghost use Rattle.wire.specs.Packet.{packing_length};
 ghost use Rattle.store.specs.State.{Content};
-ghost use Rattle.replica.specs.Standing.{Stands, Meets, first_id_of, place_of, MovesOn, room_of, end_of};
+ghost use Rattle.replica.specs.Standing.{Stands, Meets, first_id_of, offset_of, MovesOn, room_of, end_of};
 ghost use Rattle.replica.specs.Conn.{IsOwn, MayEnd};
 ghost use Rattle.replica.specs.Over.{StandsOver, MeetsOver};
 ghost use Rattle.replica.specs.declared.phase.Phase.TheVariants as phase;
@@ -67,7 +67,7 @@ impl Session {
         requires { self.old.at < end }
         ensures config { self.new.config ≡ self.old.config }
         ensures out { self.new.out ≡ self.old.out }
-        ensures ended { self.new.ended ≡ Some (record { reason = reason; at = place_of reason self.old.at end; applied = self.old.applied }) }
+        ensures ended { self.new.ended ≡ Some (record { reason = reason; at = offset_of reason self.old.at end; applied = self.old.applied }) }
     {
         if let Reason::SourceEof = reason {
             self.at = end;

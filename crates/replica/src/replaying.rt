@@ -5,7 +5,7 @@ ghost use Rattle.sqlite_wal.specs.Files.{image_at};
 ghost use Rattle.binlog.specs.Filter.{Names};
 ghost use Rattle.store.specs.State.{Content};
 ghost use Rattle.store.specs.Entering.{IsWanted};
-ghost use Rattle.replica.specs.File.{only_of, is_any, FilesHold, IsRefused};
+ghost use Rattle.replica.specs.File.{only_of, is_any, FilesHold, IsUnopened};
 ghost use Rattle.replica.specs.Replay.{Replays};
 ghost use Rattle.replica.specs.Conn.{MayEnd};
 
@@ -13,14 +13,22 @@ use crate::captures::{Capture, Halt, read_captures};
 use crate::config::Config;
 use crate::end::Ended;
 use crate::file::{Unopened, close_file, open_file};
+use crate::following::PIECE;
 use crate::observer::Observer;
 use binlog::Follow;
 use sqlite::{Error, FileFrom, FileStore, Files, Start};
 use sqlite_disk::Disk;
 use std::io::Read;
 
-/// How many bytes are read at once, at most: 64 KiB.
-const PIECE: usize = 65_536;
+/// How many bytes a database is expected to grow by from connections: an eighth of theirs, as it does where the transactions
+/// are small. More than any database if of no connection is known how long it is.
+fn growth<R>(captures: &[Capture<R>]) -> u64 {
+    let mut size = 0u64;
+    for capture in captures {
+        size = size.saturating_add(capture.size);
+    }
+    if size == 0 { u64::MAX } else { size / 8 }
+}
 
 /// What a replay has done.
 pub struct Replayed<D: Disk> {
@@ -56,7 +64,7 @@ pub fn replay<P: Start, R: Read + Drop, W: Observer>(
     // A database that stands for a content is refused only if the database fails or memory runs out, and is left with that
     // content.
     ensures refused { IfErr result (λ e. (names : Names) (content : Content) → FilesHold (only_of only.entry) names content (image_at P.Start) → IsWanted (is_any only.entry) (only_of only.entry) names
-        → IsRefused (only_of only.entry) names content e) }
+        → IsUnopened (only_of only.entry) names content e) }
 {
     let alloc = rt.alloc();
     let Ok(mut ends) = Vec::with_capacity(alloc, captures.len()) else {
@@ -65,7 +73,7 @@ pub fn replay<P: Start, R: Read + Drop, W: Observer>(
     let Ok(mut piece) = vec![in alloc; 0; PIECE] else {
         return Err(Unopened::Memory);
     };
-    let mut store = open_file(rt, path, start, only)?;
+    let mut store = open_file(rt, path, start, growth(&captures), only)?;
     let read = read_captures(
         config, &mut store, captures, &mut piece, &mut ends, observer,
     );

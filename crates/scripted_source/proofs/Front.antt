@@ -1,5 +1,5 @@
 -- A payload at the front of bytes that a replica sent.
-use Rattle.std.proofs.Common.{◌≡◌, ℕ, true, false, List, [], ◌++◌, length, take, drop, refl, sym, ap, subst, ◌∙◌, Result, Ok, Err, IfOk}
+use Rattle.std.proofs.Common.{◌≡◌, ℕ, true, false, List, [], ◌++◌, length, take, drop, refl, sym, ap, subst, ◌∙◌}
 use Rattle.std.proofs.Math.Seq.{take-append_seam}
 use Rattle.std.proofs.lemmas.Bool.{false≢true}
 use Rattle.std.proofs.lemmas.List.{take-append-drop}
@@ -48,7 +48,3 @@ only_memory s id bytes payload rest wire.TooLarge is sequence large ended t =
     absurd (large_or_whole rest (subst (λ l. IsTooLarge id LARGEST_PAYLOAD l) t.bytes_are bad) t.whole)
 only_memory s id bytes payload rest wire.Memory is sequence large ended t = refl
 only_memory s id bytes payload rest wire.Ended is sequence large ended t = absurd (false≢true (sym (ap (λ (v : ReaderState). v.ended) is) ∙ ended refl))
-
-pub if_ok : {T E : Type 0} {P Q : T → Type 0} (r : Result T E) → ((x : T) → P x → Q x) → IfOk r P → IfOk r Q
-if_ok (Ok x) f h = f x h
-if_ok (Err e) f h = tt

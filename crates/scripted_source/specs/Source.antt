@@ -6,7 +6,8 @@ use Rattle.std.specs.FinSet as set
 use Rattle.wire.specs.Packet.{IsPacking}
 use Rattle.wire.specs.Payload.{IsWholePayload}
 use Rattle.wire.specs.declared.packet.TheConstants.{LARGEST_PAYLOAD}
-use Rattle.greet.specs.Message.{greeting_bytes, query_bytes, IsOkPacket, DumpValue, IsDump}
+use Rattle.greet.specs.PacketHeader as packet_header
+use Rattle.greet.specs.Message.{greeting_bytes, replica_capabilities, utf8mb3, checksum_query, IsOkPacket, DumpValue, IsDump}
 use Rattle.greet.specs.Complete.{HasGreeting, HasResponse}
 use Rattle.gtid.specs.Identifier.{Ids}
 use Rattle.gtid.specs.Encoding.{IsEncoding}
@@ -26,24 +27,28 @@ use Rattle.scripted_source.specs.Script.{PartValue, ScriptValue, part_events, sc
 abbrev pub Payload : Type 0
 Payload = List ℕ
 
--- an event in a dump: a zero byte and the event
+-- an event in a dump: the byte of an OK and the event
 abbrev pub payload_of : EventValue → Payload
-payload_of e = 0x00 ∷ event_bytes e
+payload_of e = packet_header.ok ∷ event_bytes e
 
 abbrev pub payloads_of : List EventValue → List Payload
 payloads_of events = map payload_of events
 
+-- SERVER_STATUS_AUTOCOMMIT
+abbrev pub autocommit : ℕ
+autocommit = 2
+
 -- an OK without rows, insert id and warnings, in autocommit
 abbrev pub ok_payload : Payload
-ok_payload = 0x00 ∷ 0 ∷ 0 ∷ 2 ∷ 0 ∷ 0 ∷ 0 ∷ []
+ok_payload = packet_header.ok ∷ 0 ∷ 0 ∷ autocommit ∷ 0 ∷ 0 ∷ 0 ∷ []
 
 -- an EOF without warnings, in autocommit
 abbrev pub eof_payload : Payload
-eof_payload = 0xFE ∷ 0 ∷ 0 ∷ 2 ∷ 0 ∷ []
+eof_payload = packet_header.eof ∷ 0 ∷ 0 ∷ autocommit ∷ 0 ∷ []
 
 -- the greeting of a server 8.0.36 with this scramble: thread 8, the character set utf8mb3, in autocommit
 abbrev pub greeting_payload : List ℕ → Payload
-greeting_payload scramble = greeting_bytes (record { version = codes "8.0.36"; thread = 8; scramble = scramble; capabilities = 0x8A205; charset = 0x21; status = 2 })
+greeting_payload scramble = greeting_bytes (record { version = codes "8.0.36"; thread = 8; scramble = scramble; capabilities = replica_capabilities; charset = utf8mb3; status = autocommit })
 
 -- The bytes are the packings of the payloads, one after the other, the first from this sequence id and each later one
 -- from the id after the one before it; `last` is the id after all of them.
@@ -219,10 +224,6 @@ packets_fault wire_fault.Memory = Memory
 packets_fault _ = Request
 
 -- ---- What a replica sends.
-
--- the query by which a replica asks for events without checksums
-abbrev pub checksum_query : Payload
-checksum_query = query_bytes (codes "SET @master_binlog_checksum='NONE'")
 
 -- The bytes begin with the packets of this payload, from this sequence id, and the rest follows them.
 pub record TakesPayload (id : ℕ) (bytes : List ℕ) (payload rest : List ℕ) : Type 0 where

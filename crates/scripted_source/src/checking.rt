@@ -2,9 +2,10 @@
 //! and `COM_QUERY`, and "Replication Protocol", the page `COM_BINLOG_DUMP_GTID`.
 
 ghost use Rattle.std.specs.Prelude.{◌≡◌, ◌⊎◌, ◌↔◌, List, ℕ, MatchResult, IfOk, IfErr, IsTrue, OnOk, OnErr, Err, ⊤};
+ghost use Rattle.greet.specs.Message.{checksum_query};
 ghost use Rattle.greet.specs.Complete.{HasResponse};
 ghost use Rattle.gtid.specs.Identifier.{Ids};
-ghost use Rattle.scripted_source.specs.Source.{TakesPayload, packets_fault, checksum_query, IsLastSent, AreLastSent, AreSent};
+ghost use Rattle.scripted_source.specs.Source.{TakesPayload, packets_fault, IsLastSent, AreLastSent, AreSent};
 ghost use Rattle.scripted_source.specs.declared.fault.ForgeFault.TheVariants.{Request, Memory};
 
 use crate::answering::read_request;

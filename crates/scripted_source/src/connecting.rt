@@ -8,7 +8,8 @@ ghost use Rattle.scripted_source.specs.Source.{IsOpening, AppendsPayload, greeti
 ghost use Rattle.scripted_source.specs.declared.fault.ForgeFault.TheVariants.{Memory};
 
 use crate::fault::ForgeFault;
-use greet::Greeting;
+use crate::sending::AUTOCOMMIT;
+use greet::{Greeting, packet_header};
 use std::alloc::Global;
 use wire::write_payload;
 
@@ -20,7 +21,7 @@ const VERSION: &[u8] = b"8.0.36";
 const CAPABILITIES: u32 = 0x0008_a205;
 
 /// An OK without rows, insert id and warnings, in autocommit.
-const OK: &[u8] = &[0, 0, 0, 2, 0, 0, 0];
+const OK: &[u8] = &[packet_header::OK, 0, 0, AUTOCOMMIT as u8, 0, 0, 0];
 
 /// A greeting with this scramble, the OK to the login and the OK to the query: what a source sends before the dump
 /// command. The only error is `Memory`.
@@ -47,7 +48,7 @@ fn greeting(alloc: Global, scramble: &[u8; 20]) -> Result<Vec<u8>, ForgeFault>
         scramble: *scramble,
         capabilities: CAPABILITIES,
         charset: 0x21,
-        status: 2,
+        status: AUTOCOMMIT,
     };
     let mut payload = Vec::new(alloc);
     match greeting.write(&mut payload) {

@@ -15,12 +15,16 @@ ghost use Rattle.scripted_source.specs.declared.fault.ForgeFault.TheVariants.{To
 use crate::fault::ForgeFault;
 use crate::script::{Ending, Part, Script};
 use binlog::{Event, RowsEvent, rows_fit, write_rows};
+use greet::packet_header;
 use gtid::Gtid;
 use std::alloc::Global;
 use wire::{WireFault, write_payload};
 
+/// SERVER_STATUS_AUTOCOMMIT.
+pub(crate) const AUTOCOMMIT: u16 = 2;
+
 /// An EOF without warnings, in autocommit.
-const EOF: &[u8] = &[0xfe, 0, 0, 2, 0];
+const EOF: &[u8] = &[packet_header::EOF, 0, 0, AUTOCOMMIT as u8, 0];
 
 /// Appends the packets of a payload.
 fn send(sequence: u8, payload: &[u8], out: &mut Vec<u8>) -> Result<u8, ForgeFault>

@@ -4,7 +4,7 @@ use Rattle.std.specs.FinSet as set
 use Rattle.gtid.specs.Identifier.{Ids}
 use Rattle.gtid.proofs.Sets.{id_cmp_total, id_cmp-same}
 use Rattle.store.specs.State.{Content}
-use Rattle.store.specs.Take.{with_executed, adopted}
+use Rattle.store.specs.Changes.{with_executed, adopted}
 
 or_known : (a b : Bool) → (b ≡ true → a ≡ true) → a ≡ (a || b)
 or_known true b h = refl

@@ -12,9 +12,9 @@ use Rattle.gather.proofs.WholeImages.{one_list}
 use Rattle.store.specs.declared.row_change.Refusal.{Refusal}
 use Rattle.store.specs.declared.row_change.Refusal.TheVariants.{NoSuchRow, CountFull}
 use Rattle.store.specs.State.{TableRow, row_of, has_image, has_cell_image}
-use Rattle.store.specs.Take.{most, IsAdded, IsRemoved}
-use Rattle.store.specs.Rows.{Key, key_of, key_for, same_key, Counts, with_one, without_one, bag_of, count, held_rows}
-use Rattle.store.specs.Inside.{Goes, added, taken, Counted, Makes}
+use Rattle.store.specs.Changes.{most, IsAdded, IsRemoved}
+use Rattle.store.specs.Rows.{Key, key_of, key_for, same_key, KeyCounts, with_one, without_one, bag_of, count, held_rows}
+use Rattle.store.specs.Inside.{Goes, added, removed, Counted, Makes}
 use Rattle.store.proofs.Made.{goes_then}
 
 -- ---- which cells have an image
@@ -55,7 +55,7 @@ module _ (schema table : List ℕ) (cells : List CellValue) (bytes : List ℕ) (
   key_is : key_of schema table bytes ≡ key_for (row_of schema table cells)
   key_is = ap (key_of schema table) is.bytes_are
 
-  pub at_row : (counts : Counts) → bag_of counts (row_of schema table cells) ≡ counts (key_of schema table bytes)
+  pub at_row : (counts : KeyCounts) → bag_of counts (row_of schema table cells) ≡ counts (key_of schema table bytes)
   at_row counts = rw (image_has cells is.has_image) (ap counts (sym key_is))
 
   apart : (r : TableRow) → has_image r.cells ≡ true → r ≢ row_of schema table cells → same_key (key_of schema table bytes) (key_for r) ≡ false
@@ -68,24 +68,24 @@ module _ (schema table : List ℕ) (cells : List CellValue) (bytes : List ℕ) (
       let cells_are : r.cells ≡ cells = one_list r.cells cells bytes (record { has_image = has_its_image r.cells has; bytes_are = image_is }) is in
       other (λ i. record { schema = sym schema_is i; table = sym table_is i; cells = cells_are i }))
 
-  not_at_row : (counts : Counts) (f : ℕ → ℕ) (r : TableRow) → r ≢ row_of schema table cells
+  not_at_row : (counts : KeyCounts) (f : ℕ → ℕ) (r : TableRow) → r ≢ row_of schema table cells
       → bag_of (λ k. cond (same_key (key_of schema table bytes) k) (f (counts k)) (counts k)) r ≡ bag_of counts r
   not_at_row counts f r other = elim (cases_Bool (has_image r.cells)) [
     | inl has ↦ rw (has, apart r has other) refl
     | inr none ↦ rw none refl
   ]
 
-  here : (counts : Counts) (f : ℕ → ℕ) → bag_of (λ k. cond (same_key (key_of schema table bytes) k) (f (counts k)) (counts k)) (row_of schema table cells) ≡ f (bag_of counts (row_of schema table cells))
+  here : (counts : KeyCounts) (f : ℕ → ℕ) → bag_of (λ k. cond (same_key (key_of schema table bytes) k) (f (counts k)) (counts k)) (row_of schema table cells) ≡ f (bag_of counts (row_of schema table cells))
   here counts f = at_row (λ k. cond (same_key (key_of schema table bytes) k) (f (counts k)) (counts k)) ∙ rw (own_key (key_of schema table bytes)) (ap f (sym (at_row counts)))
 
-  is_added : (old new : Counts) → old (key_of schema table bytes) < most → new ≡ with_one (key_of schema table bytes) old → IsAdded (row_of schema table cells) (bag_of old) (bag_of new)
+  is_added : (old new : KeyCounts) → old (key_of schema table bytes) < most → new ≡ with_one (key_of schema table bytes) old → IsAdded (row_of schema table cells) (bag_of old) (bag_of new)
   is_added old new low more = record {
     room = rw (at_row old) low;
     one_more = ap (λ c. bag_of c (row_of schema table cells)) more ∙ here old (λ n. n + 1);
     others = λ r other. ap (λ c. bag_of c r) more ∙ not_at_row old (λ n. n + 1) r other;
   }
 
-  is_taken : (old new : Counts) → 0 < old (key_of schema table bytes) → new ≡ without_one (key_of schema table bytes) old → IsRemoved (row_of schema table cells) (bag_of old) (bag_of new)
+  is_taken : (old new : KeyCounts) → 0 < old (key_of schema table bytes) → new ≡ without_one (key_of schema table bytes) old → IsRemoved (row_of schema table cells) (bag_of old) (bag_of new)
   is_taken old new some less = record {
     one_less =
         let now : bag_of new (row_of schema table cells) ≡ bag_of old (row_of schema table cells) - 1 = ap (λ c. bag_of c (row_of schema table cells)) less ∙ here old (λ n. n - 1) in
@@ -108,8 +108,8 @@ module _ (schema table : List ℕ) (cells : List CellValue) (bytes : List ℕ) (
       full None high h = absurd h
       full (Some why) high h = (rw (at_row (count (held_rows old.now))) high, h)
 
-  pub makes_taken : (old new : State) (o : Option Refusal) → Counted old new (taken (key_of schema table bytes) (count (held_rows old.now))) o → Makes (delete schema table cells) old new o
-  makes_taken old new o h = elim (cases_Bool (nat_lt 0 (count (held_rows old.now) (key_of schema table bytes)))) [
+  pub makes_removed : (old new : State) (o : Option Refusal) → Counted old new (removed (key_of schema table bytes) (count (held_rows old.now))) o → Makes (delete schema table cells) old new o
+  makes_removed old new o h = elim (cases_Bool (nat_lt 0 (count (held_rows old.now) (key_of schema table bytes)))) [
     | inl some ↦ there o (ltb-true 0 _ some) (rw some at h)
     | inr none ↦ missing o (let test = none in grind (arith, nat_tests)) (rw none at h)
   ]
@@ -129,10 +129,10 @@ pub added_if : {X : Type 0} (schema table : List ℕ) (cells : List CellValue) (
 added_if schema table cells bytes is old new (Ok o) h = makes_added schema table cells bytes is old new o h
 added_if schema table cells bytes is old new (Err e) h = tt
 
-pub taken_if : {X : Type 0} (schema table : List ℕ) (cells : List CellValue) (bytes : List ℕ) → IsImage cells bytes → (old new : State) (r : Result (Option Refusal) X)
-    → IfOk r (Counted old new (taken (key_of schema table bytes) (count (held_rows old.now)))) → IfOk r (Makes (delete schema table cells) old new)
-taken_if schema table cells bytes is old new (Ok o) h = makes_taken schema table cells bytes is old new o h
-taken_if schema table cells bytes is old new (Err e) h = tt
+pub removed_if : {X : Type 0} (schema table : List ℕ) (cells : List CellValue) (bytes : List ℕ) → IsImage cells bytes → (old new : State) (r : Result (Option Refusal) X)
+    → IfOk r (Counted old new (removed (key_of schema table bytes) (count (held_rows old.now)))) → IfOk r (Makes (delete schema table cells) old new)
+removed_if schema table cells bytes is old new (Ok o) h = makes_removed schema table cells bytes is old new o h
+removed_if schema table cells bytes is old new (Err e) h = tt
 
 -- ---- an update
 

@@ -18,7 +18,7 @@ use Rattle.store.proofs.Statements.{shown_reads, shown_same}
 use Rattle.store.proofs.Keeps.{query_survives}
 use Rattle.store.proofs.Made.{counted_none, counted_some}
 use Rattle.store.proofs.Bags.{at_row}
-use Rattle.store.proofs.Taken.{rest_same}
+use Rattle.store.proofs.Applying.{rest_same}
 
 pub rests_unchanged : (old new : State) → IsUnchanged old new → Rests old new
 rests_unchanged old new h is_open = (h.0.now_is, h.0.committed_is)

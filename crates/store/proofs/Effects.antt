@@ -1,5 +1,5 @@
 -- What each statement on one row of held makes of the counts.
-use Rattle.std.proofs.Common.{◌≡◌, ◌≢◌, ℕ, ◌+◌, ◌≤◌, ℤ, pos, List, [], ◌∷◌, map, filter, find, length, codes, ◌==◌, Option, Some, unwrap_or, Bool, true, false, cond, refl, sym, ap, ap₂, subst, ◌∙◌, arith}
+use Rattle.std.proofs.Common.{◌≡◌, ◌≢◌, ℕ, ◌+◌, ◌≤◌, ℤ, pos, List, [], ◌∷◌, map, filter, find, length, codes, ◌==◌, Option, Some, unwrap_or, true, false, cond, refl, sym, ap, ap₂, subst, ◌∙◌, arith}
 use Rattle.std.specs.List.{AllByRecursion, list_any}
 use Rattle.std.specs.List.Sorted.{IsPermutation}
 use Rattle.std.proofs.lemmas.Bool.{and_parts, not-true}
@@ -27,24 +27,16 @@ use Rattle.sqlite.specs.Effect.{IsDatabase}
 use Rattle.sqlite.specs.State.{State}
 use Rattle.sqlite.proofs.Callers.{one_permutation}
 use Rattle.store.specs.Layout.{IsLaidOut, IsFound, tree_named, meta_tree, held_tree, spans_tree, follow_tree, meta_at, held_at, spans_at, follow_at}
-use Rattle.store.specs.Take.{most}
-use Rattle.store.specs.Rows.{Key, IsStored, IsHeldRow, HasRowids, is_at, is_blob, count, with_one, without_one, held_rows, span_rows}
+use Rattle.store.specs.Changes.{most}
+use Rattle.store.specs.Rows.{Key, IsStoredImage, IsHeldRow, HasRowids, is_at, is_blob, count, with_one, without_one, held_rows, span_rows}
 use Rattle.store.specs.Inside.{IsWorking, GoesOn, HasCounts}
 use Rattle.store.specs.Beside.{LiesBeside, own_names}
 use Rattle.store.proofs.Spared.{beside_written, own_found, own_held}
 use Rattle.store.proofs.AnyWhole.{has_index}
 use Rattle.store.proofs.Statements.{Applied, cast_null, cast_int}
-use Rattle.store.proofs.RowLemmas.{counts_inserted, counts_deleted, counts_raised, counts_lowered, found_alone, rowids_put, rowids_without}
+use Rattle.store.proofs.RowLemmas.{counts_inserted, counts_deleted, counts_raised, counts_lowered, found_alone, rowids_put, rowids_without, all_filtered}
 
 -- ---- rows of the table
-pub all_filtered : (P : Row → Type 0) (p : Row → Bool) (rows : List Row) → AllByRecursion P rows → AllByRecursion P (filter p rows)
-all_filtered P p [] all = tt
-all_filtered P p (r ∷ rows) all = go (p r) (all_filtered P p rows all.1)
-  where
-    go : (b : Bool) → AllByRecursion P (filter p rows) → AllByRecursion P (cond b (r ∷ filter p rows) (filter p rows))
-    go true more = (all.0, more)
-    go false more = more
-
 pub own_bytes : (b : List ℕ) → is_blob b (Blob b) ≡ true
 own_bytes b = (bytes_eq-Decides b b).1 refl
 
@@ -157,7 +149,7 @@ module _ (old new : State) (was : IsWorking old) where
   news_inserted : (key : Key) → (edit_of old.now.trees (held_at schema) [] Chosen 0 ((Null ∷ Blob key.schema ∷ Blob key.table ∷ Blob key.image ∷ Int (pos 1) ∷ []) ∷ [])).news ≡ new_held key ∷ []
   news_inserted key = rw (cast_null, cast_int (pos 1)) refl
 
-  pub holds_inserted : (key : Key) → IsStored key.image
+  pub holds_inserted : (key : Key) → IsStoredImage key.image
       → Applied schema old new (edit_of old.now.trees (held_at schema) [] Chosen 0 ((Null ∷ Blob key.schema ∷ Blob key.table ∷ Blob key.image ∷ Int (pos 1) ∷ []) ∷ []))
       → HasCounts old new (with_one key (count (held_rows old.now)))
   holds_inserted key stored h =

@@ -10,7 +10,7 @@ use Rattle.gtid.proofs.Sets.{id_cmp_total, tied}
 use Rattle.binlog.specs.Filter.{Names}
 use Rattle.gather.specs.Transaction.{DeliveryValue}
 use Rattle.store.specs.State.{Content}
-use Rattle.store.specs.Take.{is_executed, AreDone}
+use Rattle.store.specs.Changes.{is_executed, AreDone}
 use Rattle.store.specs.Rows.{StandsFor, SaysLayout, IsMetaRow, AreNames, bag_of, count, held_rows, span_rows}
 use Rattle.store.specs.Inside.{GoesOn, Goes, DoesAll, Shows, Records}
 use Rattle.store.specs.Apply.{Fills}
@@ -39,7 +39,7 @@ module _ (old mid new : State) (names : Names) (d : DeliveryValue) (content : Co
         on,
         record {
           after = record { executed = set.insert content.executed (d.source, d.number); rows = bag_of (count (held_rows new.now)) };
-          takes = (
+          outcome = (
             out,
             subst₂ (AreDone names d.changes) (sym stands.rows) (ap (λ rows. bag_of (count rows)) (sym done.held)) does.1,
             refl,

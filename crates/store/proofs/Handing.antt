@@ -1,6 +1,5 @@
 -- Rows of held that are handed to a visitor while they are read.
-use Rattle.std.proofs.Common.{◌≡◌, inl, inr, ℕ, List, [], ◌∷◌, ◌++◌, map, Some, None, Ok, Err, Result, refl, sym, ap, subst, ◌∙◌, append-nil, append_assoc, drop, IsTrue, false}
-use Rattle.std.proofs.lemmas.Bool.{cases_Bool, false≢true}
+use Rattle.std.proofs.Common.{◌≡◌, inl, inr, ℕ, List, [], ◌∷◌, ◌++◌, map, Some, None, Ok, Err, Result, refl, sym, ap, subst, ◌∙◌, append-nil, append_assoc, drop, IsTrue}
 use Rattle.std.proofs.lemmas.List.{map-append}
 use Rattle.sqlite_trees.proofs.ListLemmas.{all-append}
 use Rattle.std.specs.List.{AllByRecursion}
@@ -22,9 +21,8 @@ use Rattle.store.specs.State.{Content}
 use Rattle.store.specs.Layout.{held_tree}
 use Rattle.store.specs.Rows.{held_rows, key_for}
 use Rattle.store.specs.Apply.{IsAtRest}
-use Rattle.store.specs.Inside.{WasOpen}
 use Rattle.store.specs.Load.{Ascends, by_order, Rested}
-use Rattle.store.specs.Listing.{Entry, AreRows, shown_entry, without_rowids, listed_text, Takes, Handed, Hands, HasTaken, KeepsListed, HoldsListed, IsListing}
+use Rattle.store.specs.Listing.{Entry, AreRows, shown_entry, without_rowids, listed_text, Accepts, Handed, Hands, HasAccepted, KeepsListed, HoldsListed, IsListing}
 use Rattle.store.specs.declared.store.Store.{Store}
 use Rattle.store.specs.Store.{Holds, IsWhole, database}
 use Rattle.store.specs.declared.listing.ListError.{ListError}
@@ -92,17 +90,17 @@ module _ {S : Type 0} (g : Ghosts S) (names : Names) (content : Content) where
 
   module _ {V E : Type 0} (gives : V → Entry → Result (Unit {0}) E → V → Type 0) (old : Held S) (rest : IsAtRest (state g old) names content) (v : V) where
     pub listing_none : HasGiven g listed_text [] old [] → IsListing g gives old old v v
-    listing_none given = record { same = self_unchanged (state g old) rest.is_open; rows = []; given = given; first = []; shown = refl; lawful = tt; taken = refl }
+    listing_none given = record { same = self_unchanged (state g old) rest.is_open; rows = []; given = given; first = []; shown = refl; lawful = tt; accepted = refl }
 
     module _ (mid : Held S) (w : V) (it : IsListing g gives old mid v w) where
       here : IsAtRest (state g mid) names content
       here = rest_unchanged (state g old) (state g mid) names content it.same rest
 
-      pub left_taken : (left : List Entry) × HasTaken gives content.rows v w left
-      left_taken =
+      pub left_accepted : (left : List Entry) × HasAccepted gives content.rows v w left
+      left_accepted =
           let all = given_entries mid here it.rows it.given in
           let c = cut it.rows it.first all.1.entries all.0 it.shown it.lawful all.1.shown all.1.images in
-          (c.left, record { first = it.first; are = subst (AreRows content.rows) c.is all.1.are; taken = it.taken })
+          (c.left, record { first = it.first; are = subst (AreRows content.rows) c.is all.1.are; accepted = it.accepted })
 
       -- reading on has failed
       pub left_rested : (new : Held S) (error : Error) → FailsToAdvance g mid new error → Rested (state g old) (state g new)
@@ -111,12 +109,12 @@ module _ {S : Type 0} (g : Ghosts S) (names : Names) (content : Content) where
           rested_after (state g old) (state g mid) (state g new) it.same
           (all_rests listed_text (held_tree mid.schema) (state g mid) (state g new) asks {X = Unit {0}} (Err error) tt (failed listed_text [] it.rows it.given))
 
-      pub all_taken : (new : Held S) → Advances g mid new None → IsUnchanged (state g mid) (state g new) → HasTaken gives content.rows v w []
-      all_taken new shown same =
+      pub all_accepted : (new : Held S) → Advances g mid new None → IsUnchanged (state g mid) (state g new) → HasAccepted gives content.rows v w []
+      all_accepted new shown same =
           let all = whole_entries (state g mid) (state g new) names content here same it.rows (shown listed_text [] it.rows it.given) in
           let c = cut it.rows it.first all.entries [] it.shown it.lawful (all.shown ∙ ap without_rowids (sym (append-nil it.rows))) all.images in
           let none : c.left ≡ [] = no_entry c.left c.shown in
-          record { first = it.first; are = subst (λ l. AreRows content.rows (it.first ++ l)) none (subst (AreRows content.rows) c.is all.are); taken = it.taken }
+          record { first = it.first; are = subst (λ l. AreRows content.rows (it.first ++ l)) none (subst (AreRows content.rows) c.is all.are); accepted = it.accepted }
         where
           no_entry : (entries : List Entry) → map shown_entry entries ≡ [] → entries ≡ []
           no_entry [] none = refl
@@ -128,11 +126,11 @@ module _ {S : Type 0} (g : Ghosts S) (names : Names) (content : Content) where
         pub left : List Entry
         pub shown : shown_entry entry ≡ drop 1 row
         pub lawful : HasImage entry.0.cells
-        pub taken : HasTaken gives content.rows v w (entry ∷ left)
-        pub more : (u : V) → Takes gives w entry u → IsListing g gives old new v u
+        pub accepted : HasAccepted gives content.rows v w (entry ∷ left)
+        pub more : (u : V) → Accepts gives w entry u → IsListing g gives old new v u
 
-      pub next_taken : (new : Held S) (row : Row) → Advances g mid new (Some row) → IsUnchanged (state g mid) (state g new) → IsNext new row
-      next_taken new row shown same =
+      pub next_accepted : (new : Held S) (row : Row) → Advances g mid new (Some row) → IsUnchanged (state g mid) (state g new) → IsNext new row
+      next_accepted new row shown same =
           let given = shown listed_text [] it.rows it.given in
           let all = given_entries new (rest_unchanged (state g mid) (state g new) names content same here) (it.rows ++ row ∷ []) given in
           let c = cut it.rows it.first all.1.entries (row ∷ all.0) it.shown it.lawful (all.1.shown ∙ ap without_rowids (append_assoc it.rows (row ∷ []) all.0)) all.1.images in
@@ -146,15 +144,15 @@ module _ {S : Type 0} (g : Ghosts S) (names : Names) (content : Content) where
             left = left;
             shown = Prim.cc;
             lawful = lawful.0;
-            taken = record { first = it.first; are = are; taken = it.taken };
-            more = λ u takes. record {
+            accepted = record { first = it.first; are = are; accepted = it.accepted };
+            more = λ u accepts. record {
               same = unchanged_then (state g old) (state g mid) (state g new) it.same same;
               rows = it.rows ++ row ∷ [];
               given = given;
               first = it.first ++ e ∷ [];
               shown = joined it.rows it.first row e it.shown (Prim.cc);
               lawful = all-append (λ (x : Entry). HasImage x.0.cells) it.first (e ∷ []) it.lawful (lawful.0, tt);
-              taken = FoldsTo-push (Takes gives) v it.first w e u it.taken takes;
+              accepted = FoldsTo-push (Accepts gives) v it.first w e u it.accepted accepts;
             };
           }
 
@@ -164,8 +162,8 @@ module _ {S : Type 0} (g : Ghosts S) (names : Names) (content : Content) where
       -- The visitor or an allocation has ended the list at the next row.
       pub stopped : (new : Held S) (row : Row) → IsUnchanged (state g mid) (state g new) → (next : IsNext new row) (u : V) (error : ListError E) → Handed gives next.entry w u (Err error)
           → Hands gives content.rows v u (Err error) × KeepsListed {E = E} (state g old) (state g new) (Err error)
-      stopped new row same next u (VisitorError e) handed = ((w, next.entry, next.left, next.taken, handed), next_same new same)
-      stopped new row same next u (StoreError Memory) handed = (inr (next.entry ∷ next.left, subst (λ x. HasTaken gives content.rows v x (next.entry ∷ next.left)) (sym handed) next.taken), next_same new same)
+      stopped new row same next u (VisitorError e) handed = ((w, next.entry, next.left, next.accepted, handed), next_same new same)
+      stopped new row same next u (StoreError Memory) handed = (inr (next.entry ∷ next.left, subst (λ x. HasAccepted gives content.rows v x (next.entry ∷ next.left)) (sym handed) next.accepted), next_same new same)
       stopped new row same next u _ handed = absurd handed
 
 -- ---- The query before its first row.
@@ -188,12 +186,6 @@ kept_now old new _ kept settled is_open = absurd kept
 pub begun_open : {S : Type 0} (g : Ghosts S) (sql : List ℕ) (old mid : Held S) → HasBegun g sql [] old mid → IsTrue (state g old).is_open
 begun_open g sql old mid (inl begun) = begun.1.0.was_open
 begun_open g sql old mid (inr made) = open_shown sql [] (state g old) (state g mid) _ made.1
-
-pub still_shut : (old new : State) → WasOpen old new → old.is_open ≡ false → new.is_open ≡ false
-still_shut old new was shut = elim (cases_Bool new.is_open) [
-  | inl is_open ↦ absurd (false≢true (sym shut ∙ was is_open))
-  | inr closed ↦ closed
-]
 
 -- ---- The store.
 

@@ -4,7 +4,7 @@ use Rattle.std.proofs.lemmas.Bool.{cases_Bool}
 use Rattle.sqlite_value.specs.Order.{Row}
 use Rattle.sqlite_resolve.specs.declared.compiled.Compiled.{Compiled}
 use Rattle.sqlite.specs.declared.error.Error.{Error}
-use Rattle.sqlite.specs.State.{State, Survives, KeepsCommit, HasCleanDisk, IsUnchanged, IsRolledBack, IsNotRun, FailsToQuery, FailsToShow, IsTooLate, Shown, ShowsRows, ExecutesInside, ExecutesIn, CommitsShowing}
+use Rattle.sqlite.specs.State.{State, Survives, KeepsCommit, HasCleanDisk, IsUnchanged, IsRolledBack, IsNotRun, FailsToQuery, FailsToShow, IsTooLate, Shown, ShowsRows, ExecutesInside, CommitsShowing}
 use Rattle.sqlite_trees.specs.declared.store.Store.{Ghosts}
 use Rattle.sqlite.specs.Held.{Held, state}
 use Rattle.sqlite.specs.Listing.{understood}
@@ -43,10 +43,6 @@ pub kept_executed : (held : ℕ) (sql : List ℕ) (params : Row) (old new : Stat
 kept_executed held sql params old new (Ok count) h = record { was_open = λ _. h.1.was_open; committed = λ _. h.1.committed_is }
 kept_executed held sql params old new (Err e) (inl h) = elim h.1 [ inl same ↦ kept_unchanged old new same | inr undone ↦ kept_rolled old new undone ]
 kept_executed held sql params old new (Err e) (inr h) = kept_unchanged old new h.2
-
--- a call that succeeded inside ran its text
-pub ran : (held : ℕ) (sql : List ℕ) (params : Row) (old new : State) (count : ℕ) → ExecutesInside held sql params old new (Ok count) → ExecutesIn false sql params old new (Ok count)
-ran held sql params old new count h = h.0
 
 -- ---- one call after another
 pub kept_then : (a b c : State) → KeepsCommit a b → KeepsCommit b c → KeepsCommit a c

@@ -1,5 +1,5 @@
 -- Which tables a known schema has, and one reading after another.
-use Rattle.std.proofs.Common.{◌≡◌, ℤ, pos, Bool, true, false, is_some, not, MatchBool, Some, List, ◌||◌, ◌&&◌, Result, Ok, Err, IfOk, IfErr, arith, refl, sym, ap, subst, ◌∙◌}
+use Rattle.std.proofs.Common.{◌≡◌, ℤ, pos, Bool, true, false, is_some, not, MatchBool, Some, List, ◌||◌, ◌&&◌, arith, refl, sym, ap, subst, ◌∙◌}
 use Rattle.std.proofs.lemmas.Bool.{false≢true, true≢false, and_parts, not-false, not-true}
 use Rattle.sqlite_trees.specs.Tree.{Trees}
 use Rattle.sqlite_schema.specs.declared.schema.Schema.{Schema}
@@ -103,14 +103,6 @@ pub none_then : (only : Names) (old mid new : State) → Survives old mid (λ _.
 none_then only old mid new one lives may =
     let two : Survives mid new (λ _. ⊥) = narrowed mid new (λ _. ⊥) (λ _. Unit {0}) lives (λ clean. may (omega (arith, lives.clean, clean))) in
     survives_then old mid new (λ _. ⊥) (λ _. ⊥) (MayEnter only old) (λ _ db none. absurd none) (λ _ db none. absurd none) one two
-
-pub ok_weaker : {T E : Type 0} {P Q : T → Type 0} (r : Result T E) → ((x : T) → P x → Q x) → IfOk r P → IfOk r Q
-ok_weaker (Ok x) f h = f x h
-ok_weaker (Err e) f h = h
-
-pub err_weaker : {T E : Type 0} {P Q : E → Type 0} (r : Result T E) → ((e : E) → P e → Q e) → IfErr r P → IfErr r Q
-err_weaker (Ok x) f h = h
-err_weaker (Err e) f h = f e h
 
 -- a database of this layout that was read, and is ready as before
 pub record IsFound (mid : State) (layout : KnownLayout) : Type 0 where

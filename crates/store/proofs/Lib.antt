@@ -21,7 +21,7 @@ pub mod SpanRecord
 pub mod Filled
 pub mod Ran
 pub mod Keeps
-pub mod Taken
+pub mod Applying
 pub mod Counted
 pub mod Making
 pub mod Filling

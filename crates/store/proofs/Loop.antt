@@ -1,17 +1,15 @@
 -- The loop over the changes.
-use Rattle.std.proofs.Common.{◌≡◌, ◌+◌, ◌<◌, ℕ, List, [], ◌∷◌, ◌++◌, take, get_or, length, slice_get, Some, None, refl, sym, ap, subst, ◌∙◌, add-one}
+use Rattle.std.proofs.Common.{◌≡◌, ◌+◌, ◌<◌, ℕ, List, [], ◌∷◌, ◌++◌, take, get_or, length, None, refl, sym, ap, subst, ◌∙◌, add-one}
 use Rattle.std.proofs.Math.Seq.{take-suc}
 use Rattle.std.proofs.Math.ListN.{get_or-map}
 use Rattle.std.proofs.lemmas.List.{length-map}
-use Rattle.std.proofs.lemmas.Option.{slice_get-get_or}
 use Rattle.sqlite.specs.State.{State}
 use Rattle.binlog.specs.Filter.{Names}
 use Rattle.gather.specs.Transaction.{ChangeValue}
 use Rattle.gather.specs.View.{change_value, change_values}
 use Rattle.gather.specs.declared.transaction.Change.{Change}
-use Rattle.store.specs.declared.row_change.Refusal.{Refusal}
 use Rattle.store.specs.State.{Bag}
-use Rattle.store.specs.Take.{IsDone, AreDone}
+use Rattle.store.specs.Changes.{IsDone, AreDone}
 use Rattle.store.specs.Rows.{bag_of, count, held_rows}
 use Rattle.store.specs.Inside.{Does, DoesAll}
 use Rattle.store.proofs.Bags.{goes_after}
@@ -30,9 +28,6 @@ module _ (changes : List Change) (at : ℕ) (change : Change) (low : at < length
   one_more : take (at + 1) (change_values changes) ≡ take at (change_values changes) ++ change_value change ∷ []
   one_more = rw add-one (take-suc (change_values changes) at (change_value change) within ∙ ap (λ v. take at (change_values changes) ++ v ∷ []) (sym value_is))
 
-  there : slice_get (change_values changes) at ≡ Some (change_value change)
-  there = slice_get-get_or (change_values changes) at (change_value change) within ∙ ap Some (sym value_is)
-
   module _ (names : Names) (old mid new : State) (way : DoesAll names (take at (change_values changes)) old mid None) where
     pub goes_under_way : Does names (change_value change) mid new None → DoesAll names (take (at + 1) (change_values changes)) old new None
     goes_under_way one = (
@@ -40,13 +35,3 @@ module _ (changes : List Change) (at : ℕ) (change : Change) (low : at < length
       subst (λ cs. AreDone names cs (bag_of (count (held_rows old.now))) (bag_of (count (held_rows new.now)))) (sym one_more)
           (done_last names (take at (change_values changes)) (change_value change) (bag_of (count (held_rows old.now))) (bag_of (count (held_rows mid.now))) (bag_of (count (held_rows new.now))) way.1 one.1),
     )
-
-    pub stops : (why : Refusal) → Does names (change_value change) mid new (Some why) → DoesAll names (change_values changes) old new (Some (at, why))
-    stops why one = record {
-      change = change_value change;
-      mid = bag_of (count (held_rows mid.now));
-      there = there;
-      before = way.1;
-      followed = one.0;
-      refused = one.1;
-    }

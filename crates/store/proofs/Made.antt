@@ -9,9 +9,9 @@ use Rattle.sqlite.specs.State.{State, IsUnchanged}
 use Rattle.store.specs.declared.row_change.Refusal.TheVariants.{NoSuchRow, CountFull}
 use Rattle.store.specs.Layout.{IsLaidOut}
 use Rattle.store.specs.Beside.{LiesBeside}
-use Rattle.store.specs.Take.{most}
-use Rattle.store.specs.Rows.{Key, IsHeldRow, HasRowids, Finds, meta_rows, held_rows, span_rows, follow_rows, count, Counts, with_one, without_one}
-use Rattle.store.specs.Inside.{IsWorking, GoesOn, HasCounts, added, taken, Counted}
+use Rattle.store.specs.Changes.{most}
+use Rattle.store.specs.Rows.{Key, IsHeldRow, HasRowids, Finds, meta_rows, held_rows, span_rows, follow_rows, count, KeyCounts, with_one, without_one}
+use Rattle.store.specs.Inside.{IsWorking, GoesOn, HasCounts, added, removed, Counted}
 use Rattle.store.proofs.RowLemmas.{count_found, count_none}
 
 pub working_same : (old mid : State) → IsUnchanged old mid → IsWorking old → IsWorking mid
@@ -35,7 +35,7 @@ goes_since old mid new h next = record {
   follow = next.follow ∙ ap follow_rows h.0.now_is;
 }
 
-pub holds_since : (old mid new : State) (counts : Counts) → IsUnchanged old mid → HasCounts mid new counts → HasCounts old new counts
+pub holds_since : (old mid new : State) (counts : KeyCounts) → IsUnchanged old mid → HasCounts mid new counts → HasCounts old new counts
 holds_since old mid new counts h next = record {
   on = goes_since old mid new h next.on;
   spans = next.spans ∙ ap span_rows h.0.now_is;
@@ -61,8 +61,8 @@ module _ (old mid new : State) (key : Key) (same : IsUnchanged old mid) where
       let test : nat_lt (count (held_rows old.now) key) most ≡ true = rw is (lt-ltb n most low) in
       rw test (holds_since old mid new _ same (subst (λ b. HasCounts mid new (with_one key b)) counts_same h))
 
-  pub counted_taken : (n : ℕ) → count (held_rows old.now) key ≡ n → 0 < n → HasCounts mid new (without_one key (count (held_rows mid.now))) → Counted old new (taken key (count (held_rows old.now))) None
-  counted_taken n is low h =
+  pub counted_removed : (n : ℕ) → count (held_rows old.now) key ≡ n → 0 < n → HasCounts mid new (without_one key (count (held_rows mid.now))) → Counted old new (removed key (count (held_rows old.now))) None
+  counted_removed n is low h =
       let test : nat_lt 0 (count (held_rows old.now) key) ≡ true = rw is (lt-ltb 0 n low) in
       rw test (holds_since old mid new _ same (subst (λ b. HasCounts mid new (without_one key b)) counts_same h))
 
@@ -70,7 +70,7 @@ pub counted_full : (old new : State) (key : Key) (n : ℕ) → count (held_rows 
 counted_full old new key n is high =
     let test : nat_lt (count (held_rows old.now) key) most ≡ false = rw is (grind (arith, nat_tests)) in rw test refl
 
-pub counted_missing : (old new : State) (key : Key) → count (held_rows old.now) key ≡ 0 → Counted old new (taken key (count (held_rows old.now))) (Some NoSuchRow)
+pub counted_missing : (old new : State) (key : Key) → count (held_rows old.now) key ≡ 0 → Counted old new (removed key (count (held_rows old.now))) (Some NoSuchRow)
 counted_missing old new key is = let test : nat_lt 0 (count (held_rows old.now) key) ≡ false = rw is refl in rw test refl
 
 -- ---- one call after another

@@ -4,7 +4,7 @@ use Rattle.std.specs.List.{AllByRecursion}
 use Rattle.std.specs.Prelude.{MatchBool}
 use Rattle.std.specs.List.Sorted.{IsPermutation}
 use Rattle.std.specs.Ordering.{is_eq}
-use Rattle.std.proofs.lemmas.Bool.{cases_Bool}
+use Rattle.std.proofs.lemmas.Bool.{cases_Bool, or_cases}
 use Rattle.std.proofs.lemmas.Map.Text.{is_eq-slice_cmp}
 use Rattle.sqlite_trees.proofs.ListLemmas.{IsPermutation-filter}
 use Rattle.sqlite_trees.proofs.TreeLemmas.{all-put_row}
@@ -51,11 +51,10 @@ use Rattle.store.proofs.Left.{cut, not_acted, meta_left, held_left, meta_off, he
 use Rattle.store.proofs.MigratingTexts.{raise_is, raise_plain}
 use Rattle.store.proofs.Making.{creates, still_made, still_empty, made_trees}
 use Rattle.store.proofs.Selects.{shown_bool, and_true}
-use Rattle.store.proofs.SpanLists.{or_cases}
 use Rattle.store.proofs.Spared.{beside_unchanged, own_found, own_executed, own_meta, own_spans, own_follow}
 use Rattle.store.proofs.Statements.{changes, on_table, went, same_value, cast_int}
-use Rattle.store.proofs.RowLemmas.{put_among, rowids_put, rowids_without, left_is, equal_is}
-use Rattle.store.proofs.Effects.{all_filtered, fresh_alone, own_id, same_rows, stays, still_beside, meta_held, meta_spans, follow_meta}
+use Rattle.store.proofs.RowLemmas.{put_among, rowids_put, rowids_without, left_is, equal_is, all_filtered}
+use Rattle.store.proofs.Effects.{fresh_alone, own_id, same_rows, stays, still_beside, meta_held, meta_spans, follow_meta}
 
 -- meta and held stay
 moves_on : (A B : State → Type 0) (layout : ℤ) (content : Content) (old new : State) → IsMigrating A layout content old → IsTrue new.is_open × (new.in_transaction ≡ true) × IsDatabase new.now × LiesBeside new.committed new.now → B new

@@ -3,7 +3,7 @@ use Rattle.std.proofs.Common.{◌≡◌, ◌<◌, ◌≤◌, ◌-◌, ◌^◌, i
 use Rattle.std.specs.List.{AllByRecursion, IsDistinct, list_any}
 use Rattle.std.specs.List.Sorted.{IsPermutation}
 use Rattle.std.specs.FinSet as set
-use Rattle.std.proofs.lemmas.Bool.{false≢true, cases_Bool, le-leb, lt-ltb}
+use Rattle.std.proofs.lemmas.Bool.{false≢true, cases_Bool, le-leb, lt-ltb, or_right}
 use Rattle.std.specs.Ordering.{eq_by_cmp}
 use Rattle.std.proofs.lemmas.List.Folds.{list_any-append}
 use Rattle.std.proofs.lemmas.Bool.Decides.{nat_tests}
@@ -20,7 +20,7 @@ use Rattle.sqlite_rules.specs.Edit.{id_in}
 use Rattle.sqlite_rules.proofs.TableLemmas.{int_is}
 use Rattle.sqlite.specs.Effect.{Database, IsDatabase}
 use Rattle.gtid.specs.Identifier.{Id, Ids, IsSource, IsGtid, id_cmp}
-use Rattle.gtid.specs.Span.{is_in, Covers, IsLawfulSpan}
+use Rattle.gtid.specs.Span.{is_in, Covers}
 use Rattle.gtid.specs.declared.span.Span.{Span}
 use Rattle.gtid.proofs.Sets.{id_cmp_total, id_cmp-same, tied}
 use Rattle.binlog.specs.Filter.{Names}
@@ -32,7 +32,7 @@ use Rattle.store.proofs.AnyWhole.{has_index}
 use Rattle.store.proofs.Known.{meta_there, none_meta, none_any, known_first, known_second}
 use Rattle.store.proofs.Readings.{row_lengths}
 use Rattle.store.proofs.SpanRows
-use Rattle.store.proofs.SpanRows.{flips}
+use Rattle.store.proofs.SpanRows.{flips, some_spans}
 use Rattle.store.proofs.SortedSpans.{all_some, all_distinct}
 
 -- ---- One number under the key `layout`.
@@ -112,10 +112,6 @@ IsShown shown = (s : Span) × (shown ≡ stored_span s) × IsSource s.source × 
 
 in_itself : (s : Span) (n : ℕ) → s.lo ≤ n → n < s.hi → is_in (s.source, n) s ≡ true
 in_itself s n low high = rw ((bytes_eq-Decides s.source s.source).1 refl, le-leb s.lo n low, lt-ltb n s.hi high) refl
-
-or_right : (a b : Bool) → b ≡ true → (a || b) ≡ true
-or_right true b h = refl
-or_right false b h = h
 
 lawful_shown : (spans : List Span) → ((q : Id) → list_any (is_in q) spans ≡ true → IsGtid q) → AllByRecursion (λ s. s.lo < s.hi) spans → AllByRecursion IsShown (map stored_span spans)
 lawful_shown [] gtids some = tt
@@ -234,10 +230,6 @@ in_runs q (s ∷ spans) some =
 covered : (spans : List Span) → AllByRecursion (λ s. s.lo < s.hi) spans → Covers spans (set.from_list (runs spans))
 covered spans some q = set.contains-from_list id_cmp_total (runs spans) q ∙ in_runs q spans some
 
-some_lawful : (spans : List Span) → AllByRecursion IsLawfulSpan spans → AllByRecursion (λ s. s.lo < s.hi) spans
-some_lawful [] all = tt
-some_lawful (s ∷ spans) all = (all.0.1, some_lawful spans all.1)
-
 pub some_state : (db : Database) → IsKnown db → has_any (tables_of db.schema) ≡ true → ((n : Names) (a : Content) → ¬ IsStored n db a) → ¬ IsDamaged db → ((k : ℤ) → ¬ IsOther db k) → ⊥
 some_state db known any none sound alike = elim (cases_Bool (tables_of db.schema).meta) [
   | inl there ↦ sound (no_layout there (λ n says. one_of_all there n says))
@@ -260,7 +252,7 @@ some_state db known any none sound alike = elim (cases_Bool (tables_of db.schema
       | inl all ↦ (
           let laid = known_second db known says all in
           sound (breaks_second there says (λ rules.
-          let some = some_lawful (map span_in (span_rows db)) (SpanRows.lawful_rows (span_rows db) rules.spans) in
+          let some = some_spans (map span_in (span_rows db)) (SpanRows.lawful_rows (span_rows db) rules.spans) in
           let ids = set.from_list {R = id_cmp} (runs (map span_in (span_rows db))) in
           none (set.from_list (map name_in (follow_rows db))) (record { executed = ids; rows = bag_of (count (held_rows db)) }) (inl (record {
             laid_out = laid;

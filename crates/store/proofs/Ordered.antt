@@ -9,6 +9,7 @@ use Rattle.std.specs.declared.cmp.Ordering.TheVariants.{Less, Equal, Greater}
 use Rattle.std.proofs.lemmas.Bool.{cases_Bool, false≢true, true≢false, not-false}
 use Rattle.std.proofs.lemmas.Map.Keys.{IsDistinct-IsPermutation}
 use Rattle.std.proofs.lemmas.Map.Text.{is_eq-slice_cmp}
+use Rattle.binlog.proofs.Admitted.{bytes_eq-sym}
 use Rattle.sqlite_value.specs.declared.value.Value.{Value}
 use Rattle.sqlite_value.specs.declared.value.Value.TheVariants.{Int, Blob}
 use Rattle.sqlite_value.specs.declared.keys.Collation.TheVariants.{Binary}
@@ -31,7 +32,6 @@ use Rattle.store.specs.Load.{Ascends, by_order}
 use Rattle.store.proofs.AnyWhole.{has_index}
 use Rattle.store.proofs.Keyed.{key_total}
 use Rattle.store.proofs.Selects.{shown_bool, and_true, equals_blob}
-use Rattle.store.proofs.SpanRows.{bytes_flip}
 
 -- ---- Keys of rows.
 
@@ -42,17 +42,17 @@ abbrev pub same_keys : Row → Row → Bool
 same_keys a b = same_key (row_key a) (row_key b)
 
 keys_flip : (a b : Row) → same_keys a b ≡ same_keys b a
-keys_flip a b = rw (bytes_flip (blob_in (column a 1)) (blob_in (column b 1)), bytes_flip (blob_in (column a 2)) (blob_in (column b 2)), bytes_flip (blob_in (column a 3)) (blob_in (column b 3))) refl
+keys_flip a b = rw (bytes_eq-sym (blob_in (column a 1)) (blob_in (column b 1)), bytes_eq-sym (blob_in (column a 2)) (blob_in (column b 2)), bytes_eq-sym (blob_in (column a 3)) (blob_in (column b 3))) refl
 
--- the places of the key
-abbrev places : List ℕ
-places = 1 ∷ 2 ∷ 3 ∷ []
+-- the numbers of the columns of the key
+abbrev key_columns : List ℕ
+key_columns = 1 ∷ 2 ∷ 3 ∷ []
 
 -- two rows of held agree in the key as their bytes do
-agrees : (a b : Row) (x y : Key) (i j m n : Value) → a ≡ i ∷ Blob x.schema ∷ Blob x.table ∷ Blob x.image ∷ m ∷ [] → b ≡ j ∷ Blob y.schema ∷ Blob y.table ∷ Blob y.image ∷ n ∷ [] → agree plain places a places b ≡ same_keys a b
+agrees : (a b : Row) (x y : Key) (i j m n : Value) → a ≡ i ∷ Blob x.schema ∷ Blob x.table ∷ Blob x.image ∷ m ∷ [] → b ≡ j ∷ Blob y.schema ∷ Blob y.table ∷ Blob y.image ∷ n ∷ [] → agree plain key_columns a key_columns b ≡ same_keys a b
 unfolding first_key
 agrees a b x y i j m n p q =
-    subst₂ (λ r s. agree plain places r places s ≡ same_keys r s) (sym p) (sym q)
+    subst₂ (λ r s. agree plain key_columns r key_columns s ≡ same_keys r s) (sym p) (sym q)
     (rw (equals_blob (Blob x.schema) y.schema, equals_blob (Blob x.table) y.table, equals_blob (Blob x.image) y.image) (ap (λ c. bytes_eq x.schema y.schema && (bytes_eq x.table y.table && c)) (and_true (bytes_eq x.image y.image))))
 
 unlike : (o : Ordering) → is_ne o ≡ not (is_eq o)
@@ -69,10 +69,10 @@ split true c h is = h
 split false c h is = absurd (false≢true is)
 
 -- another row with the same key would have the same rowid
-one_pair : (a b : Row) → IsHeldRow a → IsHeldRow b → alike a b ≡ false → (agree plain places a places b && differ (rowid a) (rowid b)) ≡ false → same_keys a b ≡ false
+one_pair : (a b : Row) → IsHeldRow a → IsHeldRow b → alike a b ≡ false → (agree plain key_columns a key_columns b && differ (rowid a) (rowid b)) ≡ false → same_keys a b ≡ false
 one_pair a b p q apart clash = elim (cases_Bool (same_keys a b)) [
   | inl same ↦ (
-      let agreed : agree plain places a places b ≡ true = agrees a b p.1 q.1 (Int p.0) (Int q.0) (Int (pos p.2)) (Int (pos q.2)) p.3 q.3 ∙ same in
+      let agreed : agree plain key_columns a key_columns b ≡ true = agrees a b p.1 q.1 (Int p.0) (Int q.0) (Int (pos p.2)) (Int (pos q.2)) p.3 q.3 ∙ same in
       let ids : differ (Int p.0) (Int q.0) ≡ false = subst₂ (λ (r : Row) (s : Row). differ (rowid r) (rowid s) ≡ false) p.3 q.3 (split _ _ clash agreed) in
       let like : is_eq (value_cmp (Int p.0) (Int q.0)) ≡ true = not-false _ (sym (differs p.0 q.0) ∙ ids) in
       absurd (false≢true (sym apart ∙ ap₂ (λ (r : Row) (s : Row). alike r s) p.3 q.3 ∙ like)))
@@ -88,7 +88,7 @@ none_true f (r ∷ rows) h = let both = off (f r) (list_any f rows) h in (both.0
     off false c h = (refl, h)
 
 abbrev Clashless : Row → Row → Type 0
-Clashless b a = (agree plain places a places b && differ (rowid a) (rowid b)) ≡ false
+Clashless b a = (agree plain key_columns a key_columns b && differ (rowid a) (rowid b)) ≡ false
 
 later_ones : (r : Row) (rows others : List Row) → AllByRecursion (λ b. AllByRecursion (Clashless b) (r ∷ rows)) others → AllByRecursion (λ b. AllByRecursion (Clashless b) rows) others
 later_ones r rows [] h = tt
@@ -103,11 +103,11 @@ unfolding IsDistinct
 keys_apart [] held apart h = tt
 keys_apart (r ∷ rows) held apart h = (from_first r rows rows held.0 held.1 apart.0 h.1, keys_apart rows held.1 apart.1 (later_ones r rows rows h.1))
 
-clashless : (all rows : List Row) → AllByRecursion (λ b. clashes plain places all b ≡ false) rows → AllByRecursion (λ b. AllByRecursion (Clashless b) all) rows
+clashless : (all rows : List Row) → AllByRecursion (λ b. clashes plain key_columns all b ≡ false) rows → AllByRecursion (λ b. AllByRecursion (Clashless b) all) rows
 clashless all [] h = tt
-clashless all (b ∷ rows) h = (none_true (λ a. agree plain places a places b && differ (rowid a) (rowid b)) all h.0, clashless all rows h.1)
+clashless all (b ∷ rows) h = (none_true (λ a. agree plain key_columns a key_columns b && differ (rowid a) (rowid b)) all h.0, clashless all rows h.1)
 
-pub distinct_keys : (held rows : List Row) → IsPermutation held rows → AllByRecursion IsHeldRow held → HasRowids held → AllByRecursion (λ b. clashes plain places held b ≡ false) held → IsDistinct same_keys rows
+pub distinct_keys : (held rows : List Row) → IsPermutation held rows → AllByRecursion IsHeldRow held → HasRowids held → AllByRecursion (λ b. clashes plain key_columns held b ≡ false) held → IsDistinct same_keys rows
 distinct_keys held rows same lawful rowids h = IsDistinct-IsPermutation same_keys keys_flip held rows same (keys_apart held lawful rowids.apart (clashless held held h))
 
 -- ---- The order of the query is that of the keys.
@@ -164,9 +164,9 @@ all_by_has : (P : Row → Type 0) (rows : List Row) → ((r : Row) → Has rows 
 all_by_has P [] h = tt
 all_by_has P (r ∷ rows) h = (h r (inl refl), all_by_has P rows (λ x there. h x (inr there)))
 
-pub unique_keys : (db : Database) → IsLaidOut db.schema → IsDatabase db → AllByRecursion (λ b. clashes plain places (held_rows db) b ≡ false) (held_rows db)
-unique_keys db l sound = all_by_has (λ b. clashes plain places (held_rows db) b ≡ false) (held_rows db)
-    (λ r there. keys_are_unique db.schema db.trees (held_at db.schema) 0 places r sound (has_index db.schema.tables l.held.at (held_at db.schema) l.held.found.by_index) refl there)
+pub unique_keys : (db : Database) → IsLaidOut db.schema → IsDatabase db → AllByRecursion (λ b. clashes plain key_columns (held_rows db) b ≡ false) (held_rows db)
+unique_keys db l sound = all_by_has (λ b. clashes plain key_columns (held_rows db) b ≡ false) (held_rows db)
+    (λ r there. keys_are_unique db.schema db.trees (held_at db.schema) 0 key_columns r sound (has_index db.schema.tables l.held.at (held_at db.schema) l.held.found.by_index) refl there)
 
 pub listed_rise : {X E : Type 0} (items : X → List Row) (r : Result X E) (db : Database) → IsLaidOut db.schema → AllByRecursion IsHeldRow (held_rows db) → HasRowids (held_rows db) → IsDatabase db
     → IfOk r (λ x. IsPermutation (held_rows db) (items x)) → IfOk r (λ x. Ascends (by_order key_order) (items x)) → IfOk r (λ x. KeysRise None (items x))

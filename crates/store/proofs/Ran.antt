@@ -8,6 +8,8 @@ use Rattle.sqlite.specs.Effect.{Database, IsDatabase}
 use Rattle.sqlite.specs.State.{State, HasCleanDisk, Survives, KeepsCommit, IsRolledBack, Shows}
 use Rattle.sqlite.specs.Steps.{FailsToCommit}
 use Rattle.sqlite.specs.Held.{Held, state}
+use Rattle.sqlite.proofs.Callers.{survives_begin}
+use Rattle.sqlite.proofs.StateLemmas.{survives_then}
 use Rattle.binlog.specs.Filter.{Names}
 use Rattle.gather.specs.Transaction.{DeliveryValue}
 use Rattle.store.specs.declared.row_change.Refusal.{Refusal}
@@ -16,7 +18,7 @@ use Rattle.store.specs.Rows.{StandsFor, HasRowids, held_rows, span_rows}
 use Rattle.store.specs.Inside.{IsWorking, GoesOn}
 use Rattle.store.proofs.Spared.{beside_unchanged}
 use Rattle.store.specs.Beside.{LiesBeside}
-use Rattle.store.specs.Apply.{IsApplied, IsTaken, IsAtRest, Rests, HasApplied, Runs, MayCommit}
+use Rattle.store.specs.Apply.{IsApplied, IsAppliedAlone, IsAtRest, Rests, IsAtRestAfter, Runs, MayCommit}
 
 pub begun_working : {S : Type 0} (g : store.Ghosts S) (h : Held S) (names : Names) (content : Content) → IsAtRest (state g h) names content → IsWorking (state g (record h { in_transaction = true }))
 begun_working g h names content rest = record {
@@ -43,6 +45,11 @@ pub rolled : {S : Type 0} (g : store.Ghosts S) (h : Held S) (m n : State) → (s
     → HasCleanDisk n → Rests (state g h) n
 rolled g h m n settled kept survives undone late = rests_rolled (state g (record h { in_transaction = true })) m n settled (kept (omega (arith, survives.clean, late))) (undone late)
 
+pub survives_rolled : {S : Type 0} (g : store.Ghosts S) (h : Held S) (m n : State) (may : Trees → Type 0) → Survives (state g (record h { in_transaction = true })) m (λ _. ⊥) → Survives m n (λ _. ⊥)
+    → Survives (state g h) n may
+survives_rolled g h m n may inside undone =
+    survives_begin g h n may (survives_then (state g (record h { in_transaction = true })) m n (λ _. ⊥) (λ _. ⊥) may (λ _ db none. absurd none) (λ _ db none. absurd none) inside undone)
+
 pub rests_failed : (t m n : State) (e : Error) → t.now ≡ t.committed → KeepsCommit t m → m.in_transaction ≡ true → FailsToCommit m n e → Rests t n
 rests_failed t m n e settled kept inside (inl fails) = rests_rolled t m n settled kept fails.3
 rests_failed t m n e settled kept inside (inr late) = absurd (let no = late.1 in cc)
@@ -52,13 +59,13 @@ module _ (names : Names) (content : Content) (d : DeliveryValue) where
   runs_err a n (Ok o) is rests = absurd (cc)
   runs_err a n (Err e) is rests = rests
 
-  -- ---- taken
+  -- ---- applied
 
-  pub has_taken : (t m n : State) → GoesOn t m × IsApplied names content d m.now.schema m.now.trees → Shows m n m.now m.now false → t.now ≡ t.committed → HasApplied names content d n × (n.now.schema ≡ t.now.schema) × LiesBeside t.now n.now
+  pub has_taken : (t m n : State) → GoesOn t m × IsApplied names content d m.now.schema m.now.trees → Shows m n m.now m.now false → t.now ≡ t.committed → IsAtRestAfter names content d n × (n.now.schema ≡ t.now.schema) × LiesBeside t.now n.now
   has_taken t m n it h settled = (
     record {
       after = it.1.after;
-      takes = it.1.takes;
+      outcome = it.1.outcome;
       rest = record {
         is_open = h.is_open;
         settled = h.now_is ∙ sym h.committed_is;
@@ -74,12 +81,12 @@ module _ (names : Names) (content : Content) (d : DeliveryValue) where
 
   -- ---- what a crash leaves
 
-  pub leaves : (t m : State) → GoesOn t m × IsApplied names content d m.now.schema m.now.trees → (db : Trees) → db ≡ m.now.trees → t.now ≡ t.committed → IsTaken names content d t db
+  pub leaves : (t m : State) → GoesOn t m × IsApplied names content d m.now.schema m.now.trees → (db : Trees) → db ≡ m.now.trees → t.now ≡ t.committed → IsAppliedAlone names content d t db
   leaves t m it db is settled = (
     subst₂ (λ s trees. IsApplied names content d s trees) it.0.schema (sym is) it.1,
     subst₂ (λ s trees. LiesBeside t.now (record { schema = s; trees = trees })) it.0.schema (sym is) (subst (λ c. LiesBeside c m.now) (it.0.committed ∙ sym settled) it.0.working.beside),
   )
 
-  pub may_commit_err : {E : Type 0} (a : State) (r : Result (Option (ℕ × Refusal)) E) (db : Trees) → IsErr r → IsTaken names content d a db → MayCommit names content d a r db
-  may_commit_err a (Ok o) db is taken = absurd (cc)
-  may_commit_err a (Err e) db is taken = taken
+  pub may_commit_err : {E : Type 0} (a : State) (r : Result (Option (ℕ × Refusal)) E) (db : Trees) → IsErr r → IsAppliedAlone names content d a db → MayCommit names content d a r db
+  may_commit_err a (Ok o) db is applied = absurd (cc)
+  may_commit_err a (Err e) db is applied = applied

@@ -34,6 +34,7 @@ use Rattle.store.specs.Load.{AsksAll, IsFilled, columns_from, whole, Rested, Asc
 use Rattle.store.specs.Apply.{Rests}
 use Rattle.store.proofs.Statements.{unchanged}
 use Rattle.store.proofs.Keeps.{kept_query}
+use Rattle.store.proofs.Selects.{map_twice}
 
 -- ---- How long rows are.
 
@@ -82,10 +83,6 @@ all_shown params n [] all = refl
 all_shown params n (row ∷ rows) all = rw (all_shown params n rows all.1) (ap (λ r. r ∷ rows) (ap (λ k. eval_all (columns_from 0 k) (params ∷ row ∷ [])) (sym all.0) ∙ shown_whole params row))
 
 -- ---- What a query answers.
-
-map_twice : {A B C : Type 0} (f : A → B) (g : B → C) (xs : List A) → map g (map f xs) ≡ map (λ x. g (f x)) xs
-map_twice f g [] = refl
-map_twice f g (x ∷ xs) = ap (λ l. g (f x) ∷ l) (map_twice f g xs)
 
 each_matched : (params : Row) (rows : List Row) → flat_map (λ r. (params ∷ r ∷ []) ∷ []) rows ≡ map (λ r. params ∷ r ∷ []) rows
 each_matched params [] = refl

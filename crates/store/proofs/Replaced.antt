@@ -11,7 +11,7 @@ use Rattle.sqlite.specs.Held.{Held, state}
 use Rattle.gtid.specs.Identifier.{Ids, AreGtids}
 use Rattle.binlog.specs.Filter.{Names}
 use Rattle.store.specs.State.{Content}
-use Rattle.store.specs.Take.{with_executed}
+use Rattle.store.specs.Changes.{with_executed}
 use Rattle.store.specs.Beside.{LiesBeside}
 use Rattle.store.specs.Rows.{SaysLayout, IsMetaRow, AreNames, bag_of, count, span_rows}
 use Rattle.store.specs.Inside.{Records, Shows as Stored}

@@ -80,9 +80,9 @@ taken_out k id r (x ∷ rows) up (inr h) is = elim (cases_Bool (has_rowid id x))
 ]
 
 -- ---- the rowids stay apart
-kept_all : (P : Row → Type 0) (p : Row → Bool) (rows : List Row) → AllByRecursion P rows → AllByRecursion P (filter p rows)
-kept_all P p [] all = tt
-kept_all P p (r ∷ rows) all = go (p r) (kept_all P p rows all.1)
+pub all_filtered : (P : Row → Type 0) (p : Row → Bool) (rows : List Row) → AllByRecursion P rows → AllByRecursion P (filter p rows)
+all_filtered P p [] all = tt
+all_filtered P p (r ∷ rows) all = go (p r) (all_filtered P p rows all.1)
   where
     go : (b : Bool) → AllByRecursion P (filter p rows) → AllByRecursion P (cond b (r ∷ filter p rows) (filter p rows))
     go true more = (all.0, more)
@@ -94,11 +94,11 @@ distinct_filtered p [] up = tt
 distinct_filtered p (r ∷ rows) up = go (p r) (distinct_filtered p rows up.1)
   where
     go : (b : Bool) → IsDistinct alike (filter p rows) → IsDistinct alike (cond b (r ∷ filter p rows) (filter p rows))
-    go true more = (kept_all _ p rows up.0, more)
+    go true more = (all_filtered _ p rows up.0, more)
     go false more = more
 
 pub rowids_without : (id : ℤ) (rows : List Row) → HasRowids rows → HasRowids (without_rowid id rows)
-rowids_without id rows h = record { apart = distinct_filtered _ rows h.apart; keyed = kept_all _ _ rows h.keyed }
+rowids_without id rows h = record { apart = distinct_filtered _ rows h.apart; keyed = all_filtered _ _ rows h.keyed }
 
 turned : (a b : Row) → alike a b ≡ false → alike b a ≡ false
 turned a b apart = false_from_ne_true _ (λ same. let tie = ap is_eq (tied_back value_cmp_total (rowid b) (rowid a) (equal_is _ same)) in cc)

@@ -14,6 +14,7 @@ use Rattle.std.proofs.lemmas.Cmp.{tied_itself}
 use Rattle.std.proofs.lemmas.Slice.Eq.{bytes_eq-Decides}
 use Rattle.gtid.specs.Span.{IsBefore, IsLeast}
 use Rattle.gtid.specs.declared.span.Span.{Span}
+use Rattle.gtid.proofs.OneLeastList.{some_first, tail_least}
 use Rattle.store.specs.Rows.{touches}
 
 abbrev pub IsSome : Span → Type 0
@@ -41,17 +42,13 @@ before_next a b c some (inl less) (inr next) = inl (subst (λ s. slice_cmp nat_c
 before_next a b c some (inr less) (inl next) = inl (subst (λ s. slice_cmp nat_cmp s c.source ≡ Less) (sym less.0) next)
 before_next a b c some (inr less) (inr next) = inr (less.0 ∙ next.0, omega (arith, less.1, next.1, some))
 
-first_some : (a : Span) (spans : List Span) → IsLeast (a ∷ spans) → a.lo < a.hi
-first_some a [] h = h
-first_some a (b ∷ spans) h = h.0
-
 all_next : (a b : Span) → b.lo < b.hi → IsBefore a b → (spans : List Span) → AllByRecursion (IsBefore b) spans → AllByRecursion (IsBefore a) spans
 all_next a b some before [] all = tt
 all_next a b some before (c ∷ spans) all = (before_next a b c some before all.0, all_next a b some before spans all.1)
 
 pub all_before : (a : Span) (spans : List Span) → IsLeast (a ∷ spans) → AllByRecursion (IsBefore a) spans
 all_before a [] h = tt
-all_before a (b ∷ spans) h = (h.1, all_next a b (first_some b spans h.2) h.1 spans (all_before b spans h.2))
+all_before a (b ∷ spans) h = (h.1, all_next a b (some_first b spans h.2) h.1 spans (all_before b spans h.2))
 
 pub apart_before : (a c : Span) → IsBefore a c → touches a c ≡ false
 apart_before a c before = false_from_ne_true _ (λ touch.
@@ -67,18 +64,14 @@ all_apart : (a : Span) (spans : List Span) → AllByRecursion (IsBefore a) spans
 all_apart a [] all = tt
 all_apart a (c ∷ spans) all = (apart_before a c all.0, all_apart a spans all.1)
 
-pub rest_least : (a : Span) (spans : List Span) → IsLeast (a ∷ spans) → IsLeast spans
-rest_least a [] h = tt
-rest_least a (b ∷ spans) h = h.2
-
 pub all_some : (spans : List Span) → IsLeast spans → AllByRecursion IsSome spans
 all_some [] h = tt
-all_some (a ∷ spans) h = (first_some a spans h, all_some spans (rest_least a spans h))
+all_some (a ∷ spans) h = (some_first a spans h, all_some spans (tail_least a spans h))
 
 pub all_distinct : (spans : List Span) → IsLeast spans → IsDistinct touches spans
 unfolding IsDistinct
 all_distinct [] h = tt
-all_distinct (a ∷ spans) h = (all_apart a spans (all_before a spans h), all_distinct spans (rest_least a spans h))
+all_distinct (a ∷ spans) h = (all_apart a spans (all_before a spans h), all_distinct spans (tail_least a spans h))
 
 -- ---- one span more or less
 
@@ -88,7 +81,7 @@ before_least a b [] some before h = some
 before_least a b (c ∷ spans) some before h = (some, before_next a b c h.0 before h.1, h.2)
 
 pub without : (front : List Span) (x : Span) (rest : List Span) → IsLeast (front ++ x ∷ rest) → IsLeast (front ++ rest)
-without [] x rest h = rest_least x rest h
+without [] x rest h = tail_least x rest h
 without (a ∷ []) x rest h = before_least a x rest h.0 h.1 h.2
 without (a ∷ b ∷ front) x rest h = (h.0, h.1, without (b ∷ front) x rest h.2)
 
@@ -119,11 +112,11 @@ put_in x [] some off h = record { sorted = x ∷ []; same = IsPermutation-refl (
 put_in x (b ∷ spans) some off h = elim (either_way x b off.0) [
   | inl before ↦ record { sorted = x ∷ b ∷ spans; same = IsPermutation-refl (x ∷ b ∷ spans); least = (some, before, h) }
   | inr after ↦ (
-      let s = put_in x spans some off.1 (rest_least b spans h) in
+      let s = put_in x spans some off.1 (tail_least b spans h) in
       record {
         sorted = b ∷ s.sorted;
         same = IsPermutation-trans (x ∷ b ∷ spans) (b ∷ x ∷ spans) (b ∷ s.sorted) (IsPermutation-insert (b ∷ spans) 1 x) (IsPermutation-cons b (x ∷ spans) s.sorted s.same);
-        least = least_cons b s.sorted (first_some b spans h) (all-permutation (IsBefore b) (x ∷ spans) s.sorted s.same (after, all_before b spans h)) s.least;
+        least = least_cons b s.sorted (some_first b spans h) (all-permutation (IsBefore b) (x ∷ spans) s.sorted s.same (after, all_before b spans h)) s.least;
       })
 ]
 

@@ -1,6 +1,6 @@
 -- Lists of spans stored and deleted.
-use Rattle.std.proofs.Common.{◌≡◌, ◌⊎◌, inl, inr, ◌≤◌, ◌^◌, ◌-◌, List, [], ◌∷◌, ◌++◌, map, Bool, true, false, ◌||◌, Ok, Err, Result, OnOk, append-nil, refl, sym, subst, ◌∙◌}
-use Rattle.std.proofs.lemmas.Bool.{and_parts}
+use Rattle.std.proofs.Common.{◌≡◌, inl, inr, ◌≤◌, ◌^◌, ◌-◌, List, [], ◌∷◌, ◌++◌, map, true, Ok, Err, Result, OnOk, append-nil, sym, subst, ◌∙◌}
+use Rattle.std.proofs.lemmas.Bool.{and_parts, or_cases}
 use Rattle.std.proofs.lemmas.Slice.Eq.{bytes_eq-Decides}
 use Rattle.std.specs.FinSet as set
 use Rattle.std.specs.List.{AllByRecursion, list_any}
@@ -12,9 +12,8 @@ use Rattle.gtid.specs.declared.span.Span.{Span}
 use Rattle.store.specs.Rows.{held_rows, span_rows, shown_spans, stored_span}
 use Rattle.gtid.specs.Identifier.{Id, Ids, IsSource, AreGtids}
 use Rattle.gtid.specs.Span.{IsLeastList, is_in}
-use Rattle.gtid.proofs.OneLeastList.{one_least_list}
-use Rattle.store.specs.Inside.{Moves, HasLeft, Lists, Shows, Records}
-use Rattle.store.proofs.SortedSpans.{rest_least}
+use Rattle.gtid.proofs.OneLeastList.{one_least_list, tail_least}
+use Rattle.store.specs.Inside.{Moves, HasLeft, AreRowsOf, Shows, Records}
 use Rattle.store.proofs.Made.{goes_then}
 
 -- ---- the spans, one after another
@@ -35,15 +34,11 @@ left_less old mid new spans rest span so_far moved = record {
 
 -- ---- spans deleted
 
-pub one_removed : (old mid new : State) (span : Span) (rest : List Span) → Lists (span_rows mid.now) (span ∷ rest) → held_rows mid.now ≡ held_rows old.now → Moves mid new (map stored_span rest)
-    → Lists (span_rows new.now) rest × (held_rows new.now ≡ held_rows old.now)
-one_removed old mid new span rest lists held moved = (record { least = rest_least span rest lists.least; rows_are = moved.stored }, moved.held ∙ held)
+pub one_removed : (old mid new : State) (span : Span) (rest : List Span) → AreRowsOf (span_rows mid.now) (span ∷ rest) → held_rows mid.now ≡ held_rows old.now → Moves mid new (map stored_span rest)
+    → AreRowsOf (span_rows new.now) rest × (held_rows new.now ≡ held_rows old.now)
+one_removed old mid new span rest lists held moved = (record { least = tail_least span rest lists.least; rows_are = moved.stored }, moved.held ∙ held)
 
 -- ---- spans instead of others
-
-pub or_cases : (a b : Bool) → (a || b) ≡ true → (a ≡ true) ⊎ (b ≡ true)
-or_cases true b h = inl refl
-or_cases false b h = inr h
 
 source_of : (q : Id) (spans : List Span) → AllByRecursion (λ s. IsSource s.source) spans → list_any (is_in q) spans ≡ true → IsSource q.0
 source_of q [] each there = absurd (cc)
@@ -58,7 +53,7 @@ pub are_gtids : {E : Type 0} (ids : Ids) (spans : List Span) (r : Result (Unit {
 are_gtids ids spans (Ok u) least numbers each = λ q there. (source_of q spans each (sym (least.covers q) ∙ there), (numbers q there).0, (numbers q there).1)
 are_gtids ids spans (Err e) least numbers each = tt
 
-pub all_listed : (old : State) (ids : Ids) (spans sorted : List Span) → Shows (span_rows old.now) spans ids → IsLeastList sorted ids → Lists (span_rows old.now) sorted
+pub all_listed : (old : State) (ids : Ids) (spans sorted : List Span) → Shows (span_rows old.now) spans ids → IsLeastList sorted ids → AreRowsOf (span_rows old.now) sorted
 all_listed old ids spans sorted shows least =
     record { least = least.least; rows_are = subst (λ l. IsPermutation (map stored_span l) (shown_spans (span_rows old.now))) (one_least_list ids spans sorted shows.least least) shows.rows_are }
 

@@ -20,7 +20,7 @@ use Rattle.gtid.specs.Identifier.{Id, Ids}
 use Rattle.gtid.specs.declared.beside.Beside.{Beside}
 use Rattle.gtid.specs.declared.span.Span.{Span}
 use Rattle.store.specs.Rows.{span_rows, stored_span, shown_spans, begins_at, touches}
-use Rattle.store.specs.Inside.{Moves, Begins, Lists, Shows, Records}
+use Rattle.store.specs.Inside.{Moves, Begins, AreRowsOf, Shows, Records}
 use Rattle.store.proofs.Effects.{own_bytes, own_id}
 use Rattle.store.proofs.Made.{goes_then}
 use Rattle.store.proofs.RowLemmas.{equal_is}
@@ -51,7 +51,7 @@ begins_apart source lo hi (t ∷ rest) long some clear = (
 )
 
 -- the rows without one of their spans
-pub one_out : (front : List Span) (x : Span) (rest : List Span) (rows : List Row) → Lists rows (front ++ x ∷ rest) → Begins x.source (pos x.lo) (shown_spans rows) (stored_span x) (map stored_span (front ++ rest))
+pub one_out : (front : List Span) (x : Span) (rest : List Span) (rows : List Row) → AreRowsOf rows (front ++ x ∷ rest) → Begins x.source (pos x.lo) (shown_spans rows) (stored_span x) (map stored_span (front ++ rest))
 unfolding IsDistinct
 one_out front x rest rows h =
     let first : IsPermutation (front ++ x ∷ rest) (x ∷ (front ++ rest)) = IsPermutation-middle front x rest in
@@ -71,11 +71,11 @@ without_one front None rest h = h
 without_one front (Some x) rest h = without front x rest h
 
 module _ (ids : Ids) (q : Id) (beside : Beside) (spans : List Span) (j : Joins ids q beside spans) (a : State) (shows : Shows (span_rows a.now) spans ids) where
-  pub both_there : Lists (span_rows a.now) (j.front ++ (one_or_none beside.below ++ (one_or_none beside.above ++ j.rest)))
-  both_there = subst (Lists (span_rows a.now)) j.spans_are (record { least = shows.least.least; rows_are = shows.rows_are })
+  pub both_there : AreRowsOf (span_rows a.now) (j.front ++ (one_or_none beside.below ++ (one_or_none beside.above ++ j.rest)))
+  both_there = subst (AreRowsOf (span_rows a.now)) j.spans_are (record { least = shows.least.least; rows_are = shows.rows_are })
 
   module _ (b : State) (first : Moves a b (map stored_span (j.front ++ (one_or_none beside.above ++ j.rest)))) where
-    pub one_there : Lists (span_rows b.now) (j.front ++ (one_or_none beside.above ++ j.rest))
+    pub one_there : AreRowsOf (span_rows b.now) (j.front ++ (one_or_none beside.above ++ j.rest))
     one_there = record { least = without_one j.front beside.below (one_or_none beside.above ++ j.rest) both_there.least; rows_are = first.stored }
 
     pub recorded : (d e : State) (r : Result ℕ Error) → Moves b d (map stored_span (j.front ++ j.rest)) → OnOk r (Moves d e (stored_span (joined q beside.below beside.above) ∷ shown_spans (span_rows d.now))) → OnOk r (Records a e (set.insert ids q))

@@ -4,7 +4,7 @@ use Rattle.std.specs.List.{AllByRecursion, IsDistinct, list_any}
 use Rattle.std.specs.List.Sorted.{IsPermutation}
 use Rattle.std.specs.FinSet as set
 use Rattle.std.specs.Ordering.{eq_by_cmp}
-use Rattle.std.proofs.lemmas.Bool.{and_parts, cases_Bool, false_from_ne_true, leb-true, leb-false, le-leb, ltb-true, not-true, not-false}
+use Rattle.std.proofs.lemmas.Bool.{and_parts, cases_Bool, leb-true, leb-false, le-leb, ltb-true, not-true, not-false}
 use Rattle.std.proofs.lemmas.Bool.Decides.{nat_tests}
 use Rattle.std.proofs.lemmas.Grind.{common_steps}
 use Rattle.std.proofs.lemmas.List.Sorted.{IsPermutation-map, IsPermutation-sym, list_any-IsPermutation}
@@ -16,6 +16,7 @@ use Rattle.gtid.specs.Span.{is_in, Covers, IsBefore, IsLeast, IsLawfulSpan}
 use Rattle.gtid.specs.Gathering.{Rise, Follows}
 use Rattle.gtid.specs.declared.span.Span.{Span}
 use Rattle.gtid.proofs.Sets.{id_cmp_total, id_cmp-same, tied}
+use Rattle.binlog.proofs.Admitted.{bytes_eq-sym}
 use Rattle.store.specs.declared.fault.StoreFault.{StoreFault}
 use Rattle.store.specs.declared.fault.StoreFault.TheVariants.{Memory, Damaged}
 use Rattle.store.specs.Rows.{IsSpanRow, IsExecutedRow, HasRowids, AreSpans, touches, stored_span, shown_span, shown_spans, span_in, id_in}
@@ -63,12 +64,6 @@ not_apart : (spans : List Span) → apart_from None spans ≡ false → IsDistin
 not_apart [] h up = absurd (cc)
 not_apart (a ∷ spans) h up = touching a spans h up
 
-pub bytes_flip : (a b : List ℕ) → bytes_eq a b ≡ bytes_eq b a
-bytes_flip a b = elim (cases_Bool (bytes_eq a b)) [
-  | inl one ↦ one ∙ sym ((bytes_eq-Decides b a).1 (sym ((bytes_eq-Decides a b).0 one)))
-  | inr off ↦ off ∙ sym (false_from_ne_true _ (λ back. let one = (bytes_eq-Decides a b).1 (sym ((bytes_eq-Decides b a).0 back)) in cc))
-]
-
 and_flip : (b c : Bool) → (b && c) ≡ (c && b)
 and_flip true true = refl
 and_flip true false = refl
@@ -76,7 +71,7 @@ and_flip false true = refl
 and_flip false false = refl
 
 pub flips : (a b : Span) → touches a b ≡ touches b a
-flips a b = rw (bytes_flip a.source b.source, and_flip (nat_le a.lo b.hi) (nat_le b.lo a.hi)) refl
+flips a b = rw (bytes_eq-sym a.source b.source, and_flip (nat_le a.lo b.hi) (nat_le b.lo a.hi)) refl
 
 module _ (spans sorted : List Span) (same : IsPermutation spans sorted) (rise : Rise sorted) (lawful : AllByRecursion IsLawfulSpan sorted) where
   pub set_damaged : apart_from None sorted ≡ false → IsDistinct touches spans → ⊥
@@ -101,7 +96,7 @@ lawful_rows (row ∷ rows) all =
 pub lawful_spans : (rows : List Row) (spans : List Span) → AllByRecursion IsSpanRow rows → spans ≡ map span_in rows → AllByRecursion IsLawfulSpan spans
 lawful_spans rows spans all is = subst (AllByRecursion IsLawfulSpan) (sym is) (lawful_rows rows all)
 
-some_spans : (spans : List Span) → AllByRecursion IsLawfulSpan spans → AllByRecursion (λ s. s.lo < s.hi) spans
+pub some_spans : (spans : List Span) → AllByRecursion IsLawfulSpan spans → AllByRecursion (λ s. s.lo < s.hi) spans
 some_spans [] all = tt
 some_spans (s ∷ spans) all = (all.0.1, some_spans spans all.1)
 
@@ -171,7 +166,3 @@ ids_judged rows spans (Ok ids) all is ok err =
     let c : Covers (map (λ r. span_of_id (id_in r)) rows) ids = subst (λ l. Covers l ids) is ok in
     (all, set.same_set id_cmp_total id_cmp-same ids (set.from_list (map id_in rows)) (λ q. c q ∙ listed_ids q rows ∙ sym (set.contains-from_list id_cmp_total (map id_in rows) q)))
 ids_judged rows spans (Err e) all is ok err = subst (λ f. Judges {X = Ids} (Err f) (λ ids. AllByRecursion IsExecutedRow rows × (ids ≡ set.from_list (map id_in rows))) (AllByRecursion IsExecutedRow rows)) (sym err) tt
-
-pub on_ok : {X E P : Type 0} (r : Result X E) → P → OnOk r P
-on_ok (Ok x) p = p
-on_ok (Err e) p = tt

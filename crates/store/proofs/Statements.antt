@@ -79,10 +79,10 @@ on_table limit mode params db at table P out there h =
 
 -- ---- A statement that writes the rows of one table of the store.
 
-module _ (schema : Schema) (at tree : ℕ) (name : List ℕ) (columns : List Column) (places : List ℕ) (checks : List Term) (found : IsFound schema at (record (keyed name columns places checks) { tree = tree }))
+module _ (schema : Schema) (at tree : ℕ) (name : List ℕ) (columns : List Column) (key_columns : List ℕ) (checks : List Term) (found : IsFound schema at (record (keyed name columns key_columns checks) { tree = tree }))
     (sql : List ℕ) (params : Row) (plain : IsPlain (understood schema sql)) (old new : State) (has : old.now.schema ≡ schema) (count : ℕ) (h : Executes sql params old new (Ok count)) where
   abbrev table : Table
-  table = record (keyed name columns places checks) { tree = tree }
+  table = record (keyed name columns key_columns checks) { tree = tree }
 
   abbrev db : Trees
   db = old.now.trees
@@ -133,8 +133,8 @@ module _ (schema : Schema) (at tree : ℕ) (name : List ℕ) (columns : List Col
     of_answer : (rows : List Row) → Answers (record { schema = schema; trees = db }) program params rows → Shows rows
     of_answer rows a = answers tests params p says tree shown (overlay db []) Null rows (db tree) (stored_read db tree found.stored) (a.answer Null)
 
-    pub takes : command_of (understood schema sql) ≡ Delete at program → (rows : List Row) × Shows rows × Applied schema old new (edit_of db table (ids_of rows) Given 0 [])
-    takes is =
+    pub removes : command_of (understood schema sql) ≡ Delete at program → (rows : List Row) × Shows rows × Applied schema old new (edit_of db table (ids_of rows) Given 0 [])
+    removes is =
         let command = Delete at program in
         let w = runs_as sql params old new schema has command is plain count h in
         let done = on_rows command w (changed_by command w) in
@@ -200,14 +200,14 @@ module _ (schema : Schema) (l : IsLaidOut schema) where
         → (rows : List Row) × IsPermutation (map (λ r. column r 0 ∷ []) (filter (λ r. begins_at source lo (shown_span r)) (old.now.trees (spans_tree schema)))) rows
         × Applied schema old new (edit_of old.now.trees (spans_at schema) (ids_of rows) Given 0 [])
     drops_span free source lo count h =
-        takes schema l.spans.at (spans_tree schema) _ _ _ _ spans_found drop_span_text (Blob source ∷ Int lo ∷ []) (drop_span_plain schema l.spans.at (spans_tree schema) spans_found) old new has count h
+        removes schema l.spans.at (spans_tree schema) _ _ _ _ spans_found drop_span_text (Blob source ∷ Int lo ∷ []) (drop_span_plain schema l.spans.at (spans_tree schema) spans_found) old new has count h
         free has_start (col 1 0 ∷ []) (λ r. begins_at source lo (shown_span r)) (start_holds source lo) (drop_span_is schema l.spans.at (spans_tree schema) spans_found)
 
     module _ (free : AllByRecursion (IsApart schema (held_tree schema)) schema.tables) where
       pub deletes : (key : Key) (count : ℕ) → Executes delete_text (key_params key []) old new (Ok count)
           → (rows : List Row) × IsPermutation (map (λ r. column r 0 ∷ []) (filter (is_at key) (old.now.trees (held_tree schema)))) rows × Applied schema old new (edit_of old.now.trees (held_at schema) (ids_of rows) Given 0 [])
       deletes key count h =
-          takes schema l.held.at (held_tree schema) _ _ _ _ held_found delete_text (key_params key []) (delete_plain schema l.held.at (held_tree schema) held_found) old new has count h
+          removes schema l.held.at (held_tree schema) _ _ _ _ held_found delete_text (key_params key []) (delete_plain schema l.held.at (held_tree schema) held_found) old new has count h
           free has_key (col 1 0 ∷ []) (is_at key) (key_holds key []) (delete_is schema l.held.at (held_tree schema) held_found)
 
       pub updates : (key : Key) (n : ℤ) (count : ℕ) → Executes update_text (key_params key (Int n ∷ [])) old new (Ok count)

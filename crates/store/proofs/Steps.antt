@@ -6,7 +6,6 @@ use Rattle.std.specs.FinSet as set
 use Rattle.sqlite.specs.Effect.{Database as Db, IsDatabase}
 use Rattle.sqlite_trees.specs.Tree.{Trees}
 use Rattle.sqlite.specs.State.{State, HasCleanDisk, IsLive, IsUnchanged, Survives}
-use Rattle.sqlite.proofs.StateLemmas.{survives_then}
 use Rattle.store.specs.declared.fault.StoreFault.{StoreFault}
 use Rattle.gtid.specs.Identifier.{Ids}
 use Rattle.binlog.specs.Filter.{Names}
@@ -44,18 +43,6 @@ first_step a b text tree asks s = record {
 
 pub clean_before : (b c : State) (P : Trees → Type 0) → Survives b c P → HasCleanDisk c → HasCleanDisk b
 clean_before b c P s clean = omega (arith, s.clean, clean)
-
-pub next_step : (a b c : State) (text : List ℕ) (tree : ℕ) → AsksAll a.now.schema text tree → (HasCleanDisk b → IsUnchanged a b) → Survives a b (λ _. ⊥) → Survives b c (λ _. (tree : ℕ) → ¬ AsksAll b.now.schema text tree) → Survives a c (λ _. ⊥)
-next_step a b c text tree asks same one two =
-    let both = survives_then a b c (λ _. ⊥) (λ _. (tree : ℕ) → ¬ AsksAll b.now.schema text tree) (λ _. (tree : ℕ) → ¬ AsksAll b.now.schema text tree) (λ _ db none. absurd none) (λ _ db made. made) one two in
-    record {
-      clean = both.clean;
-      shield = both.shield;
-      counts = both.counts;
-      limit = both.limit;
-      closes = both.closes;
-      crash = λ clean db left. elim (both.crash clean db left) [ inl was ↦ inl was | inr made ↦ absurd (made tree (still_asks a b text tree (same (clean_before b c _ two clean)) asks)) ];
-    }
 
 -- ---- A fault is handed on.
 

@@ -15,7 +15,7 @@ use Rattle.store.specs.declared.fault.Applied.TheVariants.{Done, Repeat}
 use Rattle.store.specs.declared.fault.StoreFault.{StoreFault}
 use Rattle.store.specs.declared.fault.StoreFault.TheVariants.{NoSuchRow, CountFull, Database, Memory}
 use Rattle.store.specs.State.{Content}
-use Rattle.store.specs.Take.{HasOutcome, done, refused}
+use Rattle.store.specs.Changes.{HasOutcome, done, refused}
 use Rattle.store.specs.Rows.{StandsFor, HasRowids, held_rows, span_rows}
 use Rattle.store.specs.Inside.{GoesOn}
 use Rattle.store.specs.Beside.{LiesBeside}
@@ -29,7 +29,7 @@ pub record AreOf (schema : Schema) (names : Names) (content : Content) (trees : 
 -- The database stands for what the transaction makes of the content.
 pub record IsApplied (names : Names) (content : Content) (d : DeliveryValue) (schema : Schema) (trees : Trees) : Type 0 where
   pub after : Content
-  pub takes : HasOutcome names content d (done after)
+  pub outcome : HasOutcome names content d (done after)
   pub stands : AreOf schema names after trees
 
 -- The trees of a database of the same schema leave what lies beside as it is.
@@ -55,34 +55,34 @@ abbrev pub Rests : State → State → Type 0
 Rests old new = IsTrue new.is_open → (new.now ≡ old.now) × (new.committed ≡ old.committed)
 
 -- The connection is at rest with what the transaction makes of the content.
-pub record HasApplied (names : Names) (content : Content) (d : DeliveryValue) (new : State) : Type 0 where
+pub record IsAtRestAfter (names : Names) (content : Content) (d : DeliveryValue) (new : State) : Type 0 where
   pub after : Content
-  pub takes : HasOutcome names content d (done after)
+  pub outcome : HasOutcome names content d (done after)
   pub rest : IsAtRest new names after
 
 abbrev pub Runs : {E : Type 0} → Names → Content → DeliveryValue → State → State → Result (Option (ℕ × Refusal)) E → Type 0
-Runs names content d old new (Ok None) = HasApplied names content d new × (new.now.schema ≡ old.now.schema) × LiesBeside old.now new.now
+Runs names content d old new (Ok None) = IsAtRestAfter names content d new × (new.now.schema ≡ old.now.schema) × LiesBeside old.now new.now
 Runs names content d old new (Ok (Some why)) = HasOutcome names content d (refused why.0 why.1) × Rests old new
 Runs names content d old new (Err e) = Rests old new
 
 -- The database stands for what the transaction makes of the content, and what lies beside is as it was.
-abbrev pub IsTaken : Names → Content → DeliveryValue → State → Trees → Type 0
-IsTaken names content d old trees = IsApplied names content d old.now.schema trees × SparesBeside old.now trees
+abbrev pub IsAppliedAlone : Names → Content → DeliveryValue → State → Trees → Type 0
+IsAppliedAlone names content d old trees = IsApplied names content d old.now.schema trees × SparesBeside old.now trees
 
 -- What may be committed: what the transaction makes of the content, or nothing if it is refused.
 abbrev pub MayCommit : {E : Type 0} → Names → Content → DeliveryValue → State → Result (Option (ℕ × Refusal)) E → Trees → Type 0
-MayCommit names content d old (Ok None) trees = IsTaken names content d old trees
+MayCommit names content d old (Ok None) trees = IsAppliedAlone names content d old trees
 MayCommit names content d old (Ok (Some why)) trees = ⊥
-MayCommit names content d old (Err e) trees = IsTaken names content d old trees
+MayCommit names content d old (Err e) trees = IsAppliedAlone names content d old trees
 
 -- ---- The executed set in memory, besides the connection.
 
 -- The connection is at rest with what the transaction makes of the content, and the set is that of the new content.
 pub record HasMoved (names : Names) (content : Content) (d : DeliveryValue) (old new : State) (executed : Ids) : Type 0 where
-  pub taken : HasApplied names content d new
+  pub applied : IsAtRestAfter names content d new
   pub schema : new.now.schema ≡ old.now.schema
   pub beside : LiesBeside old.now new.now
-  pub set : executed ≡ taken.after.executed
+  pub set : executed ≡ applied.after.executed
 
 -- Nothing has changed, and the change with this index is refused.
 abbrev pub IsGivenUp : Names → Content → DeliveryValue → State → State → Ids → ℕ → Refusal → Type 0
@@ -101,8 +101,8 @@ Comes names content d old new executed (Err _) = ⊥
 
 -- What such a transaction may commit.
 abbrev pub MayMove : Names → Content → DeliveryValue → State → Result Applied StoreFault → Trees → Type 0
-MayMove names content d old (Ok Done) trees = IsTaken names content d old trees
-MayMove names content d old (Err (Database e)) trees = IsTaken names content d old trees
+MayMove names content d old (Ok Done) trees = IsAppliedAlone names content d old trees
+MayMove names content d old (Err (Database e)) trees = IsAppliedAlone names content d old trees
 MayMove names content d old _ trees = ⊥
 
 -- A refused change is reported and the connection is as it was, or a failure of the database is reported.

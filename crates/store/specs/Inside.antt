@@ -1,4 +1,4 @@
--- The effect of a call inside a transaction of the database.
+-- Private: the effect of a call inside a transaction of the database.
 use Rattle.std.specs.Prelude.{◌≡◌, nat_lt, ℕ, true, false, IsTrue, if◌then◌else◌, List, ◌∷◌, ◌++◌, Option, Some, None, Result, Ok, Err, IsPermutation, ℤ, map}
 use Rattle.std.specs.List.{AllByRecursion}
 use Rattle.sqlite_value.specs.Order.{Row}
@@ -13,8 +13,8 @@ use Rattle.store.specs.declared.row_change.Refusal.{Refusal}
 use Rattle.store.specs.declared.row_change.Refusal.TheVariants.{NoSuchRow, CountFull}
 use Rattle.store.specs.Layout.{IsLaidOut}
 use Rattle.store.specs.Beside.{LiesBeside}
-use Rattle.store.specs.Take.{most, IsMade, IsRefused, IsDone, AreDone, is_followed, IsRefusedAt}
-use Rattle.store.specs.Rows.{meta_rows, held_rows, span_rows, follow_rows, HasRowids, IsHeldRow, Key, Counts, count, with_one, without_one, bag_of, shown_spans, begins_at, stored_span}
+use Rattle.store.specs.Changes.{most, IsMade, IsRefused, IsDone, AreDone, is_admitted, IsRefusedAt}
+use Rattle.store.specs.Rows.{meta_rows, held_rows, span_rows, follow_rows, HasRowids, IsHeldRow, Key, KeyCounts, count, with_one, without_one, bag_of, shown_spans, begins_at, stored_span}
 
 -- The connection is in a transaction on a database of the layout, and what lies beside is as it was committed.
 pub record IsWorking (s : State) : Type 0 where
@@ -46,7 +46,7 @@ pub record GoesOn (old new : State) : Type 0 where
   pub follow : follow_rows new.now ≡ follow_rows old.now
 
 -- Only the counts of held have changed, to these.
-pub record HasCounts (old new : State) (counts : Counts) : Type 0 where
+pub record HasCounts (old new : State) (counts : KeyCounts) : Type 0 where
   pub on : GoesOn old new
   pub spans : span_rows new.now ≡ span_rows old.now
   pub counts_are : count (held_rows new.now) ≡ counts
@@ -64,7 +64,7 @@ pub record Begins (source : List ℕ) (lo : ℤ) (rows : List Row) (span : Row) 
   pub all : IsPermutation (span ∷ others) rows
 
 -- The rows are these spans, in any order: none is empty, and no two overlap or touch.
-pub record Lists (rows : List Row) (spans : List Span) : Type 0 where
+pub record AreRowsOf (rows : List Row) (spans : List Span) : Type 0 where
   pub least : IsLeast spans
   pub rows_are : IsPermutation (map stored_span spans) (shown_spans rows)
 
@@ -91,14 +91,14 @@ pub record Records (old new : State) (ids : Ids) : Type 0 where
 -- ---- Counts.
 
 -- one more of a row, or one less
-abbrev pub added : Key → Counts → Result Counts Refusal
+abbrev pub added : Key → KeyCounts → Result KeyCounts Refusal
 added key counts = if nat_lt (counts key) most then Ok (with_one key counts) else Err CountFull
 
-abbrev pub taken : Key → Counts → Result Counts Refusal
-taken key counts = if nat_lt 0 (counts key) then Ok (without_one key counts) else Err NoSuchRow
+abbrev pub removed : Key → KeyCounts → Result KeyCounts Refusal
+removed key counts = if nat_lt 0 (counts key) then Ok (without_one key counts) else Err NoSuchRow
 
 -- The transaction has these counts, or the change is refused for this reason.
-abbrev pub Counted : State → State → Result Counts Refusal → Option Refusal → Type 0
+abbrev pub Counted : State → State → Result KeyCounts Refusal → Option Refusal → Type 0
 Counted old new (Ok counts) None = HasCounts old new counts
 Counted old new (Ok counts) (Some why) = ⊥
 Counted old new (Err e) None = ⊥
@@ -116,10 +116,10 @@ abbrev pub Makes : ChangeValue → State → State → Option Refusal → Type 0
 Makes change old new None = Goes old new × IsMade change (bag_of (count (held_rows old.now))) (bag_of (count (held_rows new.now)))
 Makes change old new (Some why) = IsRefused change (bag_of (count (held_rows old.now))) why
 
--- As Makes, and a change of a table that is not followed is skipped.
+-- As Makes, and a change of a table that the filter leaves out is skipped.
 abbrev pub Does : Names → ChangeValue → State → State → Option Refusal → Type 0
 Does names change old new None = Goes old new × IsDone names change (bag_of (count (held_rows old.now))) (bag_of (count (held_rows new.now)))
-Does names change old new (Some why) = (is_followed names change ≡ true) × IsRefused change (bag_of (count (held_rows old.now))) why
+Does names change old new (Some why) = (is_admitted names change ≡ true) × IsRefused change (bag_of (count (held_rows old.now))) why
 
 -- The changes are done, or the one with this index is refused.
 abbrev pub DoesAll : Names → List ChangeValue → State → State → Option (ℕ × Refusal) → Type 0

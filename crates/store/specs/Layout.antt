@@ -43,15 +43,15 @@ executed_text = codes "CREATE TABLE executed (source BLOB NOT NULL, number INTEG
 abbrev pub required : List ℕ → Kind → Column
 required name kind = record { name = name; kind = kind; is_strict = false; not_null = true; default = Null; collation = Binary }
 
--- a table of these columns whose primary key is the columns at these places
+-- a table of these columns whose primary key is those with these numbers, from 1
 abbrev pub keyed : List ℕ → List Column → List ℕ → List Term → Table
-keyed name columns places checks = record {
+keyed name columns key_columns checks = record {
   name = name;
   tree = 0;
   columns = columns;
   key = None;
-  primary = places;
-  uniques = places ∷ [];
+  primary = key_columns;
+  uniques = key_columns ∷ [];
   orders = plain ∷ [];
   checks = checks;
   references = [];
@@ -205,7 +205,7 @@ drop_span_text = codes "DELETE FROM spans WHERE source = ?1 AND lo = ?2"
 -- ---- what they mean
 
 abbrev pub equals : ℕ → ℕ → Term
-equals place parameter = op2 (Compare Eq Binary) (col 1 place) (col 0 parameter)
+equals number parameter = op2 (Compare Eq Binary) (col 1 number) (col 0 parameter)
 
 abbrev pub has_key : List Term
 has_key = equals 1 0 ∷ equals 2 1 ∷ equals 3 2 ∷ []

@@ -1,5 +1,5 @@
 pub mod State
-pub mod Take
+pub mod Changes
 pub mod Layout
 pub mod Beside
 pub mod Rows

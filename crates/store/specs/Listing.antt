@@ -72,29 +72,29 @@ IsListFault (VisitorError e) = Unit {0}
 
 -- `gives v e answer w`: the visitor v answers to the entry e in this way, and is w afterwards.
 module _ {V E : Type 0} (gives : V → Entry → Result (Unit {0}) E → V → Type 0) where
-  -- The visitor takes the entry and goes on.
-  abbrev pub Takes : V → Entry → V → Type 0
-  Takes v e w = gives v e (Ok tt) w
+  -- The visitor accepts the entry and goes on.
+  abbrev pub Accepts : V → Entry → V → Type 0
+  Accepts v e w = gives v e (Ok tt) w
 
   -- The entry was handed to the visitor, or an allocation was refused before.
   abbrev pub Handed : Entry → V → V → Result (Unit {0}) (ListError E) → Type 0
-  Handed e v w (Ok u) = Takes v e w
+  Handed e v w (Ok u) = Accepts v e w
   Handed e v w (Err (VisitorError error)) = gives v e (Err error) w
   Handed e v w (Err (StoreError Memory)) = w ≡ v
   Handed e v w (Err (StoreError _)) = ⊥
 
-  -- The visitor has taken the first rows of the bag in order, one after the other; these are left.
-  pub record HasTaken (bag : Bag) (v w : V) (left : List Entry) : Type 0 where
+  -- The visitor has accepted the first rows of the bag in order, one after the other; these are left.
+  pub record HasAccepted (bag : Bag) (v w : V) (left : List Entry) : Type 0 where
     pub first : List Entry
     pub are : AreRows bag (first ++ left)
-    pub taken : FoldsTo Takes v first w
+    pub accepted : FoldsTo Accepts v first w
 
-  -- The visitor has taken all rows; or the first of them, and answered an error to the next; or none or the first of them,
+  -- The visitor has accepted all rows; or the first of them, and answered an error to the next; or none or the first of them,
   -- before reading failed.
   abbrev pub Hands : Bag → V → V → Result (Unit {0}) (ListError E) → Type 0
-  Hands bag v w (Ok u) = HasTaken bag v w []
-  Hands bag v w (Err (VisitorError error)) = (last : V) × (e : Entry) × (left : List Entry) × HasTaken bag v last (e ∷ left) × gives last e (Err error) w
-  Hands bag v w (Err (StoreError fault)) = (w ≡ v) ⊎ ((left : List Entry) × HasTaken bag v w left)
+  Hands bag v w (Ok u) = HasAccepted bag v w []
+  Hands bag v w (Err (VisitorError error)) = (last : V) × (e : Entry) × (left : List Entry) × HasAccepted bag v last (e ∷ left) × gives last e (Err error) w
+  Hands bag v w (Err (StoreError fault)) = (w ≡ v) ⊎ ((left : List Entry) × HasAccepted bag v w left)
 
 -- Nothing has changed; after a failure of the database, if the connection is still open.
 abbrev pub KeepsListed : {E : Type 0} → State → State → Result (Unit {0}) (ListError E) → Type 0
@@ -146,7 +146,7 @@ module _ {S : Type 0} (g : Ghosts S) where
   ListsShut content new v w (Err (StoreError (Database e))) = Keeps g new content × (w ≡ v)
   ListsShut content new v w _ = ⊥
 
-  -- The query has given some of its rows, and the visitor has taken them. Nothing has changed.
+  -- The query has given some of its rows, and the visitor has accepted them. Nothing has changed.
   pub record IsListing {V E : Type 0} (gives : V → Entry → Result (Unit {0}) E → V → Type 0) (old new : Held S) (v w : V) : Type 0 where
     pub same : IsUnchanged (state g old) (state g new)
     pub rows : List Row
@@ -154,4 +154,4 @@ module _ {S : Type 0} (g : Ghosts S) where
     pub first : List Entry
     pub shown : map shown_entry first ≡ without_rowids rows
     pub lawful : AllByRecursion (λ (e : Entry). HasImage e.0.cells) first
-    pub taken : FoldsTo (Takes gives) v first w
+    pub accepted : FoldsTo (Accepts gives) v first w

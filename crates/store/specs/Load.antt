@@ -1,4 +1,4 @@
--- Reading whole tables when a database is opened, and what the rows stand for.
+-- Private: reading whole tables when a database is opened, and what the rows stand for.
 use Rattle.std.specs.Prelude.{◌≡◌, ℕ, ℤ, suc, zero, pos, negsuc, true, false, List, [], ◌∷◌, codes, length, None, Result, Ok, Err, IsPermutation}
 use Rattle.sqlite_value.specs.declared.value.Value.TheVariants.{Int}
 use Rattle.sqlite_value.specs.declared.keys.Key.{Key}

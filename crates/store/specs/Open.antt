@@ -15,7 +15,7 @@ use Rattle.store.specs.Rows.{StandsFor, StandsForFirst, HasRowids, span_rows, fi
 abbrev pub nothing : Content
 nothing = record { executed = set.empty; rows = λ _. 0 }
 
--- the empty list of names, which means all tables
+-- the empty filter, which admits all tables
 abbrev pub all : Names
 all = set.empty
 

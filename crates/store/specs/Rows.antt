@@ -17,7 +17,7 @@ use Rattle.binlog.specs.Filter.{Name, Names}
 use Rattle.gather.specs.Image.{IsImage, image}
 use Rattle.store.specs.declared.held_rows.RowKey.{RowKey}
 use Rattle.store.specs.State.{TableRow, Bag, Content, has_image}
-use Rattle.store.specs.Take.{most}
+use Rattle.store.specs.Changes.{most}
 use Rattle.store.specs.Layout.{IsLaidOut, IsFirstLaidOut, meta_tree, executed_tree, held_tree, spans_tree, follow_tree}
 
 -- ---- The tables.
@@ -86,13 +86,13 @@ abbrev pub same_key : Key → Key → Bool
 same_key a b = bytes_eq a.schema b.schema && (bytes_eq a.table b.table && bytes_eq a.image b.image)
 
 -- a count for each key
-abbrev pub Counts : Type 0
-Counts = Key → ℕ
+abbrev pub KeyCounts : Type 0
+KeyCounts = Key → ℕ
 
-abbrev pub with_one : Key → Counts → Counts
+abbrev pub with_one : Key → KeyCounts → KeyCounts
 with_one key counts = λ k. if same_key key k then counts k + 1 else counts k
 
-abbrev pub without_one : Key → Counts → Counts
+abbrev pub without_one : Key → KeyCounts → KeyCounts
 without_one key counts = λ k. if same_key key k then counts k - 1 else counts k
 
 abbrev pub is_at : Key → Row → Bool
@@ -103,25 +103,25 @@ abbrev pub share : Key → Row → ℕ
 share key row = if is_at key row then number_in (column row 4) else 0
 
 -- the sum of n over the rows with the key
-abbrev pub count : List Row → Counts
+abbrev pub count : List Row → KeyCounts
 count [] key = 0
 count (row ∷ rows) key = share key row + count rows key
 
 -- The bytes are the image of some cells.
-pub record IsStored (bytes : List ℕ) : Type 0 where
+pub record IsStoredImage (bytes : List ℕ) : Type 0 where
   pub cells : List CellValue
   pub is_image : IsImage cells bytes
 
 -- a row of held: a rowid, a key with a stored image, and a count from 1 on
 abbrev pub IsHeldRow : Row → Type 0
-IsHeldRow row = (id : ℤ) × (key : Key) × (n : ℕ) × (row ≡ Int id ∷ Blob key.schema ∷ Blob key.table ∷ Blob key.image ∷ Int (pos n) ∷ []) × (1 ≤ n) × (n ≤ most) × IsStored key.image
+IsHeldRow row = (id : ℤ) × (key : Key) × (n : ℕ) × (row ≡ Int id ∷ Blob key.schema ∷ Blob key.table ∷ Blob key.image ∷ Int (pos n) ∷ []) × (1 ≤ n) × (n ≤ most) × IsStoredImage key.image
 
 -- the key of a row's cells
 abbrev pub key_for : TableRow → Key
 key_for r = key_of r.schema r.table (image r.cells)
 
 -- the rows that the counts stand for: of cells that have an image, the count of their key
-abbrev pub bag_of : Counts → Bag
+abbrev pub bag_of : KeyCounts → Bag
 bag_of counts r = if has_image r.cells then counts (key_for r) else 0
 
 -- The outcome of a look-up by key: no row, or the one row and its count.

@@ -15,7 +15,7 @@ use Rattle.store.specs.declared.fault.StoreFault.{StoreFault}
 use Rattle.store.specs.declared.fault.StoreFault.TheVariants.{NoSuchRow, CountFull, Database, Memory}
 use Rattle.store.specs.declared.store.Store.{Store}
 use Rattle.store.specs.State.{Content, TableRow}
-use Rattle.store.specs.Take.{HasOutcome, is_executed, done, repeat, refused, adopted}
+use Rattle.store.specs.Changes.{HasOutcome, is_executed, done, repeat, refused, adopted}
 use Rattle.store.specs.Apply.{IsAtRest, IsApplied}
 pub use Rattle.store.specs.Apply.{AreOf}
 use Rattle.store.specs.Entering.{IsOf, IsWanted}
@@ -66,7 +66,7 @@ module _ {S : Type 0} (g : Ghosts S) where
   -- The store holds what the transaction makes of the content.
   pub record HoldsApplied (names : Names) (content : Content) (d : DeliveryValue) (new : Store S g) : Type 0 where
     pub after : Content
-    pub takes : HasOutcome names content d (done after)
+    pub outcome : HasOutcome names content d (done after)
     pub holds : Holds new after
 
   -- The outcome of applying a transaction to a store that holds this content.

@@ -6,7 +6,7 @@ ghost use Rattle.sqlite.specs.State.{HasCleanDisk, Survives};
 ghost use Rattle.sqlite.specs.Held.{state};
 ghost use Rattle.binlog.specs.Filter.{Names};
 ghost use Rattle.store.specs.State.{Content};
-ghost use Rattle.store.specs.Take.{with_executed};
+ghost use Rattle.store.specs.Changes.{with_executed};
 ghost use Rattle.store.specs.Inside.{WasOpen};
 ghost use Rattle.store.specs.Beside.{LiesBeside};
 ghost use Rattle.store.specs.Apply.{SparesBeside, IsAtRest, Replaces, AreOf};

@@ -7,7 +7,7 @@ ghost use Rattle.sqlite.specs.Held.{state};
 ghost use Rattle.gtid.specs.Identifier.{id};
 ghost use Rattle.gather.specs.View.{delivery_value};
 ghost use Rattle.store.specs.State.{Content};
-ghost use Rattle.store.specs.Take.{is_executed};
+ghost use Rattle.store.specs.Changes.{is_executed};
 ghost use Rattle.store.specs.Beside.{LiesBeside};
 ghost use Rattle.store.specs.Apply.{SparesBeside, IsAtRest, Comes, MayMove, IsReported, FailsShut};
 ghost use Rattle.store.specs.Faults.{IsApplyFault};
@@ -43,17 +43,17 @@ fn refuse<S: Alter>(conn: &mut Connection<S>, at: usize, why: Refusal) -> StoreF
 }
 
 /// Applies a transaction that is not in the executed set, and returns the set as it is then.
-fn take<S: Alter>(
+fn apply_new<S: Alter>(
     conn: &mut Connection<S>,
-    follow: &Follow,
+    filter: &Follow,
     executed: GtidSet,
     delivery: &Delivery,
 ) -> (GtidSet, Result<Applied, StoreFault>)
     requires autocommit { conn.old.in_transaction ≡ false }
     requires new { set.contains executed (id delivery.now.gtid) ≡ false }
     ensures autocommit { conn.new.in_transaction ≡ false }
-    ensures comes { HasCleanDisk (state S.Store conn.new) → (content : Content) → IsAtRest (state S.Store conn.old) follow.now content → executed ≡ content.executed → Comes follow.now content (delivery_value delivery.now) (state S.Store conn.old) (state S.Store conn.new) result.0 result.1 }
-    ensures crash { (content : Content) → IsAtRest (state S.Store conn.old) follow.now content → executed ≡ content.executed → Survives (state S.Store conn.old) (state S.Store conn.new) (MayMove follow.now content (delivery_value delivery.now) (state S.Store conn.old) result.1) }
+    ensures comes { HasCleanDisk (state S.Store conn.new) → (content : Content) → IsAtRest (state S.Store conn.old) filter.now content → executed ≡ content.executed → Comes filter.now content (delivery_value delivery.now) (state S.Store conn.old) (state S.Store conn.new) result.0 result.1 }
+    ensures crash { (content : Content) → IsAtRest (state S.Store conn.old) filter.now content → executed ≡ content.executed → Survives (state S.Store conn.old) (state S.Store conn.new) (MayMove filter.now content (delivery_value delivery.now) (state S.Store conn.old) result.1) }
     ensures lives { Survives (state S.Store conn.old) (state S.Store conn.new) (λ _. Unit {0}) }
     ensures shut { HasCleanDisk (state S.Store conn.new) → (state S.Store conn.old).is_open ≡ false → FailsShut (state S.Store conn.new) executed result.0 result.1 }
     ensures memory { result.1 ≡ Err Memory → conn.new ≡ conn.old }
@@ -64,7 +64,7 @@ fn take<S: Alter>(
         Ok(reserved) => reserved,
         Err(executed) => return (executed, Err(StoreFault::Memory)),
     };
-    match run(conn, follow, delivery, &beside) {
+    match run(conn, filter, delivery, &beside) {
         Ok(None) => (reserved.insert(), Ok(Applied::Done)),
         Ok(Some((at, why))) => (reserved.release(), Err(refuse(conn, at, why))),
         Err(error) => (reserved.release(), Err(StoreFault::Database(error))),
@@ -83,7 +83,7 @@ fn breaks(answer: &Result<Applied, StoreFault>) -> bool
 
 impl<S: Alter> Store<S> {
     /// Applies a transaction of the source: makes its changes in order and adds its GTID to the executed set, all or
-    /// nothing. Changes of tables that are not followed are skipped.
+    /// nothing. Changes of tables that the filter leaves out are skipped.
     ///
     /// - `Done`: the changes were made, and the GTID was added.
     /// - `Repeat`: the GTID was in the set already. No statement was run, and no memory was taken.
@@ -115,7 +115,7 @@ impl<S: Alter> Store<S> {
             return Ok(Applied::Repeat);
         }
         let executed = mem::replace(&mut self.executed, GtidSet::new(self.alloc));
-        let (executed, answer) = take(&mut self.conn, &self.following, executed, delivery);
+        let (executed, answer) = apply_new(&mut self.conn, &self.following, executed, delivery);
         self.executed = executed;
         self.broken = breaks(&answer);
         answer

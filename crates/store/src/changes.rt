@@ -8,7 +8,7 @@ ghost use Rattle.gtid.specs.Identifier.{id};
 ghost use Rattle.gtid.specs.Span.{IsLawfulSpan};
 ghost use Rattle.gtid.specs.Beside.{Joins};
 ghost use Rattle.store.specs.State.{Content};
-ghost use Rattle.store.specs.Take.{is_executed};
+ghost use Rattle.store.specs.Changes.{is_executed};
 ghost use Rattle.store.specs.Rows.{StandsFor};
 ghost use Rattle.store.specs.Inside.{IsWorking, WasOpen, Stays};
 ghost use Rattle.store.specs.Apply.{Fills, IsAtRest, Runs, MayCommit};
@@ -23,18 +23,18 @@ use sqlite::{Alter, Connection, Error, Transaction};
 /// Makes the changes and records the GTID, or returns which change is refused and why.
 fn fill<S: Alter>(
     tx: &mut Transaction<'_, S>,
-    follow: &Follow,
+    filter: &Follow,
     delivery: &Delivery,
     beside: &Beside,
 ) -> Result<Option<(usize, Refusal)>, Error>
     requires below { IfSome beside.now.below IsLawfulSpan }
     requires above { IfSome beside.now.above IsLawfulSpan }
     ensures same_reference { tx.new.conn.ghost_name ≡ tx.old.conn.ghost_name }
-    ensures fills { HasCleanDisk (state S.Store tx.new.conn.now) → IsWorking (state S.Store tx.old.conn.now) → (content : Content) → (stands : StandsFor (state S.Store tx.old.conn.now).now follow.now content) → is_executed content (delivery_value delivery.now) ≡ false
-        → Joins content.executed (id delivery.now.gtid) beside.now stands.executed.spans → IfOk result (Fills follow.now content (delivery_value delivery.now) (state S.Store tx.old.conn.now) (state S.Store tx.new.conn.now)) }
+    ensures fills { HasCleanDisk (state S.Store tx.new.conn.now) → IsWorking (state S.Store tx.old.conn.now) → (content : Content) → (stands : StandsFor (state S.Store tx.old.conn.now).now filter.now content) → is_executed content (delivery_value delivery.now) ≡ false
+        → Joins content.executed (id delivery.now.gtid) beside.now stands.executed.spans → IfOk result (Fills filter.now content (delivery_value delivery.now) (state S.Store tx.old.conn.now) (state S.Store tx.new.conn.now)) }
     ensures stays { Stays (state S.Store tx.old.conn.now) (state S.Store tx.new.conn.now) }
 {
-    if let Some(refused) = make_all(tx, follow, delivery.changes.as_slice())? {
+    if let Some(refused) = make_all(tx, filter, delivery.changes.as_slice())? {
         return Ok(Some(refused));
     }
     record(tx, delivery.gtid, beside)?;
@@ -44,7 +44,7 @@ fn fill<S: Alter>(
 /// Runs `fill` in a transaction of its own, which is rolled back if a change is refused or a statement fails.
 pub(crate) fn run<S: Alter>(
     conn: &mut Connection<S>,
-    follow: &Follow,
+    filter: &Follow,
     delivery: &Delivery,
     beside: &Beside,
 ) -> Result<Option<(usize, Refusal)>, Error>
@@ -52,16 +52,16 @@ pub(crate) fn run<S: Alter>(
     requires below { IfSome beside.now.below IsLawfulSpan }
     requires above { IfSome beside.now.above IsLawfulSpan }
     ensures autocommit { conn.new.in_transaction ≡ false }
-    ensures runs { HasCleanDisk (state S.Store conn.new) → (content : Content) → (rest : IsAtRest (state S.Store conn.old) follow.now content) → is_executed content (delivery_value delivery.now) ≡ false
-        → Joins content.executed (id delivery.now.gtid) beside.now rest.stands.executed.spans → Runs follow.now content (delivery_value delivery.now) (state S.Store conn.old) (state S.Store conn.new) result }
+    ensures runs { HasCleanDisk (state S.Store conn.new) → (content : Content) → (rest : IsAtRest (state S.Store conn.old) filter.now content) → is_executed content (delivery_value delivery.now) ≡ false
+        → Joins content.executed (id delivery.now.gtid) beside.now rest.stands.executed.spans → Runs filter.now content (delivery_value delivery.now) (state S.Store conn.old) (state S.Store conn.new) result }
     ensures opened { HasCleanDisk (state S.Store conn.new) → WasOpen (state S.Store conn.old) (state S.Store conn.new) }
     ensures done { HasCleanDisk (state S.Store conn.new) → result ≡ Ok None → IsTrue (state S.Store conn.new).is_open }
     ensures lives { Survives (state S.Store conn.old) (state S.Store conn.new) (λ _. Unit {0}) }
-    ensures crash { (content : Content) → (rest : IsAtRest (state S.Store conn.old) follow.now content) → is_executed content (delivery_value delivery.now) ≡ false
-        → Joins content.executed (id delivery.now.gtid) beside.now rest.stands.executed.spans → Survives (state S.Store conn.old) (state S.Store conn.new) (MayCommit follow.now content (delivery_value delivery.now) (state S.Store conn.old) result) }
+    ensures crash { (content : Content) → (rest : IsAtRest (state S.Store conn.old) filter.now content) → is_executed content (delivery_value delivery.now) ≡ false
+        → Joins content.executed (id delivery.now.gtid) beside.now rest.stands.executed.spans → Survives (state S.Store conn.old) (state S.Store conn.new) (MayCommit filter.now content (delivery_value delivery.now) (state S.Store conn.old) result) }
 {
     let mut tx = conn.transaction();
-    if let Some(refused) = fill(&mut tx, follow, delivery, beside)? {
+    if let Some(refused) = fill(&mut tx, filter, delivery, beside)? {
         return Ok(Some(refused));
     }
     tx.commit()?;

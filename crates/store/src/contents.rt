@@ -1,4 +1,4 @@
-//! The contents of a store: the executed set and the list of tables; and closing.
+//! The contents of a store: the executed set and the filter; and closing.
 
 ghost use Rattle.std.specs.Prelude.{◌≡◌, Bool, false};
 ghost use Rattle.store.specs.State.{Content};
@@ -18,8 +18,8 @@ impl<S: Alter> Store<S> {
         &self.executed
     }
 
-    /// The tables whose rows are kept; the empty list means all tables. It takes no memory. A store that has failed
-    /// answers it too.
+    /// The filter: the tables whose rows are kept; the empty one admits all tables. It takes no memory. A store that has
+    /// failed answers it too.
     pub fn following(&self) -> &Follow
         ensures { result.now ≡ (names_of S.Store self.now) }
     {

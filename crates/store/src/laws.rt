@@ -38,7 +38,7 @@ pub fn left_of_a_content<S: Alter>(_store: &Store<S>)
     ensures { (schema : _) → (names : Names) → (content : Content) → (trees : _) → AreOf schema names content trees → (only : Names) → IsLeft only names content trees }
 {}
 
-/// A database stands for at most one content and one list of names. One that does is not damaged (with the rowids of
+/// A database stands for at most one content and one filter. One that does is not damaged (with the rowids of
 /// `spans` apart, as each opening tests) and has no other layout, and a damaged one has no other layout. Of known tables
 /// that are there, one of the three is so.
 pub fn one_state<S: Alter>(_conn: &Connection<S>)

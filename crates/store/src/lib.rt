@@ -1,15 +1,15 @@
 //! The rows of a replica and its executed GTID set, in a SQLite database.
 //!
-//! [`Store::open`] takes a connection in autocommit mode (see `Connection::is_autocommit`). It makes the tables of a
+//! [`Store::open`] is given a connection in autocommit mode (see `Connection::is_autocommit`). It makes the tables of a
 //! new database, reads those of an existing one, and migrates those of layout 1. [`Store::open_only`] does so with a
-//! list of tables, and then only the rows of these tables are kept. [`Store::apply`] takes a transaction of the source,
-//! a [`Delivery`](gather::Delivery): its changes and its GTID go into the database together, or not at all. [`Applied`]
-//! says whether the transaction was new. [`Store::adopt`] adds a set to the executed set, for rows that contain its
-//! transactions already.
+//! filter, and then only the rows of the tables that it admits are kept. [`Store::apply`] applies a transaction of the
+//! source, a [`Delivery`](gather::Delivery): its changes and its GTID go into the database together, or not at all.
+//! [`Applied`] says whether the transaction was new. [`Store::adopt`] adds a set to the executed set, for rows that
+//! contain its transactions already.
 //!
 //! Rows are kept as a bag: each row with the number of its copies. [`Store::count`] returns that number for one row,
 //! and [`Store::list`] hands all rows in order to a [`Visitor`], each as a [`Listed`]. [`Store::executed`] is the executed
-//! set, [`Store::following`] the list of tables.
+//! set, [`Store::following`] the filter.
 //!
 //! A [`StoreFault`] of a refused change, `NoSuchRow` or `CountFull`, leaves the store as it was. After `Database` or
 //! `Memory` of `apply` or `adopt` the store has failed: `apply`, `adopt`, `count` and `list` answer `Broken`, and the
@@ -17,7 +17,7 @@
 //! database may have other tables, indexes and views, which no call changes. The contracts assume that nobody else
 //! writes to the database, and that the disk returns what was written to it.
 //!
-//! `specs/` defines what a replica holds (`State.antt`), what a transaction makes of it (`Take.antt`), how the tables
+//! `specs/` defines what a replica holds (`State.antt`), what a transaction makes of it (`Changes.antt`), how the tables
 //! store it (`Rows.antt`, `Layout.antt`), and what lies beside them (`Beside.antt`). [`laws`] states what follows.
 #![tactic(auto)]
 

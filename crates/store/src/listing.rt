@@ -39,20 +39,20 @@ pub struct Listed<'a> {
     pub count: u64,
 }
 
-/// What takes the rows of a list, one at a time.
+/// What accepts the rows of a list, one at a time.
 pub trait Visitor {
-    /// Why it takes no more rows.
+    /// Why it accepts no more rows.
     type Error: Drop;
 
     // What it answers to a row, and what it is afterwards.
     ghost row_gives: { Self → Entry → Result (Unit {0}) Self.Error → Self → Type 0 };
 
-    /// Takes a row. An error ends the list.
+    /// Accepts a row. An error ends the list.
     fn row(&mut self, row: &Listed<'_>) -> Result<(), Self::Error>
         ensures { row_gives self.old (entry_of row.now) result self.new };
 }
 
-/// Why a list has ended before its last row was taken.
+/// Why a list has ended before its last row was accepted.
 #[derive(Debug, Drop)]
 pub enum ListError<E> {
     /// The store could not read on.

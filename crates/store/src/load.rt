@@ -12,7 +12,7 @@ ghost use Rattle.store.specs.Judge.{IsMeta};
 ghost use Rattle.store.specs.Load.{StatesLayout, AsksAll, Ascends, by_order, Rested, OnSeen, Judges, IsLoadFault, all_held_text, all_spans_text, all_follow_text, all_executed_text, IsLoaded, IsFirstLoaded};
 
 use crate::fault::StoreFault;
-use crate::table_rows::{executed_from, follow_from, meta_in, spans_from};
+use crate::table_rows::{executed_from, filter_from, meta_in, spans_from};
 use crate::tables::Meta;
 use crate::verdict::{answer, judge_rows};
 use binlog::Follow;
@@ -78,7 +78,7 @@ fn load_held<S: Alter>(alloc: Global, conn: &mut Connection<S>) -> Result<(), St
     answer(verdict)
 }
 
-/// The names in `follow`.
+/// The filter in `follow`.
 fn load_follow<S: Alter>(alloc: Global, conn: &mut Connection<S>) -> Result<Follow, StoreFault>
     requires { conn.old.in_transaction ≡ false }
     ensures autocommit { conn.new.in_transaction ≡ false }
@@ -92,7 +92,7 @@ fn load_follow<S: Alter>(alloc: Global, conn: &mut Connection<S>) -> Result<Foll
         conn,
         "SELECT rowid, schema_name, table_name FROM follow ORDER BY rowid",
     )?;
-    follow_from(alloc, &rows)
+    filter_from(alloc, &rows)
 }
 
 /// The set in `spans`.

@@ -87,7 +87,7 @@ fn set_layout<S: Alter>(tx: &mut Transaction<'_, S>) -> Result<usize, Error>
     tx.execute("INSERT INTO meta VALUES ('layout', 2)", &[])
 }
 
-/// Inserts the name of a table that is followed.
+/// Inserts the name of a table that the filter admits.
 fn add_name<S: Alter>(
     tx: &mut Transaction<'_, S>,
     schema: &[u8],
@@ -104,7 +104,7 @@ fn add_name<S: Alter>(
     )
 }
 
-/// Inserts the names of the tables that are followed.
+/// Inserts the names of the tables that the filter admits.
 fn add_names<S: Alter>(
     tx: &mut Transaction<'_, S>,
     names: &[(Vec<u8>, Vec<u8>)],
@@ -121,29 +121,29 @@ fn add_names<S: Alter>(
 }
 
 /// Makes the tables and their first rows.
-fn fill<S: Alter>(tx: &mut Transaction<'_, S>, follow: &Follow) -> Result<(), Error>
+fn fill<S: Alter>(tx: &mut Transaction<'_, S>, filter: &Follow) -> Result<(), Error>
     ensures same_reference { tx.new.conn.ghost_name ≡ tx.old.conn.ghost_name }
-    ensures made { HasCleanDisk (state S.Store tx.new.conn.now) → IsMaking [] (state S.Store tx.old.conn.now) → OnOk result (HasMade (state S.Store tx.new.conn.now) follow.now nothing) }
+    ensures made { HasCleanDisk (state S.Store tx.new.conn.now) → IsMaking [] (state S.Store tx.old.conn.now) → OnOk result (HasMade (state S.Store tx.new.conn.now) filter.now nothing) }
     ensures kept { HasCleanDisk (state S.Store tx.new.conn.now) → IsMaking [] (state S.Store tx.old.conn.now) → KeepsCommit (state S.Store tx.old.conn.now) (state S.Store tx.new.conn.now) }
     ensures survives { Survives (state S.Store tx.old.conn.now) (state S.Store tx.new.conn.now) (λ _. ⊥) }
 {
     make_tables(tx)?;
     set_layout(tx)?;
-    add_names(tx, follow.names())
+    add_names(tx, filter.names())
 }
 
 /// Makes the tables of a new database, all of them or none.
-pub(crate) fn make<S: Alter>(conn: &mut Connection<S>, follow: &Follow) -> Result<(), Error>
+pub(crate) fn make<S: Alter>(conn: &mut Connection<S>, filter: &Follow) -> Result<(), Error>
     requires { conn.old.in_transaction ≡ false }
     ensures autocommit { conn.new.in_transaction ≡ false }
-    ensures made { HasCleanDisk (state S.Store conn.new) → IsBlank (state S.Store conn.old) → OnOk result (IsAtRest (state S.Store conn.new) follow.now nothing × LiesBeside (state S.Store conn.old).now (state S.Store conn.new).now) }
+    ensures made { HasCleanDisk (state S.Store conn.new) → IsBlank (state S.Store conn.old) → OnOk result (IsAtRest (state S.Store conn.new) filter.now nothing × LiesBeside (state S.Store conn.old).now (state S.Store conn.new).now) }
     ensures refused { HasCleanDisk (state S.Store conn.new) → IsBlank (state S.Store conn.old) → OnErr result (Rests (state S.Store conn.old) (state S.Store conn.new)) }
-    ensures crash { IsBlank (state S.Store conn.old) → Survives (state S.Store conn.old) (state S.Store conn.new) (MayStandFor (state S.Store conn.old).now follow.now nothing) }
+    ensures crash { IsBlank (state S.Store conn.old) → Survives (state S.Store conn.old) (state S.Store conn.new) (MayStandFor (state S.Store conn.old).now filter.now nothing) }
     ensures clean { HasCleanDisk (state S.Store conn.new) → HasCleanDisk (state S.Store conn.old) }
 {
     // For the prover: what the connection shows is a database. The call does nothing at run time.
     conn.schema();
     let mut tx = conn.transaction();
-    fill(&mut tx, follow)?;
+    fill(&mut tx, filter)?;
     tx.commit()
 }

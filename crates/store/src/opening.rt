@@ -42,12 +42,12 @@ fn tables_of(schema: &Schema) -> Tables
     }
 }
 
-/// A copy of a list of names.
-fn copy(alloc: Global, follow: &Follow) -> Result<Follow, StoreFault>
-    ensures ok { IfOk result (λ copied. copied ≡ follow.now) }
+/// A copy of a filter.
+fn copy(alloc: Global, filter: &Follow) -> Result<Follow, StoreFault>
+    ensures ok { IfOk result (λ copied. copied ≡ filter.now) }
     ensures err { IfErr result (λ fault. fault ≡ Memory) }
 {
-    match Follow::new(alloc, follow.names()) {
+    match Follow::new(alloc, filter.names()) {
         Ok(copied) => Ok(copied),
         Err(_) => Err(StoreFault::Memory),
     }
@@ -204,8 +204,7 @@ fn enter_old<S: Alter>(
     }
 }
 
-/// Opens a database, and returns what its rows stand for. `any` accepts any list of tables, otherwise it must be
-/// `only`.
+/// Opens a database, and returns what its rows stand for. `any` accepts any filter, otherwise it must be `only`.
 fn enter<S: Alter>(
     alloc: Global,
     conn: &mut Connection<S>,
@@ -278,7 +277,7 @@ fn open_with<S: Alter>(
 }
 
 impl<S: Alter> Store<S> {
-    /// Opens a database with the list of tables that it was made for. A new database, which has none of the store's
+    /// Opens a database with the filter that it was made for. A new database, which has none of the store's
     /// tables, gets them in one transaction, and is made for all tables. A database of layout 1 is migrated in one
     /// transaction. Other tables, indexes and views of the database stay as they are.
     ///
@@ -306,27 +305,27 @@ impl<S: Alter> Store<S> {
         open_with(alloc, conn, true, &only)
     }
 
-    /// Like [`Store::open`], with a list of tables, for which a new database is made. An existing database must have
-    /// been made for the same list, which for layout 1 is all tables; otherwise the fault is `Follows`. `Damaged` and
-    /// `Layout` are reported before `Follows`.
+    /// Like [`Store::open`], with a filter, for which a new database is made. An existing database must have been made
+    /// for the same filter, which for layout 1 admits all tables; otherwise the fault is `Follows`. `Damaged` and `Layout`
+    /// are reported before `Follows`.
     pub fn open_only(
         alloc: Global,
         conn: Connection<S>,
-        follow: &Follow,
+        filter: &Follow,
     ) -> Result<Store<S>, (StoreFault, Connection<S>)>
         requires { conn.in_transaction ≡ false }
-        ensures opens { IfOk result (λ store. HasCleanDisk (database S.Store store) → IsReady (state S.Store conn) → Opens S.Store false follow.now (state S.Store conn) store) }
+        ensures opens { IfOk result (λ store. HasCleanDisk (database S.Store store) → IsReady (state S.Store conn) → Opens S.Store false filter.now (state S.Store conn) store) }
         ensures beside { IfOk result (λ store. HasCleanDisk (database S.Store store) → IsReady (state S.Store conn) → LiesBeside (state S.Store conn).now (database S.Store store).now) }
-        ensures turned { IfErr result (λ e. HasCleanDisk (state S.Store e.1) → IsReady (state S.Store conn) → IsTurned false follow.now (state S.Store conn) (state S.Store e.1) e.0) }
+        ensures turned { IfErr result (λ e. HasCleanDisk (state S.Store e.1) → IsReady (state S.Store conn) → IsTurned false filter.now (state S.Store conn) (state S.Store e.1) e.0) }
         ensures headless { (tables_of (state S.Store conn).now.schema).meta ≡ false → has_any (tables_of (state S.Store conn).now.schema) ≡ true → result ≡ Err (Damaged, conn) }
         ensures autocommit { IfErr result (λ e. e.1.in_transaction ≡ false) }
-        ensures crash { IfOk result (λ store. IsReady (state S.Store conn) → Survives (state S.Store conn) (database S.Store store) (MayEnter follow.now (state S.Store conn))) }
-        ensures left { IfErr result (λ e. IsReady (state S.Store conn) → Survives (state S.Store conn) (state S.Store e.1) (MayEnter follow.now (state S.Store conn))) }
-        ensures reopens { (names : Names) (content : Content) → ReadsLeft follow.now names content (state S.Store conn) → IsWanted false follow.now names → MatchResult result (λ store. HasCleanDisk (database S.Store store) → Holds S.Store store content × (names_of S.Store store ≡ names)) (λ e. HasCleanDisk (state S.Store e.1) → IsFailure e.0) }
-        ensures leaves { (names : Names) (content : Content) → ReadsLeft follow.now names content (state S.Store conn) → MatchResult result (λ store. Survives (state S.Store conn) (database S.Store store) (IsLeft follow.now names content)) (λ e. Survives (state S.Store conn) (state S.Store e.1) (IsLeft follow.now names content)) }
+        ensures crash { IfOk result (λ store. IsReady (state S.Store conn) → Survives (state S.Store conn) (database S.Store store) (MayEnter filter.now (state S.Store conn))) }
+        ensures left { IfErr result (λ e. IsReady (state S.Store conn) → Survives (state S.Store conn) (state S.Store e.1) (MayEnter filter.now (state S.Store conn))) }
+        ensures reopens { (names : Names) (content : Content) → ReadsLeft filter.now names content (state S.Store conn) → IsWanted false filter.now names → MatchResult result (λ store. HasCleanDisk (database S.Store store) → Holds S.Store store content × (names_of S.Store store ≡ names)) (λ e. HasCleanDisk (state S.Store e.1) → IsFailure e.0) }
+        ensures leaves { (names : Names) (content : Content) → ReadsLeft filter.now names content (state S.Store conn) → MatchResult result (λ store. Survives (state S.Store conn) (database S.Store store) (IsLeft filter.now names content)) (λ e. Survives (state S.Store conn) (state S.Store e.1) (IsLeft filter.now names content)) }
         ensures fault { IfErr result (λ e. IsOpenFault false e.0) }
         ensures clean { MatchResult result (λ store. HasCleanDisk (database S.Store store) → HasCleanDisk (state S.Store conn)) (λ e. HasCleanDisk (state S.Store e.1) → HasCleanDisk (state S.Store conn)) }
     {
-        open_with(alloc, conn, false, follow)
+        open_with(alloc, conn, false, filter)
     }
 }

@@ -3,13 +3,14 @@
 ghost use Rattle.std.specs.Prelude.{◌≡◌, IfOk};
 ghost use Rattle.sqlite.specs.State.{HasCleanDisk};
 ghost use Rattle.sqlite.specs.Held.{state};
-ghost use Rattle.store.specs.Rows.{IsStored, key_in, held_rows, count};
+ghost use Rattle.store.specs.Rows.{IsStoredImage, key_in, held_rows, count};
 ghost use Rattle.gather.specs.Transaction.{insert, delete};
 ghost use Rattle.gather.specs.View.{change_value, change_values};
-ghost use Rattle.store.specs.Take.{is_followed};
-ghost use Rattle.store.specs.Inside.{IsWorking, added, taken, Counted, Makes, Does, DoesAll, Stays};
+ghost use Rattle.store.specs.Changes.{is_admitted};
+ghost use Rattle.store.specs.Inside.{IsWorking, added, removed, Counted, Makes, Does, DoesAll, Stays};
 
 use crate::held_rows::{RowKey, delete, insert, read, update};
+use crate::rules::MOST;
 use binlog::{Follow, TableDef};
 use gather::{Change, Image};
 use sqlite::{Alter, Error, Transaction};
@@ -23,15 +24,13 @@ pub enum Refusal {
     CountFull,
 }
 
-const MOST: u64 = 9_223_372_036_854_775_807;
-
 /// Adds one copy of a row.
 pub(crate) fn add<S: Alter>(
     tx: &mut Transaction<'_, S>,
     row: &RowKey<'_>,
 ) -> Result<Option<Refusal>, Error>
     ensures same_reference { tx.new.conn.ghost_name ≡ tx.old.conn.ghost_name }
-    ensures counted { HasCleanDisk (state S.Store tx.new.conn.now) → IsWorking (state S.Store tx.old.conn.now) → IsStored row.now.image.now → IfOk result (Counted (state S.Store tx.old.conn.now) (state S.Store tx.new.conn.now) (added (key_in row.now) (count (held_rows (state S.Store tx.old.conn.now).now)))) }
+    ensures counted { HasCleanDisk (state S.Store tx.new.conn.now) → IsWorking (state S.Store tx.old.conn.now) → IsStoredImage row.now.image.now → IfOk result (Counted (state S.Store tx.old.conn.now) (state S.Store tx.new.conn.now) (added (key_in row.now) (count (held_rows (state S.Store tx.old.conn.now).now)))) }
     ensures stays { Stays (state S.Store tx.old.conn.now) (state S.Store tx.new.conn.now) }
 {
     let Some(n) = read(tx, row)? else {
@@ -46,12 +45,12 @@ pub(crate) fn add<S: Alter>(
 }
 
 /// Removes one copy of a row.
-pub(crate) fn take<S: Alter>(
+pub(crate) fn remove<S: Alter>(
     tx: &mut Transaction<'_, S>,
     row: &RowKey<'_>,
 ) -> Result<Option<Refusal>, Error>
     ensures same_reference { tx.new.conn.ghost_name ≡ tx.old.conn.ghost_name }
-    ensures counted { HasCleanDisk (state S.Store tx.new.conn.now) → IsWorking (state S.Store tx.old.conn.now) → IfOk result (Counted (state S.Store tx.old.conn.now) (state S.Store tx.new.conn.now) (taken (key_in row.now) (count (held_rows (state S.Store tx.old.conn.now).now)))) }
+    ensures counted { HasCleanDisk (state S.Store tx.new.conn.now) → IsWorking (state S.Store tx.old.conn.now) → IfOk result (Counted (state S.Store tx.old.conn.now) (state S.Store tx.new.conn.now) (removed (key_in row.now) (count (held_rows (state S.Store tx.old.conn.now).now)))) }
     ensures stays { Stays (state S.Store tx.old.conn.now) (state S.Store tx.new.conn.now) }
 {
     let Some(n) = read(tx, row)? else {
@@ -101,7 +100,7 @@ fn remove_row<S: Alter>(
         table: table.table.as_slice(),
         image: image.bytes(),
     };
-    take(tx, &row)
+    remove(tx, &row)
 }
 
 /// Makes one change, or returns why it is refused.
@@ -126,28 +125,28 @@ fn make<S: Alter>(tx: &mut Transaction<'_, S>, change: &Change) -> Result<Option
     }
 }
 
-/// Whether the table of a change is followed.
-fn is_followed(follow: &Follow, change: &Change) -> bool
-    ensures { result ≡ is_followed follow.now (change_value change.now) }
+/// Whether the filter admits the table of a change.
+fn is_admitted(filter: &Follow, change: &Change) -> bool
+    ensures { result ≡ is_admitted filter.now (change_value change.now) }
 {
     match change {
-        Change::Insert { table, .. } => follow.follows(&table.schema, &table.table),
-        Change::Delete { table, .. } => follow.follows(&table.schema, &table.table),
-        Change::Update { table, .. } => follow.follows(&table.schema, &table.table),
+        Change::Insert { table, .. } => filter.follows(&table.schema, &table.table),
+        Change::Delete { table, .. } => filter.follows(&table.schema, &table.table),
+        Change::Update { table, .. } => filter.follows(&table.schema, &table.table),
     }
 }
 
-/// Makes one change of a table that is followed, and skips any other.
+/// Makes one change of a table that the filter admits, and skips any other.
 fn step<S: Alter>(
     tx: &mut Transaction<'_, S>,
-    follow: &Follow,
+    filter: &Follow,
     change: &Change,
 ) -> Result<Option<Refusal>, Error>
     ensures same_reference { tx.new.conn.ghost_name ≡ tx.old.conn.ghost_name }
-    ensures does { HasCleanDisk (state S.Store tx.new.conn.now) → IsWorking (state S.Store tx.old.conn.now) → IfOk result (Does follow.now (change_value change.now) (state S.Store tx.old.conn.now) (state S.Store tx.new.conn.now)) }
+    ensures does { HasCleanDisk (state S.Store tx.new.conn.now) → IsWorking (state S.Store tx.old.conn.now) → IfOk result (Does filter.now (change_value change.now) (state S.Store tx.old.conn.now) (state S.Store tx.new.conn.now)) }
     ensures stays { Stays (state S.Store tx.old.conn.now) (state S.Store tx.new.conn.now) }
 {
-    if !is_followed(follow, change) {
+    if !is_admitted(filter, change) {
         return Ok(None);
     }
     make(tx, change)
@@ -156,15 +155,15 @@ fn step<S: Alter>(
 /// Makes the changes in order, or returns the index of the one that is refused, and why.
 pub(crate) fn make_all<S: Alter>(
     tx: &mut Transaction<'_, S>,
-    follow: &Follow,
+    filter: &Follow,
     changes: &[Change],
 ) -> Result<Option<(usize, Refusal)>, Error>
     ensures same_reference { tx.new.conn.ghost_name ≡ tx.old.conn.ghost_name }
-    ensures does { HasCleanDisk (state S.Store tx.new.conn.now) → IsWorking (state S.Store tx.old.conn.now) → IfOk result (DoesAll follow.now (change_values changes.now) (state S.Store tx.old.conn.now) (state S.Store tx.new.conn.now)) }
+    ensures does { HasCleanDisk (state S.Store tx.new.conn.now) → IsWorking (state S.Store tx.old.conn.now) → IfOk result (DoesAll filter.now (change_values changes.now) (state S.Store tx.old.conn.now) (state S.Store tx.new.conn.now)) }
     ensures stays { Stays (state S.Store tx.old.conn.now) (state S.Store tx.new.conn.now) }
 {
     for at in 0..changes.len() {
-        if let Some(why) = step(tx, follow, &changes[at])? {
+        if let Some(why) = step(tx, filter, &changes[at])? {
             return Ok(Some((at, why)));
         }
     }

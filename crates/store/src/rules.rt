@@ -2,10 +2,10 @@
 
 ghost use Rattle.std.specs.Prelude.{◌≡◌, true, map, ◌<◌, ◌≤◌, ◌^◌, pos, ℕ, IfOk, OnOk, IfErr, IfSome, IfNone, MatchBool, MatchOption};
 ghost use Rattle.std.specs.List.{AllByRecursion};
-ghost use Rattle.store.specs.Take.{most};
+ghost use Rattle.store.specs.Changes.{most};
 ghost use Rattle.gtid.specs.Identifier.{IsSource};
 ghost use Rattle.gtid.specs.declared.span.Span.{Span};
-ghost use Rattle.store.specs.Rows.{IsMetaRow, IsFollowRow, IsSpanRow, IsHeldRow, IsExecutedRow, IsStored, HasRowids, span_in, id_in, name_in, is_text};
+ghost use Rattle.store.specs.Rows.{IsMetaRow, IsFollowRow, IsSpanRow, IsHeldRow, IsExecutedRow, IsStoredImage, HasRowids, span_in, id_in, name_in, is_text};
 ghost use Rattle.std.specs.Prelude.{codes, ℤ};
 ghost use Rattle.sqlite_value.specs.Order.{column};
 ghost use Rattle.sqlite_value.specs.declared.value.Value.TheVariants.{Int};
@@ -55,7 +55,8 @@ pub(crate) fn are_meta(rows: &[Row]) -> Result<bool, Error>
 
 // ---- held
 
-const MOST: u64 = 9_223_372_036_854_775_807;
+/// The greatest number that a table has: 2^63 - 1.
+pub(crate) const MOST: u64 = 9_223_372_036_854_775_807;
 
 /// The number in a column, if it is from 1 to 2^63 - 1.
 fn number_at(row: &Row, at: usize) -> Result<Option<u64>, Error>
@@ -105,7 +106,7 @@ pub(crate) fn is_held(alloc: Global, row: &Row) -> Result<bool, StoreFault>
 
 /// Whether the bytes are a stored image.
 fn is_image(alloc: Global, bytes: &[u8]) -> Result<bool, StoreFault>
-    ensures judged { IfOk result (λ b. MatchBool b (IsStored bytes.now) (¬ IsStored bytes.now)) }
+    ensures judged { IfOk result (λ b. MatchBool b (IsStoredImage bytes.now) (¬ IsStoredImage bytes.now)) }
     ensures fault { IfErr result IsCause }
 {
     match Image::read(alloc, bytes) {

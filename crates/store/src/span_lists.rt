@@ -7,7 +7,7 @@ ghost use Rattle.sqlite.specs.Held.{state};
 ghost use Rattle.gtid.specs.Identifier.{IsSource, AreGtids};
 ghost use Rattle.gtid.specs.declared.span.Span.{Span};
 ghost use Rattle.store.specs.Rows.{stored_span, span_rows, shown_spans};
-ghost use Rattle.store.specs.Inside.{IsWorking, GoesOn, Moves, HasLeft, Lists, Shows, Records, Stays};
+ghost use Rattle.store.specs.Inside.{IsWorking, GoesOn, Moves, HasLeft, AreRowsOf, Shows, Records, Stays};
 
 use crate::span_rows::{add_span, drop_span, is_source};
 use gtid::laws::numbers_in_range;
@@ -49,7 +49,7 @@ pub(crate) fn add_all<S: Alter>(tx: &mut Transaction<'_, S>, spans: Spans<'_>) -
 /// Deletes a span. One that the columns cannot hold is refused.
 fn remove<S: Alter>(tx: &mut Transaction<'_, S>, span: Span) -> Result<usize, Error>
     ensures same_reference { tx.new.conn.ghost_name ≡ tx.old.conn.ghost_name }
-    ensures moves { HasCleanDisk (state S.Store tx.new.conn.now) → IsWorking (state S.Store tx.old.conn.now) → (rest : List Span) → Lists (span_rows (state S.Store tx.old.conn.now).now) (span ∷ rest) → OnOk result (Moves (state S.Store tx.old.conn.now) (state S.Store tx.new.conn.now) (map stored_span rest)) }
+    ensures moves { HasCleanDisk (state S.Store tx.new.conn.now) → IsWorking (state S.Store tx.old.conn.now) → (rest : List Span) → AreRowsOf (span_rows (state S.Store tx.old.conn.now).now) (span ∷ rest) → OnOk result (Moves (state S.Store tx.old.conn.now) (state S.Store tx.new.conn.now) (map stored_span rest)) }
     ensures goes { HasCleanDisk (state S.Store tx.new.conn.now) → IsWorking (state S.Store tx.old.conn.now) → OnOk result (GoesOn (state S.Store tx.old.conn.now) (state S.Store tx.new.conn.now)) }
     ensures stays { Stays (state S.Store tx.old.conn.now) (state S.Store tx.new.conn.now) }
 {
@@ -62,7 +62,7 @@ fn remove<S: Alter>(tx: &mut Transaction<'_, S>, span: Span) -> Result<usize, Er
 /// Deletes the spans, where these are all that are stored.
 fn remove_all<S: Alter>(tx: &mut Transaction<'_, S>, spans: Spans<'_>) -> Result<(), Error>
     ensures same_reference { tx.new.conn.ghost_name ≡ tx.old.conn.ghost_name }
-    ensures moves { HasCleanDisk (state S.Store tx.new.conn.now) → IsWorking (state S.Store tx.old.conn.now) → Lists (span_rows (state S.Store tx.old.conn.now).now) spans.entry → OnOk result (Moves (state S.Store tx.old.conn.now) (state S.Store tx.new.conn.now) []) }
+    ensures moves { HasCleanDisk (state S.Store tx.new.conn.now) → IsWorking (state S.Store tx.old.conn.now) → AreRowsOf (span_rows (state S.Store tx.old.conn.now).now) spans.entry → OnOk result (Moves (state S.Store tx.old.conn.now) (state S.Store tx.new.conn.now) []) }
     ensures goes { HasCleanDisk (state S.Store tx.new.conn.now) → IsWorking (state S.Store tx.old.conn.now) → OnOk result (GoesOn (state S.Store tx.old.conn.now) (state S.Store tx.new.conn.now)) }
     ensures stays { Stays (state S.Store tx.old.conn.now) (state S.Store tx.new.conn.now) }
 {

@@ -6,7 +6,7 @@ ghost use Rattle.sqlite.specs.Held.{state};
 ghost use Rattle.sqlite_value.specs.Order.{Row as Stored};
 ghost use Rattle.sqlite_value.specs.declared.value.Value.TheVariants.{Int, Blob};
 ghost use Rattle.store.specs.Rows.{span_rows, shown_spans, stored_span};
-ghost use Rattle.store.specs.Inside.{IsWorking, GoesOn, Moves, Begins, Lists, Shows, Records, Stays};
+ghost use Rattle.store.specs.Inside.{IsWorking, GoesOn, Moves, Begins, AreRowsOf, Shows, Records, Stays};
 ghost use Rattle.std.specs.FinSet as set;
 ghost use Rattle.std.specs.List.{AllByRecursion};
 ghost use Rattle.gtid.specs.Identifier.{Ids, id, IsSource, IsGtid};
@@ -59,7 +59,7 @@ fn drop_neighbour<S: Alter>(
 ) -> Result<(), Error>
     requires { IfSome neighbour IsLawfulSpan }
     ensures same_reference { tx.new.conn.ghost_name ≡ tx.old.conn.ghost_name }
-    ensures moves { HasCleanDisk (state S.Store tx.new.conn.now) → IsWorking (state S.Store tx.old.conn.now) → (front : List Span) → (rest : List Span) → Lists (span_rows (state S.Store tx.old.conn.now).now) (front ++ (one_or_none neighbour ++ rest)) → OnOk result (Moves (state S.Store tx.old.conn.now) (state S.Store tx.new.conn.now) (map stored_span (front ++ rest))) }
+    ensures moves { HasCleanDisk (state S.Store tx.new.conn.now) → IsWorking (state S.Store tx.old.conn.now) → (front : List Span) → (rest : List Span) → AreRowsOf (span_rows (state S.Store tx.old.conn.now).now) (front ++ (one_or_none neighbour ++ rest)) → OnOk result (Moves (state S.Store tx.old.conn.now) (state S.Store tx.new.conn.now) (map stored_span (front ++ rest))) }
     ensures goes { HasCleanDisk (state S.Store tx.new.conn.now) → IsWorking (state S.Store tx.old.conn.now) → OnOk result (GoesOn (state S.Store tx.old.conn.now) (state S.Store tx.new.conn.now)) }
     ensures stays { Stays (state S.Store tx.old.conn.now) (state S.Store tx.new.conn.now) }
 {

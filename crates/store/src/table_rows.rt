@@ -32,8 +32,8 @@ pub(crate) fn meta_in(rows: &[Row]) -> Result<Meta, Error>
     Ok(Meta { layout, lawful })
 }
 
-/// The list of tables in the rows of `follow`.
-pub(crate) fn follow_from(alloc: Global, rows: &[Row]) -> Result<Follow, StoreFault>
+/// The filter in the rows of `follow`.
+pub(crate) fn filter_from(alloc: Global, rows: &[Row]) -> Result<Follow, StoreFault>
     ensures judged { Judges result (AreNames rows.now) (AllByRecursion IsFollowRow rows.now) }
     ensures fault { IfErr result IsLoadFault }
 {
@@ -41,7 +41,7 @@ pub(crate) fn follow_from(alloc: Global, rows: &[Row]) -> Result<Follow, StoreFa
         return Err(StoreFault::Damaged);
     };
     match Follow::new(alloc, &names) {
-        Ok(follow) => Ok(follow),
+        Ok(filter) => Ok(filter),
         Err(_) => Err(StoreFault::Memory),
     }
 }

@@ -1,5 +1,5 @@
 -- Bytes cut into parts.
-use Rattle.std.proofs.Common.{◌≡◌, ℕ, zero, suc, ◌+◌, ◌-◌, ◌<◌, ◌≤◌, ◌^◌, ◌%◌, ◌/◌, List, [], ◌∷◌, ◌++◌, length, get_or, take, drop, refl, sym, ap, ◌∙◌, arith}
+use Rattle.std.proofs.Common.{◌≡◌, ℕ, zero, suc, ◌+◌, ◌-◌, ◌<◌, ◌≤◌, ◌^◌, ◌%◌, ◌/◌, List, [], ◌∷◌, ◌++◌, length, get_or, take, drop, refl, sym, ap, ◌∙◌, append_assoc, arith}
 use Rattle.std.proofs.Math.Seq.{drop-cons, drop-append-add}
 use Rattle.std.proofs.lemmas.List.{drop-drop, get_or-drop, take-append-drop, take_rest}
 use Rattle.std.proofs.Math.Nat.{div-div-eq-div-mul, div-one, pow-suc}
@@ -77,8 +77,25 @@ drop_front front rest = let e : length front ≡ length front + 0 = omega arith 
 pub first_and_rest : (xs : List ℕ) → 1 ≤ length xs → xs ≡ get_or xs 0 0 ∷ take (length xs - 1) (drop 1 xs)
 first_and_rest xs long = drop-cons xs 0 0 (omega (arith, long)) ∙ ap (λ rest. get_or xs 0 0 ∷ rest) (sym (take_rest xs 1))
 
+pub begun_by : (first : ℕ) (xs : List ℕ) → 1 ≤ length xs → get_or xs 0 0 ≡ first → xs ≡ first ∷ take (length xs - 1) (drop 1 xs)
+begun_by first xs some is = first_and_rest xs some ∙ ap (λ b. b ∷ take (length xs - 1) (drop 1 xs)) is
+
 pub two_and_rest : (xs : List ℕ) → 2 ≤ length xs → xs ≡ get_or xs 0 0 ∷ get_or xs 1 0 ∷ take (length xs - 2) (drop 2 xs)
 two_and_rest xs long = drop-cons xs 0 0 (omega (arith, long)) ∙ ap (λ rest. get_or xs 0 0 ∷ rest) (drop-cons xs 1 0 (omega (arith, long)) ∙ ap (λ rest. get_or xs 1 0 ∷ rest) (sym (take_rest xs 2)))
 
 pub drop_at : (front rest : List ℕ) (n : ℕ) → length front ≡ n → drop n (front ++ rest) ≡ rest
 drop_at front rest n long = ap (λ k. drop k (front ++ rest)) (sym long) ∙ drop_front front rest
+
+-- ---- Parts joined from the left and from the right.
+
+pub right_4 : (a b c d : List ℕ) → a ++ b ++ c ++ d ≡ a ++ (b ++ (c ++ d))
+right_4 a b c d = append_assoc (a ++ b) c d ∙ append_assoc a b (c ++ d)
+
+pub right_5 : (a b c d e : List ℕ) → a ++ b ++ c ++ d ++ e ≡ a ++ (b ++ (c ++ (d ++ e)))
+right_5 a b c d e = append_assoc (a ++ b ++ c) d e ∙ right_4 a b c (d ++ e)
+
+pub right_6 : (a b c d e f : List ℕ) → a ++ b ++ c ++ d ++ e ++ f ≡ a ++ (b ++ (c ++ (d ++ (e ++ f))))
+right_6 a b c d e f = append_assoc (a ++ b ++ c ++ d) e f ∙ right_5 a b c d (e ++ f)
+
+pub right_7 : (a b c d e f g : List ℕ) → a ++ b ++ c ++ d ++ e ++ f ++ g ≡ a ++ (b ++ (c ++ (d ++ (e ++ (f ++ g)))))
+right_7 a b c d e f g = append_assoc (a ++ b ++ c ++ d ++ e) f g ∙ append_assoc (a ++ b ++ c ++ d) e (f ++ g) ∙ right_5 a b c d (e ++ (f ++ g))

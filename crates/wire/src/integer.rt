@@ -4,6 +4,7 @@ ghost use Rattle.std.specs.Prelude.{◌≡◌, ℕ, ◌+◌, ◌≤◌, ◌<◌,
 ghost use Rattle.wire.specs.Integer.{IsLengthEncoded, length_encoded};
 
 use crate::fault::WireFault;
+use crate::lenenc::{EIGHT_BYTES, MOST_IN_ONE_BYTE, THREE_BYTES, TWO_BYTES};
 use byteorder::{ByteOrder, LittleEndian};
 
 /// Reads the length-encoded integer at the front of the bytes: its value, and the 1, 3, 4 or 9 bytes
@@ -17,10 +18,16 @@ pub fn read_int(bytes: &[u8]) -> Option<(u64, usize)>
     ensures none { IfNone result ((n len : ℕ) → IsLengthEncoded n (take len bytes.now) → ⊥) }
 {
     match bytes {
-        [first @ 0..=0xfa, ..] => Some((u64::from(*first), 1)),
-        [0xfc, rest @ ..] if rest.len() >= 2 => Some((u64::from(LittleEndian::read_u16(rest)), 3)),
-        [0xfd, rest @ ..] if rest.len() >= 3 => Some((u64::from(LittleEndian::read_u24(rest)), 4)),
-        [0xfe, rest @ ..] if rest.len() >= 8 => Some((LittleEndian::read_u64(rest), 9)),
+        [first @ 0..=MOST_IN_ONE_BYTE, ..] => Some((u64::from(*first), 1)),
+        [TWO_BYTES, rest @ ..] if rest.len() >= 2 => Some((
+            u64::from(LittleEndian::read_u16(rest)),
+            3,
+        )),
+        [THREE_BYTES, rest @ ..] if rest.len() >= 3 => Some((
+            u64::from(LittleEndian::read_u24(rest)),
+            4,
+        )),
+        [EIGHT_BYTES, rest @ ..] if rest.len() >= 8 => Some((LittleEndian::read_u64(rest), 9)),
         _ => None,
     }
 }
@@ -38,9 +45,9 @@ pub fn write_int(value: u64, out: &mut Vec<u8>) -> Result<(), WireFault>
     let [a, b, c, d, e, f, g, h] = value.to_le_bytes();
     match value {
         0..=0xfa => out.push(a)?,
-        0xfb..=0xffff => out.extend_from_slice(&[0xfc, a, b])?,
-        0x1_0000..=0xff_ffff => out.extend_from_slice(&[0xfd, a, b, c])?,
-        _ => out.extend_from_slice(&[0xfe, a, b, c, d, e, f, g, h])?,
+        0xfb..=0xffff => out.extend_from_slice(&[TWO_BYTES, a, b])?,
+        0x1_0000..=0xff_ffff => out.extend_from_slice(&[THREE_BYTES, a, b, c])?,
+        _ => out.extend_from_slice(&[EIGHT_BYTES, a, b, c, d, e, f, g, h])?,
     }
     Ok(())
 }

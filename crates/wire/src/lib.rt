@@ -14,10 +14,11 @@ mod assembler;
 mod fault;
 mod integer;
 pub mod laws;
+pub mod lenenc;
 mod packet;
 mod unpacker;
 
 pub use assembler::{Assembler, Step};
 pub use fault::WireFault;
 pub use integer::{read_int, write_int};
-pub use packet::{LARGEST_PAYLOAD, packing_length, write_payload};
+pub use packet::{HEADER_LENGTH, LARGEST_PAYLOAD, packing_length, write_payload};

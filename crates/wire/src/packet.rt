@@ -14,7 +14,7 @@ pub const LARGEST_PAYLOAD: usize = 1_073_741_824;
 pub(crate) const FULL_CHUNK: usize = 16_777_215;
 
 /// The length in bytes of a packet's header: three bytes of length and the sequence id.
-pub(crate) const HEADER: usize = 4;
+pub const HEADER_LENGTH: usize = 4;
 
 /// How many bytes the packets of a payload of `payload` bytes take: four more for each packet.
 #[tactic(auto, unfolding(crate::specs::Packet::full_chunk))]
@@ -22,14 +22,14 @@ pub fn packing_length(payload: usize) -> usize
     requires { payload < 2 ^ 63 }
     ensures { result ≡ spec.packing_length payload }
 {
-    payload + HEADER * (payload / FULL_CHUNK + 1)
+    payload + HEADER_LENGTH * (payload / FULL_CHUNK + 1)
 }
 
 fn push_packet(id: u8, chunk: &[u8], out: &mut Vec<u8>)
     requires size { length chunk.now ≤ FULL_CHUNK }
-    requires room { vec_len out.old + HEADER + length chunk.now ≤ vec_capacity out.old }
+    requires room { vec_len out.old + HEADER_LENGTH + length chunk.now ≤ vec_capacity out.old }
     ensures packet { out.new.items ≡ out.old.items ++ packet id chunk.now }
-    ensures len { vec_len out.new ≡ vec_len out.old + HEADER + length chunk.now }
+    ensures len { vec_len out.new ≡ vec_len out.old + HEADER_LENGTH + length chunk.now }
     ensures capacity { vec_capacity out.old ≤ vec_capacity out.new }
 {
     let [a, b, c, _] = (chunk.len() as u32).to_le_bytes();

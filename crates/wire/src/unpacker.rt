@@ -4,7 +4,7 @@ ghost use Rattle.std.specs.Prelude.{◌≡◌, ◌≢◌, ℕ, ◌+◌, ◌%◌,
 ghost use Rattle.wire.specs.Header.{IsHeader};
 
 use crate::fault::WireFault;
-use crate::packet::{FULL_CHUNK, HEADER, LARGEST_PAYLOAD};
+use crate::packet::{FULL_CHUNK, HEADER_LENGTH, LARGEST_PAYLOAD};
 use byteorder::{ByteOrder, LittleEndian};
 use std::alloc::Global;
 use std::mem;
@@ -19,7 +19,7 @@ pub(crate) struct Unpacker {
     /// How many full packets of the payload have come.
     pub(crate) full: u8,
     /// The header of the current packet, of which the first `filled` bytes have come.
-    pub(crate) header: [u8; HEADER],
+    pub(crate) header: [u8; HEADER_LENGTH],
     pub(crate) filled: usize,
     /// How many bytes of the current chunk are still to come, once its header is complete.
     pub(crate) left: usize,
@@ -44,7 +44,7 @@ fn fill(header: &mut [u8], filled: usize, bytes: &[u8]) -> usize
 
 /// The length in a header, which must have this sequence id and a length of at most `room`.
 fn read_header(header: &[u8], id: u8, room: usize) -> Result<usize, WireFault>
-    requires { length header.now ≡ HEADER }
+    requires { length header.now ≡ HEADER_LENGTH }
     ensures ok { IfOk result (λ size. IsHeader size id header.now × (size ≤ room)) }
     ensures sequence { (want got : ℕ) → result ≡ Err (WireFault.Sequence want got) → (want ≡ id) × (got ≢ id) × (size : ℕ) × IsHeader size got header.now }
     ensures too_large { result ≡ Err WireFault.TooLarge → (size : ℕ) × (room < size) × IsHeader size id header.now }
@@ -77,7 +77,7 @@ impl Unpacker {
             limit,
             due,
             full: 0,
-            header: [0; HEADER],
+            header: [0; HEADER_LENGTH],
             filled: 0,
             left: 0,
             payload: Vec::new(alloc),
@@ -96,7 +96,7 @@ impl Unpacker {
     pub(crate) fn is_complete(&self) -> bool
         ensures { IsTrue result ↔ IsComplete self.now }
     {
-        self.filled == HEADER && self.left == 0
+        self.filled == HEADER_LENGTH && self.left == 0
     }
 
     /// Consumes bytes of the current header. Once it is complete it is checked, and room is made for its
@@ -114,7 +114,7 @@ impl Unpacker {
     {
         let used = fill(&mut self.header, self.filled, bytes);
         self.filled += used;
-        if self.filled < HEADER {
+        if self.filled < HEADER_LENGTH {
             return Ok(used);
         }
         let id = self.due.wrapping_add(self.full);
@@ -158,7 +158,7 @@ impl Unpacker {
         let mut used = 0;
         while used < bytes.len() && !self.is_complete() {
             let rest = &bytes[used..];
-            used += if self.filled < HEADER {
+            used += if self.filled < HEADER_LENGTH {
                 self.take_header(rest)?
             } else {
                 self.take_chunk(rest)

@@ -2,6 +2,7 @@
 //! `binary_log::Format_description_event`.
 
 ghost use Rattle.std.specs.Prelude.{◌≡◌, ◌≤◌, length, drop, IfErr, IfSome, IfNone, OnOk, IsOk, Ok, Some, None, ◌++◌, take, OnErr, Err, ◌<◌, ◌+◌, vec_len, vec_capacity};
+ghost use Rattle.binlog.specs.Header.{header_length};
 ghost use Rattle.binlog.specs.Body.{IsFormat, format_fault, length_refusals, read_lengths};
 ghost use Rattle.binlog.specs.Fault.{first_of};
 ghost use Rattle.binlog.specs.Writing.{format_body};
@@ -9,6 +10,7 @@ ghost use Rattle.binlog.specs.declared.fault.EventFaultKind.TheVariants.{Memory}
 
 use crate::event_type;
 use crate::fault::{EventFault, EventFaultKind};
+use crate::header::HEADER_LENGTH;
 use byteorder::{ByteOrder, LittleEndian};
 
 /// The supported types with post-headers, and the lengths of these.
@@ -33,8 +35,8 @@ const FORMAT: &[u8] = &[
 /// Reads a format description: version 4, the expected post-header lengths of the supported types, and no checksums.
 #[tactic(auto, unfolding(crate::specs::Body::format_fault))]
 pub(crate) fn read_format(bytes: &[u8]) -> Result<(), EventFault>
-    ensures found { OnOk result (IsFormat (drop 19 bytes.now)) }
-    ensures only { IsFormat (drop 19 bytes.now) → IsOk result }
+    ensures found { OnOk result (IsFormat (drop header_length bytes.now)) }
+    ensures only { IsFormat (drop header_length bytes.now) → IsOk result }
     ensures fault { IfErr result (λ fault. format_fault bytes.now ≡ Some fault) }
 {
     match bytes.len() {
@@ -49,7 +51,7 @@ pub(crate) fn read_format(bytes: &[u8]) -> Result<(), EventFault>
     if LittleEndian::read_u16(&bytes[19..]) != 4 {
         return Err(EventFault::new(EventFaultKind::FormatVersion, 19));
     }
-    if bytes[75] != 19 {
+    if bytes[75] != HEADER_LENGTH as u8 {
         return Err(EventFault::new(EventFaultKind::HeaderLengths, 75));
     }
     if bytes.len() < 116 {

@@ -1,6 +1,7 @@
 //! QUERY: a statement. MySQL Source Documentation, "Binlog Event", the page `binary_log::Query_event`.
 
 ghost use Rattle.std.specs.Prelude.{◌≡◌, ◌≤◌, length, drop, IfOk, IfErr, Ok, Some, ◌++◌, take, OnOk, OnErr, Err, ◌<◌, ◌+◌, vec_len, vec_capacity};
+ghost use Rattle.binlog.specs.Header.{header_length};
 ghost use Rattle.binlog.specs.declared.body.query.Query.{Query};
 ghost use Rattle.binlog.specs.Body.{IsQuery, query_fault, statement, text_place};
 ghost use Rattle.binlog.specs.Writing.{query_body};
@@ -23,8 +24,8 @@ const COMMIT: &[u8] = b"COMMIT";
 /// Reads a QUERY event whose text is `BEGIN` or `COMMIT`.
 #[tactic(auto, unfolding(crate::specs::Body::query_fault))]
 pub(crate) fn read_query(bytes: &[u8]) -> Result<Query, EventFault>
-    ensures found { IfOk result (λ query. IsQuery (statement query) (drop 19 bytes.now)) }
-    ensures only { (query : Query) → IsQuery (statement query) (drop 19 bytes.now) → result ≡ Ok query }
+    ensures found { IfOk result (λ query. IsQuery (statement query) (drop header_length bytes.now)) }
+    ensures only { (query : Query) → IsQuery (statement query) (drop header_length bytes.now) → result ≡ Ok query }
     ensures fault { IfErr result (λ fault. query_fault bytes.now ≡ Some fault) }
 {
     let text = read_text(bytes)?;

@@ -6,6 +6,7 @@ ghost use Rattle.binlog.specs.Body.{IsRotate, rotate_fault};
 ghost use Rattle.binlog.specs.Event.{rotate};
 ghost use Rattle.binlog.specs.Writing.{IsWritable};
 ghost use Rattle.byteorder.specs.Endian.{little_bytes};
+ghost use Rattle.binlog.specs.Header.{header_length};
 ghost use Rattle.binlog.specs.declared.fault.EventFaultKind.TheVariants.{Memory};
 
 use crate::fault::EventFault;
@@ -14,8 +15,8 @@ use byteorder::{ByteOrder, LittleEndian};
 /// Reads a rotation: the position in the next file, and the file's name.
 #[tactic(auto, unfolding(crate::specs::Body::rotate_fault))]
 pub(crate) fn read_rotate(bytes: &[u8]) -> Result<(u64, &[u8]), EventFault>
-    ensures found { IfOk result (λ read. IsRotate read.0 read.1.now (drop 19 bytes.now)) }
-    ensures only { (position : ℕ) (name : List ℕ) → IsRotate position name (drop 19 bytes.now) → IfOk result (λ read. (read.0 ≡ position) × (read.1.now ≡ name)) }
+    ensures found { IfOk result (λ read. IsRotate read.0 read.1.now (drop header_length bytes.now)) }
+    ensures only { (position : ℕ) (name : List ℕ) → IsRotate position name (drop header_length bytes.now) → IfOk result (λ read. (read.0 ≡ position) × (read.1.now ≡ name)) }
     ensures fault { IfErr result (λ fault. rotate_fault bytes.now ≡ Some fault) }
 {
     if bytes.len() < 27 {

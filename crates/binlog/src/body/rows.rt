@@ -6,16 +6,26 @@ ghost use Rattle.binlog.specs.Rows.{RowsValue, IsRows, presents_size, present_fa
 ghost use Rattle.binlog.specs.Row.{bitmap_size};
 ghost use Rattle.binlog.specs.RowsView.{rows_value};
 ghost use Rattle.byteorder.specs.Endian.{little_bytes};
+ghost use Rattle.binlog.specs.Table.{most_columns};
+ghost use Rattle.binlog.specs.Header.{header_length};
 ghost use Rattle.binlog.specs.Event.{rows};
-ghost use Rattle.binlog.specs.Writing.{IsWritable, HasRowsBody, plain_rows, rows_head, presents_bytes, rows_body};
+ghost use Rattle.binlog.specs.Writing.{stmt_end, IsWritable, HasRowsBody, plain_rows, rows_head, presents_bytes, rows_body};
 ghost use Rattle.binlog.specs.declared.fault.EventFaultKind.TheVariants.{Memory};
 
 use crate::bitmap::{is_set, write_full_bitmap};
 use crate::body::rows_event::{RowsEvent, RowsKind};
+use crate::column::list::MOST_COLUMNS;
 use crate::count::{count_width, read_count, write_padded_count};
 use crate::event_type;
 use crate::fault::{EventFault, EventFaultKind};
 use byteorder::{ByteOrder, LittleEndian};
+use wire::lenenc::MOST_IN_ONE_BYTE;
+
+/// STMT_END_F: the event ends its statement.
+const STMT_END: u8 = 1;
+
+/// How many bytes of extra data an event has at most: with the two bytes of their length they fit 16 bits.
+const MOST_EXTRA: usize = 65_533;
 
 /// Reads a rows event of a kind, from a whole event whose header was read. The body begins at offset 19, and the
 /// offsets of faults count from the event's first byte.
@@ -26,9 +36,9 @@ use byteorder::{ByteOrder, LittleEndian};
 #[tactic(auto, unfolding(crate::specs::Rows::rows_fault))]
 pub(crate) fn read_rows(kind: RowsKind, bytes: &[u8]) -> Result<RowsEvent<'_>, EventFault>
     requires { length bytes.now < 2 ^ 32 }
-    ensures found { IfOk result (λ event. IsRows (rows_value event) (drop 19 bytes.now)) }
+    ensures found { IfOk result (λ event. IsRows (rows_value event) (drop header_length bytes.now)) }
     ensures kind { IfOk result (λ event. event.kind ≡ kind) }
-    ensures only { (r : RowsValue) → r.kind ≡ kind → IsRows r (drop 19 bytes.now) → MatchResult result (λ event. rows_value event ≡ r) (λ _. ⊥) }
+    ensures only { (r : RowsValue) → r.kind ≡ kind → IsRows r (drop header_length bytes.now) → MatchResult result (λ event. rows_value event ≡ r) (λ _. ⊥) }
     ensures fault { IfErr result (λ fault. rows_fault kind bytes.now ≡ Some fault) }
 {
     match bytes.len() {
@@ -49,7 +59,7 @@ pub(crate) fn read_rows(kind: RowsKind, bytes: &[u8]) -> Result<RowsEvent<'_>, E
     if columns < 1 {
         return Err(EventFault::new(EventFaultKind::Columns, columns_at));
     }
-    if columns > 4096 {
+    if columns > MOST_COLUMNS as u64 {
         return Err(EventFault::new(EventFaultKind::Columns, columns_at));
     }
     let columns = columns as usize;
@@ -73,7 +83,7 @@ fn read_presents(
 ) -> Result<usize, EventFault>
     requires place { at ≤ length bytes.now }
     requires within { length bytes.now < 2 ^ 32 }
-    requires columns { columns ≤ 4096 }
+    requires columns { columns ≤ most_columns }
     ensures end { IfOk result (λ end. end ≡ at + presents_size kind columns) }
     ensures whole { IfOk result (λ _. presents_fault kind bytes.now at columns ≡ None) }
     ensures within { IfOk result (λ end. end ≤ length bytes.now) }
@@ -91,7 +101,7 @@ fn read_presents(
 fn read_present(bytes: &[u8], at: usize, columns: usize) -> Result<usize, EventFault>
     requires place { at ≤ length bytes.now }
     requires within { length bytes.now < 2 ^ 32 }
-    requires columns { columns ≤ 4096 }
+    requires columns { columns ≤ most_columns }
     ensures end { IfOk result (λ end. end ≡ at + bitmap_size columns) }
     ensures whole { IfOk result (λ _. present_fault bytes.now at columns ≡ None) }
     ensures within { IfOk result (λ end. end ≤ length bytes.now) }
@@ -124,7 +134,7 @@ impl<'a> RowsEvent<'a> {
         if columns < 1 {
             return None;
         }
-        if columns > 4096 {
+        if columns > MOST_COLUMNS {
             return None;
         }
         let bytes_at = 29 + count_width(columns) + presents_size(kind, columns);
@@ -150,13 +160,13 @@ pub(crate) fn rows_event_fits(rows: &RowsEvent<'_>) -> bool
     if rows.id >= 1 << 48 {
         return false;
     }
-    if rows.columns > 4096 {
+    if rows.columns > MOST_COLUMNS {
         return false;
     }
     if rows.columns_at < 29 {
         return false;
     }
-    if rows.columns_at > 29 + 65_533 {
+    if rows.columns_at > 29 + MOST_EXTRA {
         return false;
     }
     let presents_at = rows.columns_at + presents_size(rows.kind, rows.columns);
@@ -164,7 +174,7 @@ pub(crate) fn rows_event_fits(rows: &RowsEvent<'_>) -> bool
         return false;
     }
     match rows.bytes_at - presents_at {
-        1 => rows.columns <= 250,
+        1 => rows.columns <= MOST_IN_ONE_BYTE as usize,
         3 => true,
         4 => true,
         9 => true,
@@ -211,16 +221,16 @@ fn write_head(rows: &RowsEvent<'_>, out: &mut Vec<u8>) -> Result<(), EventFault>
 
 /// Appends a table's number, the flag that the event ends its statement, and the length of the extra data.
 fn write_front(id: u64, extra: usize, out: &mut Vec<u8>) -> Result<(), EventFault>
-    requires { extra ≤ 65533 }
-    ensures ok { OnOk result (out.new.items ≡ out.old.items ++ (little_bytes 6 id ++ 1 ∷ 0 ∷ little_bytes 2 (2 + extra))) }
+    requires { extra ≤ MOST_EXTRA }
+    ensures ok { OnOk result (out.new.items ≡ out.old.items ++ (little_bytes 6 id ++ stmt_end ∷ 0 ∷ little_bytes 2 (2 + extra))) }
     ensures err { OnErr result (result ≡ Err (record { kind = Memory; at = 0 })) }
     ensures kept { OnErr result (take (length out.old.items) out.new.items ≡ out.old.items) }
-    ensures full { OnErr result (vec_capacity out.old < vec_len out.old + length (little_bytes 6 id ++ 1 ∷ 0 ∷ little_bytes 2 (2 + extra))) }
+    ensures full { OnErr result (vec_capacity out.old < vec_len out.old + length (little_bytes 6 id ++ stmt_end ∷ 0 ∷ little_bytes 2 (2 + extra))) }
     ensures capacity { vec_capacity out.old ≤ vec_capacity out.new }
 {
     let [a, b, c, d, e, f, ..] = id.to_le_bytes();
     let [low, high] = ((2 + extra) as u16).to_le_bytes();
-    out.extend_from_slice(&[a, b, c, d, e, f, 1, 0, low, high])?;
+    out.extend_from_slice(&[a, b, c, d, e, f, STMT_END, 0, low, high])?;
     Ok(())
 }
 
@@ -241,7 +251,7 @@ fn write_zeros(n: usize, out: &mut Vec<u8>) -> Result<(), EventFault>
 /// Appends the bitmaps of present columns, or a part of them: two for an update, otherwise one, with all columns
 /// present.
 fn write_presents(kind: RowsKind, columns: usize, out: &mut Vec<u8>) -> Result<(), EventFault>
-    requires { columns ≤ 4096 }
+    requires { columns ≤ most_columns }
     ensures ok { OnOk result (out.new.items ≡ out.old.items ++ presents_bytes kind columns) }
     ensures err { OnErr result (result ≡ Err (record { kind = Memory; at = 0 })) }
     ensures kept { OnErr result (take (length out.old.items) out.new.items ≡ out.old.items) }
@@ -259,7 +269,7 @@ fn write_presents(kind: RowsKind, columns: usize, out: &mut Vec<u8>) -> Result<(
 
 /// How many bytes the bitmaps of present columns take.
 fn presents_size(kind: RowsKind, columns: usize) -> usize
-    requires { columns ≤ 4096 }
+    requires { columns ≤ most_columns }
     ensures size { result ≡ presents_size kind columns }
     ensures bound { result ≤ 1024 }
 {

@@ -4,6 +4,7 @@
 //! over, and the prover takes no file that both has such a struct and names these definitions.
 
 ghost use Rattle.std.specs.Prelude.{◌+◌, ◌<◌, ◌≤◌, ◌^◌, length};
+ghost use Rattle.binlog.specs.Table.{most_columns};
 
 /// What a rows event does with the rows of its table.
 #[derive(Clone, Copy, Debug, PartialEq, Eq)]
@@ -28,6 +29,6 @@ pub struct RowsEvent<'a> {
     /// The offset in the event of the rows.
     pub bytes_at: usize,
     ghost some_columns: { 1 ≤ columns },
-    ghost few_columns: { columns ≤ 4096 },
+    ghost few_columns: { columns ≤ most_columns },
     ghost in_event: { bytes_at + length bytes.now < 2 ^ 32 },
 }

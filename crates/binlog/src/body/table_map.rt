@@ -2,6 +2,7 @@
 //! page `binary_log::Table_map_event`.
 
 ghost use Rattle.std.specs.Prelude.{◌≡◌, IfOk, OnErr, Err, ℕ, ◌+◌, ◌≤◌, List, length, drop, IfErr, MatchResult, Some, None, ◌++◌, ◌↔◌, take, map, OnOk, IsTrue, ◌<◌, vec_len, vec_capacity};
+ghost use Rattle.binlog.specs.Header.{header_length};
 ghost use Rattle.binlog.specs.Row.{kinds};
 ghost use Rattle.binlog.specs.declared.fault.EventFaultKind.TheVariants.{Memory};
 ghost use Rattle.binlog.specs.Fault.{number_at};
@@ -11,7 +12,7 @@ ghost use Rattle.binlog.specs.Writing.{HasMap, names_bytes, table_map_body};
 
 use crate::bitmap::write_full_bitmap;
 use crate::column::kind::ColumnType;
-use crate::column::list::{metadata_length, write_all_metadata, write_codes};
+use crate::column::list::{MOST_COLUMNS, metadata_length, write_all_metadata, write_codes};
 use crate::column::types::ColumnTypes;
 use crate::count::write_count;
 use crate::fault::EventFault;
@@ -94,11 +95,11 @@ pub(crate) struct Names<'a> {
 /// A field that does not fit is `Truncated` at its first byte. Nothing after the names is read.
 #[tactic(auto, unfolding(crate::specs::Table::names_fault))]
 pub(crate) fn read_names(bytes: &[u8]) -> Result<Names<'_>, EventFault>
-    ensures found { IfOk result (λ names. IsNamed names.id names.schema.now names.table.now (drop names.end bytes.now) (drop 19 bytes.now)) }
+    ensures found { IfOk result (λ names. IsNamed names.id names.schema.now names.table.now (drop names.end bytes.now) (drop header_length bytes.now)) }
     ensures within { IfOk result (λ names. names.end ≤ length bytes.now) }
     ensures place { IfOk result (λ names. names.end ≡ terminator_place bytes.now + 1) }
     ensures values { IfOk result (λ names. (names.id ≡ number_at 6 bytes.now 19) × (names.schema.now ≡ schema_of bytes.now) × (names.table.now ≡ table_of bytes.now)) }
-    ensures only { (id : ℕ) (schema table rest : List ℕ) → IsNamed id schema table rest (drop 19 bytes.now) → MatchResult result (λ names. (names.id ≡ id) × (names.schema.now ≡ schema) × (names.table.now ≡ table) × (drop names.end bytes.now ≡ rest)) (λ _. ⊥) }
+    ensures only { (id : ℕ) (schema table rest : List ℕ) → IsNamed id schema table rest (drop header_length bytes.now) → MatchResult result (λ names. (names.id ≡ id) × (names.schema.now ≡ schema) × (names.table.now ≡ table) × (drop names.end bytes.now ≡ rest)) (λ _. ⊥) }
     ensures fault { IfErr result (λ fault. names_fault bytes.now ≡ Some fault) }
     ensures none { IfOk result (λ _. names_fault bytes.now ≡ None) }
 {
@@ -148,7 +149,7 @@ pub(crate) fn map_fits(map: &TableMap<'_>) -> bool
     if map.table.len() > 255 {
         return false;
     }
-    matches!(map.types.len(), 1..=4096)
+    matches!(map.types.len(), 1..=MOST_COLUMNS)
 }
 
 /// Appends the body of a table map, or a part of it. All columns may be null, and no flags are set.

@@ -5,6 +5,7 @@ ghost use Rattle.binlog.specs.Body.{IsXid, xid_fault};
 ghost use Rattle.binlog.specs.Event.{xid};
 ghost use Rattle.binlog.specs.Writing.{IsWritable};
 ghost use Rattle.byteorder.specs.Endian.{little_bytes};
+ghost use Rattle.binlog.specs.Header.{header_length};
 ghost use Rattle.binlog.specs.declared.fault.EventFaultKind.TheVariants.{Memory};
 
 use crate::fault::{EventFault, EventFaultKind};
@@ -13,8 +14,8 @@ use byteorder::{ByteOrder, LittleEndian};
 /// Reads an XID event: its number.
 #[tactic(auto, unfolding(crate::specs::Body::xid_fault))]
 pub(crate) fn read_xid(bytes: &[u8]) -> Result<u64, EventFault>
-    ensures found { IfOk result (λ number. IsXid number (drop 19 bytes.now)) }
-    ensures only { (number : ℕ) → IsXid number (drop 19 bytes.now) → result ≡ Ok number }
+    ensures found { IfOk result (λ number. IsXid number (drop header_length bytes.now)) }
+    ensures only { (number : ℕ) → IsXid number (drop header_length bytes.now) → result ≡ Ok number }
     ensures fault { IfErr result (λ fault. xid_fault bytes.now ≡ Some fault) }
 {
     if bytes.len() < 27 {

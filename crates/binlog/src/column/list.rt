@@ -2,7 +2,7 @@
 
 ghost use Rattle.std.specs.Prelude.{◌≡◌, ◌+◌, ◌<◌, ◌≤◌, ◌^◌, List, length, drop, IfOk, IfErr, OnOk, MatchResult, Some, None, sum_by, ◌++◌, take, map, flat_map, OnErr, Err, vec_len, vec_capacity};
 ghost use Rattle.binlog.specs.Count.{count_at, count_width, no_count};
-ghost use Rattle.binlog.specs.Table.{AreColumns, columns_fault, codes_at, metadata_place, metadata_length, types_fault, all_metadata_fault};
+ghost use Rattle.binlog.specs.Table.{most_columns, AreColumns, columns_fault, codes_at, metadata_place, metadata_length, types_fault, all_metadata_fault};
 ghost use Rattle.binlog.specs.declared.column.kind.ColumnKind.{ColumnKind};
 ghost use Rattle.binlog.specs.declared.fault.EventFaultKind.TheVariants.{Columns, Memory};
 ghost use Rattle.binlog.specs.Column.{type_code, metadata};
@@ -12,6 +12,9 @@ use crate::column::metadata::metadata_size;
 use crate::column::types::ColumnTypes;
 use crate::count::read_count;
 use crate::fault::{EventFault, EventFaultKind};
+
+/// How many columns a table has at most. MySQL Reference Manual, "Limits on Table Column Count and Row Size".
+pub(crate) const MOST_COLUMNS: usize = 4096;
 
 /// Reads the columns of a table map from an offset on: their number, a type code each, the length of all metadata, the
 /// metadata, and a bitmap of the columns that may be null, whose bits are not read.
@@ -67,7 +70,7 @@ fn find_columns(bytes: &[u8], at: usize) -> Result<(&[u8], &[u8]), EventFault>
 fn read_number(bytes: &[u8], at: usize) -> Result<(usize, usize), EventFault>
     requires { at ≤ length bytes.now }
     ensures value { IfOk result (λ read. (read.0 ≡ count_at bytes.now at) × (read.1 ≡ count_width bytes.now at)) }
-    ensures range { IfOk result (λ read. (1 ≤ read.0) × (read.0 ≤ 4096)) }
+    ensures range { IfOk result (λ read. (1 ≤ read.0) × (read.0 ≤ most_columns)) }
     ensures within { IfOk result (λ read. at + read.1 ≤ length bytes.now) }
     ensures whole { IfOk result (λ _. no_count bytes.now at Columns ≡ None) }
     ensures fault { IfErr result (λ fault. columns_fault bytes.now at ≡ Some fault) }
@@ -76,7 +79,7 @@ fn read_number(bytes: &[u8], at: usize) -> Result<(usize, usize), EventFault>
     if columns < 1 {
         return Err(EventFault::new(EventFaultKind::Columns, at));
     }
-    if columns > 4096 {
+    if columns > MOST_COLUMNS as u64 {
         return Err(EventFault::new(EventFaultKind::Columns, at));
     }
     Ok((columns as usize, width))
@@ -133,7 +136,7 @@ pub(crate) fn write_codes(columns: &ColumnTypes<'_>, out: &mut Vec<u8>) -> Resul
 
 /// How many bytes the metadata of columns takes.
 pub(crate) fn metadata_length(columns: &ColumnTypes<'_>) -> usize
-    requires { length columns.now ≤ 4096 }
+    requires { length columns.now ≤ most_columns }
     ensures { result ≡ length (flat_map metadata columns.now) }
 {
     let mut sum = 0;

@@ -1,6 +1,7 @@
 //! A column's metadata. MySQL Source Documentation, "Binlog Event", the page `binary_log::Table_map_event`.
 
 ghost use Rattle.std.specs.Prelude.{◌≡◌, ℕ, ◌+◌, ◌<◌, ◌++◌, List, [], ◌∷◌, not, IfOk, IfErr, MatchResult, OnOk, OnErr, Some, Err, length, vec_len, vec_capacity, ◌≤◌};
+ghost use Rattle.binlog.specs.ColumnCode as column_code;
 ghost use Rattle.binlog.specs.Column.{type_code, metadata, is_lawful, IsColumn, metadata_size, metadata_fault, string_fault, real_type, string_length, when, column_fault};
 ghost use Rattle.binlog.specs.declared.fault.EventFaultKind.TheVariants.{Metadata, Memory};
 
@@ -166,7 +167,7 @@ fn by_bytes(code: u8, first: u8, second: u8) -> Result<ColumnType, EventFaultKin
 /// The type of a STRING by its metadata: the real type in the first byte, with bits 8 and 9 of the length flipped in
 /// its bits 4 and 5, and the length's low byte.
 fn string(first: u8, second: u8) -> Result<ColumnType, EventFaultKind>
-    ensures code { IfOk result (λ column. type_code column.kind ≡ 254) }
+    ensures code { IfOk result (λ column. type_code column.kind ≡ column_code.string) }
     ensures metadata { IfOk result (λ column. metadata column.kind ≡ first ∷ second ∷ []) }
     ensures fault { IfErr result (λ kind. string_fault (real_type first) (string_length first second) ≡ Some kind) }
 {

@@ -45,7 +45,11 @@ fn adopt<S: Alter>(alloc: Global, store: &mut Store<S>, numbers: &str) -> Result
 }
 
 /// Does the steps in order. The error is the first other answer.
-fn take<S: Alter>(alloc: Global, store: &mut Store<S>, steps: &[(Step, &str)]) -> Result<(), Fail> {
+fn run_steps<S: Alter>(
+    alloc: Global,
+    store: &mut Store<S>,
+    steps: &[(Step, &str)],
+) -> Result<(), Fail> {
     for (step, want) in steps {
         let came = match step {
             Step::Apply(number, letters) => apply(alloc, store, *number, letters)?,
@@ -65,9 +69,9 @@ fn stepped<S: Alter + Drop>(
     steps: &[(Step, &str)],
 ) -> Result<Connection<S>, Fail> {
     let mut store = open(alloc, conn)?;
-    let taken = take(alloc, &mut store, steps);
+    let ran = run_steps(alloc, &mut store, steps);
     let conn = store.close();
-    taken?;
+    ran?;
     Ok(conn)
 }
 

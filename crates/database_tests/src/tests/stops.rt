@@ -24,8 +24,8 @@ enum Job {
     Make,
     /// A database of layout 1 among other tables is migrated.
     Migrate,
-    /// A store among other tables takes a transaction of three changes.
-    Take,
+    /// A store among other tables applies a transaction of three changes.
+    Apply,
     /// A store among other tables adopts a set, which joins an interval and adds one.
     Adopt,
     /// A replica reads a connection with three transactions into new files.
@@ -90,7 +90,7 @@ fn states(job: Job) -> &'static [&'static str] {
             " 1| 1 2 4| 2|none|none| 1 5 2 7|",
             " 2|none| 2| 1 3 4 5| 0| 1 5 2 7|",
         ],
-        Job::Take => &[" 2| 9| 2| 2 3| 0| 1 5 2 7|", " 2| 9| 1 1| 1 3| 0| 1 5 2 7|"],
+        Job::Apply => &[" 2| 9| 2| 2 3| 0| 1 5 2 7|", " 2| 9| 1 1| 1 3| 0| 1 5 2 7|"],
         Job::Adopt => &[
             " 2| 9| 2| 2 3| 0| 1 5 2 7|",
             " 2| 9| 2| 1 3 5 7| 0| 1 5 2 7|",
@@ -143,12 +143,12 @@ fn beginning(job: Job) -> &'static str {
         Job::Make => BESIDE,
         Job::Run => "",
         Job::Migrate => FIRST,
-        Job::Take | Job::Adopt => SECOND,
+        Job::Apply | Job::Adopt => SECOND,
     }
 }
 
-/// Whether a store takes a transaction: 1, or 0 if it fails.
-fn take<S: Alter>(alloc: Global, store: &mut Store<S>) -> Result<u64, Fail> {
+/// Whether a store applies a transaction: 1, or 0 if it fails.
+fn apply<S: Alter>(alloc: Global, store: &mut Store<S>) -> Result<u64, Fail> {
     let delivery = delivery(alloc, 1, "p-=")?;
     Ok(u64::from(store.apply(&delivery).is_ok()))
 }
@@ -169,11 +169,11 @@ fn read<S: Alter>(alloc: Global, store: &mut Store<S>) -> Result<u64, Fail> {
     )
 }
 
-/// How many steps of the job have been done with a store: its opening and the transactions that it takes.
+/// How many steps of the job have been done with a store: its opening and the transactions that it applies.
 fn work<S: Alter>(alloc: Global, job: Job, store: &mut Store<S>) -> Result<u64, Fail> {
     match job {
         Job::Make | Job::Migrate => Ok(1),
-        Job::Take => take(alloc, store),
+        Job::Apply => apply(alloc, store),
         Job::Adopt => adopt(alloc, store),
         Job::Run => read(alloc, store),
     }
@@ -229,20 +229,21 @@ fn watch<S: Alter + Drop>(
 
 /// What is done over files.
 #[derive(Clone, Copy)]
-enum Turn {
+enum Action {
     /// These statements are run, and what they write is copied from the log at once.
     Fill(&'static str),
-    Act(Job),
+    /// This job is done, and watched.
+    Job(Job),
 }
 
-/// The options for a turn.
-fn options(turn: Turn) -> Options {
-    match turn {
-        Turn::Fill(_) => Options {
+/// The options for an action.
+fn options(action: Action) -> Options {
+    match action {
+        Action::Fill(_) => Options {
             checkpoint_frames: 1,
             ..OPTIONS
         },
-        Turn::Act(_) => OPTIONS,
+        Action::Job(_) => OPTIONS,
     }
 }
 
@@ -261,29 +262,29 @@ fn filled<S: Alter + Drop>(mut conn: Connection<S>, sql: &str) -> Result<Connect
     Ok(conn)
 }
 
-/// Takes a turn, and returns what the connection was over.
-fn take_turn<S: Alter + Drop>(
+/// Does an action, and returns what the connection was over.
+fn perform<S: Alter + Drop>(
     alloc: Global,
     conn: Connection<S>,
-    turn: Turn,
+    action: Action,
 ) -> Result<(Acted, S), Fail> {
-    let (acted, conn) = match turn {
-        Turn::Fill(sql) => (nothing(alloc), filled(conn, sql)?),
-        Turn::Act(job) => watch(alloc, job, conn)?,
+    let (acted, conn) = match action {
+        Action::Fill(sql) => (nothing(alloc), filled(conn, sql)?),
+        Action::Job(job) => watch(alloc, job, conn)?,
     };
     Ok((acted, conn.into_store()))
 }
 
-/// Takes a turn over files. Nothing is done if these cannot be opened. A function that hands a connection to files on to a
+/// Does an action over files. Nothing is done if these cannot be opened. A function that hands a connection to files on to a
 /// generic one takes long to prove, so there is this one alone.
 fn over<D: Disk + Drop>(
     alloc: Global,
     files: Files<D>,
-    turn: Turn,
+    action: Action,
 ) -> Result<(Acted, Files<D>), Fail> {
-    match connect(alloc, files, options(turn)) {
+    match connect(alloc, files, options(action)) {
         Ok(conn) => {
-            let (acted, store) = take_turn(alloc, conn, turn)?;
+            let (acted, store) = perform(alloc, conn, action)?;
             Ok((acted, store.close()))
         }
         Err(files) => Ok((nothing(alloc), files)),
@@ -317,7 +318,7 @@ fn before(alloc: Global, job: Job) -> Result<Files<Memory>, Fail> {
         "" => Ok(files),
         sql => {
             let never = (u64::MAX, u64::MAX);
-            let (_, files) = over(alloc, fused(files, never), Turn::Fill(sql))?;
+            let (_, files) = over(alloc, fused(files, never), Action::Fill(sql))?;
             Ok(Files {
                 log: copied(alloc, files.log.inner())?,
                 db: copied(alloc, files.db.inner())?,
@@ -329,10 +330,10 @@ fn before(alloc: Global, job: Job) -> Result<Files<Memory>, Fail> {
 /// Does the job, lets both disks crash, and does it again. Returns how many steps were done at first, and what came of the
 /// second time.
 fn stop<D: Crash + Drop>(alloc: Global, job: Job, files: Files<D>) -> Result<(u64, Acted), Fail> {
-    let (first, mut files) = over(alloc, files, Turn::Act(job))?;
+    let (first, mut files) = over(alloc, files, Action::Job(job))?;
     files.log.crash();
     files.db.crash();
-    let (second, _) = over(alloc, files, Turn::Act(job))?;
+    let (second, _) = over(alloc, files, Action::Job(job))?;
     Ok((first.done, second))
 }
 
@@ -390,7 +391,7 @@ fn a_migration_is_whole_where_a_disk_stops(rt: HostRuntime) -> Result<(), Fail> 
 
 #[test]
 fn a_transaction_is_whole_where_a_disk_stops(rt: HostRuntime) -> Result<(), Fail> {
-    stops(rt.alloc(), Job::Take)
+    stops(rt.alloc(), Job::Apply)
 }
 
 #[test]

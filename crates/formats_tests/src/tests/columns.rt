@@ -1,6 +1,6 @@
 //! Columns of table maps and their values, by worked values of the layouts.
 
-use crate::tests::event_bytes::{MAP, event};
+use crate::tests::event_bytes::event;
 use crate::tests::same::same;
 use binlog::{
     Cell, ColumnKind, ColumnType, Event, EventFault, EventFaultKind, RowPair, RowsEvent, RowsKind,
@@ -234,29 +234,4 @@ fn sizes_of_values(rt: HostRuntime) {
     for (kind, want) in &SIZES {
         same(&rt, size(rt.alloc(), *kind), Some(*want));
     }
-}
-
-/// A table's map, copied and written again.
-fn copied(alloc: Global, bytes: &[u8]) -> Option<(TableDef, Vec<u8>)> {
-    let Ok(Event::TableMap(map)) = read_event(bytes) else {
-        return None;
-    };
-    let table = map.copy(alloc).ok()?;
-    let mut out = Vec::new(alloc);
-    let event = Event::TableMap(table.map(1));
-    if event.fits() {
-        event.write(&mut out).ok()?;
-    }
-    Some((table, out))
-}
-
-/// A table map as a value that outlives its event, and the event of that.
-#[test]
-fn copied_map(rt: HostRuntime) {
-    let bytes = event(rt.alloc(), 19, 0, MAP).expect(&rt, "memory");
-    let (table, out) = copied(rt.alloc(), &bytes).expect(&rt, "a table map");
-    same(&rt, table.schema.as_slice(), b"shop".as_slice());
-    same(&rt, table.table.as_slice(), b"items".as_slice());
-    same(&rt, table.types.len(), 2);
-    same(&rt, out.as_slice(), bytes.as_slice());
 }

@@ -181,41 +181,6 @@ fn payloads(alloc: Global, limit: usize, pieces: &[&[u8]]) -> Result<Reading, Wi
     })
 }
 
-/// The payloads of 0 to 299 sevens, their packings, and the next expected id.
-fn stream(alloc: Global) -> Option<(Vec<Vec<u8>>, Vec<u8>, u8)> {
-    let mut payloads = Vec::new(alloc);
-    let mut stream = Vec::new(alloc);
-    let mut id = 0;
-    for length in 0..300usize {
-        let (payload, packing, next) = packing(alloc, length, id)?;
-        payloads.push(payload).ok()?;
-        stream.extend_from_slice(&packing).ok()?;
-        id = next;
-    }
-    Some((payloads, stream, id))
-}
-
-/// Whether the stream has these payloads, in pieces of this length.
-fn has_payloads(alloc: Global, stream: &[u8], want: &[Vec<u8>], length: usize) -> Option<bool> {
-    let pieces: Vec<&[u8]> = stream.chunks(length.max(1)).collect(alloc).ok()?;
-    let found = payloads(alloc, LARGEST_PAYLOAD, &pieces).ok()?;
-    Some(found.fault.is_none() && found.payloads.as_slice() == want)
-}
-
-/// However a stream is cut into pieces, its payloads are the same. Its ids go on from 255 to 0.
-#[test]
-fn pieces(rt: HostRuntime) {
-    let (payloads, stream, id) = stream(rt.alloc()).expect(&rt, "memory");
-    same(&rt, id, 44);
-    for length in [1, 2, 3, 4, 5, 64, 65_536] {
-        same(
-            &rt,
-            has_payloads(rt.alloc(), &stream, &payloads, length),
-            Some(true),
-        );
-    }
-}
-
 /// A limit, a stream in pieces, its payloads, and the fault after them. A packet is the length of its chunk in three
 /// bytes, the lowest first, its sequence id, and the chunk.
 static READINGS: [(usize, &[&[u8]], &[&[u8]], Option<WireFault>); 9] = [

@@ -4,8 +4,7 @@ use Rattle.std.specs.Prelude.{OnOk, IfErr}
 use Rattle.greet.specs.Message.{IsOkPacket}
 use Rattle.greet.specs.Refusal.{ok_refusal}
 use Rattle.greet.specs.View.{Refuses}
-use Rattle.wire.proofs.Cuts.{IsBytes, IsBytes-rest, first_and_rest}
-use Rattle.greet.proofs.Cuts.{begun_by}
+use Rattle.wire.proofs.Cuts.{IsBytes, IsBytes-rest, first_and_rest, begun_by}
 use Rattle.greet.proofs.Replies.{counted_ok, counted_fault, ok_nothing, ok_not_refused}
 use Rattle.greet.proofs.Readers.{answered_alone}
 use Rattle.greet.proofs.ErrBytes.{some_err}

@@ -6,7 +6,7 @@ use Rattle.replica.specs.declared.end.Ended.{Ended}
 use Rattle.replica.specs.Conn.{IsOwn}
 use Rattle.replica.specs.Pieces.{stream_of, streams_of}
 use Rattle.replica.specs.Over.{HasRead, HasReadAll}
-use Rattle.replica.proofs.Runs.{taken_none, taken_next}
+use Rattle.replica.proofs.Runs.{none_read, next_read}
 use Rattle.replica.proofs.connections.run.Goals as goal
 
 pub loop-pieces-init : goal.loop-pieces-init
@@ -16,7 +16,7 @@ loop-pieces-init g c = record {
   clean = λ h. h;
   taken = λ h was old holds.
       subst (λ (l : List Ended). HasReadAll g.S.Store c.args.config.now.limit c.args.store.now (state g.S.Store c.args.store.now.conn).now.schema was old [] l) (sym c.in-Ok.ensures.items)
-      (taken_none g.S.Store (λ h db is_open may. g.met.S.Store.settled h.store db is_open may) c.args.config.now.limit c.args.store.now was old holds);
+      (none_read g.S.Store (λ h db is_open may. g.met.S.Store.settled h.store db is_open may) c.args.config.now.limit c.args.store.now was old holds);
   following = refl;
   broken = λ h. refl;
   neither = subst (λ (l : List Ended). All (λ (e : Ended). IsOwn e.reason) l) (sym c.in-Ok.ensures.items) (search rules);
@@ -41,7 +41,7 @@ loop-pieces-preserved g c =
           let t = c.loop-pieces.invariant.taken (c.read_connection-end.ensures.clean h) was old holds in
           let r = c.read_connection-end.ensures.read h t.is t.new t.holds in
           subst (λ (l : List Ended). HasReadAll g.S.Store limit c.read_connection-end.new.store schema was old (streams_of (take (i + 1) all)) l) (sym c.push_reserved.ensures.items)
-          (taken_next g.S.Store limit c.loop-pieces.store c.read_connection-end.new.store schema was old all i pieces ends end c.read_connection-end.ensures.broken more t
+          (next_read g.S.Store limit c.loop-pieces.store c.read_connection-end.new.store schema was old all i pieces ends end c.read_connection-end.ensures.broken more t
           (subst (λ (l : List (Vec ℕ Global)). HasRead g.S.Store limit c.loop-pieces.store c.read_connection-end.new.store t.is t.new (stream_of l) end) c.as_slice.ensures.value r));
       following = c.read_connection-end.ensures.following ∙ c.loop-pieces.invariant.following;
       broken = search rules;

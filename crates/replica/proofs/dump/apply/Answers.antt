@@ -5,12 +5,12 @@ use Rattle.replica.specs.Event.{TakesEvent}
 use Rattle.replica.proofs.Events.{halts, over_broken, over_whole}
 use Rattle.replica.proofs.dump.apply.Goals as goal
 
-pub returns-then-is_halted-clause-turn : goal.returns-then-is_halted-clause-turn
-returns-then-is_halted-clause-turn g c clean is now es ds p gatherer holds more =
+pub returns-then-is_halted-clause-step : goal.returns-then-is_halted-clause-step
+returns-then-is_halted-clause-step g c clean is now es ds p gatherer holds more =
     halts g.S.Store es ds p is now c.args.store.now (delivery_value c.args.delivery.now) gatherer holds more (c.is_halted.ensures.new is now holds c.if-is_halted.true)
 
-pub returns-clause-turn : goal.returns-clause-turn
-returns-clause-turn g c clean is now es ds p gatherer holds more =
+pub returns-clause-step : goal.returns-clause-step
+returns-clause-step g c clean is now es ds p gatherer holds more =
     let d = delivery_value c.args.delivery.now in
     let store = c.args.store.now in
     let new = c.apply.new.self in

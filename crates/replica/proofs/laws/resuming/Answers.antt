@@ -1,6 +1,7 @@
 use Rattle.std.proofs.Common.{arith}
 use Rattle.std.proofs.lemmas.List.{length-append}
-use Rattle.replica.proofs.Resuming.{leads, cut, all_bytes}
+use Rattle.store.proofs.SpanRecord.{all_bytes}
+use Rattle.replica.proofs.Resuming.{leads, cut}
 use Rattle.replica.proofs.laws.resuming.Goals as goal
 
 pub returns-clause-leads : goal.returns-clause-leads

@@ -1,12 +1,12 @@
 use Rattle.replica.specs.Conn.{IsDumpTooLong}
-use Rattle.replica.specs.Turn.{Sends, AsksFor}
+use Rattle.replica.specs.PayloadStep.{Sends, SendsDump}
 use Rattle.std.proofs.Common.{◌∙◌}
 use Rattle.replica.proofs.Sending.{on_ok, asks_for, short_enough}
 use Rattle.replica.proofs.login.ask.Goals as goal
 
 pub returns-clause-ok : goal.returns-clause-ok
 returns-clause-ok c =
-    on_ok c.send.result (Sends 0 c.deref-2.result.now c.args.out.now.items c.send.new.out.items) (AsksFor c.args.config.now c.args.executed.now c.args.out.now.items c.send.new.out.items)
+    on_ok c.send.result (Sends 0 c.deref-2.result.now c.args.out.now.items c.send.new.out.items) (SendsDump c.args.config.now c.args.executed.now c.args.out.now.items c.send.new.out.items)
     (asks_for c.args.config.now c.args.executed.now c.in_ok-set.set.items c.deref-2.result.now c.args.out.now.items c.send.new.out.items c.in_ok-set.ensures.ok.0
     (c.deref-2.ensures.value ∙ rw c.deref.ensures.value at c.in_ok-payload.ensures.ok))
     c.send.ensures.ok

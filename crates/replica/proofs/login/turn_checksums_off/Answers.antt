@@ -1,6 +1,6 @@
 use Rattle.std.proofs.Common.{◌∙◌, ◌++◌, ap, List, ℕ}
-use Rattle.replica.specs.Sent.{checksum_query}
-use Rattle.replica.specs.Turn.{Sends}
+use Rattle.greet.specs.Message.{checksum_query}
+use Rattle.replica.specs.PayloadStep.{Sends}
 use Rattle.replica.proofs.Sending.{on_ok, sends_other}
 use Rattle.replica.proofs.login.turn_checksums_off.Goals as goal
 

@@ -1,7 +1,7 @@
 use Rattle.std.proofs.Common.{◌∙◌, sym, subst, refl}
-use Rattle.std.proofs.lemmas.Result.{err_from_is_err_and}
-use Rattle.scripted_source.specs.Source.{TakesPayload, checksum_query, IsLastSent}
-use Rattle.scripted_source.proofs.Front.{if_ok}
+use Rattle.std.proofs.lemmas.Result.{err_from_is_err_and, IfOk-weaker}
+use Rattle.greet.specs.Message.{checksum_query}
+use Rattle.scripted_source.specs.Source.{TakesPayload, IsLastSent}
 use Rattle.scripted_source.proofs.checking.check_commands.Goals as goal
 
 pub returns-in_err-query-clause-only : goal.returns-in_err-query-clause-only
@@ -16,7 +16,7 @@ returns-then-not-is_query-clause-only c executed last =
     absurd cc
 
 pub returns-clause-found : goal.returns-clause-found
-returns-clause-found c = if_ok c.check_dump.result (λ executed last. record { rest = c.in_ok-query.rest.now; taken = subst (λ l. TakesPayload 0 c.args.bytes.now l c.in_ok-query.rest.now) (sym c.deref.ensures.value ∙ c.if-not-is_query.ensures.0 refl) c.in_ok-query.ensures.found; others = last }) c.check_dump.ensures.found
+returns-clause-found c = IfOk-weaker c.check_dump.result _ _ (λ executed last. record { rest = c.in_ok-query.rest.now; taken = subst (λ l. TakesPayload 0 c.args.bytes.now l c.in_ok-query.rest.now) (sym c.deref.ensures.value ∙ c.if-not-is_query.ensures.0 refl) c.in_ok-query.ensures.found; others = last }) c.check_dump.ensures.found
 
 pub returns-clause-only : goal.returns-clause-only
 returns-clause-only c executed last =

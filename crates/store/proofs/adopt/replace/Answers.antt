@@ -4,10 +4,10 @@ use Rattle.sqlite.specs.Held.{state}
 use Rattle.sqlite.proofs.Callers.{survives_begin}
 use Rattle.sqlite.proofs.StateLemmas.{survives_then}
 use Rattle.sqlite_trees.specs.Tree.{Trees}
-use Rattle.store.specs.Take.{with_executed}
+use Rattle.store.specs.Changes.{with_executed}
 use Rattle.store.specs.Inside.{Records}
 use Rattle.store.specs.Apply.{AreOf, Rests, Replaces, SparesBeside}
-use Rattle.store.proofs.Ran.{begun_working, rolled}
+use Rattle.store.proofs.Ran.{begun_working, rolled, survives_rolled}
 use Rattle.store.proofs.Replaced.{stored_of, replaced, may_replace}
 use Rattle.store.proofs.adopt.replace.Goals as goal
 
@@ -33,6 +33,15 @@ returns-clause-replaces g c clean names content rest is =
     let records : Records t m c.args.after.now = (rw c.transaction-tx.ensures.begun at c.in_ok-replace_all.ensures.records) early working rest.stands.executed.spans (stored_of g.S.Store h names content rest c.args.executed.now is) in
     let done : Replaces names (with_executed c.args.after.now content) (state g.S.Store h) n c.commit.result = replaced g.S.Store h names content rest c.args.after.now m c.in_ok-replace_all.ensures.lawful records n c.commit.result kept (c.commit.ensures.ok late) (c.commit.ensures.err late) in
     search (rules, done)
+
+pub returns-in_err-replace_all-clause-crash : goal.returns-in_err-replace_all-clause-crash
+returns-in_err-replace_all-clause-crash g c names content rest is =
+    let h = c.args.conn.now in
+    let n = state g.S.Store c.drop-tx.new.self.0 in
+    let may : Trees → Type 0 = λ db. AreOf h.schema names (with_executed c.args.after.now content) db × SparesBeside (state g.S.Store h).now db in
+    let survives : Survives (state g.S.Store h) n may = survives_rolled g.S.Store h (state g.S.Store c.replace_all.new.tx.conn.now) n may
+    (rw c.transaction-tx.ensures.begun at c.in_err-replace_all.ensures.stays.survives) c.drop-tx.ensures.survives in
+    search (rules, survives)
 
 pub returns-clause-crash : goal.returns-clause-crash
 returns-clause-crash g c names content rest is =

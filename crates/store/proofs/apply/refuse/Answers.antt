@@ -1,6 +1,6 @@
 use Rattle.std.proofs.Common.{[]}
 use Rattle.sqlite.specs.Held.{state}
-use Rattle.store.proofs.Taken.{reported_failed}
+use Rattle.store.proofs.Applying.{reported_failed}
 use Rattle.store.proofs.apply.refuse.Goals as goal
 
 pub returns-in-Err-clause-reported : goal.returns-in-Err-clause-reported

@@ -3,7 +3,7 @@ use Rattle.sqlite.specs.State.{HasCleanDisk}
 use Rattle.sqlite.specs.Held.{state}
 use Rattle.gather.specs.View.{delivery_value, change_values}
 use Rattle.store.specs.Inside.{DoesAll}
-use Rattle.store.specs.Take.{IsRefusedAt}
+use Rattle.store.specs.Changes.{IsRefusedAt}
 use Rattle.store.proofs.Filled.{shows_mid, filled}
 use Rattle.store.proofs.changes.fill.Goals as goal
 
@@ -12,7 +12,7 @@ returns-clause-fills g c clean was content stands out beside =
     let old = state g.S.Store c.args.tx.now.conn.now in
     let mid = state g.S.Store c.make_all.new.tx.conn.now in
     let new = state g.S.Store c.record.new.tx.conn.now in
-    let names = c.args.follow.now in
+    let names = c.args.filter.now in
     let d = delivery_value c.args.delivery.now in
     let early : HasCleanDisk mid = omega (arith, c.record.ensures.stays.survives.clean) in
     let does : DoesAll names (change_values c.args.delivery.now.changes.items) old mid None = rw (c.in_default.is, c.as_slice.ensures.value) at (c.in_ok-refused.ensures.does early was) in
@@ -23,7 +23,7 @@ pub returns-in-Some-clause-fills : goal.returns-in-Some-clause-fills
 returns-in-Some-clause-fills g c clean was content stands out beside =
     let old = state g.S.Store c.args.tx.now.conn.now in
     let mid = state g.S.Store c.make_all.new.tx.conn.now in
-    let names = c.args.follow.now in
+    let names = c.args.filter.now in
     let changes = change_values c.args.delivery.now.changes.items in
     let why = c.in-Some.refused in
     let does : DoesAll names changes old mid (Some why) = rw (c.in-Some.is, c.as_slice.ensures.value) at (c.in_ok-refused.ensures.does clean was) in

@@ -7,7 +7,7 @@ use Rattle.sqlite.proofs.StateLemmas.{survives_then}
 use Rattle.sqlite_trees.specs.Tree.{Trees}
 use Rattle.gather.specs.View.{delivery_value}
 use Rattle.store.specs.Beside.{LiesBeside}
-use Rattle.store.specs.Apply.{Fills, Runs, MayCommit, HasApplied, IsTaken}
+use Rattle.store.specs.Apply.{Fills, Runs, MayCommit, IsAtRestAfter, IsAppliedAlone}
 use Rattle.store.proofs.Ran.{begun_working, rolled, rests_rolled, rests_failed, runs_err, has_taken, leaves, may_commit_err}
 use Rattle.store.proofs.changes.run.Goals as goal
 
@@ -16,7 +16,7 @@ returns-in-Some-clause-runs g c clean content rest out beside =
     let h = c.args.conn.now in
     let t = state g.S.Store (record h { in_transaction = true }) in
     let m = state g.S.Store c.fill.new.tx.conn.now in
-    let names = c.args.follow.now in
+    let names = c.args.filter.now in
     let d = delivery_value c.args.delivery.now in
     let working = begun_working g.S.Store h names content rest in
     let same : c.drop-tx-in-Some.new.self.0 ≡ c.conn-in-Some-1.given.0 = search rules in
@@ -32,7 +32,7 @@ returns-in_err-commit-clause-runs g c clean content rest out beside =
     let h = c.args.conn.now in
     let t = state g.S.Store (record h { in_transaction = true }) in
     let m = state g.S.Store c.fill.new.tx.conn.now in
-    let names = c.args.follow.now in
+    let names = c.args.filter.now in
     let d = delivery_value c.args.delivery.now in
     let working = begun_working g.S.Store h names content rest in
     let same : c.commit.new.self.0 ≡ c.conn-2-1.given.0 = search rules in
@@ -50,7 +50,7 @@ returns-in_err-commit-clause-crash g c content rest out beside =
     let h = c.args.conn.now in
     let t = state g.S.Store (record h { in_transaction = true }) in
     let m = state g.S.Store c.fill.new.tx.conn.now in
-    let names = c.args.follow.now in
+    let names = c.args.filter.now in
     let d = delivery_value c.args.delivery.now in
     let working = begun_working g.S.Store h names content rest in
     let same : c.commit.new.self.0 ≡ c.conn-2-1.given.0 = search rules in
@@ -67,7 +67,7 @@ returns-clause-runs g c clean content rest out beside =
     let h = c.args.conn.now in
     let t = state g.S.Store (record h { in_transaction = true }) in
     let m = state g.S.Store c.fill.new.tx.conn.now in
-    let names = c.args.follow.now in
+    let names = c.args.filter.now in
     let d = delivery_value c.args.delivery.now in
     let working = begun_working g.S.Store h names content rest in
     let same : c.commit.new.self.0 ≡ c.conn-2-1.given.0 = search rules in
@@ -75,20 +75,20 @@ returns-clause-runs g c clean content rest out beside =
     let late : HasCleanDisk n = subst (λ k. HasCleanDisk (state g.S.Store k)) (sym same) clean in
     let early : HasCleanDisk m = omega (arith, c.commit.ensures.survives.clean, late) in
     let fills : Fills names content d t m None = rw c.in_default.is at ((rw c.transaction-tx.ensures.begun at c.in_ok-refused.ensures.fills) early working content rest.stands out beside) in
-    subst (λ k. HasApplied names content d (state g.S.Store k) × ((state g.S.Store k).now.schema ≡ (state g.S.Store h).now.schema) × LiesBeside (state g.S.Store h).now (state g.S.Store k).now) same (has_taken names content d t m n fills (c.in_ok-commit.ensures.ok late).1 rest.settled)
+    subst (λ k. IsAtRestAfter names content d (state g.S.Store k) × ((state g.S.Store k).now.schema ≡ (state g.S.Store h).now.schema) × LiesBeside (state g.S.Store h).now (state g.S.Store k).now) same (has_taken names content d t m n fills (c.in_ok-commit.ensures.ok late).1 rest.settled)
 
 pub returns-clause-crash : goal.returns-clause-crash
 returns-clause-crash g c content rest out beside =
     let h = c.args.conn.now in
     let t = state g.S.Store (record h { in_transaction = true }) in
     let m = state g.S.Store c.fill.new.tx.conn.now in
-    let names = c.args.follow.now in
+    let names = c.args.filter.now in
     let d = delivery_value c.args.delivery.now in
     let working = begun_working g.S.Store h names content rest in
     let same : c.commit.new.self.0 ≡ c.conn-2-1.given.0 = search rules in
     let n = state g.S.Store c.commit.new.self.0 in
     let fills : HasCleanDisk m → Fills names content d t m None = λ early. rw c.in_default.is at ((rw c.transaction-tx.ensures.begun at c.in_ok-refused.ensures.fills) early working content rest.stands out beside) in
-    let may : Trees → Type 0 = λ db. IsTaken names content d (state g.S.Store h) db in
+    let may : Trees → Type 0 = λ db. IsAppliedAlone names content d (state g.S.Store h) db in
     subst (λ k. Survives (state g.S.Store h) (state g.S.Store k) may) same
     (survives_begin g.S.Store h n may (survives_then t m n (λ _. ⊥) (λ db. db ≡ m.now.trees) may (λ _ db none. absurd none)
     (λ clean db is. leaves names content d t m (fills (omega (arith, c.commit.ensures.survives.clean, clean))) db is rest.settled)
@@ -97,7 +97,7 @@ returns-clause-crash g c content rest out beside =
 pub returns-in_err-refused-clause-runs : goal.returns-in_err-refused-clause-runs
 returns-in_err-refused-clause-runs g c clean content rest out beside =
     let h = c.args.conn.now in
-    let names = c.args.follow.now in
+    let names = c.args.filter.now in
     let d = delivery_value c.args.delivery.now in
     let same : c.drop-tx.new.self.0 ≡ c.conn-1.given.0 = search rules in
     let n = state g.S.Store c.drop-tx.new.self.0 in

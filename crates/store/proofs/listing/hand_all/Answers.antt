@@ -5,7 +5,7 @@ use Rattle.sqlite.specs.Given.{Advances}
 use Rattle.sqlite.proofs.Callers.{unchanged_then}
 use Rattle.store.proofs.Steps.{clean_before, rested_unchanged}
 use Rattle.store.proofs.Verdicts.{survives_self}
-use Rattle.store.proofs.Handing.{listing_none, left_taken, left_rested, all_taken, next_taken, stopped}
+use Rattle.store.proofs.Handing.{listing_none, left_accepted, left_rested, all_accepted, next_accepted, stopped}
 use Rattle.store.proofs.listing.hand_all.Goals as goal
 
 pub rows-init : goal.rows-init
@@ -25,7 +25,7 @@ returns-in-Err-clause-hands g c clean given names content rest =
     let new = c.advance.new.self.conn.now in
     let was = clean_before (state g.S.Store mid) (state g.S.Store new) _ c.advance.ensures.survives clean in
     let it = c.rows.invariant.listing was given names content rest in (
-      inr (left_taken g.S.Store names content g.V.Visitor.row_gives old rest c.args.visitor.now mid c.rows.visitor it),
+      inr (left_accepted g.S.Store names content g.V.Visitor.row_gives old rest c.args.visitor.now mid c.rows.visitor it),
       left_rested g.S.Store names content g.V.Visitor.row_gives old rest c.args.visitor.now mid c.rows.visitor it new c.in-Err.error (c.in-Err.ensures.err clean),
     )
 
@@ -36,7 +36,7 @@ returns-in_default-clause-hands g c clean given names content rest =
     let new = c.advance.new.self.conn.now in
     let was = clean_before (state g.S.Store mid) (state g.S.Store new) _ c.advance.ensures.survives clean in
     let it = c.rows.invariant.listing was given names content rest in (
-      all_taken g.S.Store names content g.V.Visitor.row_gives old rest c.args.visitor.now mid c.rows.visitor it new (subst (λ o. Advances g.S.Store mid new o) (sym c.in_default.ensures) (c.in-Ok.ensures.ok clean)) (c.in-Ok.ensures.same clean),
+      all_accepted g.S.Store names content g.V.Visitor.row_gives old rest c.args.visitor.now mid c.rows.visitor it new (subst (λ o. Advances g.S.Store mid new o) (sym c.in_default.ensures) (c.in-Ok.ensures.ok clean)) (c.in-Ok.ensures.same clean),
       unchanged_then (state g.S.Store old) (state g.S.Store mid) (state g.S.Store new) it.same (c.in-Ok.ensures.same clean),
     )
 
@@ -47,7 +47,7 @@ returns-in_err-hand-clause-hands g c clean given names content rest =
     let new = c.advance.new.self.conn.now in
     let was = clean_before (state g.S.Store mid) (state g.S.Store new) _ c.advance.ensures.survives clean in
     let it = c.rows.invariant.listing was given names content rest in
-    let next = next_taken g.S.Store names content g.V.Visitor.row_gives old rest c.args.visitor.now mid c.rows.visitor it new c.in-Some.row.now (subst (λ o. Advances g.S.Store mid new o) (sym c.in-Some.ensures) (c.in-Ok.ensures.ok clean)) (c.in-Ok.ensures.same clean) in
+    let next = next_accepted g.S.Store names content g.V.Visitor.row_gives old rest c.args.visitor.now mid c.rows.visitor it new c.in-Some.row.now (subst (λ o. Advances g.S.Store mid new o) (sym c.in-Some.ensures) (c.in-Ok.ensures.ok clean)) (c.in-Ok.ensures.same clean) in
     let p = err_from_is_err_and c.from_residual.result c.from_residual.ensures.1 in
     rw (p.1, p.2)
     (stopped g.S.Store names content g.V.Visitor.row_gives old rest c.args.visitor.now mid c.rows.visitor it new c.in-Some.row.now (c.in-Ok.ensures.same clean) next c.hand.new.visitor c.in_err-hand.field-0.0 (c.in_err-hand.ensures.handed next.entry next.shown next.lawful))
@@ -63,7 +63,7 @@ rows-preserved g c = record {
       let new = c.advance.new.self.conn.now in
       let was = clean_before (state g.S.Store mid) (state g.S.Store new) _ c.advance.ensures.survives clean in
       let it = c.rows.invariant.listing was given names content rest in
-      let next = next_taken g.S.Store names content g.V.Visitor.row_gives old rest c.args.visitor.now mid c.rows.visitor it new c.in-Some.row.now (subst (λ o. Advances g.S.Store mid new o) (sym c.in-Some.ensures) (c.in-Ok.ensures.ok clean)) (c.in-Ok.ensures.same clean) in
+      let next = next_accepted g.S.Store names content g.V.Visitor.row_gives old rest c.args.visitor.now mid c.rows.visitor it new c.in-Some.row.now (subst (λ o. Advances g.S.Store mid new o) (sym c.in-Some.ensures) (c.in-Ok.ensures.ok clean)) (c.in-Ok.ensures.same clean) in
       next.more c.hand.new.visitor (c.in_ok-hand.ensures.handed next.entry next.shown next.lawful);
 }
 
@@ -72,6 +72,6 @@ returns-clause-hands g c clean given names content rest =
     let old = c.args.rows.now.conn.now in
     let mid = c.rows.rows.conn.now in
     let it = c.rows.invariant.listing clean given names content rest in (
-      inr (left_taken g.S.Store names content g.V.Visitor.row_gives old rest c.args.visitor.now mid c.rows.visitor it),
+      inr (left_accepted g.S.Store names content g.V.Visitor.row_gives old rest c.args.visitor.now mid c.rows.visitor it),
       rested_unchanged (state g.S.Store old) (state g.S.Store mid) it.same,
     )

@@ -7,11 +7,12 @@ use Rattle.sqlite.specs.State.{HasCleanDisk, Survives}
 use Rattle.sqlite.specs.Held.{state}
 use Rattle.store.specs.Layout.{held_tree}
 use Rattle.store.specs.Listing.{KeepsListed, listed_text}
+use Rattle.store.proofs.Applying.{shut_after}
 use Rattle.store.proofs.Keeps.{opened_query}
 use Rattle.store.proofs.Readings.{all_rests, all_survives}
 use Rattle.store.proofs.Steps.{clean_before}
 use Rattle.store.proofs.Counted.{rest_unchanged}
-use Rattle.store.proofs.Handing.{kept_after, begun_open, still_shut}
+use Rattle.store.proofs.Handing.{kept_after, begun_open}
 use Rattle.store.proofs.Listings.{listed_asks, listed_survives}
 use Rattle.store.proofs.listing.list_held.Goals as goal
 
@@ -32,7 +33,7 @@ pub returns-in-Err-clause-shut : goal.returns-in-Err-clause-shut
 returns-in-Err-clause-shut g c clean shut =
     let s = state g.S.Store in
     let refused = rw c.in-Err.is at c.query.follows.holds-at-none in
-    (still_shut (s c.args.conn.now) (s c.query.follows.lender-at-none) (opened_query {X = List Row} (λ rows. rows) listed_text [] (s c.args.conn.now) (s c.query.follows.lender-at-none) (Err c.in-Err.error) tt (refused.err clean)) shut, refl)
+    (shut_after (s c.args.conn.now) (s c.query.follows.lender-at-none) (opened_query {X = List Row} (λ rows. rows) listed_text [] (s c.args.conn.now) (s c.query.follows.lender-at-none) (Err c.in-Err.error) tt (refused.err clean)) shut, refl)
 
 pub returns-clause-hands : goal.returns-clause-hands
 returns-clause-hands g c clean names content rest =

@@ -4,7 +4,7 @@ use Rattle.store.proofs.load.load_follow.Goals as goal
 
 pub returns-clause-judged : goal.returns-clause-judged
 returns-clause-judged g c clean tree asks =
-    follow_table ((state g.S.Store c.args.conn.now).now.trees tree) _ (c.in_ok-rows.ensures.rows clean tree asks) c.follow_from.result (rw c.deref.ensures.value at c.follow_from.ensures.judged)
+    follow_table ((state g.S.Store c.args.conn.now).now.trees tree) _ (c.in_ok-rows.ensures.rows clean tree asks) c.filter_from.result (rw c.deref.ensures.value at c.filter_from.ensures.judged)
 
 pub returns-clause-same : goal.returns-clause-same
-returns-clause-same g c clean tree asks = on_seen c.follow_from.result (c.in_ok-rows.ensures.same clean tree asks)
+returns-clause-same g c clean tree asks = on_seen c.filter_from.result (c.in_ok-rows.ensures.same clean tree asks)

@@ -6,7 +6,7 @@ use Rattle.sqlite.proofs.StateLemmas.{survives_then}
 use Rattle.store.specs.Beside.{LiesBeside}
 use Rattle.store.specs.Apply.{IsAtRest, Rests}
 use Rattle.store.specs.Open.{nothing, MayStandFor}
-use Rattle.store.proofs.Ran.{rolled}
+use Rattle.store.proofs.Ran.{rolled, survives_rolled}
 use Rattle.store.proofs.Committed.{making_inside, committed, failed, may_stand}
 use Rattle.store.proofs.make.make.Goals as goal
 
@@ -25,7 +25,7 @@ returns-clause-made g c clean blank =
     let n = state g.S.Store c.commit.new.self.0 in
     let begun = making_inside g.S.Store h c.schema.ensures.live blank in
     let late : HasCleanDisk n = search (rules, clean) in
-    let rest : OnOk c.commit.result (IsAtRest n c.args.follow.now nothing × LiesBeside (state g.S.Store h).now n.now) = committed g.S.Store h c.args.follow.now nothing (state g.S.Store c.fill.new.tx.conn.now) n blank.settled
+    let rest : OnOk c.commit.result (IsAtRest n c.args.filter.now nothing × LiesBeside (state g.S.Store h).now n.now) = committed g.S.Store h c.args.filter.now nothing (state g.S.Store c.fill.new.tx.conn.now) n blank.settled
     (λ early. (rw c.transaction-tx.ensures.begun at c.in_ok-fill.ensures.kept) early begun) (λ early. (rw c.transaction-tx.ensures.begun at c.in_ok-fill.ensures.made) early begun) c.commit.result c.commit.ensures.survives c.commit.ensures.ok late in
     search (rules, rest)
 
@@ -35,9 +35,18 @@ returns-clause-refused g c clean blank =
     let n = state g.S.Store c.commit.new.self.0 in
     let begun = making_inside g.S.Store h c.schema.ensures.live blank in
     let late : HasCleanDisk n = search (rules, clean) in
-    let rests : OnErr c.commit.result (Rests (state g.S.Store h) n) = failed g.S.Store h c.args.follow.now nothing (state g.S.Store c.fill.new.tx.conn.now) n blank.settled
+    let rests : OnErr c.commit.result (Rests (state g.S.Store h) n) = failed g.S.Store h c.args.filter.now nothing (state g.S.Store c.fill.new.tx.conn.now) n blank.settled
     (λ early. (rw c.transaction-tx.ensures.begun at c.in_ok-fill.ensures.kept) early begun) (λ early. (rw c.transaction-tx.ensures.begun at c.in_ok-fill.ensures.made) early begun) c.commit.result c.commit.ensures.survives c.commit.ensures.err late in
     search (rules, rests)
+
+pub returns-in_err-fill-clause-crash : goal.returns-in_err-fill-clause-crash
+returns-in_err-fill-clause-crash g c blank =
+    let h = c.args.conn.now in
+    let n = state g.S.Store c.drop-tx.new.self.0 in
+    let may = MayStandFor (state g.S.Store h).now c.args.filter.now nothing in
+    let survives : Survives (state g.S.Store h) n may = survives_rolled g.S.Store h (state g.S.Store c.fill.new.tx.conn.now) n may
+    (rw c.transaction-tx.ensures.begun at c.in_err-fill.ensures.survives) c.drop-tx.ensures.survives in
+    search (rules, survives)
 
 pub returns-clause-crash : goal.returns-clause-crash
 returns-clause-crash g c blank =
@@ -46,10 +55,10 @@ returns-clause-crash g c blank =
     let m = state g.S.Store c.fill.new.tx.conn.now in
     let n = state g.S.Store c.commit.new.self.0 in
     let begun = making_inside g.S.Store h c.schema.ensures.live blank in
-    let may = MayStandFor (state g.S.Store h).now c.args.follow.now nothing in
+    let may = MayStandFor (state g.S.Store h).now c.args.filter.now nothing in
     let survives : Survives (state g.S.Store h) n may =
     survives_begin g.S.Store h n may (survives_then t m n (λ _. ⊥) (λ db. db ≡ m.now.trees) may (λ _ db none. absurd none)
-    (may_stand g.S.Store h c.args.follow.now nothing m n blank.settled
+    (may_stand g.S.Store h c.args.filter.now nothing m n blank.settled
     (λ early. (rw c.transaction-tx.ensures.begun at c.in_ok-fill.ensures.kept) early begun) (λ early. (rw c.transaction-tx.ensures.begun at c.in_ok-fill.ensures.made) early begun) c.commit.result c.commit.ensures.survives)
     (rw c.transaction-tx.ensures.begun at c.in_ok-fill.ensures.survives) c.commit.ensures.survives) in
     search (rules, survives)

@@ -7,7 +7,7 @@ use Rattle.sqlite_trees.specs.Tree.{Trees}
 use Rattle.store.specs.Beside.{LiesBeside}
 use Rattle.store.specs.Apply.{IsAtRest, Rests}
 use Rattle.store.specs.Open.{all, MayMigrate}
-use Rattle.store.proofs.Ran.{rolled}
+use Rattle.store.proofs.Ran.{rolled, survives_rolled}
 use Rattle.store.proofs.Committed.{first_inside, committed, rests_unless, may_stand}
 use Rattle.store.proofs.migrate.migrate.Goals as goal
 
@@ -43,6 +43,15 @@ returns-clause-refused g c clean content rest =
     let working = (rw c.transaction-tx.ensures.begun at c.in_ok-convert.ensures.working) early content begun in
     let refused : OnErr c.commit.result (Rests (state g.S.Store h) n) = rests_unless t m n c.commit.result rest.settled kept working.inside (c.commit.ensures.err late) in
     search (rules, refused)
+
+pub returns-in_err-convert-clause-crash : goal.returns-in_err-convert-clause-crash
+returns-in_err-convert-clause-crash g c =
+    let h = c.args.conn.now in
+    let n = state g.S.Store c.drop-tx.new.self.0 in
+    let may : Trees → Type 0 = MayMigrate (state g.S.Store h) c.args.executed.now in
+    let survives : Survives (state g.S.Store h) n may = survives_rolled g.S.Store h (state g.S.Store c.convert.new.tx.conn.now) n may
+    (rw c.transaction-tx.ensures.begun at c.in_err-convert.ensures.survives) c.drop-tx.ensures.survives in
+    search (rules, survives)
 
 pub returns-clause-crash : goal.returns-clause-crash
 returns-clause-crash g c =

@@ -1,10 +1,10 @@
 use Rattle.std.proofs.Common.{arith}
-use Rattle.std.proofs.lemmas.Result.{err_from_is_err_and}
+use Rattle.std.proofs.lemmas.Result.{err_from_is_err_and, IfOk-weaker, IfErr-weaker}
 use Rattle.sqlite.specs.State.{HasCleanDisk}
 use Rattle.sqlite.specs.Held.{state}
 use Rattle.store.specs.declared.tables.KnownLayout.TheVariants.{First, Second}
 use Rattle.store.proofs.Counted.{rests_unchanged}
-use Rattle.store.proofs.Known.{there, has_meta, found, meta_after, entered_after, turned_after, may_then, none_then, may_none, ok_weaker, err_weaker}
+use Rattle.store.proofs.Known.{there, has_meta, found, meta_after, entered_after, turned_after, may_then, none_then, may_none}
 use Rattle.store.proofs.opening.enter_old.Goals as goal
 
 pub returns-in_err-meta-clause-turned : goal.returns-in_err-meta-clause-turned
@@ -42,7 +42,7 @@ returns-in-First-clause-entered g c clean ready tables has =
     let early : HasCleanDisk mid = omega (arith, c.enter_first.ensures.lives.clean, clean) in
     let same = c.in_ok-meta.ensures.same early mf in
     let at = found old mid First ready same (rw c.in-First.is at (c.in_ok-layout_of.ensures.judged old.now ready.known (c.in_ok-meta.ensures.says early mf) tables has)) in
-    ok_weaker c.enter_first.result (λ l e. entered_after c.args.any c.args.only.now old mid new same l.executed l.following e) (c.enter_first.ensures.entered clean at.ready at.has.0 at.has.1)
+    IfOk-weaker c.enter_first.result _ _ (λ l e. entered_after c.args.any c.args.only.now old mid new same l.executed l.following e) (c.enter_first.ensures.entered clean at.ready at.has.0 at.has.1)
 
 pub returns-in-First-clause-turned : goal.returns-in-First-clause-turned
 returns-in-First-clause-turned g c clean ready tables has =
@@ -53,7 +53,7 @@ returns-in-First-clause-turned g c clean ready tables has =
     let early : HasCleanDisk mid = omega (arith, c.enter_first.ensures.lives.clean, clean) in
     let same = c.in_ok-meta.ensures.same early mf in
     let at = found old mid First ready same (rw c.in-First.is at (c.in_ok-layout_of.ensures.judged old.now ready.known (c.in_ok-meta.ensures.says early mf) tables has)) in
-    err_weaker c.enter_first.result (λ fault t. turned_after c.args.any c.args.only.now old mid new same fault t) (c.enter_first.ensures.turned clean at.ready at.has.0 at.has.1 (meta_after old mid same (there old c.args.tables tables has)))
+    IfErr-weaker c.enter_first.result _ _ (λ fault t. turned_after c.args.any c.args.only.now old mid new same fault t) (c.enter_first.ensures.turned clean at.ready at.has.0 at.has.1 (meta_after old mid same (there old c.args.tables tables has)))
 
 pub returns-in-First-clause-crash : goal.returns-in-First-clause-crash
 returns-in-First-clause-crash g c ready tables has =
@@ -75,7 +75,7 @@ returns-in-Second-clause-entered g c clean ready tables has =
     let early : HasCleanDisk mid = omega (arith, c.enter_second.ensures.lives.clean, clean) in
     let same = c.in_ok-meta.ensures.same early mf in
     let at = found old mid Second ready same (rw c.in-Second.is at (c.in_ok-layout_of.ensures.judged old.now ready.known (c.in_ok-meta.ensures.says early mf) tables has)) in
-    ok_weaker c.enter_second.result (λ l e. entered_after c.args.any c.args.only.now old mid new same l.executed l.following e) (c.enter_second.ensures.entered clean at.ready at.has.0 at.has.1)
+    IfOk-weaker c.enter_second.result _ _ (λ l e. entered_after c.args.any c.args.only.now old mid new same l.executed l.following e) (c.enter_second.ensures.entered clean at.ready at.has.0 at.has.1)
 
 pub returns-in-Second-clause-turned : goal.returns-in-Second-clause-turned
 returns-in-Second-clause-turned g c clean ready tables has =
@@ -86,7 +86,7 @@ returns-in-Second-clause-turned g c clean ready tables has =
     let early : HasCleanDisk mid = omega (arith, c.enter_second.ensures.lives.clean, clean) in
     let same = c.in_ok-meta.ensures.same early mf in
     let at = found old mid Second ready same (rw c.in-Second.is at (c.in_ok-layout_of.ensures.judged old.now ready.known (c.in_ok-meta.ensures.says early mf) tables has)) in
-    err_weaker c.enter_second.result (λ fault t. turned_after c.args.any c.args.only.now old mid new same fault t) (c.enter_second.ensures.turned clean at.ready at.has.0 at.has.1 (meta_after old mid same (there old c.args.tables tables has)))
+    IfErr-weaker c.enter_second.result _ _ (λ fault t. turned_after c.args.any c.args.only.now old mid new same fault t) (c.enter_second.ensures.turned clean at.ready at.has.0 at.has.1 (meta_after old mid same (there old c.args.tables tables has)))
 
 pub returns-in-Second-clause-crash : goal.returns-in-Second-clause-crash
 returns-in-Second-clause-crash g c ready tables has =

@@ -16,8 +16,8 @@ loop-at-preserved g c = record {
       let new = state g.S.Store c.step.new.tx.conn.now in
       let early : HasCleanDisk mid = omega (arith, c.step.ensures.stays.survives.clean) in
       let way = c.loop-at.invariant.under_way early was in
-      let done : Does c.args.follow.now (change_value c.index-changes-at.result) mid new None = rw c.in_default.is at (c.in_ok-why.ensures.does clean way.0.on.working) in
-      goes_under_way c.args.changes.now c.loop-at.at c.index-changes-at.result (omega arith) c.index-changes-at.is c.args.follow.now old mid new way done;
+      let done : Does c.args.filter.now (change_value c.index-changes-at.result) mid new None = rw c.in_default.is at (c.in_ok-why.ensures.does clean way.0.on.working) in
+      goes_under_way c.args.changes.now c.loop-at.at c.index-changes-at.result (omega arith) c.index-changes-at.is c.args.filter.now old mid new way done;
   stays = stays_then (state g.S.Store c.args.tx.now.conn.now) (state g.S.Store c.loop-at.tx.conn.now) (state g.S.Store c.step.new.tx.conn.now) c.loop-at.invariant.stays
       (λ early was. (c.loop-at.invariant.under_way early was).0.on.working) c.step.ensures.stays;
 }

@@ -1,10 +1,10 @@
 use Rattle.sqlite.specs.Held.{state}
 use Rattle.gather.specs.Image.{IsImage}
-use Rattle.store.proofs.Bags.{taken_if}
+use Rattle.store.proofs.Bags.{removed_if}
 use Rattle.store.proofs.row_change.remove_row.Goals as goal
 
 pub returns-clause-makes : goal.returns-clause-makes
 returns-clause-makes g c clean was =
     let is : IsImage c.args.image.now c.bytes.result.now = c.bytes.ensures in
-    taken_if c.args.table.now.schema.items c.args.table.now.table.items c.args.image.now c.bytes.result.now is (state g.S.Store c.args.tx.now.conn.now) (state g.S.Store c.take.new.tx.conn.now) c.take.result
-    (rw (c.as_slice.ensures.value, c.as_slice-2.ensures.value) at (c.take.ensures.counted clean was))
+    removed_if c.args.table.now.schema.items c.args.table.now.table.items c.args.image.now c.bytes.result.now is (state g.S.Store c.args.tx.now.conn.now) (state g.S.Store c.remove.new.tx.conn.now) c.remove.result
+    (rw (c.as_slice.ensures.value, c.as_slice-2.ensures.value) at (c.remove.ensures.counted clean was))

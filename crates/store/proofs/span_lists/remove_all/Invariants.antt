@@ -2,7 +2,7 @@ use Rattle.std.proofs.Common.{◌≡◌}
 use Rattle.sqlite.specs.State.{HasCleanDisk}
 use Rattle.sqlite.specs.Held.{state}
 use Rattle.store.specs.Rows.{span_rows, held_rows}
-use Rattle.store.specs.Inside.{IsWorking, GoesOn, Lists, Stays}
+use Rattle.store.specs.Inside.{IsWorking, GoesOn, AreRowsOf, Stays}
 use Rattle.store.proofs.span_lists.remove_all.Given as goal
 
 abbrev pub invariant-loop-span : goal.invariant-loop-span
@@ -12,6 +12,6 @@ invariant-loop-span g l =
     record {
       same_reference : l.tx.conn.ghost_name ≡ l.fn.tx.conn.ghost_name;
       goes : HasCleanDisk new → IsWorking old → GoesOn old new;
-      left : HasCleanDisk new → IsWorking old → Lists (span_rows old.now) l.fn.spans → Lists (span_rows new.now) l.span-iterator × (held_rows new.now ≡ held_rows old.now);
+      left : HasCleanDisk new → IsWorking old → AreRowsOf (span_rows old.now) l.fn.spans → AreRowsOf (span_rows new.now) l.span-iterator × (held_rows new.now ≡ held_rows old.now);
       stays : Stays old new;
     }

@@ -40,12 +40,12 @@ returns-then-columns-lt1-clause-only c r same is =
     let low = (rows_reported r c.args.bytes.now is).are.columns.0 in
     omega (arith, n, low, c.if-columns-lt1.true)
 
-pub returns-then-columns-gt4096-clause-only : goal.returns-then-columns-gt4096-clause-only
-returns-then-columns-gt4096-clause-only c r same is =
+pub returns-then-columns-clause-only : goal.returns-then-columns-clause-only
+returns-then-columns-clause-only c r same is =
     let e = extra_is c.args.bytes.now _ _ c.from-extra.ensures c.read_u16.ensures in
     let n : c.in_ok-columns.columns ≡ columns_of c.args.bytes.now = c.in_ok-columns.ensures.value.0 ∙ ap (λ n. count_at c.args.bytes.now (27 + n)) e in
     let high = (rows_reported r c.args.bytes.now is).are.columns.1 in
-    omega (arith, n, high, c.if-columns-gt4096.true)
+    omega (arith, n, high, c.if-columns.true)
 
 pub returns-in_err-bytes_at-clause-only : goal.returns-in_err-bytes_at-clause-only
 returns-in_err-bytes_at-clause-only c r same is =
@@ -66,7 +66,7 @@ returns-in_err-bytes_at-clause-fault c =
     let extra : 2 ≤ number_at 2 bytes 27 = omega (arith, e, c.if-extra-lt2.false) in
     let fits : count_place bytes ≤ length bytes = omega (arith, e, c.if-bytes-columns_at.false) in
     let low : 1 ≤ columns_of bytes = omega (arith, n, c.if-columns-lt1.false) in
-    let high : columns_of bytes ≤ 4096 = omega (arith, n, c.if-columns-gt4096.false) in
+    let high : columns_of bytes ≤ 4096 = omega (arith, n, c.if-columns.false) in
     let line = (λ i. presents_fault c.args.kind bytes (27 + sym e i + sym w i) (sym n i)) ∙ c.in_err-bytes_at.ensures.fault in
     let whole = rows_then c.args.kind bytes (omega arith) extra fits uncounted low high ∙ only_line _ _ line in
     rw (p.1, p.2) whole
@@ -83,7 +83,7 @@ parts c =
       extra = omega (arith, e, c.if-extra-lt2.false);
       extra_fits = omega (arith, e, c.if-bytes-columns_at.false);
       count = is_counted bytes (count_place bytes) Columns (λ i. omega (arith, c.type_inv.bytes i)) uncounted;
-      columns = (omega (arith, n, c.if-columns-lt1.false), omega (arith, n, c.if-columns-gt4096.false));
+      columns = (omega (arith, n, c.if-columns-lt1.false), omega (arith, n, c.if-columns.false));
       presents = (λ i. presents_fault c.args.kind bytes (27 + sym e i + sym w i) (sym n i)) ∙ c.in_ok-bytes_at.ensures.whole;
     }
 

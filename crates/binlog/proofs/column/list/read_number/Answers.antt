@@ -13,7 +13,7 @@ returns-then-columns-lt1-clause-fault c =
     wrong_number c.args.bytes.now c.args.at c.in_ok-columns.columns c.in_ok-columns.ensures.whole c.in_ok-columns.ensures.value.0 (λ some few. omega (arith, some, few))
     ∙ ap Some (sym c.new.ensures)
 
-pub returns-then-columns-gt4096-clause-fault : goal.returns-then-columns-gt4096-clause-fault
-returns-then-columns-gt4096-clause-fault c =
+pub returns-then-columns-clause-fault : goal.returns-then-columns-clause-fault
+returns-then-columns-clause-fault c =
     wrong_number c.args.bytes.now c.args.at c.in_ok-columns.columns c.in_ok-columns.ensures.whole c.in_ok-columns.ensures.value.0 (λ some few. omega (arith, some, few))
-    ∙ ap Some (sym c.new-then-columns-gt4096.ensures)
+    ∙ ap Some (sym c.new-then-columns.ensures)

@@ -4,8 +4,7 @@ use Rattle.std.proofs.lemmas.Bool.{ne_eqb}
 use Rattle.greet.specs.Message.{IsDump}
 use Rattle.greet.specs.Refusal.{dump_refusal}
 use Rattle.greet.specs.View.{dump_value, Refuses}
-use Rattle.wire.proofs.Cuts.{IsBytes, IsBytes-rest, first_and_rest}
-use Rattle.greet.proofs.Cuts.{begun_by}
+use Rattle.wire.proofs.Cuts.{IsBytes, IsBytes-rest, first_and_rest, begun_by}
 use Rattle.greet.proofs.Dumps.{nothing, found, refused, answered}
 use Rattle.greet.proofs.command.Dump.read.Goals as goal
 

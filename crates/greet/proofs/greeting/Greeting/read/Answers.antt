@@ -5,8 +5,7 @@ use Rattle.greet.specs.Message.{IsGreeting}
 use Rattle.greet.specs.Refusal.{greeting_refusal}
 use Rattle.greet.specs.Complete.{HasGreeting}
 use Rattle.greet.specs.View.{greeting_value, Refuses}
-use Rattle.wire.proofs.Cuts.{first_and_rest}
-use Rattle.greet.proofs.Cuts.{begun_by}
+use Rattle.wire.proofs.Cuts.{first_and_rest, begun_by}
 use Rattle.greet.proofs.Greetings.{nothing, not_refused, one_value}
 use Rattle.greet.proofs.Readers.{answered}
 use Rattle.greet.proofs.ErrBytes.{some_err}

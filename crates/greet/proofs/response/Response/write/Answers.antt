@@ -1,7 +1,7 @@
 use Rattle.std.proofs.Common.{◌≡◌, ◌++◌, ◌∷◌, [], length, sym, ap, subst, ◌∙◌}
 use Rattle.std.specs.Prelude.{OnOk}
 use Rattle.greet.specs.Message.{response_lead, plugin_name}
-use Rattle.greet.proofs.Cuts.{right_5}
+use Rattle.wire.proofs.Cuts.{right_5}
 use Rattle.greet.proofs.response.Response.write.Goals as goal
 
 pub returns-clause-ok : goal.returns-clause-ok

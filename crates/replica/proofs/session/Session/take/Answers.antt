@@ -4,7 +4,7 @@ use Rattle.wire.specs.declared.fault.WireFault.TheVariants as wire
 use Rattle.replica.specs.declared.end.Reason.TheVariants.{Wire}
 use Rattle.replica.specs.declared.end.Ended.{Ended}
 use Rattle.replica.specs.Standing.{HasEnded, end_of}
-use Rattle.replica.proofs.Turning.{rest_length, too_far, stands_ended, room_left}
+use Rattle.replica.proofs.PayloadSteps.{rest_length, too_far, stands_ended, room_left}
 use Rattle.replica.proofs.Dumping.{over_same}
 use Rattle.replica.proofs.Observed.{own_may}
 use Rattle.replica.proofs.session.Session.take.Goals as goal

@@ -4,8 +4,8 @@ use Rattle.replica.specs.Standing.{due_at, due_of, end_of, HasEnded}
 use Rattle.replica.specs.declared.end.Ended.{Ended}
 use Rattle.replica.specs.declared.end.Reason.TheVariants.{EndOfInput}
 use Rattle.replica.specs.Conn.{IsOwn}
-use Rattle.replica.specs.Turn.{IsAnswered, EndsAt}
-use Rattle.replica.proofs.Turning.{stands_going, stands_ended, nothing_taken, message_goes_on, message_ends_it, rest_length, not_dump, some-none}
+use Rattle.replica.specs.PayloadStep.{IsAnswered, EndsAt}
+use Rattle.replica.proofs.PayloadSteps.{stands_going, stands_ended, nothing_taken, message_goes_on, message_ends_it, rest_length, not_dump, some-none}
 use Rattle.replica.proofs.session.Session.take_message.Goals as goal
 
 pub returns-in-Ok : goal.returns-in-Ok

@@ -2,10 +2,10 @@ use Rattle.std.proofs.Common.{inl, inr, refl, sym, ap, subst, ◌∙◌}
 use Rattle.std.specs.FinSet as set
 use Rattle.sqlite.specs.Held.{state}
 use Rattle.store.specs.Apply.{IsAtRest, AreOf}
-use Rattle.store.specs.Take.{adopted}
+use Rattle.store.specs.Changes.{adopted}
 use Rattle.store.specs.Store.{Holds}
 use Rattle.store.proofs.Spared.{beside_same, beside_unchanged}
-use Rattle.store.proofs.Taken.{rest_same, stays, spares, spares_either}
+use Rattle.store.proofs.Applying.{rest_same, stays, spares, spares_either}
 use Rattle.store.proofs.Adopted.{nothing_new, adopted_is}
 use Rattle.store.proofs.store.Store.adopt.Goals as goal
 

@@ -2,8 +2,8 @@ use Rattle.std.proofs.Common.{◌≡◌, false, refl, sym, subst, ◌∙◌}
 use Rattle.std.specs.FinSet as set
 use Rattle.gtid.specs.Identifier.{id}
 use Rattle.gather.specs.View.{delivery_value}
-use Rattle.store.specs.Take.{is_executed}
-use Rattle.store.proofs.Taken.{applied, applied_shut, left_whole, same_schema, lies_beside, spares, spares_moved}
+use Rattle.store.specs.Changes.{is_executed}
+use Rattle.store.proofs.Applying.{applied, applied_shut, left_whole, same_schema, lies_beside, spares, spares_moved}
 use Rattle.store.proofs.store.Store.apply.Goals as goal
 
 pub returns-clause-applies : goal.returns-clause-applies
@@ -11,33 +11,33 @@ returns-clause-applies g c clean content was =
     let d = delivery_value c.args.delivery.now in
     let out : is_executed content d ≡ false = subst (λ ids. set.contains ids (id c.args.delivery.now.gtid) ≡ false) was.executed (sym c.contains.ensures ∙ c.if-contains.false) in
     let same = c.replace-executed.ensures.value ∙ was.executed in
-    applied g.S.Store content d c.args.self.now (record c.args.self.now { conn = c.take-executed.new.conn; executed = c.take-executed.result.0; broken = c.breaks-self.result; autocommit = c.self-1.given.0 }) c.take-executed.result.1 was out refl c.breaks-self.ensures
-    c.take-executed.ensures.memory (c.take-executed.ensures.comes clean content was.rest same)
+    applied g.S.Store content d c.args.self.now (record c.args.self.now { conn = c.apply_new-executed.new.conn; executed = c.apply_new-executed.result.0; broken = c.breaks-self.result; autocommit = c.self-1.given.0 }) c.apply_new-executed.result.1 was out refl c.breaks-self.ensures
+    c.apply_new-executed.ensures.memory (c.apply_new-executed.ensures.comes clean content was.rest same)
 
 pub returns-clause-crash : goal.returns-clause-crash
 returns-clause-crash g c clean content was trees left =
     let d = delivery_value c.args.delivery.now in
     let same = c.replace-executed.ensures.value ∙ was.executed in
-    left_whole g.S.Store c.args.self.now.following content (λ h db is_open may. g.met.S.Store.settled h.store db is_open may) d c.args.self.now.conn c.take-executed.new.conn c.take-executed.result.1 c.take-executed.result.0 trees was.rest
-    (c.take-executed.ensures.comes clean content was.rest same) ((c.take-executed.ensures.crash content was.rest same).crash clean trees left) left
+    left_whole g.S.Store c.args.self.now.following content (λ h db is_open may. g.met.S.Store.settled h.store db is_open may) d c.args.self.now.conn c.apply_new-executed.new.conn c.apply_new-executed.result.1 c.apply_new-executed.result.0 trees was.rest
+    (c.apply_new-executed.ensures.comes clean content was.rest same) ((c.apply_new-executed.ensures.crash content was.rest same).crash clean trees left) left
 
 pub returns-clause-schema : goal.returns-clause-schema
 returns-clause-schema g c clean content was whole =
     let same = c.replace-executed.ensures.value ∙ was.executed in
-    same_schema g.S.Store content (delivery_value c.args.delivery.now) c.args.self.now (record c.args.self.now { conn = c.take-executed.new.conn; executed = c.take-executed.result.0; broken = c.breaks-self.result; autocommit = c.self-1.given.0 }) c.take-executed.result.1 whole c.breaks-self.ensures
-    (c.take-executed.ensures.comes clean content was.rest same)
+    same_schema g.S.Store content (delivery_value c.args.delivery.now) c.args.self.now (record c.args.self.now { conn = c.apply_new-executed.new.conn; executed = c.apply_new-executed.result.0; broken = c.breaks-self.result; autocommit = c.self-1.given.0 }) c.apply_new-executed.result.1 whole c.breaks-self.ensures
+    (c.apply_new-executed.ensures.comes clean content was.rest same)
 
 pub returns-clause-beside : goal.returns-clause-beside
 returns-clause-beside g c clean content was is_open =
     let same = c.replace-executed.ensures.value ∙ was.executed in
-    lies_beside g.S.Store content (delivery_value c.args.delivery.now) c.args.self.now (record c.args.self.now { conn = c.take-executed.new.conn; executed = c.take-executed.result.0; broken = c.breaks-self.result; autocommit = c.self-1.given.0 }) c.take-executed.result.1 is_open
-    (c.take-executed.ensures.comes clean content was.rest same)
+    lies_beside g.S.Store content (delivery_value c.args.delivery.now) c.args.self.now (record c.args.self.now { conn = c.apply_new-executed.new.conn; executed = c.apply_new-executed.result.0; broken = c.breaks-self.result; autocommit = c.self-1.given.0 }) c.apply_new-executed.result.1 is_open
+    (c.apply_new-executed.ensures.comes clean content was.rest same)
 
 pub returns-clause-crash_beside : goal.returns-clause-crash_beside
 returns-clause-crash_beside g c clean content was trees left =
     let same = c.replace-executed.ensures.value ∙ was.executed in
-    spares_moved g.S.Store c.args.self.now.following content (λ h db is_open may. g.met.S.Store.settled h.store db is_open may) (delivery_value c.args.delivery.now) c.args.self.now.conn c.take-executed.result.1 trees was.rest
-    ((c.take-executed.ensures.crash content was.rest same).crash clean trees left)
+    spares_moved g.S.Store c.args.self.now.following content (λ h db is_open may. g.met.S.Store.settled h.store db is_open may) (delivery_value c.args.delivery.now) c.args.self.now.conn c.apply_new-executed.result.1 trees was.rest
+    ((c.apply_new-executed.ensures.crash content was.rest same).crash clean trees left)
 
 pub returns-then-contains-clause-crash_beside : goal.returns-then-contains-clause-crash_beside
 returns-then-contains-clause-crash_beside g c clean content was trees left =
@@ -47,5 +47,5 @@ pub returns-clause-shut : goal.returns-clause-shut
 returns-clause-shut g c clean content was shut =
     let d = delivery_value c.args.delivery.now in
     let out : is_executed content d ≡ false = subst (λ ids. set.contains ids (id c.args.delivery.now.gtid) ≡ false) was.executed (sym c.contains.ensures ∙ c.if-contains.false) in
-    applied_shut g.S.Store content d c.args.self.now (record c.args.self.now { conn = c.take-executed.new.conn; executed = c.take-executed.result.0; broken = c.breaks-self.result; autocommit = c.self-1.given.0 }) c.take-executed.result.1
-    c.replace-executed.result (c.replace-executed.ensures.value ∙ was.executed) out c.breaks-self.ensures (c.take-executed.ensures.shut clean shut)
+    applied_shut g.S.Store content d c.args.self.now (record c.args.self.now { conn = c.apply_new-executed.new.conn; executed = c.apply_new-executed.result.0; broken = c.breaks-self.result; autocommit = c.self-1.given.0 }) c.apply_new-executed.result.1
+    c.replace-executed.result (c.replace-executed.ensures.value ∙ was.executed) out c.breaks-self.ensures (c.apply_new-executed.ensures.shut clean shut)

@@ -2,7 +2,7 @@ use Rattle.std.proofs.Common.{◌∙◌, sym}
 use Rattle.std.proofs.lemmas.Bool.{false≢true}
 use Rattle.sqlite.specs.Held.{state}
 use Rattle.store.proofs.Spared.{beside_unchanged}
-use Rattle.store.proofs.Taken.{spares_kept}
+use Rattle.store.proofs.Applying.{spares_kept}
 use Rattle.store.proofs.Counted.{row_count, rest_unchanged, rest_read}
 use Rattle.store.proofs.store.Store.count.Goals as goal
 

@@ -1,6 +1,6 @@
 use Rattle.std.proofs.Common.{refl}
 use Rattle.sqlite.specs.Held.{state}
-use Rattle.store.proofs.Taken.{spares_kept}
+use Rattle.store.proofs.Applying.{spares_kept}
 use Rattle.store.proofs.Handing.{held_listed, kept_now}
 use Rattle.store.proofs.Spared.{beside_unchanged}
 use Rattle.store.proofs.store.Store.list.Goals as goal

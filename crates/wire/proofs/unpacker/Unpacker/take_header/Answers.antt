@@ -7,14 +7,14 @@ use Rattle.wire.specs.declared.unpacker.Unpacker.{Unpacker}
 use Rattle.wire.proofs.Unpacking.{held_of-header, rejoined, header_held, ends_later, out_of_sequence, too_large}
 use Rattle.wire.proofs.unpacker.Unpacker.take_header.Goals as goal
 
-pub returns-then-self-lt-HEADER-clause-ok : goal.returns-then-self-lt-HEADER-clause-ok
-returns-then-self-lt-HEADER-clause-ok c =
+pub returns-then-self-lt-HEADER_LENGTH-clause-ok : goal.returns-then-self-lt-HEADER_LENGTH-clause-ok
+returns-then-self-lt-HEADER_LENGTH-clause-ok c =
     let h = c.requires.header in
     record {
       in_range = c.fill-used.ensures.used;
       limit = refl;
       due = refl;
-      stands = inl (record { sized = omega (arith, c.fill-used.auto.header, h.sized); open_header = c.if-self-lt-HEADER.true; whole_chunks = h.whole_chunks; within = h.within });
+      stands = inl (record { sized = omega (arith, c.fill-used.auto.header, h.sized); open_header = c.if-self-lt-HEADER_LENGTH.true; whole_chunks = h.whole_chunks; within = h.within });
       held = held_of-header c.args.self.now _ (take c.fill-used.result c.args.bytes.now) h.whole_chunks refl refl refl c.fill-used.ensures.filled;
     }
 

@@ -5,11 +5,11 @@ use Rattle.sqlite.specs.State.{HasCleanDisk}
 use Rattle.sqlite.specs.Held.{state}
 use Rattle.gtid.specs.Identifier.{id}
 use Rattle.gather.specs.View.{delivery_value}
-use Rattle.store.specs.Take.{is_executed}
+use Rattle.store.specs.Changes.{is_executed}
 use Rattle.gtid.specs.Beside.{Joins}
 use Rattle.gather.proofs.RowItems.{ok_not_err}
-use Rattle.store.proofs.Taken.{beside_known, moved, came, given_up, fault_in, shut_after, refused_shut}
-use Rattle.store.proofs.apply.take.Goals as goal
+use Rattle.store.proofs.Applying.{beside_known, moved, came, given_up, fault_in, shut_after, refused_shut}
+use Rattle.store.proofs.apply.apply_new.Goals as goal
 
 pub returns-in-Ok-None-clause-comes : goal.returns-in-Ok-None-clause-comes
 returns-in-Ok-None-clause-comes g c clean content rest same =
@@ -18,7 +18,7 @@ returns-in-Ok-None-clause-comes g c clean content rest same =
     let beside : Joins content.executed (id c.args.delivery.now.gtid) c.beside-beside.result rest.stands.executed.spans =
     beside_known rest.stands.executed.spans c.args.executed content.executed (id c.args.delivery.now.gtid) c.beside-beside.result same rest.stands.executed.least (c.beside-beside.ensures.joins c.requires.new) in
     let ran = rw c.in-Ok-None.field-0-is at (c.in-Ok-None.ensures.runs clean content rest out beside) in
-    moved c.args.follow.now content d (state g.S.Store c.args.conn.now) (state g.S.Store c.run.new.conn) c.args.executed c.insert.result same (rw c.in-Ok.ensures.ok at c.insert.ensures) ran
+    moved c.args.filter.now content d (state g.S.Store c.args.conn.now) (state g.S.Store c.run.new.conn) c.args.executed c.insert.result same (rw c.in-Ok.ensures.ok at c.insert.ensures) ran
 
 pub returns-in-Ok-None-clause-crash : goal.returns-in-Ok-None-clause-crash
 returns-in-Ok-None-clause-crash g c content rest same =
@@ -40,7 +40,7 @@ returns-in-Ok-Some-clause-comes g c clean content rest same =
     beside_known rest.stands.executed.spans c.args.executed content.executed (id c.args.delivery.now.gtid) c.beside-beside.result same rest.stands.executed.least (c.beside-beside.ensures.joins c.requires.new) in
     let ran = rw c.in-Ok-Some.field-0-is at (c.in-Ok-Some.ensures.runs early content rest out beside) in
     let kept : c.release.result ≡ content.executed = c.release.ensures ∙ ap (λ p. p.0) c.in-Ok.ensures.ok ∙ same in
-    came c.args.follow.now content d old mid new c.release.result c.in-Ok-Some.at c.in-Ok-Some.why c.refuse.result kept rest ran (c.refuse.ensures.reported clean)
+    came c.args.filter.now content d old mid new c.release.result c.in-Ok-Some.at c.in-Ok-Some.why c.refuse.result kept rest ran (c.refuse.ensures.reported clean)
 
 pub returns-in-Ok-Some-clause-crash : goal.returns-in-Ok-Some-clause-crash
 returns-in-Ok-Some-clause-crash g c content rest same =
@@ -52,7 +52,7 @@ returns-in-Ok-Some-clause-crash g c content rest same =
     let beside : Joins content.executed (id c.args.delivery.now.gtid) c.beside-beside.result rest.stands.executed.spans =
     beside_known rest.stands.executed.spans c.args.executed content.executed (id c.args.delivery.now.gtid) c.beside-beside.result same rest.stands.executed.least (c.beside-beside.ensures.joins c.requires.new) in
     let ran = rw c.in-Ok-Some.field-0-is at (c.in-Ok-Some.ensures.crash content rest out beside) in
-    given_up c.args.follow.now content d old mid new (Err c.refuse.result) ran c.refuse.ensures.survives
+    given_up c.args.filter.now content d old mid new (Err c.refuse.result) ran c.refuse.ensures.survives
 
 pub returns-in-Err-run-clause-comes : goal.returns-in-Err-run-clause-comes
 returns-in-Err-run-clause-comes g c clean content rest same =

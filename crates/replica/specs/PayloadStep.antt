@@ -66,7 +66,7 @@ EndsAt names executed due p WriteFailed = ⊥
 EndsAt names executed due p Halted = ⊥
 
 -- The dump command with the set was appended.
-pub record AsksFor (settings : Settings) (executed : Ids) (old new : List ℕ) : Type 0 where
+pub record SendsDump (settings : Settings) (executed : Ids) (old new : List ℕ) : Type 0 where
   pub set : List ℕ
   pub encodes : IsEncoding executed set
   pub sends : Sends 0 (dump_bytes (record { flags = flags_of settings.once; server_id = settings.server_id; set = set }) [] (little_bytes 8 4)) old new

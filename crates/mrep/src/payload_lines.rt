@@ -4,17 +4,14 @@ ghost use Rattle.std.specs.Prelude.{◌≤◌, IfOk};
 
 use crate::events::write_event;
 use crate::failure::{DONE, Failure, REFUSED};
-use crate::listing::{Entry, Listing};
+use crate::payload_listing::{Entry, Listing};
 use crate::reason::wire_reason;
-use replica::read_some;
+use replica::{PIECE, read_some};
 use std::alloc::Global;
 use std::io::{Read, Write};
 use std::rt::Files;
 use std::{fs, io};
 use wire::WireFault;
-
-/// How many bytes are read at once, at most.
-const PIECE: usize = 65_536;
 
 /// What is printed of a payload.
 #[derive(Clone, Copy, Debug, PartialEq, Eq)]

@@ -47,15 +47,15 @@ IsRefused (update schema table before after) bag why =
 
 -- ---- Changes in order.
 
--- whether the table of the change is followed
-abbrev pub is_followed : Names → ChangeValue → Bool
-is_followed names (insert schema table after) = admits names schema table
-is_followed names (delete schema table before) = admits names schema table
-is_followed names (update schema table before after) = admits names schema table
+-- whether the filter admits the table of the change
+abbrev pub is_admitted : Names → ChangeValue → Bool
+is_admitted names (insert schema table after) = admits names schema table
+is_admitted names (delete schema table before) = admits names schema table
+is_admitted names (update schema table before after) = admits names schema table
 
--- A change of a table that is not followed is skipped.
+-- A change of a table that the filter leaves out is skipped.
 abbrev pub IsDone : Names → ChangeValue → Bag → Bag → Type 0
-IsDone names change old new = MatchBool (is_followed names change) (IsMade change old new) (new ≡ old)
+IsDone names change old new = MatchBool (is_admitted names change) (IsMade change old new) (new ≡ old)
 
 abbrev pub AreDone : Names → List ChangeValue → Bag → Bag → Type 0
 AreDone names [] old new = new ≡ old
@@ -67,7 +67,7 @@ pub record IsRefusedAt (names : Names) (changes : List ChangeValue) (old : Bag) 
   pub mid : Bag
   pub there : slice_get changes at ≡ Some change
   pub before : AreDone names (take at changes) old mid
-  pub followed : is_followed names change ≡ true
+  pub admitted : is_admitted names change ≡ true
   pub refused : IsRefused change mid why
 
 -- ---- Transactions.

@@ -5,8 +5,8 @@
 //! of the last transaction of an earlier run whether it was committed.
 
 use crate::failure::Failure;
-use crate::format::Encoding;
 use crate::json_lines::{write_image, write_label};
+use crate::output_format::Encoding;
 use crate::set_text::text_of;
 use gather::{Change, Delivery, Image};
 use gtid::{Gtid, GtidSet};
@@ -18,11 +18,11 @@ use std::{fs, io};
 /// The word for the output of the command.
 pub const OUTPUT: &str = "-";
 
-const TAKEN: &str = "it is the database, its log or one of the streams";
+const IN_USE: &str = "it is the database, its log or one of the streams";
 
 /// What is written at once.
 #[derive(Clone, Copy)]
-pub enum Entry<'a> {
+pub enum FeedEntry<'a> {
     /// The executed set at the start.
     Opened(&'a GtidSet),
     /// The changes of a transaction that is to be committed.
@@ -79,7 +79,7 @@ impl Feed {
             }),
             Ok(None) => {
                 remove(rt, name, is_new);
-                Err(Failure::Unusable { name, why: TAKEN })
+                Err(Failure::Unusable { name, why: IN_USE })
             }
             Err(cause) => {
                 remove(rt, name, is_new);
@@ -94,7 +94,7 @@ impl Feed {
     }
 
     /// Writes an entry. When the changes of a transaction are written, a file has them on its disk.
-    pub fn write<O: Write>(&mut self, entry: Entry<'_>, out: &mut O) -> io::Result<()> {
+    pub fn write<O: Write>(&mut self, entry: FeedEntry<'_>, out: &mut O) -> io::Result<()> {
         let Some(file) = &mut self.file else {
             write_entry(self.alloc, self.encoding, entry, out)?;
             return out.flush();
@@ -106,7 +106,9 @@ impl Feed {
         write_entry(self.alloc, self.encoding, entry, file)?;
         file.flush()?;
         match entry {
-            Entry::Changes(delivery) if !delivery.changes.is_empty() => file.get_ref().sync_data(),
+            FeedEntry::Changes(delivery) if !delivery.changes.is_empty() => file
+                .get_ref()
+                .sync_data(),
             _ => Ok(()),
         }
     }
@@ -131,7 +133,7 @@ fn open(
         .append(true)
         .create(true)
         .open(rt, name)?;
-    if is_taken(rt, name, db, streams)? {
+    if is_in_use(rt, name, db, streams)? {
         return Ok(None);
     }
     let is_cut = ends_inside(&mut file)?;
@@ -139,7 +141,7 @@ fn open(
 }
 
 /// Whether a file is one of those that the command uses.
-fn is_taken(rt: &HostRuntime, name: &str, db: &str, streams: &[&str]) -> io::Result<bool> {
+fn is_in_use(rt: &HostRuntime, name: &str, db: &str, streams: &[&str]) -> io::Result<bool> {
     let path = fs::canonicalize(rt, name)?;
     for stream in streams {
         if is_path(rt, stream, path.as_str()) {
@@ -174,22 +176,22 @@ fn ends_inside(file: &mut File) -> io::Result<bool> {
 fn write_entry<W: Write>(
     alloc: Global,
     encoding: Encoding,
-    entry: Entry<'_>,
+    entry: FeedEntry<'_>,
     out: &mut W,
 ) -> io::Result<()> {
     match entry {
-        Entry::Opened(executed) => {
+        FeedEntry::Opened(executed) => {
             let text = text_of(alloc, executed)?;
             writeln!(out, "{{\"type\":\"open\",\"executed\":\"{text}\"}}")
         }
-        Entry::Changes(delivery) => {
+        FeedEntry::Changes(delivery) => {
             for change in &delivery.changes {
                 write_change(alloc, encoding, delivery.gtid, change, out)?;
             }
             Ok(())
         }
-        Entry::Committed(gtid) => write_end("commit", gtid, out),
-        Entry::RolledBack(gtid) => write_end("rollback", gtid, out),
+        FeedEntry::Committed(gtid) => write_end("commit", gtid, out),
+        FeedEntry::RolledBack(gtid) => write_end("rollback", gtid, out),
     }
 }
 

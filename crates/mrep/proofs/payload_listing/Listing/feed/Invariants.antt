@@ -1,6 +1,6 @@
 use Rattle.std.proofs.Common.{None, length}
 use Rattle.mrep.proofs.Entries.{Listed}
-use Rattle.mrep.proofs.listing.Listing.feed.Given as goal
+use Rattle.mrep.proofs.payload_listing.Listing.feed.Given as goal
 
 abbrev pub invariant-loop-rest : goal.invariant-loop-rest
 invariant-loop-rest l = Listed l.fn.self l.self l.piece l.rest None

@@ -23,7 +23,7 @@ use Rattle.replica.specs.End.{StopsAt}
 use Rattle.replica.specs.Conn.{AppliesAll, Why, BreaksStore}
 use Rattle.replica.specs.Sent.{Sent, SentFor}
 use Rattle.replica.specs.Standing.{GoesOn, HasEnded, Stands, HasPayload, due_at, due_of, first_id_of, room_of}
-use Rattle.replica.specs.Turn.{IsAnswered, EndsAt}
+use Rattle.replica.specs.PayloadStep.{IsAnswered, EndsAt}
 use Rattle.replica.proofs.Push.{due_push, id_is_next, could_ask, no_events, no_deliveries, responds_push, with_message}
 
 -- ---- sessions that go on, and that have ended
@@ -79,13 +79,13 @@ module _ (settings : Settings) (assembly : ReaderState) (gatherer : Gatherer) (w
       → Why settings.limit names (due_after h.reading.payloads) h.reading.events h.reading.deliveries (length h.reading.front) h.reading.id h.reading.rest was old now at reason
       → BreaksStore reason was broken → HasEnded settings names was broken old now b all (record { reason = reason; at = at; applied = applied })
   ended reason broken more why store = record {
-    conn = record { reading = h.reading; took = h.took; why = why; kept = h.kept };
+    conn = record { reading = h.reading; has_applied = h.has_applied; why = why; kept = h.kept };
     more = more;
     sent = sent_for all h.sent;
     store = store;
   }
 
-  -- past the greatest place
+  -- past the greatest offset
   pub too_far : 2 ^ 64 ≤ at + length h.reading.rest → HasEnded settings names was is old now b all (record { reason = Wire wire.TooLarge; at = at; applied = applied })
   too_far beyond = ended (Wire wire.TooLarge) is (λ e. cc)
       (inl (
@@ -107,7 +107,7 @@ module _ (settings : Settings) (assembly : ReaderState) (gatherer : Gatherer) (w
       let r = h.reading in
       let es : r.events ≡ [] = no_events settings.limit names Hello 0 r.payloads r.front r.events r.id r.talk.talks (λ i. n (subst IsInDump (sym h.awaits) i)) in
       let ds : r.deliveries ≡ [] = no_deliveries r.events r.deliveries es r.talk.delivers in
-      (subst (λ l. AppliesAll names old l applied now) ds h.took.takes).1
+      (subst (λ l. AppliesAll names old l applied now) ds h.has_applied.applies).1
 
   -- a message before the dump goes on
   pub message_goes_on : (next : Phase) (end : ℕ) (more : List ℕ) (out new : List ℕ) (o : List ℕ) → (IsInDump (due_of waits) → ⊥) → end ≡ at + length h.reading.rest → end < 2 ^ 64 → all ≡ o ++ out
@@ -131,8 +131,8 @@ module _ (settings : Settings) (assembly : ReaderState) (gatherer : Gatherer) (w
         unfinished = subst (λ l. IsUnfinished (next_id d p assembly.due) settings.limit l) (sym h.held) (nothing_yet (next_id d p assembly.due) settings.limit);
         awaits = due_next ∙ sym (due_push Hello r.payloads p);
         gathers = h.gathers;
-        took = record {
-          takes = h.took.takes;
+        has_applied = record {
+          applies = h.has_applied.applies;
           asked = λ i. could_ask d p old.executed no_dump (λ q. a.short (h.awaits ∙ q)) (subst IsInDump (due_push Hello r.payloads p) i);
         };
         sent = subst (λ l. Sent settings old.executed (r.payloads ++ p ∷ []) l) (ap (λ l. l ++ a.replies.bytes) all_is ∙ append_assoc o out a.replies.bytes ∙ ap (λ l. o ++ l) (sym a.replies.appended))

@@ -1,7 +1,7 @@
 -- The executed set in memory during a transaction.
 use Rattle.std.proofs.Common.{◌≡◌, ◌⊎◌, inl, inr, ℕ, List, true, false, IsTrue, Ok, Err, Result, refl, sym, ap, subst, subst₂, ◌∙◌}
 use Rattle.std.specs.FinSet as set
-use Rattle.std.proofs.lemmas.Bool.{false≢true, cases_Bool}
+use Rattle.std.proofs.lemmas.Bool.{false≢true, cases_Bool, true≢false}
 use Rattle.sqlite_value.specs.Order.{Row}
 use Rattle.sqlite_trees.specs.Tree.{Trees}
 use Rattle.sqlite.specs.declared.error.Error.{Error}
@@ -27,11 +27,11 @@ use Rattle.store.specs.declared.store.Store.{Store}
 use Rattle.store.specs.Inside.{WasOpen}
 use Rattle.store.specs.Store.{Holds, Applies, AppliesShut, AreOf, Leaves, breaks}
 use Rattle.store.specs.State.{Content}
-use Rattle.store.specs.Take.{HasOutcome, is_executed, refused}
+use Rattle.store.specs.Changes.{HasOutcome, is_executed, refused}
 use Rattle.store.specs.Rows.{StandsFor, HasRowids, held_rows, span_rows}
 use Rattle.store.specs.Beside.{LiesBeside}
 use Rattle.store.proofs.Spared.{beside_same, beside_unchanged}
-use Rattle.store.specs.Apply.{SparesBeside, IsAtRest, Rests, HasApplied, HasMoved, Comes, MayMove, IsReported, FailsShut}
+use Rattle.store.specs.Apply.{SparesBeside, IsAtRest, Rests, IsAtRestAfter, HasMoved, Comes, MayMove, IsReported, FailsShut}
 
 -- ---- the connection as it was
 pub rest_same : (a b : State) (names : Names) (content : Content) → IsTrue b.is_open → b.now ≡ a.now → b.committed ≡ a.committed → IsAtRest a names content → IsAtRest b names content
@@ -69,12 +69,12 @@ beside_known spans executed ids q beside same least joins = subst (λ s. Joins s
 
 -- ---- what it comes to
 module _ (names : Names) (content : Content) (d : DeliveryValue) where
-  pub moved : (old new : State) (executed now : Ids) → executed ≡ content.executed → now ≡ set.insert executed (d.source, d.number) → HasApplied names content d new × (new.now.schema ≡ old.now.schema) × LiesBeside old.now new.now → HasMoved names content d old new now
-  moved old new executed now same is taken = record {
-    taken = taken.0;
-    schema = taken.1;
-    beside = taken.2;
-    set = is ∙ ap (λ ids. set.insert ids (d.source, d.number)) same ∙ sym taken.0.takes.2;
+  pub moved : (old new : State) (executed now : Ids) → executed ≡ content.executed → now ≡ set.insert executed (d.source, d.number) → IsAtRestAfter names content d new × (new.now.schema ≡ old.now.schema) × LiesBeside old.now new.now → HasMoved names content d old new now
+  moved old new executed now same is ran = record {
+    applied = ran.0;
+    schema = ran.1;
+    beside = ran.2;
+    set = is ∙ ap (λ ids. set.insert ids (d.source, d.number)) same ∙ sym ran.0.outcome.2;
   }
 
   pub came : (old mid new : State) (executed : Ids) (at : ℕ) (reason : Refusal) (fault : StoreFault) → executed ≡ content.executed → IsAtRest old names content
@@ -103,20 +103,17 @@ abbrev pub fault_in : Result Applied StoreFault → StoreFault
 fault_in (Ok a) = Broken
 fault_in (Err fault) = fault
 
-broke : true ≡ false → ⊥
-broke e = cc
-
 -- ---- the store
 module _ {S : Type 0} (g : Ghosts S) (content : Content) (d : DeliveryValue) (old new : Store S g) where
   pub applied : (r : Result Applied StoreFault) → Holds g old content → is_executed content d ≡ false → new.following ≡ old.following → new.broken ≡ breaks r → (r ≡ Err Memory → new.conn ≡ old.conn)
       → Comes old.following content d (state g old.conn) (state g new.conn) new.executed r → Applies g content d old new r
   applied (Ok Done) was out names broken memory it = record {
-    after = it.taken.after;
-    takes = it.taken.takes;
+    after = it.applied.after;
+    outcome = it.applied.outcome;
     holds = record {
       whole = broken;
       executed = it.set;
-      rest = subst (λ n. IsAtRest (state g new.conn) n it.taken.after) (sym names) it.taken.rest;
+      rest = subst (λ n. IsAtRest (state g new.conn) n it.applied.after) (sym names) it.applied.rest;
     };
   }
   applied (Err (NoSuchRow at)) was out names broken memory it = (it.0, record { whole = broken; executed = it.2; rest = subst (λ n. IsAtRest (state g new.conn) n content) (sym names) it.1 })
@@ -146,8 +143,8 @@ module _ {S : Type 0} (g : Ghosts S) (content : Content) (d : DeliveryValue) (ol
   same_schema (Ok Done) whole broken it = it.schema
   same_schema (Err (NoSuchRow at)) whole broken it = ap (λ (db : Stored). db.schema) it.3
   same_schema (Err (CountFull at)) whole broken it = ap (λ (db : Stored). db.schema) it.3
-  same_schema (Err (Database e)) whole broken it = absurd (broke (sym broken ∙ whole))
-  same_schema (Err Memory) whole broken it = absurd (broke (sym broken ∙ whole))
+  same_schema (Err (Database e)) whole broken it = absurd (true≢false (sym broken ∙ whole))
+  same_schema (Err Memory) whole broken it = absurd (true≢false (sym broken ∙ whole))
   same_schema _ whole broken it = absurd it
 
   -- and so does what lies beside
@@ -194,12 +191,12 @@ module _ {S : Type 0} (g : Ghosts S) (names : Names) (content : Content)
   pub left_whole : (d : DeliveryValue) (old new : Held S) (r : Result Applied StoreFault) (executed : Ids) (trees : Trees) → IsAtRest (state g old) names content → Comes names content d (state g old) (state g new) executed r
       → (state g old).may_leave trees ⊎ MayMove names content d (state g old) r trees → (state g new).may_leave trees → Leaves old.schema names content d r trees
   left_whole d old new (Ok Done) executed trees rest it (inl was) left =
-      let rest_new = it.taken.rest in
+      let rest_new = it.applied.rest in
       let trees_are : trees ≡ (state g new).now.trees = settled new trees rest_new.is_open left ∙ sym (ap (λ (b : Stored). b.trees) rest_new.settled) in
       record {
-        after = it.taken.after;
-        takes = it.taken.takes;
-        stands = subst₂ (λ s t. AreOf s names it.taken.after t) it.schema (sym trees_are) (record { stands = rest_new.stands; sound = rest_new.sound; spans_apart = rest_new.spans_apart });
+        after = it.applied.after;
+        outcome = it.applied.outcome;
+        stands = subst₂ (λ s t. AreOf s names it.applied.after t) it.schema (sym trees_are) (record { stands = rest_new.stands; sound = rest_new.sound; spans_apart = rest_new.spans_apart });
       }
   left_whole d old new (Ok Done) executed trees rest it (inr may) left = may.0
   left_whole d old new (Err (NoSuchRow at)) executed trees rest it (inl was) left = stays old trees rest was

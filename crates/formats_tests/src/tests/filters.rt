@@ -1,4 +1,4 @@
-//! The tables that are followed.
+//! Filters: the tables whose rows are kept.
 
 use crate::tests::bytes::{WHOLE, changed};
 use crate::tests::event_bytes::{MAP, event};
@@ -6,8 +6,8 @@ use crate::tests::same::same;
 use binlog::{Event, EventFault, EventFaultKind, Follow, read_event_only};
 use std::alloc::Global;
 
-/// A list of tables, each a schema and a name.
-fn list(alloc: Global, tables: &[(&[u8], &[u8])]) -> Option<Follow> {
+/// A filter of tables, each a schema and a name.
+fn filter_of(alloc: Global, tables: &[(&[u8], &[u8])]) -> Option<Follow> {
     let mut names = Vec::new(alloc);
     for (schema, table) in tables {
         let schema = Vec::from_slice(alloc, schema).ok()?;
@@ -37,29 +37,29 @@ const KEPT: &[(&[u8], &[u8])] = &[
     (b"b", b"x"),
 ];
 
-/// Whether the list has these names, in this order.
-fn has_names(follow: &Follow, names: &[(&[u8], &[u8])]) -> bool {
-    for (name, (schema, table)) in follow.names().iter().zip(names) {
+/// Whether the filter has these names, in this order.
+fn has_names(filter: &Follow, names: &[(&[u8], &[u8])]) -> bool {
+    for (name, (schema, table)) in filter.names().iter().zip(names) {
         if name.0.as_slice() != *schema || name.1.as_slice() != *table {
             return false;
         }
     }
-    follow.names().len() == names.len()
+    filter.names().len() == names.len()
 }
 
 /// Each name is kept once, in order.
 #[test]
 fn names_once(rt: HostRuntime) {
-    let given = list(rt.alloc(), GIVEN).expect(&rt, "memory");
-    let kept = list(rt.alloc(), KEPT).expect(&rt, "memory");
+    let given = filter_of(rt.alloc(), GIVEN).expect(&rt, "memory");
+    let kept = filter_of(rt.alloc(), KEPT).expect(&rt, "memory");
     assert!(rt; has_names(&given, KEPT) && given.is_same(&kept));
     assert!(rt;
         has_names(&Follow::all(rt.alloc()), &[]) && !kept.is_same(&Follow::all(rt.alloc()))
     );
 }
 
-/// A list, a table, and whether it is followed. An empty list means all tables.
-static FOLLOWED: [(&[(&[u8], &[u8])], &[u8], &[u8], bool); 9] = [
+/// A filter, a table, and whether it is admitted. The empty filter admits all tables.
+static ADMITTED: [(&[(&[u8], &[u8])], &[u8], &[u8], bool); 9] = [
     (&[(b"shop", b"other")], b"shop", b"other", true),
     (&[(b"shop", b"other")], b"shop", b"items", false),
     (&[(b"shop", b"other")], b"other", b"shop", false),
@@ -71,12 +71,12 @@ static FOLLOWED: [(&[(&[u8], &[u8])], &[u8], &[u8], bool); 9] = [
     (KEPT, b"ab", b"y", false),
 ];
 
-/// Which tables a list follows.
+/// Which tables a filter admits.
 #[test]
-fn follows(rt: HostRuntime) {
-    for (tables, schema, table, want) in &FOLLOWED {
-        let follow = list(rt.alloc(), tables).expect(&rt, "memory");
-        same(&rt, follow.follows(schema, table), *want);
+fn admits(rt: HostRuntime) {
+    for (tables, schema, table, want) in &ADMITTED {
+        let filter = filter_of(rt.alloc(), tables).expect(&rt, "memory");
+        same(&rt, filter.follows(schema, table), *want);
     }
 }
 
@@ -94,7 +94,7 @@ const EARLY: EventFault = EventFault {
     at: 39,
 };
 
-/// A list, how much of `MAP` comes, bytes of its event that are changed, and the fault, if it is not skipped.
+/// A filter, how much of `MAP` comes, bytes of its event that are changed, and the fault, if it is not skipped.
 static MAPS: [(&[(&[u8], &[u8])], usize, &[(usize, u8)], Option<EventFault>); 5] = [
     (OTHER, WHOLE, &[(42, 253)], None),
     (ITEMS, WHOLE, &[(42, 253)], Some(OF_TYPE)),
@@ -103,26 +103,26 @@ static MAPS: [(&[(&[u8], &[u8])], usize, &[(usize, u8)], Option<EventFault>); 5]
     (OTHER, 20, &[], Some(EARLY)),
 ];
 
-/// The fault of a table map, for a reader with this list, or whether it is skipped with its number 1.
+/// The fault of a table map, for a reader with this filter, or whether it is skipped with its number 1.
 fn read(
     alloc: Global,
     tables: &[(&[u8], &[u8])],
     len: usize,
     changes: &[(usize, u8)],
 ) -> Option<(bool, Option<EventFault>)> {
-    let follow = list(alloc, tables)?;
+    let filter = filter_of(alloc, tables)?;
     let body = changed(alloc, MAP, len, &[])?;
     let bytes = changed(alloc, &event(alloc, 19, 0, &body)?, WHOLE, changes)?;
-    match read_event_only(&bytes, &follow) {
+    match read_event_only(&bytes, &filter) {
         Ok(Event::OtherMap { id }) => Some((id == 1, None)),
         Ok(_) => None,
         Err(fault) => Some((false, Some(fault))),
     }
 }
 
-/// The map of a table that is not followed is read up to its names.
+/// The map of a table that the filter leaves out is read up to its names.
 #[test]
-fn followed_maps(rt: HostRuntime) {
+fn maps_of_tables_left_out(rt: HostRuntime) {
     for (tables, len, changes, fault) in &MAPS {
         let found = read(rt.alloc(), tables, *len, changes);
         same(&rt, found, Some((fault.is_none(), *fault)));

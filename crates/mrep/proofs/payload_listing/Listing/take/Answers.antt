@@ -3,10 +3,10 @@ use Rattle.std.proofs.Math.ListN.{get_or-append}
 use Rattle.std.proofs.lemmas.Grind.{common_steps}
 use Rattle.std.proofs.lemmas.Result.{err_from_is_err_and}
 use Rattle.std.proofs.lemmas.List.{append-nil, take_all}
-use Rattle.mrep.specs.Listing.{IsWrong, held_of, first_id}
+use Rattle.mrep.specs.PayloadListing.{IsWrong, held_of, first_id}
 use Rattle.wire.specs.declared.packet.TheConstants.{LARGEST_PAYLOAD}
 use Rattle.mrep.proofs.Entries.{wrong_from, nil_from, false_from, by_payload, whole_from, unfinished_from}
-use Rattle.mrep.proofs.listing.Listing.take.Goals as goal
+use Rattle.mrep.proofs.payload_listing.Listing.take.Goals as goal
 
 pub returns-in_err-step-clause-refuses : goal.returns-in_err-step-clause-refuses
 returns-in_err-step-clause-refuses c =

@@ -2,9 +2,9 @@ use Rattle.std.proofs.Common.{arith, refl}
 use Rattle.std.proofs.lemmas.Grind.{common_steps}
 use Rattle.std.proofs.lemmas.List.{take_rest}
 use Rattle.std.proofs.lemmas.Result.{err_from_is_err_and}
-use Rattle.mrep.specs.declared.listing.Entry.{Entry}
+use Rattle.mrep.specs.declared.payload_listing.Entry.{Entry}
 use Rattle.mrep.proofs.Entries.{listed_held, listed_payload, listed_used, listed_fault}
-use Rattle.mrep.proofs.listing.Listing.feed.Goals as goal
+use Rattle.mrep.proofs.payload_listing.Listing.feed.Goals as goal
 
 pub loop-rest-preserved : goal.loop-rest-preserved
 loop-rest-preserved c =

@@ -5,10 +5,7 @@ ghost use Rattle.wire.specs.declared.packet.TheConstants.{LARGEST_PAYLOAD};
 
 use arrayvec::ArrayVec;
 use std::alloc::Global;
-use wire::{Assembler, LARGEST_PAYLOAD, Step, WireFault};
-
-/// The length of a packet's header, whose last byte is the sequence id.
-const HEADER: usize = 4;
+use wire::{Assembler, HEADER_LENGTH, LARGEST_PAYLOAD, Step, WireFault};
 
 /// A payload of a stream: the offset of its first packet, that packet's sequence id, and its bytes.
 #[derive(Debug, PartialEq, Eq, Drop)]
@@ -24,7 +21,7 @@ pub struct Entry {
 pub struct Listing {
     pub(crate) assembler: Assembler,
     /// The part of the header of a payload's first packet that has come, until it is complete.
-    pub(crate) header: ArrayVec<u8, HEADER>,
+    pub(crate) header: ArrayVec<u8, HEADER_LENGTH>,
     /// The sequence id of the first packet of the current payload.
     pub(crate) sequence: u8,
     /// The offset of the current payload in the stream, and how many bytes of the stream have come.
@@ -37,9 +34,9 @@ pub struct Listing {
 }
 
 impl Listing {
-    ghost use Rattle.mrep.specs.Listing.{held_of, with_entry, Advances, Refuses, Stands, Faults};
+    ghost use Rattle.mrep.specs.PayloadListing.{held_of, with_entry, Advances, Refuses, Stands, Faults};
     ghost use Rattle.std.specs.Prelude.{◌≡◌, ◌≢◌, ℕ, ◌+◌, ◌^◌, ◌≤◌, ◌<◌, ◌++◌, [], List, false, length, take, IfOk, IfErr, IfNone, MatchResult};
-    ghost use Rattle.mrep.specs.declared.listing.Entry.{Entry};
+    ghost use Rattle.mrep.specs.declared.payload_listing.Entry.{Entry};
 
     /// A reader at the beginning of a stream.
     pub fn new(alloc: Global) -> Listing
@@ -61,15 +58,15 @@ impl Listing {
         ensures takes { IfOk result (λ step. Advances self.old self.new bytes.now step) }
         ensures refuses { IfErr result (λ fault. Refuses self.old self.new bytes.now fault) }
     {
-        let used = bytes.len().min(HEADER - self.header.len());
+        let used = bytes.len().min(HEADER_LENGTH - self.header.len());
         self.header.try_extend_from_slice(&bytes[..used]).unwrap();
-        if self.header.len() < HEADER {
+        if self.header.len() < HEADER_LENGTH {
             return Ok(Step {
                 used,
                 payload: None,
             });
         }
-        self.sequence = self.header.as_slice()[HEADER - 1];
+        self.sequence = self.header.as_slice()[HEADER_LENGTH - 1];
         self.assembler.expect(self.sequence);
         let step = self.assembler.step(self.header.as_slice());
         self.header.clear();
@@ -85,7 +82,7 @@ impl Listing {
         ensures takes { IfOk result (λ step. Advances self.old self.new bytes.now step) }
         ensures refuses { IfErr result (λ fault. Refuses self.old self.new bytes.now fault) }
     {
-        self.sequence = bytes[HEADER - 1];
+        self.sequence = bytes[HEADER_LENGTH - 1];
         self.assembler.expect(self.sequence);
         let step = self.assembler.step(bytes)?;
         Ok(step)
@@ -100,7 +97,7 @@ impl Listing {
         if !self.assembler.between() {
             let step = self.assembler.step(bytes)?;
             Ok(step)
-        } else if self.header.is_empty() && bytes.len() >= HEADER {
+        } else if self.header.is_empty() && bytes.len() >= HEADER_LENGTH {
             self.start(bytes)
         } else {
             self.gather(bytes)

@@ -3,8 +3,8 @@ use Rattle.std.proofs.lemmas.Int.{to_z_pos}
 use Rattle.sqlite.specs.State.{HasCleanDisk, IsUnchanged}
 use Rattle.sqlite.specs.Held.{state}
 use Rattle.store.specs.Rows.{key_in, Finds, held_rows}
-use Rattle.store.proofs.Made.{working_same, counted_taken, counted_missing, counted_none, counted_some, found_mid}
-use Rattle.store.proofs.row_change.take.Goals as goal
+use Rattle.store.proofs.Made.{working_same, counted_removed, counted_missing, counted_none, counted_some, found_mid}
+use Rattle.store.proofs.row_change.remove.Goals as goal
 
 pub returns-in_default-clause-counted : goal.returns-in_default-clause-counted
 returns-in_default-clause-counted g c clean was =
@@ -30,7 +30,7 @@ returns-then-n-eq1-clause-counted g c clean was =
     let same : IsUnchanged old mid = c.in_ok-n.ensures.same early was in
     let some : Finds key (held_rows old.now) (Some c.in-Some.n) = rw c.in-Some.is at (c.in_ok-n.ensures.found early was) in
     let found : Finds key (held_rows old.now) (Some 1) = subst (λ n. Finds key (held_rows old.now) (Some n)) c.if-n-eq1.true some in
-    counted_taken old mid new key same 1 (counted_some key _ 1 found) (omega arith)
+    counted_removed old mid new key same 1 (counted_some key _ 1 found) (omega arith)
     (c.in_ok-delete.ensures.holds clean (working_same old mid same was) (found_mid old mid new key same (Some 1) found))
 
 pub returns-clause-counted : goal.returns-clause-counted
@@ -45,5 +45,5 @@ returns-clause-counted g c clean was =
     let some : Finds key (held_rows old.now) (Some n) = rw c.in-Some.is at (c.in_ok-n.ensures.found early was) in
     let more : n ≡ (n - 1) + 1 = omega arith in
     let found : Finds key (held_rows old.now) (Some ((n - 1) + 1)) = subst (λ m. Finds key (held_rows old.now) (Some m)) more some in
-    counted_taken old mid new key same n (counted_some key _ n some) (omega arith)
+    counted_removed old mid new key same n (counted_some key _ n some) (omega arith)
     (c.in_ok-update.ensures.lowered clean (working_same old mid same was) (n - 1) (omega arith) (let low : n < 2 ^ 63 = rw c.in-Some.is at c.in_ok-n.ensures.fits in omega arith) (found_mid old mid new key same (Some ((n - 1) + 1)) found) (to_z_pos w64 (n - 1) (let low : n < 2 ^ 63 = rw c.in-Some.is at c.in_ok-n.ensures.fits in omega arith)))

@@ -2,10 +2,10 @@ use Rattle.std.proofs.Common.{◌≡◌, ◌++◌, [], take, drop, length, ◌�
 use Rattle.std.proofs.lemmas.Grind.{common_steps}
 use Rattle.std.proofs.lemmas.Result.{err_from_is_err_and}
 use Rattle.std.proofs.lemmas.List.{take-append-drop, take_all}
-use Rattle.mrep.specs.Listing.{IsWrong, held_of, first_id}
+use Rattle.mrep.specs.PayloadListing.{IsWrong, held_of, first_id}
 use Rattle.wire.specs.declared.packet.TheConstants.{LARGEST_PAYLOAD}
 use Rattle.mrep.proofs.Entries.{wrong_from, IsWrong-more, by_payload, whole_from, unfinished_from}
-use Rattle.mrep.proofs.listing.Listing.gather.Goals as goal
+use Rattle.mrep.proofs.payload_listing.Listing.gather.Goals as goal
 
 pub returns-in_err-payload-clause-refuses : goal.returns-in_err-payload-clause-refuses
 returns-in_err-payload-clause-refuses c =
