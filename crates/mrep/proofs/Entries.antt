@@ -7,7 +7,7 @@ use Rattle.wire.specs.Payload.{IsWholePayload, IsUnfinished, IsOutOfSequence, Is
 use Rattle.wire.specs.declared.fault.WireFault.{WireFault}
 use Rattle.wire.specs.declared.fault.WireFault.TheVariants.{Sequence, TooLarge, Memory, Ended}
 use Rattle.wire.proofs.OneReading.{more_wrong, more_large}
-use Rattle.wire.specs.declared.packet.TheConstants.{LARGEST_PAYLOAD}
+use Rattle.wire.specs.Packet.{largest_payload}
 use Rattle.mrep.specs.declared.payload_listing.Entry.{Entry}
 use Rattle.mrep.specs.declared.payload_listing.Listing.{Listing}
 use Rattle.mrep.specs.PayloadListing.{Lists, held_of, with_entry, first_id, IsNoPayload, Stands, IsWrong, Faults}
@@ -29,7 +29,7 @@ lists-more offset bytes more (e ∷ entries) rest (packing, others, payload, nex
 
 -- and if they complete a payload, there is one more entry, and no rest
 lists-push : (offset : ℕ) (bytes more : List ℕ) (entries : List Entry) (rest : List ℕ) (entry : Entry) (payload : List ℕ) (next : ℕ) → Lists offset bytes entries rest →
-    IsWholePayload entry.sequence LARGEST_PAYLOAD (rest ++ more) payload next → entry.offset + length rest ≡ offset + length bytes → entry.payload.items ≡ payload →
+    IsWholePayload entry.sequence largest_payload (rest ++ more) payload next → entry.offset + length rest ≡ offset + length bytes → entry.payload.items ≡ payload →
     Lists offset (bytes ++ more) (entries ++ entry ∷ []) []
 lists-push offset bytes more [] rest entry payload next same whole at long =
     (rest ++ more, [], payload, next, ap (λ b. b ++ more) same ∙ sym (append-nil (rest ++ more)), whole, omega (arith, at, ap length same), long, refl)
@@ -76,7 +76,7 @@ listed_held {old} {mid} {piece} {rest} new used l in_range held no_payload goes_
 
 -- the bytes that complete the current payload
 pub listed_payload : {old mid : Listing} {piece rest : List ℕ} (new : Listing) (used : ℕ) (entry : Entry) (payload : List ℕ) (next : ℕ) →
-    Listed old mid piece rest None → used ≤ length rest → IsWholePayload entry.sequence LARGEST_PAYLOAD (held_of mid ++ take used rest) payload next →
+    Listed old mid piece rest None → used ≤ length rest → IsWholePayload entry.sequence largest_payload (held_of mid ++ take used rest) payload next →
     held_of new ≡ [] → entry.offset ≡ mid.begin → entry.payload.items ≡ payload →
     (mid.seen + used < 2 ^ 64 → new.seen ≡ mid.seen + used) → new.begin ≡ new.seen → new.assembler.ended ≡ false → Listed old new piece (drop used rest) (Some entry)
 listed_payload {old} {mid} {piece} {rest} new used entry payload next l in_range whole held offset len seen begin goes_on = record {
@@ -109,7 +109,7 @@ listed_used {new = new} {piece} {rest} {entry} used l is stream entries short at
     subst (λ t. Stands new (stream ++ t) (with_entry entries entry)) (sym same) (l.stands stream entries short at)
 
 -- what the clauses of a step say about its fault
-pub wrong_from : {due room : ℕ} (bytes : List ℕ) (fault : WireFault) → due ≡ first_id bytes → room ≡ LARGEST_PAYLOAD → (fault ≢ Ended) →
+pub wrong_from : {due room : ℕ} (bytes : List ℕ) (fault : WireFault) → due ≡ first_id bytes → room ≡ largest_payload → (fault ≢ Ended) →
     ((want got : ℕ) → fault ≡ Sequence want got → IsOutOfSequence due room bytes want got) → (fault ≡ TooLarge → IsTooLarge due room bytes) → IsWrong bytes fault
 wrong_from bytes (Sequence want got) due room is sequence too_large = subst (λ t. t) (λ i. IsOutOfSequence (due i) (room i) bytes want got) (sequence want got refl)
 wrong_from bytes TooLarge due room is sequence too_large = subst (λ t. t) (λ i. IsTooLarge (due i) (room i) bytes) (too_large refl)
@@ -126,8 +126,8 @@ false_from false h = refl
 
 -- it stays wrong, whatever bytes follow
 pub IsWrong-more : (bytes more : List ℕ) (fault : WireFault) → 3 < length bytes → IsWrong bytes fault → IsWrong (bytes ++ more) fault
-IsWrong-more bytes more (Sequence want got) long wrong = subst (λ id. IsOutOfSequence id LARGEST_PAYLOAD (bytes ++ more) want got) (sym (get_or-append bytes more 0 3 long)) (more_wrong more wrong)
-IsWrong-more bytes more TooLarge long wrong = subst (λ id. IsTooLarge id LARGEST_PAYLOAD (bytes ++ more)) (sym (get_or-append bytes more 0 3 long)) (more_large more wrong)
+IsWrong-more bytes more (Sequence want got) long wrong = subst (λ id. IsOutOfSequence id largest_payload (bytes ++ more) want got) (sym (get_or-append bytes more 0 3 long)) (more_wrong more wrong)
+IsWrong-more bytes more TooLarge long wrong = subst (λ id. IsTooLarge id largest_payload (bytes ++ more)) (sym (get_or-append bytes more 0 3 long)) (more_large more wrong)
 IsWrong-more bytes more Memory long wrong = tt
 IsWrong-more bytes more Ended long wrong = wrong
 
@@ -151,9 +151,9 @@ by_payload None n r s none some = none n
 by_payload (Some x) n r s none some = some x r s
 
 -- the same payload, from the same id and limit
-pub whole_from : {due id room : ℕ} {bytes all payload : List ℕ} {next : ℕ} → IsWholePayload due room bytes payload next → due ≡ id → room ≡ LARGEST_PAYLOAD → bytes ≡ all →
-    IsWholePayload id LARGEST_PAYLOAD all payload next
+pub whole_from : {due id room : ℕ} {bytes all payload : List ℕ} {next : ℕ} → IsWholePayload due room bytes payload next → due ≡ id → room ≡ largest_payload → bytes ≡ all →
+    IsWholePayload id largest_payload all payload next
 whole_from {payload = payload} {next} whole due room bytes = subst (λ t. t) (λ i. IsWholePayload (due i) (room i) (bytes i) payload next) whole
 
-pub unfinished_from : {due id room : ℕ} {bytes all : List ℕ} → IsUnfinished due room bytes → due ≡ id → room ≡ LARGEST_PAYLOAD → bytes ≡ all → IsUnfinished id LARGEST_PAYLOAD all
+pub unfinished_from : {due id room : ℕ} {bytes all : List ℕ} → IsUnfinished due room bytes → due ≡ id → room ≡ largest_payload → bytes ≡ all → IsUnfinished id largest_payload all
 unfinished_from unfinished due room bytes = subst (λ t. t) (λ i. IsUnfinished (due i) (room i) (bytes i)) unfinished

@@ -1,7 +1,7 @@
 -- The payloads of a stream whose first packets may have any sequence id.
 use Rattle.std.specs.Prelude.{◌≡◌, ℕ, ◌+◌, ◌<◌, false, List, [], ◌∷◌, ◌++◌, length, get_or, take, ◌≤◌, ◌⊎◌, Option, Some, None, MatchOption}
 use Rattle.wire.specs.Payload.{IsWholePayload, IsUnfinished, IsOutOfSequence, IsTooLarge}
-use Rattle.wire.specs.declared.packet.TheConstants.{LARGEST_PAYLOAD}
+use Rattle.wire.specs.Packet.{largest_payload}
 use Rattle.wire.specs.declared.assembler.Step.{Step}
 use Rattle.wire.specs.declared.fault.WireFault.{WireFault}
 use Rattle.wire.specs.declared.fault.WireFault.TheVariants.{Sequence, TooLarge, Memory, Ended}
@@ -13,7 +13,7 @@ use Rattle.mrep.specs.declared.payload_listing.Listing.{Listing}
 abbrev pub Lists : ℕ → List ℕ → List Entry → List ℕ → Type 0
 Lists offset bytes [] rest = bytes ≡ rest
 Lists offset bytes (entry ∷ entries) rest =
-    (packing : List ℕ) × (others : List ℕ) × (payload : List ℕ) × (next : ℕ) × (bytes ≡ packing ++ others) × IsWholePayload entry.sequence LARGEST_PAYLOAD packing payload next
+    (packing : List ℕ) × (others : List ℕ) × (payload : List ℕ) × (next : ℕ) × (bytes ≡ packing ++ others) × IsWholePayload entry.sequence largest_payload packing payload next
     × (entry.offset ≡ offset) × (entry.payload.items ≡ payload) × Lists (offset + length packing) others entries rest
 
 -- the entries, and one more if there is one
@@ -31,7 +31,7 @@ first_id bytes = get_or bytes 3 0
 
 -- the bytes are not a payload yet: fewer than a header, or an unfinished payload
 abbrev pub IsNoPayload : List ℕ → Type 0
-IsNoPayload bytes = (length bytes < 4) ⊎ IsUnfinished (first_id bytes) LARGEST_PAYLOAD bytes
+IsNoPayload bytes = (length bytes < 4) ⊎ IsUnfinished (first_id bytes) largest_payload bytes
 
 -- The position of a listing: the stream so far is these entries and the bytes held, which are not a payload yet, and
 -- nothing was wrong with it.
@@ -50,12 +50,12 @@ pub record Advances (old new : Listing) (bytes : List ℕ) (step : Step) : Type 
   pub seen : new.seen ≡ old.seen
   pub goes_on : new.assembler.ended ≡ false
   pub taken : MatchOption step.payload ((held_of new ≡ held_of old ++ take step.used bytes) × IsNoPayload (held_of new))
-      (λ payload. (next : ℕ) × IsWholePayload new.sequence LARGEST_PAYLOAD (held_of old ++ take step.used bytes) payload.items next × (held_of new ≡ []))
+      (λ payload. (next : ℕ) × IsWholePayload new.sequence largest_payload (held_of old ++ take step.used bytes) payload.items next × (held_of new ≡ []))
 
 -- what is wrong with the bytes of the current payload; running out of memory says nothing about them
 abbrev pub IsWrong : List ℕ → WireFault → Type 0
-IsWrong bytes (Sequence want got) = IsOutOfSequence (first_id bytes) LARGEST_PAYLOAD bytes want got
-IsWrong bytes TooLarge = IsTooLarge (first_id bytes) LARGEST_PAYLOAD bytes
+IsWrong bytes (Sequence want got) = IsOutOfSequence (first_id bytes) largest_payload bytes want got
+IsWrong bytes TooLarge = IsTooLarge (first_id bytes) largest_payload bytes
 IsWrong bytes Memory = Unit {0}
 IsWrong bytes Ended = ⊥
 

@@ -1,7 +1,7 @@
 //! The payloads of a stream whose first packets may have any sequence id.
 
 ghost use Rattle.std.specs.Prelude.{◌≡◌, ◌≢◌, ◌<◌, ◌≤◌, [], false, length, get_or};
-ghost use Rattle.wire.specs.declared.packet.TheConstants.{LARGEST_PAYLOAD};
+ghost use Rattle.wire.specs.Packet.{largest_payload};
 
 use arrayvec::ArrayVec;
 use std::alloc::Global;
@@ -29,7 +29,7 @@ pub struct Listing {
     pub(crate) seen: u64,
     ghost open_header: { length header.items < 4 },
     ghost gathering: { header.items ≢ [] → (assembler.held ≡ []) × (assembler.ended ≡ false) },
-    ghost limit: { assembler.ended ≡ false → assembler.limit ≡ LARGEST_PAYLOAD },
+    ghost limit: { assembler.ended ≡ false → assembler.limit ≡ largest_payload },
     ghost first: { assembler.ended ≡ false → assembler.held ≢ [] → (assembler.due ≡ sequence) × (4 ≤ length assembler.held) × (get_or assembler.held 3 0 ≡ sequence) },
 }
 

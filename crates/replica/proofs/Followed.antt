@@ -16,7 +16,6 @@ use Rattle.store.specs.Store.{HoldsAs, database}
 use Rattle.replica.specs.declared.end.Reason.{Reason}
 use Rattle.replica.specs.declared.end.Reason.TheVariants.{EndOfInput, SourceEof, SourceError, Wire, Greet, Event, Gather, Refused, Database, Memory, ReadFailed, WriteFailed, Halted}
 use Rattle.replica.specs.declared.end.Ended.{Ended}
-use Rattle.replica.specs.declared.following.TheConstants.{PIECE}
 use Rattle.replica.specs.declared.session.Session.{Session}
 use Rattle.replica.specs.Settings.{Settings}
 use Rattle.replica.specs.Stream.{Due, Reading, due_after}
@@ -25,7 +24,7 @@ use Rattle.replica.specs.Crash.{IsLeftOfOne}
 use Rattle.replica.specs.Sent.{SentFor}
 use Rattle.replica.specs.Standing.{Stands, GoesOn, HasEnded, end_of, room_of}
 use Rattle.replica.specs.Over.{StandsOver, HasRead, LeavesOnly}
-use Rattle.replica.specs.Follow.{IsInFull, IsOfStream, MaySendLess, Follows, IsFollowing, HandsOut, EndsInLast, reported_as, sends_no_more_after, turns_left, while_going}
+use Rattle.replica.specs.Follow.{IsInFull, IsOfStream, MaySendLess, Follows, IsFollowing, HandsOut, EndsInLast, piece_length, reported_as, sends_no_more_after, turns_left, while_going}
 use Rattle.replica.proofs.Stood.{conn_of, sent_of}
 use Rattle.replica.proofs.Runs.{begins, read_all}
 
@@ -354,7 +353,7 @@ module _ {S : Type 0} (g : Ghosts S) where
 
   -- some bytes were read
   pub following-read : (session after : Session) (before store new : Store S g) (was : Bool) (old : Content) (left0 left left' written0 written written' : Option (List ℕ)) (x : List ℕ)
-      → (f : IsFollowing g session before store was old left0 left written0 written) → store.following ≡ before.following → session.ended ≡ None → after.config ≡ session.config → length x ≤ PIECE
+      → (f : IsFollowing g session before store was old left0 left written0 written) → store.following ≡ before.following → session.ended ≡ None → after.config ≡ session.config → length x ≤ piece_length
       → Consumes left left' x → Keeps written written'
       → StandsOver g after new (database g before).now.schema was old (f.read ++ x) f.sent → IsFollowing g after before new was old left0 left' written0 written'
   following-read session after before store new was old left0 left left' written0 written written' x f names going config piece consumes keeps stands = record {

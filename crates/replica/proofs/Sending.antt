@@ -1,16 +1,15 @@
 -- What is appended for a payload.
 use Rattle.std.proofs.Common.{◌≡◌, ◌≤◌, ◌+◌, ℕ, List, [], length, Result, Ok, Err, OnOk, sym, ap, subst, ◌∙◌, arith}
 use Rattle.byteorder.specs.Endian.{little_bytes}
-use Rattle.wire.specs.declared.packet.TheConstants.{LARGEST_PAYLOAD}
+use Rattle.wire.specs.Packet.{largest_payload}
 use Rattle.greet.specs.Message.{dump_bytes}
 use Rattle.gtid.specs.Identifier.{Ids}
 use Rattle.gtid.specs.Encoding.{IsEncoding}
 use Rattle.gtid.proofs.OneLeastList.{one_least_list}
 use Rattle.gtid.specs.Encoding.{blocks_bytes, grouped}
 use Rattle.replica.specs.declared.end.Reason.{Reason}
-use Rattle.replica.specs.declared.login.TheConstants.{DUMP_LEAD}
 use Rattle.replica.specs.Settings.{Settings}
-use Rattle.replica.specs.Conn.{IsDumpTooLong}
+use Rattle.replica.specs.Conn.{dump_lead, IsDumpTooLong}
 use Rattle.replica.specs.Sent.{flags_of}
 use Rattle.replica.specs.PayloadStep.{Sends, SendsDump}
 
@@ -33,7 +32,7 @@ asks_for settings executed set payload old new encodes is s = record {
 pub one_encoding : (ids : Ids) (a b : List ℕ) → IsEncoding ids a → IsEncoding ids b → a ≡ b
 one_encoding ids a b is_a is_b = is_a.spelled ∙ ap (λ spans. blocks_bytes (grouped spans)) (one_least_list ids is_a.spans is_b.spans is_a.least is_b.least) ∙ sym is_b.spelled
 
-pub short_enough : (executed : Ids) (set : List ℕ) → IsEncoding executed set → DUMP_LEAD + length set ≤ LARGEST_PAYLOAD → IsDumpTooLong executed → ⊥
+pub short_enough : (executed : Ids) (set : List ℕ) → IsEncoding executed set → dump_lead + length set ≤ largest_payload → IsDumpTooLong executed → ⊥
 short_enough executed set encodes short too_long =
     let same : length set ≡ length too_long.set = ap length (one_encoding executed set too_long.set encodes too_long.encodes) in
     omega (arith, same, short, too_long.long)

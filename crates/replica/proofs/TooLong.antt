@@ -5,9 +5,8 @@ use Rattle.gtid.specs.Identifier.{Ids}
 use Rattle.gtid.specs.Encoding.{SidBlock, grouped, blocks_bytes, is_above, AreIntervals, AreBlocks, IsEncoding}
 use Rattle.gtid.proofs.OneLeastList.{one_least_list}
 use Rattle.gtid.proofs.SomeLeastList.{some_least_list}
-use Rattle.wire.specs.declared.packet.TheConstants.{LARGEST_PAYLOAD}
-use Rattle.replica.specs.declared.login.TheConstants.{DUMP_LEAD}
-use Rattle.replica.specs.Conn.{IsDumpTooLong}
+use Rattle.wire.specs.Packet.{largest_payload}
+use Rattle.replica.specs.Conn.{dump_lead, IsDumpTooLong}
 
 abbrev Decided : Type 0 → Type 0
 Decided P = P ⊎ (P → ⊥)
@@ -61,7 +60,7 @@ encoded ids =
 pub too_long : (ids : Ids) → IsDumpTooLong ids ⊎ (IsDumpTooLong ids → ⊥)
 too_long ids = elim (encoded ids) [
   | inr none ↦ inr (λ t. none t.set t.encodes)
-  | inl e ↦ elim (cases_lt LARGEST_PAYLOAD (DUMP_LEAD + length e.0)) [
+  | inl e ↦ elim (cases_lt largest_payload (dump_lead + length e.0)) [
     | inl long ↦ inl (record { set = e.0; encodes = e.1; long = long })
     | inr short ↦ inr (λ t.
         let same : t.set ≡ e.0 = t.encodes.spelled ∙ ap (λ s. blocks_bytes (grouped s)) (one_least_list ids t.encodes.spans e.1.spans t.encodes.least e.1.least) ∙ sym e.1.spelled in

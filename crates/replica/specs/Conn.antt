@@ -1,6 +1,6 @@
 -- What a connection does to what a replica holds, and how it ends; what a list of connections does.
 use Rattle.std.specs.Prelude.{◌≡◌, ℕ, ◌+◌, ◌<◌, ◌⊎◌, Bool, true, false, List, [], ◌∷◌, ◌++◌, length}
-use Rattle.wire.specs.declared.packet.TheConstants.{LARGEST_PAYLOAD}
+use Rattle.wire.specs.Packet.{largest_payload}
 use Rattle.wire.specs.declared.fault.WireFault.TheVariants as wire
 use Rattle.greet.specs.Message.{IsOkPacket}
 use Rattle.gtid.specs.Identifier.{Ids}
@@ -19,7 +19,6 @@ use Rattle.replica.specs.declared.end.Refusal.TheVariants.{NoSuchRow, CountFull}
 use Rattle.replica.specs.declared.end.Reason.{Reason}
 use Rattle.replica.specs.declared.end.Reason.TheVariants.{EndOfInput, SourceEof, SourceError, Wire, Greet, Event, Gather, Refused, Database, Memory, ReadFailed, WriteFailed, Halted}
 use Rattle.replica.specs.declared.end.Ended.{Ended}
-use Rattle.replica.specs.declared.login.TheConstants.{DUMP_LEAD}
 use Rattle.replica.specs.Stream.{Payload, Due, QueryReply, IsInDump, Carries, Reading, due_after}
 use Rattle.replica.specs.End.{StopsAt, EndsLog, StopsFor}
 
@@ -39,11 +38,16 @@ IsRefusedBy names content d (CountFull at) = HasOutcome names content d (refused
 
 -- ---- The dump command.
 
+-- the length in bytes of a dump command before its set: its first byte, flags, server id, an empty name after its length,
+-- position, and the length of the set
+abbrev pub dump_lead : ℕ
+dump_lead = 23
+
 -- The dump command for this set has more bytes than a payload may have: those before the set, and those of the set.
 pub record IsDumpTooLong (executed : Ids) : Type 0 where
   pub set : List ℕ
   pub encodes : IsEncoding executed set
-  pub long : LARGEST_PAYLOAD < DUMP_LEAD + length set
+  pub long : largest_payload < dump_lead + length set
 
 -- If the dump has been asked for, the command was short enough.
 abbrev pub CouldAsk : Due → Ids → Type 0

@@ -10,7 +10,6 @@ use Rattle.replica.specs.declared.end.Reason.{Reason}
 use Rattle.replica.specs.declared.end.Reason.TheVariants.{EndOfInput, Refused, Database, Memory, ReadFailed, WriteFailed, Halted}
 use Rattle.replica.specs.declared.end.Ended.{Ended}
 use Rattle.replica.specs.declared.session.Session.{Session}
-use Rattle.replica.specs.declared.following.TheConstants.{PIECE}
 use Rattle.replica.specs.declared.following.Turn.{Turn}
 use Rattle.replica.specs.declared.following.Turn.TheVariants as turn
 use Rattle.replica.specs.Settings.{Settings}
@@ -53,12 +52,16 @@ reported_as reason end = record { reason = reason; at = end.at; applied = end.ap
 abbrev pub EndsInFull : ℕ → Names → Bool → Content → List ℕ → Content → Ended → Type 0
 EndsInFull limit names was old b new end = (reason : Reason) × IsInFull reason × Conn limit names was old b new (reported_as reason end)
 
+-- how many bytes a read asks for, at most: 64 KiB
+abbrev pub piece_length : ℕ
+piece_length = 65536
+
 -- The connection had not ended before the last piece was read.
 pub record EndsInLast (limit : ℕ) (names : Names) (was : Bool) (old : Content) (read : List ℕ) : Type 0 where
   pub front : List ℕ
   pub last : List ℕ
   pub read_is : read ≡ front ++ last
-  pub piece : length last ≤ PIECE
+  pub piece : length last ≤ piece_length
   pub now : Content
   pub end : Ended
   pub unended : Conn limit names was old front now (reported_as EndOfInput end)

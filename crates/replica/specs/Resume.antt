@@ -3,7 +3,7 @@
 use Rattle.std.specs.Prelude.{◌≡◌, ℕ, ◌+◌, ◌^◌, ◌<◌, ◌≤◌, ◌++◌, Bool, false, List, [], ◌∷◌, length, map, take, flat_map, if◌then◌else◌}
 use Rattle.std.specs.FinSet as set
 use Rattle.std.specs.List.{AllByRecursion}
-use Rattle.wire.specs.declared.packet.TheConstants.{LARGEST_PAYLOAD}
+use Rattle.wire.specs.Packet.{largest_payload}
 use Rattle.greet.specs.Message.{DumpValue}
 use Rattle.binlog.specs.Filter.{Names, admits}
 use Rattle.gather.specs.Transaction.{ChangeValue, DeliveryValue, change_of}
@@ -47,7 +47,7 @@ pub record Resumes (limit : ℕ) (names : Names) (history : List ScriptValue) (j
   pub all_applied : Reaches names history (length history) last
   pub dump : DumpValue
   pub asks : Asks request dump held.executed
-  pub short : length request ≤ LARGEST_PAYLOAD
+  pub short : length request ≤ largest_payload
   pub greeting : Payload
   pub login : Payload
   pub query : Payload

@@ -1,6 +1,6 @@
 -- The settings of a replica.
 use Rattle.std.specs.Prelude.{ℕ, ◌≤◌, Bool, List, length}
-use Rattle.wire.specs.declared.packet.TheConstants.{LARGEST_PAYLOAD}
+use Rattle.wire.specs.Packet.{largest_payload}
 use Rattle.greet.specs.Message.{IsText}
 
 -- With `once` the source sends an EOF at the end of its log instead of waiting there; `limit` is the length in bytes of
@@ -18,4 +18,4 @@ IsUserName user = (length user ≤ 255) × IsText user
 
 -- A payload has at most 1 GiB.
 abbrev pub IsLimit : ℕ → Type 0
-IsLimit limit = (1 ≤ limit) × (limit ≤ LARGEST_PAYLOAD)
+IsLimit limit = (1 ≤ limit) × (limit ≤ largest_payload)

@@ -2,9 +2,10 @@
 
 ghost use Rattle.std.specs.Prelude.{◌≡◌, ◌≢◌, ◌++◌, ◌⊎◌, ◌+◌, ◌≤◌, length, [], IfOk, OnOk, OnErr, IfErr, Err, Ok};
 ghost use Rattle.byteorder.specs.Endian.{little_bytes};
+ghost use Rattle.wire.specs.Packet.{largest_payload};
 ghost use Rattle.greet.specs.Message.{response, dump_bytes, checksum_query};
 ghost use Rattle.gtid.specs.Encoding.{IsEncoding};
-ghost use Rattle.replica.specs.Conn.{IsDumpTooLong};
+ghost use Rattle.replica.specs.Conn.{dump_lead, IsDumpTooLong};
 ghost use Rattle.replica.specs.Sent.{auth_bytes, flags_of};
 ghost use Rattle.replica.specs.PayloadStep.{Sends, SendsDump};
 ghost use Rattle.wire.specs.declared.fault.WireFault.TheVariants as wire;
@@ -125,7 +126,7 @@ fn flags(once: bool) -> u16
 
 /// The executed set as encoded for the dump command. `TooLarge` if the command would be longer than a payload may be.
 fn encoded(alloc: Global, executed: &GtidSet) -> Result<Vec<u8>, Reason>
-    ensures ok { IfOk result (λ set. IsEncoding executed.now set.items × (DUMP_LEAD + length set.items ≤ LARGEST_PAYLOAD)) }
+    ensures ok { IfOk result (λ set. IsEncoding executed.now set.items × (dump_lead + length set.items ≤ largest_payload)) }
     ensures err { IfErr result (λ reason. (reason ≡ Memory) ⊎ ((reason ≡ Wire wire.TooLarge) × IsDumpTooLong executed.now)) }
 {
     let mut set = Vec::new(alloc);
@@ -138,7 +139,7 @@ fn encoded(alloc: Global, executed: &GtidSet) -> Result<Vec<u8>, Reason>
 
 /// The dump command with this set.
 fn dump_with(config: &Config, set: &[u8]) -> Result<Vec<u8>, Reason>
-    requires { DUMP_LEAD + length set.now ≤ LARGEST_PAYLOAD }
+    requires { dump_lead + length set.now ≤ largest_payload }
     ensures ok { IfOk result (λ payload. payload.items ≡ dump_bytes (record { flags = flags_of config.now.once; server_id = config.now.server_id; set = set.now }) [] (little_bytes 8 4)) }
     ensures err { IfErr result (λ reason. reason ≡ Memory) }
 {

@@ -6,14 +6,14 @@ use Rattle.std.proofs.lemmas.List.{take-append-drop}
 use Rattle.wire.specs.Payload.{ReaderState, IsWholePayload, IsUnfinished, IsOutOfSequence, IsTooLarge}
 use Rattle.wire.specs.declared.fault.WireFault.{WireFault}
 use Rattle.wire.specs.declared.fault.WireFault.TheVariants as wire
-use Rattle.wire.specs.declared.packet.TheConstants.{LARGEST_PAYLOAD}
+use Rattle.wire.specs.Packet.{largest_payload}
 use Rattle.wire.proofs.OnePacking.{none_begins}
 use Rattle.wire.proofs.OneReading.{wrong_or_whole, large_or_whole}
 use Rattle.scripted_source.specs.declared.fault.ForgeFault.TheVariants.{Memory}
 use Rattle.scripted_source.specs.Source.{TakesPayload, packets_fault}
 
 abbrev start : ℕ → ReaderState
-start id = record { limit = LARGEST_PAYLOAD; due = id; held = []; ended = false }
+start id = record { limit = largest_payload; due = id; held = []; ended = false }
 
 pub starts : (new expecting : ReaderState) (id : ℕ) → new ≡ start 0 → expecting ≡ record new { due = id } → expecting ≡ start id
 starts new expecting id is set = set ∙ ap (λ (s : ReaderState). record s { due = id }) is
@@ -33,18 +33,18 @@ taken s id bytes payload used next is whole = record {
 
 pub not_unfinished : (s : ReaderState) (id : ℕ) (bytes payload rest : List ℕ) → s ≡ start id → IsUnfinished s.due s.limit (s.held ++ bytes) → TakesPayload id bytes payload rest → ⊥
 not_unfinished s id bytes payload rest is unfinished t =
-    let u : IsUnfinished id LARGEST_PAYLOAD bytes = subst (λ (v : ReaderState). IsUnfinished v.due v.limit (v.held ++ bytes)) is unfinished in
+    let u : IsUnfinished id largest_payload bytes = subst (λ (v : ReaderState). IsUnfinished v.due v.limit (v.held ++ bytes)) is unfinished in
     u.not_whole (length t.packing) payload t.next
-    (subst (λ l. IsWholePayload id LARGEST_PAYLOAD l payload t.next) (sym (ap (λ l. take (length t.packing) l) t.bytes_are ∙ take-append_seam t.packing rest)) t.whole)
+    (subst (λ l. IsWholePayload id largest_payload l payload t.next) (sym (ap (λ l. take (length t.packing) l) t.bytes_are ∙ take-append_seam t.packing rest)) t.whole)
 
 pub only_memory : (s : ReaderState) (id : ℕ) (bytes payload rest : List ℕ) (fault : WireFault) → s ≡ start id
     → ((want got : ℕ) → fault ≡ wire.Sequence want got → IsOutOfSequence s.due s.limit (s.held ++ bytes) want got)
     → (fault ≡ wire.TooLarge → IsTooLarge s.due s.limit (s.held ++ bytes)) → (fault ≡ wire.Ended → s.ended ≡ true) → TakesPayload id bytes payload rest → packets_fault fault ≡ Memory
 only_memory s id bytes payload rest (wire.Sequence want got) is sequence large ended t =
-    let bad : IsOutOfSequence id LARGEST_PAYLOAD bytes want got = subst (λ (v : ReaderState). IsOutOfSequence v.due v.limit (v.held ++ bytes) want got) is (sequence want got refl) in
-    absurd (wrong_or_whole rest (subst (λ l. IsOutOfSequence id LARGEST_PAYLOAD l want got) t.bytes_are bad) t.whole)
+    let bad : IsOutOfSequence id largest_payload bytes want got = subst (λ (v : ReaderState). IsOutOfSequence v.due v.limit (v.held ++ bytes) want got) is (sequence want got refl) in
+    absurd (wrong_or_whole rest (subst (λ l. IsOutOfSequence id largest_payload l want got) t.bytes_are bad) t.whole)
 only_memory s id bytes payload rest wire.TooLarge is sequence large ended t =
-    let bad : IsTooLarge id LARGEST_PAYLOAD bytes = subst (λ (v : ReaderState). IsTooLarge v.due v.limit (v.held ++ bytes)) is (large refl) in
-    absurd (large_or_whole rest (subst (λ l. IsTooLarge id LARGEST_PAYLOAD l) t.bytes_are bad) t.whole)
+    let bad : IsTooLarge id largest_payload bytes = subst (λ (v : ReaderState). IsTooLarge v.due v.limit (v.held ++ bytes)) is (large refl) in
+    absurd (large_or_whole rest (subst (λ l. IsTooLarge id largest_payload l) t.bytes_are bad) t.whole)
 only_memory s id bytes payload rest wire.Memory is sequence large ended t = refl
 only_memory s id bytes payload rest wire.Ended is sequence large ended t = absurd (false≢true (sym (ap (λ (v : ReaderState). v.ended) is) ∙ ended refl))

@@ -5,9 +5,8 @@ use Rattle.std.proofs.Math.Seq.{drop-cons}
 use Rattle.std.proofs.lemmas.Bool.{cases_lt, false≢true}
 use Rattle.std.proofs.lemmas.List.{length-append, map-append}
 use Rattle.std.specs.List.{AllByRecursion}
-use Rattle.wire.specs.Packet.{IsPacking}
+use Rattle.wire.specs.Packet.{IsPacking, largest_payload}
 use Rattle.wire.specs.Integer.{length_encoded}
-use Rattle.wire.specs.declared.packet.TheConstants.{LARGEST_PAYLOAD}
 use Rattle.greet.specs.Message.{DumpValue}
 use Rattle.gtid.specs.Identifier.{Ids}
 use Rattle.binlog.specs.Row.{bitmap_size}
@@ -64,7 +63,7 @@ rows_longer r =
     let inner : length r.bytes ≤ length body = with_front (rows_head r) (count_bytes (r.bytes_at - r.columns_at - presents_size r.kind r.columns) r.columns) (presents_bytes r.kind r.columns) r.bytes in
     omega (arith, all, inner)
 
-pub too_long : (part : PartValue) → FitsPart part → (IsWritable (rows (rows_of part)) → ⊥) → LARGEST_PAYLOAD < length (payload_of (rows (rows_of part)))
+pub too_long : (part : PartValue) → FitsPart part → (IsWritable (rows (rows_of part)) → ⊥) → largest_payload < length (payload_of (rows (rows_of part)))
 too_long part fits none =
     let t = suits part.table (map_of part.table fits.map) in
     let n = length part.table.columns in

@@ -3,9 +3,8 @@
 use Rattle.std.specs.Prelude.{◌≡◌, ℕ, suc, ◌%◌, ◌≤◌, ◌⊎◌, Bool, not, ◌==◌, List, [], ◌∷◌, ◌++◌, length, codes, map, filter, flat_map, if◌then◌else◌, MatchBool}
 use Rattle.std.specs.List.{AllByRecursion}
 use Rattle.std.specs.FinSet as set
-use Rattle.wire.specs.Packet.{IsPacking}
+use Rattle.wire.specs.Packet.{IsPacking, largest_payload}
 use Rattle.wire.specs.Payload.{IsWholePayload}
-use Rattle.wire.specs.declared.packet.TheConstants.{LARGEST_PAYLOAD}
 use Rattle.greet.specs.PacketHeader as packet_header
 use Rattle.greet.specs.Message.{greeting_bytes, replica_capabilities, utf8mb3, checksum_query, IsOkPacket, DumpValue, IsDump}
 use Rattle.greet.specs.Complete.{HasGreeting, HasResponse}
@@ -148,7 +147,7 @@ sent_payloads once scripts = payloads_of (events_of scripts) ++ end_payloads onc
 
 -- The payload is not too long to be sent.
 abbrev pub IsShort : Payload → Type 0
-IsShort p = length p ≤ LARGEST_PAYLOAD
+IsShort p = length p ≤ largest_payload
 
 -- The part's table map and the rows of its pairs can be written.
 pub record FitsPart (part : PartValue) : Type 0 where
@@ -229,7 +228,7 @@ packets_fault _ = Request
 pub record TakesPayload (id : ℕ) (bytes : List ℕ) (payload rest : List ℕ) : Type 0 where
   pub packing : List ℕ
   pub next : ℕ
-  pub whole : IsWholePayload id LARGEST_PAYLOAD packing payload next
+  pub whole : IsWholePayload id largest_payload packing payload next
   pub bytes_are : bytes ≡ packing ++ rest
 
 -- The bytes are the packets of the dump command with these GTIDs, and nothing else.

@@ -3,7 +3,7 @@
 
 ghost use Rattle.std.specs.Prelude.{◌≡◌, ◌<◌, ◌≤◌, ◌⊎◌, ◌↔◌, IsTrue, flat_map, [], ◌∷◌, length, IfOk, IfErr, OnOk, OnErr, Err};
 ghost use Rattle.std.specs.List.{AllByRecursion};
-ghost use Rattle.wire.specs.declared.packet.TheConstants.{LARGEST_PAYLOAD};
+ghost use Rattle.wire.specs.Packet.{largest_payload};
 ghost use Rattle.binlog.specs.Event.{gtid, begin, table_map, rows};
 ghost use Rattle.binlog.specs.RowsWritten.{rows_bytes};
 ghost use Rattle.binlog.specs.EventView.{event_value};
@@ -29,8 +29,8 @@ const EOF: &[u8] = &[packet_header::EOF, 0, 0, AUTOCOMMIT as u8, 0];
 /// Appends the packets of a payload.
 fn send(sequence: u8, payload: &[u8], out: &mut Vec<u8>) -> Result<u8, ForgeFault>
     ensures ok { IfOk result (λ next. AppendsPackings sequence (payload.now ∷ []) out.old.items out.new.items next) }
-    ensures short { OnOk result (length payload.now ≤ LARGEST_PAYLOAD) }
-    ensures err { IfErr result (λ fault. ((fault ≡ TooLarge) × (LARGEST_PAYLOAD < length payload.now)) ⊎ (fault ≡ Memory)) }
+    ensures short { OnOk result (length payload.now ≤ largest_payload) }
+    ensures err { IfErr result (λ fault. ((fault ≡ TooLarge) × (largest_payload < length payload.now)) ⊎ (fault ≡ Memory)) }
 {
     match write_payload(sequence, payload, out) {
         Ok(next) => Ok(next),
@@ -73,8 +73,8 @@ fn send_event(
 ) -> Result<u8, ForgeFault>
     requires { IsWritable (event_value event.now) }
     ensures ok { IfOk result (λ next. AppendsPackings sequence (payloads_of (event_value event.now ∷ [])) out.old.items out.new.items next) }
-    ensures short { OnOk result (length (payload_of (event_value event.now)) ≤ LARGEST_PAYLOAD) }
-    ensures err { IfErr result (λ fault. ((fault ≡ TooLarge) × (LARGEST_PAYLOAD < length (payload_of (event_value event.now)))) ⊎ (fault ≡ Memory)) }
+    ensures short { OnOk result (length (payload_of (event_value event.now)) ≤ largest_payload) }
+    ensures err { IfErr result (λ fault. ((fault ≡ TooLarge) × (largest_payload < length (payload_of (event_value event.now)))) ⊎ (fault ≡ Memory)) }
 {
     let payload = payload_of(alloc, event)?;
     send(sequence, &payload, out)
@@ -88,7 +88,7 @@ pub(crate) fn send_short(
     out: &mut Vec<u8>,
 ) -> Result<u8, ForgeFault>
     requires event { IsWritable (event_value event.now) }
-    requires short { length (payload_of (event_value event.now)) ≤ LARGEST_PAYLOAD }
+    requires short { length (payload_of (event_value event.now)) ≤ largest_payload }
     ensures ok { IfOk result (λ next. AppendsPackings sequence (payloads_of (event_value event.now ∷ [])) out.old.items out.new.items next) }
     ensures err { OnErr result (result ≡ Err Memory) }
 {
@@ -116,8 +116,8 @@ fn map_fits(part: &Part) -> bool
 fn send_map(alloc: Global, part: &Part, sequence: u8, out: &mut Vec<u8>) -> Result<u8, ForgeFault>
     requires { FitsPart (part_value part.now) }
     ensures ok { IfOk result (λ next. AppendsPackings sequence (payloads_of (table_map (part_value part.now).table ∷ [])) out.old.items out.new.items next) }
-    ensures short { OnOk result (length (payload_of (table_map (part_value part.now).table)) ≤ LARGEST_PAYLOAD) }
-    ensures err { IfErr result (λ fault. ((fault ≡ TooLarge) × (LARGEST_PAYLOAD < length (payload_of (table_map (part_value part.now).table)))) ⊎ (fault ≡ Memory)) }
+    ensures short { OnOk result (length (payload_of (table_map (part_value part.now).table)) ≤ largest_payload) }
+    ensures err { IfErr result (λ fault. ((fault ≡ TooLarge) × (largest_payload < length (payload_of (table_map (part_value part.now).table)))) ⊎ (fault ≡ Memory)) }
 {
     send_event(
         alloc,
@@ -145,8 +145,8 @@ fn send_rows(alloc: Global, part: &Part, sequence: u8, out: &mut Vec<u8>) -> Res
     requires { FitsPart (part_value part.now) }
     ensures ok { IfOk result (λ next. AppendsPackings sequence (payloads_of (rows (rows_of (part_value part.now)) ∷ [])) out.old.items out.new.items next) }
     ensures event { OnOk result (IsWritable (rows (rows_of (part_value part.now)))) }
-    ensures short { OnOk result (length (payload_of (rows (rows_of (part_value part.now)))) ≤ LARGEST_PAYLOAD) }
-    ensures err { IfErr result (λ fault. ((fault ≡ TooLarge) × (LARGEST_PAYLOAD < length (payload_of (rows (rows_of (part_value part.now)))))) ⊎ (fault ≡ Memory)) }
+    ensures short { OnOk result (length (payload_of (rows (rows_of (part_value part.now)))) ≤ largest_payload) }
+    ensures err { IfErr result (λ fault. ((fault ≡ TooLarge) × (largest_payload < length (payload_of (rows (rows_of (part_value part.now)))))) ⊎ (fault ≡ Memory)) }
 {
     let bytes = rows_of(alloc, part)?;
     match RowsEvent::new(part.id, part.kind, part.table.types.len(), &bytes) {

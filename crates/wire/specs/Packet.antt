@@ -8,6 +8,10 @@ use Rattle.byteorder.specs.Endian.{little_bytes}
 unfoldable pub full_chunk : ℕ
 full_chunk = 16777215
 
+-- the length in bytes of the longest payload, 1 GiB: the highest `max_allowed_packet` of a server
+abbrev pub largest_payload : ℕ
+largest_payload = 1073741824
+
 -- One packet: three bytes of length, the lowest first, one byte of sequence id, and the chunk itself, which has at
 -- most `full_chunk` bytes.
 abbrev pub packet : ℕ → List ℕ → List ℕ

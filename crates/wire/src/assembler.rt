@@ -1,7 +1,7 @@
 //! Payloads read from a stream of packets, whose bytes come in pieces of any size.
 
 ghost use Rattle.std.specs.Prelude.{◌≡◌, ℕ, ◌+◌, ◌^◌, ◌≤◌, ◌<◌, ◌++◌, ◌↔◌, [], length, take, true, false, IsTrue, IfOk, IfSome, IfNone, OnOk, OnErr};
-ghost use Rattle.wire.specs.Packet.{packing_length};
+ghost use Rattle.wire.specs.Packet.{largest_payload, packing_length};
 ghost use Rattle.wire.specs.Payload.{IsWholePayload, IsUnfinished, IsOutOfSequence, IsTooLarge, NeedsRoom};
 
 use crate::fault::WireFault;
@@ -34,7 +34,7 @@ pub struct Assembler {
 impl Model for Assembler {
     ghost use Rattle.std.specs.Prelude.{◌≡◌, ◌≤◌, false};
     ghost use Rattle.wire.specs.Payload.{ReaderState};
-    ghost use Rattle.wire.specs.declared.packet.TheConstants.{LARGEST_PAYLOAD};
+    ghost use Rattle.wire.specs.Packet.{largest_payload};
 
     ghost Value = { ReaderState };
 
@@ -42,13 +42,13 @@ impl Model for Assembler {
 
     ghost view = { λ a. record { limit = a.unpacker.limit; due = a.unpacker.due; held = held_of a.unpacker; ended = a.ended } };
 
-    ghost invariant = { λ a. (a.unpacker.limit ≤ LARGEST_PAYLOAD) × (a.ended ≡ false → IsUnpacking a.unpacker × (IsComplete a.unpacker → ⊥)) };
+    ghost invariant = { λ a. (a.unpacker.limit ≤ largest_payload) × (a.ended ≡ false → IsUnpacking a.unpacker × (IsComplete a.unpacker → ⊥)) };
 }
 
 impl Assembler {
     /// A reader of payloads of at most `limit` bytes. The first expected sequence id is 0.
     pub fn new(alloc: Global, limit: usize) -> Assembler
-        requires { limit ≤ LARGEST_PAYLOAD }
+        requires { limit ≤ largest_payload }
         ensures { result ≡ record { limit = limit; due = 0; held = []; ended = false } }
     {
         Assembler {

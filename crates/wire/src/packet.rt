@@ -2,7 +2,7 @@
 
 ghost use Rattle.std.specs.Prelude.{◌≡◌, ◌+◌, ◌*◌, ◌/◌, ◌^◌, ◌≤◌, ◌<◌, ◌++◌, ◌⊎◌, ◌↔◌, length, IfOk, IfErr, OnErr, vec_len, vec_capacity};
 ghost use Rattle.wire.specs.Packet as spec;
-ghost use Rattle.wire.specs.Packet.{packet, AppendsPacking};
+ghost use Rattle.wire.specs.Packet.{packet, largest_payload, AppendsPacking};
 
 use crate::fault::WireFault;
 
@@ -39,7 +39,7 @@ fn push_packet(id: u8, chunk: &[u8], out: &mut Vec<u8>)
 
 #[tactic(auto, unfolding(crate::specs::Packet::full_chunk))]
 fn push_packets(sequence: u8, payload: &[u8], out: &mut Vec<u8>) -> u8
-    requires size { length payload.now ≤ LARGEST_PAYLOAD }
+    requires size { length payload.now ≤ largest_payload }
     requires room { vec_len out.old + spec.packing_length (length payload.now) ≤ vec_capacity out.old }
     ensures { AppendsPacking sequence payload.now out.old.items out.new.items result }
 {
@@ -62,7 +62,7 @@ fn push_packets(sequence: u8, payload: &[u8], out: &mut Vec<u8>) -> u8
 /// for the packets and cannot grow. Either leaves the vector as it was.
 pub fn write_payload(sequence: u8, payload: &[u8], out: &mut Vec<u8>) -> Result<u8, WireFault>
     ensures ok { IfOk result (λ next. AppendsPacking sequence payload.now out.old.items out.new.items next) }
-    ensures too_large { (result ≡ Err WireFault.TooLarge) ↔ (LARGEST_PAYLOAD < length payload.now) }
+    ensures too_large { (result ≡ Err WireFault.TooLarge) ↔ (largest_payload < length payload.now) }
     ensures only { IfErr result (λ fault. (fault ≡ WireFault.TooLarge) ⊎ (fault ≡ WireFault.Memory)) }
     ensures full { result ≡ Err WireFault.Memory → vec_capacity out.old < vec_len out.old + spec.packing_length (length payload.now) }
     ensures err { OnErr result (out.new.items ≡ out.old.items) }

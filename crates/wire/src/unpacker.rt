@@ -2,6 +2,7 @@
 
 ghost use Rattle.std.specs.Prelude.{◌≡◌, ◌≢◌, ℕ, ◌+◌, ◌%◌, ◌≤◌, ◌<◌, ◌++◌, ◌∷◌, [], ◌↔◌, ◌⊎◌, length, take, IfOk, IfErr, IsTrue};
 ghost use Rattle.wire.specs.Header.{IsHeader};
+ghost use Rattle.wire.specs.Packet.{largest_payload};
 
 use crate::fault::WireFault;
 use crate::packet::{FULL_CHUNK, HEADER_LENGTH, LARGEST_PAYLOAD};
@@ -103,7 +104,7 @@ impl Unpacker {
     /// chunk.
     fn take_header(&mut self, bytes: &[u8]) -> Result<usize, WireFault>
         requires header { IsInHeader self.old }
-        requires limit { self.old.limit ≤ LARGEST_PAYLOAD }
+        requires limit { self.old.limit ≤ largest_payload }
         ensures ok { IfOk result (λ used. Consumes self.old self.new bytes.now used) }
         ensures progress { IfOk result (λ used. 0 < length bytes.now → 0 < used) }
         ensures limit { self.new.limit ≡ self.old.limit }
@@ -127,7 +128,7 @@ impl Unpacker {
     fn take_chunk(&mut self, bytes: &[u8]) -> usize
         requires chunk { IsInChunk self.old }
         requires open { 0 < self.old.left }
-        requires limit { self.old.limit ≤ LARGEST_PAYLOAD }
+        requires limit { self.old.limit ≤ largest_payload }
         ensures takes { Consumes self.old self.new bytes.now result }
         ensures progress { 0 < length bytes.now → 0 < result }
     {
@@ -145,7 +146,7 @@ impl Unpacker {
     pub(crate) fn advance(&mut self, bytes: &[u8]) -> Result<usize, WireFault>
         requires stands { IsUnpacking self.old }
         requires open { IsComplete self.old → ⊥ }
-        requires limit { self.old.limit ≤ LARGEST_PAYLOAD }
+        requires limit { self.old.limit ≤ largest_payload }
         ensures ok { IfOk result (λ used. Consumes self.old self.new bytes.now used) }
         ensures end { IfOk result (λ used. used < length bytes.now → IsComplete self.new) }
         ensures progress { IfOk result (λ used. IsComplete self.new → 0 < used) }

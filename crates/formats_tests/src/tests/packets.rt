@@ -1,6 +1,7 @@
 //! Packets and integers of the MySQL client/server protocol, by worked values of the public standard.
 
 ghost use Rattle.std.specs.Prelude.{◌≡◌, ◌≢◌, ℕ, ◌≤◌, [], List, map, Some, IfOk, IfErr, IfNone};
+ghost use Rattle.wire.specs.Packet.{largest_payload};
 ghost use Rattle.wire.specs.Stream as stream;
 ghost use Rattle.wire.specs.Stream.{Held, OutOfSequence, Runs};
 
@@ -140,7 +141,7 @@ struct Reading {
 /// clauses of `step` alone, that this is the stream's one reading: its payloads, and after them its fault if there is
 /// one. The only error is `Memory`.
 fn payloads(alloc: Global, limit: usize, pieces: &[&[u8]]) -> Result<Reading, WireFault>
-    requires { limit ≤ LARGEST_PAYLOAD }
+    requires { limit ≤ largest_payload }
     ensures whole { IfOk result (λ read. IfNone read.fault ((id : ℕ) × (held : List ℕ) ×
         Runs 0 limit [] (map (λ piece. piece.now) pieces.now) (map (λ payload. payload.items) read.payloads.items) (Held id held))) }
     ensures sequence { IfOk result (λ read. (want got : ℕ) → read.fault ≡ Some (WireFault.Sequence want got) →

@@ -3,7 +3,7 @@ use Rattle.std.proofs.lemmas.Grind.{common_steps}
 use Rattle.std.proofs.lemmas.Result.{err_from_is_err_and}
 use Rattle.std.proofs.lemmas.List.{take-append-drop, take_all}
 use Rattle.mrep.specs.PayloadListing.{IsWrong, held_of, first_id}
-use Rattle.wire.specs.declared.packet.TheConstants.{LARGEST_PAYLOAD}
+use Rattle.wire.specs.Packet.{largest_payload}
 use Rattle.mrep.proofs.Entries.{wrong_from, IsWrong-more, by_payload, whole_from, unfinished_from}
 use Rattle.mrep.proofs.payload_listing.Listing.gather.Goals as goal
 
@@ -58,7 +58,7 @@ returns-clause-takes c =
     ap (λ state. state.due) c.expect.ensures ∙ ap (λ items. slice_index_or items 3 0) (c.as_slice.ensures.value ∙ sym c.as_slice-2.ensures.value) ∙ ap (λ h. first_id (h ++ header)) (sym nil) in
     let all : reader.held ++ header ≡ held_of old ++ take used bytes =
     (λ i. held i ++ is i) ∙ sym (append_assoc old.assembler.held old.header.items (take used bytes)) in
-    let limit : reader.limit ≡ LARGEST_PAYLOAD = ap (λ state. state.limit) c.expect.ensures ∙ old.limit c.requires.between.1 in
+    let limit : reader.limit ≡ largest_payload = ap (λ state. state.limit) c.expect.ensures ∙ old.limit c.requires.between.1 in
     let due : reader.due ≡ slice_index_or c.as_slice.result.now 3 0 = ap (λ state. state.due) c.expect.ensures in
     let cleared : new.held ++ c.clear.new.self.items ≡ new.held = ap (λ h. new.held ++ h) c.clear.ensures ∙ append-nil new.held in
     record {

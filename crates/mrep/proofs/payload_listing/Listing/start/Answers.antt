@@ -3,7 +3,7 @@ use Rattle.std.proofs.lemmas.Grind.{common_steps}
 use Rattle.std.proofs.lemmas.Result.{err_from_is_err_and}
 use Rattle.std.proofs.lemmas.List.{take_all}
 use Rattle.mrep.specs.PayloadListing.{IsWrong, held_of, first_id}
-use Rattle.wire.specs.declared.packet.TheConstants.{LARGEST_PAYLOAD}
+use Rattle.wire.specs.Packet.{largest_payload}
 use Rattle.mrep.proofs.Entries.{wrong_from, by_payload, whole_from, unfinished_from}
 use Rattle.mrep.proofs.payload_listing.Listing.start.Goals as goal
 
@@ -38,7 +38,7 @@ returns-clause-takes c =
     let step = c.in_ok-step.step in
     let nil : reader.held ≡ [] = ap (λ state. state.held) c.expect.ensures ∙ c.requires.between.0 in
     let held : reader.held ≡ held_of old = ap (λ state. state.held) c.expect.ensures ∙ sym (append-nil old.assembler.held) ∙ ap (λ h. old.assembler.held ++ h) (sym c.requires.fresh) in
-    let limit : reader.limit ≡ LARGEST_PAYLOAD = ap (λ state. state.limit) c.expect.ensures ∙ old.limit c.requires.between.1 in
+    let limit : reader.limit ≡ largest_payload = ap (λ state. state.limit) c.expect.ensures ∙ old.limit c.requires.between.1 in
     let due : reader.due ≡ slice_index_or bytes 3 0 = ap (λ state. state.due) c.expect.ensures in
     let first : reader.due ≡ first_id (reader.held ++ bytes) = due ∙ ap (λ h. first_id (h ++ bytes)) (sym nil) in
     let now : new.held ++ old.header.items ≡ new.held = ap (λ h. new.held ++ h) c.requires.fresh ∙ append-nil new.held in
