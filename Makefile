@@ -2,9 +2,10 @@
 #             a new database, whose rows and executed set are shown
 # make test   runs the whole gate, tests/run: every proof, the tests and the program, a program that must not compile, the
 #             libraries out of memory, beside all this the wrong bodies, and then, with the program that was built, what else
-#             tests/ has: the commands, messages, rows as CSV and JSON, the change feed, files read by sqlite3, damaged databases, streams and their faults,
-#             captured streams, a source over loopback, streams compared with an independent reading, changed bytes,
-#             running out of memory, kills, copies beside a writer, and the commands, examples and names of the pages
+#             tests/ has: the tests of the libraries' calls, which are run and not proved, the commands, messages, rows as
+#             CSV and JSON, the change feed, files read by sqlite3, damaged databases, streams and their faults, captured
+#             streams, a source over loopback, streams compared with an independent reading, changed bytes, running out of
+#             memory, kills, copies beside a writer, and the commands, examples and names of the pages
 # make bench  times mrep, the sets and the transactions against plain Rust programs that do the same jobs, the store
 #             against the C library of SQLite, a whole replay against a C program, and mrep over twice and four times as
 #             much (needs rustc; the store also python3, the replay cc and the library of SQLite)

@@ -1,5 +1,5 @@
 -- Vectors that keep what they begin with.
-use Rattle.std.proofs.Common.{◌≡◌, ℕ, ◌+◌, ◌≤◌, List, [], ◌++◌, length, take, drop, sym, ap, ◌∙◌, append_assoc, arith}
+use Rattle.std.proofs.Common.{◌≡◌, ℕ, ◌+◌, ◌≤◌, ◌<◌, List, [], ◌++◌, length, take, drop, Result, Ok, Err, OnErr, sym, ap, ◌∙◌, append_assoc, arith}
 use Rattle.std.proofs.Math.Seq.{take-append_seam}
 use Rattle.std.proofs.lemmas.List.{take-append-drop, take_all, append-nil, length-append}
 
@@ -53,3 +53,25 @@ six_parts old a b c d e f n1 n2 n3 n4 n5 n6 h1 h2 h3 h4 h5 h6 =
     let g4 : n4 ≡ old ++ a ++ b ++ c ++ d = h4 ∙ ap (λ l. l ++ d) g3 in
     let g5 : n5 ≡ old ++ a ++ b ++ c ++ d ++ e = h5 ∙ ap (λ l. l ++ e) g4 in
     h6 ∙ ap (λ l. l ++ f) g5 ∙ regroup_6 old a b c d e f
+
+-- ---- A part that could not be written, after others that were.
+
+-- an answer of a call that failed
+pub failed : {T E P : Type 0} (r : Result T E) → P → OnErr r P
+failed (Ok x) p = tt
+failed (Err e) p = p
+
+-- all that was there stays where nothing was written
+pub unmoved : (old new : List ℕ) → new ≡ old → take (length old) new ≡ old
+unmoved old new is = ap (take (length old)) is ∙ take_all (length old) old (omega arith)
+
+-- what was there stays, if it does with the first part
+pub stays : {old next : List ℕ} (more new : List ℕ) → next ≡ old ++ more → take (length next) new ≡ next → take (length old) new ≡ old
+stays {old} {next} more new is same = still_kept old more next new is same
+
+-- the length of a vector after a part
+pub longer : (old more : List ℕ) {next : List ℕ} → next ≡ old ++ more → length next ≡ length old + length more
+longer old more {next} is = ap length is ∙ length-append old more
+
+pub length_6 : (a b c d e f : List ℕ) → length (a ++ b ++ c ++ d ++ e ++ f) ≡ length a + (length b + (length c + (length d + (length e + length f))))
+length_6 a b c d e f = omega (arith, length-append a b, length-append (a ++ b) c, length-append (a ++ b ++ c) d, length-append (a ++ b ++ c ++ d) e, length-append (a ++ b ++ c ++ d ++ e) f)

@@ -1,15 +1,8 @@
-//! A file for each subject, and the bytes that they share.
+//! A file for each subject, and what they share with `tests/calls`.
 
-mod bytes;
-mod columns;
 mod event_bytes;
-mod events;
-mod filters;
-mod gtids;
-mod images;
-mod messages;
+mod message_bytes;
 mod out_of_memory;
 mod packets;
-mod rows;
 mod same;
-mod transactions;
+mod values;

@@ -1,13 +1,10 @@
 //! Each call that may run out of memory, on small values. Whichever allocation is refused, it answers as with memory to
 //! spare, or `Memory`, and then what it was to change is as it was. `tests/refused/run` refuses each in turn.
 
-use crate::tests::event_bytes::{MAP, event};
-use crate::tests::gtids::{A, ENCODED};
-use crate::tests::images::PAIR;
-use crate::tests::messages::{As, DUMP, GREETING, RESPONSE, SET, TOO_MANY, read};
-use crate::tests::rows::{AB, SEVEN, pairs, types};
+use crate::tests::event_bytes::{BEGIN, FIRST as FIRST_GTID, FORMAT, MAP, ROWS, XID, event};
+use crate::tests::message_bytes::{As, DUMP, GREETING, RESPONSE, SET, TOO_MANY, read};
 use crate::tests::same::same;
-use crate::tests::transactions::{ADD, answers, joined};
+use crate::tests::values::{A, AB, ADD, ENCODED, PAIR, SEVEN, answers, joined, pairs, types};
 use binlog::{
     Event, EventFault, EventFaultKind, Follow, RowsKind, read_event, rows_fit, write_rows,
 };
@@ -275,10 +272,20 @@ fn follow(alloc: Global) -> Option<bool> {
     }
 }
 
+/// The types and the bodies of the events of a transaction.
+static TRANSACTION: [(u8, &[u8]); 6] = [
+    (15, FORMAT),
+    (33, FIRST_GTID),
+    (2, BEGIN),
+    (19, MAP),
+    (30, ROWS),
+    (16, XID),
+];
+
 /// A gatherer that was refused memory has ended, and delivers nothing.
 fn gathered(alloc: Global) -> Option<bool> {
     let want = joined(alloc, &[b"1", ADD, ADD])?;
-    let (found, fault) = answers(alloc, &Follow::all(alloc), b"f1bIwx")?;
+    let (found, fault) = answers(alloc, &Follow::all(alloc), &TRANSACTION)?;
     match fault {
         None => Some(found.as_slice() == want.as_slice()),
         Some(GatherFault::Memory) => Some(found.is_empty()),

@@ -7,9 +7,7 @@ ghost use Rattle.wire.specs.Stream.{Held, OutOfSequence, Runs};
 
 use crate::tests::same::same;
 use std::alloc::Global;
-use wire::{
-    Assembler, LARGEST_PAYLOAD, Step, WireFault, packing_length, read_int, write_int, write_payload,
-};
+use wire::{Assembler, LARGEST_PAYLOAD, Step, WireFault, read_int, write_int, write_payload};
 
 /// Length-encoded integers, each with its shortest spelling.
 static SPELLINGS: [(u64, &[u8]); 8] = [

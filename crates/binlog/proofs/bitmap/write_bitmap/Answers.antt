@@ -5,6 +5,7 @@ use Rattle.std.proofs.lemmas.List.FromFn.{length-map-range_with_len}
 use Rattle.binlog.specs.Cell.{is_null, owned_values}
 use Rattle.binlog.specs.Row.{bitmap_size}
 use Rattle.binlog.specs.RowsWritten.{bitmap_byte, bitmap_bytes}
+use Rattle.binlog.proofs.Kept.{kept, failed}
 use Rattle.binlog.proofs.RowWriting.{byte_more, bits_length}
 use Rattle.binlog.proofs.bitmap.write_bitmap.Goals as goal
 
@@ -30,3 +31,6 @@ returns-in_err-push-clause-full c =
     let fits : length c.loop-i.out.items + 1 ≤ length old + length (bitmap_bytes bits) =
     omega (arith, size, c.loop-i-test.true, ap length c.loop-i.invariant.0, length-append old written, length-map-range_with_len (bitmap_byte bits) 0 c.loop-i.i, length-map-range_with_len (bitmap_byte bits) 0 (bitmap_size (length bits))) in
     search (rules, fits)
+
+pub returns-in_err-push-clause-kept : goal.returns-in_err-push-clause-kept
+returns-in_err-push-clause-kept c = failed c.from_residual.result (kept c.args.out.now.items _ c.push.new.self.items (c.in_err-push.ensures.items ∙ c.loop-i.invariant.0))

@@ -1,4 +1,4 @@
-use Rattle.std.proofs.Common.{◌≡◌, true, rules, arith}
+use Rattle.std.proofs.Common.{◌≡◌, true, subst, rules, arith}
 use Rattle.sqlite.specs.State.{HasCleanDisk, KeepsCommit, Survives}
 use Rattle.sqlite.specs.Held.{state}
 use Rattle.sqlite.proofs.Callers.{survives_begin}
@@ -32,7 +32,8 @@ returns-clause-replaces g c clean names content rest is =
     let kept : KeepsCommit t m = (rw c.transaction-tx.ensures.begun at c.in_ok-replace_all.ensures.stays.kept) early working in
     let records : Records t m c.args.after.now = (rw c.transaction-tx.ensures.begun at c.in_ok-replace_all.ensures.records) early working rest.stands.executed.spans (stored_of g.S.Store h names content rest c.args.executed.now is) in
     let done : Replaces names (with_executed c.args.after.now content) (state g.S.Store h) n c.commit.result = replaced g.S.Store h names content rest c.args.after.now m c.in_ok-replace_all.ensures.lawful records n c.commit.result kept (c.commit.ensures.ok late) (c.commit.ensures.err late) in
-    search (rules, done)
+    let same : c.commit.new.self.0 ≡ c.conn-2-1.given.0 = search rules in
+    subst (λ x. Replaces names (with_executed c.args.after.now content) (state g.S.Store h) (state g.S.Store x) c.commit.result) same done
 
 pub returns-in_err-replace_all-clause-crash : goal.returns-in_err-replace_all-clause-crash
 returns-in_err-replace_all-clause-crash g c names content rest is =
@@ -41,7 +42,8 @@ returns-in_err-replace_all-clause-crash g c names content rest is =
     let may : Trees → Type 0 = λ db. AreOf h.schema names (with_executed c.args.after.now content) db × SparesBeside (state g.S.Store h).now db in
     let survives : Survives (state g.S.Store h) n may = survives_rolled g.S.Store h (state g.S.Store c.replace_all.new.tx.conn.now) n may
     (rw c.transaction-tx.ensures.begun at c.in_err-replace_all.ensures.stays.survives) c.drop-tx.ensures.survives in
-    search (rules, survives)
+    let same : c.drop-tx.new.self.0 ≡ c.conn-1.given.0 = search rules in
+    subst (λ x. Survives (state g.S.Store h) (state g.S.Store x) may) same survives
 
 pub returns-clause-crash : goal.returns-clause-crash
 returns-clause-crash g c names content rest is =
@@ -56,4 +58,5 @@ returns-clause-crash g c names content rest is =
     survives_begin g.S.Store h n may (survives_then t m n (λ _. ⊥) (λ db. db ≡ m.now.trees) may (λ _ db none. absurd none)
     (λ clean db is. may_replace g.S.Store h names content rest c.args.after.now m c.in_ok-replace_all.ensures.lawful (records (omega (arith, c.commit.ensures.survives.clean, clean))) db is)
     (rw c.transaction-tx.ensures.begun at c.in_ok-replace_all.ensures.stays.survives) c.commit.ensures.survives) in
-    search (rules, survives)
+    let same : c.commit.new.self.0 ≡ c.conn-2-1.given.0 = search rules in
+    subst (λ x. Survives (state g.S.Store h) (state g.S.Store x) may) same survives

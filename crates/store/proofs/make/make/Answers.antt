@@ -1,4 +1,4 @@
-use Rattle.std.proofs.Common.{◌≡◌, true, OnOk, OnErr, rules}
+use Rattle.std.proofs.Common.{◌≡◌, subst, true, OnOk, OnErr, rules}
 use Rattle.sqlite.specs.State.{HasCleanDisk, Survives}
 use Rattle.sqlite.specs.Held.{state}
 use Rattle.sqlite.proofs.Callers.{survives_begin}
@@ -46,7 +46,8 @@ returns-in_err-fill-clause-crash g c blank =
     let may = MayStandFor (state g.S.Store h).now c.args.filter.now nothing in
     let survives : Survives (state g.S.Store h) n may = survives_rolled g.S.Store h (state g.S.Store c.fill.new.tx.conn.now) n may
     (rw c.transaction-tx.ensures.begun at c.in_err-fill.ensures.survives) c.drop-tx.ensures.survives in
-    search (rules, survives)
+    let same : c.drop-tx.new.self.0 ≡ c.conn-1.given.0 = search rules in
+    subst (λ x. Survives (state g.S.Store h) (state g.S.Store x) may) same survives
 
 pub returns-clause-crash : goal.returns-clause-crash
 returns-clause-crash g c blank =
@@ -61,4 +62,5 @@ returns-clause-crash g c blank =
     (may_stand g.S.Store h c.args.filter.now nothing m n blank.settled
     (λ early. (rw c.transaction-tx.ensures.begun at c.in_ok-fill.ensures.kept) early begun) (λ early. (rw c.transaction-tx.ensures.begun at c.in_ok-fill.ensures.made) early begun) c.commit.result c.commit.ensures.survives)
     (rw c.transaction-tx.ensures.begun at c.in_ok-fill.ensures.survives) c.commit.ensures.survives) in
-    search (rules, survives)
+    let same : c.commit.new.self.0 ≡ c.conn-2-1.given.0 = search rules in
+    subst (λ x. Survives (state g.S.Store h) (state g.S.Store x) may) same survives

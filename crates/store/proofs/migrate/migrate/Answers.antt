@@ -1,4 +1,4 @@
-use Rattle.std.proofs.Common.{◌≡◌, true, OnOk, OnErr, rules, arith}
+use Rattle.std.proofs.Common.{◌≡◌, subst, true, OnOk, OnErr, rules, arith}
 use Rattle.sqlite.specs.State.{HasCleanDisk, KeepsCommit, Survives}
 use Rattle.sqlite.specs.Held.{state}
 use Rattle.sqlite.proofs.Callers.{survives_begin}
@@ -51,7 +51,8 @@ returns-in_err-convert-clause-crash g c =
     let may : Trees → Type 0 = MayMigrate (state g.S.Store h) c.args.executed.now in
     let survives : Survives (state g.S.Store h) n may = survives_rolled g.S.Store h (state g.S.Store c.convert.new.tx.conn.now) n may
     (rw c.transaction-tx.ensures.begun at c.in_err-convert.ensures.survives) c.drop-tx.ensures.survives in
-    search (rules, survives)
+    let same : c.drop-tx.new.self.0 ≡ c.conn-1.given.0 = search rules in
+    subst (λ x. Survives (state g.S.Store h) (state g.S.Store x) may) same survives
 
 pub returns-clause-crash : goal.returns-clause-crash
 returns-clause-crash g c =
@@ -66,4 +67,5 @@ returns-clause-crash g c =
     may_stand g.S.Store h all content m n rest.settled
     (λ early. (rw c.transaction-tx.ensures.begun at c.in_ok-convert.ensures.kept) early content begun) (λ early. (rw c.transaction-tx.ensures.begun at c.in_ok-convert.ensures.made) early content begun is) c.commit.result c.commit.ensures.survives clean db same)
     (rw c.transaction-tx.ensures.begun at c.in_ok-convert.ensures.survives) c.commit.ensures.survives) in
-    search (rules, survives)
+    let same : c.commit.new.self.0 ≡ c.conn-2-1.given.0 = search rules in
+    subst (λ x. Survives (state g.S.Store h) (state g.S.Store x) may) same survives
