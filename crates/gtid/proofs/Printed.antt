@@ -24,6 +24,9 @@ use Rattle.gtid.proofs.Sets.{contains_listed}
 pub grows_none : (old : List ℕ) → GrowsByAscii old old
 grows_none old = record { more = []; grown = sym (append-nil old); ascii = IsAscii-nil }
 
+pub grows_same : (old new : List ℕ) → new ≡ old → GrowsByAscii old new
+grows_same old new is = record { more = []; grown = is ∙ sym (append-nil old); ascii = IsAscii-nil }
+
 pub grows_by : (old now more new : List ℕ) → GrowsByAscii old now → new ≡ now ++ more → IsAscii more → GrowsByAscii old new
 grows_by old now more new before is ascii = record {
   more = before.more ++ more;
@@ -46,6 +49,10 @@ hyphen_ascii = one_ascii 45 (omega arith)
 
 pub comma_ascii : IsAscii (44 ∷ [])
 comma_ascii = one_ascii 44 (omega arith)
+
+pub all_bytes : (bs : List ℕ) → ((i : ℕ) → get_or bs i 0 < 256) → AllByRecursion (λ b. b < 256) bs
+all_bytes [] fits = tt
+all_bytes (b ∷ bs) fits = (fits 0, all_bytes bs (λ i. fits (suc i)))
 
 -- What is printed, with what is left to print of the items, is all.
 pub record Prints {X Y : Type 0} (text : Y → List ℕ) (of : X → Y) (items : List X) (at : ℕ) (old out all : List ℕ) : Type 0 where

@@ -1,5 +1,7 @@
 -- Packings one after the other, and what is sent in their order.
-use Rattle.std.proofs.Common.{◌≡◌, ℕ, suc, ◌+◌, ◌-◌, ◌^◌, ◌<◌, ◌≤◌, ◌⊎◌, Bool, true, false, List, [], ◌∷◌, ◌++◌, length, get_or, drop, flat_map, refl, sym, ap, subst, ◌∙◌, append_assoc, append-nil, inl, inr, arith, MatchBool, Result, Ok, Err, IfOk, OnOk}
+use Rattle.std.proofs.Common.{◌≡◌, ℕ, suc, ◌+◌, ◌-◌, ◌^◌, ◌<◌, ◌≤◌, ◌⊎◌, Bool, true, false, List, [], ◌∷◌, ◌++◌, length, codes, get_or, drop, flat_map, refl, sym, ap, subst, ◌∙◌, append_assoc, append-nil, inl, inr, arith, MatchBool, Result, Ok, Err, IfOk, IfErr, OnOk}
+use Rattle.std.specs.Result.{IsErrAnd}
+use Rattle.std.proofs.lemmas.Result.{IfErr-weaker}
 use Rattle.std.proofs.Math.ListN.{drop_of_length-le}
 use Rattle.std.proofs.Math.Seq.{drop-cons}
 use Rattle.std.proofs.lemmas.Bool.{cases_lt, false≢true}
@@ -7,12 +9,12 @@ use Rattle.std.proofs.lemmas.List.{length-append, map-append}
 use Rattle.std.specs.List.{AllByRecursion}
 use Rattle.wire.specs.Packet.{IsPacking, largest_payload}
 use Rattle.wire.specs.Integer.{length_encoded}
-use Rattle.greet.specs.Message.{DumpValue}
+use Rattle.greet.specs.Message.{DumpValue, greeting_bytes, replica_capabilities, utf8mb3}
 use Rattle.gtid.specs.Identifier.{Ids}
 use Rattle.binlog.specs.Row.{bitmap_size}
 use Rattle.binlog.specs.Rows.{RowsValue, rows_code, presents_size}
 use Rattle.binlog.specs.RowsWritten.{rows_bytes}
-use Rattle.binlog.specs.Event.{format, gtid, begin, rows}
+use Rattle.binlog.specs.Event.{format, gtid, begin, table_map, rows}
 use Rattle.binlog.specs.Writing.{IsWritable, plain_rows, header_bytes, framed_bytes, rows_body, rows_head, count_bytes, presents_bytes}
 use Rattle.binlog.specs.declared.body.rows_event.RowsKind.{RowsKind}
 use Rattle.binlog.specs.declared.body.rows_event.RowsKind.TheVariants.{Write, Update, Delete}
@@ -24,7 +26,7 @@ use Rattle.scripted_source.specs.declared.script.Script.{Script}
 use Rattle.scripted_source.specs.declared.fault.ForgeFault.{ForgeFault}
 use Rattle.scripted_source.specs.declared.fault.ForgeFault.TheVariants.{Request, Unfit, TooLarge, Memory}
 use Rattle.scripted_source.specs.Script.{PartValue, ScriptValue, part_value, part_values, script_value, script_values, part_events, rows_of, end_event, script_events}
-use Rattle.scripted_source.specs.Source.{Payload, ArePackings, AppendsPackings, AppendsPayload, IsOpening, greeting_payload, ok_payload, payload_of, payloads_of, FitsPart, CanSendPart, CanSend, IsPartFault, IsPartsFault, IsScriptsFault, IsAnswer, IsAnswerFault, Asks, AsksFor, is_in, due, events_of, end_payloads, sent_payloads, is_once}
+use Rattle.scripted_source.specs.Source.{Payload, ArePackings, AppendsPackings, AppendsPayload, IsOpening, autocommit, greeting_payload, ok_payload, payload_of, payloads_of, FitsPart, CanSendPart, CanSend, IsPartFault, IsPartsFault, IsScriptsFault, IsAnswer, IsAnswerFault, Asks, AsksFor, is_in, due, events_of, end_payloads, sent_payloads, is_once}
 
 -- ---- Packings.
 
@@ -89,6 +91,46 @@ if_appends (Err e) id ps qs old mid new m a b = tt
 pub on_ok : {T E P : Type 0} (r : Result T E) → P → OnOk r P
 on_ok (Ok x) p = p
 on_ok (Err e) p = tt
+
+pub memory_failed : {T U : Type 0} (P : ForgeFault → Type 0) (r : Result T ForgeFault) (f : ForgeFault) → IsErrAnd r (λ y. y ≡ f) → ◌≡◌ {A = Result U ForgeFault} (Err f) (Err Memory) → IfErr r (λ y. P y ⊎ (y ≡ Memory))
+memory_failed P (Ok x) f h e = tt
+memory_failed P (Err y) f h e = inr (cc)
+
+-- ---- A rows event that was made.
+
+pub rows_are : (part : PartValue) (n : ℕ) (bytes : List ℕ) (r : RowsValue) → n ≡ length part.table.columns → bytes ≡ rows_bytes part.table.columns part.pairs → r ≡ plain_rows part.table.id part.kind n bytes → r ≡ rows_of part
+rows_are part n bytes r n_is bytes_are is = is ∙ (ap (λ k. plain_rows part.table.id part.kind k bytes) n_is ∙ ap (λ l. plain_rows part.table.id part.kind (length part.table.columns) l) bytes_are)
+
+pub record RowsSent (result : Result ℕ ForgeFault) (id : ℕ) (old new : List ℕ) (r : RowsValue) : Type 0 where
+  pub ok : IfOk result (λ next. AppendsPackings id (payloads_of (rows r ∷ [])) old new next)
+  pub short : OnOk result (length (payload_of (rows r)) ≤ largest_payload)
+  pub err : IfErr result (λ fault. ((fault ≡ TooLarge) × (largest_payload < length (payload_of (rows r)))) ⊎ (fault ≡ Memory))
+
+pub rows_sent : (result : Result ℕ ForgeFault) (id : ℕ) (old new : List ℕ) (r q : RowsValue) → r ≡ q → RowsSent result id old new r → RowsSent result id old new q
+rows_sent result id old new r q is s = subst (λ v. RowsSent result id old new v) is s
+
+-- ---- A part.
+
+not_short : (n m : ℕ) → m < n → n ≤ m → ⊥
+not_short n m large short = omega (arith, large, short)
+
+pub map_fault : (at : ℕ) (part : PartValue) (f : ForgeFault) → FitsPart part → ((f ≡ TooLarge) × (largest_payload < length (payload_of (table_map part.table)))) ⊎ (f ≡ Memory) → IsPartFault at part f ⊎ (f ≡ Memory)
+map_fault at part f fits (inl h) = inl (subst (λ x. IsPartFault at part x) (sym h.0) (fits, λ s. not_short (length (payload_of (table_map part.table))) largest_payload h.1 s.0))
+map_fault at part f fits (inr h) = inr h
+
+rows_fault : (at : ℕ) (part : PartValue) (f : ForgeFault) → FitsPart part → ((f ≡ TooLarge) × (largest_payload < length (payload_of (rows (rows_of part))))) ⊎ (f ≡ Memory) → IsPartFault at part f ⊎ (f ≡ Memory)
+rows_fault at part f fits (inl h) = inl (subst (λ x. IsPartFault at part x) (sym h.0) (fits, λ s. not_short (length (payload_of (rows (rows_of part)))) largest_payload h.1 s.1.0))
+rows_fault at part f fits (inr h) = inr h
+
+pub if_rows_fault : (r : Result ℕ ForgeFault) (at : ℕ) (part : PartValue) → FitsPart part → IfErr r (λ f. ((f ≡ TooLarge) × (largest_payload < length (payload_of (rows (rows_of part))))) ⊎ (f ≡ Memory))
+    → IfErr r (λ f. IsPartFault at part f ⊎ (f ≡ Memory))
+if_rows_fault r at part fits h =
+    IfErr-weaker r (λ f. ((f ≡ TooLarge) × (largest_payload < length (payload_of (rows (rows_of part))))) ⊎ (f ≡ Memory)) (λ f. IsPartFault at part f ⊎ (f ≡ Memory)) (λ f k. rows_fault at part f fits k) h
+
+pub can_send : {E : Type 0} (r : Result ℕ E) (part : PartValue) → FitsPart part → length (payload_of (table_map part.table)) ≤ largest_payload → OnOk r (IsWritable (rows (rows_of part)))
+    → OnOk r (length (payload_of (rows (rows_of part))) ≤ largest_payload) → OnOk r (CanSendPart part)
+can_send (Ok n) part fits short written shorter = record { fits = fits; events = (fits.map, (written, tt)); short = (short, (shorter, tt)) }
+can_send (Err e) part fits short written shorter = tt
 
 -- ---- The parts of a script.
 
@@ -162,6 +204,9 @@ pub record Going (executed : Ids) (id now : ℕ) (old out : List ℕ) (all : Lis
       → AppendsPackings id (payloads_of (flat_map script_events (due executed all))) old new last
   pub can : AllByRecursion CanSend (due executed left) → AllByRecursion CanSend (due executed all)
   pub fault : (f : ForgeFault) → IsScriptsFault executed at left f → IsScriptsFault executed 0 all f
+
+pub going_begins : (executed : Ids) (id : ℕ) (old : List ℕ) (all : List ScriptValue) → Going executed id id old old all 0 all
+going_begins executed id old all = record { sent = λ new last a. a; can = λ c. c; fault = λ f h. h }
 
 passed : (executed : Ids) (script : ScriptValue) (left : List ScriptValue) → is_in executed script ≡ true → due executed (script ∷ left) ≡ due executed left
 passed executed script left is = rw is refl
@@ -289,6 +334,12 @@ script_refused history request once executed TooLarge asks (inr h) = absurd (lar
 script_refused history request once executed Memory asks h = tt
 
 -- ---- The opening.
+
+pub greeting_made : (version scramble none new : List ℕ) → none ≡ [] → version ≡ codes "8.0.36"
+    → new ≡ none ++ greeting_bytes (record { version = version; thread = 8; scramble = scramble; capabilities = replica_capabilities; charset = utf8mb3; status = autocommit }) → new ≡ greeting_payload scramble
+greeting_made version scramble none new nothing is made =
+    made ∙ (ap (λ l. l ++ greeting_bytes (record { version = version; thread = 8; scramble = scramble; capabilities = replica_capabilities; charset = utf8mb3; status = autocommit })) nothing
+    ∙ ap (λ v. greeting_bytes (record { version = v; thread = 8; scramble = scramble; capabilities = replica_capabilities; charset = utf8mb3; status = autocommit })) is)
 
 pub opened : (scramble payload none a b d : List ℕ) → none ≡ [] → payload ≡ greeting_payload scramble → AppendsPayload 0 payload none a → AppendsPayload 2 ok_payload a b → AppendsPayload 1 ok_payload b d → IsOpening scramble d
 opened scramble payload none a b d nothing is x y z = record {
