@@ -1,13 +1,13 @@
 -- The set of a list of tables.
 use Rattle.std.proofs.Common.{◌≡◌, ℕ, suc, Bool, true, false, ◌&&◌, ◌||◌, ◌==◌, List, [], ◌∷◌, length, arith, refl, ap, sym, ◌∙◌}
 use Rattle.std.specs.Ordering.{nat_cmp, eq_by_cmp}
-use Rattle.std.specs.Cmp.{IsTotalOrder, then_total, on_total, tied_then}
+use Rattle.std.specs.Cmp.{IsTotalOrder, then_total, on_total, tied_then, both_ways}
 use Rattle.std.specs.Cmp.Lexicographic.{slice_cmp, nat_list_cmp_total}
 use Rattle.std.specs.FinSet as set
 use Rattle.std.specs.List.{list_any}
 use Rattle.std.specs.Str.{bytes_eq}
 use Rattle.std.proofs.lemmas.Map.Text.{is_eq-slice_cmp}
-use Rattle.std.proofs.lemmas.Bool.{false≢true, ne_eqb}
+use Rattle.std.proofs.lemmas.Bool.{false≢true, ne_eqb, and_from, false_from_ne_true}
 use Rattle.std.proofs.lemmas.Slice.Eq.{bytes_eq-Decides}
 use Rattle.gtid.proofs.Sets.{then_equal}
 use Rattle.binlog.specs.Filter.{Name, name_cmp, is_listed, admits}
@@ -20,20 +20,11 @@ name_cmp-same a b e =
     let both = then_equal (slice_cmp nat_cmp a.0 b.0) (slice_cmp nat_cmp a.1 b.1) e in
     λ i. (set.slice_cmp-IsAntisymmetric set.nat_cmp-IsAntisymmetric a.0 b.0 both.0 i, set.slice_cmp-IsAntisymmetric set.nat_cmp-IsAntisymmetric a.1 b.1 both.1 i)
 
-pub both_true : (a b : Bool) → a ≡ true → b ≡ true → (a && b) ≡ true
-both_true a b is also = (λ i. is i && b) ∙ also
-
 pub itself : (xs : List ℕ) → bytes_eq xs xs ≡ true
 itself xs = (bytes_eq-Decides xs xs).1 refl
 
-pub agree : (a b : Bool) → (a ≡ true → b ≡ true) → (b ≡ true → a ≡ true) → a ≡ b
-agree true true f g = refl
-agree true false f g = sym (f refl)
-agree false true f g = g refl
-agree false false f g = refl
-
 pub bytes_eq-sym : (xs ys : List ℕ) → bytes_eq xs ys ≡ bytes_eq ys xs
-bytes_eq-sym xs ys = agree _ _ (λ e. (bytes_eq-Decides ys xs).1 (sym ((bytes_eq-Decides xs ys).0 e))) (λ e. (bytes_eq-Decides xs ys).1 (sym ((bytes_eq-Decides ys xs).0 e)))
+bytes_eq-sym xs ys = both_ways _ _ (λ e. (bytes_eq-Decides ys xs).1 (sym ((bytes_eq-Decides xs ys).0 e))) (λ e. (bytes_eq-Decides xs ys).1 (sym ((bytes_eq-Decides ys xs).0 e)))
 
 -- whether two names are one
 tied : (a b : Name) → eq_by_cmp name_cmp a b ≡ (bytes_eq b.0 a.0 && bytes_eq b.1 a.1)
@@ -44,17 +35,13 @@ tied a b =
 pub listed : (names : List Name) (name : Name) → set.contains (set.from_list {R = name_cmp} names) name ≡ is_listed name names
 listed names name = set.contains-from_list name_cmp_total names name ∙ (λ i. list_any (λ n. tied name n i) names)
 
-pub none_of : (x : Bool) → (x ≡ true → ⊥) → x ≡ false
-none_of true not = absurd (not refl)
-none_of false not = refl
-
 -- the empty list is the empty set, and no other list is
 pub all_of_none : set.is_subset (set.from_list {R = name_cmp} []) set.empty ≡ true
 all_of_none = set.contains-is_subset name_cmp_total set.empty set.empty (λ q is. is)
 
 pub some_name : (name : Name) (names : List Name) → set.is_subset (set.from_list {R = name_cmp} (name ∷ names)) set.empty ≡ false
-some_name name names = none_of _ (λ all.
-    let there : set.contains (set.from_list {R = name_cmp} (name ∷ names)) name ≡ true = listed (name ∷ names) name ∙ ap (λ b. b || is_listed name names) (both_true _ _ (itself name.0) (itself name.1)) in
+some_name name names = false_from_ne_true _ (λ all.
+    let there : set.contains (set.from_list {R = name_cmp} (name ∷ names)) name ≡ true = listed (name ∷ names) name ∙ ap (λ b. b || is_listed name names) (and_from _ _ (itself name.0) (itself name.1)) in
     false≢true (sym (set.contains-empty name_cmp name) ∙ set.is_subset-contains name_cmp_total _ _ all name there))
 
 not_none : (n : ℕ) → (suc n == 0) ≡ false

@@ -1,6 +1,6 @@
 -- Bodies of events, by the whole event.
 use Rattle.std.proofs.Common.{◌≡◌, ℕ, suc, ◌+◌, ◌-◌, ◌<◌, ◌≤◌, ◌^◌, true, List, ◌∷◌, ◌++◌, length, get_or, take, drop, codes, None, refl, sym, ap, ◌∙◌, append_assoc, arith}
-use Rattle.std.proofs.lemmas.List.{length-append, length-drop, length-take, get_or-drop, take_at}
+use Rattle.std.proofs.lemmas.List.{length-append, length-drop, length-take, take_at}
 use Rattle.std.proofs.lemmas.Bool.{le-ltb}
 use Rattle.byteorder.specs.Endian.{little_bytes, little_number}
 use Rattle.byteorder.specs.Numbers.{little_number-reads_back, little_from-lt}
@@ -8,23 +8,20 @@ use Rattle.binlog.specs.Body.{IsGtid, IsQuery, text_place, statement, is_stateme
 use Rattle.binlog.specs.declared.body.query.Query.{Query}
 use Rattle.binlog.specs.declared.body.query.Query.TheVariants.{Begin, Commit}
 use Rattle.binlog.specs.Fault.{number_at}
-use Rattle.wire.proofs.Cuts.{IsBytes, number_at_front, drop_drop, cut, one, after, drop_at, right_7}
-
-from : (n : ℕ) (xs : List ℕ) → IsBytes xs → IsBytes (drop n xs)
-from n xs fits i = rw get_or-drop (fits (n + i))
+use Rattle.wire.proofs.Cuts.{IsBytes, IsBytes-drop, first_left, number_at_front, drop_drop, cut, one, after, drop_at, right_7}
 
 -- a number at 19, and what follows it
 pub long_number : (bytes : List ℕ) → IsBytes bytes → 27 ≤ length bytes → drop 19 bytes ≡ little_bytes 8 (little_number 8 (drop 19 bytes)) ++ drop 27 bytes
 long_number bytes fits long =
     let enough : 8 ≤ length (drop 19 bytes) = omega (arith, long, length-drop 19 bytes) in
-    number_at_front 8 (drop 19 bytes) enough (from 19 bytes fits) ∙ ap (λ t. little_bytes 8 (little_number 8 (drop 19 bytes)) ++ t) (drop_drop 19 8 bytes)
+    number_at_front 8 (drop 19 bytes) enough (IsBytes-drop 19 bytes fits) ∙ ap (λ t. little_bytes 8 (little_number 8 (drop 19 bytes)) ++ t) (drop_drop 19 8 bytes)
 
 -- ---- Identifiers.
 
 pub is_gtid : (bytes : List ℕ) → IsBytes bytes → 44 ≤ length bytes → 1 ≤ little_number 8 (drop 36 bytes) → little_number 8 (drop 36 bytes) ≤ 2 ^ 63 - 2 → IsGtid (take 16 (drop 20 bytes)) (little_number 8 (drop 36 bytes)) (drop 19 bytes)
 is_gtid bytes fits long low high =
     let enough : 8 ≤ length (drop 36 bytes) = omega (arith, long, length-drop 36 bytes) in
-    let c36 = number_at_front 8 (drop 36 bytes) enough (from 36 bytes fits) in
+    let c36 = number_at_front 8 (drop 36 bytes) enough (IsBytes-drop 36 bytes fits) in
     let c20 = cut 20 16 bytes ∙ ap (λ t. take 16 (drop 20 bytes) ++ t) c36 in
     record {
       flags = get_or bytes 19 0;
@@ -35,11 +32,11 @@ is_gtid bytes fits long low high =
       in_range = (low, high);
     }
 
-pub record GtidTold (source : List ℕ) (number : ℕ) (bytes : List ℕ) : Type 0 where
+pub record ReportedGtid (source : List ℕ) (number : ℕ) (bytes : List ℕ) : Type 0 where
   pub source_is : take 16 (drop 20 bytes) ≡ source
   pub number_is : little_number 8 (drop 36 bytes) ≡ number
 
-pub gtid_reported : (source : List ℕ) (number : ℕ) (bytes : List ℕ) → IsGtid source number (drop 19 bytes) → GtidTold source number bytes
+pub gtid_reported : (source : List ℕ) (number : ℕ) (bytes : List ℕ) → IsGtid source number (drop 19 bytes) → ReportedGtid source number bytes
 gtid_reported source number bytes is =
     let rest = little_bytes 8 number ++ is.ignored in
     let body : drop 19 bytes ≡ is.flags ∷ (source ++ rest) = is.body_is ∙ append_assoc (is.flags ∷ source) (little_bytes 8 number) is.ignored in
@@ -61,14 +58,14 @@ is_query bytes fits long =
     let text = drop (text_place bytes) bytes in
     let status_long : st ≡ length status = omega (arith, long, length-take st (drop 32 bytes), length-drop 32 bytes) in
     let schema_long : sc ≡ length schema = omega (arith, long, length-take sc (drop (32 + st) bytes), length-drop (32 + st) bytes) in
-    let small : st < 2 ^ 16 = little_from-lt 0 2 (drop 30 bytes) (from 30 bytes fits) in
+    let small : st < 2 ^ 16 = little_from-lt 0 2 (drop 30 bytes) (IsBytes-drop 30 bytes fits) in
     let ending : suc (32 + st + sc) ≡ text_place bytes = omega arith in
     let c4 : drop (32 + st + sc) bytes ≡ get_or bytes (32 + st + sc) 0 ∷ text = one (32 + st + sc) bytes (omega (arith, long)) ∙ ap (λ k. get_or bytes (32 + st + sc) 0 ∷ drop k bytes) ending in
     let c3 = cut (32 + st) sc bytes ∙ ap (λ t. schema ++ t) c4 in
     let c32 = cut 32 st bytes ∙ ap (λ t. status ++ t) c3 in
     let enough : 2 ≤ length (drop 30 bytes) = omega (arith, long, length-drop 30 bytes) in
     let c30 : drop 30 bytes ≡ little_bytes 2 (length status) ++ (status ++ (schema ++ (get_or bytes (32 + st + sc) 0 ∷ text))) =
-    number_at_front 2 (drop 30 bytes) enough (from 30 bytes fits) ∙ (λ i. little_bytes 2 (status_long i) ++ drop_drop 30 2 bytes i) ∙ ap (λ t. little_bytes 2 (length status) ++ t) c32 in
+    number_at_front 2 (drop 30 bytes) enough (IsBytes-drop 30 bytes fits) ∙ (λ i. little_bytes 2 (status_long i) ++ drop_drop 30 2 bytes i) ∙ ap (λ t. little_bytes 2 (length status) ++ t) c32 in
     let c28 = cut 28 2 bytes ∙ ap (λ t. take 2 (drop 28 bytes) ++ t) c30 in
     let c27 : drop 27 bytes ≡ length schema ∷ (take 2 (drop 28 bytes) ++ (little_bytes 2 (length status) ++ (status ++ (schema ++ (get_or bytes (32 + st + sc) 0 ∷ text))))) =
     one 27 bytes (omega (arith, long)) ∙ (λ i. schema_long i ∷ c28 i) in
@@ -92,14 +89,11 @@ is_query bytes fits long =
       );
     }
 
-pub record QueryTold (text bytes : List ℕ) : Type 0 where
+pub record ReportedQuery (text bytes : List ℕ) : Type 0 where
   pub long : text_place bytes ≤ length bytes
   pub text_is : drop (text_place bytes) bytes ≡ text
 
-pub first_left : (n b : ℕ) (xs rest : List ℕ) → drop n xs ≡ b ∷ rest → get_or xs n 0 ≡ b
-first_left n b xs rest is = let e : n ≡ n + 0 = omega arith in ap (λ k. get_or xs k 0) e ∙ sym (get_or-drop n xs 0 0) ∙ ap (λ l. get_or l 0 0) is
-
-pub query_reported : (text bytes : List ℕ) → IsQuery text (drop 19 bytes) → QueryTold text bytes
+pub query_reported : (text bytes : List ℕ) → IsQuery text (drop 19 bytes) → ReportedQuery text bytes
 query_reported text bytes is =
     let r5 = is.terminator ∷ text in
     let r4 = is.schema ++ r5 in

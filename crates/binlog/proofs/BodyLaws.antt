@@ -1,10 +1,10 @@
 -- Bodies other than table maps and rows have a value or a refusal, and one.
-use Rattle.std.proofs.Common.{◌≡◌, ℕ, ◌+◌, ◌-◌, ◌≤◌, ◌^◌, ◌==◌, ◌&&◌, ◌||◌, Bool, true, false, List, [], ◌∷◌, ◌++◌, length, get_or, take, drop, codes, Option, Some, None, refl, sym, ap, subst, ◌∙◌, arith, inl, inr}
-use Rattle.std.specs.Prelude.{nat_lt, nat_le, not, ◌⊎◌}
+use Rattle.std.proofs.Common.{◌≡◌, ℕ, ◌+◌, ◌-◌, ◌≤◌, ◌^◌, ◌==◌, ◌&&◌, true, List, [], ◌∷◌, ◌++◌, length, get_or, take, drop, codes, Option, Some, None, refl, sym, ap, subst, ◌∙◌, arith, inl, inr}
+use Rattle.std.specs.Prelude.{nat_lt, nat_le, not}
 use Rattle.std.specs.Str.{bytes_eq}
 use Rattle.std.proofs.Math.ListN.{drop_of_length-le}
 use Rattle.std.proofs.lemmas.List.{length-append, length-drop, get_or-drop, append-nil}
-use Rattle.std.proofs.lemmas.Bool.{le-ltb, le-leb, ltb-false, leb-true, eqb-true, and_parts}
+use Rattle.std.proofs.lemmas.Bool.{le-ltb, le-leb, ltb-false, leb-true, eqb-true, and_parts, or_cases, not-false}
 use Rattle.std.proofs.lemmas.Slice.Eq.{bytes_eq-Decides}
 use Rattle.byteorder.specs.Endian.{little_bytes, little_number}
 use Rattle.byteorder.specs.Numbers.{little_number-reads_back, little_from-lt}
@@ -25,10 +25,6 @@ both_pass : (front rest : List (Option EventFault)) → first_of (front ++ rest)
 both_pass [] rest none = (refl, none)
 both_pass (None ∷ front) rest none = both_pass front rest none
 both_pass (Some fault ∷ front) rest none = absurd cc
-
-holds : (test : Bool) → not test ≡ false → test ≡ true
-holds true is = refl
-holds false is = absurd cc
 
 -- ---- Format descriptions.
 
@@ -54,10 +50,10 @@ format_some bytes fits none =
     let last = passes (refuse (not (get_or bytes algorithm 0 == 0)) (Checksum (get_or bytes algorithm 0)) algorithm) [] ends.1 in
     is_format bytes fits
     (ltb-false _ _ (not_refused (nat_lt (length bytes) (81 + 35)) HeaderLengths 76 p9.0))
-    (eqb-true _ _ (holds _ (not_refused (not (number_at 2 bytes 19 == 4)) FormatVersion 19 p7.0)))
-    (eqb-true _ _ (holds _ (not_refused (not (get_or bytes 75 0 == 19)) HeaderLengths 75 p8.0)))
+    (eqb-true _ _ (not-false _ (not_refused (not (number_at 2 bytes 19 == 4)) FormatVersion 19 p7.0)))
+    (eqb-true _ _ (not-false _ (not_refused (not (get_or bytes 75 0 == 19)) HeaderLengths 75 p8.0)))
     (are_lengths bytes ends.0)
-    (eqb-true _ _ (holds _ (not_refused (not (get_or bytes algorithm 0 == 0)) (Checksum (get_or bytes algorithm 0)) algorithm last.0)))
+    (eqb-true _ _ (not-false _ (not_refused (not (get_or bytes algorithm 0 == 0)) (Checksum (get_or bytes algorithm 0)) algorithm last.0)))
 
 -- ---- Rotations.
 
@@ -123,14 +119,10 @@ gtid_some bytes fits none =
     let p2 = passes (needs bytes 20 16) _ p1.1 in
     let p3 = passes (needs bytes 36 8) _ p2.1 in
     let p4 = passes (refuse (not (nat_le 1 number && nat_le number (2 ^ 63 - 2))) Number 36) _ p3.1 in
-    let range = and_parts (nat_le 1 number) (nat_le number (2 ^ 63 - 2)) (holds _ (not_refused (not (nat_le 1 number && nat_le number (2 ^ 63 - 2))) Number 36 p4.0)) in
+    let range = and_parts (nat_le 1 number) (nat_le number (2 ^ 63 - 2)) (not-false _ (not_refused (not (nat_le 1 number && nat_le number (2 ^ 63 - 2))) Number 36 p4.0)) in
     is_gtid bytes fits (is_there bytes 36 8 p3.0) (leb-true _ _ range.0) (leb-true _ _ range.1)
 
 -- ---- Queries.
-
-either : (a b : Bool) → (a || b) ≡ true → (a ≡ true) ⊎ (b ≡ true)
-either true b is = inl refl
-either false b is = inr is
 
 -- a query of one of the statements
 pub record HasQuery (bytes : List ℕ) : Type 0 where
@@ -139,7 +131,7 @@ pub record HasQuery (bytes : List ℕ) : Type 0 where
 
 of_text : (text bytes : List ℕ) → IsQuery text (drop 19 bytes) → is_statement text ≡ true → HasQuery bytes
 of_text text bytes is one =
-    elim (either (bytes_eq text (codes "BEGIN")) (bytes_eq text (codes "COMMIT")) one) as (λ _. HasQuery bytes) [
+    elim (or_cases (bytes_eq text (codes "BEGIN")) (bytes_eq text (codes "COMMIT")) one) as (λ _. HasQuery bytes) [
       | inl begin ↦ record { query = Begin; is_query = subst (λ t. IsQuery t (drop 19 bytes)) ((bytes_eq-Decides text (codes "BEGIN")).0 begin) is }
       | inr commit ↦ record { query = Commit; is_query = subst (λ t. IsQuery t (drop 19 bytes)) ((bytes_eq-Decides text (codes "COMMIT")).0 commit) is }
     ]
@@ -159,4 +151,4 @@ query_some bytes fits none =
     let p8 = passes (needs bytes (32 + status_size + schema_size) 1) _ p7.1 in
     let p9 = passes (refuse (not (is_statement (drop (text_place bytes) bytes))) Statement (text_place bytes)) _ p8.1 in
     let text = drop (text_place bytes) bytes in
-    of_text text bytes (is_query bytes fits (is_there bytes (32 + status_size + schema_size) 1 p8.0)) (holds _ (not_refused (not (is_statement text)) Statement (text_place bytes) p9.0))
+    of_text text bytes (is_query bytes fits (is_there bytes (32 + status_size + schema_size) 1 p8.0)) (not-false _ (not_refused (not (is_statement text)) Statement (text_place bytes) p9.0))

@@ -9,8 +9,7 @@ use Rattle.binlog.specs.Body.{IsFormat, read_lengths, length_refusal, length_ref
 use Rattle.binlog.specs.declared.fault.EventFault.{EventFault}
 use Rattle.binlog.specs.declared.fault.EventFaultKind.TheVariants.{HeaderLengths, Checksum}
 use Rattle.binlog.proofs.Tables.{passes, not_refused}
-use Rattle.wire.proofs.Cuts.{IsBytes, number_at_front, drop_drop, cut, one, after, drop_front, right_5}
-use Rattle.binlog.proofs.Bodies.{first_left}
+use Rattle.wire.proofs.Cuts.{IsBytes, first_left, number_at_front, drop_drop, cut, one, after, drop_front, right_5}
 
 -- ---- Tables one after the other.
 
@@ -95,7 +94,7 @@ is_format bytes fits long version header are algorithm =
       rows = (among bytes size 29 10 (omega (arith, long)) are.write, among bytes size 30 10 (omega (arith, long)) are.update, among bytes size 31 10 (omega (arith, long)) are.delete);
     }
 
-pub record FormatTold (bytes : List ℕ) : Type 0 where
+pub record ReportedFormat (bytes : List ℕ) : Type 0 where
   pub long : 116 ≤ length bytes
   pub version : number_at 2 bytes 19 ≡ 4
   pub header : get_or bytes 75 0 ≡ 19
@@ -107,7 +106,7 @@ get_front [] b i short = absurd (omega (arith, short))
 get_front (x ∷ a) b zero short = refl
 get_front (x ∷ a) b (suc i) short = get_front a b i (omega (arith, short))
 
-pub format_reported : (bytes : List ℕ) → IsFormat (drop 19 bytes) → FormatTold bytes
+pub format_reported : (bytes : List ℕ) → IsFormat (drop 19 bytes) → ReportedFormat bytes
 format_reported bytes is =
     let r4 = 0 ∷ is.unread in
     let r3 = 19 ∷ (is.lengths ++ r4) in

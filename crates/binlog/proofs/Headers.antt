@@ -1,18 +1,15 @@
 -- The frame of an event and the refusals of its header.
-use Rattle.std.proofs.Common.{◌≡◌, ℕ, ◌+◌, ◌≤◌, Bool, not, ◌==◌, List, ◌∷◌, ◌++◌, length, get_or, take, drop, None, refl, sym, ap, ◌∙◌, append_assoc, arith}
+use Rattle.std.proofs.Common.{◌≡◌, ℕ, ◌≤◌, Bool, not, ◌==◌, List, ◌∷◌, ◌++◌, length, get_or, take, drop, None, refl, sym, ap, ◌∙◌, append_assoc, arith}
 use Rattle.std.specs.Prelude.{nat_le}
 use Rattle.std.proofs.lemmas.Bool.{le-ltb, eq-eqb, eqb-true, not-false}
-use Rattle.std.proofs.lemmas.List.{length-append, length-drop, length-take, get_or-drop}
+use Rattle.std.proofs.lemmas.List.{length-append, length-drop, length-take}
 use Rattle.byteorder.specs.Endian.{little_bytes, little_number}
 use Rattle.byteorder.specs.Numbers.{little_number-reads_back, little_from-lt}
 use Rattle.binlog.specs.Header.{IsFramed, header_fault}
 use Rattle.binlog.specs.Fault.{refuse, needs, number_at}
 use Rattle.binlog.specs.declared.fault.EventFaultKind.TheVariants.{Size}
 use Rattle.binlog.proofs.Tables.{passes, not_refused, is_there}
-use Rattle.wire.proofs.Cuts.{IsBytes, number_at_front, drop_drop, cut, one, after}
-
-from : (n : ℕ) (xs : List ℕ) → IsBytes xs → IsBytes (drop n xs)
-from n xs fits i = rw get_or-drop (fits (n + i))
+use Rattle.wire.proofs.Cuts.{IsBytes, IsBytes-drop, first_left, number_at_front, drop_drop, cut, one, after}
 
 right : (a b c d e : List ℕ) → a ++ b ++ c ++ d ++ e ≡ a ++ (b ++ (c ++ (d ++ e)))
 right a b c d e = simp append_assoc
@@ -24,7 +21,7 @@ is_framed bytes fits long size =
     let f9 : 4 ≤ length (drop 9 bytes) = omega (arith, long, length-drop 9 bytes) in
     let c17 : drop 17 bytes ≡ get_or bytes 17 0 ∷ get_or bytes 18 0 ∷ drop 19 bytes = one 17 bytes (omega (arith, long)) ∙ ap (λ t. get_or bytes 17 0 ∷ t) (one 18 bytes (omega (arith, long))) in
     let c13 = cut 13 4 bytes ∙ ap (λ t. take 4 (drop 13 bytes) ++ t) c17 in
-    let c9 = number_at_front 4 (drop 9 bytes) f9 (from 9 bytes fits) ∙ ap (λ t. little_bytes 4 (little_number 4 (drop 9 bytes)) ++ t) (drop_drop 9 4 bytes ∙ c13) in
+    let c9 = number_at_front 4 (drop 9 bytes) f9 (IsBytes-drop 9 bytes fits) ∙ ap (λ t. little_bytes 4 (little_number 4 (drop 9 bytes)) ++ t) (drop_drop 9 4 bytes ∙ c13) in
     let c5 = cut 5 4 bytes ∙ ap (λ t. take 4 (drop 5 bytes) ++ t) c9 in
     let c4 = one 4 bytes (omega (arith, long)) ∙ ap (λ t. get_or bytes 4 0 ∷ t) c5 in
     let c0 = cut 0 4 bytes ∙ ap (λ t. take 4 bytes ++ t) c4 in
@@ -37,7 +34,7 @@ is_framed bytes fits long size =
       bytes_are = c0 ∙ ap (λ n. take 4 bytes ++ get_or bytes 4 0 ∷ (take 4 (drop 5 bytes) ++ (little_bytes 4 n ++ (take 4 (drop 13 bytes) ++ get_or bytes 17 0 ∷ get_or bytes 18 0 ∷ drop 19 bytes)))) size
           ∙ sym (right (take 4 bytes) (get_or bytes 4 0 ∷ take 4 (drop 5 bytes)) (little_bytes 4 (length bytes)) (take 4 (drop 13 bytes)) (get_or bytes 17 0 ∷ get_or bytes 18 0 ∷ drop 19 bytes));
       sizes = (omega (arith, long, length-take 4 bytes), omega (arith, long, length-take 4 (drop 5 bytes), length-drop 5 bytes), omega (arith, long, length-take 4 (drop 13 bytes), length-drop 13 bytes));
-      a_size = let fits4 = little_from-lt 0 4 (drop 9 bytes) (from 9 bytes fits) in omega (arith, size, fits4);
+      a_size = let fits4 = little_from-lt 0 4 (drop 9 bytes) (IsBytes-drop 9 bytes fits) in omega (arith, size, fits4);
       marked = refl;
     }
 
@@ -48,10 +45,6 @@ pub record Reported (code : ℕ) (may_ignore : Bool) (body bytes : List ℕ) : T
   pub size_is : little_number 4 (drop 9 bytes) ≡ length bytes
   pub mark_is : may_ignore ≡ nat_le 128 (get_or bytes 17 0)
   pub body_is : body ≡ drop 19 bytes
-
--- the first byte of what is left
-first_left : (n b : ℕ) (xs rest : List ℕ) → drop n xs ≡ b ∷ rest → get_or xs n 0 ≡ b
-first_left n b xs rest is = let e : n ≡ n + 0 = omega arith in ap (λ k. get_or xs k 0) e ∙ sym (get_or-drop n xs 0 0) ∙ ap (λ l. get_or l 0 0) is
 
 pub reported : (code : ℕ) (may_ignore : Bool) (body bytes : List ℕ) → IsFramed code may_ignore body bytes → Reported code may_ignore body bytes
 reported code may_ignore body bytes is =

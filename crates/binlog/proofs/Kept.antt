@@ -1,5 +1,5 @@
 -- Vectors that keep what they begin with.
-use Rattle.std.proofs.Common.{◌≡◌, ℕ, ◌+◌, ◌≤◌, ◌<◌, List, [], ◌++◌, length, take, drop, Result, Ok, Err, OnErr, sym, ap, ◌∙◌, append_assoc, arith}
+use Rattle.std.proofs.Common.{◌≡◌, ℕ, ◌+◌, ◌≤◌, List, [], ◌++◌, length, take, drop, Result, Ok, Err, OnOk, OnErr, sym, ap, ◌∙◌, append_assoc, arith}
 use Rattle.std.proofs.Math.Seq.{take-append_seam}
 use Rattle.std.proofs.lemmas.List.{take-append-drop, take_all, append-nil, length-append}
 
@@ -56,10 +56,14 @@ six_parts old a b c d e f n1 n2 n3 n4 n5 n6 h1 h2 h3 h4 h5 h6 =
 
 -- ---- A part that could not be written, after others that were.
 
--- an answer of a call that failed
-pub failed : {T E P : Type 0} (r : Result T E) → P → OnErr r P
-failed (Ok x) p = tt
-failed (Err e) p = p
+-- a clause of success, or of failure, that holds of any answer
+pub on_ok : {T E P : Type 0} (r : Result T E) → P → OnOk r P
+on_ok (Ok x) p = p
+on_ok (Err e) p = tt
+
+pub on_err : {T E P : Type 0} (r : Result T E) → P → OnErr r P
+on_err (Ok x) p = tt
+on_err (Err e) p = p
 
 -- all that was there stays where nothing was written
 pub unmoved : (old new : List ℕ) → new ≡ old → take (length old) new ≡ old

@@ -1,17 +1,18 @@
 -- A name among names that ascend.
-use Rattle.std.proofs.Common.{◌≡◌, ℕ, zero, suc, ◌<◌, ◌≤◌, inl, inr, true, List, [], ◌∷◌, length, slice_index_or, refl, ap, sym, subst, ◌∙◌, Result, Ok, Err, is_ok, arith}
+use Rattle.std.proofs.Common.{◌≡◌, ℕ, zero, suc, ◌<◌, inl, inr, true, List, [], ◌∷◌, length, slice_index_or, refl, ap, sym, subst, ◌∙◌, Result, Ok, Err, is_ok, arith}
 use Rattle.std.specs.declared.cmp.Ordering.{Ordering}
 use Rattle.std.specs.declared.cmp.Ordering.TheVariants.{Less, Equal, Greater}
 use Rattle.std.specs.Ordering.{ordering_index, ordering_reverse}
 use Rattle.std.specs.List.{AllByRecursion}
 use Rattle.std.specs.List.Sorted.{IsNonDecreasingBy, IsStrictlySortedBy, IsBinarySearchResult, IsSearchInRange}
-use Rattle.std.proofs.lemmas.Bool.{cases_lt}
+use Rattle.std.proofs.lemmas.Bool.{cases_lt, and_from, and_parts, false_from_ne_true}
 use Rattle.std.proofs.lemmas.List.Folds.{list_any_at, Any-from_list_any}
 use Rattle.std.proofs.lemmas.Slice.Eq.{bytes_eq-Decides}
+use Rattle.gtid.proofs.Placed.{rank}
 use Rattle.binlog.specs.Filter.{Name, name_cmp, is_listed}
 use Rattle.binlog.specs.FilterView.{names_of}
-use Rattle.binlog.proofs.Admitted.{name_cmp_total, name_cmp-same, both_true, itself, none_of}
-use Rattle.binlog.proofs.NamesOnce.{Kept, name_of, is_named, named, both_parts}
+use Rattle.binlog.proofs.Admitted.{name_cmp_total, name_cmp-same, itself}
+use Rattle.binlog.proofs.NamesOnce.{Kept, name_of, is_named, named}
 
 -- how a name compares
 abbrev pub compares : {A : Type 0} → Name → Kept A → Ordering
@@ -26,32 +27,22 @@ below_at n [] j d below short = absurd (omega (arith, short))
 below_at n (a ∷ names) zero d below short = below.0
 below_at n (a ∷ names) (suc j) d below short = below_at n names j d below.1 (omega (arith, short))
 
-rank : (a b q : Name) (o : Ordering) → o ≡ name_cmp b q → name_cmp a b ≡ Less → ordering_index (name_cmp a q) ≤ ordering_index o
-rank a b q Less is less = subst (λ o. ordering_index o ≤ 0) (sym (name_cmp_total.trans a b q less (sym is))) (omega arith)
-rank a b q Equal is less = subst (λ o. ordering_index o ≤ 1) (sym (ap (λ t. name_cmp a t) (sym (name_cmp-same b q (sym is))) ∙ less)) (omega arith)
-rank a b q Greater is less = most (name_cmp a q)
-  where
-    most : (o : Ordering) → ordering_index o ≤ 2
-    most Less = omega arith
-    most Equal = omega arith
-    most Greater = omega arith
-
 rises : {A : Type 0} (q : Name) (names : List (Kept A)) → IsStrictlySortedBy name_cmp (names_of names) → IsNonDecreasingBy (λ a. ordering_index (compares q a)) names
 rises q [] up i j d le short = absurd (omega (arith, short))
 rises q (a ∷ names) up zero zero d le short = omega arith
 rises q (a ∷ names) up zero (suc j) d le short =
     let b = slice_index_or names j d in
-    rank (name_of a) (name_of b) q (compares q b) refl (below_at (name_of a) names j d (first_below (name_of a) (names_of names) up).0 (omega (arith, short)))
+    rank name_cmp_total name_cmp-same (name_of a) (name_of b) q (compares q b) refl (below_at (name_of a) names j d (first_below (name_of a) (names_of names) up).0 (omega (arith, short)))
 rises q (a ∷ names) up (suc i) zero d le short = absurd (omega (arith, le))
 rises q (a ∷ names) up (suc i) (suc j) d le short = rises q names (first_below (name_of a) (names_of names) up).1 i j d (omega (arith, le)) (omega (arith, short))
 
 -- a name that compares equal is the name, and the other way round
 equal_named : {A : Type 0} (q : Name) (a : Kept A) → compares q a ≡ Equal → is_named q a ≡ true
-equal_named q a is = let same = name_cmp-same (name_of a) q is in subst (λ n. is_named n a ≡ true) same (both_true _ _ (itself a.0.items) (itself a.1.items))
+equal_named q a is = let same = name_cmp-same (name_of a) q is in subst (λ n. is_named n a ≡ true) same (and_from _ _ (itself a.0.items) (itself a.1.items))
 
 named_same : {A : Type 0} (q : Name) (a : Kept A) → is_named q a ≡ true → name_of a ≡ q
 named_same q a is =
-    let parts = both_parts _ _ is in
+    let parts = and_parts _ _ is in
     λ i. ((bytes_eq-Decides a.0.items q.0).0 parts.0 i, (bytes_eq-Decides a.1.items q.1).0 parts.1 i)
 
 own_reverse : (o : Ordering) → o ≡ ordering_reverse o → o ≡ Equal
@@ -72,7 +63,7 @@ differ_above a b = Prim.cc
 pub searched : {A : Type 0} (q : Name) (names : List (Kept A)) (r : Result ℕ ℕ) → IsStrictlySortedBy name_cmp (names_of names) → IsSearchInRange r (length names) → IsBinarySearchResult (compares q) names r → is_ok r ≡ is_listed q (names_of names)
 searched q [] (Ok at) up bound position = absurd (omega (arith, bound))
 searched q (a ∷ names) (Ok at) up bound position = sym (named q (a ∷ names) ∙ list_any_at (is_named q) (a ∷ names) at a bound (equal_named q (slice_index_or (a ∷ names) at a) (position a)))
-searched q names (Err at) up bound position = sym (named q names ∙ none_of _ (λ yes.
+searched q names (Err at) up bound position = sym (named q names ∙ false_from_ne_true _ (λ yes.
     let there = Any-from_list_any (is_named q) names yes in
     let p = position (rises q names up) in
     let k = there.0 in

@@ -1,5 +1,6 @@
 -- The names of a list, each once and in order.
 use Rattle.std.proofs.Common.{◌≡◌, ℕ, Bool, true, false, ◌&&◌, ◌||◌, cond, List, [], ◌∷◌, refl, ap, sym, ◌∙◌, Vec}
+use Rattle.std.proofs.lemmas.Bool.{and_parts}
 use Rattle.std.specs.declared.cmp.Ordering.{Ordering}
 use Rattle.std.specs.declared.cmp.Ordering.TheVariants.{Less}
 use Rattle.std.specs.Ordering.{nat_cmp, eq_by_cmp}
@@ -49,17 +50,12 @@ any_dedup p same a (b ∷ names) = by (kept_eq b a) refl (any_dedup p same a nam
     by true is gone kept = gone ∙ twice (p a) (list_any p names) ∙ ap (λ c. p a || (c || list_any p names)) (sym (same b a is))
     by false is gone kept = ap (λ c. p a || c) kept
 
-pub both_parts : (a b : Bool) → (a && b) ≡ true → (a ≡ true) × (b ≡ true)
-both_parts true true is = (refl, refl)
-both_parts true false is = absurd (Prim.cc)
-both_parts false b is = absurd (Prim.cc)
-
 abbrev pub is_named : {A : Type 0} → Name → Kept A → Bool
 is_named q a = bytes_eq a.0.items q.0 && bytes_eq a.1.items q.1
 
 same_named : {A : Type 0} (q : Name) (a b : Kept A) → kept_eq a b ≡ true → is_named q a ≡ is_named q b
 same_named q a b is =
-    let parts = both_parts _ _ is in
+    let parts = and_parts _ _ is in
     λ i. bytes_eq ((bytes_eq-Decides a.0.items b.0.items).0 parts.0 i) q.0 && bytes_eq ((bytes_eq-Decides a.1.items b.1.items).0 parts.1 i) q.1
 
 pub named : {A : Type 0} (q : Name) (names : List (Kept A)) → is_listed q (names_of names) ≡ list_any (is_named q) names

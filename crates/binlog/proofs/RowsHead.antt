@@ -207,11 +207,11 @@ is_rows kind bytes fits are =
       bytes_place = omega (arith, count_long, present_long);
     }
 
-pub record RowsTold (r : RowsValue) (bytes : List ℕ) : Type 0 where
+pub record ReportedRows (r : RowsValue) (bytes : List ℕ) : Type 0 where
   pub are : AreParts r.kind bytes
   pub is : stated r.kind bytes ≡ r
 
-pub rows_reported : (r : RowsValue) (bytes : List ℕ) → IsRows r (drop 19 bytes) → RowsTold r bytes
+pub rows_reported : (r : RowsValue) (bytes : List ℕ) → IsRows r (drop 19 bytes) → ReportedRows r bytes
 rows_reported r bytes is =
     let r5 = is.present ++ r.bytes in
     let r4 = is.count ++ r5 in

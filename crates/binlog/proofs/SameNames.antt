@@ -1,24 +1,17 @@
 -- Lists of one set.
-use Rattle.std.proofs.Common.{◌≡◌, ◌⊎◌, inl, inr, ℕ, Vec, zero, suc, ◌+◌, ◌<◌, Bool, true, false, ◌||◌, List, [], ◌∷◌, length, take, slice_index_or, arith, refl, ap, sym, subst, ◌∙◌}
+use Rattle.std.proofs.Common.{◌≡◌, inl, inr, ℕ, Vec, zero, suc, ◌+◌, ◌<◌, true, ◌||◌, List, [], ◌∷◌, length, take, slice_index_or, arith, ap, sym, subst, ◌∙◌}
 use Rattle.std.specs.FinSet as set
-use Rattle.std.proofs.lemmas.Bool.{false≢true, and_parts}
+use Rattle.std.specs.Cmp.{both_ways}
+use Rattle.std.proofs.lemmas.Bool.{false≢true, and_parts, and_from, or_cases, or_right}
 use Rattle.std.proofs.lemmas.Slice.Eq.{bytes_eq-Decides}
 use Rattle.binlog.specs.Filter.{Name, name_cmp, is_listed, AreAmong}
 use Rattle.binlog.specs.FilterView.{names_of}
-use Rattle.binlog.proofs.Admitted.{name_cmp_total, name_cmp-same, listed, agree, both_true, itself}
-
-either : (a b : Bool) → (a || b) ≡ true → (a ≡ true) ⊎ (b ≡ true)
-either true b h = inl refl
-either false b h = inr h
-
-second : (a b : Bool) → b ≡ true → (a || b) ≡ true
-second true b h = refl
-second false b h = h
+use Rattle.binlog.proofs.Admitted.{name_cmp_total, name_cmp-same, listed, itself}
 
 -- what is listed among the names is listed there
 found : (names of : List Name) → AreAmong names of → (q : Name) → is_listed q names ≡ true → is_listed q of ≡ true
 found [] of all q h = absurd (false≢true h)
-found (n ∷ names) of all q h = elim (either _ (is_listed q names) h) [
+found (n ∷ names) of all q h = elim (or_cases _ (is_listed q names) h) [
   | inl this ↦ let parts = and_parts _ _ this in
       let same : n ≡ q = λ i. ((bytes_eq-Decides n.0 q.0).0 parts.0 i, (bytes_eq-Decides n.1 q.1).0 parts.1 i) in subst (λ x. is_listed x of ≡ true) same all.0
   | inr more ↦ found names of all.1 q more
@@ -26,10 +19,10 @@ found (n ∷ names) of all q h = elim (either _ (is_listed q names) h) [
 
 among : (names of : List Name) → ((q : Name) → is_listed q names ≡ true → is_listed q of ≡ true) → AreAmong names of
 among [] of h = tt
-among (n ∷ names) of h = (h n (ap (λ b. b || is_listed n names) (both_true _ _ (itself n.0) (itself n.1))), among names of (λ q l. h q (second _ _ l)))
+among (n ∷ names) of h = (h n (ap (λ b. b || is_listed n names) (and_from _ _ (itself n.0) (itself n.1))), among names of (λ q l. h q (or_right _ _ l)))
 
 pub one_set : (a b : List Name) → AreAmong a b → AreAmong b a → set.from_list {R = name_cmp} a ≡ set.from_list b
-one_set a b there back = set.same_set name_cmp_total name_cmp-same (set.from_list a) (set.from_list b) (λ q. listed a q ∙ agree _ _ (found a b there q) (found b a back q) ∙ sym (listed b q))
+one_set a b there back = set.same_set name_cmp_total name_cmp-same (set.from_list a) (set.from_list b) (λ q. listed a q ∙ both_ways _ _ (found a b there q) (found b a back q) ∙ sym (listed b q))
 
 pub of_one_set : (a b : List Name) → set.from_list {R = name_cmp} a ≡ set.from_list b → AreAmong a b
 of_one_set a b same = among a b (λ q l. sym (listed b q) ∙ ap (λ s. set.contains s q) (sym same) ∙ listed a q ∙ l)

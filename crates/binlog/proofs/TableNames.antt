@@ -8,8 +8,7 @@ use Rattle.binlog.specs.Fault.{needs, number_at}
 use Rattle.binlog.specs.Table.{IsNamed, table_place, terminator_place, schema_of, table_of, names_fault}
 use Rattle.binlog.specs.Columns.{HasNames}
 use Rattle.binlog.proofs.Tables.{passes, is_there}
-use Rattle.wire.proofs.Cuts.{IsBytes, number_at_front, drop_drop, cut, one, after, drop_front, right_5}
-use Rattle.binlog.proofs.Bodies.{first_left}
+use Rattle.wire.proofs.Cuts.{IsBytes, first_left, number_at_front, drop_drop, cut, one, after, drop_front, right_5}
 
 -- a byte at an offset, and what follows it
 pub one_at : (n m : ℕ) (xs : List ℕ) → m ≡ suc n → n < length xs → drop n xs ≡ get_or xs n 0 ∷ drop m xs
@@ -56,14 +55,14 @@ is_named bytes fits long =
 
 -- ---- Names are determined by their bytes,
 
-pub record NamesTold (id : ℕ) (schema table rest bytes : List ℕ) : Type 0 where
+pub record ReportedNames (id : ℕ) (schema table rest bytes : List ℕ) : Type 0 where
   pub long : terminator_place bytes + 1 ≤ length bytes
   pub id_is : number_at 6 bytes 19 ≡ id
   pub schema_is : schema_of bytes ≡ schema
   pub table_is : table_of bytes ≡ table
   pub rest_is : drop (terminator_place bytes + 1) bytes ≡ rest
 
-pub names_reported : (id : ℕ) (schema table rest bytes : List ℕ) → IsNamed id schema table rest (drop 19 bytes) → NamesTold id schema table rest bytes
+pub names_reported : (id : ℕ) (schema table rest bytes : List ℕ) → IsNamed id schema table rest (drop 19 bytes) → ReportedNames id schema table rest bytes
 names_reported id schema table rest bytes is =
     let r_end = is.second_terminator ∷ rest in
     let r_table = table ++ r_end in

@@ -1,7 +1,6 @@
 -- The columns of table maps: from the bytes to the types and back.
-use Rattle.std.proofs.Common.{◌≡◌, ℕ, suc, ◌+◌, ◌-◌, ◌≤◌, ◌==◌, not, List, [], ◌∷◌, ◌++◌, length, get_or, take, drop, map, Option, Some, None, IsTrue, refl, sym, ap, subst, ◌∙◌, append_assoc, arith}
+use Rattle.std.proofs.Common.{◌≡◌, ℕ, suc, ◌+◌, ◌-◌, ◌≤◌, ◌==◌, not, List, [], ◌∷◌, ◌++◌, length, get_or, take, drop, map, Option, Some, None, refl, sym, ap, subst, ◌∙◌, append_assoc, arith}
 use Rattle.std.specs.Prelude.{flat_map, sum_by, nat_le}
-use Rattle.std.specs.List.{AllByRecursion}
 use Rattle.std.proofs.Math.Seq.{take-add}
 use Rattle.std.proofs.lemmas.Bool.{not-false, and_parts, leb-true, eqb-true}
 use Rattle.std.proofs.lemmas.List.{length-append, length-drop, length-take, length-map, get_or-drop, take_at, take-append-drop, append-nil, map-append}
@@ -10,7 +9,7 @@ use Rattle.wire.specs.Integer.{IsLengthEncoded}
 use Rattle.binlog.specs.Fault.{refuse, needs}
 use Rattle.binlog.specs.Count.{count_width, count_at, no_count}
 use Rattle.binlog.specs.Row.{bitmap_size, kinds}
-use Rattle.binlog.specs.Column.{type_code, metadata, is_lawful, IsColumn, metadata_fault, column_fault}
+use Rattle.binlog.specs.Column.{type_code, metadata, IsColumn, metadata_fault, column_fault}
 use Rattle.binlog.specs.Table.{AreColumns, is_column_count, types_fault, metadata_length, at_place, all_metadata_fault, codes_at, measure_place, metadata_place, columns_fault}
 use Rattle.binlog.specs.Columns.{columns_of, columns_at, HasColumns}
 use Rattle.binlog.specs.declared.column.kind.ColumnKind.{ColumnKind}
@@ -22,10 +21,8 @@ use Rattle.binlog.proofs.Tables.{passes, not_refused, is_there}
 use Rattle.wire.proofs.Cuts.{IsBytes, drop_drop, drop_front, drop_at, cut, right_6}
 use Rattle.binlog.proofs.Columns.{lawful_size, no_fault, some_column}
 use Rattle.binlog.proofs.Counts.{counted, count_not_refused, some_bytes, is_counted}
+use Rattle.binlog.proofs.LawfulColumns.{AllLawful}
 use Rattle.binlog.proofs.TableColumns.{metadata_long, after_metadata, before_metadata, column_first, only_line, type_passes_at, first_sized, others_read, length_is, fault_there, column_passes_at, Opened, Counts, Measured, no_line}
-
-abbrev AllLawful : List ColumnKind → Type 0
-AllLawful columns = AllByRecursion (λ kind. IsTrue (is_lawful kind)) columns
 
 -- ---- Bytes without a fault are those of types in range.
 
@@ -166,11 +163,11 @@ all_sound (kind ∷ kinds) bytes place more lawful within stands =
     column_passes_at bytes code place (map type_code kinds) sound
     ∙ all_sound kinds bytes (place + metadata_length code) more lawful.1 (omega (arith, long, size)) (sym (drop_drop place (metadata_length code) bytes) ∙ after_metadata kind code rest (drop place bytes) is)
 
-pub record ColumnsTold (kinds : List ColumnKind) (bytes : List ℕ) (at : ℕ) : Type 0 where
+pub record ReportedColumns (kinds : List ColumnKind) (bytes : List ℕ) (at : ℕ) : Type 0 where
   pub fault : columns_fault bytes at ≡ None
   pub columns : columns_at bytes at ≡ kinds
 
-pub columns_reported : (kinds : List ColumnKind) (bytes : List ℕ) (at : ℕ) → AreColumns kinds (drop at bytes) → ColumnsTold kinds bytes at
+pub columns_reported : (kinds : List ColumnKind) (bytes : List ℕ) (at : ℕ) → AreColumns kinds (drop at bytes) → ReportedColumns kinds bytes at
 columns_reported kinds bytes at is =
     let n = length kinds in
     let codes = map type_code kinds in

@@ -1,5 +1,6 @@
 -- A lawful list of events that grows by one.
-use Rattle.std.proofs.Common.{◌≡◌, Bool, true, false, not, ◌||◌, List, [], ◌∷◌, ◌++◌, append-nil, append_assoc, filter, flat_map, fold, refl, ap, sym, ◌∙◌, ⊎_elim}
+use Rattle.std.proofs.Common.{◌≡◌, true, false, not, ◌||◌, List, [], ◌∷◌, ◌++◌, append-nil, append_assoc, filter, flat_map, fold, refl, ap, sym, ◌∙◌, ⊎_elim}
+use Rattle.std.proofs.Math.Bool.{or-false}
 use Rattle.std.proofs.lemmas.List.Folds.{list_any-append}
 use Rattle.std.proofs.lemmas.List.Elements.{filter-append}
 use Rattle.std.proofs.lemmas.List.Sums.{fold-append}
@@ -27,16 +28,8 @@ counts_more events e counts =
 pub last_more : (events : List EventValue) (e : EventValue) → last_block (events ++ e ∷ []) ≡ add_event (last_block events) e
 last_more events e = fold-append add_event [] events (e ∷ [])
 
-or_false : (b : Bool) → (b || false) ≡ b
-or_false true = refl
-or_false false = refl
-
-or_true : (b : Bool) → (b || true) ≡ true
-or_true true = refl
-or_true false = refl
-
 pub format_more : (events : List EventValue) (e : EventValue) → has_format (events ++ e ∷ []) ≡ (has_format events || is_format e)
-format_more events e = list_any-append is_format events (e ∷ []) ∙ ap (λ b. has_format events || b) (or_false (is_format e))
+format_more events e = list_any-append is_format events (e ∷ []) ∙ ap (λ b. has_format events || b) (or-false (is_format e))
 
 -- an event that is not a GTID keeps format descriptions first
 pub first_more : (events : List EventValue) (e : EventValue) → is_gtid e ≡ false → is_format_first events ≡ true → is_format_first (events ++ e ∷ []) ≡ true

@@ -18,9 +18,6 @@ AllHave cells = AllByRecursion HasCellImage cells
 pub number_size : (n width : ℕ) → 2 + width ≡ length (cell_image (number_cell n width))
 number_size n width = omega (arith, length-bytes_low_first 0 width n)
 
-pub bytes_size : (value : List ℕ) → 5 + length value ≡ length (cell_image (bytes_cell value))
-bytes_size value = omega (arith, length-bytes_low_first 0 4 (length value), length-append (little_bytes 4 (length value)) value)
-
 -- ---- Cells of an iterator.
 
 pub first_has : (cells rest : List CellValue) (cell : CellValue) → AllHave cells → cells ≡ cell ∷ rest → HasCellImage cell × AllHave rest

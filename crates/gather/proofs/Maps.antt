@@ -1,5 +1,5 @@
 -- Table maps and changes of a block that grows by one event.
-use Rattle.std.proofs.Common.{◌≡◌, ℕ, false, List, [], ◌∷◌, ◌++◌, append-nil, append_assoc, map, Option, Some, None, Result, Ok, Err, OnOk, refl, ap, sym, ◌∙◌, subst, ⊎_elim}
+use Rattle.std.proofs.Common.{◌≡◌, ℕ, false, List, [], ◌∷◌, ◌++◌, append-nil, append_assoc, map, Option, Some, None, refl, ap, sym, ◌∙◌, subst, ⊎_elim}
 use Rattle.std.specs.Option.{option_or, option_map}
 use Rattle.std.specs.Ordering.{nat_cmp, is_eq}
 use Rattle.std.specs.Cmp.{nat_cmp_is}
@@ -126,7 +126,3 @@ adds_rows body current r kept new keeps is adds =
 
 pub maps_stay : (body : List EventValue) (current : OpenTransaction) (r : RowsValue) → Keeps body current → (q : ℕ) → option_map (said q) (get nat_cmp current.maps q) ≡ map_of (body ++ rows r ∷ []) q
 maps_stay body current r keeps = rows_say_nothing current.maps body r keeps.maps
-
-pub on_ok : {T E P Q : Type 0} (r : Result T E) → (P → Q) → OnOk r P → OnOk r Q
-on_ok (Ok x) f p = f p
-on_ok (Err e) f p = p

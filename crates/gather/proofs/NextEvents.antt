@@ -1,5 +1,6 @@
 -- The next event of a lawful list that was read: it is lawful or has a fault.
-use Rattle.std.proofs.Common.{◌≡◌, ◌⊎◌, ℕ, ◌+◌, ◌<◌, Bool, true, false, ◌||◌, List, [], ◌∷◌, ◌++◌, length, map, fold, Option, Some, None, refl, ap, sym, ◌∙◌, subst, ⊎_elim, inl, inr, true≢false}
+use Rattle.std.proofs.Common.{◌≡◌, ◌⊎◌, ℕ, ◌+◌, ◌<◌, true, false, ◌||◌, List, [], ◌∷◌, ◌++◌, length, map, fold, Option, Some, None, refl, ap, sym, ◌∙◌, subst, ⊎_elim, inl, inr, true≢false}
+use Rattle.std.proofs.Math.Bool.{or-false, or-true}
 use Rattle.std.specs.List.{AllByRecursion, list_any}
 use Rattle.std.proofs.lemmas.List.Folds.{list_any-append}
 use Rattle.std.proofs.lemmas.Bool.{cases_Bool, cases_eq}
@@ -189,16 +190,8 @@ gtid_after ((other_map id) ∷ events) has first = gtid_after events has first
 gtid_after ((rows r) ∷ events) has first = gtid_after events has first
 gtid_after ((xid number) ∷ events) has first = gtid_after events has first
 
-or_true : (b : Bool) → (b || true) ≡ true
-or_true true = refl
-or_true false = refl
-
-or_false : (b : Bool) → (b || false) ≡ b
-or_false true = refl
-or_false false = refl
-
 pushed : (block : List EventValue) (e : EventValue) → is_gtid e ≡ false → list_any is_gtid (block ++ e ∷ []) ≡ list_any is_gtid block
-pushed block e other = list_any-append is_gtid block (e ∷ []) ∙ ap (λ b. list_any is_gtid block || (b || false)) other ∙ or_false (list_any is_gtid block)
+pushed block e other = list_any-append is_gtid block (e ∷ []) ∙ ap (λ b. list_any is_gtid block || (b || false)) other ∙ or-false (list_any is_gtid block)
 
 -- a GTID of the last block is one of the events
 gtid_within : (block events : List EventValue) → list_any is_gtid (fold add_event block events) ≡ true → (list_any is_gtid block ≡ true) ⊎ (list_any is_gtid events ≡ true)
@@ -227,8 +220,8 @@ no_format_gtid _ is = refl
 
 after_gtid : (events : List EventValue) (e : EventValue) → is_gtid e ≡ true → is_format_first (events ++ e ∷ []) ≡ true → has_format events ≡ true
 after_gtid events e is first =
-    let has : list_any is_gtid (events ++ e ∷ []) ≡ true = list_any-append is_gtid events (e ∷ []) ∙ ap (λ b. list_any is_gtid events || (b || false)) is ∙ or_true (list_any is_gtid events) in
-    sym (format_more events e ∙ ap (λ b. has_format events || b) (no_format_gtid e is) ∙ or_false (has_format events)) ∙ gtid_after (events ++ e ∷ []) has first
+    let has : list_any is_gtid (events ++ e ∷ []) ≡ true = list_any-append is_gtid events (e ∷ []) ∙ ap (λ b. list_any is_gtid events || (b || false)) is ∙ or-true (list_any is_gtid events) in
+    sym (format_more events e ∙ ap (λ b. has_format events || b) (no_format_gtid e is) ∙ or-false (has_format events)) ∙ gtid_after (events ++ e ∷ []) has first
 
 not_neutral : (e : EventValue) → is_neutral e ≡ true → is_of_transaction e ≡ false
 not_neutral neutral is = refl

@@ -11,10 +11,8 @@ use Rattle.binlog.specs.Shape.{prefix_of, shape, IsValue}
 use Rattle.binlog.specs.Row.{AreValues, IsRow}
 use Rattle.binlog.specs.declared.column.kind.ColumnKind.{ColumnKind}
 use Rattle.binlog.specs.declared.column.kind.ColumnKind.TheVariants.{Tiny, Short, Int24, Long, LongLong, Varchar, Blob, Bit, NewDecimal, Float, Double, Date, Year, Timestamp2, Datetime2, Time2, Char, Enum, Set}
+use Rattle.binlog.proofs.LawfulColumns.{AllLawful}
 use Rattle.gather.specs.Image.{HasCellImage, HasImage}
-
-abbrev AllLawful : List ColumnKind → Type 0
-AllLawful types = AllByRecursion (λ kind. IsTrue (is_lawful kind)) types
 
 -- ---- One value.
 

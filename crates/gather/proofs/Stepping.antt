@@ -1,5 +1,6 @@
 -- One more event of a lawful list: what it changes.
 use Rattle.std.proofs.Common.{◌≡◌, ◌⊎◌, ℕ, Bool, true, false, not, ◌&&◌, ◌||◌, List, [], ◌∷◌, ◌++◌, append-nil, append_assoc, fold, Option, Result, Ok, Err, IfOk, IfErr, refl, ap, sym, ◌∙◌, subst, ⊎_elim, inl, inr, true≢false}
+use Rattle.std.proofs.Math.Bool.{or-false, or-true}
 use Rattle.std.specs.List.{list_any}
 use Rattle.std.proofs.lemmas.List.Folds.{list_any-append}
 use Rattle.binlog.specs.Event.{EventValue, format, begin, commit, neutral, stop, rotate, gtid, table_map, other_map, rows, xid}
@@ -23,14 +24,10 @@ use Rattle.gather.proofs.Growing.{counted, joined, counts_no_more, counts_more, 
 
 -- ---- A block that is whole has ended.
 
-or_true : (b : Bool) → (b || true) ≡ true
-or_true true = refl
-or_true false = refl
-
 pub whole_closed : (block : List EventValue) (d : DeliveryValue) → IsWhole block d → (is_announced block ≡ false) × (is_open block ≡ false)
 whole_closed block d is =
     let ended : list_any is_end (is.body ++ is.last ∷ []) ≡ true =
-    list_any-append is_end is.body (is.last ∷ []) ∙ ap (λ b. list_any is_end is.body || (b || false)) is.ends ∙ or_true (list_any is_end is.body) in
+    list_any-append is_end is.body (is.last ∷ []) ∙ ap (λ b. list_any is_end is.body || (b || false)) is.ends ∙ or-true (list_any is_end is.body) in
     rw is.block_is (refl, ap not ended)
 
 abbrev pub IsBegun : List EventValue → Type 0
@@ -93,10 +90,6 @@ longer events ds e own are counts first current is = longer_blocks events ds e o
 first_neutral : (events : List EventValue) → is_format_first events ≡ true → is_format_first (events ++ neutral ∷ []) ≡ true
 first_neutral events first = first_more events neutral refl first
 
-or_false : (b : Bool) → (b || false) ≡ b
-or_false true = refl
-or_false false = refl
-
 pub step_neutral : (events : List EventValue) (ds : List DeliveryValue) (formatted : Bool) (state : State) → Brings events ds formatted state → Brings (events ++ neutral ∷ []) (ds ++ []) formatted state
 step_neutral events ds formatted state b = record {
   deliveries = record {
@@ -105,7 +98,7 @@ step_neutral events ds formatted state b = record {
     each = subst (AreBlocks b.deliveries.blocks) (sym (append-nil ds)) b.deliveries.each;
     format_first = first_neutral events b.deliveries.format_first;
   };
-  has_format = b.has_format ∙ sym (format_more events neutral ∙ or_false (has_format events));
+  has_format = b.has_format ∙ sym (format_more events neutral ∙ or-false (has_format events));
   at = subst (λ block. IsAt block state) (sym (last_more events neutral)) b.at;
 }
 
@@ -147,7 +140,7 @@ step_gtid events ds formatted state id is b =
     let e = gtid id.source id.number in
     record {
       deliveries = new_block events ds e b.deliveries refl (first_after events e (sym b.has_format ∙ is) b.deliveries.format_first) (inl (inr (inl (record { source = id.source; number = id.number; block_is = refl })), refl));
-      has_format = b.has_format ∙ sym (format_more events e ∙ or_false (has_format events));
+      has_format = b.has_format ∙ sym (format_more events e ∙ or-false (has_format events));
       at = last_more events e;
     }
 
@@ -179,7 +172,7 @@ stepped events ds own formatted before after e k b goes =
     let x = goes (last_block events) b.at in
     record {
       deliveries = longer events ds e own b.deliveries k.counts (first_more events e k.no_gtid b.deliveries.format_first) x.current x.is_block;
-      has_format = b.has_format ∙ sym (format_more events e ∙ ap (λ f. has_format events || f) k.no_format ∙ or_false (has_format events));
+      has_format = b.has_format ∙ sym (format_more events e ∙ ap (λ f. has_format events || f) k.no_format ∙ or-false (has_format events));
       at = subst (λ block. IsAt block after) (sym (last_more events e ∙ k.added (last_block events))) x.at;
     }
 
@@ -226,10 +219,10 @@ formatted_from true is = refl
 formatted_from false is = absurd cc
 
 pub true_or : (events : List EventValue) → true ≡ (has_format events || is_format format)
-true_or events = sym (or_true (has_format events))
+true_or events = sym (or-true (has_format events))
 
 pub false_or : (formatted : Bool) (events : List EventValue) → formatted ≡ has_format events → formatted ≡ (has_format events || false)
-false_or formatted events is = is ∙ sym (or_false (has_format events))
+false_or formatted events is = is ∙ sym (or-false (has_format events))
 
 -- a rotation or a stop is a mark, and not a format description
 pub rotates_or_stops : (event : Event) → ((position : ℕ) × (name : Bor (List ℕ)) × (event ≡ Rotate position name)) ⊎ (event ≡ Stop) → (is_mark (event_value event) ≡ true) × (is_format (event_value event) ≡ false)

@@ -2,7 +2,7 @@
 use Rattle.std.proofs.Common.{◌≡◌, ℕ, ◌+◌, ◌*◌, ◌-◌, ◌<◌, ◌≤◌, ◌^◌, ◌==◌, max, Bool, true, false, cond, List, [], ◌∷◌, ◌++◌, length, get_or, take, drop, Option, Some, None, bit_and, refl, sym, ap, subst, ◌∙◌, arith, inl, inr}
 use Rattle.std.specs.Prelude.{nat_lt, nat_le, not, ◌⊎◌}
 use Rattle.std.specs.Str.{bytes_eq}
-use Rattle.std.proofs.lemmas.Bool.{not-false, eqb-true, eqb-false, ltb-false, leb-false}
+use Rattle.std.proofs.lemmas.Bool.{cases_Bool, not-false, eqb-true, eqb-false, ltb-false, leb-false}
 use Rattle.std.proofs.lemmas.List.{drop-drop, nil_from_length, length-append, length-drop, length-take, take-append-drop}
 use Rattle.std.proofs.Math.Seq.{drop-cons}
 use Rattle.byteorder.specs.Endian.{little_number}
@@ -26,13 +26,9 @@ pub record IsSplit (bytes : List ℕ) : Type 0 where
   pub text : IsText (before_zero bytes)
   pub bytes_are : bytes ≡ before_zero bytes ++ 0 ∷ after_zero bytes
 
-either : (t : Bool) → (t ≡ true) ⊎ (t ≡ false)
-either true = inl refl
-either false = inr refl
-
 split_at_zero : (bytes : List ℕ) → has_zero bytes ≡ true → IsSplit bytes
 split_at_zero [] is = absurd cc
-split_at_zero (b ∷ bytes) is = elim (either (b == 0)) [
+split_at_zero (b ∷ bytes) is = elim (cases_Bool (b == 0)) [
   | inl zero_byte ↦ record {
     text = rw zero_byte tt;
     bytes_are = rw zero_byte (ap (λ c. c ∷ bytes) (eqb-true b 0 zero_byte));
@@ -48,7 +44,7 @@ split_at_zero (b ∷ bytes) is = elim (either (b == 0)) [
 -- if there are bytes after a zero byte, there is a zero byte
 zero_before : (bytes : List ℕ) → 0 < length (after_zero bytes) → has_zero bytes ≡ true
 zero_before [] some = absurd (omega (arith, some))
-zero_before (b ∷ bytes) some = elim (either (b == 0)) [
+zero_before (b ∷ bytes) some = elim (cases_Bool (b == 0)) [
   | inl zero_byte ↦ rw zero_byte refl
   | inr other ↦ rw other (zero_before bytes (let s : 0 < length (after_zero bytes) = rw other at some in s))
 ]
@@ -149,7 +145,7 @@ some_switch body none =
 pub some_reply : (payload : List ℕ) → IsBytes payload → reply_refusal payload ≡ None → IsOkPacket payload ⊎ HasSwitch payload
 unfolding reply_refusal
 some_reply [] fits none = absurd cc
-some_reply (first ∷ body) fits none = elim (either (first == 0xFE)) [
+some_reply (first ∷ body) fits none = elim (cases_Bool (first == 0xFE)) [
   | inl same ↦ inr (subst (λ f. HasSwitch (f ∷ body)) (sym (eqb-true first 0xFE same)) (some_switch body (let e : switch_refusal body ≡ None = rw same at none in e)))
   | inr other ↦ inl (some_ok (first ∷ body) fits (let e : ok_refusal (first ∷ body) ≡ None = rw other at none in e))
 ]

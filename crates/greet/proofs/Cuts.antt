@@ -1,19 +1,16 @@
 -- Messages cut into parts.
-use Rattle.std.proofs.Common.{◌≡◌, ℕ, Bool, true, false, ◌==◌, ◌||◌, List, [], ◌∷◌, ◌++◌, refl, ◌∙◌, append_assoc}
+use Rattle.std.proofs.Common.{◌≡◌, ℕ, true, false, ◌==◌, List, [], ◌∷◌, ◌++◌, refl, ◌∙◌, append_assoc}
+use Rattle.std.proofs.Math.Bool.{or-true}
 use Rattle.std.proofs.lemmas.Bool.{eqb-false, ne_eqb, or_parts}
 use Rattle.wire.proofs.Cuts.{right_7}
 use Rattle.greet.specs.Message.{IsText}
 use Rattle.greet.specs.Refusal.{has_zero, before_zero, after_zero}
 
-or_true : (b : Bool) → (b || true) ≡ true
-or_true true = refl
-or_true false = refl
-
 -- ---- Texts that end with a zero byte.
 
 pub has_zero-text : (text rest : List ℕ) → has_zero (text ++ 0 ∷ rest) ≡ true
 has_zero-text [] rest = refl
-has_zero-text (b ∷ text) rest = rw (has_zero-text text rest) (or_true (b == 0))
+has_zero-text (b ∷ text) rest = rw (has_zero-text text rest) (or-true (b == 0))
 
 pub before_zero-text : (text rest : List ℕ) → IsText text → before_zero (text ++ 0 ∷ rest) ≡ text
 before_zero-text [] rest is = refl

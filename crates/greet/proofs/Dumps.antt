@@ -1,17 +1,17 @@
 -- Dump commands: what they say, and that anything else is refused.
-use Rattle.std.proofs.Common.{◌≡◌, ◌≢◌, ℕ, ◌+◌, ◌<◌, ◌≤◌, ◌^◌, List, [], ◌∷◌, ◌++◌, length, take, drop, Some, None, Result, Ok, Err, refl, sym, ap, subst, ◌∙◌, arith}
+use Rattle.std.proofs.Common.{◌≡◌, ◌≢◌, ℕ, ◌+◌, ◌<◌, ◌≤◌, List, [], ◌∷◌, ◌++◌, length, take, drop, Some, None, Result, Ok, Err, refl, sym, ap, subst, ◌∙◌, arith}
 use Rattle.std.proofs.lemmas.Bool.{ne_eqb, eq-eqb}
 use Rattle.std.proofs.lemmas.List.{drop-drop, length-append, length-drop, length-take}
 use Rattle.std.specs.Prelude.{IfOk, IfErr, MatchResult}
 use Rattle.byteorder.specs.Endian.{little_bytes, little_number}
-use Rattle.byteorder.specs.Numbers.{little_number-reads_back, little_from-lt}
+use Rattle.byteorder.specs.Numbers.{little_from-lt}
 use Rattle.greet.specs.Message.{DumpValue, IsDump}
 use Rattle.greet.specs.Refusal.{truncated, dump_name_size, dump_set_size, dump_refusal}
 use Rattle.greet.specs.View.{dump_value, Refuses}
 use Rattle.greet.specs.declared.command.Dump.{Dump}
 use Rattle.greet.specs.declared.fault.GreetFault.{GreetFault}
 use Rattle.greet.specs.declared.fault.GreetFault.TheVariants as faults
-use Rattle.wire.proofs.Cuts.{IsBytes, IsBytes-drop, number_at_front, cut, after, right_7}
+use Rattle.wire.proofs.Cuts.{IsBytes, IsBytes-drop, number_at_front, number_is, cut, after, right_7}
 
 -- what a dump command says, from the bytes after its first
 abbrev pub dump_of : List ℕ → DumpValue
@@ -54,9 +54,6 @@ pub record Reported (d : DumpValue) (payload : List ℕ) : Type 0 where
   pub payload_is : payload ≡ 0x1E ∷ body
   pub value : d ≡ dump_of body
   pub whole : length body ≡ 22 + dump_name_size body + dump_set_size body
-
-number_is : (k n : ℕ) (bytes rest : List ℕ) → n < 256 ^ k → bytes ≡ little_bytes k n ++ rest → little_number k bytes ≡ n
-number_is k n bytes rest fits is = ap (little_number k) is ∙ little_number-reads_back k n rest fits
 
 pub reported : (d : DumpValue) (payload : List ℕ) → IsDump d payload → Reported d payload
 reported d payload is =

@@ -1,7 +1,7 @@
 -- What is reported as an error of the source is an ERR.
-use Rattle.std.proofs.Common.{◌≡◌, ◌≢◌, ℕ, ◌<◌, ◌≤◌, ◌==◌, ◌&&◌, Bool, true, false, cond, List, [], ◌∷◌, length, get_or, take, drop, Option, Some, None, refl, sym, ap, ◌∙◌, subst, arith, inl, inr}
+use Rattle.std.proofs.Common.{◌≡◌, ◌≢◌, ℕ, ◌<◌, ◌≤◌, ◌==◌, Bool, true, false, cond, List, [], ◌∷◌, length, get_or, take, drop, Option, Some, None, refl, sym, ap, ◌∙◌, subst, arith, inl, inr}
 use Rattle.std.specs.Prelude.{◌⊎◌, nat_le}
-use Rattle.std.proofs.lemmas.Bool.{false≢true, le-leb, leb-true, eqb-true, le-ltb, lt-ltb, cases_lt}
+use Rattle.std.proofs.lemmas.Bool.{and_parts, false≢true, le-leb, leb-true, eqb-true, le-ltb, lt-ltb, cases_lt}
 use Rattle.std.proofs.lemmas.List.{length-take, take-append-drop}
 use Rattle.byteorder.specs.Endian.{little_number}
 use Rattle.byteorder.specs.Numbers.{little_from-lt}
@@ -11,10 +11,6 @@ use Rattle.greet.specs.Complete.{HasErr, IsErrOf}
 use Rattle.greet.specs.Refusal.{Refusal, server_error, protocol, truncated, capabilities, plugin, old_auth, unexpected, has_state, state_of, message_of, error_of, after_zero, fields_refusal, greeting_refusal, ok_refusal, switch_refusal, reply_refusal, eof_refusal}
 
 -- ---- The text of an ERR.
-
-both : (a b : Bool) → (a && b) ≡ true → (a ≡ true) × (b ≡ true)
-both true b is = (refl, is)
-both false b is = absurd cc
 
 with_state : (text : List ℕ) → 6 ≤ length text → get_or text 0 0 ≡ 0x23 → IsErrorText (Some (take 5 (drop 1 text))) (drop 6 text) text
 with_state [] long first = absurd (omega (arith, long))
@@ -34,7 +30,7 @@ unmarked text is = elim (cases_lt (length text) 6) [
 ]
 
 by_mark : (text : List ℕ) (b : Bool) → has_state text ≡ b → IsErrorText (cond b (Some (take 5 (drop 1 text))) None) (cond b (drop 6 text) text) text
-by_mark text true is = let b = both (nat_le 6 (length text)) _ is in with_state text (leb-true 6 (length text) b.0) (eqb-true _ _ b.1)
+by_mark text true is = let b = and_parts (nat_le 6 (length text)) _ is in with_state text (leb-true 6 (length text) b.0) (eqb-true _ _ b.1)
 by_mark text false is = (refl, unmarked text is)
 
 -- ---- An ERR, from the bytes after its first.

@@ -1,6 +1,7 @@
 -- ERR packets of a source: what they say, and that they are reported instead of any message.
-use Rattle.std.proofs.Common.{◌≡◌, ◌≢◌, ℕ, ◌<◌, ◌&&◌, Bool, true, false, List, [], ◌∷◌, ◌++◌, length, take, drop, Option, Some, None, refl, sym, ap, ◌∙◌, arith, inl, inr}
+use Rattle.std.proofs.Common.{◌≡◌, ◌≢◌, ℕ, ◌<◌, true, false, List, [], ◌∷◌, ◌++◌, length, take, drop, Option, Some, None, refl, sym, ap, ◌∙◌, arith, inl, inr}
 use Rattle.std.specs.Prelude.{nat_le}
+use Rattle.std.proofs.Math.Bool.{and-false}
 use Rattle.std.proofs.lemmas.Bool.{le-leb, lt-leb, ne_eqb, le-ltb}
 use Rattle.std.proofs.lemmas.List.{length-append, take_at, drop_at}
 use Rattle.byteorder.specs.Endian.{little_bytes, little_number}
@@ -17,11 +18,7 @@ bare text short = rw (lt-leb 6 (length text) short) refl
 
 unmarked : (text : List ℕ) → take 1 text ≢ 0x23 ∷ [] → has_state text ≡ false
 unmarked [] other = refl
-unmarked (b ∷ text) other = rw (ne_eqb b 0x23 (λ is. other (ap (λ c. c ∷ []) is))) (and_false (nat_le 6 (length (b ∷ text))))
-  where
-    and_false : (t : Bool) → (t && false) ≡ false
-    and_false true = refl
-    and_false false = refl
+unmarked (b ∷ text) other = rw (ne_eqb b 0x23 (λ is. other (ap (λ c. c ∷ []) is))) (and-false (nat_le 6 (length (b ∷ text))))
 
 pub state_is : (state : Option (List ℕ)) (message text : List ℕ) → IsErrorText state message text → state_of text ≡ state
 state_is (Some state) message text is = ap state_of is.1 ∙ rw (marked state message is.0) (ap Some (take_at state message 5 is.0))

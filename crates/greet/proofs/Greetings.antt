@@ -1,12 +1,12 @@
 -- Greetings: what they say, and that anything else is refused.
 use Rattle.std.proofs.Common.{◌≡◌, ℕ, zero, suc, ◌+◌, ◌*◌, ◌-◌, ◌<◌, ◌≤◌, ◌^◌, max, List, [], ◌∷◌, ◌++◌, length, get_or, take, drop, Some, None, bit_and, refl, sym, ap, ◌∙◌, arith}
 use Rattle.std.proofs.lemmas.Bool.{le-ltb, lt-ltb}
-use Rattle.std.proofs.lemmas.List.{drop-drop, length-append, length-drop, length-take, take_at, take-append-le, take-append-drop, get_or-drop}
+use Rattle.std.proofs.lemmas.List.{drop-drop, length-append, length-drop, length-take, take_at, take-append-le, take-append-drop}
 use Rattle.byteorder.specs.Endian.{little_bytes, little_number}
-use Rattle.byteorder.specs.Numbers.{little_number-reads_back, little_from-lt}
+use Rattle.byteorder.specs.Numbers.{little_from-lt}
 use Rattle.greet.specs.Message.{IsText, needed, GreetingValue, IsGreeting}
 use Rattle.greet.specs.Refusal.{truncated, before_zero, after_zero, fields_refusal, greeting_refusal}
-use Rattle.wire.proofs.Cuts.{IsBytes, IsBytes-drop, number_at_front, cut, one, after}
+use Rattle.wire.proofs.Cuts.{IsBytes, IsBytes-drop, number_at_front, number_is, first_left, cut, one, after}
 use Rattle.greet.proofs.Cuts.{after_zero-text, after_zero-none, before_zero-text, right_9}
 
 -- what a greeting says
@@ -84,14 +84,6 @@ pub record Reported (g : GreetingValue) (payload : List ℕ) : Type 0 where
   pub value : g ≡ greeting_of g.version fields
   pub lawful : fields_refusal fields ≡ None
 
--- the first byte of what is left
-byte_at : (n b : ℕ) (fields rest : List ℕ) → drop n fields ≡ b ∷ rest → get_or fields n 0 ≡ b
-byte_at n b fields rest is = let e : n ≡ n + 0 = omega arith in ap (λ k. get_or fields k 0) e ∙ sym (get_or-drop n fields 0 0) ∙ ap (λ l. get_or l 0 0) is
-
--- a number at the front
-number_is : (k n : ℕ) (fields rest : List ℕ) → n < 256 ^ k → fields ≡ little_bytes k n ++ rest → little_number k fields ≡ n
-number_is k n fields rest fits is = ap (little_number k) is ∙ little_number-reads_back k n rest fits
-
 pub reported : (g : GreetingValue) (payload : List ℕ) → IsGreeting g payload → Reported g payload
 unfolding fields_refusal
 reported g payload is =
@@ -114,7 +106,7 @@ reported g payload is =
     let low : little_number 2 (drop 13 fields) ≡ is.low = number_is 2 is.low (drop 13 fields) r15 (omega (arith, is.ranges.1)) d13 in
     let status : little_number 2 (drop 16 fields) ≡ g.status = number_is 2 g.status (drop 16 fields) r18 (omega (arith, is.ranges.3)) d16 in
     let high : little_number 2 (drop 18 fields) ≡ is.high = number_is 2 is.high (drop 18 fields) r20 (omega (arith, is.ranges.2)) d18 in
-    let size : get_or fields 20 0 ≡ is.size = byte_at 20 is.size fields (is.reserved ++ r31) d20 in
+    let size : get_or fields 20 0 ≡ is.size = first_left 20 is.size fields (is.reserved ++ r31) d20 in
     let first : take 8 (drop 4 fields) ≡ is.first = take_at is.first r12 8 is.sizes.0 in
     let second : take 12 (drop 31 fields) ≡ take 12 is.second = ap (take 12) d31 ∙ take-append-le 12 is.second is.ignored (omega (arith, is.sizes.2)) in
     let has : little_number 2 (drop 13 fields) + 2 ^ 16 * little_number 2 (drop 18 fields) ≡ g.capabilities = omega (arith, low, high, is.capabilities) in
@@ -126,7 +118,7 @@ reported g payload is =
     let t = sym thread in
     let s = is.scramble ∙ sym (ap (λ a. a ++ take 12 (drop 31 fields)) first ∙ ap (λ b. is.first ++ b) second) in
     let p = sym has in
-    let c = sym (byte_at 15 g.charset fields r16 d15) in
+    let c = sym (first_left 15 g.charset fields r16 d15) in
     let u = sym status in
     record {
       fields = fields;

@@ -5,7 +5,7 @@ use Rattle.greet.specs.View.{Refuses}
 use Rattle.greet.specs.declared.fault.GreetFault.{GreetFault}
 use Rattle.greet.specs.declared.fault.GreetFault.TheVariants as faults
 use Rattle.std.proofs.Math.Seq.{take-append_seam}
-use Rattle.std.proofs.lemmas.Bool.{false≢true, le-leb, lt-leb, leb-true, eqb-true, le-ltb, lt-ltb, ne_eqb}
+use Rattle.std.proofs.lemmas.Bool.{and_parts, false≢true, le-leb, lt-leb, leb-true, eqb-true, le-ltb, lt-ltb, ne_eqb}
 use Rattle.std.proofs.lemmas.List.{length-append, length-take, take-append-drop, take_at}
 use Rattle.std.proofs.lemmas.Slice.Eq.{bytes_eq-Decides}
 use Rattle.std.specs.Str.{bytes_eq}
@@ -39,10 +39,6 @@ chosen : {X : Type 0} (b : Bool) (x y z : X) → cond b x y ≡ z → ((b ≡ tr
 chosen true x y z is = inl (refl, is)
 chosen false x y z is = inr (refl, is)
 
-both : (a b : Bool) → (a && b) ≡ true → (a ≡ true) × (b ≡ true)
-both true b is = (refl, is)
-both false b is = absurd cc
-
 same_rest : {X : Type 0} {x y : X} → Some x ≡ Some y → x ≡ y
 same_rest is = cc
 
@@ -61,11 +57,11 @@ has_int (first ∷ bytes) rest fits is =
     elim (chosen (nat_le first 250) _ _ (Some rest) is) [
       | inl (small, same) ↦ record { value = first; front = first ∷ []; is_int = inl (leb-true first 250 small, refl); bytes_are = ap (λ l. first ∷ l) (same_rest same) }
       | inr (_, is2) ↦ elim (chosen ((first == 0xFC) && nat_le 2 (length bytes)) _ _ (Some rest) is2) [
-        | inl (two, same) ↦ let b = both _ _ two in subst (λ f. HasInt (f ∷ bytes) rest) (sym (eqb-true _ _ b.0)) (wide 2 0xFC bytes rest of (leb-true _ _ b.1) (λ n lt. inr (inl (lt, refl))) (same_rest same))
+        | inl (two, same) ↦ let b = and_parts _ _ two in subst (λ f. HasInt (f ∷ bytes) rest) (sym (eqb-true _ _ b.0)) (wide 2 0xFC bytes rest of (leb-true _ _ b.1) (λ n lt. inr (inl (lt, refl))) (same_rest same))
         | inr (_, is3) ↦ elim (chosen ((first == 0xFD) && nat_le 3 (length bytes)) _ _ (Some rest) is3) [
-          | inl (three, same) ↦ let b = both _ _ three in subst (λ f. HasInt (f ∷ bytes) rest) (sym (eqb-true _ _ b.0)) (wide 3 0xFD bytes rest of (leb-true _ _ b.1) (λ n lt. inr (inr (inl (lt, refl)))) (same_rest same))
+          | inl (three, same) ↦ let b = and_parts _ _ three in subst (λ f. HasInt (f ∷ bytes) rest) (sym (eqb-true _ _ b.0)) (wide 3 0xFD bytes rest of (leb-true _ _ b.1) (λ n lt. inr (inr (inl (lt, refl)))) (same_rest same))
           | inr (_, is4) ↦ elim (chosen ((first == 0xFE) && nat_le 8 (length bytes)) _ _ (Some rest) is4) [
-            | inl (eight, same) ↦ let b = both _ _ eight in subst (λ f. HasInt (f ∷ bytes) rest) (sym (eqb-true _ _ b.0)) (wide 8 0xFE bytes rest of (leb-true _ _ b.1) (λ n lt. inr (inr (inr (lt, refl)))) (same_rest same))
+            | inl (eight, same) ↦ let b = and_parts _ _ eight in subst (λ f. HasInt (f ∷ bytes) rest) (sym (eqb-true _ _ b.0)) (wide 8 0xFE bytes rest of (leb-true _ _ b.1) (λ n lt. inr (inr (inr (lt, refl)))) (same_rest same))
             | inr (_, is5) ↦ absurd cc
           ]
         ]

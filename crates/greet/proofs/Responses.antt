@@ -1,8 +1,7 @@
 -- Responses: what they say, and that anything else is refused.
-use Rattle.std.proofs.Common.{◌≡◌, ◌≢◌, ℕ, suc, ◌+◌, ◌<◌, ◌≤◌, ◌==◌, Bool, true, false, List, [], ◌∷◌, ◌++◌, length, get_or, take, drop, Some, None, refl, sym, ap, ◌∙◌, arith, inl, inr}
-use Rattle.std.specs.Prelude.{◌⊎◌}
+use Rattle.std.proofs.Common.{◌≡◌, ◌≢◌, ℕ, suc, ◌+◌, ◌<◌, ◌≤◌, ◌==◌, true, false, List, [], ◌∷◌, ◌++◌, length, get_or, take, drop, Some, None, refl, sym, ap, ◌∙◌, arith, inl, inr}
 use Rattle.std.proofs.Math.ListN.{drop_of_length-le}
-use Rattle.std.proofs.lemmas.Bool.{ne_eqb, eq-eqb, eqb-true, le-ltb, lt-ltb}
+use Rattle.std.proofs.lemmas.Bool.{cases_Bool, ne_eqb, eq-eqb, eqb-true, le-ltb, lt-ltb}
 use Rattle.std.proofs.lemmas.List.{drop_more, length-append, take-append-drop, take_at, drop_at}
 use Rattle.std.specs.Str.{bytes_eq}
 use Rattle.greet.specs.Message.{IsText, plugin_name, response_lead, ResponseValue, IsResponse}
@@ -18,18 +17,11 @@ differs xs ys i short few other = rw (drop_more xs i 0 short, drop_more ys i 0 f
 pub agrees : (xs ys : List ℕ) (i : ℕ) → i < length xs → i < length ys → get_or xs i 0 ≡ get_or ys i 0 → first_difference (drop i xs) (drop i ys) ≡ first_difference (drop (i + 1) xs) (drop (i + 1) ys)
 agrees xs ys i short few same = rw (drop_more xs i 0 short, drop_more ys i 0 few, eq-eqb _ _ same) refl
 
-eqb_either : (a b : ℕ) → ((a == b) ≡ true) ⊎ ((a == b) ≡ false)
-eqb_either a b = of (a == b)
-  where
-    of : (t : Bool) → (t ≡ true) ⊎ (t ≡ false)
-    of true = inl refl
-    of false = inr refl
-
 pub no_difference : (xs ys : List ℕ) → length xs ≡ length ys → first_difference xs ys ≡ None → xs ≡ ys
 no_difference [] [] long none = refl
 no_difference [] (y ∷ ys) long none = absurd (omega (arith, long))
 no_difference (x ∷ xs) [] long none = absurd (omega (arith, long))
-no_difference (x ∷ xs) (y ∷ ys) long none = elim (eqb_either x y) [
+no_difference (x ∷ xs) (y ∷ ys) long none = elim (cases_Bool (x == y)) [
   | inl same ↦
       let e = eqb-true x y same in
       let rest : first_difference xs ys ≡ None = rw same at none in

@@ -8,6 +8,7 @@ use Rattle.gtid.specs.Scan.{is_digit}
 use Rattle.gtid.specs.Text.{IsBlank, IsIntervalText, AreIntervalTexts, IsItem, IsList, first_some, list_fault, written_spans}
 use Rattle.gtid.specs.Reading.{at_most, appended, after_number, Found, judge, collected, span_of}
 use Rattle.gtid.proofs.Judged.{saturated, found_in, judged_ok, judged_err, item_faults, item_spans}
+use Rattle.gtid.proofs.Scanned.{digit_is}
 use Rattle.gtid.proofs.SourceRead.{read_source}
 use Rattle.gtid.specs.declared.fault.GtidFault.{GtidFault}
 use Rattle.gtid.specs.declared.fault.GtidFault.TheVariants.{Memory}
@@ -36,9 +37,6 @@ blanks_after s [] rest h = refl
 blanks_after s (b ∷ bs) rest h = blank_after b s (bs ++ rest) h.0 ∙ blanks_after s bs rest h.1
 
 -- ---- Digits.
-
-digit_is : (b : ℕ) → IsAsciiDigit b → is_digit b ≡ true
-digit_is b h = grind (arith, nat_tests)
 
 append_more : (n b : ℕ) → appended (at_most n) b ≡ at_most (n * 10 + (b - 48))
 append_more n b = grind (arith, nat_tests)

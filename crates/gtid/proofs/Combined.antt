@@ -12,6 +12,11 @@ use Rattle.gtid.specs.Merged.{AreFrom, IsFrom, has_left, AreLeastBefore}
 pub has-append : (xs ys : List Interval) (n : ℕ) → has (xs ++ ys) n ≡ (has xs n || has ys n)
 has-append xs ys n = list_any-append (is_within n) xs ys
 
+-- where the last interval ends, after one that ended at `after`
+abbrev pub last_end : ℕ → List Interval → ℕ
+last_end after [] = after
+last_end after (i ∷ intervals) = last_end i.hi intervals
+
 pub before_more : (end place later : ℕ) (intervals : List Interval) → AreLeastBefore end place intervals → place ≤ later → AreLeastBefore end later intervals
 before_more end place later [] b le = omega arith
 before_more end place later (i ∷ intervals) b le = (b.0, b.1, b.2, before_more i.hi place later intervals b.3 le)

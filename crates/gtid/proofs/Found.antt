@@ -1,5 +1,5 @@
 -- A group found or missed, and the groups with one more number.
-use Rattle.std.proofs.Common.{◌≡◌, ℕ, zero, suc, ◌<◌, Bool, true, false, nat_eq, ◌&&◌, ◌||◌, List, [], ◌∷◌, ◌++◌, length, take, drop, slice_index_or, slice_set, refl, ap, sym, subst, ◌∙◌, Result, Ok, Err, IfOk, OnOk, OnErr, arith}
+use Rattle.std.proofs.Common.{◌≡◌, ℕ, zero, suc, ◌<◌, Bool, true, false, nat_eq, ◌&&◌, ◌||◌, List, [], ◌∷◌, ◌++◌, length, take, drop, slice_index_or, slice_set, refl, ap, sym, subst, ◌∙◌, Result, Ok, Err, IfOk, OnOk, arith}
 use Rattle.std.specs.declared.cmp.Ordering.TheVariants.{Less}
 use Rattle.std.specs.Ordering.{nat_cmp}
 use Rattle.std.specs.Cmp.Lexicographic.{slice_cmp}
@@ -12,6 +12,7 @@ use Rattle.gtid.specs.Identifier.{Id, is_one}
 use Rattle.gtid.specs.Interval.{has}
 use Rattle.gtid.specs.Group.{Ascend, sources, IsBelow, is_of, is_listed, IsGap}
 use Rattle.gtid.specs.declared.group.Group.{Group}
+use Rattle.gtid.proofs.Disjunctions.{or_swap, distribute}
 use Rattle.gtid.proofs.Merged.{ascend_first, ascend_cons, ascend_nil, none_below, none_above}
 use Rattle.std.proofs.Math.Bool.{or-false}
 use Rattle.gtid.proofs.Placed.{below_at}
@@ -23,16 +24,6 @@ sources_set [] zero g same = refl
 sources_set [] (suc k) g same = refl
 sources_set (f ∷ groups) zero g same = ap (λ s. s ∷ sources groups) (sym (same f))
 sources_set (f ∷ groups) (suc k) g same = ap (λ ss. f.source ∷ ss) (sources_set groups k g same)
-
-or_swap : (a b c : Bool) → (a || (b || c)) ≡ (b || (a || c))
-or_swap true true c = refl
-or_swap true false c = refl
-or_swap false b c = refl
-
-distribute : (e x y rest : Bool) → ((e && (x || y)) || rest) ≡ ((e && x) || ((e && y) || rest))
-distribute true true y rest = refl
-distribute true false y rest = refl
-distribute false x y rest = refl
 
 -- `extra` are the numbers that the source's group got
 pub listed_set : (groups : List Group) (k : ℕ) (old new : Group) (s : List ℕ) (extra : ℕ → Bool) → k < length groups → ((d : Group) → slice_index_or groups k d ≡ old) → old.source ≡ s → new.source ≡ s →
@@ -99,17 +90,9 @@ any_default [] k g short is d = absurd (omega (arith, short))
 any_default (f ∷ groups) zero g short is d = sym is
 any_default (f ∷ groups) (suc k) g short is d = any_default groups k g (omega (arith, short)) is d
 
-pub on_ok : {T E P Q : Type 0} (r : Result T E) → OnOk r P → (P → Q) → OnOk r Q
-on_ok (Ok x) p f = f p
-on_ok (Err e) p f = tt
-
 pub on_ok_both : {T E P Q R : Type 0} (r : Result T E) → OnOk r P → OnOk r Q → (P → Q → R) → OnOk r R
 on_ok_both (Ok x) p q f = f p q
 on_ok_both (Err e) p q f = tt
-
-pub on_err : {T E P Q : Type 0} (r : Result T E) → OnErr r P → (P → Q) → OnErr r Q
-on_err (Ok x) p f = tt
-on_err (Err e) p f = f p
 
 -- the same GTIDs, if the source's group has the same numbers
 pub listed_same : (groups : List Group) (k : ℕ) (old new : Group) (s : List ℕ) → k < length groups → ((d : Group) → slice_index_or groups k d ≡ old) → old.source ≡ s → new.source ≡ s →

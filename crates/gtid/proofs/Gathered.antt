@@ -34,7 +34,7 @@ use Rattle.gtid.specs.declared.span.Span.{Span}
 use Rattle.gtid.proofs.Combined.{has-append, before_push, least_from_before, within_wider}
 use Rattle.gtid.proofs.Merged.{ascend_nil, ascend_push, below_all, below_head, below_push, sources_push, listed_push}
 use Rattle.gtid.proofs.Lowest.{lower}
-use Rattle.std.proofs.Math.Bool.{or-false}
+use Rattle.std.proofs.Math.Bool.{or-false, or_assoc}
 use Rattle.gtid.proofs.Sets.{id_cmp_total}
 
 -- ---- The order.
@@ -258,10 +258,6 @@ below_through : (ss : List (List ℕ)) (t : List ℕ) (us ts : List (List ℕ)) 
 below_through [] t us ts h above = tt
 below_through (s ∷ ss) t us ts h above = (below_all s t ts h.0.0 above, below_through ss t us ts h.1 above)
 
-or_assoc : (a b c : Bool) → (a || (b || c)) ≡ ((a || b) || c)
-or_assoc true b c = refl
-or_assoc false b c = refl
-
 -- one source more
 pub gathered_push : {all : List Span} {groups : List Group} (first : Span) (after : List Span) (g : Group) (groups' : List Group) (left : List Span) → Gathered all groups (first ∷ after) →
     g.source ≡ first.source → ((q : Id) → list_any (is_in q) (first ∷ after) ≡ (is_of q g || list_any (is_in q) left)) → AreAbove first.source left → AllByRecursion IsLawfulSpan left → Rise left →
@@ -277,7 +273,7 @@ gathered_push {all} {groups} first after g groups' left m source same above lawf
       same = λ q.
           m.same q
           ∙ ap (λ b. is_listed q groups || b) (same q)
-          ∙ or_assoc (is_listed q groups) (is_of q g) (list_any (is_in q) left)
+          ∙ sym (or_assoc (is_listed q groups) (is_of q g) (list_any (is_in q) left))
           ∙ ap (λ b. b || list_any (is_in q) left) (sym (listed_push q groups g) ∙ ap (is_listed q) (sym push));
     }
 

@@ -11,7 +11,7 @@ use Rattle.gtid.specs.Identifier.{Ids}
 use Rattle.gtid.specs.Interval.{AreLeast}
 use Rattle.gtid.specs.Group.{Ascend, sources, IsBelow, ids_of}
 use Rattle.gtid.specs.Spans.{span, spans_of}
-use Rattle.gtid.specs.Encoding.{SidBlock, AreIntervals, AreBlocks, is_above, join_block, grouped, blocks_bytes, IsEncoding, AppendsEncoding, LacksRoom}
+use Rattle.gtid.specs.Encoding.{SidBlock, AreBlocks, is_above, join_block, grouped, blocks_bytes, IsEncoding, AppendsEncoding, LacksRoom}
 use Rattle.gtid.specs.Blocks.{pair, block, of_group, blocks}
 use Rattle.gtid.specs.declared.interval.Interval.{Interval}
 use Rattle.gtid.specs.declared.group.Group.{Group}
@@ -19,6 +19,7 @@ use Rattle.gtid.specs.declared.span.Span.{Span}
 use Rattle.gtid.proofs.Merged.{ascend_first}
 use Rattle.gtid.proofs.LeastList.{least_list}
 use Rattle.gtid.proofs.NotBelow.{not_below_itself}
+use Rattle.gtid.proofs.Read.{intervals_of_least}
 
 -- the first block is of another source
 abbrev pub IsOther : List ℕ → List SidBlock → Type 0
@@ -65,10 +66,6 @@ few : (end : ℕ) (intervals : List Interval) → AreLeast end intervals → end
 few end [] least fits = omega arith
 few end (i ∷ intervals) least fits = omega (arith, least.0, least.1, few i.hi intervals least.3 least.2)
 
-pair_intervals : (end : ℕ) (intervals : List Interval) → AreLeast end intervals → AreIntervals end (map pair intervals)
-pair_intervals end [] least = tt
-pair_intervals end (i ∷ intervals) least = (least.0, least.1, least.2, pair_intervals i.hi intervals least.3)
-
 pair_length : (intervals : List Interval) → length (map pair intervals) ≡ length intervals
 pair_length [] = refl
 pair_length (i ∷ intervals) = ap suc (pair_length intervals)
@@ -95,7 +92,7 @@ lawful_blocks before (g ∷ groups) after ascend =
       above_first before g.source (sources groups) after,
       omega (arith, some_length g.intervals.items g.some, count),
       omega (arith, few 0 g.intervals.items g.least (omega arith), count),
-      pair_intervals 0 g.intervals.items g.least,
+      intervals_of_least 0 g.intervals.items g.least,
       lawful_blocks (Some g.source) groups f.0 f.1,
     )
 

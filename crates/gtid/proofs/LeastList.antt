@@ -1,10 +1,11 @@
 -- The spans of groups are the least intervals of their set.
-use Rattle.std.proofs.Common.{◌≡◌, ◌≢◌, ℕ, ◌<◌, inl, inr, Bool, true, false, ◌&&◌, ◌||◌, List, [], ◌∷◌, ◌++◌, map, refl, ap, sym, subst, ◌∙◌}
+use Rattle.std.proofs.Common.{◌≡◌, ◌≢◌, ℕ, ◌<◌, inl, inr, false, ◌&&◌, ◌||◌, List, [], ◌∷◌, ◌++◌, map, refl, ap, sym, subst, ◌∙◌}
 use Rattle.std.specs.declared.cmp.Ordering.TheVariants.{Less}
 use Rattle.std.specs.Ordering.{nat_cmp}
 use Rattle.std.specs.Cmp.Lexicographic.{slice_cmp}
 use Rattle.std.specs.List.{list_any}
 use Rattle.std.specs.Str.{bytes_eq}
+use Rattle.std.proofs.Math.Bool.{and-or_distrib_left}
 use Rattle.std.proofs.lemmas.Bool.{and_right}
 use Rattle.std.proofs.lemmas.List.Folds.{list_any-append}
 use Rattle.gtid.specs.Identifier.{Id, Ids}
@@ -59,13 +60,9 @@ least_spans (g ∷ groups) ascend =
     let f = ascend_first g.source (sources groups) ascend in
     least_group g.source 0 g.intervals.items (spans_of groups) g.least (under_groups g.source groups f.0) (least_spans groups f.1)
 
-both : (a x y : Bool) → ((a && x) || (a && y)) ≡ (a && (x || y))
-both true x y = refl
-both false x y = refl
-
 pub in_group : (q : Id) (s : List ℕ) (intervals : List Interval) → list_any (is_in q) (map (span s) intervals) ≡ (bytes_eq q.0 s && has intervals q.1)
 in_group q s [] = sym (and_right (bytes_eq q.0 s) false refl)
-in_group q s (i ∷ intervals) = ap (λ b. is_in q (span s i) || b) (in_group q s intervals) ∙ both (bytes_eq q.0 s) (is_within q.1 i) (has intervals q.1)
+in_group q s (i ∷ intervals) = ap (λ b. is_in q (span s i) || b) (in_group q s intervals) ∙ sym (and-or_distrib_left (bytes_eq q.0 s) (is_within q.1 i) (has intervals q.1))
 
 in_spans : (q : Id) (groups : List Group) → list_any (is_in q) (spans_of groups) ≡ is_listed q groups
 in_spans q [] = refl

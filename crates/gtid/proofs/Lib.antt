@@ -1,3 +1,4 @@
+pub mod Disjunctions
 pub mod NotBelow
 pub mod Combined
 pub mod Found

@@ -5,7 +5,7 @@ use Rattle.std.specs.Ordering.{nat_cmp}
 use Rattle.std.specs.Cmp.Lexicographic.{slice_cmp, nat_list_cmp_total}
 use Rattle.std.specs.List.Sorted.{IsStrictlySortedBy}
 use Rattle.std.specs.Str.{bytes_eq}
-use Rattle.std.proofs.Math.Bool.{or-false}
+use Rattle.std.proofs.Math.Bool.{or-false, or_assoc}
 use Rattle.std.proofs.lemmas.Bool.{and_right, or_from}
 use Rattle.std.proofs.lemmas.List.Folds.{list_any-append}
 use Rattle.std.proofs.lemmas.Slice.Eq.{bytes_eq-Decides}
@@ -152,10 +152,6 @@ kept c true a b l r no_l no_r =
     (λ i. keeps c (a || p i) (b || q i)) ∙ kept_alone c a b ∙ (λ i. keeps c a b || keeps c (sym p i) (sym q i))
 kept c false a b l r no_l no_r = refl
 
-or_assoc : (a b c : Bool) → (a || (b || c)) ≡ ((a || b) || c)
-or_assoc true b c = refl
-or_assoc false b c = refl
-
 or_nothing : (a b : Bool) → (a || (b || false)) ≡ (a || b)
 or_nothing a true = refl
 or_nothing a false = refl
@@ -172,7 +168,7 @@ same_next c left right done s a b kept_of l r from_left from_right numbers q =
     (λ i. is_listed q done || keeps c (from_left.listed q i) (from_right.listed q i))
     ∙ ap (λ k. is_listed q done || k) (kept c e (has a q.1) (has b q.1) (is_listed q l) (is_listed q r) (none_above s l q from_left.above) (none_above s r q from_right.above))
     ∙ ap (λ k. is_listed q done || ((e && k) || keeps c (is_listed q l) (is_listed q r))) (sym (numbers q.1))
-    ∙ or_assoc (is_listed q done) (e && has kept_of q.1) (keeps c (is_listed q l) (is_listed q r))
+    ∙ sym (or_assoc (is_listed q done) (e && has kept_of q.1) (keeps c (is_listed q l) (is_listed q r)))
 
 -- a source of which something is kept
 pub merged_push : {c : Combination} {all_left all_right left right done : List Group} (s : List ℕ) (a b : List Interval) (l r : List Group) (g : Group) (now : List Group) →

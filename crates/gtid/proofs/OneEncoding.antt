@@ -29,7 +29,7 @@ interval_table short number empty order = first_fault ((short, Truncated) ∷ (n
 abbrev pub source_table : Bool → Bool → Bool → Bool → Option GtidFault
 source_table short order shorter empty = first_fault ((short, Truncated) ∷ (order, Order) ∷ (shorter, Truncated) ∷ (empty, Interval) ∷ [])
 
-not_less : (a b : ℕ) → b ≤ a → nat_lt a b ≡ false
+pub not_less : (a b : ℕ) → b ≤ a → nat_lt a b ≡ false
 not_less a b h = grind (arith, nat_tests)
 
 not_most : (a b : ℕ) → b < a → nat_le a b ≡ false

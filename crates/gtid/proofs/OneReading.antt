@@ -1,5 +1,5 @@
 -- A text has only one meaning.
-use Rattle.std.proofs.Common.{◌≡◌, ℕ, List, [], ◌∷◌, map, refl, ap, sym, ◌∙◌, inl, inr, Some, None}
+use Rattle.std.proofs.Common.{◌≡◌, ℕ, List, map, refl, ap, sym, ◌∙◌, inl, inr, Some, None}
 use Rattle.std.proofs.lemmas.Bool.{cases_order}
 use Rattle.std.specs.FinSet as set
 use Rattle.gtid.specs.Identifier.{Ids}
@@ -13,10 +13,7 @@ use Rattle.gtid.specs.declared.fault.GtidFault.{GtidFault}
 use Rattle.gtid.specs.declared.fault.GtidFault.TheVariants.{Text}
 use Rattle.gtid.proofs.Sets.{id_cmp_total, id_cmp-same}
 use Rattle.gtid.proofs.Judged.{faults_of, item_faults, item_spans}
-use Rattle.gtid.proofs.Collected.{read_list}
-
-abbrev zeros : List ℕ
-zeros = 0 ∷ 0 ∷ 0 ∷ 0 ∷ 0 ∷ 0 ∷ 0 ∷ 0 ∷ 0 ∷ 0 ∷ 0 ∷ 0 ∷ 0 ∷ 0 ∷ 0 ∷ 0 ∷ []
+use Rattle.gtid.proofs.Collected.{read_list, zeros}
 
 -- all items of a text have the same fault
 same_fault : (text : List ℕ) (i j : List SidBlock) → IsList text i → IsList text j → list_fault i ≡ list_fault j

@@ -3,6 +3,7 @@ use Rattle.std.proofs.Common.{◌≡◌, ℕ, zero, suc, ◌<◌, ◌≤◌, ◌
 use Rattle.std.specs.declared.cmp.Ordering.{Ordering}
 use Rattle.std.specs.declared.cmp.Ordering.TheVariants.{Less, Equal, Greater}
 use Rattle.std.specs.Ordering.{nat_cmp, ordering_index, ordering_reverse}
+use Rattle.std.specs.Cmp.{IsTotalOrder}
 use Rattle.std.specs.Cmp.Lexicographic.{slice_cmp, nat_list_cmp_total}
 use Rattle.std.specs.FinSet as set
 use Rattle.std.specs.List.{AllWithin}
@@ -26,22 +27,22 @@ below_at t [] j d below short = absurd (omega (arith, short))
 below_at t (g ∷ groups) zero d below short = below.0
 below_at t (g ∷ groups) (suc j) d below short = below_at t groups j d below.1 (omega (arith, short))
 
-rank : (a b s : List ℕ) (o : Ordering) → o ≡ slice_cmp nat_cmp b s → slice_cmp nat_cmp a b ≡ Less → ordering_index (slice_cmp nat_cmp a s) ≤ ordering_index o
-rank a b s Less is less = subst (λ o. ordering_index o ≤ 0) (sym (nat_list_cmp_total.trans a b s less (sym is))) (omega arith)
-rank a b s Equal is less =
-    subst (λ o. ordering_index o ≤ 1) (sym (ap (λ t. slice_cmp nat_cmp a t) (sym (set.slice_cmp-IsAntisymmetric set.nat_cmp-IsAntisymmetric b s (sym is))) ∙ less)) (omega arith)
-rank a b s Greater is less = most (slice_cmp nat_cmp a s)
-  where
-    most : (o : Ordering) → ordering_index o ≤ 2
-    most Less = omega arith
-    most Equal = omega arith
-    most Greater = omega arith
+most : (o : Ordering) → ordering_index o ≤ 2
+most Less = omega arith
+most Equal = omega arith
+most Greater = omega arith
+
+-- what is less than another stands before it, or as it, in a search
+pub rank : {X : Type 0} {cmp : X → X → Ordering} → IsTotalOrder cmp → set.IsAntisymmetric cmp → (a b q : X) (o : Ordering) → o ≡ cmp b q → cmp a b ≡ Less → ordering_index (cmp a q) ≤ ordering_index o
+rank total same a b q Less is less = subst (λ o. ordering_index o ≤ 0) (sym (total.trans a b q less (sym is))) (omega arith)
+rank {cmp = cmp} total same a b q Equal is less = subst (λ o. ordering_index o ≤ 1) (sym (ap (λ t. cmp a t) (sym (same b q (sym is))) ∙ less)) (omega arith)
+rank {cmp = cmp} total same a b q Greater is less = most (cmp a q)
 
 pub rises : (s : List ℕ) (groups : List Group) → Ascend (sources groups) → IsNonDecreasingBy (λ g. ordering_index (compares s g)) groups
 rises s [] ascend i j d le short = absurd (omega (arith, short))
 rises s (g ∷ groups) ascend zero zero d le short = omega arith
 rises s (g ∷ groups) ascend zero (suc j) d le short =
-    rank g.source (slice_index_or groups j d).source s (compares s (slice_index_or groups j d)) refl
+    rank nat_list_cmp_total (set.slice_cmp-IsAntisymmetric set.nat_cmp-IsAntisymmetric) g.source (slice_index_or groups j d).source s (compares s (slice_index_or groups j d)) refl
     (below_at g.source groups j d (ascend_first g.source (sources groups) ascend).0 (omega (arith, short)))
 rises s (g ∷ groups) ascend (suc i) zero d le short = absurd (omega (arith, le))
 rises s (g ∷ groups) ascend (suc i) (suc j) d le short = rises s groups (ascend_first g.source (sources groups) ascend).1 i j d (omega (arith, le)) (omega (arith, short))

@@ -12,6 +12,7 @@ use Rattle.gtid.specs.Decoding.{FaultsInIntervals, FaultsInBlock, IsBlockFault}
 use Rattle.gtid.specs.declared.group.Group.{Group}
 use Rattle.gtid.specs.declared.interval.Interval.{Interval}
 use Rattle.gtid.specs.declared.fault.GtidFault.{GtidFault}
+use Rattle.gtid.proofs.Combined.{last_end}
 
 -- one item more, and its bytes
 pub more_spelled : {X Y : Type 0} (f : Y → List ℕ) (of : X → Y) (items : List X) (x : X) (beyond : List ℕ) →
@@ -26,11 +27,6 @@ pub one_more : {X : Type 0} (items : List X) (x : X) (n : ℕ) → length items 
 one_more items x n is = length-append items (x ∷ []) ∙ ap (λ k. k + 1) is
 
 -- ---- Intervals.
-
--- where the last interval ends, after one that ended at `after`
-abbrev pub last_end : ℕ → List Interval → ℕ
-last_end after [] = after
-last_end after (i ∷ intervals) = last_end i.hi intervals
 
 end_is : (i : Interval) (intervals : List Interval) → end_of (map pair (i ∷ intervals)) ≡ last_end i.hi intervals
 end_is i [] = refl

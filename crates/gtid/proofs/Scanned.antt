@@ -49,7 +49,7 @@ run_stays s P stays (b ∷ bs) h = ap (λ o. run o bs) (stays b h.0) ∙ run_sta
 
 -- ---- Digits and intervals.
 
-digit_is : (b : ℕ) → IsAsciiDigit b → is_digit b ≡ true
+pub digit_is : (b : ℕ) → IsAsciiDigit b → is_digit b ≡ true
 digit_is b h = grind (arith, nat_tests)
 
 run_digits : (s t : State) → ((b : ℕ) → is_digit b ≡ true → step s b ≡ Some t) → ((b : ℕ) → is_digit b ≡ true → step t b ≡ Some t) →

@@ -13,7 +13,7 @@ use Rattle.std.proofs.lemmas.List.Folds.{list_any-append}
 use Rattle.std.proofs.lemmas.Map.Text.{is_eq-slice_cmp}
 use Rattle.std.proofs.lemmas.Slice.Eq.{bytes_eq-Decides}
 use Rattle.std.specs.Bool.{IsTrue}
-use Rattle.std.proofs.Math.Bool.{or-false}
+use Rattle.std.proofs.Math.Bool.{or-false, and-true}
 use Rattle.std.proofs.lemmas.Bool.{and_right, false_from_ne_true, false≢true}
 use Rattle.std.proofs.lemmas.Bool.Decides.{nat_tests}
 use Rattle.std.proofs.lemmas.Grind.{common_steps}
@@ -48,9 +48,9 @@ tied a b =
 range_more : (n lo count : ℕ) → (nat_eq n lo || (nat_le (lo + 1) n && nat_lt n (lo + 1 + count))) ≡ (nat_le lo n && nat_lt n (lo + suc count))
 range_more n lo count = grind (arith, common_steps, nat_tests)
 
-both : (a x y z : Bool) → (x || y) ≡ z → ((a && x) || (a && y)) ≡ (a && z)
-both true x y z e = e
-both false x y z e = refl
+pub factored : (a x y z : Bool) → (x || y) ≡ z → ((a && x) || (a && y)) ≡ (a && z)
+factored true x y z e = e
+factored false x y z e = refl
 
 empty_range : (n lo : ℕ) → (nat_le lo n && nat_lt n (lo + 0)) ≡ false
 empty_range n lo = grind (arith, common_steps, nat_tests)
@@ -60,7 +60,7 @@ listed_in_range : (q : Id) (source : List ℕ) (lo count : ℕ) →
 listed_in_range q source lo zero = sym (and_right (bytes_eq q.0 source) (nat_le lo q.1 && nat_lt q.1 (lo + 0)) (empty_range q.1 lo))
 listed_in_range q source lo (suc count) =
     (λ i. tied q (source, lo) i || listed_in_range q source (lo + 1) count i)
-    ∙ both (bytes_eq q.0 source) (nat_eq q.1 lo) (nat_le (lo + 1) q.1 && nat_lt q.1 (lo + 1 + count)) (nat_le lo q.1 && nat_lt q.1 (lo + suc count)) (range_more q.1 lo count)
+    ∙ factored (bytes_eq q.0 source) (nat_eq q.1 lo) (nat_le (lo + 1) q.1 && nat_lt q.1 (lo + 1 + count)) (nat_le lo q.1 && nat_lt q.1 (lo + suc count)) (range_more q.1 lo count)
 
 -- up to an end that may be below the beginning
 same_end : (lo hi n : ℕ) → (nat_le lo n && nat_lt n (lo + (hi - lo))) ≡ (nat_le lo n && nat_lt n hi)
@@ -75,7 +75,7 @@ listed_in_intervals q source [] = sym (and_right (bytes_eq q.0 source) false ref
 listed_in_intervals q source (i ∷ intervals) =
     list_any-append (eq_by_cmp id_cmp q) (ids_of_interval source i) (flat_map (ids_of_interval source) intervals)
     ∙ (λ k. listed_in_interval q source i k || listed_in_intervals q source intervals k)
-    ∙ both (bytes_eq q.0 source) (is_within q.1 i) (has intervals q.1) (has (i ∷ intervals) q.1) refl
+    ∙ factored (bytes_eq q.0 source) (is_within q.1 i) (has intervals q.1) (has (i ∷ intervals) q.1) refl
 
 listed_in_groups : (q : Id) (groups : List Group) → list_any (eq_by_cmp id_cmp q) (flat_map ids_of_group groups) ≡ is_listed q groups
 listed_in_groups q [] = refl
@@ -152,10 +152,6 @@ difference_none left right none = set.same_set id_cmp_total id_cmp-same left (se
   where
     empty : {ids : Ids} (q : Id) → ids ≡ set.empty → set.contains ids q ≡ false
     empty q e = ap (λ s. set.contains s q) e ∙ set.contains-empty id_cmp q
-
-    and-true : (b : Bool) → (b && true) ≡ b
-    and-true true = refl
-    and-true false = refl
 
     same : (q : Id) → (left ≡ set.empty) ⊎ (right ≡ set.empty) → (set.contains left q && not (set.contains right q)) ≡ set.contains left q
     same q (inl e) = ap (λ b. b && not (set.contains right q)) (empty q e) ∙ sym (empty q e)

@@ -16,6 +16,7 @@ use Rattle.std.proofs.lemmas.Slice.Eq.{bytes_eq-Decides}
 use Rattle.gtid.specs.Identifier.{Id, id_cmp, Ids, is_one}
 use Rattle.gtid.specs.Span.{is_in, IsBefore, IsLeast, HasLeastList}
 use Rattle.gtid.specs.declared.span.Span.{Span}
+use Rattle.gtid.proofs.Disjunctions.{distribute}
 use Rattle.gtid.proofs.LeastList.{Leads, least_cons}
 use Rattle.gtid.proofs.OneLeastList.{Below, IsEarly, some_first, tail_least}
 use Rattle.gtid.proofs.Sets.{id_cmp_total, tied}
@@ -77,7 +78,7 @@ joined_least q (s ∷ spans) least early = by (touches q s) refl
 
 -- what is in it
 
-one_number : (n m : ℕ) → (nat_le m n && nat_lt n (m + 1)) ≡ nat_eq n m
+pub one_number : (n m : ℕ) → (nat_le m n && nat_lt n (m + 1)) ≡ nat_eq n m
 one_number n m = grind (arith, nat_tests)
 
 in_alone : (x q : Id) → is_in x (alone q) ≡ is_one x q
@@ -85,11 +86,6 @@ in_alone x q = ap (λ b. bytes_eq x.0 q.0 && b) (one_number x.1 q.1)
 
 one_number_more : (n m lo hi : ℕ) → m + 1 ≡ lo → lo < hi → (nat_le m n && nat_lt n hi) ≡ (nat_eq n m || (nat_le lo n && nat_lt n hi))
 one_number_more n m lo hi next some = grind (arith, nat_tests)
-
-spread : (a u v r : Bool) → ((a && (u || v)) || r) ≡ ((a && u) || ((a && v) || r))
-spread true true v r = refl
-spread true false v r = refl
-spread false u v r = refl
 
 joined_has : (x q : Id) (spans : List Span) → IsLeast spans → list_any (is_in x) (join_span q spans) ≡ (is_one x q || list_any (is_in x) spans)
 joined_has x q [] least = ap (λ b. b || false) (in_alone x q)
@@ -102,7 +98,7 @@ joined_has x q (s ∷ spans) least = by (touches q s) refl
     by true e =
         let t = touching q s e in
         ap (λ b. (bytes_eq x.0 s.source && b) || rest) (one_number_more x.1 q.1 s.lo s.hi t.1 (some_first s spans least))
-        ∙ spread (bytes_eq x.0 s.source) (nat_eq x.1 q.1) (nat_le s.lo x.1 && nat_lt x.1 s.hi) rest
+        ∙ distribute (bytes_eq x.0 s.source) (nat_eq x.1 q.1) (nat_le s.lo x.1 && nat_lt x.1 s.hi) rest
         ∙ ap (λ source. (bytes_eq x.0 source && nat_eq x.1 q.1) || list_any (is_in x) (s ∷ spans)) (sym t.0)
     by false e = ap (λ b. b || list_any (is_in x) (s ∷ spans)) (in_alone x q)
 

@@ -1,9 +1,10 @@
 -- Numbers among intervals that ascend.
 use Rattle.std.proofs.Common.{◌≡◌, ℕ, Bool, true, false, ◌+◌, ◌≤◌, ◌<◌, ◌^◌, ◌||◌, List, [], ◌∷◌, ◌++◌, length, get_or, take, drop, set, refl, ap, sym, subst, ◌∙◌, arith, min, add-one, Option, Some, None, MatchOption, Bor, nat_eq, ◌-◌, leb, ltb, zero, suc, inl, inr}
+use Rattle.std.proofs.Math.Bool.{or-false}
 use Rattle.std.proofs.Math.ListN.{drop_of_length-le}
 use Rattle.std.proofs.lemmas.Bool.Decides.{nat_tests, leb_tells}
 use Rattle.std.proofs.lemmas.Bool.{leb-true, leb-false, ltb-true, ltb-false}
-use Rattle.std.proofs.lemmas.List.Folds.{list_any-append, list_any_at}
+use Rattle.std.proofs.lemmas.List.Folds.{list_any_at}
 use Rattle.std.proofs.Math.Nat.{eq-or-lt_of_le}
 use Rattle.std.proofs.Math.Seq.{drop-cons}
 use Rattle.std.proofs.lemmas.List.{take-append-drop, take_all, set_split, get_or_default}
@@ -12,17 +13,14 @@ use Rattle.std.specs.Option.{option_copied}
 use Rattle.std.specs.List.{AllWithin, HoldsAt, insert, remove}
 use Rattle.gtid.specs.Interval.{is_within, has, AreLeast, IsNear}
 use Rattle.gtid.specs.declared.interval.Interval.{Interval}
+use Rattle.gtid.proofs.Disjunctions.{or_swap}
+use Rattle.gtid.proofs.Combined.{has-append, last_end}
 
--- where the last of the intervals ends
-abbrev pub end_of : ℕ → List Interval → ℕ
-end_of end [] = end
-end_of end (i ∷ intervals) = end_of i.hi intervals
-
-least-after : (end : ℕ) (xs ys : List Interval) → AreLeast end (xs ++ ys) → AreLeast (end_of end xs) ys
+least-after : (end : ℕ) (xs ys : List Interval) → AreLeast end (xs ++ ys) → AreLeast (last_end end xs) ys
 least-after end [] ys least = least
 least-after end (x ∷ xs) ys (gap, some, small, least) = least-after x.hi xs ys least
 
-least-with : (end : ℕ) (xs ys zs : List Interval) → AreLeast end (xs ++ ys) → AreLeast (end_of end xs) zs → AreLeast end (xs ++ zs)
+least-with : (end : ℕ) (xs ys zs : List Interval) → AreLeast end (xs ++ ys) → AreLeast (last_end end xs) zs → AreLeast end (xs ++ zs)
 least-with end [] ys zs least new = new
 least-with end (x ∷ xs) ys zs (gap, some, small, least) new = (gap, some, small, least-with x.hi xs ys zs least new)
 
@@ -51,7 +49,7 @@ above_front (i ∷ intervals) zero n le front = refl
 above_front (i ∷ intervals) (suc at) n le front =
     rw (is_above n i (front 0 i (omega arith) (omega arith))) (above_front intervals at n (omega arith) (λ k d low high. front (suc k) d (omega arith) (omega arith)))
 
-end_front : (end : ℕ) (intervals : List Interval) (at n : ℕ) → at ≤ length intervals → end < n → AllWithin (λ i. i.hi < n) intervals 0 at → end_of end (take at intervals) < n
+end_front : (end : ℕ) (intervals : List Interval) (at n : ℕ) → at ≤ length intervals → end < n → AllWithin (λ i. i.hi < n) intervals 0 at → last_end end (take at intervals) < n
 end_front end [] zero n le below front = below
 end_front end [] (suc at) n le below front = below
 end_front end (i ∷ intervals) zero n le below front = below
@@ -81,15 +79,8 @@ ends_ascend intervals least j k d le h = elim (eq-or-lt_of_le le) [
 pub split_at : (intervals : List Interval) (at : ℕ) (x : Interval) → at < length intervals → x ≡ get_or intervals at x → intervals ≡ take at intervals ++ x ∷ drop (suc at) intervals
 split_at intervals at x within is = sym (take-append-drop at intervals) ∙ ap (λ rest. take at intervals ++ rest) (drop-cons intervals at x within ∙ ap (λ y. y ∷ drop (suc at) intervals) (sym is))
 
-has-append : (xs ys : List Interval) (n : ℕ) → has (xs ++ ys) n ≡ (has xs n || has ys n)
-has-append xs ys n = list_any-append (is_within n) xs ys
-
 within_until : (n : ℕ) (i : Interval) → n < i.hi → is_within n i ≡ leb i.lo n
 within_until n i h = grind (arith, nat_tests)
-
-or-false : (b : Bool) → (b || false) ≡ b
-or-false true = refl
-or-false false = refl
 
 pub has_at : (intervals : List Interval) (at n : ℕ) (x : Interval) → AreLeast 0 intervals → AllWithin (λ i. i.hi ≤ n) intervals 0 at → at < length intervals →
     x ≡ get_or intervals at x → n < x.hi → leb x.lo n ≡ has intervals n
@@ -116,16 +107,11 @@ pub record Added (number : ℕ) (old new : List Interval) : Type 0 where
   pub fresh : has old number ≡ false
   pub adds : (n : ℕ) → has new n ≡ (nat_eq n number || has old n)
 
-or-left : (a b c : Bool) → (a || (b || c)) ≡ (b || (a || c))
-or-left true true c = refl
-or-left true false c = refl
-or-left false b c = refl
-
 or-assoc : (a b c : Bool) → ((a || b) || c) ≡ (a || (b || c))
 or-assoc true b c = refl
 or-assoc false b c = refl
 
-added-by : (number : ℕ) (old new xs ys zs : List Interval) → old ≡ xs ++ ys → new ≡ xs ++ zs → AreLeast 0 old → has xs number ≡ false → AreLeast (end_of 0 xs) zs → has ys number ≡ false →
+added-by : (number : ℕ) (old new xs ys zs : List Interval) → old ≡ xs ++ ys → new ≡ xs ++ zs → AreLeast 0 old → has xs number ≡ false → AreLeast (last_end 0 xs) zs → has ys number ≡ false →
     ((n : ℕ) → has zs n ≡ (nat_eq n number || has ys n)) → Added number old new
 added-by number old new xs ys zs old_is new_is least front now fresh adds = record {
   least = subst (AreLeast 0) (sym new_is) (least-with 0 xs ys zs (subst (AreLeast 0) old_is least) now);
@@ -134,7 +120,7 @@ added-by number old new xs ys zs old_is new_is least front now fresh adds = reco
       ap (λ l. has l n) new_is
       ∙ has-append xs zs n
       ∙ ap (λ b. has xs n || b) (adds n)
-      ∙ or-left (has xs n) (nat_eq n number) (has ys n)
+      ∙ or_swap (has xs n) (nat_eq n number) (has ys n)
       ∙ ap (λ b. nat_eq n number || b) (sym (has-append xs ys n) ∙ ap (λ l. has l n) (sym old_is));
 }
 

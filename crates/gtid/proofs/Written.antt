@@ -22,9 +22,6 @@ next_fits bytes of items at d old out all w lt =
     let e : out ++ (x ++ left) ≡ old ++ all = ap (λ l. out ++ flat_map bytes (map of l)) (sym (drop-cons items at d lt)) ∙ w.rest in
     omega (arith, ap length e, length-append out (x ++ left), length-append x left, length-append old all)
 
-pub at_most : (a b d : ℕ) → a ≤ b → b ≤ d → a ≤ d
-at_most a b d first second = omega (arith, first, second)
-
 pub grows_same : (old new : List ℕ) → new ≡ old → Grows old new
 grows_same old new is = record { more = []; grown = is ∙ sym (append-nil old) }
 

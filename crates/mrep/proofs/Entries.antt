@@ -120,10 +120,6 @@ pub nil_from : (xs : List ℕ) → (xs ≢ [] → ⊥) → xs ≡ []
 nil_from [] h = refl
 nil_from (x ∷ xs) h = absurd (h (λ e. cc))
 
-pub false_from : (b : Bool) → (b ≡ true → ⊥) → b ≡ false
-false_from true h = absurd (h refl)
-false_from false h = refl
-
 -- it stays wrong, whatever bytes follow
 pub IsWrong-more : (bytes more : List ℕ) (fault : WireFault) → 3 < length bytes → IsWrong bytes fault → IsWrong (bytes ++ more) fault
 IsWrong-more bytes more (Sequence want got) long wrong = subst (λ id. IsOutOfSequence id largest_payload (bytes ++ more) want got) (sym (get_or-append bytes more 0 3 long)) (more_wrong more wrong)

@@ -19,13 +19,14 @@ use Rattle.gather.specs.Transaction.{DeliveryValue, AreDeliveries}
 use Rattle.gather.proofs.Shortening as shortening
 use Rattle.gather.proofs.OneList.{one_list_of_deliveries}
 use Rattle.store.specs.State.{Content}
+use Rattle.store.specs.Open.{nothing}
 use Rattle.replica.specs.declared.end.Ended.{Ended}
 use Rattle.replica.specs.Stream.{Due, Hello, InDump, IsInDump, Talks, Reading, due_after}
 use Rattle.replica.specs.Conn.{AppliesAll, IsDumpTooLong, Why, Conn, AppliesFirst}
 use Rattle.replica.proofs.Push.{applies_push}
 use Rattle.scripted_source.specs.Script.{ScriptValue}
 use Rattle.scripted_source.specs.Source.{Payload, ArePackings, CanSend, due, events_of, payloads_of, end_payloads, eof_payload, sent_payloads, is_once}
-use Rattle.replica.specs.Resume.{transaction, transactions, empty_content, Reaches, Resumes, end_reason, Leads}
+use Rattle.replica.specs.Resume.{transaction, transactions, Reaches, Resumes, end_reason, Leads}
 use Rattle.replica.proofs.Scripted.{seen, delivers}
 use Rattle.replica.proofs.Bytes.{all_front, all_back}
 use Rattle.replica.proofs.Talking.{Cut, are_cut, events_writable, talks_events, talks_all, dump_due, IsBlocked, beginning, ends_there, are_read}
@@ -45,7 +46,7 @@ count_of names j history within = omega (arith, length-map (take j history) (tra
 
 no_more : (names : Names) (history : List ScriptValue) (j : ℕ) (held : Content) → Reaches names history j held → j ≤ length history
 no_more names history j held reached =
-    let most = at_most names empty_content (transactions names (take j history)) j held reached in
+    let most = at_most names nothing (transactions names (take j history)) j held reached in
     omega (arith, most, length-map (take j history) (transaction names), length-take j history)
 
 pub left_of : (names : Names) (history : List ScriptValue) (j : ℕ) (held last : Content) → j ≤ length history → Reaches names history j held → Reaches names history (length history) last → Left names history j held last
@@ -55,13 +56,13 @@ left_of names history j held last within reached all =
     let n = length history in
     let parts : transactions names (take n history) ≡ xs ++ ys =
     ap (transactions names) (take-length history ∙ sym (take-append-drop j history)) ∙ map-append (transaction names) (take j history) (drop j history) in
-    let h = halves names empty_content xs ys n last (subst (λ l. AppliesAll names empty_content l n last) parts all) in
-    let s = all_one names empty_content xs h.first j h.mid held h.applies_first reached in
+    let h = halves names nothing xs ys n last (subst (λ l. AppliesAll names nothing l n last) parts all) in
+    let s = all_one names nothing xs h.first j h.mid held h.applies_first reached in
     let size : length xs ≡ j = count_of names j history within in
     let both : length xs + length ys ≡ n = sym (length-append xs ys) ∙ ap length (sym parts) ∙ length-map (take n history) (transaction names) ∙ ap length (take-length history) in
     let second : h.second ≡ length ys = omega (arith, h.sum, s.count, size, both) in
     let applies : AppliesAll names held ys (length ys) last = subst (λ c. AppliesAll names c ys (length ys) last) s.content (subst (λ k. AppliesAll names h.mid ys k last) second h.applies_second) in
-    let first = each_new names empty_content xs j held size reached in
+    let first = each_new names nothing xs j held size reached in
     let later = each_new names held ys (length ys) last refl applies in
     record {
       applies = applies;
@@ -80,12 +81,12 @@ reaches_on names history j held last ds others applied new reached left parts ap
     let rest = at_most names h.mid others h.second last h.applies_second in
     let count : applied ≡ length ds = omega (arith, s.count, sizes, most, rest, h.sum) in
     let xs = transactions names (take j history) in
-    let all : AppliesAll names empty_content (xs ++ ds) (j + length ds) new =
-    applies_push names empty_content xs j held ds (length ds) new reached (subst (λ k. AppliesAll names held ds k new) count applies) in
+    let all : AppliesAll names nothing (xs ++ ds) (j + length ds) new =
+    applies_push names nothing xs j held ds (length ds) new reached (subst (λ k. AppliesAll names held ds k new) count applies) in
     let list : transactions names (take (j + length ds) history) ≡ xs ++ ds =
     ap (transactions names) (take_both j (length ds) history) ∙ map-append (transaction names) (take j history) (take (length ds) (drop j history))
     ∙ ap (λ l. xs ++ l) (first_of_map (transaction names) (drop j history) ds others parts) in
-    subst (λ l. AppliesAll names empty_content l (j + length ds) new) (sym list) all
+    subst (λ l. AppliesAll names nothing l (j + length ds) new) (sym list) all
 
 -- ---- What the source sends.
 

@@ -1,13 +1,13 @@
 -- A replica that asks a scripted source again. MySQL Source Documentation, Client/Server Protocol, "Connection Phase";
 -- Replication Protocol: COM_BINLOG_DUMP_GTID.
 use Rattle.std.specs.Prelude.{◌≡◌, ℕ, ◌+◌, ◌^◌, ◌<◌, ◌≤◌, ◌++◌, Bool, false, List, [], ◌∷◌, length, map, take, flat_map, if◌then◌else◌}
-use Rattle.std.specs.FinSet as set
 use Rattle.std.specs.List.{AllByRecursion}
 use Rattle.wire.specs.Packet.{largest_payload}
 use Rattle.greet.specs.Message.{DumpValue}
 use Rattle.binlog.specs.Filter.{Names, admits}
 use Rattle.gather.specs.Transaction.{ChangeValue, DeliveryValue, change_of}
 use Rattle.store.specs.State.{Content}
+use Rattle.store.specs.Open.{nothing}
 use Rattle.replica.specs.declared.end.Reason.{Reason}
 use Rattle.replica.specs.declared.end.Reason.TheVariants.{EndOfInput, SourceEof}
 use Rattle.replica.specs.declared.end.Ended.{Ended}
@@ -28,14 +28,10 @@ transaction names script = record { source = script.source; number = script.numb
 abbrev pub transactions : Names → List ScriptValue → List DeliveryValue
 transactions names history = map (transaction names) history
 
--- the empty executed set, and no rows
-abbrev pub empty_content : Content
-empty_content = record { executed = set.empty; rows = λ row. 0 }
-
 -- The first transactions, this many, are each new and can be applied, in their order from the empty content, and lead to
 -- this content.
 abbrev pub Reaches : Names → List ScriptValue → ℕ → Content → Type 0
-Reaches names history count content = AppliesAll names empty_content (transactions names (take count history)) count content
+Reaches names history count content = AppliesAll names nothing (transactions names (take count history)) count content
 
 -- ---- The law.
 

@@ -88,10 +88,6 @@ pub if_appends : {E : Type 0} (r : Result ℕ E) (id : ℕ) (ps qs : List Payloa
 if_appends (Ok n) id ps qs old mid new m a b = appends_more id ps qs old mid new m n a b
 if_appends (Err e) id ps qs old mid new m a b = tt
 
-pub on_ok : {T E P : Type 0} (r : Result T E) → P → OnOk r P
-on_ok (Ok x) p = p
-on_ok (Err e) p = tt
-
 pub memory_failed : {T U : Type 0} (P : ForgeFault → Type 0) (r : Result T ForgeFault) (f : ForgeFault) → IsErrAnd r (λ y. y ≡ f) → ◌≡◌ {A = Result U ForgeFault} (Err f) (Err Memory) → IfErr r (λ y. P y ⊎ (y ≡ Memory))
 memory_failed P (Ok x) f h e = tt
 memory_failed P (Err y) f h e = inr (cc)

@@ -1,5 +1,5 @@
 -- The executed set in memory during a transaction.
-use Rattle.std.proofs.Common.{◌≡◌, ◌⊎◌, inl, inr, ℕ, List, true, false, IsTrue, Ok, Err, Result, refl, sym, ap, subst, subst₂, ◌∙◌}
+use Rattle.std.proofs.Common.{◌≡◌, ◌⊎◌, inl, inr, ℕ, List, false, IsTrue, Ok, Err, Result, refl, sym, ap, subst, subst₂, ◌∙◌}
 use Rattle.std.specs.FinSet as set
 use Rattle.std.proofs.lemmas.Bool.{false≢true, cases_Bool, true≢false}
 use Rattle.sqlite_value.specs.Order.{Row}

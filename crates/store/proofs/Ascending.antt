@@ -4,14 +4,9 @@ use Rattle.std.specs.Prelude.{slice_index_or}
 use Rattle.std.specs.List.Sorted.{IsSortedBy}
 use Rattle.std.specs.Ordering.{is_lt}
 use Rattle.std.specs.declared.cmp.Ordering.{Ordering}
+use Rattle.store.specs.Load.{Ascends}
 
--- No item is less than the one before it.
-abbrev pub AscendsBy : {X : Type 0} → (X → X → Ordering) → List X → Type 0
-AscendsBy cmp [] = Unit {0}
-AscendsBy cmp (a ∷ []) = Unit {0}
-AscendsBy cmp (a ∷ b ∷ xs) = (is_lt (cmp b a) ≡ false) × AscendsBy cmp (b ∷ xs)
-
-pub ascends_of : {X : Type 0} (cmp : X → X → Ordering) (xs : List X) → IsSortedBy (λ x y. is_lt (cmp x y)) xs → AscendsBy cmp xs
+pub ascends_of : {X : Type 0} (cmp : X → X → Ordering) (xs : List X) → IsSortedBy (λ x y. is_lt (cmp x y)) xs → Ascends cmp xs
 ascends_of cmp [] s = tt
 ascends_of cmp (a ∷ []) s = tt
 ascends_of cmp (a ∷ b ∷ xs) s = (

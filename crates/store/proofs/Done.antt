@@ -9,7 +9,8 @@ use Rattle.sqlite.specs.State.{State, ExecutesInside, Shown, IsUnchanged}
 use Rattle.sqlite.proofs.Callers.{one_permutation}
 use Rattle.store.specs.Layout.{IsLaidOut, read_text, insert_text, update_text, delete_text}
 use Rattle.store.specs.Changes.{most}
-use Rattle.store.specs.Rows.{Key, IsStoredImage, Finds, IsCount, is_at, held_rows, count, with_one, without_one}
+use Rattle.gather.specs.Image.{IsSomeImage}
+use Rattle.store.specs.Rows.{Key, Finds, IsCount, is_at, held_rows, count, with_one, without_one}
 use Rattle.store.specs.Inside.{IsWorking, HasCounts}
 use Rattle.store.proofs.Selects.{key_params}
 use Rattle.store.proofs.Statements.{inserts, deletes, updates, shown_reads, shown_same}
@@ -26,7 +27,7 @@ module _ (old new : State) (key : Key) (was : IsWorking old) where
   pub done_same : {X : Type 0} (items : X → List Row) (r : Result X Error) → IfOk r (λ x. Shown read_text (key_params key []) old new (items x)) → OnOk r (IsUnchanged old new)
   done_same items r h = shown_same old.now.schema l items r old new key refl h
 
-  pub done_insert : (r : Result ℕ Error) → IsStoredImage key.image → ExecutesInside 0 insert_text (key_params key []) old new r → OnOk r (HasCounts old new (with_one key (count (held_rows old.now))))
+  pub done_insert : (r : Result ℕ Error) → IsSomeImage key.image → ExecutesInside 0 insert_text (key_params key []) old new r → OnOk r (HasCounts old new (with_one key (count (held_rows old.now))))
   done_insert (Ok n) stored h = holds_inserted old new was key stored (inserts old.now.schema l old new refl key n h.0)
   done_insert (Err e) stored h = tt
 

@@ -28,7 +28,8 @@ use Rattle.sqlite.specs.State.{State}
 use Rattle.sqlite.proofs.Callers.{one_permutation}
 use Rattle.store.specs.Layout.{IsLaidOut, IsFound, tree_named, meta_tree, held_tree, spans_tree, follow_tree, meta_at, held_at, spans_at, follow_at}
 use Rattle.store.specs.Changes.{most}
-use Rattle.store.specs.Rows.{Key, IsStoredImage, IsHeldRow, HasRowids, is_at, is_blob, count, with_one, without_one, held_rows, span_rows}
+use Rattle.gather.specs.Image.{IsSomeImage}
+use Rattle.store.specs.Rows.{Key, IsHeldRow, HasRowids, is_at, is_blob, count, with_one, without_one, held_rows, span_rows}
 use Rattle.store.specs.Inside.{IsWorking, GoesOn, HasCounts}
 use Rattle.store.specs.Beside.{LiesBeside, own_names}
 use Rattle.store.proofs.Spared.{beside_written, own_found, own_held}
@@ -149,7 +150,7 @@ module _ (old new : State) (was : IsWorking old) where
   news_inserted : (key : Key) → (edit_of old.now.trees (held_at schema) [] Chosen 0 ((Null ∷ Blob key.schema ∷ Blob key.table ∷ Blob key.image ∷ Int (pos 1) ∷ []) ∷ [])).news ≡ new_held key ∷ []
   news_inserted key = rw (cast_null, cast_int (pos 1)) refl
 
-  pub holds_inserted : (key : Key) → IsStoredImage key.image
+  pub holds_inserted : (key : Key) → IsSomeImage key.image
       → Applied schema old new (edit_of old.now.trees (held_at schema) [] Chosen 0 ((Null ∷ Blob key.schema ∷ Blob key.table ∷ Blob key.image ∷ Int (pos 1) ∷ []) ∷ []))
       → HasCounts old new (with_one key (count (held_rows old.now)))
   holds_inserted key stored h =

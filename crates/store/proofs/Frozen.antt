@@ -1,5 +1,5 @@
 -- Trees whose SQL is not understood, after one statement.
-use Rattle.std.proofs.Common.{◌≡◌, ◌≢◌, ◌<◌, ◌≤◌, ◌+◌, ◌%◌, ◌⊎◌, inl, inr, ℕ, pos, Bool, true, false, Some, List, [], ◌∷◌, ◌++◌, filter, find, map, unwrap_or, ◌==◌, ◌||◌, not, refl, sym, ap, subst, ◌∙◌, arith}
+use Rattle.std.proofs.Common.{◌≡◌, ◌<◌, ◌≤◌, ◌+◌, ◌%◌, ◌⊎◌, inl, inr, ℕ, pos, Bool, true, false, Some, List, [], ◌∷◌, ◌++◌, filter, find, map, unwrap_or, ◌==◌, ◌||◌, not, refl, sym, ap, subst, ◌∙◌, arith}
 use Rattle.std.specs.List.{list_any}
 use Rattle.std.proofs.lemmas.Bool.Decides.{nat_tests}
 use Rattle.std.proofs.lemmas.Bool.{cases_Bool, and_parts, not-true, true≢false}

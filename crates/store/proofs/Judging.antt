@@ -13,7 +13,8 @@ use Rattle.sqlite_trees.specs.Tree.{rowid}
 use Rattle.sqlite_trees.specs.View.{is_int}
 use Rattle.gtid.specs.Identifier.{IsSource}
 use Rattle.gtid.specs.declared.span.Span.{Span}
-use Rattle.store.specs.Rows.{alike, HasRowids, IsFollowRow, IsExecutedRow, IsSpanRow, IsHeldRow, IsStoredImage, name_in, id_in, span_in, span, key_of}
+use Rattle.gather.specs.Image.{IsSomeImage}
+use Rattle.store.specs.Rows.{alike, HasRowids, IsFollowRow, IsExecutedRow, IsSpanRow, IsHeldRow, name_in, id_in, span_in, span, key_of}
 use Rattle.store.specs.Changes.{most}
 use Rattle.store.specs.Judge.{Rise, span_of_id}
 
@@ -79,14 +80,14 @@ pub lawful_span : (row : Row) (id : ℤ) (source : List ℕ) (lo hi : ℕ) (s : 
     → 1 ≤ lo → lo < hi → hi ≤ most → s ≡ span source lo hi → IsSpanRow row × (s ≡ span_in row)
 lawful_span row id source lo hi s is lawful low some high s_is = ((id, span source lo hi, is, lawful, low, some, omega (arith, high)), s_is ∙ ap span_in (sym is))
 
-unstored : (row : Row) (id : ℤ) (a b image : List ℕ) (z : ℤ) → row ≡ Int id ∷ Blob a ∷ Blob b ∷ Blob image ∷ Int z ∷ [] → ¬ IsStoredImage image → ¬ IsHeldRow row
+unstored : (row : Row) (id : ℤ) (a b image : List ℕ) (z : ℤ) → row ≡ Int id ∷ Blob a ∷ Blob b ∷ Blob image ∷ Int z ∷ [] → ¬ IsSomeImage image → ¬ IsHeldRow row
 unstored row id a b image z is none held =
     let same : (Int id ∷ Blob a ∷ Blob b ∷ Blob image ∷ Int z ∷ []) ≡ (Int held.0 ∷ Blob held.1.schema ∷ Blob held.1.table ∷ Blob held.1.image ∷ Int (pos held.2) ∷ []) = sym is ∙ held.3 in
     let one : held.1.image ≡ image = cc in
-    none (subst IsStoredImage one held.6)
+    none (subst IsSomeImage one held.6)
 
 pub lawful_held : {E : Type 0} (row : Row) (id : ℤ) (a b image : List ℕ) (n : ℕ) (r : Result Bool E) → row ≡ Int id ∷ Blob a ∷ Blob b ∷ Blob image ∷ Int (pos n) ∷ [] → 1 ≤ n → n ≤ most
-    → IfOk r (λ b. MatchBool b (IsStoredImage image) (¬ IsStoredImage image)) → IfOk r (λ b. MatchBool b (IsHeldRow row) (¬ IsHeldRow row))
+    → IfOk r (λ b. MatchBool b (IsSomeImage image) (¬ IsSomeImage image)) → IfOk r (λ b. MatchBool b (IsHeldRow row) (¬ IsHeldRow row))
 lawful_held row id a b image n (Ok true) is low high stored = (id, key_of a b image, n, is, low, high, stored)
 lawful_held row id a b image n (Ok false) is low high none = unstored row id a b image (pos n) is none
 lawful_held row id a b image n (Err e) is low high h = h

@@ -1,5 +1,5 @@
 -- The layout that the rows of meta state.
-use Rattle.std.proofs.Common.{ℤ, List, codes, Option, None, Some, Ok, Err, Result, OnOk, subst}
+use Rattle.std.proofs.Common.{ℤ, List, codes, Option, None, Some, subst}
 use Rattle.std.specs.List.Sorted.{IsPermutation}
 use Rattle.std.proofs.lemmas.List.Sorted.{IsPermutation-map, IsPermutation-sym}
 use Rattle.sqlite_trees.proofs.ListLemmas.{IsPermutation-filter}
@@ -16,7 +16,3 @@ same_layouts rows answer same = IsPermutation-map (λ (row : Row). column row 2)
 pub only_back : (rows answer : List Row) (said : Option ℤ) → IsPermutation rows answer → IsOnly (layouts answer) said → IsOnly (layouts rows) said
 only_back rows answer None same only = λ n says. only n (one_permutation (Int n) _ (subst (λ l. IsPermutation l (layouts answer)) says (same_layouts rows answer same)))
 only_back rows answer (Some n) same only = one_permutation (Int n) _ (subst (λ l. IsPermutation l (layouts rows)) only (IsPermutation-sym _ _ (same_layouts rows answer same)))
-
-pub on_any : {X E P : Type 0} (r : Result X E) → P → OnOk r P
-on_any (Ok x) p = p
-on_any (Err e) p = tt

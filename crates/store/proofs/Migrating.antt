@@ -1,5 +1,6 @@
 -- What each statement of the migration does, where it succeeds.
 use Rattle.std.proofs.Common.{◌≡◌, ℕ, ℤ, codes, pos, List, [], ◌∷◌, map, filter, not, Bool, true, false, cond, None, Ok, Err, Result, OnOk, IsTrue, inl, inr, refl, sym, ap, ap₂, subst, subst₂, ◌∙◌}
+use Rattle.std.proofs.Math.Bool.{and-true}
 use Rattle.std.specs.List.{AllByRecursion}
 use Rattle.std.specs.Prelude.{MatchBool}
 use Rattle.std.specs.List.Sorted.{IsPermutation}
@@ -50,7 +51,7 @@ use Rattle.store.proofs.Cut.{base_has, one_has, counted_base, counted_one, bare}
 use Rattle.store.proofs.Left.{cut, not_acted, meta_left, held_left, meta_off, held_off, rows_left, beside_dropped}
 use Rattle.store.proofs.MigratingTexts.{raise_is, raise_plain}
 use Rattle.store.proofs.Making.{creates, still_made, still_empty, made_trees}
-use Rattle.store.proofs.Selects.{shown_bool, and_true}
+use Rattle.store.proofs.Selects.{shown_bool}
 use Rattle.store.proofs.Spared.{beside_unchanged, own_found, own_executed, own_meta, own_spans, own_follow}
 use Rattle.store.proofs.Statements.{changes, on_table, went, same_value, cast_int}
 use Rattle.store.proofs.RowLemmas.{put_among, rowids_put, rowids_without, left_is, equal_is, all_filtered}
@@ -175,7 +176,7 @@ abbrev is_layout : Row → Bool
 is_layout row = is_text (codes "layout") (column row 1)
 
 layout_holds : (row : Row) → list_all (holds ([] ∷ row ∷ [])) says_layout ≡ is_layout row
-layout_holds row = and_true _ ∙ equals_text (column row 1) (codes "layout")
+layout_holds row = and-true _ ∙ equals_text (column row 1) (codes "layout")
 
 one_mapped : (f : Row → Value) (rows : List Row) (y : Value) → map f rows ≡ y ∷ [] → (r : Row) × (rows ≡ r ∷ [])
 one_mapped f [] y h = absurd (cc)

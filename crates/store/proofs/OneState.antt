@@ -1,13 +1,11 @@
 -- A database stands for one content at most, and then it is neither damaged nor of another layout.
-use Rattle.std.proofs.Common.{◌≡◌, ◌<◌, ◌≤◌, ◌-◌, ◌^◌, inl, inr, ◌≢◌, ◌+◌, ℕ, zero, suc, ℤ, pos, negsuc, Bool, true, false, ◌||◌, ◌&&◌, bytes_eq, nat_eq, nat_le, nat_lt, ◌++◌, List, [], ◌∷◌, length, map, IsTrue, refl, sym, ap, ap₂, subst, subst₂, ◌∙◌, arith}
+use Rattle.std.proofs.Common.{◌≡◌, ◌<◌, ◌≤◌, ◌-◌, ◌^◌, inl, inr, ◌≢◌, ℕ, zero, suc, ℤ, pos, negsuc, true, ◌||◌, List, [], ◌∷◌, length, map, flat_map, IsTrue, refl, sym, ap, ap₂, subst, subst₂, ◌∙◌, arith}
 use Rattle.std.specs.List.{AllByRecursion, IsDistinct, list_any}
 use Rattle.std.specs.List.Sorted.{IsPermutation}
 use Rattle.std.specs.FinSet as set
 use Rattle.std.proofs.lemmas.Bool.{false≢true, cases_Bool, le-leb, lt-ltb, or_right}
 use Rattle.std.specs.Ordering.{eq_by_cmp}
 use Rattle.std.proofs.lemmas.List.Folds.{list_any-append}
-use Rattle.std.proofs.lemmas.Bool.Decides.{nat_tests}
-use Rattle.std.proofs.lemmas.Grind.{common_steps}
 use Rattle.std.proofs.lemmas.List.Sorted.{IsPermutation-sym, IsPermutation-trans, IsPermutation-map, list_any-IsPermutation}
 use Rattle.std.proofs.lemmas.Map.Keys.{IsDistinct-IsPermutation}
 use Rattle.std.proofs.lemmas.Slice.Eq.{bytes_eq-Decides}
@@ -20,9 +18,11 @@ use Rattle.sqlite_rules.specs.Edit.{id_in}
 use Rattle.sqlite_rules.proofs.TableLemmas.{int_is}
 use Rattle.sqlite.specs.Effect.{Database, IsDatabase}
 use Rattle.gtid.specs.Identifier.{Id, Ids, IsSource, IsGtid, id_cmp}
+use Rattle.gtid.specs.Group.{ids_of_interval}
 use Rattle.gtid.specs.Span.{is_in, Covers}
+use Rattle.gtid.specs.declared.interval.Interval.{Interval}
 use Rattle.gtid.specs.declared.span.Span.{Span}
-use Rattle.gtid.proofs.Sets.{id_cmp_total, id_cmp-same, tied}
+use Rattle.gtid.proofs.Sets.{id_cmp_total, id_cmp-same, listed_in_interval}
 use Rattle.binlog.specs.Filter.{Names}
 use Rattle.store.specs.State.{Content}
 use Rattle.store.specs.Layout.{spans_at, IsFirstLaidOut, IsLaidOut, IsVacant}
@@ -32,7 +32,7 @@ use Rattle.store.proofs.AnyWhole.{has_index}
 use Rattle.store.proofs.Known.{meta_there, none_meta, none_any, known_first, known_second}
 use Rattle.store.proofs.Readings.{row_lengths}
 use Rattle.store.proofs.SpanRows
-use Rattle.store.proofs.SpanRows.{flips, some_spans}
+use Rattle.store.proofs.SpanRows.{flips}
 use Rattle.store.proofs.SortedSpans.{all_some, all_distinct}
 
 -- ---- One number under the key `layout`.
@@ -189,46 +189,17 @@ never_two db k (breaks_second there says off) o = o.3 (one_number (first_meta_ro
 
 -- ---- It is one of the three.
 
--- the GTIDs of a source from a number on, so many
-run : List ℕ → ℕ → ℕ → List Id
-run source lo zero = []
-run source lo (suc n) = (source, lo) ∷ run source (lo + 1) n
+abbrev ids_of_spans : List Span → List Id
+ids_of_spans = flat_map (λ s. ids_of_interval s.source (record { lo = s.lo; hi = s.hi }))
 
--- those of spans
-runs : List Span → List Id
-runs [] = []
-runs (s ∷ spans) = run s.source s.lo (s.hi - s.lo) ++ runs spans
+in_spans : (q : Id) (spans : List Span) → list_any (eq_by_cmp id_cmp q) (ids_of_spans spans) ≡ list_any (is_in q) spans
+in_spans q [] = refl
+in_spans q (s ∷ spans) =
+    let i : Interval = record { lo = s.lo; hi = s.hi } in
+    list_any-append (eq_by_cmp id_cmp q) (ids_of_interval s.source i) (ids_of_spans spans) ∙ ap₂ (λ b c. b || c) (listed_in_interval q s.source i) (in_spans q spans)
 
-none_past : (lo q : ℕ) → (nat_le lo q && nat_lt q (lo + 0)) ≡ false
-none_past lo q = grind (arith, common_steps, nat_tests)
-
-one_more : (lo q n : ℕ) → (nat_eq q lo || (nat_le (lo + 1) q && nat_lt q (lo + 1 + n))) ≡ (nat_le lo q && nat_lt q (lo + suc n))
-one_more lo q n = grind (arith, common_steps, nat_tests)
-
-no_one : (b : Bool) → (b && false) ≡ false
-no_one true = refl
-no_one false = refl
-
-of_one_source : (b c d e : Bool) → (c || d) ≡ e → ((b && c) || (b && d)) ≡ (b && e)
-of_one_source true c d e h = h
-of_one_source false c d e h = refl
-
-in_run : (q : Id) (source : List ℕ) (lo n : ℕ) → list_any (eq_by_cmp id_cmp q) (run source lo n) ≡ is_in q (span source lo (lo + n))
-unfolding run
-in_run q source lo zero = sym (ap (λ b. bytes_eq q.0 source && b) (none_past lo q.1) ∙ no_one (bytes_eq q.0 source))
-in_run q source lo (suc n) =
-    rw (tied q (source, lo), in_run q source (lo + 1) n) (of_one_source (bytes_eq q.0 source) (nat_eq q.1 lo) (nat_le (lo + 1) q.1 && nat_lt q.1 (lo + 1 + n)) _ (one_more lo q.1 n))
-
-in_runs : (q : Id) (spans : List Span) → AllByRecursion (λ s. s.lo < s.hi) spans → list_any (eq_by_cmp id_cmp q) (runs spans) ≡ list_any (is_in q) spans
-unfolding runs
-in_runs q [] some = refl
-in_runs q (s ∷ spans) some =
-    let end : s.lo + (s.hi - s.lo) ≡ s.hi = omega (arith, some.0) in
-    list_any-append (eq_by_cmp id_cmp q) (run s.source s.lo (s.hi - s.lo)) (runs spans)
-    ∙ ap₂ (λ b c. b || c) (in_run q s.source s.lo (s.hi - s.lo) ∙ ap (λ n. is_in q (span s.source s.lo n)) end) (in_runs q spans some.1)
-
-covered : (spans : List Span) → AllByRecursion (λ s. s.lo < s.hi) spans → Covers spans (set.from_list (runs spans))
-covered spans some q = set.contains-from_list id_cmp_total (runs spans) q ∙ in_runs q spans some
+covered : (spans : List Span) → Covers spans (set.from_list (ids_of_spans spans))
+covered spans q = set.contains-from_list id_cmp_total (ids_of_spans spans) q ∙ in_spans q spans
 
 pub some_state : (db : Database) → IsKnown db → has_any (tables_of db.schema) ≡ true → ((n : Names) (a : Content) → ¬ IsStored n db a) → ¬ IsDamaged db → ((k : ℤ) → ¬ IsOther db k) → ⊥
 some_state db known any none sound alike = elim (cases_Bool (tables_of db.schema).meta) [
@@ -252,15 +223,14 @@ some_state db known any none sound alike = elim (cases_Bool (tables_of db.schema
       | inl all ↦ (
           let laid = known_second db known says all in
           sound (breaks_second there says (λ rules.
-          let some = some_spans (map span_in (span_rows db)) (SpanRows.lawful_rows (span_rows db) rules.spans) in
-          let ids = set.from_list {R = id_cmp} (runs (map span_in (span_rows db))) in
+          let ids = set.from_list {R = id_cmp} (ids_of_spans (map span_in (span_rows db))) in
           none (set.from_list (map name_in (follow_rows db))) (record { executed = ids; rows = bag_of (count (held_rows db)) }) (inl (record {
             laid_out = laid;
             says = says;
             meta = rules.meta;
             follow = record { lawful = rules.follow; names_are = refl };
             held = rules.held;
-            executed = SpanRows.spans_are (span_rows db) ids rules.spans rules.apart (covered (map span_in (span_rows db)) some);
+            executed = SpanRows.spans_are (span_rows db) ids rules.spans rules.apart (covered (map span_in (span_rows db)));
             rows = refl;
           })))))
     ]

@@ -1,12 +1,13 @@
 -- The rows of held in the order of a query.
-use Rattle.std.proofs.Common.{◌≡◌, inl, inr, ℕ, ℤ, pos, List, [], ◌∷◌, Bool, true, false, not, ◌&&◌, ◌||◌, bytes_eq, None, Some, Ok, Err, Result, IfOk, refl, sym, ap, ap₂, subst₂, ◌∙◌}
+use Rattle.std.proofs.Common.{◌≡◌, inl, inr, ℕ, ℤ, pos, List, [], ◌∷◌, Bool, true, false, not, ◌&&◌, bytes_eq, None, Some, Ok, Err, Result, IfOk, refl, sym, ap, ap₂, subst₂, ◌∙◌}
+use Rattle.std.proofs.Math.Bool.{and-true}
 use Rattle.std.specs.List.{AllByRecursion, IsDistinct, list_any}
 use Rattle.std.specs.List.Sorted.{IsPermutation}
 use Rattle.std.specs.Ordering.{nat_cmp, is_eq, is_ne, is_lt, ordering_then, ordering_reverse}
 use Rattle.std.specs.Cmp.Lexicographic.{slice_cmp}
 use Rattle.std.specs.declared.cmp.Ordering.{Ordering}
 use Rattle.std.specs.declared.cmp.Ordering.TheVariants.{Less, Equal, Greater}
-use Rattle.std.proofs.lemmas.Bool.{cases_Bool, false≢true, true≢false, not-false}
+use Rattle.std.proofs.lemmas.Bool.{cases_Bool, or_parts, false≢true, true≢false, not-false}
 use Rattle.std.proofs.lemmas.Map.Keys.{IsDistinct-IsPermutation}
 use Rattle.std.proofs.lemmas.Map.Text.{is_eq-slice_cmp}
 use Rattle.binlog.proofs.Admitted.{bytes_eq-sym}
@@ -31,7 +32,7 @@ use Rattle.store.specs.Listing.{key_cmp, HasKey, KeysRise}
 use Rattle.store.specs.Load.{Ascends, by_order}
 use Rattle.store.proofs.AnyWhole.{has_index}
 use Rattle.store.proofs.Keyed.{key_total}
-use Rattle.store.proofs.Selects.{shown_bool, and_true, equals_blob}
+use Rattle.store.proofs.Selects.{shown_bool, equals_blob}
 
 -- ---- Keys of rows.
 
@@ -53,7 +54,7 @@ agrees : (a b : Row) (x y : Key) (i j m n : Value) → a ≡ i ∷ Blob x.schema
 unfolding first_key
 agrees a b x y i j m n p q =
     subst₂ (λ r s. agree plain key_columns r key_columns s ≡ same_keys r s) (sym p) (sym q)
-    (rw (equals_blob (Blob x.schema) y.schema, equals_blob (Blob x.table) y.table, equals_blob (Blob x.image) y.image) (ap (λ c. bytes_eq x.schema y.schema && (bytes_eq x.table y.table && c)) (and_true (bytes_eq x.image y.image))))
+    (rw (equals_blob (Blob x.schema) y.schema, equals_blob (Blob x.table) y.table, equals_blob (Blob x.image) y.image) (ap (λ c. bytes_eq x.schema y.schema && (bytes_eq x.table y.table && c)) (and-true (bytes_eq x.image y.image))))
 
 unlike : (o : Ordering) → is_ne o ≡ not (is_eq o)
 unlike Less = refl
@@ -81,11 +82,7 @@ one_pair a b p q apart clash = elim (cases_Bool (same_keys a b)) [
 
 none_true : (f : Row → Bool) (rows : List Row) → list_any f rows ≡ false → AllByRecursion (λ r. f r ≡ false) rows
 none_true f [] h = tt
-none_true f (r ∷ rows) h = let both = off (f r) (list_any f rows) h in (both.0, none_true f rows both.1)
-  where
-    off : (b c : Bool) → (b || c) ≡ false → (b ≡ false) × (c ≡ false)
-    off true c h = absurd (true≢false h)
-    off false c h = (refl, h)
+none_true f (r ∷ rows) h = let both = or_parts (f r) (list_any f rows) h in (both.0, none_true f rows both.1)
 
 abbrev Clashless : Row → Row → Type 0
 Clashless b a = (agree plain key_columns a key_columns b && differ (rowid a) (rowid b)) ≡ false

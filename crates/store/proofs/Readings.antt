@@ -12,7 +12,7 @@ use Rattle.sqlite_sql.specs.Term.{Term, eval_all}
 use Rattle.sqlite_sql.specs.Query.{IsAnswerAs, output, Output, output_cmp, key_cmp}
 use Rattle.std.specs.Ordering.{is_lt}
 use Rattle.sqlite_trees.proofs.ListLemmas.{all-permutation}
-use Rattle.store.proofs.Ascending.{AscendsBy, ascends_of}
+use Rattle.store.proofs.Ascending.{ascends_of}
 use Rattle.sqlite_sql.specs.Program.{overlay}
 use Rattle.sqlite_schema.specs.declared.schema.Column.{Column}
 use Rattle.sqlite_schema.specs.declared.schema.Constraint.TheVariants.{Datatype, NotNull}
@@ -111,7 +111,7 @@ module _ (width : ℕ) (order : List (Term × Key)) where
     each_own tree rows all.1,
   )
 
-  shown_ascend : (tree : ℕ) (os : List Output) → AllByRecursion IsOwn os → AscendsBy (output_cmp (whole tree width order)) os → Ascends (by_order order) (map (λ (o : Output). o.1) os)
+  shown_ascend : (tree : ℕ) (os : List Output) → AllByRecursion IsOwn os → Ascends (output_cmp (whole tree width order)) os → Ascends (by_order order) (map (λ (o : Output). o.1) os)
   shown_ascend tree [] own h = tt
   shown_ascend tree (o ∷ []) own h = tt
   shown_ascend tree (o ∷ p ∷ os) own h = (

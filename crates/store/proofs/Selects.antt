@@ -1,5 +1,6 @@
 -- What a query by key shows.
 use Rattle.std.proofs.Common.{◌≡◌, ◌<◌, ◌^◌, ℕ, List, [], ◌∷◌, ◌++◌, map, filter, Bool, true, false, cond, ◌&&◌, Some, refl, sym, ap, subst, ◌∙◌, flat_map, ℤ}
+use Rattle.std.proofs.Math.Bool.{and-true}
 use Rattle.std.specs.List.Sorted.{IsPermutation}
 use Rattle.std.specs.List.{list_all}
 use Rattle.std.proofs.lemmas.List.Sorted.{IsPermutation-map}
@@ -48,14 +49,10 @@ equals_int (Blob x) n = shown_bool (is_eq (value_cmp (Blob x) (Int n)))
 abbrev pub key_params : Key → Row → Row
 key_params key more = Blob key.schema ∷ Blob key.table ∷ Blob key.image ∷ more
 
-pub and_true : (a : Bool) → (a && true) ≡ a
-and_true true = refl
-and_true false = refl
-
 pub key_holds : (key : Key) (more row : Row) → list_all (holds (key_params key more ∷ row ∷ [])) has_key ≡ is_at key row
 key_holds key more row =
     rw (equals_blob (column row 1) key.schema, equals_blob (column row 2) key.table, equals_blob (column row 3) key.image)
-    (ap (λ b. is_blob key.schema (column row 1) && (is_blob key.table (column row 2) && b)) (and_true (is_blob key.image (column row 3))))
+    (ap (λ b. is_blob key.schema (column row 1) && (is_blob key.table (column row 2) && b)) (and-true (is_blob key.image (column row 3))))
 
 numeric_int : (n : ℤ) → unary ToNumeric (Int n) ≡ Int n
 unfolding unary
@@ -64,7 +61,7 @@ numeric_int n = refl
 pub start_holds : (source : List ℕ) (n : ℤ) (row : Row) → list_all (holds ((Blob source ∷ Int n ∷ []) ∷ row ∷ [])) has_start ≡ begins_at source n (shown_span row)
 start_holds source n row =
     rw (numeric_int n, equals_blob (column row 1) source, equals_int (column row 2) n)
-    (ap (λ b. is_blob source (column row 1) && b) (and_true (is_eq (value_cmp (column row 2) (Int n)))))
+    (ap (λ b. is_blob source (column row 1) && b) (and-true (is_eq (value_cmp (column row 2) (Int n)))))
 
 one_more : (params r : Row) (b : Bool) (rows : List Row) → cond b ((params ∷ r ∷ []) ∷ []) [] ++ map (λ r. params ∷ r ∷ []) rows ≡ map (λ r. params ∷ r ∷ []) (cond b (r ∷ rows) rows)
 one_more params r true rows = refl

@@ -1,5 +1,5 @@
 -- The spans next to a number and the number become one span.
-use Rattle.std.proofs.Common.{get_or, suc, ◌≡◌, inl, inr, ℕ, ◌-◌, ◌<◌, ◌≤◌, ◌^◌, pos, List, [], ◌∷◌, ◌++◌, map, true, false, Some, None, Option, IfSome, Ok, Err, Result, OnOk, sym, ap, subst, ◌∙◌, arith}
+use Rattle.std.proofs.Common.{◌≡◌, inl, inr, ℕ, ◌-◌, ◌<◌, ◌≤◌, ◌^◌, pos, List, [], ◌∷◌, ◌++◌, map, true, false, Some, None, Option, IfSome, Ok, Err, Result, OnOk, sym, ap, subst, ◌∙◌, arith}
 use Rattle.std.specs.List.{AllByRecursion, IsDistinct}
 use Rattle.std.specs.List.Sorted.{IsPermutation}
 use Rattle.std.specs.FinSet as set
@@ -26,10 +26,6 @@ use Rattle.store.proofs.Made.{goes_then}
 use Rattle.store.proofs.RowLemmas.{equal_is}
 use Rattle.store.proofs.SpanRows.{flips}
 use Rattle.store.proofs.SortedSpans.{IsSome, IsClear, all_some, all_clear, all_distinct, without}
-
-pub all_bytes : (bytes : List ℕ) → ((i : ℕ) → get_or bytes i 0 < 256) → AllByRecursion (λ b. b < 256) bytes
-all_bytes [] h = tt
-all_bytes (b ∷ bytes) h = (h 0, all_bytes bytes (λ i. h (suc i)))
 
 same_int : (a b : ℕ) → is_eq (value_cmp (Int (pos a)) (Int (pos b))) ≡ true → a ≡ b
 same_int a b h =

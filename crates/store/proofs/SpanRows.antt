@@ -1,12 +1,10 @@
 -- The sets that rows of spans and of executed are.
-use Rattle.std.proofs.Common.{◌≡◌, ◌<◌, ◌≤◌, ◌+◌, ◌-◌, ◌^◌, ◌⊎◌, inl, inr, ℕ, Bool, true, false, not, ◌&&◌, nat_le, nat_lt, nat_eq, bytes_eq, List, [], ◌∷◌, map, None, Some, Ok, Err, Result, IfOk, IfErr, OnOk, refl, sym, ap, subst, ◌∙◌, arith}
+use Rattle.std.proofs.Common.{◌≡◌, ◌<◌, ◌≤◌, ◌-◌, ◌^◌, inl, inr, Bool, true, false, not, ◌&&◌, nat_le, nat_lt, bytes_eq, List, [], ◌∷◌, map, None, Some, Ok, Err, Result, IfOk, IfErr, OnOk, refl, sym, ap, subst, ◌∙◌, arith}
 use Rattle.std.specs.List.{AllByRecursion, IsDistinct, list_any}
 use Rattle.std.specs.List.Sorted.{IsPermutation}
 use Rattle.std.specs.FinSet as set
 use Rattle.std.specs.Ordering.{eq_by_cmp}
-use Rattle.std.proofs.lemmas.Bool.{and_parts, cases_Bool, leb-true, leb-false, le-leb, ltb-true, not-true, not-false}
-use Rattle.std.proofs.lemmas.Bool.Decides.{nat_tests}
-use Rattle.std.proofs.lemmas.Grind.{common_steps}
+use Rattle.std.proofs.lemmas.Bool.{and_cases, and_parts, cases_Bool, leb-true, leb-false, le-leb, ltb-true, not-true, not-false}
 use Rattle.std.proofs.lemmas.List.Sorted.{IsPermutation-map, IsPermutation-sym, list_any-IsPermutation}
 use Rattle.std.proofs.lemmas.Map.Keys.{IsDistinct-IsPermutation}
 use Rattle.std.proofs.lemmas.Slice.Eq.{bytes_eq-Decides}
@@ -16,6 +14,7 @@ use Rattle.gtid.specs.Span.{is_in, Covers, IsBefore, IsLeast, IsLawfulSpan}
 use Rattle.gtid.specs.Gathering.{Rise, Follows}
 use Rattle.gtid.specs.declared.span.Span.{Span}
 use Rattle.gtid.proofs.Sets.{id_cmp_total, id_cmp-same, tied}
+use Rattle.gtid.proofs.SomeLeastList.{one_number}
 use Rattle.binlog.proofs.Admitted.{bytes_eq-sym}
 use Rattle.store.specs.declared.fault.StoreFault.{StoreFault}
 use Rattle.store.specs.declared.fault.StoreFault.TheVariants.{Memory, Damaged}
@@ -48,14 +47,10 @@ unfolding IsDistinct
 apart_distinct [] lawful rise off = tt
 apart_distinct (a ∷ spans) lawful rise off = all_distinct (a ∷ spans) (least_from a spans lawful rise off)
 
-and_split : (b c : Bool) → (b && c) ≡ false → (b ≡ false) ⊎ (c ≡ false)
-and_split true c h = inr h
-and_split false c h = inl refl
-
 touching : (a : Span) (spans : List Span) → apart_from (Some a) spans ≡ false → IsDistinct touches (a ∷ spans) → ⊥
 unfolding IsDistinct
 touching a [] h up = absurd (cc)
-touching a (b ∷ spans) h up = elim (and_split (not (touches a b)) (apart_from (Some b) spans) h) [
+touching a (b ∷ spans) h up = elim (and_cases (not (touches a b)) (apart_from (Some b) spans) h) [
   | inl here ↦ (let one = not-false (touches a b) here in let off = up.0.0 in cc)
   | inr there ↦ touching b spans there up.1
 ]
@@ -96,7 +91,7 @@ lawful_rows (row ∷ rows) all =
 pub lawful_spans : (rows : List Row) (spans : List Span) → AllByRecursion IsSpanRow rows → spans ≡ map span_in rows → AllByRecursion IsLawfulSpan spans
 lawful_spans rows spans all is = subst (AllByRecursion IsLawfulSpan) (sym is) (lawful_rows rows all)
 
-pub some_spans : (spans : List Span) → AllByRecursion IsLawfulSpan spans → AllByRecursion (λ s. s.lo < s.hi) spans
+some_spans : (spans : List Span) → AllByRecursion IsLawfulSpan spans → AllByRecursion (λ s. s.lo < s.hi) spans
 some_spans [] all = tt
 some_spans (s ∷ spans) all = (all.0.1, some_spans spans all.1)
 
@@ -152,9 +147,6 @@ lawful_ids rows spans all is = subst (AllByRecursion IsLawfulSpan) (sym is) (go 
         let it = all.0 in
         let is : span_of_id (id_in row) ≡ span_of_id it.1 = ap (λ r. span_of_id (id_in r)) it.2 in
         (subst IsLawfulSpan (sym is) (it.3.1, omega arith, omega (arith, it.3.2)), go rows all.1)
-
-one_number : (n m : ℕ) → (nat_le m n && nat_lt n (m + 1)) ≡ nat_eq n m
-one_number n m = grind (arith, common_steps, nat_tests)
 
 listed_ids : (q : Id) (rows : List Row) → list_any (is_in q) (map (λ r. span_of_id (id_in r)) rows) ≡ list_any (eq_by_cmp id_cmp q) (map id_in rows)
 listed_ids q [] = refl

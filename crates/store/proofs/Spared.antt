@@ -2,7 +2,7 @@
 use Rattle.std.proofs.Common.{None, ◌≡◌, ◌≢◌, ◌<◌, ◌+◌, ◌==◌, ◌&&◌, ◌||◌, not, inl, inr, ℕ, Bool, true, false, List, [], ◌∷◌, ◌++◌, filter, map, codes, append-nil, refl, sym, ap, subst, ◌∙◌, arith}
 use Rattle.std.specs.List.{AllByRecursion, list_any}
 use Rattle.std.specs.List.Sorted.{IsPermutation}
-use Rattle.std.proofs.lemmas.Bool.{eq-eqb, ne_eqb, false≢true}
+use Rattle.std.proofs.lemmas.Bool.{eq-eqb, ne_eqb, not-true, false≢true}
 use Rattle.std.proofs.lemmas.List.Folds.{list_any-append}
 use Rattle.std.proofs.lemmas.List.Elements.{filter-append}
 use Rattle.sqlite_trees.proofs.ListLemmas.{filter_same}
@@ -42,10 +42,6 @@ beside_unchanged old new same = subst (LiesBeside old) (sym same) (beside_same o
 
 -- ---- One change after others.
 
-not_own : (b : Bool) → not b ≡ true → b ≡ false
-not_own true h = absurd (cc)
-not_own false h = refl
-
 -- each index is one of a table
 owner : (db : Database) → IsDatabase db → (i : Index) → Has db.schema.indexes i → (t : Table) × Has db.schema.tables t × (i.table ≡ t.tree)
 owner db sound i has =
@@ -58,11 +54,11 @@ module _ (old mid new : Database) (before : LiesBeside old mid) (sound : IsDatab
 
   outside_tables : (t : Table) → Has (tables_beside names mid.schema) t → Has mid.schema.tables t × (is_own names mid.schema t.tree ≡ false)
   unfolding tables_beside
-  outside_tables t has = let it = has_filtered (λ (t : Table). not (is_own names mid.schema t.tree)) mid.schema.tables t has in (it.0, not_own _ it.1)
+  outside_tables t has = let it = has_filtered (λ (t : Table). not (is_own names mid.schema t.tree)) mid.schema.tables t has in (it.0, not-true _ it.1)
 
   outside_indexes : (schema : Schema) (i : Index) → Has (indexes_beside names schema) i → Has schema.indexes i × (is_own names schema i.table ≡ false)
   unfolding indexes_beside
-  outside_indexes schema i has = let it = has_filtered (λ (i : Index). not (is_own names schema i.table)) schema.indexes i has in (it.0, not_own _ it.1)
+  outside_indexes schema i has = let it = has_filtered (λ (i : Index). not (is_own names schema i.table)) schema.indexes i has in (it.0, not-true _ it.1)
 
   pub beside_then : tables_beside names new.schema ≡ tables_beside names mid.schema → indexes_beside names new.schema ≡ indexes_beside names mid.schema
       → ((t : Table) → Has mid.schema.tables t → is_own names mid.schema t.tree ≡ false → new.trees t.tree ≡ mid.trees t.tree) → LiesBeside old new

@@ -77,11 +77,11 @@ whole tree width order = record {
 abbrev pub by_order : List (Term × Key) → Row → Row → Ordering
 by_order order a b = sort_cmp order ([] ∷ a ∷ []) ([] ∷ b ∷ [])
 
--- No row is less than the one before it.
-abbrev pub Ascends : (Row → Row → Ordering) → List Row → Type 0
+-- No item is less than the one before it.
+abbrev pub Ascends : {X : Type 0} → (X → X → Ordering) → List X → Type 0
 Ascends cmp [] = Unit {0}
 Ascends cmp (a ∷ []) = Unit {0}
-Ascends cmp (a ∷ b ∷ rows) = (is_lt (cmp b a) ≡ false) × Ascends cmp (b ∷ rows)
+Ascends cmp (a ∷ b ∷ items) = (is_lt (cmp b a) ≡ false) × Ascends cmp (b ∷ items)
 
 -- The last column of the table is never NULL.
 abbrev pub IsFilled : List Column → Type 0

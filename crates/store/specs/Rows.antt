@@ -12,9 +12,8 @@ use Rattle.sqlite.specs.Effect.{Database}
 use Rattle.gtid.specs.Identifier.{Id, Ids, IsSource, IsGtid, AreGtids}
 use Rattle.gtid.specs.Span.{IsLeastList}
 use Rattle.gtid.specs.declared.span.Span.{Span}
-use Rattle.binlog.specs.Cell.{CellValue}
 use Rattle.binlog.specs.Filter.{Name, Names}
-use Rattle.gather.specs.Image.{IsImage, image}
+use Rattle.gather.specs.Image.{IsSomeImage, image}
 use Rattle.store.specs.declared.held_rows.RowKey.{RowKey}
 use Rattle.store.specs.State.{TableRow, Bag, Content, has_image}
 use Rattle.store.specs.Changes.{most}
@@ -107,14 +106,9 @@ abbrev pub count : List Row → KeyCounts
 count [] key = 0
 count (row ∷ rows) key = share key row + count rows key
 
--- The bytes are the image of some cells.
-pub record IsStoredImage (bytes : List ℕ) : Type 0 where
-  pub cells : List CellValue
-  pub is_image : IsImage cells bytes
-
 -- a row of held: a rowid, a key with a stored image, and a count from 1 on
 abbrev pub IsHeldRow : Row → Type 0
-IsHeldRow row = (id : ℤ) × (key : Key) × (n : ℕ) × (row ≡ Int id ∷ Blob key.schema ∷ Blob key.table ∷ Blob key.image ∷ Int (pos n) ∷ []) × (1 ≤ n) × (n ≤ most) × IsStoredImage key.image
+IsHeldRow row = (id : ℤ) × (key : Key) × (n : ℕ) × (row ≡ Int id ∷ Blob key.schema ∷ Blob key.table ∷ Blob key.image ∷ Int (pos n) ∷ []) × (1 ≤ n) × (n ≤ most) × IsSomeImage key.image
 
 -- the key of a row's cells
 abbrev pub key_for : TableRow → Key

@@ -5,7 +5,8 @@ ghost use Rattle.sqlite.specs.State.{HasCleanDisk, IsUnchanged};
 ghost use Rattle.sqlite.specs.Held.{state};
 ghost use Rattle.sqlite_value.specs.Order.{column};
 ghost use Rattle.store.specs.Changes.{most};
-ghost use Rattle.store.specs.Rows.{key_in, Finds, IsCount, IsStoredImage, held_rows, count, with_one, without_one, is_at};
+ghost use Rattle.gather.specs.Image.{IsSomeImage};
+ghost use Rattle.store.specs.Rows.{key_in, Finds, IsCount, held_rows, count, with_one, without_one, is_at};
 ghost use Rattle.store.specs.Inside.{IsWorking, HasCounts, Stays};
 
 use sqlite::types::ValueRef;
@@ -75,7 +76,7 @@ pub(crate) fn insert<S: Alter>(
     row: &RowKey<'_>,
 ) -> Result<usize, Error>
     ensures same_reference { tx.new.conn.ghost_name ≡ tx.old.conn.ghost_name }
-    ensures holds { HasCleanDisk (state S.Store tx.new.conn.now) → IsWorking (state S.Store tx.old.conn.now) → IsStoredImage row.now.image.now → OnOk result (HasCounts (state S.Store tx.old.conn.now) (state S.Store tx.new.conn.now) (with_one (key_in row.now) (count (held_rows (state S.Store tx.old.conn.now).now)))) }
+    ensures holds { HasCleanDisk (state S.Store tx.new.conn.now) → IsWorking (state S.Store tx.old.conn.now) → IsSomeImage row.now.image.now → OnOk result (HasCounts (state S.Store tx.old.conn.now) (state S.Store tx.new.conn.now) (with_one (key_in row.now) (count (held_rows (state S.Store tx.old.conn.now).now)))) }
     ensures stays { Stays (state S.Store tx.old.conn.now) (state S.Store tx.new.conn.now) }
 {
     tx.execute(

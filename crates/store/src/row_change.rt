@@ -3,7 +3,8 @@
 ghost use Rattle.std.specs.Prelude.{◌≡◌, IfOk};
 ghost use Rattle.sqlite.specs.State.{HasCleanDisk};
 ghost use Rattle.sqlite.specs.Held.{state};
-ghost use Rattle.store.specs.Rows.{IsStoredImage, key_in, held_rows, count};
+ghost use Rattle.gather.specs.Image.{IsSomeImage};
+ghost use Rattle.store.specs.Rows.{key_in, held_rows, count};
 ghost use Rattle.gather.specs.Transaction.{insert, delete};
 ghost use Rattle.gather.specs.View.{change_value, change_values};
 ghost use Rattle.store.specs.Changes.{is_admitted};
@@ -30,7 +31,7 @@ pub(crate) fn add<S: Alter>(
     row: &RowKey<'_>,
 ) -> Result<Option<Refusal>, Error>
     ensures same_reference { tx.new.conn.ghost_name ≡ tx.old.conn.ghost_name }
-    ensures counted { HasCleanDisk (state S.Store tx.new.conn.now) → IsWorking (state S.Store tx.old.conn.now) → IsStoredImage row.now.image.now → IfOk result (Counted (state S.Store tx.old.conn.now) (state S.Store tx.new.conn.now) (added (key_in row.now) (count (held_rows (state S.Store tx.old.conn.now).now)))) }
+    ensures counted { HasCleanDisk (state S.Store tx.new.conn.now) → IsWorking (state S.Store tx.old.conn.now) → IsSomeImage row.now.image.now → IfOk result (Counted (state S.Store tx.old.conn.now) (state S.Store tx.new.conn.now) (added (key_in row.now) (count (held_rows (state S.Store tx.old.conn.now).now)))) }
     ensures stays { Stays (state S.Store tx.old.conn.now) (state S.Store tx.new.conn.now) }
 {
     let Some(n) = read(tx, row)? else {

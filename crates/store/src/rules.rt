@@ -5,7 +5,8 @@ ghost use Rattle.std.specs.List.{AllByRecursion};
 ghost use Rattle.store.specs.Changes.{most};
 ghost use Rattle.gtid.specs.Identifier.{IsSource};
 ghost use Rattle.gtid.specs.declared.span.Span.{Span};
-ghost use Rattle.store.specs.Rows.{IsMetaRow, IsFollowRow, IsSpanRow, IsHeldRow, IsExecutedRow, IsStoredImage, HasRowids, span_in, id_in, name_in, is_text};
+ghost use Rattle.gather.specs.Image.{IsSomeImage};
+ghost use Rattle.store.specs.Rows.{IsMetaRow, IsFollowRow, IsSpanRow, IsHeldRow, IsExecutedRow, HasRowids, span_in, id_in, name_in, is_text};
 ghost use Rattle.std.specs.Prelude.{codes, ℤ};
 ghost use Rattle.sqlite_value.specs.Order.{column};
 ghost use Rattle.sqlite_value.specs.declared.value.Value.TheVariants.{Int};
@@ -106,7 +107,7 @@ pub(crate) fn is_held(alloc: Global, row: &Row) -> Result<bool, StoreFault>
 
 /// Whether the bytes are a stored image.
 fn is_image(alloc: Global, bytes: &[u8]) -> Result<bool, StoreFault>
-    ensures judged { IfOk result (λ b. MatchBool b (IsStoredImage bytes.now) (¬ IsStoredImage bytes.now)) }
+    ensures judged { IfOk result (λ b. MatchBool b (IsSomeImage bytes.now) (¬ IsSomeImage bytes.now)) }
     ensures fault { IfErr result IsCause }
 {
     match Image::read(alloc, bytes) {

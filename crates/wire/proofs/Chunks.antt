@@ -8,7 +8,7 @@ use Rattle.wire.specs.Held.{full_chunks}
 none : (n : ℕ) → 0 * n ≡ 0
 none n = omega arith
 
-one_more : (n m : ℕ) → suc n * m ≡ m + n * m
+pub one_more : (n m : ℕ) → suc n * m ≡ m + n * m
 one_more n m = omega arith
 
 pub full_chunks_full : (n : ℕ) (xs : List ℕ) → n * full_chunk ≤ length xs → AllByRecursion IsFullChunk (full_chunks n xs)

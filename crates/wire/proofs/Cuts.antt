@@ -6,7 +6,7 @@ use Rattle.std.proofs.Math.Nat.{div-div-eq-div-mul, div-one, pow-suc}
 use Rattle.std.specs.Int.{bytes_low_first, byte_at}
 use Rattle.std.specs.List.{AllByRecursion}
 use Rattle.byteorder.specs.Endian.{little_bytes, little_number}
-use Rattle.byteorder.specs.Numbers.{little_from-cons}
+use Rattle.byteorder.specs.Numbers.{little_from-cons, little_number-reads_back}
 
 abbrev pub IsBytes : List ℕ → Type 0
 IsBytes bytes = (i : ℕ) → get_or bytes i 0 < 256
@@ -54,7 +54,15 @@ take_is_number k xs long fits =
 pub number_at_front : (k : ℕ) (xs : List ℕ) → k ≤ length xs → IsBytes xs → xs ≡ little_bytes k (little_number k xs) ++ drop k xs
 number_at_front k xs long fits = sym (take-append-drop k xs) ∙ ap (λ front. front ++ drop k xs) (take_is_number k xs long fits)
 
+-- a number at the front
+pub number_is : (k n : ℕ) (xs rest : List ℕ) → n < 256 ^ k → xs ≡ little_bytes k n ++ rest → little_number k xs ≡ n
+number_is k n xs rest fits is = ap (little_number k) is ∙ little_number-reads_back k n rest fits
+
 -- ---- Cuts at a place.
+
+-- the first byte of what is left
+pub first_left : (n b : ℕ) (xs rest : List ℕ) → drop n xs ≡ b ∷ rest → get_or xs n 0 ≡ b
+first_left n b xs rest is = let e : n ≡ n + 0 = omega arith in ap (λ k. get_or xs k 0) e ∙ sym (get_or-drop n xs 0 0) ∙ ap (λ l. get_or l 0 0) is
 
 pub drop_drop : (n m : ℕ) (xs : List ℕ) → drop m (drop n xs) ≡ drop (n + m) xs
 drop_drop n m xs = drop-drop m n xs

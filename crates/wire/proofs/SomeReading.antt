@@ -9,6 +9,7 @@ use Rattle.wire.specs.Header.{IsHeader}
 use Rattle.wire.specs.Payload.{HasHeader, IsWholePayload}
 use Rattle.wire.specs.Stream.{Ending, Held, OutOfSequence, TooLarge, IsEnding, IsStream}
 use Rattle.wire.proofs.Packets.{packets-push, all-push}
+use Rattle.wire.proofs.Chunks.{one_more}
 use Rattle.wire.proofs.Chain.{Chain, chain_of, IsOpen, Scanned, unfinished, size_fits, concat_length}
 
 abbrev pub IsByte : ℕ → Type 0
@@ -55,9 +56,6 @@ header_bytes a b c d x y z w =
     let h : c ≡ s / 65536 % 256 = omega arith in
     record { bytes_are = λ i. e i ∷ f i ∷ h i ∷ d ∷ []; a_size = omega arith; an_id = w }
 
-suc_times : (n m : ℕ) → suc n * m ≡ m + n * m
-suc_times n m = omega arith
-
 -- after full packets, the next header decides
 scan : (fuel due limit : ℕ) (bytes : List ℕ) (chunks : List (List ℕ)) (rest : List ℕ) → AllByRecursion IsFullChunk chunks → bytes ≡ packets due chunks ++ rest →
     length chunks * full_chunk ≤ limit → AllByRecursion IsByte rest → length rest < fuel → Front due limit bytes
@@ -97,7 +95,7 @@ scan (suc fuel) due limit bytes chunks (a ∷ b ∷ c ∷ d ∷ body) full is wi
         | inr long ↦ scan fuel due limit bytes (chunks ++ chunk ∷ []) others
             (all-push chunks chunk full (sized enough_body ∙ exact long))
             (cut same enough_body ∙ sym (append_assoc (packets due chunks) (packet (due + length chunks) chunk) others) ∙ ap (λ x. x ++ others) (sym (packets-push due chunks chunk)))
-            (subst (λ n. n * full_chunk ≤ limit) (sym (length_push chunks chunk ∙ plus_one (length chunks))) (omega (arith, fits, exact long, suc_times (length chunks) full_chunk)))
+            (subst (λ n. n * full_chunk ≤ limit) (sym (length_push chunks chunk ∙ plus_one (length chunks))) (omega (arith, fits, exact long, one_more (length chunks) full_chunk)))
             (bytes-drop size body all.1.1.1.1)
             (omega (arith, enough, length-drop size body))
       ]

@@ -5,7 +5,7 @@ use Rattle.std.proofs.lemmas.List.FromFn.{length-map-range_with_len}
 use Rattle.binlog.specs.Cell.{is_null, owned_values}
 use Rattle.binlog.specs.Row.{bitmap_size}
 use Rattle.binlog.specs.RowsWritten.{bitmap_byte, bitmap_bytes}
-use Rattle.binlog.proofs.Kept.{kept, failed}
+use Rattle.binlog.proofs.Kept.{kept, on_err}
 use Rattle.binlog.proofs.RowWriting.{byte_more, bits_length}
 use Rattle.binlog.proofs.bitmap.write_bitmap.Goals as goal
 
@@ -33,4 +33,4 @@ returns-in_err-push-clause-full c =
     search (rules, fits)
 
 pub returns-in_err-push-clause-kept : goal.returns-in_err-push-clause-kept
-returns-in_err-push-clause-kept c = failed c.from_residual.result (kept c.args.out.now.items _ c.push.new.self.items (c.in_err-push.ensures.items ∙ c.loop-i.invariant.0))
+returns-in_err-push-clause-kept c = on_err c.from_residual.result (kept c.args.out.now.items _ c.push.new.self.items (c.in_err-push.ensures.items ∙ c.loop-i.invariant.0))

@@ -4,14 +4,11 @@ use Rattle.std.proofs.lemmas.List.{take-append-drop, take_rest}
 use Rattle.byteorder.specs.Endian.{little_bytes, little_number}
 use Rattle.gtid.specs.Encoding.{is_above, source_fault}
 use Rattle.gtid.specs.declared.fault.GtidFault.TheVariants.{Truncated, Order, Interval}
-use Rattle.gtid.proofs.OneEncoding.{source_table}
+use Rattle.gtid.proofs.OneEncoding.{source_table, not_less}
 use Rattle.gtid.proofs.decoding.read_source.Goals as goal
 
 less : (a b : ℕ) → a < b → nat_lt a b ≡ true
 less a b h = grind (arith, nat_tests)
-
-not_less : (a b : ℕ) → b ≤ a → nat_lt a b ≡ false
-not_less a b h = grind (arith, nat_tests)
 
 is_zero : (a : ℕ) → a ≡ 0 → (a == 0) ≡ true
 is_zero a h = grind (arith, nat_tests)

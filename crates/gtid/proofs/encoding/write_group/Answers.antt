@@ -1,11 +1,12 @@
 use Rattle.std.proofs.Common.{◌≡◌, ◌<◌, List, ◌++◌, length, map, slice_index_or, refl, sym, ap, ◌∙◌, subst, arith}
+use Rattle.std.proofs.Math.Nat.{le_trans}
 use Rattle.std.proofs.lemmas.List.{length-map, get_or_default}
 use Rattle.std.proofs.lemmas.Result.{err_from_is_err_and}
 use Rattle.byteorder.specs.Endian.{little_bytes}
 use Rattle.gtid.specs.Encoding.{interval_bytes, block_bytes}
 use Rattle.gtid.specs.Blocks.{pair, of_group}
 use Rattle.gtid.specs.declared.interval.Interval.{Interval}
-use Rattle.gtid.proofs.Written.{appended_both, next_fits, at_most, grows_same, grows_by, grows_all, writes_none, writes_more, writes_all}
+use Rattle.gtid.proofs.Written.{appended_both, next_fits, grows_same, grows_by, grows_all, writes_none, writes_more, writes_all}
 use Rattle.gtid.proofs.encoding.write_group.Goals as goal
 
 pub returns-in_err-write_interval-clause-full : goal.returns-in_err-write_interval-clause-full
@@ -24,7 +25,7 @@ loop-interval-init c =
     let written =
     appended_both c.args.out.now.items source c.to_le_bytes.result source count c.in_ok-extend_from_slice.ensures.items refl c.in_ok-extend_from_slice-2.ensures.items (c.to_le_bytes.ensures ∙ ap (little_bytes 8) size) in (
       writes_none interval_bytes pair items c.args.out.now.items (source ++ count) c.extend_from_slice-2.new.self.items (block_bytes (of_group c.args.group.now)) written refl,
-      at_most _ _ _ c.in_ok-extend_from_slice.ensures.capacity c.in_ok-extend_from_slice-2.ensures.capacity,
+      le_trans c.in_ok-extend_from_slice.ensures.capacity c.in_ok-extend_from_slice-2.ensures.capacity,
     )
 
 pub loop-interval-preserved : goal.loop-interval-preserved
@@ -34,7 +35,7 @@ loop-interval-preserved c =
     let short = rw c.deref-interval-items.ensures.value at c.loop-interval-test.true in
     let x : Interval = slice_index_or items at (record { lo = 0; hi = 0 }) in (
       writes_more at x c.write_interval.new.out.items c.loop-interval.invariant.0 short (get_or_default items at (record { lo = 0; hi = 0 }) x short) (rw c.deref-interval-items.ensures.value at c.in_ok-write_interval.ensures.ok),
-      at_most _ _ _ c.loop-interval.invariant.1 c.in_ok-write_interval.ensures.capacity,
+      le_trans c.loop-interval.invariant.1 c.in_ok-write_interval.ensures.capacity,
     )
 
 pub returns-in_err-extend_from_slice-clause-grows : goal.returns-in_err-extend_from_slice-clause-grows

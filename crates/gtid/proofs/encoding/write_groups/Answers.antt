@@ -1,10 +1,11 @@
 use Rattle.std.proofs.Common.{◌≡◌, ◌++◌, length, refl, sym, ap, ◌∙◌, arith}
+use Rattle.std.proofs.Math.Nat.{le_trans}
 use Rattle.std.proofs.lemmas.List.{length-map}
 use Rattle.std.proofs.lemmas.Result.{err_from_is_err_and}
 use Rattle.byteorder.specs.Endian.{little_bytes}
 use Rattle.gtid.specs.Encoding.{block_bytes, blocks_bytes}
 use Rattle.gtid.specs.Blocks.{of_group, blocks}
-use Rattle.gtid.proofs.Written.{next_fits, at_most, grows_same, grows_all, writes_none, writes_more, writes_all}
+use Rattle.gtid.proofs.Written.{next_fits, grows_same, grows_all, writes_none, writes_more, writes_all}
 use Rattle.gtid.proofs.encoding.write_groups.Goals as goal
 
 pub returns-in_err-write_group-clause-full : goal.returns-in_err-write_group-clause-full
@@ -28,7 +29,7 @@ loop-group-init c =
 pub loop-group-preserved : goal.loop-group-preserved
 loop-group-preserved c = (
   writes_more c.loop-group.group-index c.group-item.result c.write_group.new.out.items c.loop-group.invariant.0 c.loop-group-test.true c.group-item.is c.in_ok-write_group.ensures.ok,
-  at_most _ _ _ c.loop-group.invariant.1 c.in_ok-write_group.ensures.capacity,
+  le_trans c.loop-group.invariant.1 c.in_ok-write_group.ensures.capacity,
 )
 
 pub returns-in_err-extend_from_slice-clause-grows : goal.returns-in_err-extend_from_slice-clause-grows

@@ -1,7 +1,8 @@
 use Rattle.std.proofs.Common.{◌≡◌, ◌∙◌, not, nat_eq, IfOk, ap, sym, subst}
 use Rattle.std.proofs.lemmas.Bool.{true≢false}
+use Rattle.std.proofs.lemmas.Result.{on_ok_weaker, on_err_weaker}
 use Rattle.gtid.specs.Group.{Ascend, sources}
-use Rattle.gtid.proofs.Found.{ascend_set, listed_set, listed_same, listed_at, listed_gap, listed_insert, ascend_insert, any_default, on_ok, on_err}
+use Rattle.gtid.proofs.Found.{ascend_set, listed_set, listed_same, listed_at, listed_gap, listed_insert, ascend_insert, any_default}
 use Rattle.gtid.proofs.groups.insert.Goals as goal
 
 pub returns-in-Ok-clause-ascend : goal.returns-in-Ok-clause-ascend
@@ -24,8 +25,8 @@ returns-in-Ok-clause-ok c =
     let old = c.index_mut.result.now in
     let at = any_default c.args.groups.now.items c.in-Ok.at old found.0 c.index_mut.ensures.value in
     let same = ap (λ g. g.source) (sym (at old)) ∙ found.1 old in
-    on_ok c.insert.result c.insert.ensures.ok (λ adds. listed_set c.args.groups.now.items c.in-Ok.at old c.insert.new.self c.args.gtid.source (λ n. nat_eq n c.args.gtid.number) found.0 at same
-    (c.insert.ensures.source ∙ same) adds)
+    on_ok_weaker c.insert.result (λ adds. listed_set c.args.groups.now.items c.in-Ok.at old c.insert.new.self c.args.gtid.source (λ n. nat_eq n c.args.gtid.number) found.0 at same
+    (c.insert.ensures.source ∙ same) adds) c.insert.ensures.ok
 
 pub returns-in-Ok-clause-there : goal.returns-in-Ok-clause-there
 returns-in-Ok-clause-there c there =
@@ -41,7 +42,7 @@ returns-in-Ok-clause-err c =
     let old = c.index_mut.result.now in
     let at = any_default c.args.groups.now.items c.in-Ok.at old found.0 c.index_mut.ensures.value in
     let same = ap (λ g. g.source) (sym (at old)) ∙ found.1 old in
-    on_err c.insert.result c.insert.ensures.err (λ kept. (kept.0, listed_same c.args.groups.now.items c.in-Ok.at old c.insert.new.self c.args.gtid.source found.0 at same (c.insert.ensures.source ∙ same) kept.1))
+    on_err_weaker c.insert.result (λ kept. (kept.0, listed_same c.args.groups.now.items c.in-Ok.at old c.insert.new.self c.args.gtid.source found.0 at same (c.insert.ensures.source ∙ same) kept.1)) c.insert.ensures.err
 
 pub returns-in_err-group-in-Err-clause-there : goal.returns-in_err-group-in-Err-clause-there
 returns-in_err-group-in-Err-clause-there c there =

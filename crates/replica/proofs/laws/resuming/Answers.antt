@@ -1,6 +1,6 @@
 use Rattle.std.proofs.Common.{arith}
 use Rattle.std.proofs.lemmas.List.{length-append}
-use Rattle.store.proofs.SpanRecord.{all_bytes}
+use Rattle.gtid.proofs.Printed.{all_bytes}
 use Rattle.replica.proofs.Resuming.{leads, cut}
 use Rattle.replica.proofs.laws.resuming.Goals as goal
 

@@ -1,8 +1,8 @@
 use Rattle.std.proofs.Common.{subst, sym, arith}
 use Rattle.binlog.specs.Writing.{IsWritable}
 use Rattle.binlog.proofs.Written.{writes_xid, writes_commit}
+use Rattle.binlog.proofs.Kept.{on_ok}
 use Rattle.scripted_source.specs.Script.{end_event}
-use Rattle.scripted_source.proofs.Packings.{on_ok}
 use Rattle.scripted_source.proofs.sending.send_end.Goals as goal
 
 pub send_short-requires-clause-event : goal.send_short-requires-clause-event

@@ -5,8 +5,9 @@ use Rattle.binlog.specs.Row.{kinds}
 use Rattle.binlog.specs.RowsView.{rows_value}
 use Rattle.binlog.specs.Event.{rows}
 use Rattle.binlog.specs.Writing.{IsWritable}
+use Rattle.binlog.proofs.Kept.{on_ok}
 use Rattle.scripted_source.specs.Script.{part_value, rows_of}
-use Rattle.scripted_source.proofs.Packings.{too_long, no_rows, on_ok, memory_failed, rows_are, RowsSent, rows_sent}
+use Rattle.scripted_source.proofs.Packings.{too_long, no_rows, memory_failed, rows_are, RowsSent, rows_sent}
 use Rattle.scripted_source.proofs.sending.send_rows.Goals as goal
 
 pub returns-in_err-bytes-clause-ok : goal.returns-in_err-bytes-clause-ok

@@ -1,10 +1,10 @@
 use Rattle.sqlite.specs.Held.{state}
+use Rattle.binlog.proofs.Kept.{on_ok}
 use Rattle.store.proofs.Wholes.{meta_asks}
 use Rattle.store.specs.Layout.{meta_tree}
 use Rattle.store.specs.Rows.{first_meta_rows}
 use Rattle.store.specs.Load.{all_meta_text}
 use Rattle.store.proofs.Steps.{first_step}
-use Rattle.store.proofs.Laid.{on_any}
 use Rattle.store.proofs.Loading.{meta_table}
 use Rattle.store.proofs.load.read_meta.Goals as goal
 
@@ -19,7 +19,7 @@ returns-clause-says g c clean first =
     meta_table (first_meta_rows (state g.S.Store c.args.conn.now).now) _ (c.in_ok-rows.ensures.rows clean (meta_tree (state g.S.Store c.args.conn.now).now.schema) (meta_asks _ first)) c.meta_in.result (rw c.deref.ensures.value at c.meta_in.ensures)
 
 pub returns-clause-same : goal.returns-clause-same
-returns-clause-same g c clean first = on_any c.meta_in.result (c.in_ok-rows.ensures.same clean (meta_tree (state g.S.Store c.args.conn.now).now.schema) (meta_asks _ first))
+returns-clause-same g c clean first = on_ok c.meta_in.result (c.in_ok-rows.ensures.same clean (meta_tree (state g.S.Store c.args.conn.now).now.schema) (meta_asks _ first))
 
 pub returns-clause-rested : goal.returns-clause-rested
 returns-clause-rested g c clean first = c.read_all.ensures.rested clean (meta_tree (state g.S.Store c.args.conn.now).now.schema) (meta_asks _ first)

@@ -1,5 +1,5 @@
 use Rattle.std.proofs.Common.{arith}
-use Rattle.store.proofs.SpanRecord.{all_bytes}
+use Rattle.gtid.proofs.Printed.{all_bytes}
 use Rattle.store.proofs.span_rows.are_bytes.Goals as goal
 
 pub returns : goal.returns

@@ -1,6 +1,6 @@
 use Rattle.std.proofs.Common.{sym, ◌∙◌}
 use Rattle.gtid.proofs.Gathered.{lawful_sorted}
-use Rattle.store.proofs.Laid.{on_any}
+use Rattle.binlog.proofs.Kept.{on_ok}
 use Rattle.store.proofs.SpanRows.{set_damaged, set_apart, set_covers}
 use Rattle.store.proofs.table_rows.set_of.Goals as goal
 
@@ -18,4 +18,4 @@ returns-clause-judged c = set_covers c.args.spans.items _ _ c.union_of.result c.
 pub returns-clause-apart : goal.returns-clause-apart
 returns-clause-apart c =
     let e = c.in_order-spans.ensures in
-    on_any c.union_of.result (set_apart c.args.spans.items _ e.same e.rise (lawful_sorted c.args.spans.items _ e.same c.requires) (sym (rw c.deref.ensures.value at c.are_apart.ensures) ∙ c.if-not-are_apart.false))
+    on_ok c.union_of.result (set_apart c.args.spans.items _ e.same e.rise (lawful_sorted c.args.spans.items _ e.same c.requires) (sym (rw c.deref.ensures.value at c.are_apart.ensures) ∙ c.if-not-are_apart.false))

@@ -1,6 +1,7 @@
 use Rattle.std.proofs.Common.{Some, ap, sym, ◌∙◌}
+use Rattle.std.proofs.lemmas.Result.{on_ok_weaker}
 use Rattle.binlog.specs.RowsView.{rows_value}
-use Rattle.gather.proofs.Maps.{reported, keeps_other, adds_rows, maps_stay, on_ok}
+use Rattle.gather.proofs.Maps.{reported, keeps_other, adds_rows, maps_stay}
 use Rattle.gather.proofs.open_transaction.OpenTransaction.take_rows.Goals as goal
 
 pub returns-in-Some-None-clause-keeps : goal.returns-in-Some-None-clause-keeps
@@ -11,7 +12,7 @@ pub returns-in-Some-Some-clause-keeps : goal.returns-in-Some-Some-clause-keeps
 returns-in-Some-Some-clause-keeps c = λ body keeps.
     let r = rows_value c.args.event.now in
     let kept = sym c.in-Some-Some.ensures.value ∙ ap Some c.in-Some-Some.field-0-is in
-    on_ok c.push_changes.result
+    on_ok_weaker c.push_changes.result
     (λ adds. record {
       maps = maps_stay body c.args.self.now r keeps;
       changes = adds_rows body c.args.self.now r c.in-Some-Some.table _ keeps kept adds;

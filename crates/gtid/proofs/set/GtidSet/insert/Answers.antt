@@ -1,6 +1,7 @@
 use Rattle.std.proofs.Common.{not, ap, ◌∙◌}
+use Rattle.std.proofs.lemmas.Result.{on_err_weaker}
 use Rattle.gtid.specs.Identifier.{id}
-use Rattle.gtid.proofs.Found.{on_err, if_ok}
+use Rattle.gtid.proofs.Found.{if_ok}
 use Rattle.gtid.proofs.Sets.{contained, inserted, same_ids}
 use Rattle.gtid.proofs.set.GtidSet.insert.Goals as goal
 
@@ -15,8 +16,8 @@ returns-clause-there c there = c.insert.ensures.there (contained c.self.inside.g
 
 pub returns-clause-err : goal.returns-clause-err
 returns-clause-err c =
-    on_err c.insert.result c.insert.ensures.err (λ kept.
-    (kept.0, same_ids c.args.self.now c.insert.new.groups.items (λ q. kept.1 q ∙ contained c.self.inside.groups.items c.args.self.now c.self.view_is q)))
+    on_err_weaker c.insert.result (λ kept.
+    (kept.0, same_ids c.args.self.now c.insert.new.groups.items (λ q. kept.1 q ∙ contained c.self.inside.groups.items c.args.self.now c.self.view_is q))) c.insert.ensures.err
 
 pub returns-clause-near : goal.returns-clause-near
 returns-clause-near c n beside one = c.insert.ensures.near n beside (contained c.self.inside.groups.items c.args.self.now c.self.view_is (c.args.gtid.source, n) ∙ one)

@@ -1,11 +1,12 @@
 use Rattle.std.proofs.Common.{◌≡◌, ◌++◌, [], take, ap, sym, subst, ◌∙◌, Err, false, refl, arith, inr}
 use Rattle.std.proofs.Math.ListN.{get_or-append}
+use Rattle.std.proofs.lemmas.Bool.{false_from_ne_true}
 use Rattle.std.proofs.lemmas.Grind.{common_steps}
 use Rattle.std.proofs.lemmas.Result.{err_from_is_err_and}
 use Rattle.std.proofs.lemmas.List.{append-nil, take_all}
 use Rattle.mrep.specs.PayloadListing.{IsWrong, held_of, first_id}
 use Rattle.wire.specs.Packet.{largest_payload}
-use Rattle.mrep.proofs.Entries.{wrong_from, nil_from, false_from, by_payload, whole_from, unfinished_from}
+use Rattle.mrep.proofs.Entries.{wrong_from, nil_from, by_payload, whole_from, unfinished_from}
 use Rattle.mrep.proofs.payload_listing.Listing.take.Goals as goal
 
 pub returns-in_err-step-clause-refuses : goal.returns-in_err-step-clause-refuses
@@ -38,7 +39,7 @@ returns-in_ok-step-clause-takes c =
     let step = c.in_ok-step.step in
     let nothing : old.header.items ≡ [] = nil_from old.header.items (λ some. let t = c.between.ensures.1 (old.gathering some) in cc) in
     let held : held_of old ≡ old.assembler.held = ap (λ h. old.assembler.held ++ h) nothing ∙ append-nil old.assembler.held in
-    let goes_on : old.assembler.ended ≡ false = false_from old.assembler.ended (λ over. let is = c.step.ensures.ended.1 over in let was = c.in_ok-step.was in cc) in
+    let goes_on : old.assembler.ended ≡ false = false_from_ne_true old.assembler.ended (λ over. let is = c.step.ensures.ended.1 over in let was = c.in_ok-step.was in cc) in
     let limit : old.assembler.limit ≡ largest_payload = old.limit goes_on in
     let first = old.first goes_on (λ e. let t = c.between.ensures.1 (e, goes_on) in cc) in
     let now : new.held ++ old.header.items ≡ new.held = ap (λ h. new.held ++ h) nothing ∙ append-nil new.held in
