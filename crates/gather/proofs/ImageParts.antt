@@ -1,11 +1,10 @@
 -- Images written and read cell by cell.
-use Rattle.std.proofs.Common.{◌≡◌, ℕ, zero, suc, ◌+◌, ◌-◌, ◌<◌, ◌≤◌, Some, List, [], ◌∷◌, ◌++◌, length, drop, refl, sym, ap, subst, ◌∙◌, append_assoc, arith}
+use Rattle.std.proofs.Common.{◌≡◌, ℕ, zero, suc, ◌+◌, ◌-◌, ◌<◌, ◌≤◌, Some, List, [], ◌∷◌, ◌++◌, length, drop, set, ◌%◌, ◌/◌, add-one, refl, sym, ap, subst, ◌∙◌, append_assoc, arith}
 use Rattle.std.specs.Prelude.{flat_map, slice_index_or}
 use Rattle.std.specs.List.{AllByRecursion}
 use Rattle.std.proofs.lemmas.List.{length-append, append-nil}
-use Rattle.byteorder.specs.Endian.{little_bytes}
 use Rattle.byteorder.specs.Numbers.{length-bytes_low_first}
-use Rattle.binlog.specs.Cell.{CellValue, number_cell, bytes_cell, cell_value}
+use Rattle.binlog.specs.Cell.{CellValue, number_cell, cell_value}
 use Rattle.binlog.specs.declared.cell.Cell.{Cell}
 use Rattle.gather.specs.Image.{cell_image, image, HasCellImage}
 use Rattle.gather.specs.ImageCells.{cell_values, cell_front, are_images, holds_after}
@@ -39,18 +38,24 @@ next_written all now new cells rest cell before is written =
 
 -- ---- The number of cells, which is written over two zeros once all cells are.
 
-all_written : (out : List ℕ) (cells left : List CellValue) → left ≡ [] → out ++ flat_map cell_image left ≡ 0 ∷ 0 ∷ flat_map cell_image cells → out ≡ 0 ∷ 0 ∷ flat_map cell_image cells
-all_written out cells left none is = sym (append-nil out) ∙ ap (λ l. out ++ flat_map cell_image l) (sym none) ∙ is
+all_written : (old out : List ℕ) (cells left : List CellValue) → left ≡ [] → out ++ flat_map cell_image left ≡ old ++ 0 ∷ 0 ∷ flat_map cell_image cells → out ≡ old ++ 0 ∷ 0 ∷ flat_map cell_image cells
+all_written old out cells left none is = sym (append-nil out) ∙ ap (λ l. out ++ flat_map cell_image l) (sym none) ∙ is
 
-pub begun : (out : List ℕ) (cells left : List CellValue) → left ≡ [] → out ++ flat_map cell_image left ≡ 0 ∷ 0 ∷ flat_map cell_image cells → 2 ≤ length out
-begun out cells left none is = omega (arith, ap length (all_written out cells left none is))
+pub begun : (old out : List ℕ) (cells left : List CellValue) → left ≡ [] → out ++ flat_map cell_image left ≡ old ++ 0 ∷ 0 ∷ flat_map cell_image cells → length old + 2 ≤ length out
+begun old out cells left none is = omega (arith, ap length (all_written old out cells left none is), length-append old (0 ∷ 0 ∷ flat_map cell_image cells))
 
-pub counted : (out : List ℕ) (cells left : List CellValue) (count : ℕ) → left ≡ [] → out ++ flat_map cell_image left ≡ 0 ∷ 0 ∷ flat_map cell_image cells → count + length left ≡ length cells →
-    little_bytes 2 count ++ drop 2 out ≡ image cells
-counted out cells left count none is total =
-    let all = all_written out cells left none is in
+two_set : (old rest : List ℕ) (a b : ℕ) → set (set (old ++ 0 ∷ 0 ∷ rest) (length old) a) (suc (length old)) b ≡ old ++ a ∷ b ∷ rest
+two_set [] rest a b = refl
+two_set (x ∷ old) rest a b = ap (λ l. x ∷ l) (two_set old rest a b)
+
+pub counted : (old out : List ℕ) (cells left : List CellValue) (start count : ℕ) → start ≡ length old → left ≡ [] → out ++ flat_map cell_image left ≡ old ++ 0 ∷ 0 ∷ flat_map cell_image cells →
+    count + length left ≡ length cells → set (set out start (count % 256)) (start + 1) (count / 256 % 256) ≡ old ++ image cells
+counted old out cells left start count begins none is total =
+    let all = all_written old out cells left none is in
     let same : count ≡ length cells = omega (arith, ap length none, total) in
-    λ i. little_bytes 2 (same i) ++ drop 2 (all i)
+    (λ i. set (set (all i) (begins i) (same i % 256)) (begins i + 1) (same i / 256 % 256))
+    ∙ ap (λ k. set (set (old ++ 0 ∷ 0 ∷ flat_map cell_image cells) (length old) (length cells % 256)) k (length cells / 256 % 256)) (add-one (length old))
+    ∙ two_set old (flat_map cell_image cells) (length cells % 256) (length cells / 256 % 256)
 
 -- ---- Cells of a slice.
 

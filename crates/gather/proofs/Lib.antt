@@ -1,3 +1,4 @@
+pub mod Packed
 pub mod RowImages
 pub mod CellImages
 pub mod WholeImages

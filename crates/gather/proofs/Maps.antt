@@ -15,7 +15,6 @@ use Rattle.binlog.specs.Rows.{RowsValue}
 use Rattle.binlog.specs.Event.{EventValue, format, begin, commit, neutral, stop, rotate, gtid, table_map, other_map, rows, xid}
 use Rattle.binlog.specs.declared.body.table_map.TableDef.{TableDef}
 use Rattle.gather.specs.Transaction.{ChangeValue, said_of, map_of, change_of, is_end, AreChangesOf, AreChanges}
-use Rattle.gather.specs.View.{change_values}
 use Rattle.gather.specs.OpenTransaction.{table_of, said, Adds, Keeps}
 use Rattle.gather.specs.declared.open_transaction.OpenTransaction.{OpenTransaction}
 
@@ -114,15 +113,15 @@ rows_say_nothing maps body r before q = before q ∙ sym (map_of_more body (rows
 pub keeps_other : (body : List EventValue) (current : OpenTransaction) (r : RowsValue) → Keeps body current → get nat_cmp current.maps r.id ≡ Some None → Keeps (body ++ rows r ∷ []) current
 keeps_other body current r keeps is = record {
   maps = rows_say_nothing current.maps body r keeps.maps;
-  changes = no_changes [] body (rows r) (change_values current.changes.items) keeps.changes (None, reported body current r.id None keeps is, refl);
+  changes = no_changes [] body (rows r) current.changes keeps.changes (None, reported body current r.id None keeps is, refl);
 }
 
 pub adds_rows : (body : List EventValue) (current : OpenTransaction) (r : RowsValue) (kept : Rc TableDef Global) (new : List ChangeValue) → Keeps body current → get nat_cmp current.maps r.id ≡ Some (Some kept) →
-    Adds (table_of r.id kept) r (change_values current.changes.items) new → AreChanges [] (body ++ rows r ∷ []) new
+    Adds (table_of r.id kept) r current.changes new → AreChanges [] (body ++ rows r ∷ []) new
 adds_rows body current r kept new keeps is adds =
     let own = map (change_of (table_of r.id kept)) adds.pairs in
     let of : AreChangesOf body (rows r) own = (Some (table_of r.id kept), reported body current r.id (Some kept) keeps is, (adds.pairs, adds.read, refl)) in
-    subst (AreChanges [] (body ++ rows r ∷ [])) (sym adds.after_is) (changes_more [] body (rows r) (change_values current.changes.items) own keeps.changes of)
+    subst (AreChanges [] (body ++ rows r ∷ [])) (sym adds.after_is) (changes_more [] body (rows r) current.changes own keeps.changes of)
 
 pub maps_stay : (body : List EventValue) (current : OpenTransaction) (r : RowsValue) → Keeps body current → (q : ℕ) → option_map (said q) (get nat_cmp current.maps q) ≡ map_of (body ++ rows r ∷ []) q
 maps_stay body current r keeps = rows_say_nothing current.maps body r keeps.maps

@@ -75,17 +75,15 @@ map_more : (f : PairValue → ChangeValue) (pairs : List PairValue) (pair : Pair
 map_more f [] pair = refl
 map_more f (x ∷ pairs) pair = ap (λ l. f x ∷ l) (map_more f pairs pair)
 
-pub walk_more : (kept : Rc TableDef Global) (r : RowsValue) (pair : PairValue) (left : List Item) (before after : List ChangeValue) (new : ChangeValue) →
-    Walked kept r (Ok pair ∷ left) before after → ((id : ℕ) → new ≡ change_of (table_of id kept) pair) → Walked kept r left before (after ++ new ∷ [])
+pub walk_more : (kept : Rc TableDef Global) (r : RowsValue) (pair : PairValue) (left : List Item) (before after new : List ChangeValue) →
+    Walked kept r (Ok pair ∷ left) before after → ((id : ℕ) → new ≡ after ++ change_of (table_of id kept) pair ∷ []) → Walked kept r left before new
 walk_more kept r pair left before after new w is = record {
   columns = w.columns;
   pairs = w.pairs ++ pair ∷ [];
   items = subst (AreItems r (kinds kept.value.types.items)) (map_ok_more w.pairs pair left) w.items;
   after_is = λ id.
       let f = change_of (table_of id kept) in
-      let old : after ++ new ∷ [] ≡ (before ++ map f w.pairs) ++ new ∷ [] = ap (λ x. x ++ new ∷ []) (w.after_is id) in
-      let last : (before ++ map f w.pairs) ++ new ∷ [] ≡ (before ++ map f w.pairs) ++ f pair ∷ [] = ap (λ x. (before ++ map f w.pairs) ++ x ∷ []) (is id) in
-      old ∙ last ∙ append_assoc before (map f w.pairs) (f pair ∷ []) ∙ ap (λ x. before ++ x) (sym (map_more f w.pairs pair));
+      is id ∙ ap (λ x. x ++ f pair ∷ []) (w.after_is id) ∙ append_assoc before (map f w.pairs) (f pair ∷ []) ∙ ap (λ x. before ++ x) (sym (map_more f w.pairs pair));
 }
 
 kinds_length : (kept : Rc TableDef Global) → length (kinds kept.value.types.items) ≡ length kept.value.types.items

@@ -4,7 +4,6 @@ use Rattle.binlog.specs.Rows.{RowsValue}
 use Rattle.binlog.specs.Event.{EventValue, begin, gtid, rows}
 use Rattle.gather.specs.Transaction.{ChangeValue, map_of, AreChanges}
 use Rattle.gather.specs.Fault.{is_open, IsRowsFault}
-use Rattle.gather.specs.View.{change_values}
 use Rattle.gather.specs.OpenTransaction.{Keeps}
 use Rattle.gather.specs.State.{IsAt, BreaksOff, FaultsAt}
 use Rattle.gather.specs.declared.open_transaction.OpenTransaction.{OpenTransaction}
@@ -30,7 +29,7 @@ breaks_off current r fault faults block (body, is, keeps) =
     let whole = gtid source number ∷ begin ∷ body in
     let at : (fault ≡ Memory) ⊎ BreaksOff whole (rows r) fault =
     ⊎_elim inl
-    (λ f. inr (inr (r, refl, open_block source number body (change_values current.changes.items) keeps.changes, subst (λ m. IsRowsFault m r fault) (sym (map_of_body source number body r.id)) f)))
+    (λ f. inr (inr (r, refl, open_block source number body current.changes keeps.changes, subst (λ m. IsRowsFault m r fault) (sym (map_of_body source number body r.id)) f)))
     (faults body keeps) in
     subst (λ b. (fault ≡ Memory) ⊎ BreaksOff b (rows r) fault) (sym is) at
 

@@ -11,7 +11,7 @@ use Rattle.std.specs.Borrow.{Bor}
 use Rattle.binlog.specs.EventView.{event_value}
 use Rattle.binlog.specs.declared.event.Event.{Event}
 use Rattle.binlog.specs.declared.event.Event.TheVariants.{Rotate, Stop}
-use Rattle.gather.specs.View.{delivered, change_values}
+use Rattle.gather.specs.View.{delivered}
 use Rattle.gather.specs.State.{IsAt, GoesOn, FaultsAt, IsInside}
 use Rattle.gather.specs.Standing.{Brings}
 use Rattle.gather.specs.declared.transaction.Delivery.{Delivery}
@@ -209,7 +209,7 @@ keeps (Err fault) formatted state e kept place is memory events ds b = λ wanted
       formatted = sym b.has_format ∙ is;
       in_place = place (last_block events)
           ∙ ap is_open at.1
-          ∙ open_block inside.0.gtid.source inside.0.gtid.number at.0 (change_values inside.0.changes.items) at.2.changes;
+          ∙ open_block inside.0.gtid.source inside.0.gtid.number at.0 inside.0.changes at.2.changes;
     }
 
 -- ---- Format descriptions.

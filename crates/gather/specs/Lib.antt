@@ -1,5 +1,6 @@
 pub mod Image
 pub mod ImageCells
+pub mod Changes
 pub mod Transaction
 pub mod Fault
 pub mod View

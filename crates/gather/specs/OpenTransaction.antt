@@ -12,7 +12,6 @@ use Rattle.binlog.specs.Event.{EventValue}
 use Rattle.binlog.specs.declared.body.table_map.TableDef.{TableDef}
 use Rattle.gather.specs.Image.{HasImage}
 use Rattle.gather.specs.Transaction.{ChangeValue, map_of, change_of, IsReadBy, AreChanges}
-use Rattle.gather.specs.View.{change_values}
 use Rattle.gather.specs.declared.open_transaction.OpenTransaction.{OpenTransaction}
 
 -- the table of a table map with this number
@@ -38,4 +37,4 @@ pub record Adds (t : TableValue) (r : RowsValue) (before after : List ChangeValu
 -- These events have come after BEGIN.
 pub record Keeps (body : List EventValue) (current : OpenTransaction) : Type 0 where
   pub maps : (id : ℕ) → option_map (said id) (get nat_cmp current.maps id) ≡ map_of body id
-  pub changes : AreChanges [] body (change_values current.changes.items)
+  pub changes : AreChanges [] body current.changes

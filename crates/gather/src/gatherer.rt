@@ -6,18 +6,13 @@ use crate::transaction::Delivery;
 use binlog::{Event, event_type};
 use std::alloc::Global;
 
-/// How much room for an image is kept from one transaction to the next, in bytes.
-const ROOM: usize = 1 << 16;
-
-/// Gathers events into whole transactions. It keeps only the current transaction, and room for an image.
+/// Gathers events into whole transactions. It keeps only the current transaction.
 #[derive(Drop)]
 pub struct Gatherer {
     alloc: Global,
     /// Whether a format description has come.
     formatted: bool,
     state: State,
-    /// Room for an image while it is written.
-    scratch: Vec<u8>,
     /// Whether a fault was answered.
     ended: bool,
 }
@@ -39,7 +34,6 @@ impl Gatherer {
             alloc,
             formatted: false,
             state: State::Between,
-            scratch: Vec::new(alloc),
             ended: false,
         }
     }
@@ -94,14 +88,12 @@ impl Gatherer {
             }
             Event::Gtid(gtid) => {
                 self.state = State::Announced(*gtid);
-                self.scratch.clear();
-                self.scratch.shrink_to(ROOM);
                 Ok(None)
             }
             Event::Begin => take_begin(&mut self.state, self.alloc),
             Event::TableMap(map) => take_map(&mut self.state, self.alloc, map),
             Event::OtherMap { id } => take_other(&mut self.state, *id),
-            Event::Rows(rows) => take_rows(&mut self.state, self.alloc, rows, &mut self.scratch),
+            Event::Rows(rows) => take_rows(&mut self.state, rows),
             Event::Commit => take_end(&mut self.state, event_type::QUERY),
             Event::Xid { .. } => take_end(&mut self.state, event_type::XID),
         }

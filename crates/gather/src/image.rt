@@ -8,8 +8,8 @@ ghost use Rattle.gather.specs.ImageCells.{cell_values};
 use crate::fault::GatherFault;
 use crate::image_cells::ImageCells;
 use crate::image_check::is_image;
-use crate::image_writing::{image_size, write_cells, write_row};
-use binlog::{Cell, Row};
+use crate::image_writing::{image_size, write_cells};
+use binlog::Cell;
 use std::alloc::Global;
 use std::marker::Model;
 
@@ -65,43 +65,81 @@ impl Image {
         ensures memory { OnErr result (IsSomeImage bytes.now) }
         ensures err { OnErr result (result ≡ Err GatherFault.Memory) }
     {
-        if !is_image(bytes) {
+        let Some(image) = ImageRef::read(bytes) else {
             return Ok(None);
-        }
-        let bytes = Vec::from_slice(alloc, bytes)?;
+        };
+        let bytes = Vec::from_slice(alloc, image.bytes())?;
         Ok(Some(Image { bytes }))
     }
 
-    /// The image of a row. It is written into `scratch`, whose room is used again for the next one, and copied from
-    /// there, so that it is one allocation of its size. The only error is `Memory`.
-    #[inline(always)]
-    pub(crate) fn of(
-        alloc: Global,
-        row: &Row<'_>,
-        scratch: &mut Vec<u8>,
-    ) -> Result<Image, GatherFault>
-        requires { HasImage row.now }
-        ensures ok { IfOk result (λ made. made ≡ row.now) }
-        ensures err { OnErr result (result ≡ Err GatherFault.Memory) }
+    /// The image, borrowed.
+    pub fn borrowed(&self) -> ImageRef<'_>
+        ensures { result ≡ self.now }
     {
-        write_row(row, scratch)?;
-        let bytes = Vec::from_slice(alloc, scratch.as_slice())?;
-        Ok(Image { bytes })
+        ImageRef {
+            stored: self.bytes.as_slice(),
+        }
     }
 
     /// An iterator over the cells, in order. It takes no memory.
     pub fn cells(&self) -> ImageCells<'_>
         ensures { result ≡ self.now }
     {
-        ImageCells {
-            left: &self.bytes[2..],
-        }
+        self.borrowed().cells()
     }
 
     /// The stored bytes.
     pub fn bytes(&self) -> &[u8]
         ensures { IsImage self.now result.now }
     {
-        self.bytes.as_slice()
+        self.borrowed().bytes()
+    }
+}
+
+/// A borrowed [`Image`]. In contracts it is the list of its cells.
+#[derive(Debug, Drop)]
+pub struct ImageRef<'a> {
+    pub(crate) stored: &'a [u8],
+}
+
+impl<'a> Model for ImageRef<'a> {
+    ghost use Rattle.std.specs.Prelude.{List, drop};
+    ghost use Rattle.binlog.specs.Cell.{CellValue};
+
+    ghost Value = { List CellValue };
+
+    ghost use Rattle.gather.specs.Image.{IsImage};
+    ghost use Rattle.gather.specs.ImageCells.{cells_in};
+
+    ghost view = { λ i. cells_in (drop 2 i.stored.now) };
+
+    ghost invariant = { λ i. IsImage (cells_in (drop 2 i.stored.now)) i.stored.now };
+}
+
+impl<'a> ImageRef<'a> {
+    /// The image that these bytes are, or `None` if they are not one. It takes no memory.
+    pub fn read(bytes: &'a [u8]) -> Option<ImageRef<'a>>
+        ensures { MatchOption result ((cells : List CellValue) → IsImage cells bytes.now → ⊥) (λ made. IsImage made bytes.now) }
+    {
+        if !is_image(bytes) {
+            return None;
+        }
+        Some(ImageRef { stored: bytes })
+    }
+
+    /// An iterator over the cells, in order. It takes no memory.
+    pub fn cells(&self) -> ImageCells<'a>
+        ensures { result ≡ self.now }
+    {
+        ImageCells {
+            left: &self.bytes()[2..],
+        }
+    }
+
+    /// The stored bytes.
+    pub fn bytes(&self) -> &'a [u8]
+        ensures { IsImage self.now result.now }
+    {
+        self.stored
     }
 }

@@ -1,7 +1,6 @@
 //! Images written as bytes.
 
-ghost use Rattle.std.specs.Prelude.{◌≡◌, ◌+◌, ◌≤◌, ◌<◌, ◌^◌, ◌++◌, ◌↔◌, length, drop, nat_lt, IsTrue, OnOk, OnErr, Err, MatchOption};
-ghost use Rattle.byteorder.specs.Endian.{little_bytes};
+ghost use Rattle.std.specs.Prelude.{◌≡◌, ◌+◌, ◌≤◌, ◌<◌, ◌^◌, ◌/◌, ◌%◌, ◌++◌, ◌↔◌, length, set, nat_lt, IsTrue, OnOk, OnErr, Err, MatchOption};
 ghost use Rattle.binlog.specs.Cell.{cell_value, number_cell};
 ghost use Rattle.gather.specs.Image.{cell_image, image, HasCellImage, HasImage};
 ghost use Rattle.gather.specs.ImageCells.{cell_values};
@@ -9,7 +8,6 @@ ghost use Rattle.gather.specs.declared.fault.GatherFault.TheVariants.{Memory};
 
 use crate::fault::GatherFault;
 use binlog::{Cell, Row};
-use byteorder::{ByteOrder, LittleEndian};
 
 /// How many bytes the image of the cells takes, if they have one.
 pub(crate) fn image_size(cells: &[Cell<'_>]) -> Option<usize>
@@ -43,30 +41,32 @@ pub(crate) fn write_cells(cells: &[Cell<'_>], out: &mut Vec<u8>) -> Result<(), G
     Ok(())
 }
 
-/// Writes the image of a row, or a part of it, instead of what the vector holds.
+/// Appends the image of a row, or a part of it.
 #[inline(always)]
 pub(crate) fn write_row(row: &Row<'_>, out: &mut Vec<u8>) -> Result<(), GatherFault>
     requires { HasImage row.now }
-    ensures ok { OnOk result (out.new.items ≡ image row.now) }
+    ensures ok { OnOk result (out.new.items ≡ out.old.items ++ image row.now) }
     ensures err { OnErr result (result ≡ Err Memory) }
 {
-    out.clear();
+    let start = out.len();
     out.extend_from_slice(&[0, 0])?;
     let mut count = 0;
     for cell in row.cells() {
         write_cell(cell, out)?;
         count += 1;
     }
-    set_count(count, out);
+    set_count(start, count, out);
     Ok(())
 }
 
-/// Sets the number of cells of an image whose cells are written.
-fn set_count(count: u16, out: &mut Vec<u8>)
-    requires { 2 ≤ length out.old.items }
-    ensures { out.new.items ≡ little_bytes 2 count ++ drop 2 out.old.items }
+/// Sets the number of cells of an image that begins at this offset and whose cells are written.
+fn set_count(start: usize, count: u16, out: &mut Vec<u8>)
+    requires { start + 2 ≤ length out.old.items }
+    ensures { out.new.items ≡ set (set out.old.items start (count % 256)) (start + 1) (count / 256 % 256) }
 {
-    LittleEndian::write_u16(out.as_mut_slice(), count);
+    let [low, high] = count.to_le_bytes();
+    out[start] = low;
+    out[start + 1] = high;
 }
 
 /// Whether a cell has an image.

@@ -8,6 +8,7 @@
 //! events are lawful and which transactions they hold, and [`laws`] states what follows from that.
 #![tactic(auto)]
 
+mod changes;
 mod fault;
 mod gatherer;
 mod image;
@@ -21,8 +22,9 @@ mod state;
 mod transaction;
 
 pub use binlog::Follow;
+pub use changes::{Changes, ChangesIter};
 pub use fault::GatherFault;
 pub use gatherer::Gatherer;
-pub use image::Image;
+pub use image::{Image, ImageRef};
 pub use image_cells::ImageCells;
 pub use transaction::{Change, Delivery};

@@ -1,8 +1,8 @@
 //! A transaction that has begun and not ended.
 
+use crate::changes::Changes;
 use crate::fault::GatherFault;
 use crate::row_changes::push_changes;
-use crate::transaction::Change;
 use binlog::{RowsEvent, TableDef, TableMap};
 use gtid::Gtid;
 use std::alloc::Global;
@@ -15,7 +15,7 @@ pub(crate) struct OpenTransaction {
     pub(crate) gtid: Gtid,
     /// For each table number its last table map: the table, or `None` if it is not followed.
     pub(crate) maps: BTreeMap<u64, Option<Rc<TableDef>>>,
-    pub(crate) changes: Vec<Change>,
+    pub(crate) changes: Changes,
 }
 
 impl OpenTransaction {
@@ -35,7 +35,7 @@ impl OpenTransaction {
         OpenTransaction {
             gtid,
             maps: BTreeMap::new(alloc),
-            changes: Vec::new(alloc),
+            changes: Changes::new(alloc),
         }
     }
 
@@ -65,12 +65,7 @@ impl OpenTransaction {
 
     /// Takes a rows event: appends its changes, whose table is that of the last table map with its number. The faults
     /// are `UnknownTable`, `Event` and `Memory`.
-    pub(crate) fn take_rows(
-        &mut self,
-        alloc: Global,
-        event: &RowsEvent<'_>,
-        scratch: &mut Vec<u8>,
-    ) -> Result<(), GatherFault>
+    pub(crate) fn take_rows(&mut self, event: &RowsEvent<'_>) -> Result<(), GatherFault>
         ensures gtid { self.new.gtid ≡ self.old.gtid }
         ensures keeps { (body : List EventValue) → Keeps body self.old → OnOk result (Keeps (body ++ rows (rows_value event.now) ∷ []) self.new) }
         ensures fault { (body : List EventValue) → Keeps body self.old →
@@ -79,7 +74,7 @@ impl OpenTransaction {
         match self.maps.get(&event.id) {
             None => Err(GatherFault::UnknownTable(event.id)),
             Some(None) => Ok(()),
-            Some(Some(table)) => push_changes(alloc, table, event, scratch, &mut self.changes),
+            Some(Some(table)) => push_changes(table, event, &mut self.changes),
         }
     }
 }

@@ -80,9 +80,7 @@ pub(crate) fn take_other(state: &mut State, id: u64) -> Result<Option<Delivery>,
 /// Takes a rows event, which must come after BEGIN.
 pub(crate) fn take_rows(
     state: &mut State,
-    alloc: Global,
     event: &RowsEvent<'_>,
-    scratch: &mut Vec<u8>,
 ) -> Result<Option<Delivery>, GatherFault>
     ensures taken { IfOk result (λ delivery. GoesOn (rows (rows_value event.now)) state.old state.new (delivered delivery)) }
     ensures fault { IfErr result (FaultsAt (rows (rows_value event.now)) state.old) }
@@ -90,7 +88,7 @@ pub(crate) fn take_rows(
 {
     match state {
         State::Inside(current) => {
-            current.take_rows(alloc, event, scratch)?;
+            current.take_rows(event)?;
             Ok(None)
         }
         _ => Err(GatherFault::Misplaced(match event.kind {

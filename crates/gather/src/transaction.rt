@@ -1,28 +1,29 @@
 //! Transactions.
 
-use crate::image::Image;
+use crate::changes::Changes;
+use crate::image::ImageRef;
 use binlog::TableDef;
 use gtid::Gtid;
 use std::rc::Rc;
 
-/// What a transaction does to one row of a table. Changes of the same table map share their table.
+/// What a transaction does to one row of a table.
 #[derive(Debug, Drop)]
-pub enum Change {
+pub enum Change<'a> {
     /// The row is added.
     Insert {
-        table: Rc<TableDef>,
-        after: Image,
+        table: &'a Rc<TableDef>,
+        after: ImageRef<'a>,
     },
     /// The row is removed.
     Delete {
-        table: Rc<TableDef>,
-        before: Image,
+        table: &'a Rc<TableDef>,
+        before: ImageRef<'a>,
     },
     /// `before` is removed and `after` is added.
     Update {
-        table: Rc<TableDef>,
-        before: Image,
-        after: Image,
+        table: &'a Rc<TableDef>,
+        before: ImageRef<'a>,
+        after: ImageRef<'a>,
     },
 }
 
@@ -30,5 +31,5 @@ pub enum Change {
 #[derive(Debug, Drop)]
 pub struct Delivery {
     pub gtid: Gtid,
-    pub changes: Vec<Change>,
+    pub changes: Changes,
 }

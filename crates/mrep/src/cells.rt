@@ -2,7 +2,7 @@
 
 use crate::hex::write_hex;
 use binlog::Cell;
-use gather::Image;
+use gather::ImageRef;
 use std::io;
 use std::io::Write;
 
@@ -27,7 +27,7 @@ fn write_next<W: Write>(cell: Cell<'_>, first: bool, out: &mut W) -> io::Result<
 }
 
 /// Writes the cells of a row, separated by commas.
-pub fn write_cells<W: Write>(row: &Image, out: &mut W) -> io::Result<()> {
+pub fn write_cells<W: Write>(row: &ImageRef<'_>, out: &mut W) -> io::Result<()> {
     let mut first = true;
     for cell in row.cells() {
         write_next(cell, first, out)?;
@@ -38,7 +38,7 @@ pub fn write_cells<W: Write>(row: &Image, out: &mut W) -> io::Result<()> {
 
 /// Writes the first cells of a row, until they have as many bytes of text as this or more, and of a long cell as many
 /// bytes. What is left out is `...`.
-pub fn write_first_cells(row: &Image, most: usize, out: &mut Vec<u8>) -> io::Result<()> {
+pub fn write_first_cells(row: &ImageRef<'_>, most: usize, out: &mut Vec<u8>) -> io::Result<()> {
     let end = out.len().saturating_add(most);
     let mut first = true;
     for cell in row.cells() {

@@ -8,7 +8,7 @@ use crate::failure::Failure;
 use crate::json_lines::{write_image, write_label};
 use crate::output_format::Encoding;
 use crate::set_text::text_of;
-use gather::{Change, Delivery, Image};
+use gather::{Change, Delivery, ImageRef};
 use gtid::{Gtid, GtidSet};
 use std::alloc::{AllocError, Global};
 use std::fs::{File, OpenOptions};
@@ -185,8 +185,8 @@ fn write_entry<W: Write>(
             writeln!(out, "{{\"type\":\"open\",\"executed\":\"{text}\"}}")
         }
         FeedEntry::Changes(delivery) => {
-            for change in &delivery.changes {
-                write_change(alloc, encoding, delivery.gtid, change, out)?;
+            for change in delivery.changes.iter() {
+                write_change(alloc, encoding, delivery.gtid, &change, out)?;
             }
             Ok(())
         }
@@ -205,7 +205,7 @@ fn write_change<W: Write>(
     alloc: Global,
     encoding: Encoding,
     gtid: Gtid,
-    change: &Change,
+    change: &Change<'_>,
     out: &mut W,
 ) -> io::Result<()> {
     let (kind, table, before, after) = match change {
@@ -231,7 +231,7 @@ fn write_side<W: Write>(
     alloc: Global,
     encoding: Encoding,
     side: &str,
-    row: Option<&Image>,
+    row: Option<&ImageRef<'_>>,
     out: &mut W,
 ) -> io::Result<()> {
     let Some(row) = row else {

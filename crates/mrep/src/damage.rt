@@ -1,9 +1,8 @@
 //! What is wrong with the tables of a database that is refused as damaged: the table, the row and the rule.
 
-use gather::Image;
+use gather::ImageRef;
 use sqlite::types::ValueRef;
 use sqlite::{Alter, Connection, Error, Row};
-use std::alloc::Global;
 use std::fmt;
 
 /// A table, or one or two rows of it, and the rule of the layout that they break.
@@ -112,7 +111,7 @@ static HELD: [Rule; 4] = [
 ];
 
 /// What is wrong with the tables of a database, if it is found. It is looked for by reading alone, row by row.
-pub fn damage_in<S: Alter>(alloc: Global, conn: &mut Connection<S>) -> Option<Damage> {
+pub fn damage_in<S: Alter>(conn: &mut Connection<S>) -> Option<Damage> {
     if let Some(damage) = in_table(conn, "meta", &META) {
         return Some(damage);
     }
@@ -127,7 +126,7 @@ pub fn damage_in<S: Alter>(alloc: Global, conn: &mut Connection<S>) -> Option<Da
     if let Some(damage) = in_table(conn, "held", &HELD) {
         return Some(damage);
     }
-    in_images(alloc, conn)
+    in_images(conn)
 }
 
 /// The layout that `meta` states.
@@ -256,7 +255,7 @@ fn in_intervals<S: Alter>(conn: &mut Connection<S>) -> Option<Damage> {
 }
 
 /// The first row of `held` whose image is not a stored image.
-fn in_images<S: Alter>(alloc: Global, conn: &mut Connection<S>) -> Option<Damage> {
+fn in_images<S: Alter>(conn: &mut Connection<S>) -> Option<Damage> {
     let mut rows = match conn.query("SELECT rowid, image FROM held ORDER BY rowid", &[]) {
         Ok(rows) => rows,
         Err(_) => return None,
@@ -265,7 +264,7 @@ fn in_images<S: Alter>(alloc: Global, conn: &mut Connection<S>) -> Option<Damage
         let Ok(Some(row)) = rows.next() else {
             return None;
         };
-        if lacks_image(alloc, row) {
+        if lacks_image(row) {
             return Some(Damage {
                 table: "held",
                 row: row.get(0).ok(),
@@ -278,9 +277,9 @@ fn in_images<S: Alter>(alloc: Global, conn: &mut Connection<S>) -> Option<Damage
 }
 
 /// Whether a row with a rowid and an image has no stored image.
-fn lacks_image(alloc: Global, row: &Row) -> bool {
+fn lacks_image(row: &Row) -> bool {
     match row.get_ref(1) {
-        Ok(ValueRef::Blob(bytes)) => matches!(Image::read(alloc, bytes), Ok(None)),
+        Ok(ValueRef::Blob(bytes)) => ImageRef::read(bytes).is_none(),
         _ => false,
     }
 }

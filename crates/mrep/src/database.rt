@@ -196,18 +196,18 @@ fn leave_database(
     fault: StoreFault,
     mut conn: Connection<FileOf>,
 ) -> Cause {
-    let cause = cause_in(rt.alloc(), fault, &mut conn);
+    let cause = cause_in(fault, &mut conn);
     remove_unused(rt, log);
     let _ = conn.close();
     cause
 }
 
 /// The cause of a fault of opening a database: of damage, what is damaged, if that is found.
-fn cause_in<S: Alter>(alloc: Global, fault: StoreFault, conn: &mut Connection<S>) -> Cause {
+fn cause_in<S: Alter>(fault: StoreFault, conn: &mut Connection<S>) -> Cause {
     if fault != StoreFault::Damaged {
         return Cause::Fault(fault);
     }
-    match damage_in(alloc, conn) {
+    match damage_in(conn) {
         Some(damage) => Cause::Damage(damage),
         None => Cause::Fault(fault),
     }

@@ -4,7 +4,7 @@ use crate::cells::write_first_cells;
 use crate::name::{Shown, write_table};
 use crate::reason::write_escaped;
 use binlog::{EventFault, EventFaultKind};
-use gather::{Change, Delivery, Image};
+use gather::{Change, Delivery, ImageRef};
 use gtid::Gtid;
 use replica::{Reason, Refusal};
 use std::alloc::Global;
@@ -48,8 +48,8 @@ impl Details {
         let at = match refusal {
             Refusal::NoSuchRow(at) | Refusal::CountFull(at) => *at,
         };
-        if let Some(change) = delivery.changes.get(at) {
-            let _ = write_change(change, *refusal, &mut self.lines);
+        if let Some(change) = delivery.changes.iter().nth(at) {
+            let _ = write_change(&change, *refusal, &mut self.lines);
         }
     }
 
@@ -159,7 +159,7 @@ fn table_in(event: &[u8]) -> Option<(&[u8], &[u8], usize)> {
 }
 
 /// Writes the table and the row of a change that is refused.
-fn write_change(change: &Change, refusal: Refusal, out: &mut Vec<u8>) -> io::Result<()> {
+fn write_change(change: &Change<'_>, refusal: Refusal, out: &mut Vec<u8>) -> io::Result<()> {
     let (table, row) = match change {
         Change::Insert { table, after } => (table, after),
         Change::Delete { table, before } => (table, before),
@@ -177,7 +177,7 @@ fn write_change(change: &Change, refusal: Refusal, out: &mut Vec<u8>) -> io::Res
 }
 
 /// Writes the cells of a row, or the first of them.
-fn write_line(row: &Image, out: &mut Vec<u8>) -> io::Result<()> {
+fn write_line(row: &ImageRef<'_>, out: &mut Vec<u8>) -> io::Result<()> {
     out.write_all(b", row ")?;
     write_first_cells(row, SHOWN, out)?;
     writeln!(out)

@@ -5,7 +5,7 @@ use crate::name::write_name;
 use crate::output_format::Encoding;
 use base64::engine::general_purpose::STANDARD;
 use binlog::Cell;
-use gather::Image;
+use gather::ImageRef;
 use std::alloc::Global;
 use std::io::{ErrorKind, Write};
 use std::{io, str};
@@ -85,7 +85,7 @@ fn write_cell<W: Write>(
 /// Writes the cells of a row.
 fn write_cells<W: Write>(
     alloc: Global,
-    row: &Image,
+    row: &ImageRef<'_>,
     encoding: Encoding,
     out: &mut W,
 ) -> io::Result<()> {
@@ -99,7 +99,7 @@ fn write_cells<W: Write>(
 }
 
 /// Writes how many bytes the source sent of each number of a row, and `null` for the other cells.
-fn write_widths<W: Write>(row: &Image, out: &mut W) -> io::Result<()> {
+fn write_widths<W: Write>(row: &ImageRef<'_>, out: &mut W) -> io::Result<()> {
     let mut first = true;
     for cell in row.cells() {
         write_comma(first, out)?;
@@ -115,7 +115,7 @@ fn write_widths<W: Write>(row: &Image, out: &mut W) -> io::Result<()> {
 /// Writes the members of an object for the cells of a row and their widths.
 fn write_row<W: Write>(
     alloc: Global,
-    row: &Image,
+    row: &ImageRef<'_>,
     encoding: Encoding,
     out: &mut W,
 ) -> io::Result<()> {
@@ -129,7 +129,7 @@ fn write_row<W: Write>(
 /// Writes an object with the cells of a row and their widths.
 pub fn write_image<W: Write>(
     alloc: Global,
-    row: &Image,
+    row: &ImageRef<'_>,
     encoding: Encoding,
     out: &mut W,
 ) -> io::Result<()> {

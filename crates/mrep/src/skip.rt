@@ -4,7 +4,7 @@ ghost use Rattle.std.specs.Prelude.{◌≡◌, IfOk};
 
 use crate::database::{Work, work_on};
 use crate::failure::{DONE, Failure};
-use gather::Delivery;
+use gather::{Changes, Delivery};
 use gtid::Gtid;
 use sqlite::Alter;
 use std::alloc::Global;
@@ -57,7 +57,7 @@ fn record<'a, S: Alter>(
 ) -> Result<Applied, Failure<'a>> {
     let delivery = Delivery {
         gtid,
-        changes: Vec::new(alloc),
+        changes: Changes::new(alloc),
     };
     match store.apply(&delivery) {
         Ok(applied) => Ok(applied),

@@ -27,7 +27,7 @@ use Rattle.store.specs.declared.store.Store.{Store}
 use Rattle.store.specs.Store.{Holds, IsWhole, database}
 use Rattle.store.specs.declared.listing.ListError.{ListError}
 use Rattle.store.specs.declared.listing.ListError.TheVariants.{Store as StoreError, Visitor as VisitorError}
-use Rattle.store.specs.declared.fault.StoreFault.TheVariants.{Database, Memory}
+use Rattle.store.specs.declared.fault.StoreFault.TheVariants.{Database}
 use Rattle.store.proofs.Counted.{rest_unchanged, rest_read}
 use Rattle.store.proofs.Keeps.{open_shown}
 use Rattle.store.proofs.Listings.{AreEntries, are_entries, given_entry, listed_asks, listed_order}
@@ -159,19 +159,17 @@ module _ {S : Type 0} (g : Ghosts S) (names : Names) (content : Content) where
       next_same : (new : Held S) → IsUnchanged (state g mid) (state g new) → IsUnchanged (state g old) (state g new)
       next_same new same = unchanged_then (state g old) (state g mid) (state g new) it.same same
 
-      -- The visitor or an allocation has ended the list at the next row.
+      -- The visitor has ended the list at the next row.
       pub stopped : (new : Held S) (row : Row) → IsUnchanged (state g mid) (state g new) → (next : IsNext new row) (u : V) (error : ListError E) → Handed gives next.entry w u (Err error)
           → Hands gives content.rows v u (Err error) × KeepsListed {E = E} (state g old) (state g new) (Err error)
       stopped new row same next u (VisitorError e) handed = ((w, next.entry, next.left, next.accepted, handed), next_same new same)
-      stopped new row same next u (StoreError Memory) handed = (inr (next.entry ∷ next.left, subst (λ x. HasAccepted gives content.rows v x (next.entry ∷ next.left)) (sym handed) next.accepted), next_same new same)
-      stopped new row same next u _ handed = absurd handed
+      stopped new row same next u (StoreError fault) handed = absurd handed
 
 -- ---- The query before its first row.
 
 pub kept_after : {E : Type 0} (old mid new : State) (r : Result (Unit {0}) (ListError E)) → IsUnchanged old mid → KeepsListed mid new r → KeepsListed old new r
 kept_after old mid new (Ok u) same kept = unchanged_then old mid new same kept
 kept_after old mid new (Err (VisitorError e)) same kept = unchanged_then old mid new same kept
-kept_after old mid new (Err (StoreError Memory)) same kept = unchanged_then old mid new same kept
 kept_after old mid new (Err (StoreError (Database e))) same kept = rested_after old mid new same kept
 kept_after old mid new _ same kept = absurd kept
 
@@ -179,7 +177,6 @@ kept_after old mid new _ same kept = absurd kept
 pub kept_now : {E : Type 0} (old new : State) (r : Result (Unit {0}) (ListError E)) → KeepsListed old new r → old.now ≡ old.committed → IsTrue new.is_open → new.now ≡ old.now
 kept_now old new (Ok u) kept settled is_open = kept.0.now_is
 kept_now old new (Err (VisitorError e)) kept settled is_open = kept.0.now_is
-kept_now old new (Err (StoreError Memory)) kept settled is_open = kept.0.now_is
 kept_now old new (Err (StoreError (Database e))) kept settled is_open = (kept.rests settled is_open).0
 kept_now old new _ kept settled is_open = absurd kept
 
@@ -202,6 +199,5 @@ held_listed g old new content r was whole set names kept = go r kept
     go : {E : Type 0} (r : Result (Unit {0}) (ListError E)) → KeepsListed (database g old) (database g new) r → HoldsListed g content new r
     go (Ok u) kept = held kept
     go (Err (VisitorError e)) kept = held kept
-    go (Err (StoreError Memory)) kept = held kept
     go (Err (StoreError (Database e))) kept = record { whole = whole; executed = executed; rest = λ is_open. subst (λ n. IsAtRest (database g new) n content) (sym names) (rest_read (database g old) (database g new) old.following content was.rest (kept.rests was.rest.settled) is_open) }
     go _ kept = absurd kept

@@ -1,5 +1,5 @@
 -- What the checks of rows report.
-use Rattle.std.proofs.Common.{◌≡◌, ◌⊎◌, ◌<◌, ◌+◌, pos, Result, Ok, Err, IfOk, MatchBool, inl, inr, IsTrue, ◌<ℤ◌, ◌≤◌, ℕ, ℤ, suc, zero, Bool, true, false, List, [], ◌∷◌, drop, length, Option, Some, refl, sym, ap, subst, ◌∙◌, arith}
+use Rattle.std.proofs.Common.{◌≡◌, ◌⊎◌, ◌<◌, ◌+◌, pos, MatchBool, inl, inr, IsTrue, ◌<ℤ◌, ◌≤◌, ℕ, ℤ, suc, zero, Bool, true, false, List, [], ◌∷◌, drop, length, Option, Some, refl, sym, ap, subst, ◌∙◌, arith}
 use Rattle.std.specs.List.{AllByRecursion, IsDistinct}
 use Rattle.std.specs.Ordering.{is_eq}
 use Rattle.std.specs.Cmp.{int_cmp_is}
@@ -86,8 +86,7 @@ unstored row id a b image z is none held =
     let one : held.1.image ≡ image = cc in
     none (subst IsSomeImage one held.6)
 
-pub lawful_held : {E : Type 0} (row : Row) (id : ℤ) (a b image : List ℕ) (n : ℕ) (r : Result Bool E) → row ≡ Int id ∷ Blob a ∷ Blob b ∷ Blob image ∷ Int (pos n) ∷ [] → 1 ≤ n → n ≤ most
-    → IfOk r (λ b. MatchBool b (IsSomeImage image) (¬ IsSomeImage image)) → IfOk r (λ b. MatchBool b (IsHeldRow row) (¬ IsHeldRow row))
-lawful_held row id a b image n (Ok true) is low high stored = (id, key_of a b image, n, is, low, high, stored)
-lawful_held row id a b image n (Ok false) is low high none = unstored row id a b image (pos n) is none
-lawful_held row id a b image n (Err e) is low high h = h
+pub lawful_held : (row : Row) (id : ℤ) (a b image : List ℕ) (n : ℕ) (is_image : Bool) → row ≡ Int id ∷ Blob a ∷ Blob b ∷ Blob image ∷ Int (pos n) ∷ [] → 1 ≤ n → n ≤ most
+    → MatchBool is_image (IsSomeImage image) (¬ IsSomeImage image) → MatchBool is_image (IsHeldRow row) (¬ IsHeldRow row)
+lawful_held row id a b image n true is low high stored = (id, key_of a b image, n, is, low, high, stored)
+lawful_held row id a b image n false is low high none = unstored row id a b image (pos n) is none

@@ -13,15 +13,13 @@ use Rattle.sqlite.specs.State.{State, IsUnchanged}
 use Rattle.sqlite.specs.Held.{Held, state}
 use Rattle.sqlite.specs.Given.{HasGiven}
 use Rattle.gather.specs.Image.{HasImage, image}
-use Rattle.store.specs.declared.fault.StoreFault.{StoreFault}
-use Rattle.store.specs.declared.fault.StoreFault.TheVariants.{Database, Memory}
+use Rattle.store.specs.declared.fault.StoreFault.TheVariants.{Database, Broken}
 use Rattle.store.specs.declared.listing.Listed.{Listed}
 use Rattle.store.specs.declared.listing.ListError.{ListError}
 use Rattle.store.specs.declared.listing.ListError.TheVariants.{Store as StoreError, Visitor as VisitorError}
 use Rattle.store.specs.declared.store.Store.{Store}
 use Rattle.store.specs.State.{TableRow, row_of, Bag, Content}
 use Rattle.store.specs.Rows.{Key, key_for}
-use Rattle.store.specs.Faults.{IsReadFault}
 use Rattle.store.specs.Load.{Rested}
 use Rattle.store.specs.Store.{Holds, Keeps}
 
@@ -59,15 +57,16 @@ shown_entry e = Blob e.0.schema ∷ Blob e.0.table ∷ Blob (image e.0.cells) �
 abbrev pub without_rowids : List Row → List Row
 without_rowids rows = map (λ (row : Row). drop 1 row) rows
 
--- A row is this entry, or an allocation was refused.
-abbrev pub Gives : Entry → Result Listed StoreFault → Type 0
-Gives e (Ok listed) = entry_of listed ≡ e
-Gives e (Err Memory) = Unit {0}
-Gives e (Err _) = ⊥
+-- A row is this entry.
+abbrev pub Gives : Entry → Option Listed → Type 0
+Gives e (Some listed) = entry_of listed ≡ e
+Gives e None = ⊥
 
 -- reading has failed, or the visitor
 abbrev pub IsListFault : {E : Type 0} → ListError E → Type 0
-IsListFault (StoreError fault) = IsReadFault fault
+IsListFault (StoreError (Database e)) = Unit {0}
+IsListFault (StoreError Broken) = Unit {0}
+IsListFault (StoreError _) = ⊥
 IsListFault (VisitorError e) = Unit {0}
 
 -- `gives v e answer w`: the visitor v answers to the entry e in this way, and is w afterwards.
@@ -76,12 +75,11 @@ module _ {V E : Type 0} (gives : V → Entry → Result (Unit {0}) E → V → T
   abbrev pub Accepts : V → Entry → V → Type 0
   Accepts v e w = gives v e (Ok tt) w
 
-  -- The entry was handed to the visitor, or an allocation was refused before.
+  -- The entry was handed to the visitor.
   abbrev pub Handed : Entry → V → V → Result (Unit {0}) (ListError E) → Type 0
   Handed e v w (Ok u) = Accepts v e w
   Handed e v w (Err (VisitorError error)) = gives v e (Err error) w
-  Handed e v w (Err (StoreError Memory)) = w ≡ v
-  Handed e v w (Err (StoreError _)) = ⊥
+  Handed e v w (Err (StoreError fault)) = ⊥
 
   -- The visitor has accepted the first rows of the bag in order, one after the other; these are left.
   pub record HasAccepted (bag : Bag) (v w : V) (left : List Entry) : Type 0 where
@@ -99,7 +97,6 @@ module _ {V E : Type 0} (gives : V → Entry → Result (Unit {0}) E → V → T
 -- Nothing has changed; after a failure of the database, if the connection is still open.
 abbrev pub KeepsListed : {E : Type 0} → State → State → Result (Unit {0}) (ListError E) → Type 0
 KeepsListed old new (Err (StoreError (Database e))) = Rested old new
-KeepsListed old new (Err (StoreError Memory)) = IsUnchanged old new
 KeepsListed old new (Err (StoreError _)) = ⊥
 KeepsListed old new _ = IsUnchanged old new
 
@@ -133,7 +130,6 @@ module _ {S : Type 0} (g : Ghosts S) where
   -- The store holds the same content. After a failure of the database it keeps it.
   abbrev pub HoldsListed : {E : Type 0} → Content → Store S g → Result (Unit {0}) (ListError E) → Type 0
   HoldsListed content new (Err (StoreError (Database e))) = Keeps g new content
-  HoldsListed content new (Err (StoreError Memory)) = Holds g new content
   HoldsListed content new (Err (StoreError _)) = ⊥
   HoldsListed content new _ = Holds g new content
 

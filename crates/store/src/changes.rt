@@ -34,7 +34,7 @@ fn fill<S: Alter>(
         → Joins content.executed (id delivery.now.gtid) beside.now stands.executed.spans → IfOk result (Fills filter.now content (delivery_value delivery.now) (state S.Store tx.old.conn.now) (state S.Store tx.new.conn.now)) }
     ensures stays { Stays (state S.Store tx.old.conn.now) (state S.Store tx.new.conn.now) }
 {
-    if let Some(refused) = make_all(tx, filter, delivery.changes.as_slice())? {
+    if let Some(refused) = make_all(tx, filter, &delivery.changes)? {
         return Ok(Some(refused));
     }
     record(tx, delivery.gtid, beside)?;

@@ -24,17 +24,16 @@ ghost use Rattle.store.specs.declared.fault.StoreFault.TheVariants.{Broken};
 use crate::fault::StoreFault;
 use crate::held_rows::RowKey;
 use crate::store::Store;
-use gather::Image;
+use gather::ImageRef;
 use sqlite::types::ValueRef;
 use sqlite::{Alter, Connection, Error, ErrorCode, Row, Rows};
-use std::alloc::Global;
 
 /// A row that a store holds, with the number of its copies.
 #[derive(Debug, Drop)]
 pub struct Listed<'a> {
     pub schema: &'a [u8],
     pub table: &'a [u8],
-    pub image: Image,
+    pub image: ImageRef<'a>,
     /// The number of copies, from 1 to 2^63 - 1.
     pub count: u64,
 }
@@ -104,24 +103,14 @@ fn count_at(row: &Row) -> Option<u64>
     }
 }
 
-/// The row that a row of `held` stores. The only error for such a row is `Memory`.
-fn listed_in(alloc: Global, row: &Row) -> Result<Listed<'_>, StoreFault>
-    ensures gives { (entry : Entry) → shown_entry entry ≡ drop 1 row.now → HasImage entry.0.cells → Gives entry result }
-    ensures fault { IfErr result IsFailure }
+/// The row that a row of `held` stores.
+fn listed_in(row: &Row) -> Option<Listed<'_>>
+    ensures { (entry : Entry) → shown_entry entry ≡ drop 1 row.now → HasImage entry.0.cells → Gives entry result }
 {
-    let Some(key) = key_at(row) else {
-        return Err(StoreFault::Database(Error::SqliteFailure(ErrorCode::DatabaseCorrupt)));
-    };
-    let Some(count) = count_at(row) else {
-        return Err(StoreFault::Database(Error::SqliteFailure(ErrorCode::DatabaseCorrupt)));
-    };
-    let Ok(found) = Image::read(alloc, key.image) else {
-        return Err(StoreFault::Memory);
-    };
-    let Some(image) = found else {
-        return Err(StoreFault::Database(Error::SqliteFailure(ErrorCode::DatabaseCorrupt)));
-    };
-    Ok(Listed {
+    let key = key_at(row)?;
+    let count = count_at(row)?;
+    let image = ImageRef::read(key.image)?;
+    Some(Listed {
         schema: key.schema,
         table: key.table,
         image,
@@ -130,11 +119,15 @@ fn listed_in(alloc: Global, row: &Row) -> Result<Listed<'_>, StoreFault>
 }
 
 /// Hands a row of `held` to the visitor.
-fn hand<V: Visitor>(alloc: Global, row: &Row, visitor: &mut V) -> Result<(), ListError<V::Error>>
+fn hand<V: Visitor>(row: &Row, visitor: &mut V) -> Result<(), ListError<V::Error>>
     ensures handed { (entry : Entry) → shown_entry entry ≡ drop 1 row.now → HasImage entry.0.cells → Handed V.row_gives entry visitor.old visitor.new result }
     ensures fault { IfErr result IsListFault }
 {
-    let listed = listed_in(alloc, row)?;
+    let Some(listed) = listed_in(row) else {
+        return Err(ListError::Store(StoreFault::Database(Error::SqliteFailure(
+            ErrorCode::DatabaseCorrupt,
+        ))));
+    };
     match visitor.row(&listed) {
         Ok(()) => Ok(()),
         Err(error) => Err(ListError::Visitor(error)),
@@ -143,7 +136,6 @@ fn hand<V: Visitor>(alloc: Global, row: &Row, visitor: &mut V) -> Result<(), Lis
 
 /// Hands the rows of a query to the visitor as they are read, one at a time.
 fn hand_all<S: Alter, V: Visitor>(
-    alloc: Global,
     rows: &mut Rows<'_, S>,
     visitor: &mut V,
 ) -> Result<(), ListError<V::Error>>
@@ -162,14 +154,13 @@ fn hand_all<S: Alter, V: Visitor>(
         let Some(row) = rows.get() else {
             return Ok(());
         };
-        hand(alloc, row, visitor)?;
+        hand(row, visitor)?;
     }
     Err(ListError::Store(StoreFault::Database(Error::SqliteFailure(ErrorCode::DatabaseCorrupt))))
 }
 
 /// Hands the rows of `held` to the visitor, in the order of their keys.
 fn list_held<S: Alter, V: Visitor>(
-    alloc: Global,
     conn: &mut Connection<S>,
     visitor: &mut V,
 ) -> Result<(), ListError<V::Error>>
@@ -190,7 +181,7 @@ fn list_held<S: Alter, V: Visitor>(
         Ok(rows) => rows,
         Err(error) => return Err(ListError::Store(StoreFault::Database(error))),
     };
-    hand_all(alloc, &mut rows, visitor)
+    hand_all(&mut rows, visitor)
 }
 
 impl<S: Alter> Store<S> {
@@ -199,8 +190,8 @@ impl<S: Alter> Store<S> {
     /// Nothing changes, and the store can be used further.
     ///
     /// An error of the visitor ends the list. The faults of the store end it too, after the rows that were read before:
-    /// `Database` if the database failed, `Memory` if an allocation was refused, and `Broken`, before the first row, after
-    /// an earlier failure of `apply` or `adopt`.
+    /// `Database` if the database failed, and `Broken`, before the first row, after an earlier failure of `apply` or
+    /// `adopt`.
     pub fn list<V: Visitor>(&mut self, visitor: &mut V) -> Result<(), ListError<V::Error>>
         ensures lists { HasCleanDisk (database S.Store self.new) → (content : Content) → Holds S.Store self.old content → Lists S.Store V.row_gives content self.new visitor.old visitor.new result }
         ensures shut { HasCleanDisk (database S.Store self.new) → (content : Content) → Keeps S.Store self.old content → (database S.Store self.old).is_open ≡ false → ListsShut S.Store content self.new visitor.old visitor.new result }
@@ -215,6 +206,6 @@ impl<S: Alter> Store<S> {
         if self.broken {
             return Err(ListError::Store(StoreFault::Broken));
         }
-        list_held(self.alloc, &mut self.conn, visitor)
+        list_held(&mut self.conn, visitor)
     }
 }

@@ -59,7 +59,7 @@ pub(crate) fn read_meta<S: Alter>(conn: &mut Connection<S>) -> Result<Meta, Erro
 }
 
 /// Checks the rows of `held`, one at a time.
-fn load_held<S: Alter>(alloc: Global, conn: &mut Connection<S>) -> Result<(), StoreFault>
+fn load_held<S: Alter>(conn: &mut Connection<S>) -> Result<(), StoreFault>
     requires { conn.old.in_transaction ≡ false }
     ensures autocommit { conn.new.in_transaction ≡ false }
     ensures judged { HasCleanDisk (state S.Store conn.new) → (tree : ℕ) → AsksAll (state S.Store conn.old).now.schema all_held_text tree → Judges result (λ _. AllByRecursion IsHeldRow ((state S.Store conn.old).now.trees tree) × HasRowids ((state S.Store conn.old).now.trees tree)) (AllByRecursion IsHeldRow ((state S.Store conn.old).now.trees tree)) }
@@ -74,7 +74,7 @@ fn load_held<S: Alter>(alloc: Global, conn: &mut Connection<S>) -> Result<(), St
         "SELECT rowid, schema_name, table_name, image, n FROM held ORDER BY rowid",
         &[],
     )?;
-    let verdict = judge_rows(alloc, &mut rows)?;
+    let verdict = judge_rows(&mut rows)?;
     answer(verdict)
 }
 
@@ -145,7 +145,7 @@ pub(crate) fn load<S: Alter>(alloc: Global, conn: &mut Connection<S>) -> Result<
     conn.schema();
     let following = load_follow(alloc, conn)?;
     let executed = load_spans(alloc, conn)?;
-    load_held(alloc, conn)?;
+    load_held(conn)?;
     Ok(Loaded {
         executed,
         following,
@@ -169,6 +169,6 @@ pub(crate) fn load_first<S: Alter>(
     // For the prover: what the connection shows is a database. The call does nothing at run time.
     conn.schema();
     let executed = load_executed(alloc, conn)?;
-    load_held(alloc, conn)?;
+    load_held(conn)?;
     Ok(executed)
 }

@@ -6,14 +6,14 @@ ghost use Rattle.sqlite.specs.Held.{state};
 ghost use Rattle.gather.specs.Image.{IsSomeImage};
 ghost use Rattle.store.specs.Rows.{key_in, held_rows, count};
 ghost use Rattle.gather.specs.Transaction.{insert, delete};
-ghost use Rattle.gather.specs.View.{change_value, change_values};
+ghost use Rattle.gather.specs.View.{change_value};
 ghost use Rattle.store.specs.Changes.{is_admitted};
 ghost use Rattle.store.specs.Inside.{IsWorking, added, removed, Counted, Makes, Does, DoesAll, Stays};
 
 use crate::held_rows::{RowKey, delete, insert, read, update};
 use crate::rules::MOST;
 use binlog::{Follow, TableDef};
-use gather::{Change, Image};
+use gather::{Change, Changes, ImageRef};
 use sqlite::{Alter, Error, Transaction};
 
 /// Why a change is refused.
@@ -72,7 +72,7 @@ pub(crate) fn remove<S: Alter>(
 fn add_row<S: Alter>(
     tx: &mut Transaction<'_, S>,
     table: &TableDef,
-    image: &Image,
+    image: &ImageRef<'_>,
 ) -> Result<Option<Refusal>, Error>
     ensures same_reference { tx.new.conn.ghost_name ≡ tx.old.conn.ghost_name }
     ensures makes { HasCleanDisk (state S.Store tx.new.conn.now) → IsWorking (state S.Store tx.old.conn.now) → IfOk result (Makes (insert table.now.schema.items table.now.table.items image.now) (state S.Store tx.old.conn.now) (state S.Store tx.new.conn.now)) }
@@ -90,7 +90,7 @@ fn add_row<S: Alter>(
 fn remove_row<S: Alter>(
     tx: &mut Transaction<'_, S>,
     table: &TableDef,
-    image: &Image,
+    image: &ImageRef<'_>,
 ) -> Result<Option<Refusal>, Error>
     ensures same_reference { tx.new.conn.ghost_name ≡ tx.old.conn.ghost_name }
     ensures makes { HasCleanDisk (state S.Store tx.new.conn.now) → IsWorking (state S.Store tx.old.conn.now) → IfOk result (Makes (delete table.now.schema.items table.now.table.items image.now) (state S.Store tx.old.conn.now) (state S.Store tx.new.conn.now)) }
@@ -105,7 +105,10 @@ fn remove_row<S: Alter>(
 }
 
 /// Makes one change, or returns why it is refused.
-fn make<S: Alter>(tx: &mut Transaction<'_, S>, change: &Change) -> Result<Option<Refusal>, Error>
+fn make<S: Alter>(
+    tx: &mut Transaction<'_, S>,
+    change: &Change<'_>,
+) -> Result<Option<Refusal>, Error>
     ensures same_reference { tx.new.conn.ghost_name ≡ tx.old.conn.ghost_name }
     ensures makes { HasCleanDisk (state S.Store tx.new.conn.now) → IsWorking (state S.Store tx.old.conn.now) → IfOk result (Makes (change_value change.now) (state S.Store tx.old.conn.now) (state S.Store tx.new.conn.now)) }
     ensures stays { Stays (state S.Store tx.old.conn.now) (state S.Store tx.new.conn.now) }
@@ -127,7 +130,7 @@ fn make<S: Alter>(tx: &mut Transaction<'_, S>, change: &Change) -> Result<Option
 }
 
 /// Whether the filter admits the table of a change.
-fn is_admitted(filter: &Follow, change: &Change) -> bool
+fn is_admitted(filter: &Follow, change: &Change<'_>) -> bool
     ensures { result ≡ is_admitted filter.now (change_value change.now) }
 {
     match change {
@@ -141,7 +144,7 @@ fn is_admitted(filter: &Follow, change: &Change) -> bool
 fn step<S: Alter>(
     tx: &mut Transaction<'_, S>,
     filter: &Follow,
-    change: &Change,
+    change: &Change<'_>,
 ) -> Result<Option<Refusal>, Error>
     ensures same_reference { tx.new.conn.ghost_name ≡ tx.old.conn.ghost_name }
     ensures does { HasCleanDisk (state S.Store tx.new.conn.now) → IsWorking (state S.Store tx.old.conn.now) → IfOk result (Does filter.now (change_value change.now) (state S.Store tx.old.conn.now) (state S.Store tx.new.conn.now)) }
@@ -157,16 +160,20 @@ fn step<S: Alter>(
 pub(crate) fn make_all<S: Alter>(
     tx: &mut Transaction<'_, S>,
     filter: &Follow,
-    changes: &[Change],
+    changes: &Changes,
 ) -> Result<Option<(usize, Refusal)>, Error>
     ensures same_reference { tx.new.conn.ghost_name ≡ tx.old.conn.ghost_name }
-    ensures does { HasCleanDisk (state S.Store tx.new.conn.now) → IsWorking (state S.Store tx.old.conn.now) → IfOk result (DoesAll filter.now (change_values changes.now) (state S.Store tx.old.conn.now) (state S.Store tx.new.conn.now)) }
+    ensures does { HasCleanDisk (state S.Store tx.new.conn.now) → IsWorking (state S.Store tx.old.conn.now) → IfOk result (DoesAll filter.now changes.now (state S.Store tx.old.conn.now) (state S.Store tx.new.conn.now)) }
     ensures stays { Stays (state S.Store tx.old.conn.now) (state S.Store tx.new.conn.now) }
 {
-    for at in 0..changes.len() {
-        if let Some(why) = step(tx, filter, &changes[at])? {
+    // For the prover: an index is less than this, so it has a successor.
+    let _count = changes.len();
+    let mut at = 0;
+    for change in changes.iter() {
+        if let Some(why) = step(tx, filter, &change)? {
             return Ok(Some((at, why)));
         }
+        at += 1;
     }
     Ok(None)
 }

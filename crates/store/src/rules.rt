@@ -15,7 +15,7 @@ ghost use Rattle.store.specs.Judge.{span_of_id, IsAfter, IsCause, IsOnly, layout
 
 use crate::fault::StoreFault;
 use crate::span_rows::is_source;
-use gather::Image;
+use gather::ImageRef;
 use gtid::Span;
 use sqlite::types::ValueRef;
 use sqlite::{Error, ErrorCode, Row};
@@ -80,7 +80,7 @@ fn number_at(row: &Row, at: usize) -> Result<Option<u64>, Error>
 }
 
 /// Whether a row is a lawful row of `held`.
-pub(crate) fn is_held(alloc: Global, row: &Row) -> Result<bool, StoreFault>
+pub(crate) fn is_held(row: &Row) -> Result<bool, StoreFault>
     ensures judged { IfOk result (λ b. MatchBool b (IsHeldRow row.now) (¬ IsHeldRow row.now)) }
     ensures fault { IfErr result IsCause }
 {
@@ -102,18 +102,14 @@ pub(crate) fn is_held(alloc: Global, row: &Row) -> Result<bool, StoreFault>
     let Some(_) = number_at(row, 4)? else {
         return Ok(false);
     };
-    is_image(alloc, image)
+    Ok(is_image(image))
 }
 
 /// Whether the bytes are a stored image.
-fn is_image(alloc: Global, bytes: &[u8]) -> Result<bool, StoreFault>
-    ensures judged { IfOk result (λ b. MatchBool b (IsSomeImage bytes.now) (¬ IsSomeImage bytes.now)) }
-    ensures fault { IfErr result IsCause }
+fn is_image(bytes: &[u8]) -> bool
+    ensures { MatchBool result (IsSomeImage bytes.now) (¬ IsSomeImage bytes.now) }
 {
-    match Image::read(alloc, bytes) {
-        Ok(found) => Ok(found.is_some()),
-        Err(_) => Err(StoreFault::Memory),
-    }
+    ImageRef::read(bytes).is_some()
 }
 
 // ---- rowids

@@ -14,7 +14,6 @@ use crate::fault::StoreFault;
 use crate::rules::{is_after, is_held};
 use sqlite::types::ValueRef;
 use sqlite::{Alter, Error, ErrorCode, Row, Rows};
-use std::alloc::Global;
 
 /// What was found in the rows of `held` so far.
 #[derive(Clone, Copy, Debug)]
@@ -52,24 +51,21 @@ fn with_lawful(verdict: Verdict, row: &Row) -> Result<Verdict, Error>
 }
 
 /// The verdict on the rows so far and one more. After an unlawful row no other is looked at.
-fn with_row(alloc: Global, verdict: Verdict, row: &Row) -> Result<Verdict, StoreFault>
+fn with_row(verdict: Verdict, row: &Row) -> Result<Verdict, StoreFault>
     ensures judged { (rows : List RowValue) → HasVerdict verdict rows → IfOk result (λ after. HasVerdict after (rows ++ row.now ∷ [])) }
     ensures fault { IfErr result IsCause }
 {
     if let Verdict::Unlawful = verdict {
         return Ok(Verdict::Unlawful);
     }
-    if !is_held(alloc, row)? {
+    if !is_held(row)? {
         return Ok(Verdict::Unlawful);
     }
     Ok(with_lawful(verdict, row)?)
 }
 
 /// The verdict on all rows of a query, which are read one at a time, up to the last one.
-pub(crate) fn judge_rows<S: Alter>(
-    alloc: Global,
-    rows: &mut Rows<'_, S>,
-) -> Result<Verdict, StoreFault>
+pub(crate) fn judge_rows<S: Alter>(rows: &mut Rows<'_, S>) -> Result<Verdict, StoreFault>
     ensures same_reference { rows.new.conn.ghost_name ≡ rows.old.conn.ghost_name }
     ensures autocommit { rows.old.conn.now.in_transaction ≡ false → rows.new.conn.now.in_transaction ≡ false }
     ensures judged { HasCleanDisk (state S.Store rows.new.conn.now) → (sql : _) → HasGiven S.Store sql [] rows.old.conn.now [] → IsLive (state S.Store rows.old.conn.now) → IfOk result (HasJudged sql (state S.Store rows.old.conn.now) (state S.Store rows.new.conn.now)) }
@@ -83,7 +79,7 @@ pub(crate) fn judge_rows<S: Alter>(
         let Some(row) = rows.get() else {
             return Ok(verdict);
         };
-        verdict = with_row(alloc, verdict, row)?;
+        verdict = with_row(verdict, row)?;
     }
     Err(StoreFault::Database(Error::SqliteFailure(ErrorCode::DatabaseCorrupt)))
 }

@@ -3,7 +3,7 @@
 ghost use Rattle.std.specs.Prelude.{◌≡◌, false};
 
 use binlog::{Cell, Follow, TableDef};
-use gather::{Change, Delivery, Image};
+use gather::{Changes, Delivery, Image};
 use gtid::{Gtid, GtidSet};
 use sqlite::{Alter, Connection, Row};
 use std::alloc::Global;
@@ -46,46 +46,24 @@ fn table(alloc: Global, letter: u8) -> Option<Rc<TableDef>> {
     Rc::new(alloc, TableDef::new(schema, table, Vec::new(alloc))).ok()
 }
 
-fn insert(alloc: Global, letter: u8) -> Option<Change> {
+/// Appends a change, written as a letter: `+` adds (7, "ab") to shop.items, `-` removes it and `=` replaces it by itself;
+/// `p` and `m` do the first two for (8, "cd"); `o` and `x` for (7, "ab") in shop.other.
+fn push(alloc: Global, letter: u8, changes: &mut Changes) -> Option<()> {
     let table = table(alloc, letter)?;
-    let after = image(alloc, letter)?;
-    Some(Change::Insert { table, after })
-}
-
-fn delete(alloc: Global, letter: u8) -> Option<Change> {
-    let table = table(alloc, letter)?;
-    let before = image(alloc, letter)?;
-    Some(Change::Delete { table, before })
-}
-
-/// A row replaced by itself.
-fn update(alloc: Global, letter: u8) -> Option<Change> {
-    let table = table(alloc, letter)?;
-    let before = image(alloc, letter)?;
-    let after = image(alloc, letter)?;
-    Some(Change::Update {
-        table,
-        before,
-        after,
-    })
-}
-
-/// A change, written as a letter: `+` adds (7, "ab") to shop.items, `-` removes it and `=` replaces it by itself; `p`
-/// and `m` do the first two for (8, "cd"); `o` and `x` for (7, "ab") in shop.other.
-fn change(alloc: Global, letter: u8) -> Option<Change> {
+    let row = image(alloc, letter)?;
     match letter {
-        b'+' | b'p' | b'o' => insert(alloc, letter),
-        b'=' => update(alloc, letter),
-        _ => delete(alloc, letter),
+        b'+' | b'p' | b'o' => changes.insert(&table, &row).ok(),
+        b'=' => changes.update(&table, &row, &row).ok(),
+        _ => changes.delete(&table, &row).ok(),
     }
 }
 
 /// The transaction of this number, with a change for each letter. `None` if memory is refused.
 pub(super) fn transaction(alloc: Global, number: u64, letters: &str) -> Option<Delivery> {
     let gtid = Gtid::new(A, number)?;
-    let mut changes = Vec::new(alloc);
+    let mut changes = Changes::new(alloc);
     for letter in letters.as_bytes() {
-        changes.push(change(alloc, *letter)?).ok()?;
+        push(alloc, *letter, &mut changes)?;
     }
     Some(Delivery { gtid, changes })
 }

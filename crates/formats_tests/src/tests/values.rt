@@ -4,7 +4,7 @@ use crate::tests::event_bytes::event;
 use binlog::{
     Cell, ColumnKind, ColumnType, OwnedCell, OwnedPair, RowsKind, TableDef, read_event_only,
 };
-use gather::{Change, Delivery, Follow, GatherFault, Gatherer, Image};
+use gather::{Change, Delivery, Follow, GatherFault, Gatherer, ImageRef};
 use std::alloc::Global;
 
 /// 3e11fa47-71ca-11e1-9e33-c80aa9429562.
@@ -83,14 +83,14 @@ pub(crate) fn joined(alloc: Global, parts: &[&[u8]]) -> Option<Vec<u8>> {
 }
 
 /// Appends a sign, the name of a table, and an image.
-fn push(sign: u8, table: &TableDef, image: &Image, out: &mut Vec<u8>) -> Option<()> {
+fn push(sign: u8, table: &TableDef, image: &ImageRef<'_>, out: &mut Vec<u8>) -> Option<()> {
     out.push(sign).ok()?;
     out.extend_from_slice(&table.table).ok()?;
     out.extend_from_slice(image.bytes()).ok()
 }
 
 /// Appends a change as in `ADD`.
-fn push_change(change: &Change, out: &mut Vec<u8>) -> Option<()> {
+fn push_change(change: &Change<'_>, out: &mut Vec<u8>) -> Option<()> {
     match change {
         Change::Insert { table, after } => push(b'+', table, after, out),
         Change::Delete { table, before } => push(b'-', table, before, out),
@@ -109,8 +109,8 @@ fn push_change(change: &Change, out: &mut Vec<u8>) -> Option<()> {
 fn deliver(delivery: &Delivery, out: &mut Vec<u8>) -> Option<()> {
     out.push(b'0'.checked_add(u8::try_from(delivery.gtid.number).ok()?)?)
         .ok()?;
-    for change in &delivery.changes {
-        push_change(change, out)?;
+    for change in delivery.changes.iter() {
+        push_change(&change, out)?;
     }
     Some(())
 }

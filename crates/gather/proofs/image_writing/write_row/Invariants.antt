@@ -8,4 +8,4 @@ abbrev pub invariant-loop-cell : goal.invariant-loop-cell
 invariant-loop-cell l =
     AllHave l.cell-iterator
     × (l.count + length l.cell-iterator ≡ length l.row)
-    × (l.out.items ++ flat_map cell_image l.cell-iterator ≡ 0 ∷ 0 ∷ flat_map cell_image l.row)
+    × (l.out.items ++ flat_map cell_image l.cell-iterator ≡ l.fn.out.items ++ 0 ∷ 0 ∷ flat_map cell_image l.row)

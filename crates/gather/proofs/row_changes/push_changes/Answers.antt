@@ -1,10 +1,8 @@
-use Rattle.std.proofs.Common.{length, ap, Err, ⊎_elim, inr, arith, ◌++◌, ◌∷◌, []}
+use Rattle.std.proofs.Common.{length, ap, Err, ⊎_elim, inr, arith}
 use Rattle.std.proofs.lemmas.Bool.{cases_eq}
-use Rattle.std.proofs.lemmas.List.{map-append}
 use Rattle.std.proofs.lemmas.Result.{err_from_is_err_and}
 use Rattle.binlog.specs.RowsView.{rows_value, pair_value}
-use Rattle.gather.specs.View.{change_value, change_values}
-use Rattle.gather.proofs.RowItems.{Walked, walk_begins, walk_more, walk_ends, walk_faults, walk_images, other_columns, ok_not_err}
+use Rattle.gather.proofs.RowItems.{walk_begins, walk_more, walk_ends, walk_faults, walk_images, other_columns, ok_not_err}
 use Rattle.gather.proofs.row_changes.push_changes.Goals as goal
 
 pub returns-in_err-pair-items-clause-fault : goal.returns-in_err-pair-items-clause-fault
@@ -20,25 +18,23 @@ loop-pair-init c =
     let columns = rw c.deref.ensures at e.columns in
     let items = rw c.deref.ensures at e.items in
     let same = ⊎_elim (λ s. s) (λ ne. absurd (ok_not_err _ _ (columns.1 ne))) (cases_eq (length c.args.table.now.value.types.items) c.args.event.now.columns) in
-    rw c.into_iter-pair-iterator.ensures.into_iter_gives (walk_begins c.args.table.now (rows_value c.args.event.now) c.in_ok-pair-items.pair-items (change_values c.args.changes.now.items) same items)
+    rw c.into_iter-pair-iterator.ensures.into_iter_gives (walk_begins c.args.table.now (rows_value c.args.event.now) c.in_ok-pair-items.pair-items c.args.changes.now same items)
 
 pub returns-in_err-pair-clause-fault : goal.returns-in_err-pair-clause-fault
 returns-in_err-pair-clause-fault c = λ id.
     let p = err_from_is_err_and c.from_residual-in_err-pair.result c.from_residual-in_err-pair.ensures.1 in
     let w = rw (c.in-Some.ensures.steps, c.in_err-pair.was) at c.loop-pair.invariant in
-    rw (p.1, p.2) (inr (walk_faults c.args.table.now (rows_value c.args.event.now) c.in_err-pair.field-0.0 c.next.new.self (change_values c.args.changes.now.items) (change_values c.loop-pair.changes.items) w id))
+    rw (p.1, p.2) (inr (walk_faults c.args.table.now (rows_value c.args.event.now) c.in_err-pair.field-0.0 c.next.new.self c.args.changes.now c.loop-pair.changes w id))
 
-pub change_of-requires : goal.change_of-requires
-change_of-requires c =
-    walk_images c.args.table.now (rows_value c.args.event.now) (pair_value c.in_ok-pair.field-0) c.next.new.self (change_values c.args.changes.now.items) (change_values c.loop-pair.changes.items)
+pub push-requires : goal.push-requires
+push-requires c =
+    walk_images c.args.table.now (rows_value c.args.event.now) (pair_value c.in_ok-pair.field-0) c.next.new.self c.args.changes.now c.loop-pair.changes
     (rw (c.in-Some.ensures.steps, c.in_ok-pair.was) at c.loop-pair.invariant) c.args.event.now.few_columns (omega (arith, c.args.event.now.in_event))
 
 pub loop-pair-preserved : goal.loop-pair-preserved
 loop-pair-preserved c =
-    let w : Walked c.args.table.now (rows_value c.args.event.now) c.next.new.self (change_values c.args.changes.now.items) (change_values c.loop-pair.changes.items ++ change_value c.in_ok-change_of.field-0 ∷ []) =
-    walk_more c.args.table.now (rows_value c.args.event.now) (pair_value c.in_ok-pair.field-0) c.next.new.self (change_values c.args.changes.now.items) (change_values c.loop-pair.changes.items) (change_value c.in_ok-change_of.field-0)
-    (rw (c.in-Some.ensures.steps, c.in_ok-pair.was) at c.loop-pair.invariant) c.in_ok-change_of.ensures.ok in
-    rw c.in_ok-push.ensures.items (rw map-append w)
+    walk_more c.args.table.now (rows_value c.args.event.now) (pair_value c.in_ok-pair.field-0) c.next.new.self c.args.changes.now c.loop-pair.changes c.push.new.self
+    (rw (c.in-Some.ensures.steps, c.in_ok-pair.was) at c.loop-pair.invariant) c.in_ok-push.ensures.ok
 
 pub returns-clause-ok : goal.returns-clause-ok
-returns-clause-ok c = walk_ends c.args.table.now (rows_value c.args.event.now) (change_values c.args.changes.now.items) (change_values c.loop-pair.changes.items) (rw c.in-None.ensures.steps.0 at c.loop-pair.invariant)
+returns-clause-ok c = walk_ends c.args.table.now (rows_value c.args.event.now) c.args.changes.now c.loop-pair.changes (rw c.in-None.ensures.steps.0 at c.loop-pair.invariant)

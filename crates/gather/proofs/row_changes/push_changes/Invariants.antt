@@ -1,7 +1,6 @@
 use Rattle.binlog.specs.RowsView.{rows_value}
-use Rattle.gather.specs.View.{change_values}
 use Rattle.gather.proofs.RowItems.{Walked}
 use Rattle.gather.proofs.row_changes.push_changes.Given as goal
 
 abbrev pub invariant-loop-pair : goal.invariant-loop-pair
-invariant-loop-pair l = Walked l.table (rows_value l.event) l.pair-iterator (change_values l.fn.changes.items) (change_values l.changes.items)
+invariant-loop-pair l = Walked l.table (rows_value l.event) l.pair-iterator l.fn.changes l.changes

@@ -1,7 +1,7 @@
 use Rattle.std.proofs.Common.{None, Some, sym, subst, arith}
 use Rattle.sqlite.specs.State.{HasCleanDisk}
 use Rattle.sqlite.specs.Held.{state}
-use Rattle.gather.specs.View.{delivery_value, change_values}
+use Rattle.gather.specs.View.{delivery_value}
 use Rattle.store.specs.Inside.{DoesAll}
 use Rattle.store.specs.Changes.{IsRefusedAt}
 use Rattle.store.proofs.Filled.{shows_mid, filled}
@@ -15,7 +15,7 @@ returns-clause-fills g c clean was content stands out beside =
     let names = c.args.filter.now in
     let d = delivery_value c.args.delivery.now in
     let early : HasCleanDisk mid = omega (arith, c.record.ensures.stays.survives.clean) in
-    let does : DoesAll names (change_values c.args.delivery.now.changes.items) old mid None = rw (c.in_default.is, c.as_slice.ensures.value) at (c.in_ok-refused.ensures.does early was) in
+    let does : DoesAll names c.args.delivery.now.changes old mid None = rw c.in_default.is at (c.in_ok-refused.ensures.does early was) in
     filled old mid new names d content stands out c.record.ensures.lawful does
     (c.in_ok-record.ensures.records clean does.0.on.working content.executed stands.executed.spans (shows_mid old mid new names d content stands out does.0) beside)
 
@@ -24,7 +24,7 @@ returns-in-Some-clause-fills g c clean was content stands out beside =
     let old = state g.S.Store c.args.tx.now.conn.now in
     let mid = state g.S.Store c.make_all.new.tx.conn.now in
     let names = c.args.filter.now in
-    let changes = change_values c.args.delivery.now.changes.items in
+    let changes = c.args.delivery.now.changes in
     let why = c.in-Some.refused in
-    let does : DoesAll names changes old mid (Some why) = rw (c.in-Some.is, c.as_slice.ensures.value) at (c.in_ok-refused.ensures.does clean was) in
+    let does : DoesAll names changes old mid (Some why) = rw c.in-Some.is at (c.in_ok-refused.ensures.does clean was) in
     (out, subst (λ rows. IsRefusedAt names changes rows why.0 why.1) (sym stands.rows) does)

@@ -1,7 +1,6 @@
 use Rattle.std.proofs.Common.{[], Some, refl}
 use Rattle.binlog.specs.Event.{table_map}
 use Rattle.binlog.specs.TableView.{table_value}
-use Rattle.gather.specs.View.{change_values}
 use Rattle.gather.proofs.Maps.{maps_more, no_changes, map_says, copied}
 use Rattle.gather.proofs.open_transaction.OpenTransaction.take_map.Goals as goal
 
@@ -12,5 +11,5 @@ returns-clause-keeps c = λ body keeps.
     let says = map_says t kept (copied t kept c.in-Ok.table c.in_ok-table-in-Ok.ensures.ok c.in-Ok.ensures.ok) in
     record {
       maps = maps_more c.args.self.now.maps c.insert.new.self c.args.map.now.id (Some kept) (table_map t) body c.in_ok-insert.ensures.updates says keeps.maps;
-      changes = no_changes [] body (table_map t) (change_values c.args.self.now.changes.items) keeps.changes refl;
+      changes = no_changes [] body (table_map t) c.args.self.now.changes keeps.changes refl;
     }
