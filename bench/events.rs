@@ -96,35 +96,44 @@ fn rows(shapes: &[Shape], body: &[u8], found: &mut (u64, u64)) {
     }
 }
 
-/// The stored images of the rows of a write, from its body, one after the other in a list.
-fn images(shapes: &[Shape], body: &[u8], scratch: &mut Vec<u8>, images: &mut Vec<Vec<u8>>) {
+/// The changes of a transaction: their images one after another, and for each change its table and the sizes of its two
+/// images.
+#[derive(Default)]
+struct Changes {
+    images: Vec<u8>,
+    entries: Vec<(usize, u32, u32)>,
+}
+
+/// Appends the rows of a write to a table, from its body.
+fn images(table: usize, shapes: &[Shape], body: &[u8], changes: &mut Changes) {
     let bitmap = shapes.len().div_ceil(8);
     let mut rest = &body[8 + usize::from(body[8]) + 1 + bitmap..];
+    let images = &mut changes.images;
     while !rest.is_empty() {
         let (nulls, mut values) = rest.split_at(bitmap);
-        scratch.clear();
-        scratch.extend_from_slice(&(shapes.len() as u16).to_le_bytes());
+        let start = images.len();
+        images.extend_from_slice(&(shapes.len() as u16).to_le_bytes());
         for (i, shape) in shapes.iter().enumerate() {
             if nulls[i / 8] >> (i % 8) & 1 == 1 {
-                scratch.push(0);
+                images.push(0);
                 continue;
             }
             let (size, length) = match *shape {
                 Shape::Number(size) => {
-                    scratch.extend_from_slice(&[1, size as u8]);
-                    scratch.extend_from_slice(&values[..size]);
+                    images.extend_from_slice(&[1, size as u8]);
+                    images.extend_from_slice(&values[..size]);
                     values = &values[size..];
                     continue;
                 }
                 Shape::Fixed(length) => (0, length),
                 Shape::Prefixed(size) => (size, number(&values[..size]) as usize),
             };
-            scratch.push(2);
-            scratch.extend_from_slice(&(length as u32).to_le_bytes());
-            scratch.extend_from_slice(&values[size..][..length]);
+            images.push(2);
+            images.extend_from_slice(&(length as u32).to_le_bytes());
+            images.extend_from_slice(&values[size..][..length]);
             values = &values[size + length..];
         }
-        images.push(scratch.to_vec());
+        changes.entries.push((table, 0, (images.len() - start) as u32));
         rest = values;
     }
 }
@@ -158,7 +167,7 @@ fn main() -> io::Result<()> {
     let mut out = BufWriter::new(io::stdout());
     let mut table = Vec::new();
     let mut found = (0, 0);
-    let (mut scratch, mut kept) = (Vec::new(), Vec::new());
+    let mut changes = Changes::default();
     let mut place = 0;
     while place < stream.len() {
         let header = &stream[place..place + 4];
@@ -171,12 +180,13 @@ fn main() -> io::Result<()> {
             }
             "gather" => match event[4] {
                 16 => {
-                    found.0 += kept.len() as u64;
-                    found.1 += kept.iter().map(|image: &Vec<u8>| image.len() as u64).sum::<u64>();
-                    kept.clear();
+                    let sizes = |&(_, before, after): &(usize, u32, u32)| u64::from(before) + u64::from(after);
+                    found.0 += changes.entries.len() as u64;
+                    found.1 += changes.entries.iter().map(sizes).sum::<u64>();
+                    changes = Changes::default();
                 }
                 19 => table = shapes(&event[19..]),
-                30 => images(&table, &event[19..], &mut scratch, &mut kept),
+                30 => images(0, &table, &event[19..], &mut changes),
                 _ => {}
             },
             _ => match event[4] {
