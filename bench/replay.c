@@ -8,7 +8,8 @@
  * source has reached the end of its log, and ends with status 1 and a word where anything is wrong. It follows all tables,
  * takes the login as given, and knows one filter: none.
  *
- * With -DUPSERT the two statements of an insert are one, an upsert. */
+ * With -DFEWEST it gives the statements that mrep gives: an INSERT that the key refuses where the row is there, a DELETE of
+ * a row with the count 1, and only then the count is read and an UPDATE made; and one UPDATE of a span that gets longer. */
 
 #include <sqlite3.h>
 #include <stdint.h>
@@ -108,7 +109,7 @@ static void cut(size_t at) {
 
 /* The database. */
 static sqlite3 *base;
-static sqlite3_stmt *find, *insert, *update, *delete, *add_span, *drop_span, *begin, *commit;
+static sqlite3_stmt *find, *insert, *update, *delete, *add_span, *drop_span, *move_end, *begin, *commit;
 
 static void sql(const char *text) {
     if (sqlite3_exec(base, text, NULL, NULL, NULL) != SQLITE_OK)
@@ -176,15 +177,16 @@ static void open_base(const char *file) {
         read_rows("SELECT rowid, schema_name, table_name, image, n FROM held ORDER BY rowid", 5);
     }
     find = prepared("SELECT n FROM held WHERE schema_name = ?1 AND table_name = ?2 AND image = ?3");
-#ifdef UPSERT
-    insert = prepared("INSERT INTO held VALUES (?1, ?2, ?3, 1) ON CONFLICT DO UPDATE SET n = n + 1");
-#else
     insert = prepared("INSERT INTO held VALUES (?1, ?2, ?3, 1)");
-#endif
     update = prepared("UPDATE held SET n = ?4 WHERE schema_name = ?1 AND table_name = ?2 AND image = ?3");
-    delete = prepared("DELETE FROM held WHERE schema_name = ?1 AND table_name = ?2 AND image = ?3");
+    delete = prepared("DELETE FROM held WHERE schema_name = ?1 AND table_name = ?2 AND image = ?3"
+#ifdef FEWEST
+        " AND n = 1"
+#endif
+    );
     add_span = prepared("INSERT INTO spans VALUES (?1, ?2, ?3)");
     drop_span = prepared("DELETE FROM spans WHERE source = ?1 AND lo = ?2");
+    move_end = prepared("UPDATE spans SET hi = ?3 WHERE source = ?1 AND lo = ?2");
     begin = prepared("BEGIN");
     commit = prepared("COMMIT");
 }
@@ -415,12 +417,15 @@ static void bind_row(sqlite3_stmt *statement, const Change *change) {
 }
 
 static void apply_change(const Change *change) {
-#ifdef UPSERT
-    if (change->inserts) {
-        bind_row(insert, change);
-        run(insert);
+#ifdef FEWEST
+    sqlite3_stmt *first = change->inserts ? insert : delete;
+    bind_row(first, change);
+    int ended = sqlite3_step(first);
+    sqlite3_reset(first);
+    if (ended == SQLITE_DONE && (change->inserts || sqlite3_changes(base)))
         return;
-    }
+    if (ended != SQLITE_DONE && ended != SQLITE_CONSTRAINT)
+        fail(sqlite3_errmsg(base));
 #endif
     bind_row(find, change);
     int found = sqlite3_step(find);
@@ -437,9 +442,14 @@ static void apply_change(const Change *change) {
     run(statement);
 }
 
+/* Binds the span's source and beginning to the statement. */
+static void bind_span(sqlite3_stmt *statement, const Span *span) {
+    sqlite3_bind_blob(statement, 1, span->source, 16, SQLITE_STATIC);
+    sqlite3_bind_int64(statement, 2, span->lo);
+}
+
 static void drop(const Span *span) {
-    sqlite3_bind_blob(drop_span, 1, span->source, 16, SQLITE_STATIC);
-    sqlite3_bind_int64(drop_span, 2, span->lo);
+    bind_span(drop_span, span);
     run(drop_span);
 }
 
@@ -453,9 +463,14 @@ static int apply(Bytes source, int64_t value) {
     Span span = {.lo = value, .hi = value + 1};
     memcpy(span.source, source, 16);
     size_t at = before(source, value);
+    sqlite3_stmt *statement = add_span;
     if (at && !memcmp(spans[at - 1].source, source, 16) && spans[at - 1].hi == value) {
         span.lo = spans[at - 1].lo;
+#ifdef FEWEST
+        statement = move_end;
+#else
         drop(spans + at - 1);
+#endif
         cut(--at);
     }
     if (at < span_count && !memcmp(spans[at].source, source, 16) && spans[at].lo == value + 1) {
@@ -464,10 +479,9 @@ static int apply(Bytes source, int64_t value) {
         cut(at);
     }
     put(at, &span);
-    sqlite3_bind_blob(add_span, 1, span.source, 16, SQLITE_STATIC);
-    sqlite3_bind_int64(add_span, 2, span.lo);
-    sqlite3_bind_int64(add_span, 3, span.hi);
-    run(add_span);
+    bind_span(statement, &span);
+    sqlite3_bind_int64(statement, 3, span.hi);
+    run(statement);
     run(commit);
     return 1;
 }
@@ -618,7 +632,7 @@ int main(int count, char **words) {
             size = packets = 0;
         }
     printf("1 %s at %llu applied %llu\n", ended ? "SourceEof" : "EndOfInput", (unsigned long long)at, (unsigned long long)applied);
-    sqlite3_stmt *all[] = {find, insert, update, delete, add_span, drop_span, begin, commit};
+    sqlite3_stmt *all[] = {find, insert, update, delete, add_span, drop_span, move_end, begin, commit};
     for (size_t place = 0; place < sizeof all / sizeof *all; place++)
         sqlite3_finalize(all[place]);
     return sqlite3_close(base) != SQLITE_OK;

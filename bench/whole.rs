@@ -1,5 +1,6 @@
 //! Times `mrep replay` against `replay.c`, a plain C program that reads the same stream, makes the same tests and gives
-//! the same statements to the C library of SQLite, and against the same program with an upsert for an insert.
+//! statements to the C library of SQLite that read a count before it is changed, and against the same program with the
+//! statements of `mrep`.
 //!
 //! The databases are in memory, under /dev/shm, if there is such a folder, so that the times do not include the syncs
 //! of a disk.
@@ -9,7 +10,7 @@ use std::fs::{self, File};
 use std::io::{self, BufWriter, Write};
 use std::path::Path;
 
-/// The goal: at most this many times the time of the C program with the same statements.
+/// The goal: at most this many times the time of the C program.
 const TIMES: f64 = 1.7;
 
 /// How many bytes of rows an event has, about.
@@ -143,7 +144,7 @@ fn make_changes(path: &Path, first: u64, transactions: u64) -> io::Result<()> {
 
 /// Whether `mrep replay` meets its goal beside the C program, for each job. Without the C program nothing is compared.
 pub fn compare_with_c(mrep: &str, folder: &Path) -> io::Result<bool> {
-    let (plain, upsert) = (folder.join("replay"), folder.join("replay_upsert"));
+    let (plain, fewest) = (folder.join("replay"), folder.join("replay_fewest"));
     if !plain.exists() {
         println!("the whole job beside C: skipped, since there is no C compiler with the library of SQLite");
         return Ok(true);
@@ -153,7 +154,7 @@ pub fn compare_with_c(mrep: &str, folder: &Path) -> io::Result<bool> {
     let (database, filled, stream) = (base.join("mrep-bench.db"), base.join("mrep-filled.db"), base.join("mrep-stream"));
     let name = |path: &Path| path.to_str().map(str::to_string).ok_or(io::ErrorKind::InvalidInput);
     let (file, full, bytes) = (name(&database)?, name(&filled)?, name(&stream)?);
-    let (plain, upsert) = (name(&plain)?, name(&upsert)?);
+    let (plain, fewest) = (name(&plain)?, name(&fewest)?);
     let mut met = true;
     let mut compare = |job: &str, is_filled: bool, runs: usize| -> io::Result<()> {
         let before = || {
@@ -166,8 +167,8 @@ pub fn compare_with_c(mrep: &str, folder: &Path) -> io::Result<bool> {
         let ours = [mrep, "replay", "--db", &file, &bytes];
         let goal = Goal { other: "C", runs, times: TIMES, bound: usize::MAX };
         met &= compare_from(job, &ours, &[&plain, &file, &bytes], folder, &goal, before)?;
-        let free = Goal { other: "C with an upsert", runs, times: f64::INFINITY, bound: usize::MAX };
-        met &= compare_from(job, &ours, &[&upsert, &file, &bytes], folder, &free, before)?;
+        let free = Goal { other: "C with the same statements", runs, times: f64::INFINITY, bound: usize::MAX };
+        met &= compare_from(job, &ours, &[&fewest, &file, &bytes], folder, &free, before)?;
         Ok(())
     };
     make_inserts(&stream, 100_000, 1)?;

@@ -36,9 +36,9 @@ use Rattle.sqlite_resolve.specs.Compile.{first, compiled, with_command}
 use Rattle.sqlite_tied.specs.Compute.{everything}
 use Rattle.sqlite.specs.Listing.{understood, reads_listing}
 use Rattle.sqlite.proofs.Callers.{IsPlain, command_of}
-use Rattle.store.specs.Layout.{required, held, spans, read_text, insert_text, update_text, delete_text, add_span_text, drop_span_text, equals, has_key, has_start, read_query, delete_query, update_query, insert_terms, add_span_terms, drop_span_query}
+use Rattle.store.specs.Layout.{required, held, spans, read_text, insert_text, update_text, delete_text, add_span_text, drop_span_text, equals, has_key, has_count, has_start, read_query, delete_query, update_query, insert_terms, add_span_terms, drop_span_query}
 use Rattle.store.specs.Layout.{IsFound}
-use Rattle.store.proofs.Compiling.{written_trees, only_over, only_bound, after_reading, less, stands_for_column, Compares, compares, is_given, Field, IsField, written_columns, with_outputs, outputs_are, tests_are, lowered_both, lowered_all, from_table, IsOver, IsOrdered, drafted, program_is, query_is, compiled_select, compiled_insert, compiled_update, compiled_delete, understood_as}
+use Rattle.store.proofs.Compiling.{written_trees, only_over, only_bound, after_reading, less, stands_for_column, Compares, compares, is_given, Field, IsField, written_columns, with_outputs, outputs_are, tests_are, lowered_both, lowered_all, lowered_four, from_table, IsOver, IsOrdered, drafted, program_is, query_is, compiled_select, compiled_insert, compiled_update, compiled_delete, understood_as}
 
 -- What a text means under the schema: what it is compiled to, and that it is no query on sqlite_schema.
 pub record Means (schema : Schema) (text : List ℕ) (c : Compiled) : Type 0 where
@@ -55,6 +55,9 @@ names_of_three = codes "?1" ∷ codes "?2" ∷ codes "?3" ∷ []
 
 abbrev key_test : Expr
 key_test = e.Binary And (e.Binary And (is_given (codes "schema_name") 1) (is_given (codes "table_name") 2)) (is_given (codes "image") 3)
+
+abbrev count_test : Expr
+count_test = e.Binary And key_test (is_given (codes "n") 4)
 
 abbrev start_test : Expr
 start_test = e.Binary And (is_given (codes "source") 1) (is_given (codes "lo") 2)
@@ -91,7 +94,7 @@ unfolding everything
 insert_parses = refl
 
 abbrev delete_parsed : Parsed
-delete_parsed = record { statement = written.Delete (codes "held") (Some key_test) []; names = names_of_three; formats = []; start = 0; end = 74; tail = 74 }
+delete_parsed = record { statement = written.Delete (codes "held") (Some count_test) []; names = codes "?1" ∷ codes "?2" ∷ codes "?3" ∷ codes "?4" ∷ []; formats = []; start = 0; end = 85; tail = 85 }
 
 delete_parses : first delete_text ≡ Ok delete_parsed
 unfolding everything
@@ -151,6 +154,16 @@ module _ (schema : Schema) (at tree : ℕ) (f : IsFound schema at (record held {
         tests_are over_held key_test _ (after_reading next budget last) (after_reading next (less 11 budget) nothing)
         (lowered_all over_held (codes "schema_name") (codes "table_name") (equals 1 0) (equals 2 1) schema_name_is table_name_is (codes "image") (equals 3 2) image_is next budget last 696 enough)
 
+    count_is : Compares over_held (codes "n") 4 (op2 (Compare Eq Binary) (col 1 4) (op1 ToNumeric (col 0 3)))
+    unfolding same_name converted may_be_text is_parameter
+    count_is = compares schema at held_table f.by_index (codes "held") shown may_aggregate (codes "n") 3 4 (required (codes "n") Integer) refl refl refl
+
+    count_tests : (next budget : ℕ) (last : Carried) → 15 < budget → tests lower over_held [] (Some count_test) (after_reading next budget last) ≡ Ok (has_count, after_reading next (less 15 budget) nothing)
+    count_tests next budget last enough =
+        tests_are over_held count_test _ (after_reading next budget last) (after_reading next (less 15 budget) nothing)
+        (lowered_four over_held (codes "schema_name") (codes "table_name") (equals 1 0) (equals 2 1) schema_name_is table_name_is (codes "image") (equals 3 2) image_is
+        (codes "n") (op2 (Compare Eq Binary) (col 1 4) (op1 ToNumeric (col 0 3))) count_is next budget last 695 enough)
+
   abbrev count_field : Field
   count_field = record { name = codes "n"; term = col 1 4; carried = declared held_table 3 (required (codes "n") Integer); label = codes "n" }
 
@@ -196,8 +209,8 @@ module _ (schema : Schema) (at tree : ℕ) (f : IsFound schema at (record held {
   delete_means : Means schema delete_text (with_command delete_parsed ([], (Delete at (record { lets = []; body = delete_query tree }), None)))
   delete_means =
       means schema delete_text _
-      (compiled_delete schema (codes "held") at held_table f.by_name f.by_index (Some key_test) has_key 100000 99989 nothing nothing delete_text delete_parsed (delete_query tree) delete_parses refl refl refl refl
-      (key_tests [] false 2 100000 nothing (omega arith)) (program_is schema at held_table f has_key (col 1 0 ∷ []) [] refl refl refl))
+      (compiled_delete schema (codes "held") at held_table f.by_name f.by_index (Some count_test) has_count 100000 99985 nothing nothing delete_text delete_parsed (delete_query tree) delete_parses refl refl refl refl
+      (count_tests [] false 2 100000 nothing (omega arith)) (program_is schema at held_table f has_count (col 1 0 ∷ []) [] refl refl refl))
 
   pub delete_is : command_of (understood schema delete_text) ≡ Delete at (record { lets = []; body = delete_query tree })
   delete_is = ap command_of delete_means.is

@@ -249,6 +249,17 @@ module _ (cx : Context) (a b : Name) (x y : Term) (is_a : Compares cx a 1 x) (is
         lowered_and cx next budget last (suc (suc (suc depth))) all_given both_given (is_given c 3) (op2 by.And x y) z (less 8 budget) (less 11 budget) nothing nothing refl (omega arith)
         (lowered_both next (less 1 budget) nothing depth (omega arith)) (is_c.is next (less 8 budget) nothing (suc depth) (omega arith))
 
+    module _ (d : Name) (w : Term) (is_d : Compares cx d 4 w) where
+      abbrev pub four_given : Expr
+      four_given = e.Binary binary.And all_given (is_given d 4)
+
+      pub lowered_four : (next budget : ℕ) (last : Carried) (depth : ℕ) → 15 < budget
+          → lower_to (suc (suc (suc (suc (suc depth))))) cx four_given (after_reading next budget last) ≡ Ok (op2 by.And (op2 by.And (op2 by.And x y) z) w, after_reading next (less 15 budget) nothing)
+      unfolding written_trees
+      lowered_four next budget last depth enough =
+          lowered_and cx next budget last (suc (suc (suc (suc depth)))) four_given all_given (is_given d 4) (op2 by.And (op2 by.And x y) z) w (less 12 budget) (less 15 budget) nothing nothing refl (omega arith)
+          (lowered_all next (less 1 budget) nothing depth (omega arith)) (is_d.is next (less 12 budget) nothing (suc (suc depth)) (omega arith))
+
 -- ---- The columns of the result, and ORDER BY, where each is a name alone.
 
 -- a name, and what it stands for

@@ -1,20 +1,37 @@
 -- What each call on one row of held does, where it succeeds.
-use Rattle.std.proofs.Common.{◌≡◌, ◌+◌, ◌≤◌, ℕ, ℤ, pos, List, [], ◌∷◌, map, filter, Some, None, Ok, Err, Result, IfOk, OnOk, refl, ap, subst, ◌∙◌, Option, length, slice_index_or, arith}
+use Rattle.std.proofs.Common.{◌≡◌, ◌≢◌, ◌+◌, ◌≤◌, ℕ, ℤ, pos, List, [], ◌∷◌, map, filter, Some, None, true, false, Ok, Err, Result, IfOk, OnOk, refl, sym, ap, subst, nat_lt, ◌∙◌, Option, length, slice_index_or, arith}
 use Rattle.std.specs.List.Sorted.{IsPermutation}
 use Rattle.std.proofs.lemmas.List.Sorted.{length_permutation, IsPermutation-sym}
 use Rattle.sqlite_value.specs.declared.value.Value.TheVariants.{Int}
 use Rattle.sqlite_value.specs.Order.{Row, column}
 use Rattle.sqlite.specs.declared.error.Error.{Error}
-use Rattle.sqlite.specs.State.{State, ExecutesInside, Shown, IsUnchanged}
+use Rattle.sqlite.specs.declared.error.Error.TheVariants.{SqliteFailure}
+use Rattle.sqlite.specs.declared.error.ErrorCode.TheVariants.{ConstraintViolation}
+use Rattle.sqlite_schema.specs.declared.schema.Constraint.TheVariants.{Unique}
+use Rattle.sqlite_trees.specs.declared.error.StoreError.{StoreError}
+use Rattle.sqlite_trees.specs.declared.error.StoreError.TheVariants.{OutOfMemory, Io, Corrupt, Full, Broken, Unstorable}
+use Rattle.sqlite.specs.State.{State, ExecutesInside, Shown, IsUnchanged, store_error}
 use Rattle.sqlite.proofs.Callers.{one_permutation}
 use Rattle.store.specs.Layout.{IsLaidOut, read_text, insert_text, update_text, delete_text}
 use Rattle.store.specs.Changes.{most}
-use Rattle.gather.specs.Image.{IsSomeImage}
-use Rattle.store.specs.Rows.{Key, Finds, IsCount, is_at, held_rows, count, with_one, without_one}
-use Rattle.store.specs.Inside.{IsWorking, HasCounts}
+use Rattle.store.specs.Rows.{Key, Finds, IsCount, is_at, has_n, held_rows, count, with_one, without_one}
+use Rattle.store.specs.Inside.{IsWorking, HasCounts, Inserts, Deletes}
 use Rattle.store.proofs.Selects.{key_params}
+use Rattle.store.proofs.Keeps.{refused_same}
 use Rattle.store.proofs.Statements.{inserts, deletes, updates, shown_reads, shown_same}
-use Rattle.store.proofs.Effects.{holds_inserted, holds_deleted, holds_raised, holds_lowered}
+use Rattle.store.proofs.Effects.{unheld, holds_inserted, deleted, holds_raised, holds_lowered}
+
+-- the answer where the key is taken
+abbrev pub taken : Error
+taken = SqliteFailure (ConstraintViolation Unique)
+
+no_fault : (cause : StoreError) → taken ≢ store_error cause
+no_fault OutOfMemory e = absurd (cc)
+no_fault Io e = absurd (cc)
+no_fault Corrupt e = absurd (cc)
+no_fault Full e = absurd (cc)
+no_fault Broken e = absurd (cc)
+no_fault Unstorable e = absurd (cc)
 
 module _ (old new : State) (key : Key) (was : IsWorking old) where
   abbrev l : IsLaidOut old.now.schema
@@ -27,16 +44,16 @@ module _ (old new : State) (key : Key) (was : IsWorking old) where
   pub done_same : {X : Type 0} (items : X → List Row) (r : Result X Error) → IfOk r (λ x. Shown read_text (key_params key []) old new (items x)) → OnOk r (IsUnchanged old new)
   done_same items r h = shown_same old.now.schema l items r old new key refl h
 
-  pub done_insert : (r : Result ℕ Error) → IsSomeImage key.image → ExecutesInside 0 insert_text (key_params key []) old new r → OnOk r (HasCounts old new (with_one key (count (held_rows old.now))))
-  done_insert (Ok n) stored h = holds_inserted old new was key stored (inserts old.now.schema l old new refl key n h.0)
-  done_insert (Err e) stored h = tt
+  pub done_insert : (n : ℕ) → ExecutesInside 0 insert_text (key_params key []) old new (Ok n) → Inserts key old new true
+  done_insert n h stored = let it = inserts old.now.schema l old new refl key n h.0 in (unheld old new was key it, holds_inserted old new was key stored it)
 
-  pub done_delete : (r : Result ℕ Error) → Finds key (held_rows old.now) (Some 1) → ExecutesInside 0 delete_text (key_params key []) old new r
-      → OnOk r (HasCounts old new (without_one key (count (held_rows old.now))))
-  done_delete (Ok n) found h =
-      let it = deletes old.now.schema l old new refl l.held_free key n h.0 in
-      holds_deleted old new was key found.0 found.1 it.0 it.1 found.2 it.2
-  done_delete (Err e) found h = tt
+  pub done_taken : (r : Result ℕ Error) → r ≡ Err taken → ExecutesInside 0 insert_text (key_params key []) old new r → Inserts key old new false
+  done_taken r is h = refused_same insert_text old new taken no_fault (key_params key []) (subst (ExecutesInside 0 insert_text (key_params key []) old new) is h)
+
+  pub done_delete : (n : ℕ) → ExecutesInside 0 delete_text (key_params key (Int (pos 1) ∷ [])) old new (Ok n) → Deletes key old new (nat_lt 0 n)
+  done_delete n h =
+      let it = deletes old.now.schema l old new refl l.held_free key (pos 1) n h.0 in
+      subst (λ m. Deletes key old new (nat_lt 0 m)) (sym it.3) (deleted old new was key it.0 it.1 it.2 (filter (has_n key (pos 1)) (held_rows old.now)) refl)
 
   pub done_raise : (m : ℕ) (to : ℤ) (r : Result ℕ Error) → m + 1 ≤ most → Finds key (held_rows old.now) (Some m) → to ≡ pos (m + 1)
       → ExecutesInside 0 update_text (key_params key (Int to ∷ [])) old new r → OnOk r (HasCounts old new (with_one key (count (held_rows old.now))))

@@ -1,8 +1,10 @@
 -- What each statement on one row of held makes of the counts.
-use Rattle.std.proofs.Common.{◌≡◌, ◌≢◌, ℕ, ◌+◌, ◌≤◌, ℤ, pos, List, [], ◌∷◌, map, filter, find, length, codes, ◌==◌, Option, Some, unwrap_or, true, false, cond, refl, sym, ap, ap₂, subst, ◌∙◌, arith}
+use Rattle.std.proofs.Common.{◌≡◌, ◌≢◌, inl, inr, ℕ, nat_lt, ◌&&◌, ◌+◌, ◌≤◌, ℤ, pos, List, [], ◌∷◌, map, filter, find, length, codes, ◌==◌, Option, Some, unwrap_or, Bool, true, false, cond, refl, sym, ap, ap₂, subst, ◌∙◌, arith}
 use Rattle.std.specs.List.{AllByRecursion, list_any}
 use Rattle.std.specs.List.Sorted.{IsPermutation}
-use Rattle.std.proofs.lemmas.Bool.{and_parts, not-true}
+use Rattle.std.proofs.lemmas.List.{nil_from_length}
+use Rattle.std.proofs.lemmas.List.Sorted.{length_permutation}
+use Rattle.std.proofs.lemmas.Bool.{and_parts, and_from, lt-ltb, not-true}
 use Rattle.std.proofs.lemmas.Slice.Eq.{bytes_eq-Decides}
 use Rattle.std.proofs.lemmas.Cmp.{tied_itself}
 use Rattle.std.specs.Ordering.{is_eq}
@@ -16,12 +18,13 @@ use Rattle.sqlite_rules.specs.Lists.{Has}
 use Rattle.sqlite_rules.specs.Edit.{Edit, Applies, edit_of, next_rowid, are_fresh, is_taken, id_in, put_all, without_all}
 use Rattle.sqlite_rules.specs.Calls.{ids_of}
 use Rattle.sqlite_rules.specs.declared.error.Rowids.TheVariants.{Chosen, Given}
-use Rattle.sqlite_rules.proofs.ListLemmas.{all_has}
+use Rattle.sqlite_rules.proofs.ListLemmas.{all_has, has_filtered, has_kept}
 use Rattle.sqlite_rules.proofs.TableLemmas.{int_is}
 use Rattle.sqlite_schema.specs.declared.schema.Schema.{Schema}
 use Rattle.sqlite_schema.specs.declared.schema.Table.{Table}
 use Rattle.sqlite_schema.specs.declared.schema.Keys.TheVariants.{Enforced}
 use Rattle.sqlite_trees.specs.Tree.{Trees}
+use Rattle.sqlite_catalog.specs.Listing.{IsSound}
 use Rattle.sqlite_schema.specs.Names.{same_name}
 use Rattle.sqlite.specs.Effect.{IsDatabase}
 use Rattle.sqlite.specs.State.{State}
@@ -29,13 +32,14 @@ use Rattle.sqlite.proofs.Callers.{one_permutation}
 use Rattle.store.specs.Layout.{IsLaidOut, IsFound, tree_named, meta_tree, held_tree, spans_tree, follow_tree, meta_at, held_at, spans_at, follow_at}
 use Rattle.store.specs.Changes.{most}
 use Rattle.gather.specs.Image.{IsSomeImage}
-use Rattle.store.specs.Rows.{Key, IsHeldRow, HasRowids, is_at, is_blob, count, with_one, without_one, held_rows, span_rows}
-use Rattle.store.specs.Inside.{IsWorking, GoesOn, HasCounts}
+use Rattle.store.specs.Rows.{Key, IsHeldRow, HasRowids, is_at, has_n, is_blob, count, with_one, without_one, held_rows, span_rows}
+use Rattle.store.specs.Inside.{IsWorking, GoesOn, HasCounts, Deletes}
 use Rattle.store.specs.Beside.{LiesBeside, own_names}
 use Rattle.store.proofs.Spared.{beside_written, own_found, own_held}
 use Rattle.store.proofs.AnyWhole.{has_index}
 use Rattle.store.proofs.Statements.{Applied, cast_null, cast_int}
-use Rattle.store.proofs.RowLemmas.{counts_inserted, counts_deleted, counts_raised, counts_lowered, found_alone, rowids_put, rowids_without, all_filtered}
+use Rattle.store.proofs.Unique.{put_has, none_before, none_at, one_at, no_clash}
+use Rattle.store.proofs.RowLemmas.{same_int, both_pass, count_none, count_found, counts_inserted, counts_deleted, counts_raised, counts_lowered, found_alone, rowids_put, rowids_without, all_filtered}
 
 -- ---- rows of the table
 pub own_bytes : (b : List ℕ) → is_blob b (Blob b) ≡ true
@@ -164,6 +168,29 @@ module _ (old new : State) (was : IsWorking old) where
         counts_are = ap count (rows_new _ h ∙ is) ∙ counts_inserted key row rows (own_key key (Int (next_rowid rows)) (Int (pos 1))) refl free;
       }
 
+  -- and its key was free, since the rows as they are now obey the schema
+  pub unheld : (key : Key)
+      → Applied schema old new (edit_of old.now.trees (held_at schema) [] Chosen 0 ((Null ∷ Blob key.schema ∷ Blob key.table ∷ Blob key.image ∷ Int (pos 1) ∷ []) ∷ []))
+      → count (held_rows old.now) key ≡ 0
+  unheld key h =
+      let row = new_held key in
+      let news = news_inserted key in
+      let is : new.now.trees (held_tree schema) ≡ put_row row rows = h.step.rows ∙ ap (put_all rows) news in
+      let free : is_taken rows row ≡ false = fresh_alone rows row (ap (are_fresh rows) (sym news) ∙ h.step.fresh) in
+      let sound : IsSound schema new.now.trees = subst (λ s. IsSound s new.now.trees) h.schema_is h.sound in
+      let apart = no_clash schema l new.now.trees sound row (rw is (put_has row rows)) in
+      count_none key rows (none_at key row (own_key key (Int (next_rowid rows)) (Int (pos 1))) refl rows shaped_old.keyed free (none_before _ row rows free (rw is at apart)))
+
+  -- ---- no row is taken out
+  pub holds_same : Applied schema old new (edit_of old.now.trees (held_at schema) [] Given 0 []) → HasCounts old new (count (held_rows old.now))
+  holds_same h =
+      let is : new.now.trees (held_tree schema) ≡ rows = h.step.rows in
+      record { on = goes_on _ h refl (rw is shaped_old) (rw is lawful_old); spans = spans_stay _ h refl; counts_are = ap count (rows_new _ h ∙ is) }
+
+  -- the rows obey the schema, so a key has one row
+  pub one_held : (key : Key) (r : Row) → Has rows r → is_at key r ≡ true → filter (is_at key) rows ≡ r ∷ []
+  one_held key r has at = one_at key r at (all_has _ rows r shaped_old.keyed has) rows shaped_old has (no_clash schema l old.now.trees was.sound r has)
+
   -- ---- the row that a look-up found
   module _ (key : Key) (r : Row) (found : filter (is_at key) rows ≡ r ∷ []) where
     alone : Has rows r × (is_at key r ≡ true)
@@ -185,6 +212,9 @@ module _ (old new : State) (was : IsWorking old) where
           spans = spans_stay _ h refl;
           counts_are = ap count (rows_new _ h ∙ is) ∙ counts_deleted key (id_in (rowid r)) r rows shaped_old.apart found at_id one;
         }
+
+    only_at : (p : Row → Bool) → p r ≡ true → filter (λ x. is_at key x && p x) rows ≡ r ∷ []
+    only_at p passes = both_pass (is_at key) p rows ∙ ap (filter p) found ∙ (rw passes refl)
 
     -- the row that is put in its place
     abbrev new_row : ℤ → Row
@@ -238,3 +268,38 @@ module _ (old new : State) (was : IsWorking old) where
           spans = spans_stay _ h refl;
           counts_are = ap count (rows_new _ h ∙ m.0) ∙ counts_lowered key (id_in (rowid r)) r rows shaped_old.apart found at_id (new_row (pos n)) alone.1 m.1 n is_n refl;
         }
+
+  -- ---- a row is taken out if its count is 1
+
+  pub deleted : (key : Key) (answer : List Row) → IsPermutation (map (λ r. column r 0 ∷ []) (filter (has_n key (pos 1)) rows)) answer
+      → Applied schema old new (edit_of old.now.trees (held_at schema) (ids_of answer) Given 0 []) → (found : List Row) → filter (has_n key (pos 1)) rows ≡ found → Deletes key old new (nat_lt 0 (length answer))
+  deleted key answer same h [] none =
+      let nothing : answer ≡ [] = nil_from_length answer (omega (arith, length_permutation _ answer same, ap (λ l. length (map (λ r. column r 0 ∷ []) l)) none)) in
+      rw nothing (not_one, holds_same (subst (λ l. Applied schema old new (edit_of old.now.trees (held_at schema) (ids_of l) Given 0 [])) nothing h))
+    where
+      not_one : count rows key ≢ 1
+      not_one is = at_most (filter (is_at key) rows) refl
+        where
+          at_most : (xs : List Row) → filter (is_at key) rows ≡ xs → ⊥
+          at_most [] off = omega (arith, is, count_none key rows off)
+          at_most (r ∷ xs) some =
+              let there = has_filtered (is_at key) rows r (rw some (inl refl)) in
+              let alone = one_held key r there.0 there.1 in
+              let n = (lawful_row key r alone).2 in
+              let n_is : column r 4 ≡ Int (pos n) = ap (λ x. column x 4) (lawful_row key r alone).3 in
+              let one : n ≡ 1 = sym (count_found key rows r n alone n_is) ∙ is in
+              let passes : has_n key (pos 1) r ≡ true = and_from _ _ there.1 (ap (λ v. is_eq (value_cmp v (Int (pos 1)))) (n_is ∙ ap (λ m. Int (pos m)) one) ∙ own_id (pos 1)) in
+              let kept = has_kept (has_n key (pos 1)) rows r there.0 passes in
+              (rw none at kept)
+  deleted key answer same h (r ∷ more) some =
+      let there = has_filtered (has_n key (pos 1)) rows r (rw some (inl refl)) in
+      let parts = and_parts _ _ there.1 in
+      let alone = one_held key r there.0 parts.0 in
+      let n = (lawful_row key r alone).2 in
+      let n_is : column r 4 ≡ Int (pos n) = ap (λ x. column x 4) (lawful_row key r alone).3 in
+      let one : n ≡ 1 = same_int n 1 (ap (λ v. is_eq (value_cmp v (Int (pos 1)))) (sym n_is) ∙ parts.1) in
+      let is_one : column r 4 ≡ Int (pos 1) = n_is ∙ ap (λ m. Int (pos m)) one in
+      let fewer : filter (has_n key (pos 1)) rows ≡ filter (is_at key) rows = only_at key r alone (λ x. is_eq (value_cmp (column x 4) (Int (pos 1)))) parts.1 ∙ sym alone in
+      let all : IsPermutation (map (λ r. column r 0 ∷ []) (filter (is_at key) rows)) answer = subst (λ l. IsPermutation (map (λ r. column r 0 ∷ []) l) answer) fewer same in
+      let long : nat_lt 0 (length answer) ≡ true = lt-ltb 0 (length answer) (omega (arith, length_permutation _ answer same, ap (λ l. length (map (λ r. column r 0 ∷ []) l)) some)) in
+      rw long (count_found key rows r 1 alone is_one, holds_deleted key r alone answer all is_one h)

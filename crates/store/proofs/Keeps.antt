@@ -1,10 +1,12 @@
 -- What a call inside a transaction keeps.
-use Rattle.std.proofs.Common.{arith, ◌⊎◌, inl, inr, ℕ, List, Ok, Err, Result, Some, None, false, IfOk, IfErr, OnOk, IsTrue, ◌≡◌, refl, subst, ◌∙◌}
+use Rattle.std.proofs.Common.{arith, ◌⊎◌, inl, inr, ℕ, List, Ok, Err, Result, Some, None, Bool, true, false, MatchBool, ◌≢◌, IfOk, IfErr, OnOk, IsTrue, ◌≡◌, refl, subst, ◌∙◌}
 use Rattle.std.proofs.lemmas.Bool.{cases_Bool}
 use Rattle.sqlite_value.specs.Order.{Row}
 use Rattle.sqlite_resolve.specs.declared.compiled.Compiled.{Compiled}
 use Rattle.sqlite.specs.declared.error.Error.{Error}
-use Rattle.sqlite.specs.State.{State, Survives, KeepsCommit, HasCleanDisk, IsUnchanged, IsRolledBack, IsNotRun, FailsToQuery, FailsToShow, IsTooLate, Shown, ShowsRows, ExecutesInside, CommitsShowing}
+use Rattle.sqlite.specs.declared.error.Error.TheVariants.{ExecuteReturnedResults}
+use Rattle.sqlite_trees.specs.declared.error.StoreError.{StoreError}
+use Rattle.sqlite.specs.State.{State, Survives, KeepsCommit, HasCleanDisk, IsUnchanged, IsRolledBack, IsNotRun, FailsToQuery, FailsToShow, IsTooLate, Shown, ShowsRows, ExecutesInside, ExecutesIn, RunsCommand, Fails, shows_rows, store_error, CommitsShowing}
 use Rattle.sqlite_trees.specs.declared.store.Store.{Ghosts}
 use Rattle.sqlite.specs.Held.{Held, state}
 use Rattle.sqlite.specs.Listing.{understood}
@@ -43,6 +45,26 @@ pub kept_executed : (held : ℕ) (sql : List ℕ) (params : Row) (old new : Stat
 kept_executed held sql params old new (Ok count) h = record { was_open = λ _. h.1.was_open; committed = λ _. h.1.committed_is }
 kept_executed held sql params old new (Err e) (inl h) = elim h.1 [ inl same ↦ kept_unchanged old new same | inr undone ↦ kept_rolled old new undone ]
 kept_executed held sql params old new (Err e) (inr h) = kept_unchanged old new h.2
+
+-- a statement that a rule refuses, and not the disk, changes nothing
+module _ (sql : List ℕ) (old new : State) (e : Error) (no_fault : (cause : StoreError) → e ≢ store_error cause) where
+  no_failure : {P : Type 0} → Fails old new P e → IsUnchanged old new
+  no_failure f = absurd (no_fault f.0 f.1)
+
+  same_alone : (c : Compiled) (params : Row) (b : Bool) → MatchBool b ((◌≡◌ {A = Result ℕ Error} (Err e) (Err ExecuteReturnedResults)) × IsUnchanged old new) (RunsCommand old new sql c params (Err e)) → IsUnchanged old new
+  same_alone c params true r = r.1
+  same_alone c params false (inl r) = r.1
+  same_alone c params false (inr r) = no_failure r
+
+  same_executed : (params : Row) → ExecutesIn false sql params old new (Err e) → IsUnchanged old new
+  unfolding ExecutesIn IsNotRun
+  same_executed params (inl (inl r)) = r.1
+  same_executed params (inl (inr r)) = no_failure r
+  same_executed params (inr r) = same_alone r.0 _ (shows_rows false r.0) r.2
+
+  pub refused_same : (params : Row) → ExecutesInside 0 sql params old new (Err e) → IsUnchanged old new
+  refused_same params (inl h) = same_executed params h.0
+  refused_same params (inr h) = h.2
 
 -- ---- one call after another
 pub kept_then : (a b c : State) → KeepsCommit a b → KeepsCommit b c → KeepsCommit a c

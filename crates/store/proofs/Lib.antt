@@ -9,6 +9,7 @@ pub mod Selects
 pub mod Works
 pub mod RowLemmas
 pub mod Statements
+pub mod Unique
 pub mod Effects
 pub mod Left
 pub mod Done

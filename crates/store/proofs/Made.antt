@@ -1,11 +1,12 @@
 -- From one call to the next.
-use Rattle.std.proofs.Common.{◌≡◌, ◌<◌, ◌≤◌, nat_lt, ℕ, List, true, false, Some, None, Option, refl, sym, ap, subst, subst₂, ◌∙◌, arith}
+use Rattle.std.proofs.Common.{◌≡◌, ◌<◌, ◌≤◌, nat_lt, ℕ, List, true, false, Some, None, Option, Ok, Err, Result, IfOk, refl, sym, ap, subst, subst₂, ◌∙◌, arith}
 use Rattle.std.specs.List.{AllByRecursion}
 use Rattle.std.proofs.lemmas.Bool.{lt-ltb}
 use Rattle.std.proofs.lemmas.Bool.Decides.{nat_tests}
 use Rattle.sqlite_value.specs.Order.{Row}
 use Rattle.sqlite.specs.Effect.{Database, IsDatabase}
 use Rattle.sqlite.specs.State.{State, IsUnchanged}
+use Rattle.store.specs.declared.row_change.Refusal.{Refusal}
 use Rattle.store.specs.declared.row_change.Refusal.TheVariants.{NoSuchRow, CountFull}
 use Rattle.store.specs.Layout.{IsLaidOut}
 use Rattle.store.specs.Beside.{LiesBeside}
@@ -82,3 +83,33 @@ goes_then old mid new one two = record {
   meta = two.meta ∙ one.meta;
   follow = two.follow ∙ one.follow;
 }
+
+-- ---- a row that is put in or taken out with all its copies
+
+pub counted_new : (old new : State) (key : Key) → count (held_rows old.now) key ≡ 0 → HasCounts old new (with_one key (count (held_rows old.now))) → Counted old new (added key (count (held_rows old.now))) None
+counted_new old new key is h = let test : nat_lt (count (held_rows old.now) key) most ≡ true = rw is refl in rw test h
+
+pub counted_one : (old new : State) (key : Key) → count (held_rows old.now) key ≡ 1 → HasCounts old new (without_one key (count (held_rows old.now))) → Counted old new (removed key (count (held_rows old.now))) None
+counted_one old new key is h = let test : nat_lt 0 (count (held_rows old.now) key) ≡ true = rw is refl in rw test h
+
+-- ---- an answer over the counts as they were before an earlier call
+
+module _ (old mid new : State) (key : Key) where
+  answered : (x : Result KeyCounts Refusal) (r : Option Refusal) → ((counts : KeyCounts) → HasCounts mid new counts → HasCounts old new counts) → Counted mid new x r → Counted old new x r
+  answered (Ok counts) None since h = since counts h
+  answered (Ok counts) (Some why) since h = h
+  answered (Err e) None since h = h
+  answered (Err e) (Some why) since h = h
+
+  -- the call changed nothing
+  pub counted_since : {E : Type 0} (r : Result (Option Refusal) E) → IsUnchanged old mid → IfOk r (Counted mid new (added key (count (held_rows mid.now)))) → IfOk r (Counted old new (added key (count (held_rows old.now))))
+  counted_since (Ok o) same h =
+      answered (added key (count (held_rows old.now))) o (λ counts next. holds_since old mid new counts same next) (subst (λ b. Counted mid new (added key b) o) (ap (λ (d : Database). count (held_rows d)) same.0.now_is) h)
+  counted_since (Err e) same h = h
+
+  -- the call left the counts as they were
+  pub counted_left : {E : Type 0} (r : Result (Option Refusal) E) → HasCounts old mid (count (held_rows old.now)) → IfOk r (Counted mid new (removed key (count (held_rows mid.now))))
+      → IfOk r (Counted old new (removed key (count (held_rows old.now))))
+  counted_left (Ok o) left h = answered (removed key (count (held_rows old.now))) o (λ counts next. record { on = goes_then old mid new left.on next.on; spans = next.spans ∙ left.spans; counts_are = next.counts_are })
+      (subst (λ b. Counted mid new (removed key b) o) left.counts_are h)
+  counted_left (Err e) left h = h

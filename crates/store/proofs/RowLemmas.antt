@@ -1,5 +1,5 @@
 -- What an edit of a table does to the counts.
-use Rattle.std.proofs.Common.{◌≡◌, inl, inr, ℕ, ◌+◌, ◌-◌, ℤ, pos, List, [], ◌∷◌, filter, Bool, true, false, cond, refl, sym, ap, ◌∙◌, arith, not}
+use Rattle.std.proofs.Common.{◌≡◌, inl, inr, ℕ, ◌+◌, ◌-◌, ℤ, pos, List, [], ◌∷◌, filter, Bool, true, false, cond, refl, sym, ap, ◌∙◌, arith, not, ◌&&◌}
 use Rattle.std.proofs.lemmas.Bool.{and_parts, or_parts, cases_Bool, false_from_ne_true}
 use Rattle.std.proofs.lemmas.Slice.Eq.{bytes_eq-Decides}
 use Rattle.std.proofs.lemmas.Cmp.{tied_back}
@@ -7,10 +7,11 @@ use Rattle.std.specs.Ordering.{is_eq, match_ordering}
 use Rattle.std.specs.declared.cmp.Ordering.{Ordering}
 use Rattle.std.specs.declared.cmp.Ordering.TheVariants.{Less, Equal, Greater}
 use Rattle.std.specs.List.{AllByRecursion, IsDistinct}
+use Rattle.std.specs.FinSet as set
 use Rattle.sqlite_value.specs.declared.value.Value.{Value}
 use Rattle.sqlite_value.specs.declared.value.Value.TheVariants.{Null, Int, Real, Text, Blob}
 use Rattle.sqlite_value.specs.Order.{Row, column, value_cmp}
-use Rattle.sqlite_value.proofs.OrderLemmas.{value_cmp_total}
+use Rattle.sqlite_value.proofs.OrderLemmas.{value_cmp_total, value_cmp-Int}
 use Rattle.sqlite_trees.proofs.TreeLemmas.{all-put_row}
 use Rattle.std.specs.List.Sorted.{IsPermutation}
 use Rattle.std.proofs.lemmas.List.Sorted.{IsPermutation-refl, IsPermutation-trans, IsPermutation-insert, IsPermutation-cons}
@@ -23,7 +24,7 @@ use Rattle.store.specs.Rows.{Key, alike, HasRowids, same_key, is_blob, is_at, nu
 
 -- ---- keys
 
-blob_is : (v : Value) (b : List ℕ) → is_blob b v ≡ true → v ≡ Blob b
+pub blob_is : (v : Value) (b : List ℕ) → is_blob b v ≡ true → v ≡ Blob b
 blob_is Null b h = absurd (cc)
 blob_is (Int n) b h = absurd (cc)
 blob_is (Real x) b h = absurd (cc)
@@ -60,6 +61,12 @@ pub equal_is : (o : Ordering) → is_eq o ≡ true → o ≡ Equal
 equal_is Less h = absurd (cc)
 equal_is Equal h = refl
 equal_is Greater h = absurd (cc)
+
+pub same_int : (a b : ℕ) → is_eq (value_cmp (Int (pos a)) (Int (pos b))) ≡ true → a ≡ b
+same_int a b h =
+    let equal = equal_is _ (sym (ap is_eq (value_cmp-Int (pos a) (pos b))) ∙ h) in
+    let is : pos a ≡ pos b = set.int_cmp-IsAntisymmetric (pos a) (pos b) equal in
+    cc
 
 apart_from : (id : ℤ) (x y : Row) → has_rowid id x ≡ true → alike x y ≡ false → has_rowid id y ≡ false
 apart_from id x y is apart = false_from_ne_true _ (λ at.
@@ -100,7 +107,7 @@ distinct_filtered p (r ∷ rows) up = go (p r) (distinct_filtered p rows up.1)
 pub rowids_without : (id : ℤ) (rows : List Row) → HasRowids rows → HasRowids (without_rowid id rows)
 rowids_without id rows h = record { apart = distinct_filtered _ rows h.apart; keyed = all_filtered _ _ rows h.keyed }
 
-turned : (a b : Row) → alike a b ≡ false → alike b a ≡ false
+pub turned : (a b : Row) → alike a b ≡ false → alike b a ≡ false
 turned a b apart = false_from_ne_true _ (λ same. let tie = ap is_eq (tied_back value_cmp_total (rowid b) (rowid a) (equal_is _ same)) in cc)
 
 all_turned : (new : Row) (rows : List Row) → is_taken rows new ≡ false → AllByRecursion (λ x. alike new x ≡ false) rows
@@ -121,6 +128,16 @@ distinct_put new (r ∷ rows) free up =
 
 pub rowids_put : (new : Row) (rows : List Row) → is_int (rowid new) ≡ true → is_taken rows new ≡ false → HasRowids rows → HasRowids (put_row new rows)
 rowids_put new rows keyed free h = record { apart = distinct_put new rows free h.apart; keyed = all-put_row _ new rows keyed h.keyed }
+
+-- ---- two tests
+
+pub both_pass : (p q : Row → Bool) (rows : List Row) → filter (λ r. p r && q r) rows ≡ filter q (filter p rows)
+both_pass p q [] = refl
+both_pass p q (r ∷ rows) = go (p r) (both_pass p q rows)
+  where
+    go : (b : Bool) → filter (λ r. p r && q r) rows ≡ filter q (filter p rows) → cond (b && q r) (r ∷ filter (λ r. p r && q r) rows) (filter (λ r. p r && q r) rows) ≡ filter q (cond b (r ∷ filter p rows) (filter p rows))
+    go true more = ap (λ l. cond (q r) (r ∷ l) l) more
+    go false more = more
 
 -- ---- what is left without the one row that passes a test
 

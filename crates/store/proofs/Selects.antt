@@ -19,9 +19,9 @@ use Rattle.sqlite_sql.specs.Term.{Term, eval_all, holds}
 use Rattle.sqlite_sql.specs.Query.{IsAnswerAs, output, Output}
 use Rattle.sqlite_trees.specs.Tree.{Trees}
 use Rattle.sqlite_sql.specs.Program.{overlay}
-use Rattle.store.specs.Layout.{among, has_key, has_start}
+use Rattle.store.specs.Layout.{among, has_key, has_count, has_start}
 use Rattle.sqlite_sql.specs.declared.ops.UnaryOp.TheVariants.{ToNumeric}
-use Rattle.store.specs.Rows.{Key, is_blob, is_at, begins_at, shown_span}
+use Rattle.store.specs.Rows.{Key, is_blob, is_at, has_n, begins_at, shown_span}
 
 pub shown_bool : (b : Bool) → is_true (from_truth (Some b)) ≡ b
 shown_bool true = refl
@@ -62,6 +62,18 @@ pub start_holds : (source : List ℕ) (n : ℤ) (row : Row) → list_all (holds 
 start_holds source n row =
     rw (numeric_int n, equals_blob (column row 1) source, equals_int (column row 2) n)
     (ap (λ b. is_blob source (column row 1) && b) (and-true (is_eq (value_cmp (column row 2) (Int n)))))
+
+-- and the count is this
+pub count_holds : (key : Key) (n : ℤ) (row : Row) → list_all (holds (key_params key (Int n ∷ []) ∷ row ∷ [])) has_count ≡ has_n key n row
+count_holds key n row =
+    rw (numeric_int n, equals_blob (column row 1) key.schema, equals_blob (column row 2) key.table, equals_blob (column row 3) key.image, equals_int (column row 4) n)
+    (ap (λ b. is_blob key.schema (column row 1) && (is_blob key.table (column row 2) && (is_blob key.image (column row 3) && b))) (and-true (is_eq (value_cmp (column row 4) (Int n))))
+    ∙ grouped (is_blob key.schema (column row 1)) (is_blob key.table (column row 2)) (is_blob key.image (column row 3)) (is_eq (value_cmp (column row 4) (Int n))))
+  where
+    grouped : (a b c d : Bool) → (a && (b && (c && d))) ≡ ((a && (b && c)) && d)
+    grouped false b c d = refl
+    grouped true false c d = refl
+    grouped true true c d = refl
 
 one_more : (params r : Row) (b : Bool) (rows : List Row) → cond b ((params ∷ r ∷ []) ∷ []) [] ++ map (λ r. params ∷ r ∷ []) rows ≡ map (λ r. params ∷ r ∷ []) (cond b (r ∷ rows) rows)
 one_more params r true rows = refl

@@ -23,15 +23,9 @@ use Rattle.store.specs.Rows.{span_rows, stored_span, shown_spans, begins_at, tou
 use Rattle.store.specs.Inside.{Moves, Begins, AreRowsOf, Shows, Records}
 use Rattle.store.proofs.Effects.{own_bytes, own_id}
 use Rattle.store.proofs.Made.{goes_then}
-use Rattle.store.proofs.RowLemmas.{equal_is}
+use Rattle.store.proofs.RowLemmas.{same_int}
 use Rattle.store.proofs.SpanRows.{flips}
 use Rattle.store.proofs.SortedSpans.{IsSome, IsClear, all_some, all_clear, all_distinct, without}
-
-same_int : (a b : ℕ) → is_eq (value_cmp (Int (pos a)) (Int (pos b))) ≡ true → a ≡ b
-same_int a b h =
-    let equal = equal_is _ (sym (ap is_eq (value_cmp-Int (pos a) (pos b))) ∙ h) in
-    let is : pos a ≡ pos b = set.int_cmp-IsAntisymmetric (pos a) (pos b) equal in
-    cc
 
 -- no span that is clear of this part begins where it does
 begins_apart : (source : List ℕ) (lo hi : ℕ) (rest : List Span) → lo < hi → AllByRecursion IsSome rest → AllByRecursion (IsClear source lo hi) rest

@@ -1,5 +1,5 @@
 -- What each statement on one row does, where it succeeds.
-use Rattle.std.proofs.Common.{◌≡◌, ◌⊎◌, inl, inr, ℕ, ℤ, pos, Option, Some, slice_get, List, [], ◌∷◌, map, filter, Bool, true, false, cond, None, Ok, Err, Result, IfOk, OnOk, ◌++◌, ◌/◌, length, refl, sym, ap, subst, ◌∙◌}
+use Rattle.std.proofs.Common.{◌≡◌, ◌⊎◌, inl, inr, ℕ, ℤ, pos, Option, Some, slice_get, List, [], ◌∷◌, map, filter, Bool, true, false, cond, None, Ok, Err, Result, IfOk, OnOk, ◌++◌, ◌/◌, length, suc, unwrap_or, refl, sym, ap, subst, ◌∙◌}
 use Rattle.std.specs.List.{AllByRecursion, list_all}
 use Rattle.std.specs.List.Sorted.{IsPermutation}
 use Rattle.sqlite_value.specs.declared.value.Value.{Value}
@@ -30,10 +30,10 @@ use Rattle.sqlite.specs.Does.{Tally, Does, OnTable, OnRows, WritesRows, AtPlace}
 use Rattle.sqlite.specs.Listing.{understood}
 use Rattle.sqlite.specs.State.{State, Writes, mode_of, Executes, Shown, IsUnchanged, Shows as Sees}
 use Rattle.sqlite.proofs.Callers.{command_of, statement_of, runs_as, reads_as, one_step, IsPlain}
-use Rattle.store.specs.Layout.{IsLaidOut, IsFound, IsApart, keyed, among, held_at, held_tree, read_text, insert_text, update_text, delete_text, has_key, read_query, insert_terms, spans_at, spans_tree, add_span_text, drop_span_text, has_start, add_span_terms}
-use Rattle.store.specs.Rows.{Key, is_at, begins_at, shown_span}
+use Rattle.store.specs.Layout.{IsLaidOut, IsFound, IsApart, keyed, among, held_at, held_tree, read_text, insert_text, update_text, delete_text, has_key, has_count, read_query, insert_terms, spans_at, spans_tree, add_span_text, drop_span_text, has_start, add_span_terms}
+use Rattle.store.specs.Rows.{Key, is_at, has_n, begins_at, shown_span}
 use Rattle.store.proofs.AnySchema.{read_is, read_plain, insert_is, insert_plain, update_is, update_plain, delete_is, delete_plain, add_span_is, add_span_plain, drop_span_is, drop_span_plain}
-use Rattle.store.proofs.Selects.{key_params, key_holds, start_holds, answers, stored_read}
+use Rattle.store.proofs.Selects.{key_params, key_holds, count_holds, start_holds, answers, stored_read}
 use Rattle.store.proofs.Works.{no_works}
 
 -- a part that gave a value did not stop on the way
@@ -95,10 +95,12 @@ module _ (schema : Schema) (at tree : ℕ) (name : List ℕ) (columns : List Col
   changed_by command w = subst (λ s. Does old.step_limit (mode_of old) params (record old.now { schema = s }) (statement_of sql (understood schema sql)) None command (Ok (w.tally, new.now))) has w.changed
 
   on_rows : (command : Command) (w : Makes command) → OnTable old.step_limit (mode_of old) params (record old.now { schema = schema }) at (λ task. OnRows task (mode_of old) None command db) (Ok (w.tally, new.now))
-      → (it : Written) × WritesRows (record { limit = old.step_limit; keys = Enforced; schema = schema; table = table; params = params }) db command (Ok it) × (new.now ≡ record { schema = schema; trees = it.trees })
+      → (it : Written) × WritesRows (record { limit = old.step_limit; keys = Enforced; schema = schema; table = table; params = params }) db command (Ok it)
+      × ((new.now ≡ record { schema = schema; trees = it.trees }) × (w.tally.rows ≡ Some (length it.rows)))
   on_rows command w out =
       let done = went (on_table old.step_limit (mode_of old) params (record old.now { schema = schema }) at table (λ task. OnRows task (mode_of old) None command db) (Ok (w.tally, new.now)) found.by_index out) in
-      (done.0, done.1, ap (λ (p : Tally × Database). p.1) (same_value (went (went done.2).2).2))
+      let end = same_value (went (went done.2).2).2 in
+      (done.0, done.1, (ap (λ (p : Tally × Database). p.1) end, ap (λ (p : Tally × Database). p.0.rows) end))
 
   applied : (command : Command) (w : Makes command) (edit : Edit) (trees next : Trees) → new.now ≡ record { schema = schema; trees = trees } → trees ≡ next → Applies schema Enforced db edit next → Applied schema old new edit
   applied command w edit trees next now same step = record {
@@ -120,7 +122,7 @@ module _ (schema : Schema) (at tree : ℕ) (name : List ℕ) (columns : List Col
       let counted = went put.2 in
       let edit = edit_of db table [] Chosen 0 given.0 in
       subst (λ rows. Applied schema old new (edit_of db table [] Chosen 0 rows)) given.1.1
-      (applied command w edit done.0.trees put.0 done.2 (ap (λ (it : Written). it.trees) (same_value counted.2) ∙ same_value counted.1) (one_step schema _ db put.0 edit (no_works schema tree [] edit.news (inl refl)) put.1))
+      (applied command w edit done.0.trees put.0 done.2.0 (ap (λ (it : Written). it.trees) (same_value counted.2) ∙ same_value counted.1) (one_step schema _ db put.0 edit (no_works schema tree [] edit.news (inl refl)) put.1))
 
   -- DELETE and UPDATE of the rows that pass the tests, to which no table refers
   module _ (free : AllByRecursion (IsApart schema tree) schema.tables) (tests shown : List Term) (p : Row → Bool) (says : (row : Row) → list_all (holds (params ∷ row ∷ [])) tests ≡ p row) where
@@ -133,7 +135,7 @@ module _ (schema : Schema) (at tree : ℕ) (name : List ℕ) (columns : List Col
     of_answer : (rows : List Row) → Answers (record { schema = schema; trees = db }) program params rows → Shows rows
     of_answer rows a = answers tests params p says tree shown (overlay db []) Null rows (db tree) (stored_read db tree found.stored) (a.answer Null)
 
-    pub removes : command_of (understood schema sql) ≡ Delete at program → (rows : List Row) × Shows rows × Applied schema old new (edit_of db table (ids_of rows) Given 0 [])
+    pub removes : command_of (understood schema sql) ≡ Delete at program → (rows : List Row) × Shows rows × Applied schema old new (edit_of db table (ids_of rows) Given 0 []) × (count ≡ length rows)
     removes is =
         let command = Delete at program in
         let w = runs_as sql params old new schema has command is plain count h in
@@ -143,8 +145,13 @@ module _ (schema : Schema) (at tree : ℕ) (name : List ℕ) (columns : List Col
         let edit = edit_of db table (ids_of queried.0) Given 0 [] in (
           queried.0,
           of_answer queried.0 queried.1,
-          applied command w edit done.0.trees put.0 done.2 (ap (λ (it : Written). it.trees) (same_value put.2)) (one_step schema _ db put.0 edit (no_works schema tree (taken_by db edit) edit.news (inr free)) put.1),
+          applied command w edit done.0.trees put.0 done.2.0 (ap (λ (it : Written). it.trees) (same_value put.2)) (one_step schema _ db put.0 edit (no_works schema tree (taken_by db edit) edit.news (inr free)) put.1),
+          w.counted ∙ ap (λ n. unwrap_or n 0) done.2.1 ∙ ap (λ (it : Written). length it.rows) (same_value put.2) ∙ as_many queried.0,
         )
+      where
+        as_many : (rows : List Row) → length (taken_by db (edit_of db table (ids_of rows) Given 0 [])) ≡ length rows
+        as_many [] = refl
+        as_many (r ∷ rows) = ap suc (as_many rows)
 
     pub changes : command_of (understood schema sql) ≡ Update at program → (rows : List Row) × Shows rows × Applied schema old new (edit_of db table (ids_of rows) Given 1 rows)
     changes is =
@@ -156,7 +163,7 @@ module _ (schema : Schema) (at tree : ℕ) (name : List ℕ) (columns : List Col
         let edit = edit_of db table (ids_of queried.0) Given 1 queried.0 in (
           queried.0,
           of_answer queried.0 queried.1,
-          applied command w edit done.0.trees put.0 done.2 (ap (λ (it : Written). it.trees) (same_value put.2)) (one_step schema _ db put.0 edit (no_works schema tree (taken_by db edit) edit.news (inr free)) put.1),
+          applied command w edit done.0.trees put.0 done.2.0 (ap (λ (it : Written). it.trees) (same_value put.2)) (one_step schema _ db put.0 edit (no_works schema tree (taken_by db edit) edit.news (inr free)) put.1),
         )
 
 module _ (schema : Schema) (l : IsLaidOut schema) where
@@ -200,15 +207,17 @@ module _ (schema : Schema) (l : IsLaidOut schema) where
         → (rows : List Row) × IsPermutation (map (λ r. column r 0 ∷ []) (filter (λ r. begins_at source lo (shown_span r)) (old.now.trees (spans_tree schema)))) rows
         × Applied schema old new (edit_of old.now.trees (spans_at schema) (ids_of rows) Given 0 [])
     drops_span free source lo count h =
-        removes schema l.spans.at (spans_tree schema) _ _ _ _ spans_found drop_span_text (Blob source ∷ Int lo ∷ []) (drop_span_plain schema l.spans.at (spans_tree schema) spans_found) old new has count h
-        free has_start (col 1 0 ∷ []) (λ r. begins_at source lo (shown_span r)) (start_holds source lo) (drop_span_is schema l.spans.at (spans_tree schema) spans_found)
+        let it = removes schema l.spans.at (spans_tree schema) _ _ _ _ spans_found drop_span_text (Blob source ∷ Int lo ∷ []) (drop_span_plain schema l.spans.at (spans_tree schema) spans_found) old new has count h
+            free has_start (col 1 0 ∷ []) (λ r. begins_at source lo (shown_span r)) (start_holds source lo) (drop_span_is schema l.spans.at (spans_tree schema) spans_found) in
+        (it.0, it.1, it.2)
 
     module _ (free : AllByRecursion (IsApart schema (held_tree schema)) schema.tables) where
-      pub deletes : (key : Key) (count : ℕ) → Executes delete_text (key_params key []) old new (Ok count)
-          → (rows : List Row) × IsPermutation (map (λ r. column r 0 ∷ []) (filter (is_at key) (old.now.trees (held_tree schema)))) rows × Applied schema old new (edit_of old.now.trees (held_at schema) (ids_of rows) Given 0 [])
-      deletes key count h =
-          removes schema l.held.at (held_tree schema) _ _ _ _ held_found delete_text (key_params key []) (delete_plain schema l.held.at (held_tree schema) held_found) old new has count h
-          free has_key (col 1 0 ∷ []) (is_at key) (key_holds key []) (delete_is schema l.held.at (held_tree schema) held_found)
+      pub deletes : (key : Key) (n : ℤ) (count : ℕ) → Executes delete_text (key_params key (Int n ∷ [])) old new (Ok count)
+          → (rows : List Row) × IsPermutation (map (λ r. column r 0 ∷ []) (filter (has_n key n) (old.now.trees (held_tree schema)))) rows
+          × Applied schema old new (edit_of old.now.trees (held_at schema) (ids_of rows) Given 0 []) × (count ≡ length rows)
+      deletes key n count h =
+          removes schema l.held.at (held_tree schema) _ _ _ _ held_found delete_text (key_params key (Int n ∷ [])) (delete_plain schema l.held.at (held_tree schema) held_found) old new has count h
+          free has_count (col 1 0 ∷ []) (has_n key n) (count_holds key n) (delete_is schema l.held.at (held_tree schema) held_found)
 
       pub updates : (key : Key) (n : ℤ) (count : ℕ) → Executes update_text (key_params key (Int n ∷ [])) old new (Ok count)
           → (rows : List Row) × IsPermutation (map (λ r. column r 0 ∷ column r 0 ∷ column r 1 ∷ column r 2 ∷ column r 3 ∷ Int n ∷ []) (filter (is_at key) (old.now.trees (held_tree schema)))) rows

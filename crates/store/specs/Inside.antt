@@ -1,13 +1,14 @@
 -- Private: the effect of a call inside a transaction of the database.
-use Rattle.std.specs.Prelude.{◌≡◌, nat_lt, ℕ, true, false, IsTrue, if◌then◌else◌, List, ◌∷◌, ◌++◌, Option, Some, None, Result, Ok, Err, IsPermutation, ℤ, map}
+use Rattle.std.specs.Prelude.{◌≡◌, ◌≢◌, nat_lt, ℕ, Bool, true, false, IsTrue, if◌then◌else◌, List, ◌∷◌, ◌++◌, Option, Some, None, Result, Ok, Err, IsPermutation, ℤ, map}
 use Rattle.std.specs.List.{AllByRecursion}
 use Rattle.sqlite_value.specs.Order.{Row}
 use Rattle.gtid.specs.Identifier.{Ids}
 use Rattle.gtid.specs.Span.{IsLeast, IsLeastList}
 use Rattle.gtid.specs.declared.span.Span.{Span}
 use Rattle.sqlite.specs.Effect.{IsDatabase}
-use Rattle.sqlite.specs.State.{State, HasCleanDisk, KeepsCommit, Survives}
+use Rattle.sqlite.specs.State.{State, HasCleanDisk, KeepsCommit, Survives, IsUnchanged}
 use Rattle.binlog.specs.Filter.{Names}
+use Rattle.gather.specs.Image.{IsSomeImage}
 use Rattle.gather.specs.Transaction.{ChangeValue}
 use Rattle.store.specs.declared.row_change.Refusal.{Refusal}
 use Rattle.store.specs.declared.row_change.Refusal.TheVariants.{NoSuchRow, CountFull}
@@ -103,6 +104,16 @@ Counted old new (Ok counts) None = HasCounts old new counts
 Counted old new (Ok counts) (Some why) = ⊥
 Counted old new (Err e) None = ⊥
 Counted old new (Err e) (Some why) = why ≡ e
+
+-- The row was not there and is there once now, or it was there and nothing has changed.
+abbrev pub Inserts : Key → State → State → Bool → Type 0
+Inserts key old new true = IsSomeImage key.image → (count (held_rows old.now) key ≡ 0) × HasCounts old new (with_one key (count (held_rows old.now)))
+Inserts key old new false = IsUnchanged old new
+
+-- The row was there once and is not there now, or it was not there once and all counts are as they were.
+abbrev pub Deletes : Key → State → State → Bool → Type 0
+Deletes key old new true = (count (held_rows old.now) key ≡ 1) × HasCounts old new (without_one key (count (held_rows old.now)))
+Deletes key old new false = (count (held_rows old.now) key ≢ 1) × HasCounts old new (count (held_rows old.now))
 
 -- ---- Rows.
 

@@ -192,7 +192,7 @@ abbrev pub update_text : List ℕ
 update_text = codes "UPDATE held SET n = ?4 WHERE schema_name = ?1 AND table_name = ?2 AND image = ?3"
 
 abbrev pub delete_text : List ℕ
-delete_text = codes "DELETE FROM held WHERE schema_name = ?1 AND table_name = ?2 AND image = ?3"
+delete_text = codes "DELETE FROM held WHERE schema_name = ?1 AND table_name = ?2 AND image = ?3 AND n = ?4"
 
 -- ---- the statements on one row of spans
 
@@ -211,6 +211,9 @@ abbrev pub has_key : List Term
 has_key = equals 1 0 ∷ equals 2 1 ∷ equals 3 2 ∷ []
 
 -- a column of integers is compared with what the parameter is as a number
+abbrev pub has_count : List Term
+has_count = equals 1 0 ∷ equals 2 1 ∷ equals 3 2 ∷ op2 (Compare Eq Binary) (col 1 4) (op1 ToNumeric (col 0 3)) ∷ []
+
 abbrev pub has_start : List Term
 has_start = equals 1 0 ∷ op2 (Compare Eq Binary) (col 1 2) (op1 ToNumeric (col 0 1)) ∷ []
 
@@ -232,7 +235,7 @@ abbrev pub read_query : ℕ → Query
 read_query tree = among tree has_key (col 1 4 ∷ [])
 
 abbrev pub delete_query : ℕ → Query
-delete_query tree = among tree has_key (col 1 0 ∷ [])
+delete_query tree = among tree has_count (col 1 0 ∷ [])
 
 abbrev pub update_query : ℕ → Query
 update_query tree = among tree has_key (col 1 0 ∷ col 1 0 ∷ col 1 1 ∷ col 1 2 ∷ col 1 3 ∷ col 0 3 ∷ [])

@@ -97,6 +97,10 @@ without_one key counts = λ k. if same_key key k then counts k - 1 else counts k
 abbrev pub is_at : Key → Row → Bool
 is_at key row = is_blob key.schema (column row 1) && (is_blob key.table (column row 2) && is_blob key.image (column row 3))
 
+-- the row has this key and this count
+abbrev pub has_n : Key → ℤ → Row → Bool
+has_n key n row = is_at key row && is_eq (value_cmp (column row 4) (Int n))
+
 -- what one row adds to a count
 abbrev pub share : Key → Row → ℕ
 share key row = if is_at key row then number_in (column row 4) else 0

@@ -5,12 +5,12 @@ ghost use Rattle.sqlite.specs.State.{HasCleanDisk, IsUnchanged};
 ghost use Rattle.sqlite.specs.Held.{state};
 ghost use Rattle.sqlite_value.specs.Order.{column};
 ghost use Rattle.store.specs.Changes.{most};
-ghost use Rattle.gather.specs.Image.{IsSomeImage};
 ghost use Rattle.store.specs.Rows.{key_in, Finds, IsCount, held_rows, count, with_one, without_one, is_at};
-ghost use Rattle.store.specs.Inside.{IsWorking, HasCounts, Stays};
+ghost use Rattle.store.specs.Inside.{IsWorking, HasCounts, Inserts, Deletes, Stays};
 
 use sqlite::types::ValueRef;
-use sqlite::{Alter, Error, Row, Transaction};
+use sqlite::{Alter, Error, ErrorCode, Row, Transaction};
+use sqlite_schema::schema::Constraint;
 
 /// The key of a row of `held`: the names of schema and table, and the stored image.
 #[derive(Clone, Copy)]
@@ -70,23 +70,27 @@ pub(crate) fn read<S: Alter>(
     one_count(rows.as_slice())
 }
 
-/// Inserts a row with the count 1.
+/// Inserts a row with the count 1 if it is not there, and returns whether it did: the key of the table says so.
 pub(crate) fn insert<S: Alter>(
     tx: &mut Transaction<'_, S>,
     row: &RowKey<'_>,
-) -> Result<usize, Error>
+) -> Result<bool, Error>
     ensures same_reference { tx.new.conn.ghost_name ≡ tx.old.conn.ghost_name }
-    ensures holds { HasCleanDisk (state S.Store tx.new.conn.now) → IsWorking (state S.Store tx.old.conn.now) → IsSomeImage row.now.image.now → OnOk result (HasCounts (state S.Store tx.old.conn.now) (state S.Store tx.new.conn.now) (with_one (key_in row.now) (count (held_rows (state S.Store tx.old.conn.now).now)))) }
+    ensures inserts { HasCleanDisk (state S.Store tx.new.conn.now) → IsWorking (state S.Store tx.old.conn.now) → IfOk result (Inserts (key_in row.now) (state S.Store tx.old.conn.now) (state S.Store tx.new.conn.now)) }
     ensures stays { Stays (state S.Store tx.old.conn.now) (state S.Store tx.new.conn.now) }
 {
-    tx.execute(
+    match tx.execute(
         "INSERT INTO held VALUES (?1, ?2, ?3, 1)",
         &[
             ValueRef::Blob(row.schema),
             ValueRef::Blob(row.table),
             ValueRef::Blob(row.image),
         ],
-    )
+    ) {
+        Ok(_) => Ok(true),
+        Err(Error::SqliteFailure(ErrorCode::ConstraintViolation(Constraint::Unique))) => Ok(false),
+        Err(error) => Err(error),
+    }
 }
 
 /// Sets the count of a row.
@@ -111,21 +115,23 @@ pub(crate) fn update<S: Alter>(
     )
 }
 
-/// Deletes a row whose count is 1.
+/// Deletes a row if its count is 1, and returns whether it did.
 pub(crate) fn delete<S: Alter>(
     tx: &mut Transaction<'_, S>,
     row: &RowKey<'_>,
-) -> Result<usize, Error>
+) -> Result<bool, Error>
     ensures same_reference { tx.new.conn.ghost_name ≡ tx.old.conn.ghost_name }
-    ensures holds { HasCleanDisk (state S.Store tx.new.conn.now) → IsWorking (state S.Store tx.old.conn.now) → Finds (key_in row.now) (held_rows (state S.Store tx.old.conn.now).now) (Some 1) → OnOk result (HasCounts (state S.Store tx.old.conn.now) (state S.Store tx.new.conn.now) (without_one (key_in row.now) (count (held_rows (state S.Store tx.old.conn.now).now)))) }
+    ensures deletes { HasCleanDisk (state S.Store tx.new.conn.now) → IsWorking (state S.Store tx.old.conn.now) → IfOk result (Deletes (key_in row.now) (state S.Store tx.old.conn.now) (state S.Store tx.new.conn.now)) }
     ensures stays { Stays (state S.Store tx.old.conn.now) (state S.Store tx.new.conn.now) }
 {
-    tx.execute(
-        "DELETE FROM held WHERE schema_name = ?1 AND table_name = ?2 AND image = ?3",
+    let deleted = tx.execute(
+        "DELETE FROM held WHERE schema_name = ?1 AND table_name = ?2 AND image = ?3 AND n = ?4",
         &[
             ValueRef::Blob(row.schema),
             ValueRef::Blob(row.table),
             ValueRef::Blob(row.image),
+            ValueRef::Int(1),
         ],
-    )
+    )?;
+    Ok(deleted > 0)
 }

@@ -1,6 +1,6 @@
 //! Row changes, inside a transaction.
 
-ghost use Rattle.std.specs.Prelude.{◌≡◌, IfOk};
+ghost use Rattle.std.specs.Prelude.{◌≡◌, ◌≢◌, IfOk};
 ghost use Rattle.sqlite.specs.State.{HasCleanDisk};
 ghost use Rattle.sqlite.specs.Held.{state};
 ghost use Rattle.gather.specs.Image.{IsSomeImage};
@@ -25,6 +25,25 @@ pub enum Refusal {
     CountFull,
 }
 
+/// Adds one more copy of a row that is there.
+fn raise<S: Alter>(
+    tx: &mut Transaction<'_, S>,
+    row: &RowKey<'_>,
+) -> Result<Option<Refusal>, Error>
+    ensures same_reference { tx.new.conn.ghost_name ≡ tx.old.conn.ghost_name }
+    ensures counted { HasCleanDisk (state S.Store tx.new.conn.now) → IsWorking (state S.Store tx.old.conn.now) → IfOk result (Counted (state S.Store tx.old.conn.now) (state S.Store tx.new.conn.now) (added (key_in row.now) (count (held_rows (state S.Store tx.old.conn.now).now)))) }
+    ensures stays { Stays (state S.Store tx.old.conn.now) (state S.Store tx.new.conn.now) }
+{
+    let Some(n) = read(tx, row)? else {
+        return Err(Error::InvalidQuery);
+    };
+    if n >= MOST {
+        return Ok(Some(Refusal::CountFull));
+    }
+    update(tx, row, (n + 1) as i64)?;
+    Ok(None)
+}
+
 /// Adds one copy of a row.
 pub(crate) fn add<S: Alter>(
     tx: &mut Transaction<'_, S>,
@@ -34,14 +53,28 @@ pub(crate) fn add<S: Alter>(
     ensures counted { HasCleanDisk (state S.Store tx.new.conn.now) → IsWorking (state S.Store tx.old.conn.now) → IsSomeImage row.now.image.now → IfOk result (Counted (state S.Store tx.old.conn.now) (state S.Store tx.new.conn.now) (added (key_in row.now) (count (held_rows (state S.Store tx.old.conn.now).now)))) }
     ensures stays { Stays (state S.Store tx.old.conn.now) (state S.Store tx.new.conn.now) }
 {
-    let Some(n) = read(tx, row)? else {
-        insert(tx, row)?;
+    if insert(tx, row)? {
         return Ok(None);
-    };
-    if n >= MOST {
-        return Ok(Some(Refusal::CountFull));
     }
-    update(tx, row, (n + 1) as i64)?;
+    raise(tx, row)
+}
+
+/// Removes one of several copies of a row.
+fn lower<S: Alter>(
+    tx: &mut Transaction<'_, S>,
+    row: &RowKey<'_>,
+) -> Result<Option<Refusal>, Error>
+    ensures same_reference { tx.new.conn.ghost_name ≡ tx.old.conn.ghost_name }
+    ensures counted { HasCleanDisk (state S.Store tx.new.conn.now) → IsWorking (state S.Store tx.old.conn.now) → count (held_rows (state S.Store tx.old.conn.now).now) (key_in row.now) ≢ 1 → IfOk result (Counted (state S.Store tx.old.conn.now) (state S.Store tx.new.conn.now) (removed (key_in row.now) (count (held_rows (state S.Store tx.old.conn.now).now)))) }
+    ensures stays { Stays (state S.Store tx.old.conn.now) (state S.Store tx.new.conn.now) }
+{
+    let Some(n) = read(tx, row)? else {
+        return Ok(Some(Refusal::NoSuchRow));
+    };
+    if n == 0 {
+        return Ok(Some(Refusal::NoSuchRow));
+    }
+    update(tx, row, (n - 1) as i64)?;
     Ok(None)
 }
 
@@ -54,18 +87,10 @@ pub(crate) fn remove<S: Alter>(
     ensures counted { HasCleanDisk (state S.Store tx.new.conn.now) → IsWorking (state S.Store tx.old.conn.now) → IfOk result (Counted (state S.Store tx.old.conn.now) (state S.Store tx.new.conn.now) (removed (key_in row.now) (count (held_rows (state S.Store tx.old.conn.now).now)))) }
     ensures stays { Stays (state S.Store tx.old.conn.now) (state S.Store tx.new.conn.now) }
 {
-    let Some(n) = read(tx, row)? else {
-        return Ok(Some(Refusal::NoSuchRow));
-    };
-    if n == 0 {
-        return Ok(Some(Refusal::NoSuchRow));
-    }
-    if n == 1 {
-        delete(tx, row)?;
+    if delete(tx, row)? {
         return Ok(None);
     }
-    update(tx, row, (n - 1) as i64)?;
-    Ok(None)
+    lower(tx, row)
 }
 
 /// Adds one copy of a row of a table.

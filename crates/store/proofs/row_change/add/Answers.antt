@@ -1,37 +1,27 @@
-use Rattle.std.proofs.Common.{◌+◌, Some, None, arith, w64}
-use Rattle.std.proofs.lemmas.Int.{to_z_pos}
+use Rattle.std.proofs.Common.{arith}
 use Rattle.sqlite.specs.State.{HasCleanDisk, IsUnchanged}
 use Rattle.sqlite.specs.Held.{state}
-use Rattle.store.specs.Rows.{key_in, Finds, held_rows}
-use Rattle.store.proofs.Made.{working_same, counted_added, counted_full, counted_none, counted_some, found_mid}
+use Rattle.store.specs.Rows.{key_in}
+use Rattle.store.proofs.Keeps.{stays_then}
+use Rattle.store.proofs.Made.{working_same, counted_new, counted_since}
 use Rattle.store.proofs.row_change.add.Goals as goal
 
-pub returns-in_default-clause-counted : goal.returns-in_default-clause-counted
-returns-in_default-clause-counted g c clean was stored =
-    let old = state g.S.Store c.args.tx.now.conn.now in
-    let mid = state g.S.Store c.read.new.tx.conn.now in
-    let new = state g.S.Store c.insert.new.tx.conn.now in
-    let key = key_in c.args.row.now in
-    let early : HasCleanDisk mid = omega (arith, c.insert.ensures.stays.survives.clean) in
-    let same : IsUnchanged old mid = c.in_ok-n.ensures.same early was in
-    let found : Finds key (held_rows old.now) None = rw c.in_default.is at (c.in_ok-n.ensures.found early was) in
-    counted_added old mid new key same 0 (counted_none key _ found) (omega arith) (c.in_ok-insert.ensures.holds clean (working_same old mid same was) stored)
-
-pub returns-then-n-ge-MOST-clause-counted : goal.returns-then-n-ge-MOST-clause-counted
-returns-then-n-ge-MOST-clause-counted g c clean was stored =
-    let key = key_in c.args.row.now in
-    counted_full (state g.S.Store c.args.tx.now.conn.now) (state g.S.Store c.read.new.tx.conn.now) key c.in-Some.n
-    (counted_some key _ c.in-Some.n (rw c.in-Some.is at (c.in_ok-n.ensures.found clean was))) c.if-n-ge-MOST.true
+pub returns-then-branch-clause-counted : goal.returns-then-branch-clause-counted
+returns-then-branch-clause-counted g c clean was stored =
+    let it = (rw c.if-branch.true at (c.in_ok-insert.ensures.inserts clean was)) stored in
+    counted_new (state g.S.Store c.args.tx.now.conn.now) (state g.S.Store c.insert.new.tx.conn.now) (key_in c.args.row.now) it.0 it.1
 
 pub returns-clause-counted : goal.returns-clause-counted
 returns-clause-counted g c clean was stored =
     let old = state g.S.Store c.args.tx.now.conn.now in
-    let mid = state g.S.Store c.read.new.tx.conn.now in
-    let new = state g.S.Store c.update.new.tx.conn.now in
-    let key = key_in c.args.row.now in
-    let n = c.in-Some.n in
-    let early : HasCleanDisk mid = omega (arith, c.update.ensures.stays.survives.clean) in
-    let same : IsUnchanged old mid = c.in_ok-n.ensures.same early was in
-    let found : Finds key (held_rows old.now) (Some n) = rw c.in-Some.is at (c.in_ok-n.ensures.found early was) in
-    counted_added old mid new key same n (counted_some key _ n found) (omega arith)
-    (c.in_ok-update.ensures.raised clean (working_same old mid same was) n (omega arith) (found_mid old mid new key same (Some n) found) (to_z_pos w64 (n + 1) (omega arith)))
+    let mid = state g.S.Store c.insert.new.tx.conn.now in
+    let early : HasCleanDisk mid = omega (arith, c.raise.ensures.stays.survives.clean) in
+    let same : IsUnchanged old mid = rw c.if-branch.false at (c.in_ok-insert.ensures.inserts early was) in
+    counted_since old mid (state g.S.Store c.raise.new.tx.conn.now) (key_in c.args.row.now) c.raise.result same (c.raise.ensures.counted clean (working_same old mid same was))
+
+pub returns-clause-stays : goal.returns-clause-stays
+returns-clause-stays g c =
+    let old = state g.S.Store c.args.tx.now.conn.now in
+    let mid = state g.S.Store c.insert.new.tx.conn.now in
+    stays_then old mid (state g.S.Store c.raise.new.tx.conn.now) c.in_ok-insert.ensures.stays
+    (λ early was. let same : IsUnchanged old mid = rw c.if-branch.false at (c.in_ok-insert.ensures.inserts early was) in working_same old mid same was) c.raise.ensures.stays

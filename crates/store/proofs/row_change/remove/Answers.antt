@@ -1,49 +1,29 @@
-use Rattle.std.proofs.Common.{◌≡◌, ◌+◌, ◌-◌, ◌<◌, Some, None, subst, ◌∙◌, ◌^◌, arith, w64}
-use Rattle.std.proofs.lemmas.Int.{to_z_pos}
-use Rattle.sqlite.specs.State.{HasCleanDisk, IsUnchanged}
+use Rattle.std.proofs.Common.{◌≢◌, sym, ap, ◌∙◌, arith}
+use Rattle.sqlite.specs.State.{HasCleanDisk}
 use Rattle.sqlite.specs.Held.{state}
-use Rattle.store.specs.Rows.{key_in, Finds, held_rows}
-use Rattle.store.proofs.Made.{working_same, counted_removed, counted_missing, counted_none, counted_some, found_mid}
+use Rattle.store.specs.Rows.{key_in, held_rows, count}
+use Rattle.store.specs.Inside.{HasCounts}
+use Rattle.store.proofs.Keeps.{stays_then}
+use Rattle.store.proofs.Made.{counted_one, counted_left}
 use Rattle.store.proofs.row_change.remove.Goals as goal
 
-pub returns-in_default-clause-counted : goal.returns-in_default-clause-counted
-returns-in_default-clause-counted g c clean was =
-    let key = key_in c.args.row.now in
-    let old = state g.S.Store c.args.tx.now.conn.now in
-    let found : Finds key (held_rows old.now) None = rw c.in_default.is at (c.in_ok-n.ensures.found clean was) in
-    counted_missing old (state g.S.Store c.read.new.tx.conn.now) key (counted_none key _ found)
-
-pub returns-then-n-eq0-clause-counted : goal.returns-then-n-eq0-clause-counted
-returns-then-n-eq0-clause-counted g c clean was =
-    let key = key_in c.args.row.now in
-    let old = state g.S.Store c.args.tx.now.conn.now in
-    let found : Finds key (held_rows old.now) (Some c.in-Some.n) = rw c.in-Some.is at (c.in_ok-n.ensures.found clean was) in
-    counted_missing old (state g.S.Store c.read.new.tx.conn.now) key (counted_some key _ c.in-Some.n found ∙ c.if-n-eq0.true)
-
-pub returns-then-n-eq1-clause-counted : goal.returns-then-n-eq1-clause-counted
-returns-then-n-eq1-clause-counted g c clean was =
-    let old = state g.S.Store c.args.tx.now.conn.now in
-    let mid = state g.S.Store c.read.new.tx.conn.now in
-    let new = state g.S.Store c.delete.new.tx.conn.now in
-    let key = key_in c.args.row.now in
-    let early : HasCleanDisk mid = omega (arith, c.delete.ensures.stays.survives.clean) in
-    let same : IsUnchanged old mid = c.in_ok-n.ensures.same early was in
-    let some : Finds key (held_rows old.now) (Some c.in-Some.n) = rw c.in-Some.is at (c.in_ok-n.ensures.found early was) in
-    let found : Finds key (held_rows old.now) (Some 1) = subst (λ n. Finds key (held_rows old.now) (Some n)) c.if-n-eq1.true some in
-    counted_removed old mid new key same 1 (counted_some key _ 1 found) (omega arith)
-    (c.in_ok-delete.ensures.holds clean (working_same old mid same was) (found_mid old mid new key same (Some 1) found))
+pub returns-then-branch-clause-counted : goal.returns-then-branch-clause-counted
+returns-then-branch-clause-counted g c clean was =
+    let it = rw c.if-branch.true at (c.in_ok-delete.ensures.deletes clean was) in
+    counted_one (state g.S.Store c.args.tx.now.conn.now) (state g.S.Store c.delete.new.tx.conn.now) (key_in c.args.row.now) it.0 it.1
 
 pub returns-clause-counted : goal.returns-clause-counted
 returns-clause-counted g c clean was =
     let old = state g.S.Store c.args.tx.now.conn.now in
-    let mid = state g.S.Store c.read.new.tx.conn.now in
-    let new = state g.S.Store c.update.new.tx.conn.now in
+    let mid = state g.S.Store c.delete.new.tx.conn.now in
     let key = key_in c.args.row.now in
-    let n = c.in-Some.n in
-    let early : HasCleanDisk mid = omega (arith, c.update.ensures.stays.survives.clean) in
-    let same : IsUnchanged old mid = c.in_ok-n.ensures.same early was in
-    let some : Finds key (held_rows old.now) (Some n) = rw c.in-Some.is at (c.in_ok-n.ensures.found early was) in
-    let more : n ≡ (n - 1) + 1 = omega arith in
-    let found : Finds key (held_rows old.now) (Some ((n - 1) + 1)) = subst (λ m. Finds key (held_rows old.now) (Some m)) more some in
-    counted_removed old mid new key same n (counted_some key _ n some) (omega arith)
-    (c.in_ok-update.ensures.lowered clean (working_same old mid same was) (n - 1) (omega arith) (let low : n < 2 ^ 63 = rw c.in-Some.is at c.in_ok-n.ensures.fits in omega arith) (found_mid old mid new key same (Some ((n - 1) + 1)) found) (to_z_pos w64 (n - 1) (let low : n < 2 ^ 63 = rw c.in-Some.is at c.in_ok-n.ensures.fits in omega arith)))
+    let early : HasCleanDisk mid = omega (arith, c.lower.ensures.stays.survives.clean) in
+    let left : (count (held_rows old.now) key ≢ 1) × HasCounts old mid (count (held_rows old.now)) = rw c.if-branch.false at (c.in_ok-delete.ensures.deletes early was) in
+    counted_left old mid (state g.S.Store c.lower.new.tx.conn.now) key c.lower.result left.1 (c.lower.ensures.counted clean left.1.on.working (λ one. left.0 (ap (λ f. f key) (sym left.1.counts_are) ∙ one)))
+
+pub returns-clause-stays : goal.returns-clause-stays
+returns-clause-stays g c =
+    let old = state g.S.Store c.args.tx.now.conn.now in
+    let mid = state g.S.Store c.delete.new.tx.conn.now in
+    stays_then old mid (state g.S.Store c.lower.new.tx.conn.now) c.in_ok-delete.ensures.stays
+    (λ early was. let left : (count (held_rows old.now) (key_in c.args.row.now) ≢ 1) × HasCounts old mid (count (held_rows old.now)) = rw c.if-branch.false at (c.in_ok-delete.ensures.deletes early was) in left.1.on.working) c.lower.ensures.stays
