@@ -131,6 +131,7 @@ impl Changes {
         requires { HasImages (pair_value pair.now) }
         ensures ok { (id : ℕ) → OnOk result (self.new ≡ self.old ++ change_of (table_of id table.now) (pair_value pair.now) ∷ []) }
         ensures err { OnErr result (result ≡ Err GatherFault.Memory) }
+        ensures gone { OnErr result (self.new ≡ []) }
     {
         let pushed = push_pair(table, pair, &mut self.entries, &mut self.images);
         if pushed.is_err() {

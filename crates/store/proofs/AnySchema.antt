@@ -36,7 +36,7 @@ use Rattle.sqlite_resolve.specs.Compile.{first, compiled, with_command}
 use Rattle.sqlite_tied.specs.Compute.{everything}
 use Rattle.sqlite.specs.Listing.{understood, reads_listing}
 use Rattle.sqlite.proofs.Callers.{IsPlain, command_of}
-use Rattle.store.specs.Layout.{required, held, spans, read_text, insert_text, update_text, delete_text, add_span_text, drop_span_text, equals, has_key, has_count, has_start, read_query, delete_query, update_query, insert_terms, add_span_terms, drop_span_query}
+use Rattle.store.specs.Layout.{required, held, spans, read_text, insert_text, update_text, delete_text, add_span_text, drop_span_text, set_end_text, equals, has_key, has_count, has_start, read_query, delete_query, update_query, insert_terms, add_span_terms, drop_span_query, set_end_query}
 use Rattle.store.specs.Layout.{IsFound}
 use Rattle.store.proofs.Compiling.{written_trees, only_over, only_bound, after_reading, less, stands_for_column, Compares, compares, is_given, Field, IsField, written_columns, with_outputs, outputs_are, tests_are, lowered_both, lowered_all, lowered_four, from_table, IsOver, IsOrdered, drafted, program_is, query_is, compiled_select, compiled_insert, compiled_update, compiled_delete, understood_as}
 
@@ -126,6 +126,16 @@ drop_span_parsed = record { statement = written.Delete (codes "spans") (Some sta
 drop_span_parses : first drop_span_text ≡ Ok drop_span_parsed
 unfolding everything
 drop_span_parses = refl
+
+abbrev set_hi : List (Name × Expr)
+set_hi = (codes "hi", e.Parameter 3) ∷ []
+
+abbrev set_end_parsed : Parsed
+set_end_parsed = record { statement = written.Update (codes "spans") set_hi (Some start_test) []; names = names_of_three; formats = []; start = 0; end = 54; tail = 54 }
+
+set_end_parses : first set_end_text ≡ Ok set_end_parsed
+unfolding everything
+set_end_parses = refl
 
 -- ---- Statements on one row of held.
 
@@ -259,10 +269,10 @@ module _ (schema : Schema) (at tree : ℕ) (f : IsFound schema at (record spans 
   unfolding same_name converted may_be_text is_parameter
   start_is = compares schema at spans_table f.by_index (codes "spans") [] false (codes "lo") 1 2 (required (codes "lo") Integer) refl refl refl
 
-  start_tests : tests lower over_spans [] (Some start_test) (after_reading 2 100000 nothing) ≡ Ok (has_start, after_reading 2 99993 nothing)
-  start_tests =
-      tests_are over_spans start_test _ (after_reading 2 100000 nothing) (after_reading 2 99993 nothing)
-      (lowered_both over_spans (codes "source") (codes "lo") (equals 1 0) (op2 (Compare Eq Binary) (col 1 2) (op1 ToNumeric (col 0 1))) source_is start_is 2 100000 nothing 697 (omega arith))
+  start_tests : (budget : ℕ) → 7 < budget → tests lower over_spans [] (Some start_test) (after_reading 2 budget nothing) ≡ Ok (has_start, after_reading 2 (less 7 budget) nothing)
+  start_tests budget enough =
+      tests_are over_spans start_test _ (after_reading 2 budget nothing) (after_reading 2 (less 7 budget) nothing)
+      (lowered_both over_spans (codes "source") (codes "lo") (equals 1 0) (op2 (Compare Eq Binary) (col 1 2) (op1 ToNumeric (col 0 1))) source_is start_is 2 budget nothing 697 enough)
 
   add_span_row : inserted schema spans_table 3 [] (rows.Values added_row) ≡ Ok (new.Values add_span_terms)
   unfolding everything
@@ -283,10 +293,34 @@ module _ (schema : Schema) (at tree : ℕ) (f : IsFound schema at (record spans 
   drop_span_means =
       means schema drop_span_text _
       (compiled_delete schema (codes "spans") at spans_table f.by_name f.by_index (Some start_test) has_start 100000 99993 nothing nothing drop_span_text drop_span_parsed (drop_span_query tree) drop_span_parses refl refl refl refl
-      start_tests (program_is schema at spans_table f has_start (col 1 0 ∷ []) [] refl refl refl))
+      (start_tests 100000 (omega arith)) (program_is schema at spans_table f has_start (col 1 0 ∷ []) [] refl refl refl))
 
   pub drop_span_is : command_of (understood schema drop_span_text) ≡ Delete at (record { lets = []; body = drop_span_query tree })
   drop_span_is = ap command_of drop_span_means.is
 
   pub drop_span_plain : IsPlain (understood schema drop_span_text)
   drop_span_plain = rw (drop_span_means.is) (refl, refl)
+
+  -- the old rowid, and then the new row
+  abbrev longer_row : List Term
+  longer_row = col 1 0 ∷ col 1 0 ∷ col 1 1 ∷ col 1 2 ∷ col 0 2 ∷ []
+
+  set_end_assigns : assigned over_spans spans_table set_hi (after_reading 2 100000 nothing) ≡ Ok ((3 ∷ [], col 0 2 ∷ []), after_reading 2 99999 nothing)
+  unfolding everything
+  set_end_assigns = refl
+
+  set_end_row : row spans_table None (3 ∷ []) (col 1 0 ∷ []) (col 0 2 ∷ []) ≡ Ok longer_row
+  unfolding everything
+  set_end_row = refl
+
+  set_end_means : Means schema set_end_text (with_command set_end_parsed ([], (Update at (record { lets = []; body = set_end_query tree }), None)))
+  set_end_means =
+      means schema set_end_text _
+      (compiled_update schema (codes "spans") at spans_table f.by_name f.by_index (Some start_test) has_start 99999 99992 nothing nothing set_hi (3 ∷ []) (col 0 2 ∷ []) longer_row (set_end_query tree) set_end_assigns set_end_row
+      (start_tests 99999 (omega arith)) set_end_text set_end_parsed set_end_parses refl refl (program_is schema at spans_table f has_start longer_row [] refl refl refl))
+
+  pub set_end_is : command_of (understood schema set_end_text) ≡ Update at (record { lets = []; body = set_end_query tree })
+  set_end_is = ap command_of set_end_means.is
+
+  pub set_end_plain : IsPlain (understood schema set_end_text)
+  set_end_plain = rw (set_end_means.is) (refl, refl)

@@ -58,8 +58,8 @@ numeric_int : (n : ℤ) → unary ToNumeric (Int n) ≡ Int n
 unfolding unary
 numeric_int n = refl
 
-pub start_holds : (source : List ℕ) (n : ℤ) (row : Row) → list_all (holds ((Blob source ∷ Int n ∷ []) ∷ row ∷ [])) has_start ≡ begins_at source n (shown_span row)
-start_holds source n row =
+pub start_holds : (source : List ℕ) (n : ℤ) (more row : Row) → list_all (holds ((Blob source ∷ Int n ∷ more) ∷ row ∷ [])) has_start ≡ begins_at source n (shown_span row)
+start_holds source n more row =
     rw (numeric_int n, equals_blob (column row 1) source, equals_int (column row 2) n)
     (ap (λ b. is_blob source (column row 1) && b) (and-true (is_eq (value_cmp (column row 2) (Int n)))))
 

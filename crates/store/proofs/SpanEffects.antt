@@ -1,14 +1,13 @@
 -- What each call on one row of spans does, where it succeeds.
-use Rattle.std.proofs.Common.{◌≡◌, inl, ℕ, ℤ, List, [], ◌∷◌, map, filter, codes, not, Bool, true, false, cond, Ok, Err, Result, OnOk, refl, sym, ap, subst, ◌∙◌}
+use Rattle.std.proofs.Common.{◌≡◌, inl, ℕ, ℤ, List, [], ◌∷◌, map, filter, codes, not, Bool, true, false, cond, Ok, Err, Result, OnOk, refl, sym, ap, ap₂, subst, ◌∙◌}
 use Rattle.std.specs.List.{AllByRecursion}
 use Rattle.std.specs.List.Sorted.{IsPermutation}
-use Rattle.std.proofs.lemmas.List.Sorted.{IsPermutation-map}
+use Rattle.std.proofs.lemmas.List.Sorted.{IsPermutation-map, IsPermutation-cons, IsPermutation-trans}
 use Rattle.std.specs.Ordering.{is_eq}
 use Rattle.sqlite_trees.proofs.ListLemmas.{IsPermutation-filter}
 use Rattle.sqlite_value.specs.declared.value.Value.TheVariants.{Null, Int, Blob}
 use Rattle.sqlite_value.specs.Order.{Row, column, value_cmp}
 use Rattle.sqlite_trees.specs.Tree.{rowid, put_row, without_rowid, has_rowid}
-use Rattle.sqlite_rules.specs.Lists.{Has}
 use Rattle.sqlite_rules.specs.Edit.{Edit, edit_of, next_rowid, are_fresh, is_taken, id_in, put_all, without_all}
 use Rattle.sqlite_rules.specs.Calls.{ids_of}
 use Rattle.sqlite_rules.specs.declared.error.Rowids.TheVariants.{Chosen, Given}
@@ -17,10 +16,10 @@ use Rattle.sqlite_schema.specs.declared.schema.Schema.{Schema}
 use Rattle.sqlite.specs.declared.error.Error.{Error}
 use Rattle.sqlite.specs.State.{State, ExecutesInside}
 use Rattle.sqlite.proofs.Callers.{one_permutation}
-use Rattle.store.specs.Layout.{IsLaidOut, meta_at, held_at, spans_at, follow_at, spans_tree, add_span_text, drop_span_text}
+use Rattle.store.specs.Layout.{IsLaidOut, meta_at, held_at, spans_at, follow_at, spans_tree, add_span_text, drop_span_text, set_end_text}
 use Rattle.store.specs.Rows.{IsHeldRow, HasRowids, held_rows, span_rows, shown_span, shown_spans, begins_at}
 use Rattle.store.specs.Inside.{IsWorking, GoesOn, Moves, Begins}
-use Rattle.store.proofs.Statements.{Applied, cast_null, cast_int, adds_span, drops_span}
+use Rattle.store.proofs.Statements.{Applied, cast_null, cast_int, adds_span, drops_span, sets_end}
 use Rattle.store.proofs.RowLemmas.{rowids_put, rowids_without, left_is, put_among}
 use Rattle.store.proofs.Effects.{fresh_alone, keyed_row, own_id, same_rows, stays, still_beside, meta_spans, held_spans, follow_spans}
 use Rattle.store.proofs.Spared.{own_spans}
@@ -43,14 +42,14 @@ all_pass : (p : Row → Bool) (rows : List Row) → AllByRecursion (λ r. p r �
 all_pass p [] all = refl
 all_pass p (x ∷ rows) all = rw (all.0, all_pass p rows all.1)
 
-one_mapped : (f : Row → Row) (rows : List Row) (y : Row) → map f rows ≡ y ∷ [] → (r : Row) × (rows ≡ r ∷ [])
+one_mapped : (f : Row → Row) (rows : List Row) (y : Row) → map f rows ≡ y ∷ [] → (r : Row) × (rows ≡ r ∷ []) × (f r ≡ y)
 one_mapped f [] y h = absurd (cc)
-one_mapped f (x ∷ []) y h = (x, refl)
+one_mapped f (x ∷ []) y h = (x, refl, cc)
 one_mapped f (x ∷ z ∷ rows) y h = absurd (cc)
 
 module _ (source : List ℕ) (lo : ℤ) (rows : List Row) (span : Row) (others : List Row) (h : Begins source lo (shown_spans rows) span others) where
   -- one row begins there
-  one_begins : (r : Row) × (filter (λ r. begins_at source lo (shown_span r)) rows ≡ r ∷ [])
+  one_begins : (r : Row) × (filter (λ r. begins_at source lo (shown_span r)) rows ≡ r ∷ []) × (shown_span r ≡ span)
   one_begins =
       let p = begins_at source lo in
       let alone : filter p (span ∷ others) ≡ span ∷ [] = rw (h.begins, none_pass p others h.apart) refl in
@@ -126,25 +125,68 @@ module _ (old new : State) (was : IsWorking old) where
         stored = subst (λ l. IsPermutation ((Blob source ∷ Int lo ∷ Int hi ∷ []) ∷ shown_spans rows) (shown_spans l)) (sym (rows_new _ h ∙ is)) among;
       }
 
-  moves_dropped : (source : List ℕ) (lo : ℤ) (span : Row) (others answer : List Row) → Begins source lo (shown_spans (span_rows old.now)) span others
-      → IsPermutation (map (λ r. column r 0 ∷ []) (filter (λ r. begins_at source lo (shown_span r)) rows)) answer
-      → Applied schema old new (edit_of old.now.trees (spans_at schema) (ids_of answer) Given 0 []) → Moves old new others
-  moves_dropped source lo span others answer begins same h =
-      let one = one_begins source lo rows span others begins in
-      let p : Row → Bool = λ r. begins_at source lo (shown_span r) in
-      let r = one.0 in
-      let id = id_in (rowid r) in
-      let has : Has rows r = (has_filtered p rows r (rw one.1 (inl refl))).0 in
-      let keyed = keyed_row rows r shaped_old has in
-      let at_id : has_rowid id r ≡ true = ap (λ v. is_eq (value_cmp v (Int id))) keyed ∙ own_id id in
-      let one_row : answer ≡ (column r 0 ∷ []) ∷ [] = one_permutation _ answer (subst (λ l. IsPermutation (map (λ r. column r 0 ∷ []) l) answer) one.1 same) in
-      let is : new.now.trees (spans_tree schema) ≡ without_rowid id rows = h.step.rows ∙ ap (λ l. without_all rows (ids_of l)) one_row in
-      let left : new.now.trees (spans_tree schema) ≡ filter (λ r. not (begins_at source lo (shown_span r))) rows = is ∙ left_is p id r rows shaped_old.apart one.1 at_id in
-      record {
-        on = goes_on _ h refl (rw is (rowids_without id rows shaped_old));
-        held = held_stays _ h refl;
-        stored = subst (λ l. IsPermutation others (shown_spans l)) (sym (rows_new _ h ∙ left)) (others_left source lo rows span others begins);
-      }
+  -- ---- the row of a span that begins there
+  module _ (source : List ℕ) (lo : ℤ) (span : Row) (others : List Row) (begins : Begins source lo (shown_spans (span_rows old.now)) span others) where
+    abbrev r : Row
+    r = (one_begins source lo rows span others begins).0
+
+    abbrev id : ℤ
+    id = id_in (rowid r)
+
+    found : filter (λ r. begins_at source lo (shown_span r)) rows ≡ r ∷ []
+    found = (one_begins source lo rows span others begins).1
+
+    shown : shown_span r ≡ span
+    shown = (one_begins source lo rows span others begins).2
+
+    keyed : rowid r ≡ Int id
+    keyed = keyed_row rows r shaped_old (has_filtered (λ r. begins_at source lo (shown_span r)) rows r (rw found (inl refl))).0
+
+    others_are : IsPermutation others (shown_spans (without_rowid id rows))
+    others_are =
+        let at_id : has_rowid id r ≡ true = ap (λ v. is_eq (value_cmp v (Int id))) keyed ∙ own_id id in
+        subst (λ l. IsPermutation others (shown_spans l)) (sym (left_is (λ r. begins_at source lo (shown_span r)) id r rows shaped_old.apart found at_id)) (others_left source lo rows span others begins)
+
+    moves_dropped : (answer : List Row) → IsPermutation (map (λ r. column r 0 ∷ []) (filter (λ r. begins_at source lo (shown_span r)) rows)) answer
+        → Applied schema old new (edit_of old.now.trees (spans_at schema) (ids_of answer) Given 0 []) → Moves old new others
+    moves_dropped answer same h =
+        let one_row : answer ≡ (column r 0 ∷ []) ∷ [] = one_permutation _ answer (subst (λ l. IsPermutation (map (λ r. column r 0 ∷ []) l) answer) found same) in
+        let is : new.now.trees (spans_tree schema) ≡ without_rowid id rows = h.step.rows ∙ ap (λ l. without_all rows (ids_of l)) one_row in
+        record {
+          on = goes_on _ h refl (rw is (rowids_without id rows shaped_old));
+          held = held_stays _ h refl;
+          stored = subst (λ l. IsPermutation others (shown_spans l)) (sym (rows_new _ h ∙ is)) others_are;
+        }
+
+    -- the row that is put in its place
+    abbrev set_row : ℤ → Row
+    set_row hi = Int id ∷ Blob source ∷ Int lo ∷ Int hi ∷ []
+
+    news_set : (end hi : ℤ) (answer : List Row) → span ≡ Blob source ∷ Int lo ∷ Int end ∷ [] → answer ≡ (column r 0 ∷ column r 0 ∷ column r 1 ∷ column r 2 ∷ Int hi ∷ []) ∷ []
+        → (edit_of old.now.trees (spans_at schema) (ids_of answer) Given 1 answer).news ≡ set_row hi ∷ []
+    news_set end hi answer is answer_is =
+        let cells = shown ∙ is in
+        rw (answer_is, keyed, ap (λ (c : Row). column c 0) cells, ap (λ (c : Row). column c 1) cells, cast_int id, cast_int lo, cast_int hi) refl
+
+    moves_set : (end hi : ℤ) (answer : List Row) → span ≡ Blob source ∷ Int lo ∷ Int end ∷ []
+        → IsPermutation (map (λ r. column r 0 ∷ column r 0 ∷ column r 1 ∷ column r 2 ∷ Int hi ∷ []) (filter (λ r. begins_at source lo (shown_span r)) rows)) answer
+        → Applied schema old new (edit_of old.now.trees (spans_at schema) (ids_of answer) Given 1 answer) → Moves old new ((Blob source ∷ Int lo ∷ Int hi ∷ []) ∷ others)
+    moves_set end hi answer is same h =
+        let row = set_row hi in
+        let rest = without_rowid id rows in
+        let one_row : answer ≡ (column r 0 ∷ column r 0 ∷ column r 1 ∷ column r 2 ∷ Int hi ∷ []) ∷ [] =
+        one_permutation _ answer (subst (λ l. IsPermutation (map (λ r. column r 0 ∷ column r 0 ∷ column r 1 ∷ column r 2 ∷ Int hi ∷ []) l) answer) found same) in
+        let news = news_set end hi answer is one_row in
+        let left : without_all rows (ids_of answer) ≡ rest = ap (λ l. without_all rows (ids_of l)) one_row in
+        let free : is_taken rest row ≡ false = fresh_alone rest row (ap₂ are_fresh (sym left) (sym news) ∙ h.step.fresh) in
+        let now : new.now.trees (spans_tree schema) ≡ put_row row rest = h.step.rows ∙ ap₂ put_all left news in
+        let among : IsPermutation (shown_spans (row ∷ rest)) (shown_spans (put_row row rest)) = IsPermutation-map shown_span (row ∷ rest) (put_row row rest) (put_among row rest free) in
+        record {
+          on = goes_on _ h refl (rw now (rowids_put row rest refl free (rowids_without id rows shaped_old)));
+          held = held_stays _ h refl;
+          stored = subst (λ l. IsPermutation ((Blob source ∷ Int lo ∷ Int hi ∷ []) ∷ others) (shown_spans l)) (sym (rows_new _ h ∙ now))
+              (IsPermutation-trans ((Blob source ∷ Int lo ∷ Int hi ∷ []) ∷ others) (shown_spans (row ∷ rest)) (shown_spans (put_row row rest)) (IsPermutation-cons (Blob source ∷ Int lo ∷ Int hi ∷ []) others (shown_spans rest) others_are) among);
+        }
 
   pub done_add : (source : List ℕ) (lo hi : ℤ) (r : Result ℕ Error) → ExecutesInside 0 add_span_text (Blob source ∷ Int lo ∷ Int hi ∷ []) old new r
       → OnOk r (Moves old new ((Blob source ∷ Int lo ∷ Int hi ∷ []) ∷ shown_spans (span_rows old.now)))
@@ -155,8 +197,15 @@ module _ (old new : State) (was : IsWorking old) where
       → ExecutesInside 0 drop_span_text (Blob source ∷ Int lo ∷ []) old new r → OnOk r (Moves old new others)
   done_drop source lo span others (Ok n) begins h =
       let it = drops_span schema l old new refl l.spans_free source lo n h.0 in
-      moves_dropped source lo span others it.0 begins it.1 it.2
+      moves_dropped source lo span others begins it.0 it.1 it.2
   done_drop source lo span others (Err e) begins h = tt
+
+  pub done_set : (source : List ℕ) (lo end hi : ℤ) (others : List Row) (r : Result ℕ Error) → Begins source lo (shown_spans (span_rows old.now)) (Blob source ∷ Int lo ∷ Int end ∷ []) others
+      → ExecutesInside 0 set_end_text (Blob source ∷ Int lo ∷ Int hi ∷ []) old new r → OnOk r (Moves old new ((Blob source ∷ Int lo ∷ Int hi ∷ []) ∷ others))
+  done_set source lo end hi others (Ok n) begins h =
+      let it = sets_end schema l old new refl l.spans_free source lo hi n h.0 in
+      moves_set source lo (Blob source ∷ Int lo ∷ Int end ∷ []) others begins end hi it.0 refl it.1 it.2
+  done_set source lo end hi others (Err e) begins h = tt
 
   -- whichever rows there were
   pub drop_goes : (source : List ℕ) (lo : ℤ) (r : Result ℕ Error) → ExecutesInside 0 drop_span_text (Blob source ∷ Int lo ∷ []) old new r → OnOk r (GoesOn old new)

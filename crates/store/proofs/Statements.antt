@@ -30,9 +30,9 @@ use Rattle.sqlite.specs.Does.{Tally, Does, OnTable, OnRows, WritesRows, AtPlace}
 use Rattle.sqlite.specs.Listing.{understood}
 use Rattle.sqlite.specs.State.{State, Writes, mode_of, Executes, Shown, IsUnchanged, Shows as Sees}
 use Rattle.sqlite.proofs.Callers.{command_of, statement_of, runs_as, reads_as, one_step, IsPlain}
-use Rattle.store.specs.Layout.{IsLaidOut, IsFound, IsApart, keyed, among, held_at, held_tree, read_text, insert_text, update_text, delete_text, has_key, has_count, read_query, insert_terms, spans_at, spans_tree, add_span_text, drop_span_text, has_start, add_span_terms}
+use Rattle.store.specs.Layout.{IsLaidOut, IsFound, IsApart, keyed, among, held_at, held_tree, read_text, insert_text, update_text, delete_text, has_key, has_count, read_query, insert_terms, spans_at, spans_tree, add_span_text, drop_span_text, set_end_text, has_start, add_span_terms}
 use Rattle.store.specs.Rows.{Key, is_at, has_n, begins_at, shown_span}
-use Rattle.store.proofs.AnySchema.{read_is, read_plain, insert_is, insert_plain, update_is, update_plain, delete_is, delete_plain, add_span_is, add_span_plain, drop_span_is, drop_span_plain}
+use Rattle.store.proofs.AnySchema.{read_is, read_plain, insert_is, insert_plain, update_is, update_plain, delete_is, delete_plain, add_span_is, add_span_plain, drop_span_is, drop_span_plain, set_end_is, set_end_plain}
 use Rattle.store.proofs.Selects.{key_params, key_holds, count_holds, start_holds, answers, stored_read}
 use Rattle.store.proofs.Works.{no_works}
 
@@ -203,13 +203,21 @@ module _ (schema : Schema) (l : IsLaidOut schema) where
         puts schema l.spans.at (spans_tree schema) _ _ _ _ spans_found add_span_text (Blob source ∷ Int lo ∷ Int hi ∷ []) (add_span_plain schema l.spans.at (spans_tree schema) spans_found) old new has count h
         add_span_terms 4 (add_span_is schema l.spans.at (spans_tree schema) spans_found)
 
-    pub drops_span : AllByRecursion (IsApart schema (spans_tree schema)) schema.tables → (source : List ℕ) (lo : ℤ) (count : ℕ) → Executes drop_span_text (Blob source ∷ Int lo ∷ []) old new (Ok count)
-        → (rows : List Row) × IsPermutation (map (λ r. column r 0 ∷ []) (filter (λ r. begins_at source lo (shown_span r)) (old.now.trees (spans_tree schema)))) rows
-        × Applied schema old new (edit_of old.now.trees (spans_at schema) (ids_of rows) Given 0 [])
-    drops_span free source lo count h =
-        let it = removes schema l.spans.at (spans_tree schema) _ _ _ _ spans_found drop_span_text (Blob source ∷ Int lo ∷ []) (drop_span_plain schema l.spans.at (spans_tree schema) spans_found) old new has count h
-            free has_start (col 1 0 ∷ []) (λ r. begins_at source lo (shown_span r)) (start_holds source lo) (drop_span_is schema l.spans.at (spans_tree schema) spans_found) in
-        (it.0, it.1, it.2)
+    module _ (free : AllByRecursion (IsApart schema (spans_tree schema)) schema.tables) where
+      pub drops_span : (source : List ℕ) (lo : ℤ) (count : ℕ) → Executes drop_span_text (Blob source ∷ Int lo ∷ []) old new (Ok count)
+          → (rows : List Row) × IsPermutation (map (λ r. column r 0 ∷ []) (filter (λ r. begins_at source lo (shown_span r)) (old.now.trees (spans_tree schema)))) rows
+          × Applied schema old new (edit_of old.now.trees (spans_at schema) (ids_of rows) Given 0 [])
+      drops_span source lo count h =
+          let it = removes schema l.spans.at (spans_tree schema) _ _ _ _ spans_found drop_span_text (Blob source ∷ Int lo ∷ []) (drop_span_plain schema l.spans.at (spans_tree schema) spans_found) old new has count h
+              free has_start (col 1 0 ∷ []) (λ r. begins_at source lo (shown_span r)) (start_holds source lo []) (drop_span_is schema l.spans.at (spans_tree schema) spans_found) in
+          (it.0, it.1, it.2)
+
+      pub sets_end : (source : List ℕ) (lo hi : ℤ) (count : ℕ) → Executes set_end_text (Blob source ∷ Int lo ∷ Int hi ∷ []) old new (Ok count)
+          → (rows : List Row) × IsPermutation (map (λ r. column r 0 ∷ column r 0 ∷ column r 1 ∷ column r 2 ∷ Int hi ∷ []) (filter (λ r. begins_at source lo (shown_span r)) (old.now.trees (spans_tree schema)))) rows
+          × Applied schema old new (edit_of old.now.trees (spans_at schema) (ids_of rows) Given 1 rows)
+      sets_end source lo hi count h =
+          changes schema l.spans.at (spans_tree schema) _ _ _ _ spans_found set_end_text (Blob source ∷ Int lo ∷ Int hi ∷ []) (set_end_plain schema l.spans.at (spans_tree schema) spans_found) old new has count h
+          free has_start (col 1 0 ∷ col 1 0 ∷ col 1 1 ∷ col 1 2 ∷ col 0 2 ∷ []) (λ r. begins_at source lo (shown_span r)) (start_holds source lo (Int hi ∷ [])) (set_end_is schema l.spans.at (spans_tree schema) spans_found)
 
     module _ (free : AllByRecursion (IsApart schema (held_tree schema)) schema.tables) where
       pub deletes : (key : Key) (n : ℤ) (count : ℕ) → Executes delete_text (key_params key (Int n ∷ [])) old new (Ok count)

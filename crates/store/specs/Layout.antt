@@ -202,6 +202,9 @@ add_span_text = codes "INSERT INTO spans VALUES (?1, ?2, ?3)"
 abbrev pub drop_span_text : List ℕ
 drop_span_text = codes "DELETE FROM spans WHERE source = ?1 AND lo = ?2"
 
+abbrev pub set_end_text : List ℕ
+set_end_text = codes "UPDATE spans SET hi = ?3 WHERE source = ?1 AND lo = ?2"
+
 -- ---- what they mean
 
 abbrev pub equals : ℕ → ℕ → Term
@@ -248,3 +251,6 @@ add_span_terms = lit Null ∷ col 0 0 ∷ col 0 1 ∷ col 0 2 ∷ []
 
 abbrev pub drop_span_query : ℕ → Query
 drop_span_query tree = among tree has_start (col 1 0 ∷ [])
+
+abbrev pub set_end_query : ℕ → Query
+set_end_query tree = among tree has_start (col 1 0 ∷ col 1 0 ∷ col 1 1 ∷ col 1 2 ∷ col 0 2 ∷ [])

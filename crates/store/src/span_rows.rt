@@ -1,6 +1,6 @@
 //! Statements on single rows of the table `spans`, inside a transaction.
 
-ghost use Rattle.std.specs.Prelude.{◌≡◌, ◌<◌, List, OnOk, IfSome, map, [], ◌∷◌, ◌++◌};
+ghost use Rattle.std.specs.Prelude.{◌≡◌, ◌<◌, ℤ, List, OnOk, IfSome, map, [], ◌∷◌, ◌++◌};
 ghost use Rattle.sqlite.specs.State.{HasCleanDisk};
 ghost use Rattle.sqlite.specs.Held.{state};
 ghost use Rattle.sqlite_value.specs.Order.{Row as Stored};
@@ -52,6 +52,23 @@ pub(crate) fn drop_span<S: Alter>(
     )
 }
 
+/// Sets the end of the span that begins at `lo`.
+fn set_end<S: Alter>(
+    tx: &mut Transaction<'_, S>,
+    source: &[u8],
+    lo: i64,
+    hi: i64,
+) -> Result<usize, Error>
+    ensures same_reference { tx.new.conn.ghost_name ≡ tx.old.conn.ghost_name }
+    ensures moves { HasCleanDisk (state S.Store tx.new.conn.now) → IsWorking (state S.Store tx.old.conn.now) → (end : ℤ) → (others : List Stored) → Begins source.now lo (shown_spans (span_rows (state S.Store tx.old.conn.now).now)) (Blob source.now ∷ Int lo ∷ Int end ∷ []) others → OnOk result (Moves (state S.Store tx.old.conn.now) (state S.Store tx.new.conn.now) ((Blob source.now ∷ Int lo ∷ Int hi ∷ []) ∷ others)) }
+    ensures stays { Stays (state S.Store tx.old.conn.now) (state S.Store tx.new.conn.now) }
+{
+    tx.execute(
+        "UPDATE spans SET hi = ?3 WHERE source = ?1 AND lo = ?2",
+        &[ValueRef::Blob(source), ValueRef::Int(lo), ValueRef::Int(hi)],
+    )
+}
+
 /// Deletes the span, if there is one.
 fn drop_neighbour<S: Alter>(
     tx: &mut Transaction<'_, S>,
@@ -84,7 +101,8 @@ fn are_bytes(bytes: &[u8])
     let _len = bytes.len();
 }
 
-/// Records a GTID: its number and its neighbours become one span.
+/// Records a GTID: its number and its neighbours become one span. The span below is made longer; where there is none,
+/// one is inserted.
 pub(crate) fn record<S: Alter>(
     tx: &mut Transaction<'_, S>,
     gtid: Gtid,
@@ -100,7 +118,9 @@ pub(crate) fn record<S: Alter>(
 {
     is_source(gtid.source);
     let span = beside.joined(gtid);
-    drop_neighbour(tx, beside.below)?;
     drop_neighbour(tx, beside.above)?;
-    add_span(tx, &span.source, span.lo as i64, span.hi as i64)
+    match beside.below {
+        Some(below) => set_end(tx, &below.source, below.lo as i64, span.hi as i64),
+        None => add_span(tx, &span.source, span.lo as i64, span.hi as i64),
+    }
 }
