@@ -209,7 +209,7 @@ module _ (schema : Schema) (l : IsLaidOut schema) where
           × Applied schema old new (edit_of old.now.trees (spans_at schema) (ids_of rows) Given 0 [])
       drops_span source lo count h =
           let it = removes schema l.spans.at (spans_tree schema) _ _ _ _ spans_found drop_span_text (Blob source ∷ Int lo ∷ []) (drop_span_plain schema l.spans.at (spans_tree schema) spans_found) old new has count h
-              free has_start (col 1 0 ∷ []) (λ r. begins_at source lo (shown_span r)) (start_holds source lo []) (drop_span_is schema l.spans.at (spans_tree schema) spans_found) in
+          free has_start (col 1 0 ∷ []) (λ r. begins_at source lo (shown_span r)) (start_holds source lo []) (drop_span_is schema l.spans.at (spans_tree schema) spans_found) in
           (it.0, it.1, it.2)
 
       pub sets_end : (source : List ℕ) (lo hi : ℤ) (count : ℕ) → Executes set_end_text (Blob source ∷ Int lo ∷ Int hi ∷ []) old new (Ok count)

@@ -61,8 +61,14 @@ module _ (key : Key) (row : Row) (at : is_at key row ≡ true) (keyed_so : IsTru
   agrees r =
       let first = and_parts _ _ at in
       let rest = and_parts _ _ first.1 in
-      rw (blob_is (column row 1) key.schema first.0, blob_is (column row 2) key.table rest.0, blob_is (column row 3) key.image rest.1, equals_blob (column r 1) key.schema, equals_blob (column r 2) key.table,
-          equals_blob (column r 3) key.image)
+      rw (
+        blob_is (column row 1) key.schema first.0,
+        blob_is (column row 2) key.table rest.0,
+        blob_is (column row 3) key.image rest.1,
+        equals_blob (column r 1) key.schema,
+        equals_blob (column r 2) key.table,
+        equals_blob (column r 3) key.image,
+      )
       (ap (λ b. is_blob key.schema (column r 1) && (is_blob key.table (column r 2) && b)) (and-true (is_blob key.image (column r 3))))
 
   differs : (n m : ℤ) → is_eq (value_cmp (Int n) (Int m)) ≡ false → differ (Int n) (Int m) ≡ true

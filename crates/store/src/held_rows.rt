@@ -71,10 +71,7 @@ pub(crate) fn read<S: Alter>(
 }
 
 /// Inserts a row with the count 1 if it is not there, and returns whether it did: the key of the table says so.
-pub(crate) fn insert<S: Alter>(
-    tx: &mut Transaction<'_, S>,
-    row: &RowKey<'_>,
-) -> Result<bool, Error>
+pub(crate) fn insert<S: Alter>(tx: &mut Transaction<'_, S>, row: &RowKey<'_>) -> Result<bool, Error>
     ensures same_reference { tx.new.conn.ghost_name ≡ tx.old.conn.ghost_name }
     ensures inserts { HasCleanDisk (state S.Store tx.new.conn.now) → IsWorking (state S.Store tx.old.conn.now) → IfOk result (Inserts (key_in row.now) (state S.Store tx.old.conn.now) (state S.Store tx.new.conn.now)) }
     ensures stays { Stays (state S.Store tx.old.conn.now) (state S.Store tx.new.conn.now) }
@@ -116,10 +113,7 @@ pub(crate) fn update<S: Alter>(
 }
 
 /// Deletes a row if its count is 1, and returns whether it did.
-pub(crate) fn delete<S: Alter>(
-    tx: &mut Transaction<'_, S>,
-    row: &RowKey<'_>,
-) -> Result<bool, Error>
+pub(crate) fn delete<S: Alter>(tx: &mut Transaction<'_, S>, row: &RowKey<'_>) -> Result<bool, Error>
     ensures same_reference { tx.new.conn.ghost_name ≡ tx.old.conn.ghost_name }
     ensures deletes { HasCleanDisk (state S.Store tx.new.conn.now) → IsWorking (state S.Store tx.old.conn.now) → IfOk result (Deletes (key_in row.now) (state S.Store tx.old.conn.now) (state S.Store tx.new.conn.now)) }
     ensures stays { Stays (state S.Store tx.old.conn.now) (state S.Store tx.new.conn.now) }

@@ -26,10 +26,7 @@ pub enum Refusal {
 }
 
 /// Adds one more copy of a row that is there.
-fn raise<S: Alter>(
-    tx: &mut Transaction<'_, S>,
-    row: &RowKey<'_>,
-) -> Result<Option<Refusal>, Error>
+fn raise<S: Alter>(tx: &mut Transaction<'_, S>, row: &RowKey<'_>) -> Result<Option<Refusal>, Error>
     ensures same_reference { tx.new.conn.ghost_name ≡ tx.old.conn.ghost_name }
     ensures counted { HasCleanDisk (state S.Store tx.new.conn.now) → IsWorking (state S.Store tx.old.conn.now) → IfOk result (Counted (state S.Store tx.old.conn.now) (state S.Store tx.new.conn.now) (added (key_in row.now) (count (held_rows (state S.Store tx.old.conn.now).now)))) }
     ensures stays { Stays (state S.Store tx.old.conn.now) (state S.Store tx.new.conn.now) }
@@ -60,10 +57,7 @@ pub(crate) fn add<S: Alter>(
 }
 
 /// Removes one of several copies of a row.
-fn lower<S: Alter>(
-    tx: &mut Transaction<'_, S>,
-    row: &RowKey<'_>,
-) -> Result<Option<Refusal>, Error>
+fn lower<S: Alter>(tx: &mut Transaction<'_, S>, row: &RowKey<'_>) -> Result<Option<Refusal>, Error>
     ensures same_reference { tx.new.conn.ghost_name ≡ tx.old.conn.ghost_name }
     ensures counted { HasCleanDisk (state S.Store tx.new.conn.now) → IsWorking (state S.Store tx.old.conn.now) → count (held_rows (state S.Store tx.old.conn.now).now) (key_in row.now) ≢ 1 → IfOk result (Counted (state S.Store tx.old.conn.now) (state S.Store tx.new.conn.now) (removed (key_in row.now) (count (held_rows (state S.Store tx.old.conn.now).now)))) }
     ensures stays { Stays (state S.Store tx.old.conn.now) (state S.Store tx.new.conn.now) }
