@@ -54,3 +54,4 @@ pub mod Ordered
 pub mod Ascending
 pub mod Keyed
 pub mod Adopted
+pub mod AnyOrder

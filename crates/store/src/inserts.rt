@@ -1,0 +1,120 @@
+//! Transactions that only add rows to one table, whose rows are inserted in the order of their keys.
+
+ghost use Rattle.std.specs.Prelude.{◌≡◌, true, IsTrue, IfOk, IfSome, map, []};
+ghost use Rattle.std.specs.List.{All};
+ghost use Rattle.sqlite.specs.State.{HasCleanDisk};
+ghost use Rattle.sqlite.specs.Held.{state};
+ghost use Rattle.gather.specs.Image.{IsSomeImage};
+ghost use Rattle.gather.specs.View.{change_value};
+ghost use Rattle.store.specs.Rows.{key_of, held_rows, count};
+ghost use Rattle.store.specs.Inside.{IsWorking, Goes, Stays};
+ghost use Rattle.store.specs.AnyOrder.{AddsRow, AddsRows, AreInserts, Raises};
+
+use crate::held_rows::RowKey;
+use crate::row_change::add;
+use binlog::Follow;
+use gather::{Change, Changes};
+use sqlite::{Alter, Error, Transaction};
+use std::alloc::Global;
+
+/// The rows that a transaction adds to a table, by their images in ascending order.
+#[derive(Drop)]
+pub(crate) struct SortedInserts<'a> {
+    pub(crate) schema: &'a [u8],
+    pub(crate) table: &'a [u8],
+    pub(crate) images: Vec<&'a [u8]>,
+}
+
+/// From how many changes on the rows are sorted. Fewer touch few pages of the index, in any order.
+const MANY: usize = 1000;
+
+/// The image of the row, if the change adds one to the table.
+fn image_for<'a>(change: &Change<'a>, schema: &[u8], table: &[u8]) -> Option<&'a [u8]>
+    ensures { IfSome result (λ bytes. AddsRow schema.now table.now bytes.now (change_value change.now)) }
+{
+    let Change::Insert { table: def, after } = change else {
+        return None;
+    };
+    if def.schema.as_slice() != schema {
+        return None;
+    }
+    if def.table.as_slice() != table {
+        return None;
+    }
+    Some(after.bytes())
+}
+
+/// The images of the rows in the order of the changes, if each change adds one to the table and there is memory for it.
+fn images_of<'a>(
+    alloc: Global,
+    changes: &'a Changes,
+    schema: &[u8],
+    table: &[u8],
+) -> Option<Vec<&'a [u8]>>
+    ensures { IfSome result (λ images. AddsRows schema.now table.now changes.now [] (map (λ r. r.now) images.items)) }
+{
+    let Ok(mut images) = Vec::with_capacity(alloc, changes.len()) else {
+        return None;
+    };
+    for change in changes.iter() {
+        let bytes = image_for(&change, schema, table)?;
+        if images.push(bytes).is_err() {
+            return None;
+        }
+    }
+    Some(images)
+}
+
+/// The rows of the changes, sorted, if there are many changes, which all add rows to the same table, and the filter
+/// admits it. If there is no memory for this, `None`.
+pub(crate) fn sorted_inserts<'a>(
+    alloc: Global,
+    filter: &Follow,
+    changes: &'a Changes,
+) -> Option<SortedInserts<'a>>
+    ensures { IfSome result (λ sorted. AreInserts filter.now changes.now sorted) }
+{
+    if changes.len() < MANY {
+        return None;
+    }
+    let Some(Change::Insert { table, .. }) = changes.iter().next() else {
+        return None;
+    };
+    let schema = table.schema.as_slice();
+    let table = table.table.as_slice();
+    if !filter.follows(schema, table) {
+        return None;
+    }
+    let mut images = images_of(alloc, changes, schema, table)?;
+    images.sort_unstable();
+    Some(SortedInserts {
+        schema,
+        table,
+        images,
+    })
+}
+
+/// Adds the rows in turn, and returns whether all were added. It stops at the first that is refused.
+pub(crate) fn insert_all<S: Alter>(
+    tx: &mut Transaction<'_, S>,
+    schema: &[u8],
+    table: &[u8],
+    images: &[&[u8]],
+) -> Result<bool, Error>
+    requires { All (λ r. IsSomeImage r.now) images.now }
+    ensures same_reference { tx.new.conn.ghost_name ≡ tx.old.conn.ghost_name }
+    ensures raises { HasCleanDisk (state S.Store tx.new.conn.now) → IsWorking (state S.Store tx.old.conn.now) → IfOk result (λ all. IsTrue all → Goes (state S.Store tx.old.conn.now) (state S.Store tx.new.conn.now) × Raises (map (λ r. key_of schema.now table.now r.now) images.now) (count (held_rows (state S.Store tx.old.conn.now).now)) (count (held_rows (state S.Store tx.new.conn.now).now))) }
+    ensures stays { Stays (state S.Store tx.old.conn.now) (state S.Store tx.new.conn.now) }
+{
+    for image in images {
+        let row = RowKey {
+            schema,
+            table,
+            image,
+        };
+        if let Some(_) = add(tx, &row)? {
+            return Ok(false);
+        }
+    }
+    Ok(true)
+}
