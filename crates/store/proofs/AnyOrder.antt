@@ -171,6 +171,7 @@ module _ (names : Names) (changes : List ChangeValue) (sorted : SortedInserts) (
   pub inserts_done : (c d : KeyCounts) → Raises (keys_in sorted) c d → AreDone names changes (bag_of c) (bag_of d)
   inserts_done c d h =
       let key = λ (bytes : List ℕ). key_of schema table bytes in
-      let keys : Raises (map key are.images) c d = raises_same (map key are.images) (keys_in sorted) c d (IsPermutation-map key are.images (images_in sorted) are.same) h in
+      let then : Raises (map key (images_in sorted)) c d = subst (λ ks. Raises ks c d) (sym (map_twice key (λ r. r.now) sorted.images.items)) h in
+      let keys : Raises (map key are.images) c d = raises_same (map key are.images) (map key (images_in sorted)) c d (IsPermutation-map key are.images (images_in sorted) are.same) then in
       let rows : Raises (map key (map image are.adds.rows)) c d = subst (λ bs. Raises (map key bs) c d) are.adds.images_are keys in
       subst (λ cs. AreDone names cs (bag_of c) (bag_of d)) (sym (are.adds.changes_are ∙ append-nil (map (λ cells. insert schema table cells) are.adds.rows))) (all_added names schema table are.admitted are.adds.rows are.adds.stored c d rows)

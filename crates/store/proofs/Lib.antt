@@ -55,3 +55,4 @@ pub mod Ascending
 pub mod Keyed
 pub mod Adopted
 pub mod AnyOrder
+pub mod Tried

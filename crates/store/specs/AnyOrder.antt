@@ -1,13 +1,18 @@
 -- Private: rows that are added to one table, which may be done in any order.
-use Rattle.std.specs.Prelude.{◌≡◌, ◌<◌, ℕ, true, List, [], ◌∷◌, ◌++◌, map, IsPermutation}
+use Rattle.std.specs.Prelude.{◌≡◌, ◌<◌, ℕ, Bool, true, false, List, [], ◌∷◌, ◌++◌, map, Result, Ok, Err, IsPermutation}
 use Rattle.std.specs.List.{AllByRecursion}
+use Rattle.sqlite_trees.specs.Tree.{Trees}
+use Rattle.sqlite.specs.State.{State}
 use Rattle.binlog.specs.Cell.{CellValue}
 use Rattle.binlog.specs.Filter.{Names, admits}
 use Rattle.gather.specs.Image.{image, IsImage, HasImage}
-use Rattle.gather.specs.Transaction.{ChangeValue, insert}
+use Rattle.gather.specs.Transaction.{ChangeValue, insert, DeliveryValue}
 use Rattle.store.specs.declared.inserts.SortedInserts.{SortedInserts}
+use Rattle.store.specs.State.{Content}
+use Rattle.store.specs.Beside.{LiesBeside}
 use Rattle.store.specs.Changes.{most}
 use Rattle.store.specs.Rows.{Key, key_of, KeyCounts, with_one}
+use Rattle.store.specs.Apply.{Rests, IsAtRestAfter, IsAppliedAlone}
 
 -- The change adds a row with this image to the table.
 pub record AddsRow (schema table bytes : List ℕ) (change : ChangeValue) : Type 0 where
@@ -28,7 +33,7 @@ images_in sorted = map (λ r. r.now) sorted.images.items
 
 -- the keys of the rows
 abbrev pub keys_in : SortedInserts → List Key
-keys_in sorted = map (λ bytes. key_of sorted.schema.now sorted.table.now bytes) (images_in sorted)
+keys_in sorted = map (λ r. key_of sorted.schema.now sorted.table.now r.now) sorted.images.items
 
 -- The changes add these rows, in some order, to a table that the filter admits.
 pub record AreInserts (names : Names) (changes : List ChangeValue) (sorted : SortedInserts) : Type 0 where
@@ -41,3 +46,15 @@ pub record AreInserts (names : Names) (changes : List ChangeValue) (sorted : Sor
 abbrev pub Raises : List Key → KeyCounts → KeyCounts → Type 0
 Raises [] old new = new ≡ old
 Raises (key ∷ keys) old new = (old key < most) × Raises keys (with_one key old) new
+
+-- Whether the transaction was committed. If it was not, nothing has changed, if the connection is still open.
+abbrev pub Tries : {E : Type 0} → Names → Content → DeliveryValue → State → State → Result Bool E → Type 0
+Tries names content d old new (Ok true) = IsAtRestAfter names content d new × (new.now.schema ≡ old.now.schema) × LiesBeside old.now new.now
+Tries names content d old new (Ok false) = Rests old new
+Tries names content d old new (Err e) = Rests old new
+
+-- what this may commit
+abbrev pub MayTry : {E : Type 0} → Names → Content → DeliveryValue → State → Result Bool E → Trees → Type 0
+MayTry names content d old (Ok true) trees = IsAppliedAlone names content d old trees
+MayTry names content d old (Ok false) trees = ⊥
+MayTry names content d old (Err e) trees = IsAppliedAlone names content d old trees
