@@ -1,5 +1,5 @@
 -- Rows that are added in another order.
-use Rattle.std.proofs.Common.{◌≡◌, ◌+◌, ◌<◌, ◌≤◌, nat_lt, ℕ, zero, suc, Bool, true, false, cond, inl, inr, List, [], ◌∷◌, ◌++◌, map, take, length, get_or, Option, Some, None, Ok, Err, refl, sym, ap, subst, ◌∙◌, append_assoc, append-nil, arith}
+use Rattle.std.proofs.Common.{◌≡◌, ◌+◌, ◌<◌, ◌≤◌, nat_lt, ℕ, zero, suc, Bool, true, false, cond, inl, inr, List, [], ◌∷◌, ◌++◌, map, take, length, get_or, None, Ok, refl, sym, ap, subst, ◌∙◌, append_assoc, append-nil, arith}
 use Rattle.std.specs.List.{AllByRecursion, All, sum_by}
 use Rattle.std.specs.List.Sorted.{IsPermutation}
 use Rattle.std.proofs.lemmas.Bool.{cases_Bool, and_parts, ltb-true}
@@ -69,11 +69,11 @@ pub raised_by : (keys : List Key) (c d : KeyCounts) → ((k : Key) → d k ≡ c
 raised_by [] c d is fits = λ i. λ k. let e : d k ≡ c k = is k ∙ omega arith in e i
 raised_by (x ∷ xs) c d is fits = (
   (
-    let e : times x (x ∷ xs) ≡ 1 + times x xs = sum_by-cons (one_if x) x xs ∙ rw (own_key x) refl in
-    let now : d x ≡ c x + times x (x ∷ xs) = is x in
-    let high : d x ≤ most = fits x (omega (arith, e)) in
-    omega (arith, e, now, high)
-  ),
+      let e : times x (x ∷ xs) ≡ 1 + times x xs = sum_by-cons (one_if x) x xs ∙ rw (own_key x) refl in
+      let now : d x ≡ c x + times x (x ∷ xs) = is x in
+      let high : d x ≤ most = fits x (omega (arith, e)) in
+      omega (arith, e, now, high)
+      ),
   raised_by xs (with_one x c) d (λ k. is k ∙ sym (stepped x k xs c)) (λ k some. fits k (let e = sum_by-cons (one_if k) x xs in omega (arith, e))),
 )
 

@@ -1,5 +1,5 @@
 -- A transaction that is tried before another one.
-use Rattle.std.proofs.Common.{◌≡◌, ℕ, Bool, true, false, Option, Some, None, Ok, Err, Result, IsTrue, refl, sym, ap, subst, ◌∙◌, arith}
+use Rattle.std.proofs.Common.{◌≡◌, ℕ, Bool, Option, Some, None, Ok, Err, Result, IsTrue, sym, ap, subst, ◌∙◌, arith}
 use Rattle.std.specs.Result.{IsErr}
 use Rattle.sqlite_trees.specs.Tree.{Trees}
 use Rattle.sqlite.specs.Effect.{Database as Stored, IsDatabase}
@@ -40,7 +40,7 @@ module _ (names : Names) (content : Content) (d : DeliveryValue) where
       let now = (rests is_open).0 in
       let committed = (rests is_open).1 in
       let both : (s : StandsFor b.now names content) × Joins content.executed q beside s.executed.spans =
-          subst (λ (db : Stored). (s : StandsFor db names content) × Joins content.executed q beside s.executed.spans) (sym now) (rest.stands, joins) in
+      subst (λ (db : Stored). (s : StandsFor db names content) × Joins content.executed q beside s.executed.spans) (sym now) (rest.stands, joins) in
       record {
         rest = record {
           is_open = is_open;

@@ -1,8 +1,8 @@
-use Rattle.std.proofs.Common.{◌≡◌, true, None, map, IsTrue, rules, arith}
+use Rattle.std.proofs.Common.{None, IsTrue, rules, arith}
 use Rattle.sqlite.specs.State.{HasCleanDisk}
 use Rattle.sqlite.specs.Held.{state}
 use Rattle.gather.specs.View.{delivery_value}
-use Rattle.store.specs.Rows.{key_of, held_rows, count}
+use Rattle.store.specs.Rows.{held_rows, count}
 use Rattle.store.specs.Inside.{DoesAll, Goes}
 use Rattle.store.specs.AnyOrder.{Raises, keys_in}
 use Rattle.store.proofs.Filled.{shows_mid, filled}

@@ -1,9 +1,9 @@
-use Rattle.std.proofs.Common.{◌<◌, [], None, length, Bor, rules, arith}
+use Rattle.std.proofs.Common.{◌<◌, length, rules, arith}
 use Rattle.sqlite.specs.State.{HasCleanDisk}
 use Rattle.sqlite.specs.Held.{state}
 use Rattle.store.specs.Rows.{key_of}
 use Rattle.store.proofs.Keeps.{stays_then}
-use Rattle.store.proofs.AnyOrder.{raises_more, raises_all, some_images, inserts_done}
+use Rattle.store.proofs.AnyOrder.{raises_more, raises_all}
 use Rattle.store.proofs.inserts.insert_all.Goals as goal
 
 pub loop-image-preserved : goal.loop-image-preserved

@@ -1,12 +1,11 @@
-use Rattle.std.proofs.Common.{◌≡◌, ◌∙◌, Ok, false, true, sym, arith}
+use Rattle.std.proofs.Common.{arith}
 use Rattle.sqlite.specs.State.{HasCleanDisk, Survives}
 use Rattle.sqlite.specs.Held.{state}
 use Rattle.sqlite.proofs.StateLemmas.{survives_then, survives_weaker}
 use Rattle.gather.specs.View.{delivery_value}
 use Rattle.store.specs.Apply.{Rests}
-use Rattle.store.specs.AnyOrder.{AreInserts, MayTry}
+use Rattle.store.specs.AnyOrder.{MayTry}
 use Rattle.store.proofs.AnyOrder.{some_images}
-use Rattle.store.proofs.Counted.{rests_unchanged}
 use Rattle.store.proofs.Tried.{tries_err, may_try_err, rests_after}
 use Rattle.store.proofs.inserts.try_sorted.Goals as goal
 
