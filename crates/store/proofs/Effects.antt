@@ -1,5 +1,5 @@
 -- What each statement on one row of held makes of the counts.
-use Rattle.std.proofs.Common.{◌≡◌, ◌≢◌, inl, inr, ℕ, nat_lt, ◌&&◌, ◌+◌, ◌≤◌, ℤ, pos, List, [], ◌∷◌, map, filter, find, length, codes, ◌==◌, Option, Some, unwrap_or, Bool, true, false, cond, refl, sym, ap, ap₂, subst, ◌∙◌, arith}
+use Rattle.std.proofs.Common.{◌≡◌, ◌≢◌, inl, ℕ, nat_lt, ◌&&◌, ◌+◌, ◌≤◌, ℤ, pos, List, [], ◌∷◌, map, filter, find, length, codes, ◌==◌, Option, Some, unwrap_or, Bool, true, false, cond, refl, sym, ap, ap₂, subst, ◌∙◌, arith}
 use Rattle.std.specs.List.{AllByRecursion, list_any}
 use Rattle.std.specs.List.Sorted.{IsPermutation}
 use Rattle.std.proofs.lemmas.List.{nil_from_length}
