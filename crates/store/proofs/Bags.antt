@@ -48,7 +48,7 @@ has_its_image cells h = let p = and_parts _ _ h in record { count = ltb-true (le
 
 -- ---- one row's key, and the others'
 
-own_key : (key : Key) → same_key key key ≡ true
+pub own_key : (key : Key) → same_key key key ≡ true
 own_key key = and_from _ _ ((bytes_eq-Decides key.schema key.schema).1 refl) (and_from _ _ ((bytes_eq-Decides key.table key.table).1 refl) ((bytes_eq-Decides key.image key.image).1 refl))
 
 module _ (schema table : List ℕ) (cells : List CellValue) (bytes : List ℕ) (is : IsImage cells bytes) where
@@ -78,7 +78,7 @@ module _ (schema table : List ℕ) (cells : List CellValue) (bytes : List ℕ) (
   here : (counts : KeyCounts) (f : ℕ → ℕ) → bag_of (λ k. cond (same_key (key_of schema table bytes) k) (f (counts k)) (counts k)) (row_of schema table cells) ≡ f (bag_of counts (row_of schema table cells))
   here counts f = at_row (λ k. cond (same_key (key_of schema table bytes) k) (f (counts k)) (counts k)) ∙ rw (own_key (key_of schema table bytes)) (ap f (sym (at_row counts)))
 
-  is_added : (old new : KeyCounts) → old (key_of schema table bytes) < most → new ≡ with_one (key_of schema table bytes) old → IsAdded (row_of schema table cells) (bag_of old) (bag_of new)
+  pub is_added : (old new : KeyCounts) → old (key_of schema table bytes) < most → new ≡ with_one (key_of schema table bytes) old → IsAdded (row_of schema table cells) (bag_of old) (bag_of new)
   is_added old new low more = record {
     room = rw (at_row old) low;
     one_more = ap (λ c. bag_of c (row_of schema table cells)) more ∙ here old (λ n. n + 1);

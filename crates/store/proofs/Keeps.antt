@@ -25,7 +25,7 @@ kept_showing old new sql c params e None h = kept_unchanged old new h.3
 kept_showing old new sql c params e (Some what) (inl h) = kept_unchanged old new h.1
 kept_showing old new sql c params e (Some what) (inr h) = kept_rolled old new h.3
 
-kept_not_run : (old new : State) (sql : List ℕ) (params : Row) (e : Error) → IsNotRun old new sql params e → KeepsCommit old new
+pub kept_not_run : (old new : State) (sql : List ℕ) (params : Row) (e : Error) → IsNotRun old new sql params e → KeepsCommit old new
 unfolding IsNotRun
 kept_not_run old new sql params e (inl h) = kept_unchanged old new h.1
 kept_not_run old new sql params e (inr h) = kept_rolled old new h.3

@@ -54,3 +54,5 @@ pub mod Ordered
 pub mod Ascending
 pub mod Keyed
 pub mod Adopted
+pub mod AnyOrder
+pub mod Tried

@@ -14,3 +14,4 @@ pub mod Load
 pub mod Judge
 pub mod Entering
 pub mod Faults
+pub mod AnyOrder

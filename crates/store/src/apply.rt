@@ -22,6 +22,7 @@ use binlog::Follow;
 use gather::Delivery;
 use gtid::GtidSet;
 use sqlite::{Alter, Connection};
+use std::alloc::Global;
 use std::mem;
 
 /// Reports a refused change, or the database error if rolling back closed the connection.
@@ -44,6 +45,7 @@ fn refuse<S: Alter>(conn: &mut Connection<S>, at: usize, why: Refusal) -> StoreF
 
 /// Applies a transaction that is not in the executed set, and returns the set as it is then.
 fn apply_new<S: Alter>(
+    alloc: Global,
     conn: &mut Connection<S>,
     filter: &Follow,
     executed: GtidSet,
@@ -64,7 +66,7 @@ fn apply_new<S: Alter>(
         Ok(reserved) => reserved,
         Err(executed) => return (executed, Err(StoreFault::Memory)),
     };
-    match run(conn, filter, delivery, &beside) {
+    match run(alloc, conn, filter, delivery, &beside) {
         Ok(None) => (reserved.insert(), Ok(Applied::Done)),
         Ok(Some((at, why))) => (reserved.release(), Err(refuse(conn, at, why))),
         Err(error) => (reserved.release(), Err(StoreFault::Database(error))),
@@ -115,7 +117,13 @@ impl<S: Alter> Store<S> {
             return Ok(Applied::Repeat);
         }
         let executed = mem::replace(&mut self.executed, GtidSet::new(self.alloc));
-        let (executed, answer) = apply_new(&mut self.conn, &self.following, executed, delivery);
+        let (executed, answer) = apply_new(
+            self.alloc,
+            &mut self.conn,
+            &self.following,
+            executed,
+            delivery,
+        );
         self.executed = executed;
         self.broken = breaks(&answer);
         answer

@@ -13,12 +13,14 @@ ghost use Rattle.store.specs.Rows.{StandsFor};
 ghost use Rattle.store.specs.Inside.{IsWorking, WasOpen, Stays};
 ghost use Rattle.store.specs.Apply.{Fills, IsAtRest, Runs, MayCommit};
 
+use crate::inserts::try_sorted;
 use crate::row_change::{Refusal, make_all};
 use crate::span_rows::record;
 use binlog::Follow;
 use gather::Delivery;
 use gtid::Beside;
 use sqlite::{Alter, Connection, Error, Transaction};
+use std::alloc::Global;
 
 /// Makes the changes and records the GTID, or returns which change is refused and why.
 fn fill<S: Alter>(
@@ -42,7 +44,7 @@ fn fill<S: Alter>(
 }
 
 /// Runs `fill` in a transaction of its own, which is rolled back if a change is refused or a statement fails.
-pub(crate) fn run<S: Alter>(
+fn in_order<S: Alter>(
     conn: &mut Connection<S>,
     filter: &Follow,
     delivery: &Delivery,
@@ -66,4 +68,33 @@ pub(crate) fn run<S: Alter>(
     }
     tx.commit()?;
     Ok(None)
+}
+
+/// Makes the changes and records the GTID in one transaction, or changes nothing and returns which change is refused and
+/// why. Rows that are only added to one table are inserted in the order of their keys, if there is memory to sort them. If
+/// one of them is refused, that transaction is rolled back, and another one makes the changes in order, up to the one
+/// that is refused.
+pub(crate) fn run<S: Alter>(
+    alloc: Global,
+    conn: &mut Connection<S>,
+    filter: &Follow,
+    delivery: &Delivery,
+    beside: &Beside,
+) -> Result<Option<(usize, Refusal)>, Error>
+    requires autocommit { conn.old.in_transaction ≡ false }
+    requires below { IfSome beside.now.below IsLawfulSpan }
+    requires above { IfSome beside.now.above IsLawfulSpan }
+    ensures autocommit { conn.new.in_transaction ≡ false }
+    ensures runs { HasCleanDisk (state S.Store conn.new) → (content : Content) → (rest : IsAtRest (state S.Store conn.old) filter.now content) → is_executed content (delivery_value delivery.now) ≡ false
+        → Joins content.executed (id delivery.now.gtid) beside.now rest.stands.executed.spans → Runs filter.now content (delivery_value delivery.now) (state S.Store conn.old) (state S.Store conn.new) result }
+    ensures opened { HasCleanDisk (state S.Store conn.new) → WasOpen (state S.Store conn.old) (state S.Store conn.new) }
+    ensures done { HasCleanDisk (state S.Store conn.new) → result ≡ Ok None → IsTrue (state S.Store conn.new).is_open }
+    ensures lives { Survives (state S.Store conn.old) (state S.Store conn.new) (λ _. Unit {0}) }
+    ensures crash { (content : Content) → (rest : IsAtRest (state S.Store conn.old) filter.now content) → is_executed content (delivery_value delivery.now) ≡ false
+        → Joins content.executed (id delivery.now.gtid) beside.now rest.stands.executed.spans → Survives (state S.Store conn.old) (state S.Store conn.new) (MayCommit filter.now content (delivery_value delivery.now) (state S.Store conn.old) result) }
+{
+    if try_sorted(alloc, conn, filter, delivery, beside)? {
+        return Ok(None);
+    }
+    in_order(conn, filter, delivery, beside)
 }

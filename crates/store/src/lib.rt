@@ -28,6 +28,7 @@ mod contents;
 mod counting;
 mod fault;
 mod held_rows;
+mod inserts;
 pub mod laws;
 mod listing;
 mod load;
