@@ -184,21 +184,32 @@ class Maker:
         body += self.lenenc(len(metadata)) + metadata + self.bytes((len(columns) + 7) // 8) + self.bytes(self.chance.choice([0, 0, 7]))
         return self.event(19, body)
 
-    def rows_event(self, table, code):
+    def rows_event(self, table, code, rows=None):
         extra = self.bytes(self.chance.choice([0, 0, 0, 3]))
         count = len(table['columns'])
         body = table['number'].to_bytes(6, 'little') + self.bytes(2) + (2 + len(extra)).to_bytes(2, 'little') + extra + self.lenenc(count)
         for _ in range(2 if code == 31 else 1):
             body += self.bitmap([True] * count)
-        for _ in range(self.chance.choice([0, 1, 1, 1, 2, 3])):
+        for _ in range(self.chance.choice([0, 1, 1, 1, 2, 3]) if rows is None else rows):
             body += self.change(table, code)
         return self.event(code, body)
+
+    def load(self, table):
+        """The events of many inserts into a table, at times with another change among them."""
+        events = [self.table_map(table)] + [self.rows_event(table, 30, 250) for _ in range(self.chance.choice([3, 4, 5]))]
+        if self.odds(0.4):
+            other = self.chance.choice(self.tables)
+            place = self.chance.randrange(1, len(events))
+            events[place:place] = [self.table_map(other), self.rows_event(other, self.chance.choice([30, 31, 32]), 1), self.table_map(table)]
+        return events
 
     def transaction(self):
         begin = self.gtid(), self.query(b'BEGIN')
         events = []
         for _ in range(self.chance.choice([0, 1, 1, 1, 2, 3])):
             table = self.chance.choice(self.tables)
+            if len(table['columns']) < 20 and self.odds(0.01):
+                events += self.load(table)
             events.append(self.table_map(table))
             changes = [30, 30, 31, 32] if table['rows'] or self.odds(0.02) else [30]
             events.append(self.rows_event(table, self.chance.choice(changes)))
