@@ -46,11 +46,11 @@ stepped x k xs c = added_by (same_key x k) (c k) (times k xs) ∙ ap (λ n. c k 
 
 -- ---- the counts afterwards
 
-pub raises_are : (keys : List Key) (c d : KeyCounts) → Raises keys c d → (k : Key) → d k ≡ c k + times k keys
+raises_are : (keys : List Key) (c d : KeyCounts) → Raises keys c d → (k : Key) → d k ≡ c k + times k keys
 raises_are [] c d h k = let e : d k ≡ c k = ap (λ f. f k) h in omega (arith, e)
 raises_are (x ∷ xs) c d h k = raises_are xs (with_one x c) d h.1 k ∙ stepped x k xs c
 
-pub raises_fit : (keys : List Key) (c d : KeyCounts) → Raises keys c d → (k : Key) → 0 < times k keys → d k ≤ most
+raises_fit : (keys : List Key) (c d : KeyCounts) → Raises keys c d → (k : Key) → 0 < times k keys → d k ≤ most
 raises_fit [] c d h k some = absurd (omega arith)
 raises_fit (x ∷ xs) c d h k some = elim (cases_Bool (same_key x k)) [
   | inl same ↦ at_first same (times k xs) refl (raises_fit xs (with_one x c) d h.1 k)
@@ -65,7 +65,7 @@ raises_fit (x ∷ xs) c d h k some = elim (cases_Bool (same_key x k)) [
         omega (arith, room, now, e, is)
     at_first same (suc n) is again = again (omega (arith, is))
 
-pub raised_by : (keys : List Key) (c d : KeyCounts) → ((k : Key) → d k ≡ c k + times k keys) → ((k : Key) → 0 < times k keys → d k ≤ most) → Raises keys c d
+raised_by : (keys : List Key) (c d : KeyCounts) → ((k : Key) → d k ≡ c k + times k keys) → ((k : Key) → 0 < times k keys → d k ≤ most) → Raises keys c d
 raised_by [] c d is fits = λ i. λ k. let e : d k ≡ c k = is k ∙ omega arith in e i
 raised_by (x ∷ xs) c d is fits = (
   (
@@ -78,7 +78,7 @@ raised_by (x ∷ xs) c d is fits = (
 )
 
 -- The keys may come in any order.
-pub raises_same : (xs ys : List Key) (c d : KeyCounts) → IsPermutation xs ys → Raises ys c d → Raises xs c d
+raises_same : (xs ys : List Key) (c d : KeyCounts) → IsPermutation xs ys → Raises ys c d → Raises xs c d
 raises_same xs ys c d same h =
     let times_are : (k : Key) → times k ys ≡ times k xs = λ k. sum_by-IsPermutation (one_if k) xs ys same in
     raised_by xs c d (λ k. raises_are ys c d h k ∙ ap (λ n. c k + n) (times_are k)) (λ k some. raises_fit ys c d h k (omega (arith, times_are k)))
@@ -86,7 +86,7 @@ raises_same xs ys c d same h =
 -- ---- from keys to rows
 
 module _ (names : Names) (schema table : List ℕ) (admitted : admits names schema table ≡ true) where
-  pub all_added : (rows : List (List CellValue)) → AllByRecursion HasImage rows → (c d : KeyCounts) → Raises (map (λ bytes. key_of schema table bytes) (map image rows)) c d
+  all_added : (rows : List (List CellValue)) → AllByRecursion HasImage rows → (c d : KeyCounts) → Raises (map (λ bytes. key_of schema table bytes) (map image rows)) c d
       → AreDone names (map (λ cells. insert schema table cells) rows) (bag_of c) (bag_of d)
   all_added [] stored c d h = ap bag_of h
   all_added (cells ∷ rows) stored c d h = (

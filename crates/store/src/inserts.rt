@@ -28,10 +28,10 @@ use std::alloc::Global;
 
 /// The rows that a transaction adds to a table, by their images in ascending order.
 #[derive(Drop)]
-pub(crate) struct SortedInserts<'a> {
-    pub(crate) schema: &'a [u8],
-    pub(crate) table: &'a [u8],
-    pub(crate) images: Vec<&'a [u8]>,
+struct SortedInserts<'a> {
+    schema: &'a [u8],
+    table: &'a [u8],
+    images: Vec<&'a [u8]>,
 }
 
 /// From how many changes on the rows are sorted. Fewer touch few pages of the index, in any order.
@@ -76,7 +76,7 @@ fn images_of<'a>(
 
 /// The rows of the changes, sorted, if there are many changes, which all add rows to the same table, and the filter
 /// admits it. If there is no memory for this, `None`.
-pub(crate) fn sorted_inserts<'a>(
+fn sorted_inserts<'a>(
     alloc: Global,
     filter: &Follow,
     changes: &'a Changes,
@@ -104,7 +104,7 @@ pub(crate) fn sorted_inserts<'a>(
 }
 
 /// Adds the rows in turn, and returns whether all were added. It stops at the first that is refused.
-pub(crate) fn insert_all<S: Alter>(
+fn insert_all<S: Alter>(
     tx: &mut Transaction<'_, S>,
     schema: &[u8],
     table: &[u8],
