@@ -9,7 +9,9 @@
  * takes the login as given, and knows one filter: none.
  *
  * With -DFEWEST it gives the statements that mrep gives: an INSERT that the key refuses where the row is there, a DELETE of
- * a row with the count 1, and only then the count is read and an UPDATE made; and one UPDATE of a span that gets longer. */
+ * a row with the count 1, and only then the count is read and an UPDATE made; rows of a transaction of eight changes and
+ * more that only inserts into one table in the order of their keys, eight an INSERT, and one by one where the key refuses
+ * that; and one UPDATE of a span that gets longer. */
 
 #include <sqlite3.h>
 #include <stdint.h>
@@ -109,7 +111,7 @@ static void cut(size_t at) {
 
 /* The database. */
 static sqlite3 *base;
-static sqlite3_stmt *find, *insert, *update, *delete, *add_span, *drop_span, *move_end, *begin, *commit;
+static sqlite3_stmt *find, *insert, *insert_eight, *update, *delete, *add_span, *drop_span, *move_end, *begin, *commit;
 
 static void sql(const char *text) {
     if (sqlite3_exec(base, text, NULL, NULL, NULL) != SQLITE_OK)
@@ -178,6 +180,8 @@ static void open_base(const char *file) {
     }
     find = prepared("SELECT n FROM held WHERE schema_name = ?1 AND table_name = ?2 AND image = ?3");
     insert = prepared("INSERT INTO held VALUES (?1, ?2, ?3, 1)");
+    insert_eight = prepared("INSERT INTO held VALUES (?1, ?2, ?3, 1), (?1, ?2, ?4, 1), (?1, ?2, ?5, 1), (?1, ?2, ?6, 1),"
+        " (?1, ?2, ?7, 1), (?1, ?2, ?8, 1), (?1, ?2, ?9, 1), (?1, ?2, ?10, 1)");
     update = prepared("UPDATE held SET n = ?4 WHERE schema_name = ?1 AND table_name = ?2 AND image = ?3");
     delete = prepared("DELETE FROM held WHERE schema_name = ?1 AND table_name = ?2 AND image = ?3"
 #ifdef FEWEST
@@ -442,6 +446,55 @@ static void apply_change(const Change *change) {
     run(statement);
 }
 
+#ifdef FEWEST
+static int same_table(const Change *one, const Change *other) {
+    const Map *a = maps + one->map, *b = maps + other->map;
+    return a->schema_size == b->schema_size && a->table_size == b->table_size
+        && !memcmp(a->schema, b->schema, a->schema_size) && !memcmp(a->table, b->table, a->table_size);
+}
+
+static int by_image(const void *one, const void *other) {
+    const Change *a = one, *b = other;
+    int order = memcmp(images + a->image, images + b->image, a->size < b->size ? a->size : b->size);
+    return order ? order : a->size < b->size ? -1 : a->size > b->size;
+}
+
+/* Whether the changes only insert rows into one table, of which there are eight or more. */
+static int is_load(void) {
+    for (size_t at = 0; at < change_count; at++)
+        if (!changes[at].inserts || !same_table(changes, changes + at))
+            return 0;
+    return change_count >= 8;
+}
+
+static void apply_eight(const Change *eight) {
+    bind_row(insert_eight, eight);
+    for (int at = 1; at < 8; at++)
+        sqlite3_bind_blob(insert_eight, 3 + at, images + eight[at].image, (int)eight[at].size, SQLITE_STATIC);
+    int ended = sqlite3_step(insert_eight);
+    sqlite3_reset(insert_eight);
+    if (ended == SQLITE_DONE)
+        return;
+    if (ended != SQLITE_CONSTRAINT)
+        fail(sqlite3_errmsg(base));
+    for (int at = 0; at < 8; at++)
+        apply_change(eight + at);
+}
+#endif
+
+static void apply_changes(void) {
+    size_t at = 0;
+#ifdef FEWEST
+    if (is_load()) {
+        qsort(changes, change_count, sizeof *changes, by_image);
+        for (; change_count - at >= 8; at += 8)
+            apply_eight(changes + at);
+    }
+#endif
+    for (; at < change_count; at++)
+        apply_change(changes + at);
+}
+
 /* Binds the span's source and beginning to the statement. */
 static void bind_span(sqlite3_stmt *statement, const Span *span) {
     sqlite3_bind_blob(statement, 1, span->source, 16, SQLITE_STATIC);
@@ -458,8 +511,7 @@ static int apply(Bytes source, int64_t value) {
     if (contains(source, value))
         return 0;
     run(begin);
-    for (size_t at = 0; at < change_count; at++)
-        apply_change(changes + at);
+    apply_changes();
     Span span = {.lo = value, .hi = value + 1};
     memcpy(span.source, source, 16);
     size_t at = before(source, value);
@@ -632,7 +684,7 @@ int main(int count, char **words) {
             size = packets = 0;
         }
     printf("1 %s at %llu applied %llu\n", ended ? "SourceEof" : "EndOfInput", (unsigned long long)at, (unsigned long long)applied);
-    sqlite3_stmt *all[] = {find, insert, update, delete, add_span, drop_span, move_end, begin, commit};
+    sqlite3_stmt *all[] = {find, insert, insert_eight, update, delete, add_span, drop_span, move_end, begin, commit};
     for (size_t place = 0; place < sizeof all / sizeof *all; place++)
         sqlite3_finalize(all[place]);
     return sqlite3_close(base) != SQLITE_OK;

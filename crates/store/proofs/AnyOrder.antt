@@ -1,5 +1,5 @@
 -- Rows that are added in another order.
-use Rattle.std.proofs.Common.{◌≡◌, ◌+◌, ◌<◌, ◌≤◌, nat_lt, ℕ, zero, suc, Bool, true, false, cond, inl, inr, List, [], ◌∷◌, ◌++◌, map, take, length, get_or, None, Ok, refl, sym, ap, subst, ◌∙◌, append_assoc, append-nil, arith}
+use Rattle.std.proofs.Common.{Bor, Result, IfOk, IsTrue, Err, ◌≡◌, ◌+◌, ◌<◌, ◌≤◌, nat_lt, ℕ, zero, suc, Bool, true, false, cond, inl, inr, List, [], ◌∷◌, ◌++◌, map, take, length, get_or, None, Ok, refl, sym, ap, subst, ◌∙◌, append_assoc, append-nil, arith}
 use Rattle.std.specs.List.{AllByRecursion, All, sum_by}
 use Rattle.std.specs.List.Sorted.{IsPermutation}
 use Rattle.std.proofs.lemmas.Bool.{cases_Bool, and_parts, ltb-true}
@@ -8,16 +8,18 @@ use Rattle.std.proofs.lemmas.List.Elements.{All-from_recursion, recursion_from_A
 use Rattle.std.proofs.lemmas.List.Sums.{sum_by-cons}
 use Rattle.std.proofs.lemmas.List.Sorted.{sum_by-IsPermutation, IsPermutation-map, All-permutation}
 use Rattle.std.proofs.lemmas.Slice.Eq.{bytes_eq-Decides}
-use Rattle.sqlite.specs.State.{State}
+use Rattle.sqlite.specs.Effect.{Database}
+use Rattle.sqlite.specs.State.{State, IsUnchanged}
 use Rattle.binlog.specs.Cell.{CellValue}
 use Rattle.binlog.specs.Filter.{Names, admits}
 use Rattle.gather.specs.Image.{image, HasImage, IsSomeImage}
 use Rattle.gather.specs.Transaction.{ChangeValue, insert}
 use Rattle.store.specs.Changes.{most, AreDone}
-use Rattle.store.specs.Rows.{Key, key_of, same_key, KeyCounts, with_one, bag_of, count, held_rows}
-use Rattle.store.specs.Inside.{Goes, added, Counted}
-use Rattle.store.specs.AnyOrder.{AddsRow, AddsRows, AreInserts, Raises, images_in, keys_in}
+use Rattle.store.specs.Rows.{Key, key_of, same_key, KeyCounts, with_one, bag_of, count, held_rows, span_rows}
+use Rattle.store.specs.Inside.{Raises, Adds, added, Counted}
+use Rattle.store.specs.AnyOrder.{AddsRow, AddsRows, AreInserts, images_in, keys_in}
 use Rattle.store.specs.declared.inserts.SortedInserts.{SortedInserts}
+use Rattle.store.proofs.Made.{goes_since}
 use Rattle.store.proofs.Bags.{own_key, is_added, goes_after}
 
 -- ---- how often a key is among them
@@ -123,8 +125,7 @@ module _ {X : Type 0} (f : X → Key) (xs : List X) (i : ℕ) (d : X) (within : 
   x = get_or xs i d
 
   -- one more row was added
-  pub raises_more : Goes old mid × Raises (map f (take i xs)) (count (held_rows old.now)) (count (held_rows mid.now)) → Counted mid new (added (f x) (count (held_rows mid.now))) None
-      → Goes old new × Raises (map f (take (i + 1) xs)) (count (held_rows old.now)) (count (held_rows new.now))
+  pub raises_more : Adds (map f (take i xs)) old mid → Counted mid new (added (f x) (count (held_rows mid.now))) None → Adds (map f (take (i + 1) xs)) old new
   raises_more way h = elim (cases_Bool (nat_lt (count (held_rows mid.now) (f x)) most)) [
     | inl low ↦ room (ltb-true _ most low) (rw low at h)
     | inr high ↦ absurd (rw high at h)
@@ -133,7 +134,7 @@ module _ {X : Type 0} (f : X → Key) (xs : List X) (i : ℕ) (d : X) (within : 
       keys : map f (take (i + 1) xs) ≡ map f (take i xs) ++ f x ∷ []
       keys = ap (map f) (take_more xs i d within) ∙ map-append f (take i xs) (x ∷ [])
 
-      room : count (held_rows mid.now) (f x) < most → Counted mid new (Ok (with_one (f x) (count (held_rows mid.now)))) None → Goes old new × Raises (map f (take (i + 1) xs)) (count (held_rows old.now)) (count (held_rows new.now))
+      room : count (held_rows mid.now) (f x) < most → Counted mid new (Ok (with_one (f x) (count (held_rows mid.now)))) None → Adds (map f (take (i + 1) xs)) old new
       room low one = (
         goes_after old mid new way.0 (record { on = one.on; spans = one.spans }),
         rw keys (raises_then (map f (take i xs)) (f x) (count (held_rows old.now)) (count (held_rows mid.now)) (count (held_rows new.now)) way.1 low one.counts_are),
@@ -145,6 +146,44 @@ raises_all f xs i c d end h = subst (λ ys. Raises (map f ys) c d) (take_all i x
 map_twice : {X Y Z : Type 0} (f : Y → Z) (h : X → Y) (xs : List X) → map f (map h xs) ≡ map (λ x. f (h x)) xs
 map_twice f h [] = refl
 map_twice f h (x ∷ xs) = ap (λ ys. f (h x) ∷ ys) (map_twice f h xs)
+
+-- more rows were added
+raises_both : (keys more : List Key) (c m d : KeyCounts) → Raises keys c m → Raises more m d → Raises (keys ++ more) c d
+raises_both [] more c m d one two = subst (λ b. Raises more b d) one two
+raises_both (key ∷ keys) more c m d one two = (one.0, raises_both keys more (with_one key c) m d one.1 two)
+
+pub adds_both : {X : Type 0} (f : X → Key) (xs ys : List X) (old mid new : State) → Adds (map f xs) old mid → Adds (map f ys) mid new → Adds (map f (xs ++ ys)) old new
+adds_both f xs ys old mid new one two = (
+  goes_after old mid new one.0 two.0,
+  rw (map-append f xs ys) (raises_both (map f xs) (map f ys) (count (held_rows old.now)) (count (held_rows mid.now)) (count (held_rows new.now)) one.1 two.1),
+)
+
+-- or nothing was before
+adds_since : (keys : List Key) (old mid new : State) → IsUnchanged old mid → Adds keys mid new → Adds keys old new
+adds_since keys old mid new same next = (
+  record { on = goes_since old mid new same next.0.on; spans = next.0.spans ∙ ap span_rows same.0.now_is },
+  subst (λ (d : Database). Raises keys (count (held_rows d)) (count (held_rows new.now))) same.0.now_is next.1,
+)
+
+pub adds_if_since : {E : Type 0} (keys : List Key) (old mid new : State) (r : Result Bool E) → IsUnchanged old mid → IfOk r (λ all. IsTrue all → Adds keys mid new) → IfOk r (λ all. IsTrue all → Adds keys old new)
+adds_if_since keys old mid new (Ok all) same h = λ so. adds_since keys old mid new same (h so)
+adds_if_since keys old mid new (Err e) same h = h
+
+-- a part of the images
+pub part_stored : (P : Bor (List ℕ) → Type 0) (all front part rest : List (Bor (List ℕ))) → all ≡ front ++ (part ++ rest) → All P all → All P part
+part_stored P all front part rest is h = All-from_recursion P part (go front part (recursion_from_All P (front ++ (part ++ rest)) (subst (All P) is h)))
+  where
+    go : (front part : List (Bor (List ℕ))) → AllByRecursion P (front ++ (part ++ rest)) → AllByRecursion P part
+    go [] [] h = tt
+    go [] (x ∷ part) h = (h.0, go [] part h.1)
+    go (x ∷ front) part h = go front part h.1
+
+pub keys_stored : (schema table : List ℕ) (xs : List (Bor (List ℕ))) → All (λ r. IsSomeImage r.now) xs → AllByRecursion (λ key. IsSomeImage key.image) (map (λ r. key_of schema table r.now) xs)
+keys_stored schema table xs stored = go xs (recursion_from_All _ xs stored)
+  where
+    go : (xs : List (Bor (List ℕ))) → AllByRecursion (λ r. IsSomeImage r.now) xs → AllByRecursion (λ key. IsSomeImage key.image) (map (λ r. key_of schema table r.now) xs)
+    go [] h = tt
+    go (x ∷ xs) h = (h.0, go xs h.1)
 
 -- ---- sorted rows
 

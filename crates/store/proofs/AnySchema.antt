@@ -36,7 +36,7 @@ use Rattle.sqlite_resolve.specs.Compile.{first, compiled, with_command}
 use Rattle.sqlite_tied.specs.Compute.{everything}
 use Rattle.sqlite.specs.Listing.{understood, reads_listing}
 use Rattle.sqlite.proofs.Callers.{IsPlain, command_of}
-use Rattle.store.specs.Layout.{required, held, spans, read_text, insert_text, update_text, delete_text, add_span_text, drop_span_text, set_end_text, equals, has_key, has_count, has_start, read_query, delete_query, update_query, insert_terms, add_span_terms, drop_span_query, set_end_query}
+use Rattle.store.specs.Layout.{required, held, spans, read_text, insert_text, insert_eight_text, update_text, delete_text, add_span_text, drop_span_text, set_end_text, equals, has_key, has_count, has_start, read_query, delete_query, update_query, insert_terms, insert_eight_terms, add_span_terms, drop_span_query, set_end_query}
 use Rattle.store.specs.Layout.{IsFound}
 use Rattle.store.proofs.Compiling.{written_trees, only_over, only_bound, after_reading, less, stands_for_column, Compares, compares, is_given, Field, IsField, written_columns, with_outputs, outputs_are, tests_are, lowered_both, lowered_all, lowered_four, from_table, IsOver, IsOrdered, drafted, program_is, query_is, compiled_select, compiled_insert, compiled_update, compiled_delete, understood_as}
 
@@ -83,15 +83,28 @@ read_ordered : IsOrdered read_select read_core []
 unfolding written_trees
 read_ordered = record { with = refl; first = refl; others = refl; order = refl; limit = refl; offset = refl }
 
-abbrev inserted_row : List (List Expr)
-inserted_row = (e.Parameter 1 ∷ e.Parameter 2 ∷ e.Parameter 3 ∷ e.Integer (codes "1") ∷ []) ∷ []
+abbrev inserted_row : ℕ → List Expr
+inserted_row image = e.Parameter 1 ∷ e.Parameter 2 ∷ e.Parameter image ∷ e.Integer (codes "1") ∷ []
 
 abbrev insert_parsed : Parsed
-insert_parsed = record { statement = written.Insert Abort (codes "held") [] (rows.Values inserted_row) [] []; names = names_of_three; formats = []; start = 0; end = 39; tail = 39 }
+insert_parsed = record { statement = written.Insert Abort (codes "held") [] (rows.Values (inserted_row 3 ∷ [])) [] []; names = names_of_three; formats = []; start = 0; end = 39; tail = 39 }
 
 insert_parses : first insert_text ≡ Ok insert_parsed
 unfolding everything
 insert_parses = refl
+
+abbrev eight_rows : List (List Expr)
+eight_rows = inserted_row 3 ∷ inserted_row 4 ∷ inserted_row 5 ∷ inserted_row 6 ∷ inserted_row 7 ∷ inserted_row 8 ∷ inserted_row 9 ∷ inserted_row 10 ∷ []
+
+abbrev names_of_ten : List (List ℕ)
+names_of_ten = codes "?1" ∷ codes "?2" ∷ codes "?3" ∷ codes "?4" ∷ codes "?5" ∷ codes "?6" ∷ codes "?7" ∷ codes "?8" ∷ codes "?9" ∷ codes "?10" ∷ []
+
+abbrev insert_eight_parsed : Parsed
+insert_eight_parsed = record { statement = written.Insert Abort (codes "held") [] (rows.Values eight_rows) [] []; names = names_of_ten; formats = []; start = 0; end = 159; tail = 159 }
+
+insert_eight_parses : first insert_eight_text ≡ Ok insert_eight_parsed
+unfolding everything
+insert_eight_parses = refl
 
 abbrev delete_parsed : Parsed
 delete_parsed = record { statement = written.Delete (codes "held") (Some count_test) []; names = codes "?1" ∷ codes "?2" ∷ codes "?3" ∷ codes "?4" ∷ []; formats = []; start = 0; end = 85; tail = 85 }
@@ -201,20 +214,35 @@ module _ (schema : Schema) (at tree : ℕ) (f : IsFound schema at (record held {
   pub read_plain : IsPlain (understood schema read_text)
   read_plain = rw (read_means.is) (refl, refl)
 
-  insert_row : inserted schema held_table 3 [] (rows.Values inserted_row) ≡ Ok (new.Values insert_terms)
+  insert_row : inserted schema held_table 3 [] (rows.Values (inserted_row 3 ∷ [])) ≡ Ok (new.Values insert_terms)
   unfolding everything
   insert_row = refl
 
   insert_means : Means schema insert_text (with_command insert_parsed ([], (Insert at (Values insert_terms 5), None)))
   insert_means =
       means schema insert_text _
-      (compiled_insert schema (codes "held") at held_table f.by_name f.by_index inserted_row insert_text insert_parsed 3 insert_terms insert_parses refl refl refl refl insert_row refl)
+      (compiled_insert schema (codes "held") at held_table f.by_name f.by_index (inserted_row 3 ∷ []) insert_text insert_parsed 3 insert_terms insert_parses refl refl refl refl insert_row refl)
 
   pub insert_is : command_of (understood schema insert_text) ≡ Insert at (Values insert_terms 5)
   insert_is = ap command_of insert_means.is
 
   pub insert_plain : IsPlain (understood schema insert_text)
   insert_plain = rw (insert_means.is) (refl, refl)
+
+  insert_eight_rows : inserted schema held_table 10 [] (rows.Values eight_rows) ≡ Ok (new.Values insert_eight_terms)
+  unfolding everything
+  insert_eight_rows = refl
+
+  insert_eight_means : Means schema insert_eight_text (with_command insert_eight_parsed ([], (Insert at (Values insert_eight_terms 5), None)))
+  insert_eight_means =
+      means schema insert_eight_text _
+      (compiled_insert schema (codes "held") at held_table f.by_name f.by_index eight_rows insert_eight_text insert_eight_parsed 10 insert_eight_terms insert_eight_parses refl refl refl refl insert_eight_rows refl)
+
+  pub insert_eight_is : command_of (understood schema insert_eight_text) ≡ Insert at (Values insert_eight_terms 5)
+  insert_eight_is = ap command_of insert_eight_means.is
+
+  pub insert_eight_plain : IsPlain (understood schema insert_eight_text)
+  insert_eight_plain = rw (insert_eight_means.is) (refl, refl)
 
   delete_means : Means schema delete_text (with_command delete_parsed ([], (Delete at (record { lets = []; body = delete_query tree }), None)))
   delete_means =

@@ -1,5 +1,5 @@
 -- What each call on one row of held does, where it succeeds.
-use Rattle.std.proofs.Common.{◌≡◌, ◌≢◌, ◌+◌, ◌≤◌, ℕ, ℤ, pos, List, [], ◌∷◌, map, filter, Some, None, true, false, Ok, Err, Result, IfOk, OnOk, refl, sym, ap, subst, nat_lt, ◌∙◌, Option, length, slice_index_or, arith}
+use Rattle.std.proofs.Common.{Bor, ◌≡◌, ◌≢◌, ◌+◌, ◌≤◌, ℕ, ℤ, pos, List, [], ◌∷◌, map, filter, Some, None, true, false, Ok, Err, Result, Bool, IsOk, IfOk, OnOk, refl, sym, ap, subst, nat_lt, ◌∙◌, Option, length, slice_index_or, arith}
 use Rattle.std.specs.List.Sorted.{IsPermutation}
 use Rattle.std.proofs.lemmas.List.Sorted.{length_permutation, IsPermutation-sym}
 use Rattle.sqlite_value.specs.declared.value.Value.TheVariants.{Int}
@@ -12,14 +12,14 @@ use Rattle.sqlite_trees.specs.declared.error.StoreError.{StoreError}
 use Rattle.sqlite_trees.specs.declared.error.StoreError.TheVariants.{OutOfMemory, Io, Corrupt, Full, Broken, Unstorable}
 use Rattle.sqlite.specs.State.{State, ExecutesInside, Shown, IsUnchanged, store_error}
 use Rattle.sqlite.proofs.Callers.{one_permutation}
-use Rattle.store.specs.Layout.{IsLaidOut, read_text, insert_text, update_text, delete_text}
+use Rattle.store.specs.Layout.{IsLaidOut, read_text, insert_text, insert_eight_text, update_text, delete_text}
 use Rattle.store.specs.Changes.{most}
-use Rattle.store.specs.Rows.{Key, Finds, IsCount, is_at, has_n, held_rows, count, with_one, without_one}
+use Rattle.store.specs.Rows.{Key, key_of, Finds, IsCount, is_at, has_n, held_rows, count, with_one, without_one}
 use Rattle.store.specs.Inside.{IsWorking, HasCounts, Inserts, Deletes}
 use Rattle.store.proofs.Selects.{key_params}
 use Rattle.store.proofs.Keeps.{refused_same}
-use Rattle.store.proofs.Statements.{inserts, deletes, updates, shown_reads, shown_same}
-use Rattle.store.proofs.Effects.{unheld, holds_inserted, deleted, holds_raised, holds_lowered}
+use Rattle.store.proofs.Statements.{eight_params, inserts, inserts_eight, deletes, updates, shown_reads, shown_same}
+use Rattle.store.proofs.Effects.{holds_inserted, deleted, holds_raised, holds_lowered}
 
 -- the answer where the key is taken
 abbrev pub taken : Error
@@ -33,6 +33,41 @@ no_fault Full e = absurd (cc)
 no_fault Broken e = absurd (cc)
 no_fault Unstorable e = absurd (cc)
 
+-- what came of an INSERT of these rows
+pub done_inserted : (text : List ℕ) (params : Row) (keys : List Key) (old new : State) (outcome : Result ℕ Error) (r : Result Bool Error) → (r ≡ Ok true → IsOk outcome) → (r ≡ Ok false → outcome ≡ Err taken)
+    → ((n : ℕ) → ExecutesInside 0 text params old new (Ok n) → Inserts keys old new true) → ExecutesInside 0 text params old new outcome → IfOk r (Inserts keys old new)
+done_inserted text params keys old new (Ok n) (Ok true) ok off done h = done n h
+done_inserted text params keys old new (Err e) (Ok true) ok off done h = absurd (let e = ok refl in cc)
+done_inserted text params keys old new outcome (Ok false) ok off done h = refused_same text old new taken no_fault params (subst (ExecutesInside 0 text params old new) (off refl) h)
+done_inserted text params keys old new outcome (Err e) ok off done h = tt
+
+pub done_eight : (old new : State) (was : IsWorking old) (s t b c d e f g i j : List ℕ) (n : ℕ) → ExecutesInside 0 insert_eight_text (eight_params s t (b ∷ c ∷ d ∷ e ∷ f ∷ g ∷ i ∷ j ∷ [])) old new (Ok n)
+    → Inserts (map (key_of s t) (b ∷ c ∷ d ∷ e ∷ f ∷ g ∷ i ∷ j ∷ [])) old new true
+done_eight old new was s t b c d e f g i j n h stored =
+    holds_inserted old new was (map (key_of s t) (b ∷ c ∷ d ∷ e ∷ f ∷ g ∷ i ∷ j ∷ [])) stored (inserts_eight old.now.schema was.laid_out old new refl s t b c d e f g i j n h.0)
+
+-- of the eight rows of a slice
+abbrev slice_params : List ℕ → List ℕ → List (Bor (List ℕ)) → Bor (List ℕ) → Row
+slice_params s t xs d =
+    eight_params s t ((slice_index_or xs 0 d).now ∷ (slice_index_or xs 1 d).now ∷ (slice_index_or xs 2 d).now ∷ (slice_index_or xs 3 d).now ∷ (slice_index_or xs 4 d).now ∷ (slice_index_or xs 5 d).now ∷ (slice_index_or xs 6 d).now ∷ (slice_index_or xs 7 d).now ∷ [])
+
+of_slice : (old new : State) (was : IsWorking old) (s t : List ℕ) (xs : List (Bor (List ℕ))) (d : Bor (List ℕ)) → length xs ≡ 8 → (n : ℕ) → ExecutesInside 0 insert_eight_text (slice_params s t xs d) old new (Ok n)
+    → Inserts (map (λ r. key_of s t r.now) xs) old new true
+of_slice old new was s t (a ∷ b ∷ c ∷ e ∷ f ∷ g ∷ i ∷ j ∷ []) d eight n h = done_eight old new was s t a.now b.now c.now e.now f.now g.now i.now j.now n h
+of_slice old new was s t ([]) d eight n h = absurd (omega (arith, eight))
+of_slice old new was s t (a ∷ []) d eight n h = absurd (omega (arith, eight))
+of_slice old new was s t (a ∷ b ∷ []) d eight n h = absurd (omega (arith, eight))
+of_slice old new was s t (a ∷ b ∷ c ∷ []) d eight n h = absurd (omega (arith, eight))
+of_slice old new was s t (a ∷ b ∷ c ∷ e ∷ []) d eight n h = absurd (omega (arith, eight))
+of_slice old new was s t (a ∷ b ∷ c ∷ e ∷ f ∷ []) d eight n h = absurd (omega (arith, eight))
+of_slice old new was s t (a ∷ b ∷ c ∷ e ∷ f ∷ g ∷ []) d eight n h = absurd (omega (arith, eight))
+of_slice old new was s t (a ∷ b ∷ c ∷ e ∷ f ∷ g ∷ i ∷ []) d eight n h = absurd (omega (arith, eight))
+of_slice old new was s t (a ∷ b ∷ c ∷ e ∷ f ∷ g ∷ i ∷ j ∷ k ∷ more) d eight n h = absurd (omega (arith, eight))
+
+pub done_slice : (old new : State) (was : IsWorking old) (s t : List ℕ) (xs : List (Bor (List ℕ))) (d : Bor (List ℕ)) → length xs ≡ 8 → (outcome : Result ℕ Error) (r : Result Bool Error) → (r ≡ Ok true → IsOk outcome) → (r ≡ Ok false → outcome ≡ Err taken)
+    → ExecutesInside 0 insert_eight_text (slice_params s t xs d) old new outcome → IfOk r (Inserts (map (λ r. key_of s t r.now) xs) old new)
+done_slice old new was s t xs d eight outcome r ok off h = done_inserted insert_eight_text (slice_params s t xs d) (map (λ r. key_of s t r.now) xs) old new outcome r ok off (of_slice old new was s t xs d eight) h
+
 module _ (old new : State) (key : Key) (was : IsWorking old) where
   abbrev l : IsLaidOut old.now.schema
   l = was.laid_out
@@ -44,11 +79,8 @@ module _ (old new : State) (key : Key) (was : IsWorking old) where
   pub done_same : {X : Type 0} (items : X → List Row) (r : Result X Error) → IfOk r (λ x. Shown read_text (key_params key []) old new (items x)) → OnOk r (IsUnchanged old new)
   done_same items r h = shown_same old.now.schema l items r old new key refl h
 
-  pub done_insert : (n : ℕ) → ExecutesInside 0 insert_text (key_params key []) old new (Ok n) → Inserts key old new true
-  done_insert n h stored = let it = inserts old.now.schema l old new refl key n h.0 in (unheld old new was key it, holds_inserted old new was key stored it)
-
-  pub done_taken : (r : Result ℕ Error) → r ≡ Err taken → ExecutesInside 0 insert_text (key_params key []) old new r → Inserts key old new false
-  done_taken r is h = refused_same insert_text old new taken no_fault (key_params key []) (subst (ExecutesInside 0 insert_text (key_params key []) old new) is h)
+  pub done_insert : (n : ℕ) → ExecutesInside 0 insert_text (key_params key []) old new (Ok n) → Inserts (key ∷ []) old new true
+  done_insert n h stored = holds_inserted old new was (key ∷ []) stored (inserts old.now.schema l old new refl key n h.0)
 
   pub done_delete : (n : ℕ) → ExecutesInside 0 delete_text (key_params key (Int (pos 1) ∷ [])) old new (Ok n) → Deletes key old new (nat_lt 0 n)
   done_delete n h =

@@ -5,17 +5,15 @@ use Rattle.std.specs.List.Sorted.{IsPermutation}
 use Rattle.std.proofs.lemmas.List.{nil_from_length}
 use Rattle.std.proofs.lemmas.List.Sorted.{length_permutation}
 use Rattle.std.proofs.lemmas.Bool.{and_parts, and_from, lt-ltb, not-true}
-use Rattle.std.proofs.lemmas.Slice.Eq.{bytes_eq-Decides}
 use Rattle.std.proofs.lemmas.Cmp.{tied_itself}
 use Rattle.std.specs.Ordering.{is_eq}
 use Rattle.sqlite_value.proofs.OrderLemmas.{value_cmp_total}
-use Rattle.sqlite_value.specs.declared.value.Value.{Value}
-use Rattle.sqlite_value.specs.declared.value.Value.TheVariants.{Null, Int, Blob}
+use Rattle.sqlite_value.specs.declared.value.Value.TheVariants.{Int}
 use Rattle.sqlite_value.specs.Order.{Row, column, value_cmp}
 use Rattle.sqlite_trees.specs.Tree.{rowid, put_row, without_rowid, has_rowid}
 use Rattle.sqlite_trees.proofs.TreeLemmas.{all-put_row}
 use Rattle.sqlite_rules.specs.Lists.{Has}
-use Rattle.sqlite_rules.specs.Edit.{Edit, Applies, edit_of, next_rowid, are_fresh, is_taken, id_in, put_all, without_all}
+use Rattle.sqlite_rules.specs.Edit.{Edit, Applies, edit_of, are_fresh, is_taken, id_in, put_all, without_all}
 use Rattle.sqlite_rules.specs.Calls.{ids_of}
 use Rattle.sqlite_rules.specs.declared.error.Rowids.TheVariants.{Chosen, Given}
 use Rattle.sqlite_rules.proofs.ListLemmas.{all_has, has_filtered, has_kept}
@@ -32,22 +30,17 @@ use Rattle.sqlite.proofs.Callers.{one_permutation}
 use Rattle.store.specs.Layout.{IsLaidOut, IsFound, tree_named, meta_tree, held_tree, spans_tree, follow_tree, meta_at, held_at, spans_at, follow_at}
 use Rattle.store.specs.Changes.{most}
 use Rattle.gather.specs.Image.{IsSomeImage}
-use Rattle.store.specs.Rows.{Key, IsHeldRow, HasRowids, is_at, has_n, is_blob, count, with_one, without_one, held_rows, span_rows}
-use Rattle.store.specs.Inside.{IsWorking, GoesOn, HasCounts, Deletes}
+use Rattle.store.specs.Rows.{Key, IsHeldRow, HasRowids, is_at, has_n, count, with_one, without_one, held_rows, span_rows}
+use Rattle.store.specs.Inside.{IsWorking, GoesOn, HasCounts, Raises, Adds, Deletes}
 use Rattle.store.specs.Beside.{LiesBeside, own_names}
 use Rattle.store.proofs.Spared.{beside_written, own_found, own_held}
 use Rattle.store.proofs.AnyWhole.{has_index}
-use Rattle.store.proofs.Statements.{Applied, cast_null, cast_int}
-use Rattle.store.proofs.Unique.{put_has, none_before, none_at, one_at, no_clash}
-use Rattle.store.proofs.RowLemmas.{same_int, both_pass, count_none, count_found, counts_inserted, counts_deleted, counts_raised, counts_lowered, found_alone, rowids_put, rowids_without, all_filtered}
+use Rattle.store.proofs.Statements.{Applied, given_row, cast_int}
+use Rattle.store.proofs.Unique.{one_at, no_clash}
+use Rattle.store.proofs.PutInTurn.{all_new, numbered_are, put_in_turn}
+use Rattle.store.proofs.RowLemmas.{same_int, both_pass, count_none, count_found, counts_deleted, counts_raised, counts_lowered, found_alone, rowids_put, rowids_without, all_filtered}
 
 -- ---- rows of the table
-pub own_bytes : (b : List ℕ) → is_blob b (Blob b) ≡ true
-own_bytes b = (bytes_eq-Decides b b).1 refl
-
-own_key : (key : Key) (id last : Value) → is_at key (id ∷ Blob key.schema ∷ Blob key.table ∷ Blob key.image ∷ last ∷ []) ≡ true
-own_key key id last = rw (own_bytes key.schema, own_bytes key.table, own_bytes key.image) refl
-
 pub fresh_alone : (rows : List Row) (row : Row) → are_fresh rows (row ∷ []) ≡ true → is_taken rows row ≡ false
 fresh_alone rows row h = not-true _ (and_parts _ _ h).0
 
@@ -147,39 +140,14 @@ module _ (old new : State) (was : IsWorking old) where
     follow = same_rows old new (codes "follow") h.schema_is (stays schema l.follow.at (follow_at schema) old.now.trees new.now.trees edit l.follow.found h.step (rw at (follow_held schema l)));
   }
 
-  -- ---- a row is put in
-  abbrev new_held : Key → Row
-  new_held key = Int (next_rowid rows) ∷ Blob key.schema ∷ Blob key.table ∷ Blob key.image ∷ Int (pos 1) ∷ []
-
-  news_inserted : (key : Key) → (edit_of old.now.trees (held_at schema) [] Chosen 0 ((Null ∷ Blob key.schema ∷ Blob key.table ∷ Blob key.image ∷ Int (pos 1) ∷ []) ∷ [])).news ≡ new_held key ∷ []
-  news_inserted key = rw (cast_null, cast_int (pos 1)) refl
-
-  pub holds_inserted : (key : Key) → IsSomeImage key.image
-      → Applied schema old new (edit_of old.now.trees (held_at schema) [] Chosen 0 ((Null ∷ Blob key.schema ∷ Blob key.table ∷ Blob key.image ∷ Int (pos 1) ∷ []) ∷ []))
-      → HasCounts old new (with_one key (count (held_rows old.now)))
-  holds_inserted key stored h =
-      let row = new_held key in
-      let news = news_inserted key in
-      let is : new.now.trees (held_tree schema) ≡ put_row row rows = h.step.rows ∙ ap (put_all rows) news in
-      let free : is_taken rows row ≡ false = fresh_alone rows row (ap (are_fresh rows) (sym news) ∙ h.step.fresh) in
-      record {
-        on = goes_on _ h refl (rw is (rowids_put row rows refl free shaped_old)) (rw is (all-put_row IsHeldRow row rows (_, key, 1, refl, omega arith, omega arith, stored) lawful_old));
-        spans = spans_stay _ h refl;
-        counts_are = ap count (rows_new _ h ∙ is) ∙ counts_inserted key row rows (own_key key (Int (next_rowid rows)) (Int (pos 1))) refl free;
-      }
-
-  -- and its key was free, since the rows as they are now obey the schema
-  pub unheld : (key : Key)
-      → Applied schema old new (edit_of old.now.trees (held_at schema) [] Chosen 0 ((Null ∷ Blob key.schema ∷ Blob key.table ∷ Blob key.image ∷ Int (pos 1) ∷ []) ∷ []))
-      → count (held_rows old.now) key ≡ 0
-  unheld key h =
-      let row = new_held key in
-      let news = news_inserted key in
-      let is : new.now.trees (held_tree schema) ≡ put_row row rows = h.step.rows ∙ ap (put_all rows) news in
-      let free : is_taken rows row ≡ false = fresh_alone rows row (ap (are_fresh rows) (sym news) ∙ h.step.fresh) in
+  -- ---- rows are put in, whose keys were free, since the rows as they are now obey the schema
+  pub holds_inserted : (keys : List Key) → AllByRecursion (λ key. IsSomeImage key.image) keys → Applied schema old new (edit_of old.now.trees (held_at schema) [] Chosen 0 (map given_row keys)) → Adds keys old new
+  holds_inserted keys stored h =
+      let news = numbered_are schema keys rows in
       let sound : IsSound schema new.now.trees = subst (λ s. IsSound s new.now.trees) h.schema_is h.sound in
-      let apart = no_clash schema l new.now.trees sound row (rw is (put_has row rows)) in
-      count_none key rows (none_at key row (own_key key (Int (next_rowid rows)) (Int (pos 1))) refl rows shaped_old.keyed free (none_before _ row rows free (rw is at apart)))
+      let end : new.now.trees (held_tree schema) ≡ put_all rows (all_new keys rows) = h.step.rows ∙ ap (put_all rows) news in
+      let put = put_in_turn (new.now.trees (held_tree schema)) (no_clash schema l new.now.trees sound) keys rows stored shaped_old lawful_old (ap (are_fresh rows) (sym news) ∙ h.step.fresh) (sym end) in
+      (record { on = goes_on _ h refl put.0 put.1; spans = spans_stay _ h refl }, subst (λ l. Raises keys (count rows) (count l)) (sym (rows_new _ h)) put.2)
 
   -- ---- no row is taken out
   pub holds_same : Applied schema old new (edit_of old.now.trees (held_at schema) [] Given 0 []) → HasCounts old new (count (held_rows old.now))

@@ -10,6 +10,7 @@ pub mod Works
 pub mod RowLemmas
 pub mod Statements
 pub mod Unique
+pub mod PutInTurn
 pub mod Effects
 pub mod Left
 pub mod Done

@@ -1,5 +1,5 @@
 -- From one call to the next.
-use Rattle.std.proofs.Common.{◌≡◌, ◌<◌, ◌≤◌, nat_lt, ℕ, List, true, false, Some, None, Option, Ok, Err, Result, IfOk, refl, sym, ap, subst, subst₂, ◌∙◌, arith}
+use Rattle.std.proofs.Common.{◌≡◌, ◌<◌, ◌≤◌, nat_lt, ℕ, List, [], ◌∷◌, true, false, Some, None, Option, Ok, Err, Result, IfOk, refl, sym, ap, subst, subst₂, ◌∙◌, arith}
 use Rattle.std.specs.List.{AllByRecursion}
 use Rattle.std.proofs.lemmas.Bool.{lt-ltb}
 use Rattle.std.proofs.lemmas.Bool.Decides.{nat_tests}
@@ -12,7 +12,7 @@ use Rattle.store.specs.Layout.{IsLaidOut}
 use Rattle.store.specs.Beside.{LiesBeside}
 use Rattle.store.specs.Changes.{most}
 use Rattle.store.specs.Rows.{Key, IsHeldRow, HasRowids, Finds, meta_rows, held_rows, span_rows, follow_rows, count, KeyCounts, with_one, without_one}
-use Rattle.store.specs.Inside.{IsWorking, GoesOn, HasCounts, added, removed, Counted}
+use Rattle.store.specs.Inside.{IsWorking, GoesOn, HasCounts, Adds, added, removed, Counted}
 use Rattle.store.proofs.RowLemmas.{count_found, count_none}
 
 pub working_same : (old mid : State) → IsUnchanged old mid → IsWorking old → IsWorking mid
@@ -86,8 +86,8 @@ goes_then old mid new one two = record {
 
 -- ---- a row that is put in or taken out with all its copies
 
-pub counted_new : (old new : State) (key : Key) → count (held_rows old.now) key ≡ 0 → HasCounts old new (with_one key (count (held_rows old.now))) → Counted old new (added key (count (held_rows old.now))) None
-counted_new old new key is h = let test : nat_lt (count (held_rows old.now) key) most ≡ true = rw is refl in rw test h
+pub counted_new : (old new : State) (key : Key) → Adds (key ∷ []) old new → Counted old new (added key (count (held_rows old.now))) None
+counted_new old new key h = let test : nat_lt (count (held_rows old.now) key) most ≡ true = lt-ltb _ most h.1.0 in rw test (record { on = h.0.on; spans = h.0.spans; counts_are = h.1.1 })
 
 pub counted_one : (old new : State) (key : Key) → count (held_rows old.now) key ≡ 1 → HasCounts old new (without_one key (count (held_rows old.now))) → Counted old new (removed key (count (held_rows old.now))) None
 counted_one old new key is h = let test : nat_lt 0 (count (held_rows old.now) key) ≡ true = rw is refl in rw test h

@@ -24,6 +24,9 @@ use Rattle.store.specs.Rows.{Key, alike, HasRowids, same_key, is_blob, is_at, nu
 
 -- ---- keys
 
+pub own_bytes : (b : List ℕ) → is_blob b (Blob b) ≡ true
+own_bytes b = (bytes_eq-Decides b b).1 refl
+
 pub blob_is : (v : Value) (b : List ℕ) → is_blob b v ≡ true → v ≡ Blob b
 blob_is Null b h = absurd (cc)
 blob_is (Int n) b h = absurd (cc)

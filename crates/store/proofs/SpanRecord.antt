@@ -22,9 +22,9 @@ use Rattle.gtid.specs.declared.span.Span.{Span}
 use Rattle.gtid.proofs.Sets.{id_cmp_total}
 use Rattle.store.specs.Rows.{span_rows, stored_span, shown_spans, begins_at, touches}
 use Rattle.store.specs.Inside.{Moves, Begins, AreRowsOf, Shows, Records}
-use Rattle.store.proofs.Effects.{own_bytes, own_id}
+use Rattle.store.proofs.Effects.{own_id}
 use Rattle.store.proofs.Made.{goes_then}
-use Rattle.store.proofs.RowLemmas.{same_int}
+use Rattle.store.proofs.RowLemmas.{own_bytes, same_int}
 use Rattle.store.proofs.SpanRows.{flips}
 use Rattle.store.proofs.SortedSpans.{IsSome, IsClear, all_some, all_clear, all_distinct, without}
 

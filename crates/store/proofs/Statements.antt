@@ -30,11 +30,19 @@ use Rattle.sqlite.specs.Does.{Tally, Does, OnTable, OnRows, WritesRows, AtPlace}
 use Rattle.sqlite.specs.Listing.{understood}
 use Rattle.sqlite.specs.State.{State, Writes, mode_of, Executes, Shown, IsUnchanged, Shows as Sees}
 use Rattle.sqlite.proofs.Callers.{command_of, statement_of, runs_as, reads_as, one_step, IsPlain}
-use Rattle.store.specs.Layout.{IsLaidOut, IsFound, IsApart, keyed, among, held_at, held_tree, read_text, insert_text, update_text, delete_text, has_key, has_count, read_query, insert_terms, spans_at, spans_tree, add_span_text, drop_span_text, set_end_text, has_start, add_span_terms}
-use Rattle.store.specs.Rows.{Key, is_at, has_n, begins_at, shown_span}
-use Rattle.store.proofs.AnySchema.{read_is, read_plain, insert_is, insert_plain, update_is, update_plain, delete_is, delete_plain, add_span_is, add_span_plain, drop_span_is, drop_span_plain, set_end_is, set_end_plain}
+use Rattle.store.specs.Layout.{IsLaidOut, IsFound, IsApart, keyed, among, held_at, held_tree, read_text, insert_text, insert_eight_text, update_text, delete_text, has_key, has_count, read_query, insert_terms, insert_eight_terms, spans_at, spans_tree, add_span_text, drop_span_text, set_end_text, has_start, add_span_terms}
+use Rattle.store.specs.Rows.{Key, key_of, is_at, has_n, begins_at, shown_span}
+use Rattle.store.proofs.AnySchema.{read_is, read_plain, insert_is, insert_plain, insert_eight_is, insert_eight_plain, update_is, update_plain, delete_is, delete_plain, add_span_is, add_span_plain, drop_span_is, drop_span_plain, set_end_is, set_end_plain}
 use Rattle.store.proofs.Selects.{key_params, key_holds, count_holds, start_holds, answers, stored_read}
 use Rattle.store.proofs.Works.{no_works}
+
+-- a new row as a statement gives it, without its rowid
+abbrev pub given_row : Key → Row
+given_row key = Null ∷ Blob key.schema ∷ Blob key.table ∷ Blob key.image ∷ Int (pos 1) ∷ []
+
+-- the parameters of a statement on rows of a table
+abbrev pub eight_params : List ℕ → List ℕ → List (List ℕ) → Row
+eight_params schema table images = Blob schema ∷ Blob table ∷ map Blob images
 
 -- a part that gave a value did not stop on the way
 pub went : {B E R : Type 0} {b : B} {Stops : E → Type 0} → ((stop : E) × Stops stop × (Ok b ≡ Err stop)) ⊎ R → R
@@ -191,11 +199,16 @@ module _ (schema : Schema) (l : IsLaidOut schema) where
   shown_same items (Err e) old new key has h = h
 
   module _ (old new : State) (has : old.now.schema ≡ schema) where
-    pub inserts : (key : Key) (count : ℕ) → Executes insert_text (key_params key []) old new (Ok count)
-        → Applied schema old new (edit_of old.now.trees (held_at schema) [] Chosen 0 ((Null ∷ Blob key.schema ∷ Blob key.table ∷ Blob key.image ∷ Int (pos 1) ∷ []) ∷ []))
+    pub inserts : (key : Key) (count : ℕ) → Executes insert_text (key_params key []) old new (Ok count) → Applied schema old new (edit_of old.now.trees (held_at schema) [] Chosen 0 (map given_row (key ∷ [])))
     inserts key count h =
         puts schema l.held.at (held_tree schema) _ _ _ _ held_found insert_text (key_params key []) (insert_plain schema l.held.at (held_tree schema) held_found) old new has count h insert_terms 5
         (insert_is schema l.held.at (held_tree schema) held_found)
+
+    pub inserts_eight : (s t b c d e f g i j : List ℕ) (count : ℕ) → Executes insert_eight_text (eight_params s t (b ∷ c ∷ d ∷ e ∷ f ∷ g ∷ i ∷ j ∷ [])) old new (Ok count)
+        → Applied schema old new (edit_of old.now.trees (held_at schema) [] Chosen 0 (map given_row (map (key_of s t) (b ∷ c ∷ d ∷ e ∷ f ∷ g ∷ i ∷ j ∷ []))))
+    inserts_eight s t b c d e f g i j count h =
+        puts schema l.held.at (held_tree schema) _ _ _ _ held_found insert_eight_text (eight_params s t (b ∷ c ∷ d ∷ e ∷ f ∷ g ∷ i ∷ j ∷ [])) (insert_eight_plain schema l.held.at (held_tree schema) held_found) old new has count h insert_eight_terms 5
+        (insert_eight_is schema l.held.at (held_tree schema) held_found)
 
     pub adds_span : (source : List ℕ) (lo hi : ℤ) (count : ℕ) → Executes add_span_text (Blob source ∷ Int lo ∷ Int hi ∷ []) old new (Ok count)
         → Applied schema old new (edit_of old.now.trees (spans_at schema) [] Chosen 0 ((Null ∷ Blob source ∷ Int lo ∷ Int hi ∷ []) ∷ []))

@@ -26,16 +26,7 @@ use Rattle.store.proofs.AnyWhole.{has_index}
 use Rattle.store.proofs.RowLemmas.{blob_is, turned}
 use Rattle.store.proofs.Selects.{shown_bool, equals_blob}
 
--- ---- the rows with one put in
-
-pub put_has : (new : Row) (rows : List Row) → Has (put_row new rows) new
-put_has new [] = inl refl
-put_has new (r ∷ rows) = go (value_cmp (rowid r) (rowid new)) (put_has new rows)
-  where
-    go : (o : Ordering) → Has (put_row new rows) new → Has (match_ordering o (r ∷ put_row new rows) (new ∷ rows) (new ∷ r ∷ rows)) new
-    go Less later = inr later
-    go Equal later = inl refl
-    go Greater later = inl refl
+-- ---- before a row was put in
 
 pub none_before : (p : Row → Bool) (new : Row) (rows : List Row) → is_taken rows new ≡ false → list_any p (put_row new rows) ≡ false → list_any p rows ≡ false
 none_before p new [] free none = refl

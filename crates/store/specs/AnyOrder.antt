@@ -1,5 +1,5 @@
 -- Private: rows that are added to one table, which may be done in any order.
-use Rattle.std.specs.Prelude.{◌≡◌, ◌<◌, ℕ, Bool, true, false, List, [], ◌∷◌, ◌++◌, map, Result, Ok, Err, IsPermutation}
+use Rattle.std.specs.Prelude.{◌≡◌, ℕ, Bool, true, false, List, [], ◌++◌, map, Result, Ok, Err, IsPermutation}
 use Rattle.std.specs.List.{AllByRecursion}
 use Rattle.sqlite_trees.specs.Tree.{Trees}
 use Rattle.sqlite.specs.State.{State}
@@ -10,8 +10,7 @@ use Rattle.gather.specs.Transaction.{ChangeValue, insert, DeliveryValue}
 use Rattle.store.specs.declared.inserts.SortedInserts.{SortedInserts}
 use Rattle.store.specs.State.{Content}
 use Rattle.store.specs.Beside.{LiesBeside}
-use Rattle.store.specs.Changes.{most}
-use Rattle.store.specs.Rows.{Key, key_of, KeyCounts, with_one}
+use Rattle.store.specs.Rows.{Key, key_of}
 use Rattle.store.specs.Apply.{Rests, IsAtRestAfter, IsAppliedAlone}
 
 -- The change adds a row with this image to the table.
@@ -41,11 +40,6 @@ pub record AreInserts (names : Names) (changes : List ChangeValue) (sorted : Sor
   pub images : List (List ℕ)
   pub adds : AddsRows sorted.schema.now sorted.table.now changes [] images
   pub same : IsPermutation images (images_in sorted)
-
--- The count of each key in turn is below the greatest, and one is added to it.
-abbrev pub Raises : List Key → KeyCounts → KeyCounts → Type 0
-Raises [] old new = new ≡ old
-Raises (key ∷ keys) old new = (old key < most) × Raises keys (with_one key old) new
 
 -- Whether the transaction was committed. If it was not, nothing has changed, if the connection is still open.
 abbrev pub Tries : {E : Type 0} → Names → Content → DeliveryValue → State → State → Result Bool E → Type 0

@@ -1,5 +1,5 @@
 -- Private: the effect of a call inside a transaction of the database.
-use Rattle.std.specs.Prelude.{◌≡◌, ◌≢◌, nat_lt, ℕ, Bool, true, false, IsTrue, if◌then◌else◌, List, ◌∷◌, ◌++◌, Option, Some, None, Result, Ok, Err, IsPermutation, ℤ, map}
+use Rattle.std.specs.Prelude.{◌≡◌, ◌≢◌, ◌<◌, [], nat_lt, ℕ, Bool, true, false, IsTrue, if◌then◌else◌, List, ◌∷◌, ◌++◌, Option, Some, None, Result, Ok, Err, IsPermutation, ℤ, map}
 use Rattle.std.specs.List.{AllByRecursion}
 use Rattle.sqlite_value.specs.Order.{Row}
 use Rattle.gtid.specs.Identifier.{Ids}
@@ -105,11 +105,6 @@ Counted old new (Ok counts) (Some why) = ⊥
 Counted old new (Err e) None = ⊥
 Counted old new (Err e) (Some why) = why ≡ e
 
--- The row was not there and is there once now, or it was there and nothing has changed.
-abbrev pub Inserts : Key → State → State → Bool → Type 0
-Inserts key old new true = IsSomeImage key.image → (count (held_rows old.now) key ≡ 0) × HasCounts old new (with_one key (count (held_rows old.now)))
-Inserts key old new false = IsUnchanged old new
-
 -- The row was there once and is not there now, or it was not there once and all counts are as they were.
 abbrev pub Deletes : Key → State → State → Bool → Type 0
 Deletes key old new true = (count (held_rows old.now) key ≡ 1) × HasCounts old new (without_one key (count (held_rows old.now)))
@@ -121,6 +116,20 @@ Deletes key old new false = (count (held_rows old.now) key ≢ 1) × HasCounts o
 pub record Goes (old new : State) : Type 0 where
   pub on : GoesOn old new
   pub spans : span_rows new.now ≡ span_rows old.now
+
+-- The count of each key in turn is below the greatest, and one is added to it.
+abbrev pub Raises : List Key → KeyCounts → KeyCounts → Type 0
+Raises [] old new = new ≡ old
+Raises (key ∷ keys) old new = (old key < most) × Raises keys (with_one key old) new
+
+-- Only one copy of each of these rows in turn was added.
+abbrev pub Adds : List Key → State → State → Type 0
+Adds keys old new = Goes old new × Raises keys (count (held_rows old.now)) (count (held_rows new.now))
+
+-- One copy of each row was added, or nothing has changed.
+abbrev pub Inserts : List Key → State → State → Bool → Type 0
+Inserts keys old new true = AllByRecursion (λ key. IsSomeImage key.image) keys → Adds keys old new
+Inserts keys old new false = IsUnchanged old new
 
 -- The change is made, or refused for this reason.
 abbrev pub Makes : ChangeValue → State → State → Option Refusal → Type 0

@@ -1,5 +1,5 @@
 -- The tables of the store, and the statements on them.
-use Rattle.std.specs.Prelude.{◌≡◌, ◌≢◌, ◌<◌, ◌≤◌, ◌+◌, ◌^◌, ◌==◌, true, false, [], ◌∷◌, None, Some, codes, List, ℕ, pos, negsuc, IfSome, find, slice_get, unwrap_or, option_and_then}
+use Rattle.std.specs.Prelude.{◌≡◌, ◌≢◌, ◌<◌, ◌≤◌, ◌+◌, ◌^◌, ◌==◌, true, false, [], ◌∷◌, ◌++◌, None, Some, codes, List, ℕ, pos, negsuc, IfSome, find, slice_get, unwrap_or, option_and_then}
 use Rattle.std.specs.Option.{option_map}
 use Rattle.std.specs.List.{AllByRecursion}
 use Rattle.sqlite_value.specs.declared.value.Value.TheVariants.{Null, Int}
@@ -188,6 +188,10 @@ read_text = codes "SELECT n FROM held WHERE schema_name = ?1 AND table_name = ?2
 abbrev pub insert_text : List ℕ
 insert_text = codes "INSERT INTO held VALUES (?1, ?2, ?3, 1)"
 
+-- of eight rows of a table
+abbrev pub insert_eight_text : List ℕ
+insert_eight_text = codes "INSERT INTO held VALUES (?1, ?2, ?3, 1), (?1, ?2, ?4, 1), (?1, ?2, ?5, 1), (?1, ?2, ?6, 1), (?1, ?2, ?7, 1), (?1, ?2, ?8, 1), (?1, ?2, ?9, 1), (?1, ?2, ?10, 1)"
+
 abbrev pub update_text : List ℕ
 update_text = codes "UPDATE held SET n = ?4 WHERE schema_name = ?1 AND table_name = ?2 AND image = ?3"
 
@@ -243,8 +247,15 @@ delete_query tree = among tree has_count (col 1 0 ∷ [])
 abbrev pub update_query : ℕ → Query
 update_query tree = among tree has_key (col 1 0 ∷ col 1 0 ∷ col 1 1 ∷ col 1 2 ∷ col 1 3 ∷ col 0 3 ∷ [])
 
+-- a new row of held, whose image is the parameter of this number, from 0
+abbrev pub new_row : ℕ → List Term
+new_row image = lit Null ∷ col 0 0 ∷ col 0 1 ∷ col 0 image ∷ lit (Int (pos 1)) ∷ []
+
 abbrev pub insert_terms : List Term
-insert_terms = lit Null ∷ col 0 0 ∷ col 0 1 ∷ col 0 2 ∷ lit (Int (pos 1)) ∷ []
+insert_terms = new_row 2
+
+abbrev pub insert_eight_terms : List Term
+insert_eight_terms = new_row 2 ++ new_row 3 ++ new_row 4 ++ new_row 5 ++ new_row 6 ++ new_row 7 ++ new_row 8 ++ new_row 9
 
 abbrev pub add_span_terms : List Term
 add_span_terms = lit Null ∷ col 0 0 ∷ col 0 1 ∷ col 0 2 ∷ []

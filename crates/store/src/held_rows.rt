@@ -1,11 +1,11 @@
 //! Statements on single rows of the table `held`, inside a transaction.
 
-ghost use Rattle.std.specs.Prelude.{◌≡◌, ◌+◌, ◌<◌, ◌≤◌, ◌^◌, pos, ℕ, IfOk, IfSome, OnOk, IsPermutation, map, filter, [], ◌∷◌, Some};
+ghost use Rattle.std.specs.Prelude.{◌≡◌, ◌+◌, ◌<◌, ◌≤◌, ◌^◌, pos, ℕ, true, false, Ok, Err, IsOk, IfOk, IfErr, IfSome, OnOk, IsPermutation, map, filter, [], ◌∷◌, Some};
 ghost use Rattle.sqlite.specs.State.{HasCleanDisk, IsUnchanged};
 ghost use Rattle.sqlite.specs.Held.{state};
 ghost use Rattle.sqlite_value.specs.Order.{column};
 ghost use Rattle.store.specs.Changes.{most};
-ghost use Rattle.store.specs.Rows.{key_in, Finds, IsCount, held_rows, count, with_one, without_one, is_at};
+ghost use Rattle.store.specs.Rows.{key_in, key_of, Finds, IsCount, held_rows, count, with_one, without_one, is_at};
 ghost use Rattle.store.specs.Inside.{IsWorking, HasCounts, Inserts, Deletes, Stays};
 
 use sqlite::types::ValueRef;
@@ -70,24 +70,67 @@ pub(crate) fn read<S: Alter>(
     one_count(rows.as_slice())
 }
 
-/// Inserts a row with the count 1 if it is not there, and returns whether it did: the key of the table says so.
+/// Whether an INSERT inserted its rows. If it did not, a key was taken: the key of the table says so.
+fn inserted(outcome: Result<usize, Error>) -> Result<bool, Error>
+    ensures ok { result ≡ Ok true → IsOk outcome }
+    ensures taken { result ≡ Ok false → outcome ≡ Err (Error.SqliteFailure (ErrorCode.ConstraintViolation Constraint.Unique)) }
+    ensures err { IfErr result (λ error. outcome ≡ Err error) }
+{
+    match outcome {
+        Ok(_) => Ok(true),
+        Err(Error::SqliteFailure(ErrorCode::ConstraintViolation(Constraint::Unique))) => Ok(false),
+        Err(error) => Err(error),
+    }
+}
+
+/// Inserts a row with the count 1 if it is not there, and returns whether it did.
 pub(crate) fn insert<S: Alter>(tx: &mut Transaction<'_, S>, row: &RowKey<'_>) -> Result<bool, Error>
     ensures same_reference { tx.new.conn.ghost_name ≡ tx.old.conn.ghost_name }
-    ensures inserts { HasCleanDisk (state S.Store tx.new.conn.now) → IsWorking (state S.Store tx.old.conn.now) → IfOk result (Inserts (key_in row.now) (state S.Store tx.old.conn.now) (state S.Store tx.new.conn.now)) }
+    ensures inserts { HasCleanDisk (state S.Store tx.new.conn.now) → IsWorking (state S.Store tx.old.conn.now) → IfOk result (Inserts (key_in row.now ∷ []) (state S.Store tx.old.conn.now) (state S.Store tx.new.conn.now)) }
     ensures stays { Stays (state S.Store tx.old.conn.now) (state S.Store tx.new.conn.now) }
 {
-    match tx.execute(
+    let outcome = tx.execute(
         "INSERT INTO held VALUES (?1, ?2, ?3, 1)",
         &[
             ValueRef::Blob(row.schema),
             ValueRef::Blob(row.table),
             ValueRef::Blob(row.image),
         ],
-    ) {
-        Ok(_) => Ok(true),
-        Err(Error::SqliteFailure(ErrorCode::ConstraintViolation(Constraint::Unique))) => Ok(false),
-        Err(error) => Err(error),
-    }
+    );
+    inserted(outcome)
+}
+
+/// Inserts eight rows of a table with the count 1 each, if none of them is there and no two are the same, and returns
+/// whether it did. Any other number of rows it does not insert.
+pub(crate) fn insert_eight<S: Alter>(
+    tx: &mut Transaction<'_, S>,
+    schema: &[u8],
+    table: &[u8],
+    images: &[&[u8]],
+) -> Result<bool, Error>
+    ensures same_reference { tx.new.conn.ghost_name ≡ tx.old.conn.ghost_name }
+    ensures inserts { HasCleanDisk (state S.Store tx.new.conn.now) → IsWorking (state S.Store tx.old.conn.now) → IfOk result (Inserts (map (λ r. key_of schema.now table.now r.now) images.now) (state S.Store tx.old.conn.now) (state S.Store tx.new.conn.now)) }
+    ensures stays { Stays (state S.Store tx.old.conn.now) (state S.Store tx.new.conn.now) }
+{
+    let [a, b, c, d, e, f, g, h] = images else {
+        return Ok(false);
+    };
+    let outcome = tx.execute(
+        "INSERT INTO held VALUES (?1, ?2, ?3, 1), (?1, ?2, ?4, 1), (?1, ?2, ?5, 1), (?1, ?2, ?6, 1), (?1, ?2, ?7, 1), (?1, ?2, ?8, 1), (?1, ?2, ?9, 1), (?1, ?2, ?10, 1)",
+        &[
+            ValueRef::Blob(schema),
+            ValueRef::Blob(table),
+            ValueRef::Blob(a),
+            ValueRef::Blob(b),
+            ValueRef::Blob(c),
+            ValueRef::Blob(d),
+            ValueRef::Blob(e),
+            ValueRef::Blob(f),
+            ValueRef::Blob(g),
+            ValueRef::Blob(h),
+        ],
+    );
+    inserted(outcome)
 }
 
 /// Sets the count of a row.

@@ -12,12 +12,12 @@ ghost use Rattle.gather.specs.Image.{IsSomeImage};
 ghost use Rattle.gather.specs.View.{change_value, delivery_value};
 ghost use Rattle.store.specs.State.{Content};
 ghost use Rattle.store.specs.Changes.{is_executed};
-ghost use Rattle.store.specs.Rows.{StandsFor, key_of, held_rows, count};
-ghost use Rattle.store.specs.Inside.{IsWorking, WasOpen, Goes, Stays};
+ghost use Rattle.store.specs.Rows.{StandsFor, key_of};
+ghost use Rattle.store.specs.Inside.{IsWorking, WasOpen, Adds, Stays};
 ghost use Rattle.store.specs.Apply.{Fills, IsAtRest, Rests};
-ghost use Rattle.store.specs.AnyOrder.{AddsRow, AddsRows, AreInserts, Raises, Tries, MayTry};
+ghost use Rattle.store.specs.AnyOrder.{AddsRow, AddsRows, AreInserts, Tries, MayTry};
 
-use crate::held_rows::RowKey;
+use crate::held_rows::{RowKey, insert_eight};
 use crate::row_change::add;
 use crate::span_rows::record;
 use binlog::Follow;
@@ -34,8 +34,8 @@ struct SortedInserts<'a> {
     images: Vec<&'a [u8]>,
 }
 
-/// From how many changes on the rows are sorted. Fewer touch few pages of the index, in any order.
-const MANY: usize = 1000;
+/// How many rows a statement inserts, and from how many changes on the rows are sorted.
+const PER_STATEMENT: usize = 8;
 
 /// The image of the row, if the change adds one to the table.
 fn image_for<'a>(change: &Change<'a>, schema: &[u8], table: &[u8]) -> Option<&'a [u8]>
@@ -83,7 +83,7 @@ fn sorted_inserts<'a>(
 ) -> Option<SortedInserts<'a>>
     ensures { IfSome result (λ sorted. AreInserts filter.now changes.now sorted) }
 {
-    if changes.len() < MANY {
+    if changes.len() < PER_STATEMENT {
         return None;
     }
     let Some(Change::Insert { table, .. }) = changes.iter().next() else {
@@ -103,8 +103,8 @@ fn sorted_inserts<'a>(
     })
 }
 
-/// Adds the rows in turn, and returns whether all were added. It stops at the first that is refused.
-fn insert_all<S: Alter>(
+/// Adds the rows in turn, one by one, and returns whether all were added. It stops at the first that is refused.
+fn insert_each<S: Alter>(
     tx: &mut Transaction<'_, S>,
     schema: &[u8],
     table: &[u8],
@@ -112,7 +112,7 @@ fn insert_all<S: Alter>(
 ) -> Result<bool, Error>
     requires { All (λ r. IsSomeImage r.now) images.now }
     ensures same_reference { tx.new.conn.ghost_name ≡ tx.old.conn.ghost_name }
-    ensures raises { HasCleanDisk (state S.Store tx.new.conn.now) → IsWorking (state S.Store tx.old.conn.now) → IfOk result (λ all. IsTrue all → Goes (state S.Store tx.old.conn.now) (state S.Store tx.new.conn.now) × Raises (map (λ r. key_of schema.now table.now r.now) images.now) (count (held_rows (state S.Store tx.old.conn.now).now)) (count (held_rows (state S.Store tx.new.conn.now).now))) }
+    ensures adds { HasCleanDisk (state S.Store tx.new.conn.now) → IsWorking (state S.Store tx.old.conn.now) → IfOk result (λ all. IsTrue all → Adds (map (λ r. key_of schema.now table.now r.now) images.now) (state S.Store tx.old.conn.now) (state S.Store tx.new.conn.now)) }
     ensures stays { Stays (state S.Store tx.old.conn.now) (state S.Store tx.new.conn.now) }
 {
     for image in images {
@@ -122,6 +122,44 @@ fn insert_all<S: Alter>(
             image,
         };
         if let Some(_) = add(tx, &row)? {
+            return Ok(false);
+        }
+    }
+    Ok(true)
+}
+
+/// Adds up to eight rows, eight new ones in one statement, and returns whether all were added.
+fn insert_some<S: Alter>(
+    tx: &mut Transaction<'_, S>,
+    schema: &[u8],
+    table: &[u8],
+    images: &[&[u8]],
+) -> Result<bool, Error>
+    requires { All (λ r. IsSomeImage r.now) images.now }
+    ensures same_reference { tx.new.conn.ghost_name ≡ tx.old.conn.ghost_name }
+    ensures adds { HasCleanDisk (state S.Store tx.new.conn.now) → IsWorking (state S.Store tx.old.conn.now) → IfOk result (λ all. IsTrue all → Adds (map (λ r. key_of schema.now table.now r.now) images.now) (state S.Store tx.old.conn.now) (state S.Store tx.new.conn.now)) }
+    ensures stays { Stays (state S.Store tx.old.conn.now) (state S.Store tx.new.conn.now) }
+{
+    if insert_eight(tx, schema, table, images)? {
+        return Ok(true);
+    }
+    insert_each(tx, schema, table, images)
+}
+
+/// Adds the rows in turn, eight at a time, and returns whether all were added. It stops at the first that is refused.
+fn insert_all<S: Alter>(
+    tx: &mut Transaction<'_, S>,
+    schema: &[u8],
+    table: &[u8],
+    images: &[&[u8]],
+) -> Result<bool, Error>
+    requires { All (λ r. IsSomeImage r.now) images.now }
+    ensures same_reference { tx.new.conn.ghost_name ≡ tx.old.conn.ghost_name }
+    ensures adds { HasCleanDisk (state S.Store tx.new.conn.now) → IsWorking (state S.Store tx.old.conn.now) → IfOk result (λ all. IsTrue all → Adds (map (λ r. key_of schema.now table.now r.now) images.now) (state S.Store tx.old.conn.now) (state S.Store tx.new.conn.now)) }
+    ensures stays { Stays (state S.Store tx.old.conn.now) (state S.Store tx.new.conn.now) }
+{
+    for some in images.chunks(PER_STATEMENT) {
+        if !insert_some(tx, schema, table, some)? {
             return Ok(false);
         }
     }

@@ -1,16 +1,16 @@
-use Rattle.std.proofs.Common.{◌≡◌, map, take}
+use Rattle.std.proofs.Common.{◌≡◌, ℕ, List, ◌++◌, Bor, map}
+use Rattle.std.specs.Slice.Iter.{chunks_rest}
 use Rattle.sqlite.specs.State.{HasCleanDisk}
 use Rattle.sqlite.specs.Held.{state}
-use Rattle.store.specs.Rows.{key_of, held_rows, count}
-use Rattle.store.specs.Inside.{IsWorking, Goes, Stays}
-use Rattle.store.specs.AnyOrder.{Raises}
+use Rattle.store.specs.Rows.{key_of}
+use Rattle.store.specs.Inside.{IsWorking, Adds, Stays}
 use Rattle.store.proofs.inserts.insert_all.Given as goal
 
-abbrev pub invariant-loop-image : goal.invariant-loop-image
-invariant-loop-image g l = record {
+abbrev pub invariant-loop-some : goal.invariant-loop-some
+invariant-loop-some g l = record {
+  steps : (goal.iterator-loop-some g).can_next l.some-iterator × (goal.iterator-loop-some g).is_finite l.some-iterator;
   same_reference : l.tx.conn.ghost_name ≡ l.fn.tx.conn.ghost_name;
-  under_way : HasCleanDisk (state g.S.Store l.tx.conn.now) → IsWorking (state g.S.Store l.fn.tx.conn.now)
-      → Goes (state g.S.Store l.fn.tx.conn.now) (state g.S.Store l.tx.conn.now)
-      × Raises (map (λ r. key_of l.schema l.table r.now) (take l.image-index l.images)) (count (held_rows (state g.S.Store l.fn.tx.conn.now).now)) (count (held_rows (state g.S.Store l.tx.conn.now).now));
+  way : (taken : List (Bor (List ℕ))) × (l.images ≡ taken ++ chunks_rest l.some-iterator)
+      × (HasCleanDisk (state g.S.Store l.tx.conn.now) → IsWorking (state g.S.Store l.fn.tx.conn.now) → Adds (map (λ r. key_of l.schema l.table r.now) taken) (state g.S.Store l.fn.tx.conn.now) (state g.S.Store l.tx.conn.now));
   stays : Stays (state g.S.Store l.fn.tx.conn.now) (state g.S.Store l.tx.conn.now);
 }

@@ -8,8 +8,7 @@ use Rattle.store.proofs.row_change.add.Goals as goal
 
 pub returns-then-branch-clause-counted : goal.returns-then-branch-clause-counted
 returns-then-branch-clause-counted g c clean was stored =
-    let it = (rw c.if-branch.true at (c.in_ok-insert.ensures.inserts clean was)) stored in
-    counted_new (state g.S.Store c.args.tx.now.conn.now) (state g.S.Store c.insert.new.tx.conn.now) (key_in c.args.row.now) it.0 it.1
+    counted_new (state g.S.Store c.args.tx.now.conn.now) (state g.S.Store c.insert.new.tx.conn.now) (key_in c.args.row.now) ((rw c.if-branch.true at (c.in_ok-insert.ensures.inserts clean was)) (stored, tt))
 
 pub returns-clause-counted : goal.returns-clause-counted
 returns-clause-counted g c clean was stored =
