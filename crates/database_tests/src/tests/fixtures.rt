@@ -14,10 +14,11 @@ use store::{Store, StoreFault};
 /// 3e11fa47-71ca-11e1-9e33-c80aa9429562.
 pub(super) const A: [u8; 16] = *b"\x3e\x11\xfa\x47\x71\xca\x11\xe1\x9e\x33\xc8\x0a\xa9\x42\x95\x62";
 
-/// The row of a letter: (8, "cd") for `p` and `m`, otherwise (7, "ab").
+/// The row of a letter: (8, "cd") for `p` and `m`, (48, "ab") to (57, "ab") for `0` to `9`, otherwise (7, "ab").
 pub(super) fn image(alloc: Global, letter: u8) -> Option<Image> {
     let (value, text): (u64, &[u8]) = match letter {
         b'p' | b'm' => (8, b"cd"),
+        b'0'..=b'9' => (u64::from(letter), b"ab"),
         _ => (7, b"ab"),
     };
     let cells = [Cell::Number { value, width: 4 }, Cell::Bytes(text)];
@@ -47,12 +48,12 @@ fn table(alloc: Global, letter: u8) -> Option<Rc<TableDef>> {
 }
 
 /// Appends a change, written as a letter: `+` adds (7, "ab") to shop.items, `-` removes it and `=` replaces it by itself;
-/// `p` and `m` do the first two for (8, "cd"); `o` and `x` for (7, "ab") in shop.other.
+/// `p` and `m` do the first two for (8, "cd"); `o` and `x` for (7, "ab") in shop.other; a digit adds its row to shop.items.
 fn push(alloc: Global, letter: u8, changes: &mut Changes) -> Option<()> {
     let table = table(alloc, letter)?;
     let row = image(alloc, letter)?;
     match letter {
-        b'+' | b'p' | b'o' => changes.insert(&table, &row).ok(),
+        b'+' | b'p' | b'o' | b'0'..=b'9' => changes.insert(&table, &row).ok(),
         b'=' => changes.update(&table, &row, &row).ok(),
         _ => changes.delete(&table, &row).ok(),
     }

@@ -68,7 +68,7 @@ enum Call {
 }
 
 /// What is called on a new database, each over the store that is opened for it, and what it holds afterwards.
-static NEW: [(Call, &str); 10] = [
+static NEW: [(Call, &str); 11] = [
     (Call::Open, "none 0 0 0"),
     (Call::Apply(1, "++o"), "1 2 0 1"),
     (Call::Apply(3, "p-=x"), "1:3 1 1 0"),
@@ -79,6 +79,7 @@ static NEW: [(Call, &str); 10] = [
     (Call::Follow(6), "1-4:6 7 1 0"),
     (Call::ReadStream(5), "1-6 9 1 0"),
     (Call::Adopt("2:7-9:12"), "1-9:12 9 1 0"),
+    (Call::Apply(13, "0123456789"), "1-9:12-13 9 1 0"),
 ];
 
 /// What is called on a database of layout 1: it is migrated, and then it is read.

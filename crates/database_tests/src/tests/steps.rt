@@ -137,6 +137,25 @@ fn transactions_are_applied(rt: HostRuntime) -> Result<(), Fail> {
     in_memory(rt.alloc(), Stages(&APPLIED))
 }
 
+/// Transactions that add eight rows or more to one table: new rows, rows that are there, equal rows, and a delete after
+/// them.
+static LOADED: [Stage; 1] = [Stage {
+    before: "",
+    steps: &[
+        (Step::Apply(1, "0123456789"), "Ok(Done) 1 0 0 0"),
+        (Step::Apply(2, "9876543210"), "Ok(Done) 1-2 0 0 0"),
+        (Step::Apply(3, "+++++++p8"), "Ok(Done) 1-3 7 1 0"),
+        (Step::Apply(4, "012345678-"), "Ok(Done) 1-4 6 1 0"),
+    ],
+    query: COUNTS,
+    gives: " 6 1 3 3 3 3 3 3 3 3 4 2",
+}];
+
+#[test]
+fn rows_are_loaded(rt: HostRuntime) -> Result<(), Fail> {
+    in_memory(rt.alloc(), Stages(&LOADED))
+}
+
 /// A row whose count is at the maximum is not added once more.
 static FULL: [Stage; 2] = [
     Stage {
@@ -155,6 +174,10 @@ static FULL: [Stage; 2] = [
             (
                 Step::Apply(2, "p+"),
                 "Err(CountFull(1)) 1 9223372036854775807 1 0",
+            ),
+            (
+                Step::Apply(2, "01234567+p"),
+                "Err(CountFull(8)) 1 9223372036854775807 1 0",
             ),
             (Step::Apply(2, "=p"), "Ok(Done) 1-2 9223372036854775807 2 0"),
             (Step::Apply(3, "-+"), "Ok(Done) 1-3 9223372036854775807 2 0"),

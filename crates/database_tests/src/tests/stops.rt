@@ -26,6 +26,8 @@ enum Job {
     Migrate,
     /// A store among other tables applies a transaction of three changes.
     Apply,
+    /// A store among other tables applies a transaction of ten new rows of a table.
+    Load,
     /// A store among other tables adopts a set, which joins an interval and adds one.
     Adopt,
     /// A replica reads a connection with three transactions into new files.
@@ -91,6 +93,10 @@ fn states(job: Job) -> &'static [&'static str] {
             " 2|none| 2| 1 3 4 5| 0| 1 5 2 7|",
         ],
         Job::Apply => &[" 2| 9| 2| 2 3| 0| 1 5 2 7|", " 2| 9| 1 1| 1 3| 0| 1 5 2 7|"],
+        Job::Load => &[
+            " 2| 9| 2| 2 3| 0| 1 5 2 7|",
+            " 2| 9| 2 1 1 1 1 1 1 1 1 1 1| 1 3| 0| 1 5 2 7|",
+        ],
         Job::Adopt => &[
             " 2| 9| 2| 2 3| 0| 1 5 2 7|",
             " 2| 9| 2| 1 3 5 7| 0| 1 5 2 7|",
@@ -143,13 +149,13 @@ fn beginning(job: Job) -> &'static str {
         Job::Make => BESIDE,
         Job::Run => "",
         Job::Migrate => FIRST,
-        Job::Apply | Job::Adopt => SECOND,
+        Job::Apply | Job::Load | Job::Adopt => SECOND,
     }
 }
 
-/// Whether a store applies a transaction: 1, or 0 if it fails.
-fn apply<S: Alter>(alloc: Global, store: &mut Store<S>) -> Result<u64, Fail> {
-    let delivery = delivery(alloc, 1, "p-=")?;
+/// Whether a store applies a transaction with these changes: 1, or 0 if it fails.
+fn apply<S: Alter>(alloc: Global, store: &mut Store<S>, letters: &str) -> Result<u64, Fail> {
+    let delivery = delivery(alloc, 1, letters)?;
     Ok(u64::from(store.apply(&delivery).is_ok()))
 }
 
@@ -173,7 +179,8 @@ fn read<S: Alter>(alloc: Global, store: &mut Store<S>) -> Result<u64, Fail> {
 fn work<S: Alter>(alloc: Global, job: Job, store: &mut Store<S>) -> Result<u64, Fail> {
     match job {
         Job::Make | Job::Migrate => Ok(1),
-        Job::Apply => apply(alloc, store),
+        Job::Apply => apply(alloc, store, "p-="),
+        Job::Load => apply(alloc, store, "0123456789"),
         Job::Adopt => adopt(alloc, store),
         Job::Run => read(alloc, store),
     }
@@ -392,6 +399,11 @@ fn a_migration_is_whole_where_a_disk_stops(rt: HostRuntime) -> Result<(), Fail> 
 #[test]
 fn a_transaction_is_whole_where_a_disk_stops(rt: HostRuntime) -> Result<(), Fail> {
     stops(rt.alloc(), Job::Apply)
+}
+
+#[test]
+fn a_load_is_whole_where_a_disk_stops(rt: HostRuntime) -> Result<(), Fail> {
+    stops(rt.alloc(), Job::Load)
 }
 
 #[test]
