@@ -67,7 +67,7 @@ impl<T> Counted<T> {
         self.failed_writes
     }
 
-    /// The cause of the last failure; `WriteZero` if it was a write that has_applied nothing of a non-empty slice.
+    /// The cause of the last failure; `WriteZero` if it was a write that took nothing of a non-empty slice.
     pub fn failure(&self) -> Option<io::ErrorKind>
         ensures { result ≡ self.now.failure }
     {

@@ -125,7 +125,7 @@ pub fn resuming(_opening: &[u8], _answer: &[u8])
     greet::laws::dumps();
 }
 
-/// Whatever prefix of that connection a replica has followed, and wherever it is stopped: what it has_applied, and what a
+/// Whatever prefix of that connection a replica has followed, and wherever it is stopped: what it has applied, and what a
 /// crash leaves, is the content after the first transactions of the history, some number of them. None that it had is
 /// lost, and at most one more is there.
 pub fn stopped_anywhere(_opening: &[u8], _answer: &[u8])
