@@ -10,7 +10,7 @@
  *
  * With -DFEWEST it gives the statements that mrep gives: an INSERT that the key refuses where the row is there, a DELETE of
  * a row with the count 1, and only then the count is read and an UPDATE made; rows of a transaction of eight changes and
- * more that only inserts into one table in the order of their keys, eight an INSERT, and one by one where the key refuses
+ * more that only inserts into one table in the order of their keys, eight an INSERT, and one by one once the key has refused
  * that; and one UPDATE of a span that gets longer. */
 
 #include <sqlite3.h>
@@ -467,18 +467,16 @@ static int is_load(void) {
     return change_count >= 8;
 }
 
-static void apply_eight(const Change *eight) {
+/* Inserts eight rows; whether none was there. */
+static int insert_rows(const Change *eight) {
     bind_row(insert_eight, eight);
     for (int at = 1; at < 8; at++)
         sqlite3_bind_blob(insert_eight, 3 + at, images + eight[at].image, (int)eight[at].size, SQLITE_STATIC);
     int ended = sqlite3_step(insert_eight);
     sqlite3_reset(insert_eight);
-    if (ended == SQLITE_DONE)
-        return;
-    if (ended != SQLITE_CONSTRAINT)
+    if (ended != SQLITE_DONE && ended != SQLITE_CONSTRAINT)
         fail(sqlite3_errmsg(base));
-    for (int at = 0; at < 8; at++)
-        apply_change(eight + at);
+    return ended == SQLITE_DONE;
 }
 #endif
 
@@ -487,8 +485,8 @@ static void apply_changes(void) {
 #ifdef FEWEST
     if (is_load()) {
         qsort(changes, change_count, sizeof *changes, by_image);
-        for (; change_count - at >= 8; at += 8)
-            apply_eight(changes + at);
+        while (change_count - at >= 8 && insert_rows(changes + at))
+            at += 8;
     }
 #endif
     for (; at < change_count; at++)

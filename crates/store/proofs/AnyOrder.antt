@@ -165,9 +165,11 @@ adds_since keys old mid new same next = (
   subst (λ (d : Database). Raises keys (count (held_rows d)) (count (held_rows new.now))) same.0.now_is next.1,
 )
 
-pub adds_if_since : {E : Type 0} (keys : List Key) (old mid new : State) (r : Result Bool E) → IsUnchanged old mid → IfOk r (λ all. IsTrue all → Adds keys mid new) → IfOk r (λ all. IsTrue all → Adds keys old new)
-adds_if_since keys old mid new (Ok all) same h = λ so. adds_since keys old mid new same (h so)
-adds_if_since keys old mid new (Err e) same h = h
+-- and then the others
+pub adds_rest : {X E : Type 0} (f : X → Key) (all front rest : List X) (old mid two new : State) (r : Result Bool E) → all ≡ front ++ rest → Adds (map f front) old mid → IsUnchanged mid two
+    → IfOk r (λ done. IsTrue done → Adds (map f rest) two new) → IfOk r (λ done. IsTrue done → Adds (map f all) old new)
+adds_rest f all front rest old mid two new (Ok done) is one same h = λ so. subst (λ xs. Adds (map f xs) old new) (sym is) (adds_both f front rest old mid new one (adds_since (map f rest) mid two new same (h so)))
+adds_rest f all front rest old mid two new (Err e) is one same h = h
 
 -- a part of the images
 pub part_stored : (P : Bor (List ℕ) → Type 0) (all front part rest : List (Bor (List ℕ))) → all ≡ front ++ (part ++ rest) → All P all → All P part

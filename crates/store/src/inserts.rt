@@ -128,25 +128,8 @@ fn insert_each<S: Alter>(
     Ok(true)
 }
 
-/// Adds up to eight rows, eight new ones in one statement, and returns whether all were added.
-fn insert_some<S: Alter>(
-    tx: &mut Transaction<'_, S>,
-    schema: &[u8],
-    table: &[u8],
-    images: &[&[u8]],
-) -> Result<bool, Error>
-    requires { All (λ r. IsSomeImage r.now) images.now }
-    ensures same_reference { tx.new.conn.ghost_name ≡ tx.old.conn.ghost_name }
-    ensures adds { HasCleanDisk (state S.Store tx.new.conn.now) → IsWorking (state S.Store tx.old.conn.now) → IfOk result (λ all. IsTrue all → Adds (map (λ r. key_of schema.now table.now r.now) images.now) (state S.Store tx.old.conn.now) (state S.Store tx.new.conn.now)) }
-    ensures stays { Stays (state S.Store tx.old.conn.now) (state S.Store tx.new.conn.now) }
-{
-    if insert_eight(tx, schema, table, images)? {
-        return Ok(true);
-    }
-    insert_each(tx, schema, table, images)
-}
-
-/// Adds the rows in turn, eight at a time, and returns whether all were added. It stops at the first that is refused.
+/// Adds the rows in turn, and returns whether all were added: eight at a time, and one by one from the first eight on of
+/// which one is there or two are the same. It stops at the first that is refused.
 fn insert_all<S: Alter>(
     tx: &mut Transaction<'_, S>,
     schema: &[u8],
@@ -158,10 +141,12 @@ fn insert_all<S: Alter>(
     ensures adds { HasCleanDisk (state S.Store tx.new.conn.now) → IsWorking (state S.Store tx.old.conn.now) → IfOk result (λ all. IsTrue all → Adds (map (λ r. key_of schema.now table.now r.now) images.now) (state S.Store tx.old.conn.now) (state S.Store tx.new.conn.now)) }
     ensures stays { Stays (state S.Store tx.old.conn.now) (state S.Store tx.new.conn.now) }
 {
+    let mut done = 0;
     for some in images.chunks(PER_STATEMENT) {
-        if !insert_some(tx, schema, table, some)? {
-            return Ok(false);
+        if !insert_eight(tx, schema, table, some)? {
+            return insert_each(tx, schema, table, &images[done..]);
         }
+        done += some.len();
     }
     Ok(true)
 }
