@@ -31,7 +31,7 @@ use Rattle.store.specs.Layout.{IsLaidOut, IsFound, tree_named, meta_tree, held_t
 use Rattle.store.specs.Changes.{most}
 use Rattle.gather.specs.Image.{IsSomeImage}
 use Rattle.store.specs.Rows.{Key, IsHeldRow, HasRowids, is_at, has_n, count, with_one, without_one, held_rows, span_rows}
-use Rattle.store.specs.Inside.{IsWorking, GoesOn, HasCounts, Raises, Adds, Deletes}
+use Rattle.store.specs.Inside.{IsWorking, GoesOn, HasCounts, Appear, AddsNew, Deletes}
 use Rattle.store.specs.Beside.{LiesBeside, own_names}
 use Rattle.store.proofs.Spared.{beside_written, own_found, own_held}
 use Rattle.store.proofs.AnyWhole.{has_index}
@@ -141,13 +141,13 @@ module _ (old new : State) (was : IsWorking old) where
   }
 
   -- ---- rows are put in, whose keys were free, since the rows as they are now obey the schema
-  pub holds_inserted : (keys : List Key) → AllByRecursion (λ key. IsSomeImage key.image) keys → Applied schema old new (edit_of old.now.trees (held_at schema) [] Chosen 0 (map given_row keys)) → Adds keys old new
+  pub holds_inserted : (keys : List Key) → AllByRecursion (λ key. IsSomeImage key.image) keys → Applied schema old new (edit_of old.now.trees (held_at schema) [] Chosen 0 (map given_row keys)) → AddsNew keys old new
   holds_inserted keys stored h =
       let news = numbered_are schema keys rows in
       let sound : IsSound schema new.now.trees = subst (λ s. IsSound s new.now.trees) h.schema_is h.sound in
       let end : new.now.trees (held_tree schema) ≡ put_all rows (all_new keys rows) = h.step.rows ∙ ap (put_all rows) news in
       let put = put_in_turn (new.now.trees (held_tree schema)) (no_clash schema l new.now.trees sound) keys rows stored shaped_old lawful_old (ap (are_fresh rows) (sym news) ∙ h.step.fresh) (sym end) in
-      (record { on = goes_on _ h refl put.0 put.1; spans = spans_stay _ h refl }, subst (λ l. Raises keys (count rows) (count l)) (sym (rows_new _ h)) put.2)
+      (record { on = goes_on _ h refl put.0 put.1; spans = spans_stay _ h refl }, subst (λ l. Appear keys (count rows) (count l)) (sym (rows_new _ h)) put.2)
 
   -- ---- no row is taken out
   pub holds_same : Applied schema old new (edit_of old.now.trees (held_at schema) [] Given 0 []) → HasCounts old new (count (held_rows old.now))

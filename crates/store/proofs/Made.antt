@@ -12,7 +12,7 @@ use Rattle.store.specs.Layout.{IsLaidOut}
 use Rattle.store.specs.Beside.{LiesBeside}
 use Rattle.store.specs.Changes.{most}
 use Rattle.store.specs.Rows.{Key, IsHeldRow, HasRowids, Finds, meta_rows, held_rows, span_rows, follow_rows, count, KeyCounts, with_one, without_one}
-use Rattle.store.specs.Inside.{IsWorking, GoesOn, HasCounts, Adds, added, removed, Counted}
+use Rattle.store.specs.Inside.{IsWorking, GoesOn, HasCounts, Raises, Appear, Adds, AddsNew, added, removed, Counted}
 use Rattle.store.proofs.RowLemmas.{count_found, count_none}
 
 pub working_same : (old mid : State) → IsUnchanged old mid → IsWorking old → IsWorking mid
@@ -86,8 +86,15 @@ goes_then old mid new one two = record {
 
 -- ---- a row that is put in or taken out with all its copies
 
-pub counted_new : (old new : State) (key : Key) → Adds (key ∷ []) old new → Counted old new (added key (count (held_rows old.now))) None
-counted_new old new key h = let test : nat_lt (count (held_rows old.now) key) most ≡ true = lt-ltb _ most h.1.0 in rw test (record { on = h.0.on; spans = h.0.spans; counts_are = h.1.1 })
+raises_new : (keys : List Key) (c d : KeyCounts) → Appear keys c d → Raises keys c d
+raises_new [] c d h = h
+raises_new (key ∷ keys) c d h = (omega (arith, h.0), raises_new keys (with_one key c) d h.1)
+
+pub adds_new : (keys : List Key) (old new : State) → AddsNew keys old new → Adds keys old new
+adds_new keys old new h = (h.0, raises_new keys (count (held_rows old.now)) (count (held_rows new.now)) h.1)
+
+pub counted_new : (old new : State) (key : Key) → AddsNew (key ∷ []) old new → Counted old new (added key (count (held_rows old.now))) None
+counted_new old new key h = let test : nat_lt (count (held_rows old.now) key) most ≡ true = lt-ltb _ most (omega (arith, h.1.0)) in rw test (record { on = h.0.on; spans = h.0.spans; counts_are = h.1.1 })
 
 pub counted_one : (old new : State) (key : Key) → count (held_rows old.now) key ≡ 1 → HasCounts old new (without_one key (count (held_rows old.now))) → Counted old new (removed key (count (held_rows old.now))) None
 counted_one old new key is h = let test : nat_lt 0 (count (held_rows old.now) key) ≡ true = rw is refl in rw test h

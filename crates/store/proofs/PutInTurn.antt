@@ -1,5 +1,5 @@
 -- New rows that are put in one after another.
-use Rattle.std.proofs.Common.{◌≡◌, ◌<◌, inl, inr, List, [], ◌∷◌, map, drop, pos, Bool, true, false, refl, sym, ap, subst, arith}
+use Rattle.std.proofs.Common.{◌≡◌, inl, inr, List, [], ◌∷◌, map, drop, pos, Bool, true, false, refl, sym, ap, subst, arith}
 use Rattle.std.specs.List.{AllByRecursion, list_any}
 use Rattle.std.specs.Ordering.{is_eq, match_ordering}
 use Rattle.std.specs.declared.cmp.Ordering.{Ordering}
@@ -20,9 +20,8 @@ use Rattle.sqlite_schema.specs.declared.schema.Schema.{Schema}
 use Rattle.sqlite_schema.specs.Rules.{clashes}
 use Rattle.gather.specs.Image.{IsSomeImage}
 use Rattle.store.specs.Layout.{held_at}
-use Rattle.store.specs.Changes.{most}
 use Rattle.store.specs.Rows.{Key, HasRowids, IsHeldRow, is_at, count}
-use Rattle.store.specs.Inside.{Raises}
+use Rattle.store.specs.Inside.{Appear}
 use Rattle.store.proofs.Statements.{given_row, cast_null, cast_int}
 use Rattle.store.proofs.Unique.{none_before, none_at}
 use Rattle.store.proofs.RowLemmas.{own_bytes, rowids_put, counts_inserted, count_none}
@@ -67,7 +66,7 @@ none_earlier p rows (new ∷ news) fresh none = let parts = and_parts _ _ fresh 
 
 module _ (end : List Row) (apart : (row : Row) → Has end row → clashes plain (1 ∷ 2 ∷ 3 ∷ []) end row ≡ false) where
   pub put_in_turn : (keys : List Key) (rows : List Row) → AllByRecursion (λ key. IsSomeImage key.image) keys → HasRowids rows → AllByRecursion IsHeldRow rows
-      → are_fresh rows (all_new keys rows) ≡ true → put_all rows (all_new keys rows) ≡ end → HasRowids end × AllByRecursion IsHeldRow end × Raises keys (count rows) (count end)
+      → are_fresh rows (all_new keys rows) ≡ true → put_all rows (all_new keys rows) ≡ end → HasRowids end × AllByRecursion IsHeldRow end × Appear keys (count rows) (count end)
   put_in_turn [] rows stored keyed lawful fresh is = (subst HasRowids is keyed, subst (AllByRecursion IsHeldRow) is lawful, ap count (sym is))
   put_in_turn (key ∷ keys) rows stored keyed lawful fresh is =
       let row = new_held key rows in
@@ -80,5 +79,4 @@ module _ (end : List Row) (apart : (row : Row) → Has end row → clashes plain
       let there : Has end row = subst (λ l. Has l row) is (has_still more news row parts.1 (has_put row rows)) in
       let none : clashes plain (1 ∷ 2 ∷ 3 ∷ []) rows row ≡ false = none_before _ row rows free (none_earlier _ more news parts.1 (rw is (apart row there))) in
       let zero : count rows key ≡ 0 = count_none key rows (none_at key row at refl rows keyed.keyed free none) in
-      let low : count rows key < most = omega (arith, zero) in
-      (then.0, then.1, (low, subst (λ c. Raises keys c (count end)) (counts_inserted key row rows at refl free) then.2))
+      (then.0, then.1, (zero, subst (λ c. Appear keys c (count end)) (counts_inserted key row rows at refl free) then.2))

@@ -126,9 +126,18 @@ Raises (key ∷ keys) old new = (old key < most) × Raises keys (with_one key ol
 abbrev pub Adds : List Key → State → State → Type 0
 Adds keys old new = Goes old new × Raises keys (count (held_rows old.now)) (count (held_rows new.now))
 
--- One copy of each row was added, or nothing has changed.
+-- Each key in turn was not there, and is there once.
+abbrev pub Appear : List Key → KeyCounts → KeyCounts → Type 0
+Appear [] old new = new ≡ old
+Appear (key ∷ keys) old new = (old key ≡ 0) × Appear keys (with_one key old) new
+
+-- Only these rows were added, none of which was there and no two of which are the same.
+abbrev pub AddsNew : List Key → State → State → Type 0
+AddsNew keys old new = Goes old new × Appear keys (count (held_rows old.now)) (count (held_rows new.now))
+
+-- The rows were new and were added, or nothing has changed.
 abbrev pub Inserts : List Key → State → State → Bool → Type 0
-Inserts keys old new true = AllByRecursion (λ key. IsSomeImage key.image) keys → Adds keys old new
+Inserts keys old new true = AllByRecursion (λ key. IsSomeImage key.image) keys → AddsNew keys old new
 Inserts keys old new false = IsUnchanged old new
 
 -- The change is made, or refused for this reason.

@@ -115,7 +115,7 @@ pub(crate) fn insert_eight<S: Alter>(
     let [a, b, c, d, e, f, g, h] = images else {
         return Ok(false);
     };
-    let outcome = tx.execute(
+    inserted(tx.execute(
         "INSERT INTO held VALUES (?1, ?2, ?3, 1), (?1, ?2, ?4, 1), (?1, ?2, ?5, 1), (?1, ?2, ?6, 1), (?1, ?2, ?7, 1), (?1, ?2, ?8, 1), (?1, ?2, ?9, 1), (?1, ?2, ?10, 1)",
         &[
             ValueRef::Blob(schema),
@@ -129,8 +129,7 @@ pub(crate) fn insert_eight<S: Alter>(
             ValueRef::Blob(g),
             ValueRef::Blob(h),
         ],
-    );
-    inserted(outcome)
+    ))
 }
 
 /// Sets the count of a row.

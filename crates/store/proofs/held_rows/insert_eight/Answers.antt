@@ -7,5 +7,5 @@ pub returns-clause-inserts : goal.returns-clause-inserts
 returns-clause-inserts g c clean was =
     let xs = c.args.images.now in
     let eight : length xs ≡ 8 = omega (arith, c.in-len8.len_at_least, c.in-len8.len_below) in
-    done_slice (state g.S.Store c.args.tx.now.conn.now) (state g.S.Store c.execute-outcome.new.self.conn.now) was c.args.schema.now c.args.table.now xs _ eight c.execute-outcome.result c.inserted.result
-    c.inserted.ensures.ok c.inserted.ensures.taken (c.execute-outcome.ensures.runs clean (rw was.inside refl))
+    done_slice (state g.S.Store c.args.tx.now.conn.now) (state g.S.Store c.execute.new.self.conn.now) was c.args.schema.now c.args.table.now xs _ eight c.execute.result c.inserted.result
+    c.inserted.ensures.ok c.inserted.ensures.taken (c.execute.ensures.runs clean (rw was.inside refl))

@@ -8,7 +8,7 @@ use Rattle.gather.specs.Image.{IsSomeImage}
 use Rattle.store.specs.Rows.{key_of}
 use Rattle.store.specs.Inside.{IsWorking}
 use Rattle.store.proofs.Keeps.{stays_then}
-use Rattle.store.proofs.Made.{working_same}
+use Rattle.store.proofs.Made.{working_same, adds_new}
 use Rattle.store.proofs.AnyOrder.{adds_both, adds_rest, keys_stored, part_stored}
 use Rattle.store.proofs.inserts.insert_all.Goals as goal
 
@@ -63,7 +63,7 @@ loop-some-preserved g c =
             let early : HasCleanDisk mid = omega (arith, c.insert_eight.ensures.stays.survives.clean) in
             let before = way.3 early was in
             let stored = keys_stored c.args.schema.now c.args.table.now some (part_stored (λ r. IsSomeImage r.now) c.args.images.now way.0 some (chunks_rest c.next.new.self) split c.requires) in
-            adds_both (λ r. key_of c.args.schema.now c.args.table.now r.now) way.0 some old mid new before ((rw c.if-not-branch.false at (c.in_ok-insert_eight.ensures.inserts clean before.0.on.working)) stored),
+            adds_both (λ r. key_of c.args.schema.now c.args.table.now r.now) way.0 some old mid new before (adds_new _ mid new ((rw c.if-not-branch.false at (c.in_ok-insert_eight.ensures.inserts clean before.0.on.working)) stored)),
       );
       stays = stays_then old mid new c.loop-some.invariant.stays (λ early was. (way.3 early was).0.on.working) c.insert_eight.ensures.stays;
     }
