@@ -41,6 +41,8 @@ pub struct Watch<'a, O, E> {
     err: &'a mut E,
     progress: Option<Progress>,
     feed: Option<Feed>,
+    /// Whether the store has failed: it applies nothing more, so nothing more is fed.
+    has_failed: bool,
     details: Details,
     /// How many connections have ended.
     ended: usize,
@@ -75,17 +77,21 @@ impl<'a, O: Write, E: Write> Watch<'a, O, E> {
             err,
             progress,
             feed,
+            has_failed: false,
             details: Details::new(source.rt.alloc()),
             ended: 0,
             stop: None,
         }
     }
 
-    /// Writes an entry of the change feed, unless reading is stopped.
+    /// Writes an entry of the change feed, unless reading is stopped or the store has failed.
     fn put(&mut self, entry: FeedEntry<'_>)
         ensures { is_some self.old.stop ≡ true → is_some self.new.stop ≡ true }
     {
         if self.stop.is_some() {
+            return;
+        }
+        if self.has_failed {
             return;
         }
         let Some(feed) = &mut self.feed else {
@@ -204,6 +210,9 @@ impl<'a, O: Write, E: Write> Observer for Watch<'a, O, E> {
                 // After a failure of the database the transaction may have been committed.
                 if !matches!(reason, Reason::Database(_)) {
                     self.put(FeedEntry::RolledBack(delivery.gtid));
+                }
+                if matches!(reason, Reason::Database(_) | Reason::Memory) {
+                    self.has_failed = true;
                 }
             }
         }

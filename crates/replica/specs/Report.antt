@@ -22,7 +22,8 @@ pub data Report : Type 0 where
   IsWrongHeader : WireFault → Report
   Says : Verdict → Report
 
--- the refusal of a message with this fault; the last two faults are not caused by its bytes
+-- the refusal of a message with this fault; the last two do not come in a reason Greet: an ERR is SourceError, running out of memory
+-- is Memory
 abbrev pub reported_refusal : GreetFault → Refusal
 reported_refusal (greet.Protocol byte) = protocol byte
 reported_refusal greet.Truncated = truncated

@@ -1,6 +1,6 @@
 //! Captured connections, read in order.
 
-ghost use Rattle.std.specs.Prelude.{◌≡◌, ◌<◌, ◌≤◌, [], Bool, true, not, length, vec_capacity, IfOk, IfErr, Err, All};
+ghost use Rattle.std.specs.Prelude.{◌≡◌, ◌≢◌, ◌<◌, ◌≤◌, [], Bool, true, false, not, length, vec_capacity, IfOk, IfErr, Ok, Err, All};
 ghost use Rattle.sqlite.specs.State.{HasCleanDisk};
 ghost use Rattle.sqlite.specs.Held.{state};
 ghost use Rattle.store.specs.State.{Content};
@@ -92,6 +92,8 @@ pub(crate) fn read_captures<R: Read + Drop, S: Alter, W: Observer>(
         → Reads R.Read.remaining (HasReadAll S.Store config.now.limit store.new (database S.Store store.old).now.schema was old) captures.items ends.new.items result }
     // It stops early for the observer only if that has stopped, and so does each connection.
     ensures asked { result ≡ Err Halt.Observer → W.has_stopped observer.new ≡ true }
+    // Once it has stopped, no further capture is read.
+    ensures heeds { result ≡ Ok tt → ends.new.items ≢ [] → W.has_stopped observer.new ≡ false }
     ensures neither { All (λ end. MayEnd end.reason (W.has_stopped observer.new)) ends.new.items }
     ensures following { names_of S.Store store.new ≡ names_of S.Store store.old }
     ensures broken { IsBroken S.Store store.old → store.new ≡ store.old }

@@ -98,6 +98,7 @@ fn outcome(answer: Result<Applied, StoreFault>) -> Result<bool, Reason>
 fn is_halted<S: Alter, W: Observer>(store: &Store<S>, delivery: &Delivery, observer: &mut W) -> bool
     ensures new { (is : Bool) (now : Content) → HoldsAs S.Store is now store.now → result ≡ true → is_executed now (delivery_value delivery.now) ≡ false }
     ensures asked { result ≡ true → W.has_stopped observer.new ≡ true }
+    ensures heeds { (is : Bool) (now : Content) → HoldsAs S.Store is now store.now → is_executed now (delivery_value delivery.now) ≡ false → result ≡ W.has_stopped observer.new }
     ensures stays { W.has_stopped observer.old ≡ true → W.has_stopped observer.new ≡ true }
 {
     if store.executed().contains(delivery.gtid) {

@@ -1,5 +1,5 @@
 -- The executed set in memory during a transaction.
-use Rattle.std.proofs.Common.{◌≡◌, ◌⊎◌, inl, inr, ℕ, List, false, IsTrue, Ok, Err, Result, refl, sym, ap, subst, subst₂, ◌∙◌}
+use Rattle.std.proofs.Common.{◌≡◌, ◌⊎◌, inl, inr, ℕ, List, false, IsErr, IsTrue, Ok, Err, Result, refl, sym, ap, subst, subst₂, ◌∙◌}
 use Rattle.std.specs.FinSet as set
 use Rattle.std.proofs.lemmas.Bool.{false≢true, cases_Bool, true≢false}
 use Rattle.sqlite_value.specs.Order.{Row}
@@ -155,6 +155,15 @@ module _ {S : Type 0} (g : Ghosts S) (content : Content) (d : DeliveryValue) (ol
   lies_beside (Err (Database e)) is_open it = beside_unchanged (state g old.conn).now (state g new.conn).now (it.0 is_open).0
   lies_beside (Err Memory) is_open it = beside_unchanged (state g old.conn).now (state g new.conn).now (it.0 is_open).0
   lies_beside _ is_open it = absurd it
+
+  -- a transaction that is refused or fails
+  pub stays_now : (r : Result Applied StoreFault) → IsErr r → IsTrue (state g new.conn).is_open → Comes old.following content d (state g old.conn) (state g new.conn) new.executed r → (state g new.conn).now ≡ (state g old.conn).now
+  stays_now (Ok out) failed is_open it = absurd (false≢true failed)
+  stays_now (Err (NoSuchRow at)) failed is_open it = it.3
+  stays_now (Err (CountFull at)) failed is_open it = it.3
+  stays_now (Err (Database e)) failed is_open it = (it.0 is_open).0
+  stays_now (Err Memory) failed is_open it = (it.0 is_open).0
+  stays_now (Err _) failed is_open it = absurd it
 
   -- on a connection that was shut
   pub applied_shut : (r : Result Applied StoreFault) (was : Ids) → was ≡ content.executed → is_executed content d ≡ false → new.broken ≡ breaks r → FailsShut (state g new.conn) was new.executed r → AppliesShut g content d old new r

@@ -17,7 +17,7 @@ use Rattle.std.specs.List.{AllByRecursion}
 use Rattle.sqlite_value.specs.Order.{Row}
 use Rattle.store.specs.declared.tables.Meta.{Meta}
 use Rattle.store.specs.Judge.{IsMeta, IsOnly, layouts}
-use Rattle.store.specs.Rows.{SaysLayout, first_meta_rows, meta_rows, IsMetaRow}
+use Rattle.store.specs.Rows.{SaysLayout, meta_rows, IsMetaRow}
 use Rattle.store.specs.Load.{StatesLayout, HasLayout}
 use Rattle.store.specs.Beside.{LiesBeside}
 use Rattle.store.specs.Open.{MayStandFor}
@@ -52,13 +52,13 @@ known_meta db (first is) there = is.meta
 known_meta db (second laid none) there = laid.meta
 known_meta db (lacking meta one two) there = meta
 
-pub known_first : (db : Stored) → IsKnown db → SaysLayout (pos 1) (first_meta_rows db) → has_first (tables_of db.schema) ≡ true → IsFirstLaidOut db.schema
+pub known_first : (db : Stored) → IsKnown db → SaysLayout (pos 1) (meta_rows db) → has_first (tables_of db.schema) ≡ true → IsFirstLaidOut db.schema
 known_first db (blank is) says there = absurd (false≢true (sym (none_first db.schema is) ∙ there))
 known_first db (first is) says there = is
 known_first db (second laid none) says there = absurd (none (and_parts _ _ there).0 says)
 known_first db (lacking meta one two) says there = absurd (false≢true (sym (one says) ∙ there))
 
-pub known_second : (db : Stored) → IsKnown db → SaysLayout (pos 2) (first_meta_rows db) → has_second (tables_of db.schema) ≡ true → IsLaidOut db.schema
+pub known_second : (db : Stored) → IsKnown db → SaysLayout (pos 2) (meta_rows db) → has_second (tables_of db.schema) ≡ true → IsLaidOut db.schema
 known_second db (blank is) says there = absurd (false≢true (sym (none_second db.schema is) ∙ there))
 known_second db (first is) says there = absurd (false≢true (sym (first_second db.schema is) ∙ there))
 known_second db (second laid none) says there = laid
@@ -150,28 +150,28 @@ states_at rows m n h says is = record { says = says; lawful = subst (Judged rows
 pub breaks_meta : (rows : List Row) (m : Meta) → IsMeta rows m → not m.lawful ≡ true → ¬ AllByRecursion IsMetaRow rows
 breaks_meta rows m h is = subst (Judged rows) (not-true m.lawful is) h.lawful
 
-pub breaks_meta_second : (db : Stored) → IsLaidOut db.schema → (m : Meta) → IsMeta (first_meta_rows db) m → not m.lawful ≡ true → ¬ AllByRecursion IsMetaRow (meta_rows db)
-breaks_meta_second db laid m h is all = breaks_meta (first_meta_rows db) m h is all
+pub breaks_meta_second : (db : Stored) → IsLaidOut db.schema → (m : Meta) → IsMeta (meta_rows db) m → not m.lawful ≡ true → ¬ AllByRecursion IsMetaRow (meta_rows db)
+breaks_meta_second db laid m h is all = breaks_meta (meta_rows db) m h is all
 
 pub may_none : (only : Names) (old mid : State) → Survives old mid (λ _. ⊥) → Survives old mid (MayEnter only old)
 may_none only old mid s = weaken old mid (λ _. ⊥) (MayEnter only old) (λ _ none. absurd none) s
 
 -- ---- the layout of a database, from its tables and what its meta says
-module _ (db : Stored) (known : IsKnown db) (tables : Tables) (m : Meta) (meta : IsMeta (first_meta_rows db) m) (is : tables ≡ tables_of db.schema) (has : tables.meta ≡ true) (k : ℤ) (layout : m.layout ≡ Some k) where
+module _ (db : Stored) (known : IsKnown db) (tables : Tables) (m : Meta) (meta : IsMeta (meta_rows db) m) (is : tables ≡ tables_of db.schema) (has : tables.meta ≡ true) (k : ℤ) (layout : m.layout ≡ Some k) where
   there_is : (tables_of db.schema).meta ≡ true
   there_is = ap (λ t. t.meta) (sym is) ∙ has
 
-  says : (n : ℤ) → k ≡ n → SaysLayout n (first_meta_rows db)
-  says n one = says_at (first_meta_rows db) m k n meta layout one
+  says : (n : ℤ) → k ≡ n → SaysLayout n (meta_rows db)
+  says n one = says_at (meta_rows db) m k n meta layout one
 
   pub without_first : k ≡ pos 1 → has_first tables ≡ false → IsDamaged db
   without_first one none = lacks_first there_is (says (pos 1) one) (ap has_first (sym is) ∙ none)
 
   pub unlawful_first : k ≡ pos 1 → not m.lawful ≡ true → IsDamaged db
-  unlawful_first one broken = breaks_first there_is (says (pos 1) one) (λ rules. breaks_meta (first_meta_rows db) m meta broken rules.meta)
+  unlawful_first one broken = breaks_first there_is (says (pos 1) one) (λ rules. breaks_meta (meta_rows db) m meta broken rules.meta)
 
   pub whole_first : k ≡ pos 1 → has_first tables ≡ true → not m.lawful ≡ false → HasLayout db First
-  whole_first one all lawful = (known_first db known (says (pos 1) one) (ap has_first (sym is) ∙ all), states_at (first_meta_rows db) m (pos 1) meta (says (pos 1) one) lawful)
+  whole_first one all lawful = (known_first db known (says (pos 1) one) (ap has_first (sym is) ∙ all), states_at (meta_rows db) m (pos 1) meta (says (pos 1) one) lawful)
 
   pub without_second : k ≡ pos 2 → has_second tables ≡ false → IsDamaged db
   without_second two none = lacks_second there_is (says (pos 2) two) (ap has_second (sym is) ∙ none)
@@ -183,4 +183,4 @@ module _ (db : Stored) (known : IsKnown db) (tables : Tables) (m : Meta) (meta :
   unlawful_second two all broken = breaks_second there_is (says (pos 2) two) (λ rules. breaks_meta_second db (second_laid two all) m meta broken rules.meta)
 
   pub whole_second : k ≡ pos 2 → has_second tables ≡ true → not m.lawful ≡ false → HasLayout db Second
-  whole_second two all lawful = (second_laid two all, states_at (first_meta_rows db) m (pos 2) meta (says (pos 2) two) lawful)
+  whole_second two all lawful = (second_laid two all, states_at (meta_rows db) m (pos 2) meta (says (pos 2) two) lawful)

@@ -20,6 +20,7 @@ use Rattle.gather.proofs.WholeImages.{one_list}
 use Rattle.store.specs.State.{TableRow, row_of, Bag, has_image}
 use Rattle.store.specs.Layout.{IsLaidOut, held_tree}
 use Rattle.store.specs.Load.{AsksAll}
+use Rattle.store.specs.Changes.{most}
 use Rattle.store.specs.Rows.{Key, key_for, IsHeldRow, is_at, share, count, bag_of, blob_in, number_in}
 use Rattle.store.specs.Listing.{Entry, key_cmp, row_cmp, entry_rows, AreRows, shown_entry, without_rowids, listed_text, HasKey, KeysRise}
 use Rattle.store.proofs.AnyWhole.{listed_by_key, listed_asks as any_listed}
@@ -98,9 +99,9 @@ all_lawful : (rows : List Row) (h : AllByRecursion IsHeldRow rows) → AllByRecu
 all_lawful [] h = tt
 all_lawful (row ∷ rows) h = (h.0.6.is_image.has_image, all_lawful rows h.1)
 
-all_some : (rows : List Row) (h : AllByRecursion IsHeldRow rows) → AllByRecursion (λ (e : Entry). 1 ≤ e.1) (entries_in rows h)
+all_some : (rows : List Row) (h : AllByRecursion IsHeldRow rows) → AllByRecursion (λ (e : Entry). (1 ≤ e.1) × (e.1 ≤ most)) (entries_in rows h)
 all_some [] h = tt
-all_some (row ∷ rows) h = (h.0.4, all_some rows h.1)
+all_some (row ∷ rows) h = ((h.0.4, h.0.5), all_some rows h.1)
 
 -- ---- They ascend.
 
@@ -224,10 +225,10 @@ module _ (held rows : List Row) (bag : Bag) (is : bag ≡ bag_of (count held)) (
   bag_is : (r : TableRow) → HasImage r.cells → bag r ≡ count rows (key_for r)
   bag_is r has = ap (λ b. b r) is ∙ rw (image_has r.cells has) (sym (same_count (key_for r) held rows same))
 
-  in_bag : (entries : List Entry) → AllByRecursion (λ (e : Entry). HasImage e.0.cells) entries → AllByRecursion (λ (e : Entry). e.1 ≡ count rows (key_for e.0)) entries → AllByRecursion (λ (e : Entry). 1 ≤ e.1) entries
-      → AllByRecursion (λ (e : Entry). (e.1 ≡ bag e.0) × (1 ≤ e.1)) entries
+  in_bag : (entries : List Entry) → AllByRecursion (λ (e : Entry). HasImage e.0.cells) entries → AllByRecursion (λ (e : Entry). e.1 ≡ count rows (key_for e.0)) entries → AllByRecursion (λ (e : Entry). (1 ≤ e.1) × (e.1 ≤ most)) entries
+      → AllByRecursion (λ (e : Entry). (e.1 ≡ bag e.0) × (1 ≤ e.1) × (e.1 ≤ most)) entries
   in_bag [] lawful counted some = tt
-  in_bag (e ∷ entries) lawful counted some = ((counted.0 ∙ sym (bag_is e.0 lawful.0), some.0), in_bag entries lawful.1 counted.1 some.1)
+  in_bag (e ∷ entries) lawful counted some = ((counted.0 ∙ sym (bag_is e.0 lawful.0), some.0.0, some.0.1), in_bag entries lawful.1 counted.1 some.1)
 
   has : (r : TableRow) → 1 ≤ bag r → HasImage r.cells
   has r some = elim (cases_Bool (has_image r.cells)) [
@@ -246,7 +247,7 @@ module _ (held rows : List Row) (bag : Bag) (is : bag ≡ bag_of (count held)) (
           counted = counted;
           all = λ r some.
               let t = there r rows h (has r some) (subst (λ n. 1 ≤ n) (bag_is r (has r some)) some) in
-              let n : t.n ≡ bag r = (split (λ (e : Entry). (e.1 ≡ bag e.0) × (1 ≤ e.1)) t.before (r, t.n) t.after (subst (AllByRecursion (λ (e : Entry). (e.1 ≡ bag e.0) × (1 ≤ e.1))) t.is counted)).0 in
+              let n : t.n ≡ bag r = (split (λ (e : Entry). (e.1 ≡ bag e.0) × (1 ≤ e.1) × (e.1 ≤ most)) t.before (r, t.n) t.after (subst (AllByRecursion (λ (e : Entry). (e.1 ≡ bag e.0) × (1 ≤ e.1) × (e.1 ≤ most))) t.is counted)).0 in
               (t.before, t.after, t.is ∙ ap (λ m. t.before ++ (r, m) ∷ t.after) n);
         };
         shown = all_shown rows h;

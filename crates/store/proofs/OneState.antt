@@ -26,7 +26,7 @@ use Rattle.gtid.proofs.Sets.{id_cmp_total, id_cmp-same, listed_in_interval}
 use Rattle.binlog.specs.Filter.{Names}
 use Rattle.store.specs.State.{Content}
 use Rattle.store.specs.Layout.{spans_at, IsFirstLaidOut, IsLaidOut, IsVacant}
-use Rattle.store.specs.Rows.{SaysLayout, StandsFor, StandsForFirst, KeepsRules, AreSpans, HasRowids, IsSpanRow, first_meta_rows, executed_rows, follow_rows, held_rows, span_rows, bag_of, count, id_in as id_at, name_in, span, span_in, stored_span, shown_span, shown_spans, touches, blob_in, number_in}
+use Rattle.store.specs.Rows.{SaysLayout, StandsFor, StandsForFirst, KeepsRules, AreSpans, HasRowids, IsSpanRow, meta_rows, executed_rows, follow_rows, held_rows, span_rows, bag_of, count, id_in as id_at, name_in, span, span_in, stored_span, shown_span, shown_spans, touches, blob_in, number_in}
 use Rattle.store.specs.Entering.{IsStored, IsOf, IsDamaged, no_meta, no_layout, lacks_first, lacks_second, breaks_first, breaks_second, IsOther, IsKnown, blank, first, second, tables_of, has_any, has_first, has_second}
 use Rattle.store.proofs.AnyWhole.{has_index}
 use Rattle.store.proofs.Known.{meta_there, none_meta, none_any, known_first, known_second}
@@ -46,7 +46,7 @@ two_layouts rows p q =
     let n : ◌≡◌ {A = ℕ} 1 2 = cc in
     absurd (omega (arith, n))
 
-pub says_second : (db : Database) (names : Names) (content : Content) → StandsFor db names content → SaysLayout (pos 2) (first_meta_rows db)
+pub says_second : (db : Database) (names : Names) (content : Content) → StandsFor db names content → SaysLayout (pos 2) (meta_rows db)
 says_second db names content h = h.says
 
 -- ---- One set of the rows of spans.
@@ -70,7 +70,7 @@ pub same_content : (a b : Content) → a.executed ≡ b.executed → a.rows ≡ 
 same_content a b p q = λ i. record { executed = p i; rows = q i }
 
 never_both : (db : Database) (n : Names) (a b : Content) → StandsFor db n a → StandsForFirst db b → ⊥
-never_both db n a b p q = two_layouts (first_meta_rows db) q.says (says_second db n a p)
+never_both db n a b p q = two_layouts (meta_rows db) q.says (says_second db n a p)
 
 pub one_stored : (db : Database) (n m : Names) (a b : Content) → IsStored n db a → IsStored m db b → (n ≡ m) × (a ≡ b)
 one_stored db n m a b (inl p) (inl q) = (p.follow.names_are ∙ sym q.follow.names_are, same_content a b (one_set (span_rows db) a.executed b.executed p.executed q.executed) (p.rows ∙ sym q.rows))
@@ -101,7 +101,7 @@ one_of only db n m a b (inr p) (inr q) = one_stored db n m a b p q
 
 pub known_of : (only : Names) (db : Database) (n : Names) (a : Content) → IsOf only n db a → IsKnown db
 known_of only db n a (inl p) = blank p.0.0
-known_of only db n a (inr (inl p)) = second p.laid_out (λ there says. two_layouts (first_meta_rows db) says (says_second db n a p))
+known_of only db n a (inr (inl p)) = second p.laid_out (λ there says. two_layouts (meta_rows db) says (says_second db n a p))
 known_of only db n a (inr (inr p)) = first p.1.laid_out
 
 -- ---- The rules that its rows keep.
@@ -164,28 +164,28 @@ not_damaged only db n a sound rowids (inl p) (breaks_first there says off) = bla
 not_damaged only db n a sound rowids (inl p) (breaks_second there says off) = blank_meta db.schema p.0.0 there
 not_damaged only db n a sound rowids (inr p) (no_meta none any) = false≢true (sym none ∙ stored_meta db n a p)
 not_damaged only db n a sound rowids (inr (inl p)) (no_layout there off) = off (pos 2) (says_second db n a p)
-not_damaged only db n a sound rowids (inr (inl p)) (lacks_first there says lacks) = two_layouts (first_meta_rows db) says (says_second db n a p)
+not_damaged only db n a sound rowids (inr (inl p)) (lacks_first there says lacks) = two_layouts (meta_rows db) says (says_second db n a p)
 not_damaged only db n a sound rowids (inr (inl p)) (lacks_second there says lacks) = false≢true (sym lacks ∙ laid_second db.schema p.laid_out)
-not_damaged only db n a sound rowids (inr (inl p)) (breaks_first there says off) = two_layouts (first_meta_rows db) says (says_second db n a p)
+not_damaged only db n a sound rowids (inr (inl p)) (breaks_first there says off) = two_layouts (meta_rows db) says (says_second db n a p)
 not_damaged only db n a sound rowids (inr (inl p)) (breaks_second there says off) = off (rules_kept db n a sound (rowids p.laid_out) p)
 not_damaged only db n a sound rowids (inr (inr p)) (no_layout there off) = off (pos 1) p.1.says
 not_damaged only db n a sound rowids (inr (inr p)) (lacks_first there says lacks) = false≢true (sym lacks ∙ first_first db.schema p.1.laid_out)
-not_damaged only db n a sound rowids (inr (inr p)) (lacks_second there says lacks) = two_layouts (first_meta_rows db) p.1.says says
+not_damaged only db n a sound rowids (inr (inr p)) (lacks_second there says lacks) = two_layouts (meta_rows db) p.1.says says
 not_damaged only db n a sound rowids (inr (inr p)) (breaks_first there says off) = off p.1.rules
-not_damaged only db n a sound rowids (inr (inr p)) (breaks_second there says off) = two_layouts (first_meta_rows db) p.1.says says
+not_damaged only db n a sound rowids (inr (inr p)) (breaks_second there says off) = two_layouts (meta_rows db) p.1.says says
 
 pub not_other : (only : Names) (db : Database) (n : Names) (a : Content) (k : ℤ) → IsOf only n db a → IsOther db k → ⊥
 not_other only db n a k (inl p) o = blank_meta db.schema p.0.0 o.0
-not_other only db n a k (inr (inl p)) o = o.3 (one_number (first_meta_rows db) k (pos 2) o.1 (says_second db n a p))
-not_other only db n a k (inr (inr p)) o = o.2 (one_number (first_meta_rows db) k (pos 1) o.1 p.1.says)
+not_other only db n a k (inr (inl p)) o = o.3 (one_number (meta_rows db) k (pos 2) o.1 (says_second db n a p))
+not_other only db n a k (inr (inr p)) o = o.2 (one_number (meta_rows db) k (pos 1) o.1 p.1.says)
 
 pub never_two : (db : Database) (k : ℤ) → IsDamaged db → IsOther db k → ⊥
 never_two db k (no_meta none any) o = false≢true (sym none ∙ o.0)
 never_two db k (no_layout there off) o = off k o.1
-never_two db k (lacks_first there says lacks) o = o.2 (one_number (first_meta_rows db) k (pos 1) o.1 says)
-never_two db k (lacks_second there says lacks) o = o.3 (one_number (first_meta_rows db) k (pos 2) o.1 says)
-never_two db k (breaks_first there says off) o = o.2 (one_number (first_meta_rows db) k (pos 1) o.1 says)
-never_two db k (breaks_second there says off) o = o.3 (one_number (first_meta_rows db) k (pos 2) o.1 says)
+never_two db k (lacks_first there says lacks) o = o.2 (one_number (meta_rows db) k (pos 1) o.1 says)
+never_two db k (lacks_second there says lacks) o = o.3 (one_number (meta_rows db) k (pos 2) o.1 says)
+never_two db k (breaks_first there says off) o = o.2 (one_number (meta_rows db) k (pos 1) o.1 says)
+never_two db k (breaks_second there says off) o = o.3 (one_number (meta_rows db) k (pos 2) o.1 says)
 
 -- ---- It is one of the three.
 
@@ -207,17 +207,17 @@ some_state db known any none sound alike = elim (cases_Bool (tables_of db.schema
   | inr off ↦ sound (no_meta off any)
 ]
   where
-    other : (tables_of db.schema).meta ≡ true → (n : ℤ) → SaysLayout n (first_meta_rows db) → n ≢ pos 1 → n ≢ pos 2 → ⊥
+    other : (tables_of db.schema).meta ≡ true → (n : ℤ) → SaysLayout n (meta_rows db) → n ≢ pos 1 → n ≢ pos 2 → ⊥
     other there n says one two = alike n (there, says, one, two)
 
-    at_first : (tables_of db.schema).meta ≡ true → SaysLayout (pos 1) (first_meta_rows db) → ⊥
+    at_first : (tables_of db.schema).meta ≡ true → SaysLayout (pos 1) (meta_rows db) → ⊥
     at_first there says = elim (cases_Bool (has_first (tables_of db.schema))) [
       | inr lacks ↦ sound (lacks_first there says lacks)
       | inl all ↦ sound (breaks_first there says (λ rules. none set.empty (record { executed = set.from_list (map id_at (executed_rows db)); rows = bag_of (count (held_rows db)) })
           (inr (refl, record { laid_out = known_first db known says all; says = says; rules = rules; executed = refl; rows = refl }))))
     ]
 
-    at_second : (tables_of db.schema).meta ≡ true → SaysLayout (pos 2) (first_meta_rows db) → ⊥
+    at_second : (tables_of db.schema).meta ≡ true → SaysLayout (pos 2) (meta_rows db) → ⊥
     at_second there says = elim (cases_Bool (has_second (tables_of db.schema))) [
       | inr lacks ↦ sound (lacks_second there says lacks)
       | inl all ↦ (
@@ -235,7 +235,7 @@ some_state db known any none sound alike = elim (cases_Bool (tables_of db.schema
           })))))
     ]
 
-    one_of_all : (tables_of db.schema).meta ≡ true → (n : ℤ) → SaysLayout n (first_meta_rows db) → ⊥
+    one_of_all : (tables_of db.schema).meta ≡ true → (n : ℤ) → SaysLayout n (meta_rows db) → ⊥
     one_of_all there (pos zero) says = other there (pos 0) says (λ e. let k : ◌≡◌ {A = ℕ} 0 1 = cc in absurd (omega (arith, k))) (λ e. let k : ◌≡◌ {A = ℕ} 0 2 = cc in absurd (omega (arith, k)))
     one_of_all there (pos (suc zero)) says = at_first there says
     one_of_all there (pos (suc (suc zero))) says = at_second there says

@@ -12,7 +12,7 @@ use Rattle.binlog.specs.Filter.{Names}
 use Rattle.store.specs.declared.fault.StoreFault.TheVariants.{Damaged}
 use Rattle.store.specs.State.{Content}
 use Rattle.store.specs.Layout.{IsLaidOut, IsFirstLaidOut}
-use Rattle.store.specs.Rows.{meta_rows, held_rows, span_rows, follow_rows, first_meta_rows, executed_rows, IsHeldRow, IsExecutedRow, HasRowids, AreNames, AreSpans, StandsFor, StandsForFirst, id_in, bag_of, count}
+use Rattle.store.specs.Rows.{meta_rows, held_rows, span_rows, follow_rows, executed_rows, IsHeldRow, IsExecutedRow, HasRowids, AreNames, AreSpans, StandsFor, StandsForFirst, id_in, bag_of, count}
 use Rattle.store.specs.Load.{StatesLayout, AsksAll, Rested, OnDamaged, IsLoaded, IsFirstLoaded}
 use Rattle.store.proofs.Keeps.{kept_unchanged, kept_then}
 
@@ -55,7 +55,7 @@ fault_by f back h = seen_by f (λ off o. off (back o)) h
 
 -- ---- What was loaded.
 
-pub first_loaded : (s t : State) (ids : Ids) → IsLive s → IsFirstLaidOut s.now.schema → s.now ≡ s.committed → StatesLayout (pos 1) (first_meta_rows s.now) → IsUnchanged s t
+pub first_loaded : (s t : State) (ids : Ids) → IsLive s → IsFirstLaidOut s.now.schema → s.now ≡ s.committed → StatesLayout (pos 1) (meta_rows s.now) → IsUnchanged s t
     → AllByRecursion IsExecutedRow (executed_rows s.now) × (ids ≡ set.from_list (map id_in (executed_rows s.now)))
     → AllByRecursion IsHeldRow (held_rows s.now) × HasRowids (held_rows s.now) → IsFirstLoaded t ids
 first_loaded s t ids live made settled meta same executed held =
@@ -66,7 +66,7 @@ first_loaded s t ids live made settled meta same executed held =
       rest = record {
         is_open = same.0.is_open;
         settled = same.0.now_is ∙ settled ∙ sym same.0.committed_is;
-        meta_apart = subst (λ (db : Db). HasRowids (first_meta_rows db)) (sym same.0.now_is) meta.apart;
+        meta_apart = subst (λ (db : Db). HasRowids (meta_rows db)) (sym same.0.now_is) meta.apart;
         held_apart = subst (λ (db : Db). HasRowids (held_rows db)) (sym same.0.now_is) held.1;
         stands = subst (λ (db : Db). StandsForFirst db content) (sym same.0.now_is) (record {
           laid_out = made;

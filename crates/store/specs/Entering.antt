@@ -13,7 +13,7 @@ use Rattle.store.specs.declared.tables.Tables.{Tables}
 use Rattle.store.specs.State.{Content}
 use Rattle.store.specs.Layout.{IsVacant, IsFirstLaidOut, HasMeta, IsLaidOut}
 use Rattle.store.specs.Beside.{LiesBeside}
-use Rattle.store.specs.Rows.{StandsFor, StandsForFirst, SaysLayout, KeepsRules, KeepsFirstRules, HasRowids, first_meta_rows, span_rows}
+use Rattle.store.specs.Rows.{StandsFor, StandsForFirst, SaysLayout, KeepsRules, KeepsFirstRules, HasRowids, meta_rows, span_rows}
 use Rattle.store.specs.Apply.{IsAtRest, Rests}
 use Rattle.store.specs.Open.{nothing, all, MayStandFor}
 
@@ -41,13 +41,14 @@ has_second t = t.held && (t.spans && t.follow)
 abbrev pub has_any : Tables → Bool
 has_any t = t.meta || (t.executed || (t.held || (t.spans || t.follow)))
 
--- There is none of the tables; or there are those of layout 1 among any others, or those of layout 2; or not all tables of the
--- layout that `meta` names are there. A table named `executed` may stand beside layout 2.
+-- There is none of the tables; or there are those of layout 1 among any others, or those of layout 2; or `meta` is as declared and names
+-- another layout or none, or of its layout a table is missing. A table named `executed` may stand beside layout 2, if `meta` does not
+-- say 1.
 pub data IsKnown (db : Database) : Type 0 where
   blank : IsVacant db.schema → IsKnown db
   first : IsFirstLaidOut db.schema → IsKnown db
-  second : IsLaidOut db.schema → ((tables_of db.schema).executed ≡ true → ¬ SaysLayout (pos 1) (first_meta_rows db)) → IsKnown db
-  lacking : HasMeta db.schema → (SaysLayout (pos 1) (first_meta_rows db) → has_first (tables_of db.schema) ≡ false) → (SaysLayout (pos 2) (first_meta_rows db) → has_second (tables_of db.schema) ≡ false) → IsKnown db
+  second : IsLaidOut db.schema → ((tables_of db.schema).executed ≡ true → ¬ SaysLayout (pos 1) (meta_rows db)) → IsKnown db
+  lacking : HasMeta db.schema → (SaysLayout (pos 1) (meta_rows db) → has_first (tables_of db.schema) ≡ false) → (SaysLayout (pos 2) (meta_rows db) → has_second (tables_of db.schema) ≡ false) → IsKnown db
 
 -- The connection is open and in no transaction that has changed anything, and its tables are known.
 pub record IsReady (s : State) : Type 0 where
@@ -68,15 +69,15 @@ IsOf only names db content = ((IsVacant db.schema × (content ≡ nothing)) × (
 
 pub data IsDamaged (db : Database) : Type 0 where
   no_meta : (tables_of db.schema).meta ≡ false → has_any (tables_of db.schema) ≡ true → IsDamaged db
-  no_layout : (tables_of db.schema).meta ≡ true → ((n : ℤ) → ¬ SaysLayout n (first_meta_rows db)) → IsDamaged db
-  lacks_first : (tables_of db.schema).meta ≡ true → SaysLayout (pos 1) (first_meta_rows db) → has_first (tables_of db.schema) ≡ false → IsDamaged db
-  lacks_second : (tables_of db.schema).meta ≡ true → SaysLayout (pos 2) (first_meta_rows db) → has_second (tables_of db.schema) ≡ false → IsDamaged db
-  breaks_first : (tables_of db.schema).meta ≡ true → SaysLayout (pos 1) (first_meta_rows db) → ¬ KeepsFirstRules db → IsDamaged db
-  breaks_second : (tables_of db.schema).meta ≡ true → SaysLayout (pos 2) (first_meta_rows db) → ¬ KeepsRules db → IsDamaged db
+  no_layout : (tables_of db.schema).meta ≡ true → ((n : ℤ) → ¬ SaysLayout n (meta_rows db)) → IsDamaged db
+  lacks_first : (tables_of db.schema).meta ≡ true → SaysLayout (pos 1) (meta_rows db) → has_first (tables_of db.schema) ≡ false → IsDamaged db
+  lacks_second : (tables_of db.schema).meta ≡ true → SaysLayout (pos 2) (meta_rows db) → has_second (tables_of db.schema) ≡ false → IsDamaged db
+  breaks_first : (tables_of db.schema).meta ≡ true → SaysLayout (pos 1) (meta_rows db) → ¬ KeepsFirstRules db → IsDamaged db
+  breaks_second : (tables_of db.schema).meta ≡ true → SaysLayout (pos 2) (meta_rows db) → ¬ KeepsRules db → IsDamaged db
 
 -- The database has this layout, which is none of the two.
 abbrev pub IsOther : Database → ℤ → Type 0
-IsOther db n = ((tables_of db.schema).meta ≡ true) × SaysLayout n (first_meta_rows db) × (n ≢ pos 1) × (n ≢ pos 2)
+IsOther db n = ((tables_of db.schema).meta ≡ true) × SaysLayout n (meta_rows db) × (n ≢ pos 1) × (n ≢ pos 2)
 
 -- Any names will do, or these alone.
 abbrev pub IsWanted : Bool → Names → Names → Type 0

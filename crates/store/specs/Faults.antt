@@ -25,12 +25,23 @@ IsApplyFault (Layout n) = ⊥
 IsApplyFault Broken = Unit {0}
 IsApplyFault Follows = ⊥
 
+-- Adopting fails, or the store has failed before.
+abbrev pub IsAdoptFault : StoreFault → Type 0
+IsAdoptFault (NoSuchRow at) = ⊥
+IsAdoptFault (CountFull at) = ⊥
+IsAdoptFault (Database e) = Unit {0}
+IsAdoptFault Memory = Unit {0}
+IsAdoptFault Damaged = ⊥
+IsAdoptFault (Layout n) = ⊥
+IsAdoptFault Broken = Unit {0}
+IsAdoptFault Follows = ⊥
+
 -- Reading fails, or the store has failed before.
 abbrev pub IsReadFault : StoreFault → Type 0
 IsReadFault (NoSuchRow at) = ⊥
 IsReadFault (CountFull at) = ⊥
 IsReadFault (Database e) = Unit {0}
-IsReadFault Memory = Unit {0}
+IsReadFault Memory = ⊥
 IsReadFault Damaged = ⊥
 IsReadFault (Layout n) = ⊥
 IsReadFault Broken = Unit {0}

@@ -32,7 +32,8 @@ pub record IsWorking (s : State) : Type 0 where
 abbrev pub WasOpen : State → State → Type 0
 WasOpen old new = IsTrue new.is_open → IsTrue old.is_open
 
--- What a call inside a transaction keeps, whatever it answers: what was committed, for a crash too, and an open connection.
+-- What a call inside a transaction keeps, whatever it answers: what was committed, for a crash too; and a connection that is open after
+-- it was open before.
 pub record Stays (old new : State) : Type 0 where
   pub kept : HasCleanDisk new → IsWorking old → KeepsCommit old new
   pub survives : Survives old new (λ _. ⊥)

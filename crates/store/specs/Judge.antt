@@ -7,8 +7,6 @@ use Rattle.sqlite_value.specs.Order.{Row, column}
 use Rattle.sqlite_trees.specs.Tree.{rowid}
 use Rattle.gtid.specs.Identifier.{Id}
 use Rattle.gtid.specs.declared.span.Span.{Span}
-use Rattle.store.specs.declared.fault.StoreFault.{StoreFault}
-use Rattle.store.specs.declared.fault.StoreFault.TheVariants.{Database, Memory}
 use Rattle.store.specs.declared.tables.Meta.{Meta}
 use Rattle.store.specs.declared.verdict.Verdict.{Verdict}
 use Rattle.store.specs.declared.verdict.Verdict.TheVariants.{Lawful, Unordered, Unlawful}
@@ -28,7 +26,8 @@ abbrev pub Rise : Option ℤ → List Row → Type 0
 Rise last [] = Unit {0}
 Rise last (row ∷ rows) = (id : ℤ) × (rowid row ≡ Int id) × IsAfter last id × Rise (Some id) rows
 
--- What the verdict says of rows of held: all are lawful, and their rowids ascend up to the last one; or one is not lawful.
+-- What the verdict says of rows of held: all are lawful, and their rowids ascend up to the last one; or one is not lawful. Of rows that
+-- are not in order it says nothing.
 abbrev pub HasVerdict : Verdict → List Row → Type 0
 HasVerdict (Lawful last) rows = AllByRecursion IsHeldRow rows × ((more : List Row) → Rise last more → Rise None (rows ++ more))
 HasVerdict Unordered rows = Unit {0}
@@ -40,12 +39,6 @@ HasOrder last row (Lawful None) = ⊥
 HasOrder last row (Lawful (Some id)) = (rowid row ≡ Int id) × IsAfter last id
 HasOrder last row Unordered = Unit {0}
 HasOrder last row Unlawful = ⊥
-
--- a statement failed, or an allocation was refused
-abbrev pub IsCause : StoreFault → Type 0
-IsCause (Database e) = Unit {0}
-IsCause Memory = Unit {0}
-IsCause _ = ⊥
 
 -- the values with the key `layout`
 abbrev pub layouts : List Row → List Value

@@ -34,10 +34,6 @@ spans_text = codes "CREATE TABLE spans (source BLOB NOT NULL, lo INTEGER NOT NUL
 abbrev pub follow_text : List ℕ
 follow_text = codes "CREATE TABLE follow (schema_name BLOB NOT NULL, table_name BLOB NOT NULL, PRIMARY KEY (schema_name, table_name))"
 
--- of layout 1
-abbrev pub executed_text : List ℕ
-executed_text = codes "CREATE TABLE executed (source BLOB NOT NULL, number INTEGER NOT NULL, PRIMARY KEY (source, number))"
-
 -- ---- the tables
 
 abbrev pub required : List ℕ → Kind → Column

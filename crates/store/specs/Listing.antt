@@ -13,14 +13,16 @@ use Rattle.sqlite.specs.State.{State, IsUnchanged}
 use Rattle.sqlite.specs.Held.{Held, state}
 use Rattle.sqlite.specs.Given.{HasGiven}
 use Rattle.gather.specs.Image.{HasImage, image}
-use Rattle.store.specs.declared.fault.StoreFault.TheVariants.{Database, Broken}
+use Rattle.store.specs.declared.fault.StoreFault.TheVariants.{Database}
 use Rattle.store.specs.declared.listing.Listed.{Listed}
 use Rattle.store.specs.declared.listing.ListError.{ListError}
 use Rattle.store.specs.declared.listing.ListError.TheVariants.{Store as StoreError, Visitor as VisitorError}
 use Rattle.store.specs.declared.store.Store.{Store}
 use Rattle.store.specs.State.{TableRow, row_of, Bag, Content}
+use Rattle.store.specs.Changes.{most}
 use Rattle.store.specs.Rows.{Key, key_for}
 use Rattle.store.specs.Load.{Rested}
+use Rattle.store.specs.Faults.{IsReadFault}
 use Rattle.store.specs.Store.{Holds, Keeps}
 
 -- a row, and how often it is there
@@ -41,7 +43,7 @@ entry_rows entries = map (λ (e : Entry). e.0) entries
 -- The list has each row of the bag once, with the number of its copies, in ascending order.
 pub record AreRows (bag : Bag) (entries : List Entry) : Type 0 where
   pub ascend : IsStrictlySortedBy row_cmp (entry_rows entries)
-  pub counted : AllByRecursion (λ (e : Entry). (e.1 ≡ bag e.0) × (1 ≤ e.1)) entries
+  pub counted : AllByRecursion (λ (e : Entry). (e.1 ≡ bag e.0) × (1 ≤ e.1) × (e.1 ≤ most)) entries
   pub all : (r : TableRow) → 1 ≤ bag r → (before : List Entry) × (after : List Entry) × (entries ≡ before ++ (r, bag r) ∷ after)
 
 -- ---- Rows that are handed to a visitor.
@@ -64,9 +66,7 @@ Gives e None = ⊥
 
 -- reading has failed, or the visitor
 abbrev pub IsListFault : {E : Type 0} → ListError E → Type 0
-IsListFault (StoreError (Database e)) = Unit {0}
-IsListFault (StoreError Broken) = Unit {0}
-IsListFault (StoreError _) = ⊥
+IsListFault (StoreError fault) = IsReadFault fault
 IsListFault (VisitorError e) = Unit {0}
 
 -- `gives v e answer w`: the visitor v answers to the entry e in this way, and is w afterwards.

@@ -29,7 +29,7 @@ use Rattle.store.specs.State.{Content}
 use Rattle.store.specs.declared.tables.KnownLayout.{KnownLayout}
 use Rattle.store.specs.declared.tables.KnownLayout.TheVariants.{First, Second}
 use Rattle.store.specs.Layout.{IsFirstLaidOut, IsLaidOut}
-use Rattle.store.specs.Rows.{SaysLayout, IsMetaRow, HasRowids, first_meta_rows}
+use Rattle.store.specs.Rows.{SaysLayout, IsMetaRow, HasRowids, meta_rows}
 use Rattle.std.specs.List.{AllByRecursion}
 use Rattle.store.specs.Apply.{IsAtRest, Rests}
 use Rattle.store.specs.Open.{IsFirstAtRest}
@@ -110,8 +110,8 @@ pub record StatesLayout (n : ℤ) (rows : List Row) : Type 0 where
 
 -- `meta` states this layout, and its tables are there.
 abbrev pub HasLayout : Stored → KnownLayout → Type 0
-HasLayout db First = IsFirstLaidOut db.schema × StatesLayout (pos 1) (first_meta_rows db)
-HasLayout db Second = IsLaidOut db.schema × StatesLayout (pos 2) (first_meta_rows db)
+HasLayout db First = IsFirstLaidOut db.schema × StatesLayout (pos 1) (meta_rows db)
+HasLayout db Second = IsLaidOut db.schema × StatesLayout (pos 2) (meta_rows db)
 
 -- ---- A call that reads.
 

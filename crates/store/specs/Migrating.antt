@@ -81,7 +81,8 @@ pub record IsFirstInside (content : Content) (s : State) : Type 0 where
   pub stands : StandsForFirst s.now content
   pub sound : IsDatabase s.now
 
--- There are such tables, meta says this layout, and meta and held are those of the content. What lies beside is as it was committed.
+-- There are such tables, meta is lawful and says this layout, and the rows of held are those of the content. What lies beside is as it
+-- was committed.
 pub record IsMigrating (AreThere : State → Type 0) (layout : ℤ) (content : Content) (s : State) : Type 0 where
   pub is_open : IsTrue s.is_open
   pub inside : s.in_transaction ≡ true

@@ -9,7 +9,7 @@ use Rattle.binlog.specs.Filter.{Names}
 use Rattle.store.specs.State.{Content}
 use Rattle.store.specs.Layout.{IsVacant}
 use Rattle.store.specs.Beside.{LiesBeside}
-use Rattle.store.specs.Rows.{StandsFor, StandsForFirst, HasRowids, span_rows, first_meta_rows, held_rows}
+use Rattle.store.specs.Rows.{StandsFor, StandsForFirst, HasRowids, span_rows, meta_rows, held_rows}
 
 -- nothing is executed, and there is no row
 abbrev pub nothing : Content
@@ -31,7 +31,7 @@ pub record IsBlank (s : State) : Type 0 where
 pub record IsFirstAtRest (s : State) (content : Content) : Type 0 where
   pub is_open : IsTrue s.is_open
   pub settled : s.now ≡ s.committed
-  pub meta_apart : HasRowids (first_meta_rows s.now)
+  pub meta_apart : HasRowids (meta_rows s.now)
   pub held_apart : HasRowids (held_rows s.now)
   pub stands : StandsForFirst s.now content
   pub sound : IsDatabase s.now

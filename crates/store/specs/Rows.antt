@@ -224,9 +224,6 @@ pub record StandsFor (db : Database) (names : Names) (content : Content) : Type 
 
 -- ---- Layout 1.
 
-abbrev pub first_meta_rows : Database → List Row
-first_meta_rows db = meta_rows db
-
 abbrev pub executed_rows : Database → List Row
 executed_rows db = db.trees (executed_tree db.schema)
 
@@ -239,14 +236,14 @@ id_in row = (blob_in (column row 1), number_in (column row 2))
 
 -- Each value is of its column's type and in its range.
 pub record KeepsFirstRules (db : Database) : Type 0 where
-  pub meta : AllByRecursion IsMetaRow (first_meta_rows db)
+  pub meta : AllByRecursion IsMetaRow (meta_rows db)
   pub executed : AllByRecursion IsExecutedRow (executed_rows db)
   pub held : AllByRecursion IsHeldRow (held_rows db)
 
 -- The database is of layout 1, its rows keep its rules, and this is what they stand for.
 pub record StandsForFirst (db : Database) (content : Content) : Type 0 where
   pub laid_out : IsFirstLaidOut db.schema
-  pub says : SaysLayout (pos 1) (first_meta_rows db)
+  pub says : SaysLayout (pos 1) (meta_rows db)
   pub rules : KeepsFirstRules db
   pub executed : content.executed ≡ set.from_list (map id_in (executed_rows db))
   pub rows : content.rows ≡ bag_of (count (held_rows db))

@@ -1,6 +1,6 @@
 //! Adopting an executed set.
 
-ghost use Rattle.std.specs.Prelude.{◌≡◌, true, false, Ok, Err, IsTrue, OnOk, IfOk, IfErr};
+ghost use Rattle.std.specs.Prelude.{◌≡◌, true, false, Ok, Err, IsErr, IsTrue, OnOk, IfOk, IfErr};
 ghost use Rattle.std.specs.FinSet as set;
 ghost use Rattle.sqlite.specs.State.{HasCleanDisk, Survives};
 ghost use Rattle.sqlite.specs.Held.{state};
@@ -10,7 +10,7 @@ ghost use Rattle.store.specs.Changes.{with_executed};
 ghost use Rattle.store.specs.Inside.{WasOpen};
 ghost use Rattle.store.specs.Beside.{LiesBeside};
 ghost use Rattle.store.specs.Apply.{SparesBeside, IsAtRest, Replaces, AreOf};
-ghost use Rattle.store.specs.Faults.{IsReadFault};
+ghost use Rattle.store.specs.Faults.{IsAdoptFault};
 ghost use Rattle.store.specs.Store.{Holds, Keeps, Adopts, AdoptsShut, LeavesAdopted, database, names_of, IsBroken, IsWhole};
 ghost use Rattle.store.specs.declared.fault.StoreFault.TheVariants.{Broken};
 
@@ -70,10 +70,11 @@ impl<S: Alter> Store<S> {
         ensures schema { HasCleanDisk (database S.Store self.new) → (content : Content) → Holds S.Store self.old content → IsWhole S.Store self.new → (database S.Store self.new).now.schema ≡ (database S.Store self.old).now.schema }
         ensures beside { HasCleanDisk (database S.Store self.new) → (content : Content) → Holds S.Store self.old content → IsTrue (database S.Store self.new).is_open → LiesBeside (database S.Store self.old).now (database S.Store self.new).now }
         ensures crash_beside { HasCleanDisk (database S.Store self.new) → (content : Content) → Holds S.Store self.old content → (trees : _) → (database S.Store self.new).may_leave trees → SparesBeside (database S.Store self.old).now trees }
+        ensures unchanged { HasCleanDisk (database S.Store self.new) → (content : Content) → Holds S.Store self.old content → IsErr result → IsTrue (database S.Store self.new).is_open → (database S.Store self.new).now ≡ (database S.Store self.old).now }
         ensures clean { HasCleanDisk (database S.Store self.new) → HasCleanDisk (database S.Store self.old) }
         ensures crash { HasCleanDisk (database S.Store self.new) → (content : Content) → Holds S.Store self.old content → (trees : _) → (database S.Store self.new).may_leave trees
             → LeavesAdopted (database S.Store self.old).now.schema (names_of S.Store self.old) content gtids.now result trees }
-        ensures fault { IfErr result IsReadFault }
+        ensures fault { IfErr result IsAdoptFault }
     {
         if self.broken {
             return Err(StoreFault::Broken);

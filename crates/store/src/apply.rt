@@ -1,6 +1,6 @@
 //! Applying a transaction of the source.
 
-ghost use Rattle.std.specs.Prelude.{◌≡◌, ◌≢◌, true, false, Err, IsTrue, IfErr};
+ghost use Rattle.std.specs.Prelude.{◌≡◌, ◌≢◌, false, Err, IsErr, IsTrue, IfErr};
 ghost use Rattle.std.specs.FinSet as set;
 ghost use Rattle.sqlite.specs.State.{HasCleanDisk, Survives};
 ghost use Rattle.sqlite.specs.Held.{state};
@@ -25,7 +25,7 @@ use sqlite::{Alter, Connection};
 use std::alloc::Global;
 use std::mem;
 
-/// Reports a refused change, or the database error if rolling back closed the connection.
+/// Reports a refused change, or the database error if rolling back shut the connection.
 fn refuse<S: Alter>(conn: &mut Connection<S>, at: usize, why: Refusal) -> StoreFault
     requires { conn.old.in_transaction ≡ false }
     ensures autocommit { conn.new.in_transaction ≡ false }
@@ -105,6 +105,7 @@ impl<S: Alter> Store<S> {
         ensures schema { HasCleanDisk (database S.Store self.new) → (content : Content) → Holds S.Store self.old content → IsWhole S.Store self.new → (database S.Store self.new).now.schema ≡ (database S.Store self.old).now.schema }
         ensures beside { HasCleanDisk (database S.Store self.new) → (content : Content) → Holds S.Store self.old content → IsTrue (database S.Store self.new).is_open → LiesBeside (database S.Store self.old).now (database S.Store self.new).now }
         ensures crash_beside { HasCleanDisk (database S.Store self.new) → (content : Content) → Holds S.Store self.old content → (trees : _) → (database S.Store self.new).may_leave trees → SparesBeside (database S.Store self.old).now trees }
+        ensures unchanged { HasCleanDisk (database S.Store self.new) → (content : Content) → Holds S.Store self.old content → IsErr result → IsTrue (database S.Store self.new).is_open → (database S.Store self.new).now ≡ (database S.Store self.old).now }
         ensures clean { HasCleanDisk (database S.Store self.new) → HasCleanDisk (database S.Store self.old) }
         ensures crash { HasCleanDisk (database S.Store self.new) → (content : Content) → Holds S.Store self.old content → (trees : _) → (database S.Store self.new).may_leave trees
             → Leaves (database S.Store self.old).now.schema (names_of S.Store self.old) content (delivery_value delivery.now) result trees }

@@ -71,9 +71,9 @@ fn in_order<S: Alter>(
 }
 
 /// Makes the changes and records the GTID in one transaction, or changes nothing and returns which change is refused and
-/// why. Rows that are only added to one table are inserted in the order of their keys, if there is memory to sort them. If
-/// one of them is refused, that transaction is rolled back, and another one makes the changes in order, up to the one
-/// that is refused.
+/// why. Eight rows and more that are only added to one table, which the filter admits, are inserted in the order of their
+/// keys, if there is memory to sort them. If one of them is refused, that transaction is rolled back, and another one makes
+/// the changes in order, up to the one that is refused.
 pub(crate) fn run<S: Alter>(
     alloc: Global,
     conn: &mut Connection<S>,

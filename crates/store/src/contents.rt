@@ -1,4 +1,4 @@
-//! The contents of a store: the executed set and the filter; and closing.
+//! What a store answers from memory, the executed set and the filter, and closing.
 
 ghost use Rattle.std.specs.Prelude.{◌≡◌, Bool, false};
 ghost use Rattle.store.specs.State.{Content};

@@ -70,7 +70,7 @@ pub(crate) fn read<S: Alter>(
     one_count(rows.as_slice())
 }
 
-/// Whether an INSERT inserted its rows. If it did not, a key was taken: the key of the table says so.
+/// Whether an INSERT inserted its rows. If it did not, the key of the table refused one of them.
 fn inserted(outcome: Result<usize, Error>) -> Result<bool, Error>
     ensures ok { result ≡ Ok true → IsOk outcome }
     ensures taken { result ≡ Ok false → outcome ≡ Err (Error.SqliteFailure (ErrorCode.ConstraintViolation Constraint.Unique)) }

@@ -129,7 +129,7 @@ fn insert_each<S: Alter>(
 }
 
 /// Adds the rows in turn, and returns whether all were added: eight at a time, and one by one from the first eight on of
-/// which one is there or two are the same. It stops at the first that is refused.
+/// which one is there or two are the same, or where fewer than eight are left. It stops at the first that is refused.
 fn insert_all<S: Alter>(
     tx: &mut Transaction<'_, S>,
     schema: &[u8],

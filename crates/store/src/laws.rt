@@ -9,7 +9,7 @@ ghost use Rattle.sqlite.specs.Effect.{IsDatabase};
 ghost use Rattle.binlog.specs.Filter.{Names};
 ghost use Rattle.store.specs.Layout.{IsLaidOut};
 ghost use Rattle.store.specs.Rows.{HasRowids, span_rows};
-ghost use Rattle.store.specs.Entering.{IsKnown, IsStored, IsOf, IsDamaged, IsOther, IsLeft, tables_of, has_any};
+ghost use Rattle.store.specs.Entering.{IsKnown, IsReady, IsStored, IsOf, IsDamaged, IsOther, IsLeft, ReadsLeft, tables_of, has_any};
 ghost use Rattle.store.specs.Store.{Holds, AreOf, database, names_of};
 
 use crate::store::Store;
@@ -37,6 +37,14 @@ pub fn left_to_be_opened<S: Alter>(_store: &Store<S>)
 pub fn left_of_a_content<S: Alter>(_store: &Store<S>)
     ensures { (schema : _) → (names : Names) → (content : Content) → (trees : _) → AreOf schema names content trees → (only : Names) → IsLeft only names content trees }
 {}
+
+/// A connection that reads what a crash has left is ready to be opened.
+pub fn left_is_ready<S: Alter>(conn: &Connection<S>)
+    ensures { (only : Names) → (names : Names) → (content : Content) → ReadsLeft only names content (state S.Store conn.now) → IsReady (state S.Store conn.now) }
+{
+    // For the prover: what the connection shows is a database. The call does nothing at run time.
+    conn.schema();
+}
 
 /// A database stands for at most one content and one filter. One that does is not damaged (with the rowids of
 /// `spans` apart, as each opening tests) and has no other layout, and a damaged one has no other layout. Of known tables

@@ -14,8 +14,8 @@
 //! A [`StoreFault`] of a refused change, `NoSuchRow` or `CountFull`, leaves the store as it was. After `Database` or
 //! `Memory` of `apply` or `adopt` the store has failed: `apply`, `adopt`, `count` and `list` answer `Broken`, and the
 //! database must be opened again. A store cannot be dropped: [`Store::close`] ends it and returns the connection. The
-//! database may have other tables, indexes and views, which no call changes. The contracts assume that nobody else
-//! writes to the database, and that the disk returns what was written to it.
+//! database may have other tables with their indexes, and views, which no call changes. The contracts assume that nobody
+//! else writes to the database, and that the disk returns what was written to it.
 //!
 //! `specs/` defines what a replica holds (`State.antt`), what a transaction makes of it (`Changes.antt`), how the tables
 //! store it (`Rows.antt`, `Layout.antt`), and what lies beside them (`Beside.antt`). [`laws`] states what follows.

@@ -1,22 +1,17 @@
 //! Listing the rows of a store in order.
 
-ghost use Rattle.std.specs.Prelude.{◌≡◌, ℕ, pos, true, false, IsTrue, None, Ok, Err, Result, IfErr, IfOk, MatchOption, List, [], drop};
+ghost use Rattle.std.specs.Prelude.{◌≡◌, ℕ, pos, false, IsTrue, None, Ok, Err, Result, IfErr, MatchOption, [], drop};
 ghost use Rattle.sqlite.specs.State.{HasCleanDisk, Survives};
 ghost use Rattle.sqlite.specs.Held.{state};
 ghost use Rattle.sqlite.specs.Given.{HasGiven};
 ghost use Rattle.gather.specs.Image.{HasImage};
 ghost use Rattle.sqlite_value.specs.Order.{column};
 ghost use Rattle.sqlite_value.specs.declared.value.Value.TheVariants.{Int};
-ghost use Rattle.sqlite.specs.State.{State};
 ghost use Rattle.store.specs.State.{Content};
 ghost use Rattle.binlog.specs.Filter.{Names};
 ghost use Rattle.store.specs.Layout.{IsLaidOut};
 ghost use Rattle.store.specs.Rows.{Key, key_in};
-ghost use Rattle.store.specs.Inside.{WasOpen};
-ghost use Rattle.store.specs.Beside.{LiesBeside};
 ghost use Rattle.store.specs.Apply.{IsAtRest, SparesBeside};
-ghost use Rattle.store.specs.Load.{Rested};
-ghost use Rattle.store.specs.Faults.{IsReadFault, IsFailure};
 ghost use Rattle.store.specs.Store.{Holds, Keeps, AreOf, database, names_of, IsBroken};
 ghost use Rattle.store.specs.Listing.{Entry, entry_of, shown_entry, HasKey, Gives, Handed, Hands, KeepsListed, Lists, ListsShut, IsShut, IsListFault, listed_text};
 ghost use Rattle.store.specs.declared.fault.StoreFault.TheVariants.{Broken};
@@ -51,23 +46,13 @@ pub trait Visitor {
         ensures { row_gives self.old (entry_of row.now) result self.new };
 }
 
-/// Why a list has ended before its last row was accepted.
+/// Why a list was not read to its end.
 #[derive(Debug, Drop)]
 pub enum ListError<E> {
     /// The store could not read on.
     Store(StoreFault),
     /// The visitor answered this error.
     Visitor(E),
-}
-
-impl<E> From<StoreFault> for ListError<E> {
-    ghost use Rattle.store.specs.declared.listing.ListError.{ListError};
-
-    ghost from_gives = { λ cause error. error ≡ ListError.Store cause };
-
-    fn from(cause: StoreFault) -> ListError<E> {
-        ListError::Store(cause)
-    }
 }
 
 /// The key of a row of `held`.
@@ -169,6 +154,7 @@ fn list_held<S: Alter, V: Visitor>(
     ensures hands { HasCleanDisk (state S.Store conn.new) → (names : Names) (content : Content) → IsAtRest (state S.Store conn.old) names content
         → Hands V.row_gives content.rows visitor.old visitor.new result × KeepsListed (state S.Store conn.old) (state S.Store conn.new) result }
     ensures survives { IsLaidOut (state S.Store conn.old).now.schema → Survives (state S.Store conn.old) (state S.Store conn.new) (λ _. ⊥) }
+    ensures clean { HasCleanDisk (state S.Store conn.new) → HasCleanDisk (state S.Store conn.old) }
     ensures shut { HasCleanDisk (state S.Store conn.new) → (state S.Store conn.old).is_open ≡ false → IsShut (state S.Store conn.new) visitor.old visitor.new result }
     ensures fault { IfErr result IsListFault }
 {
@@ -199,8 +185,9 @@ impl<S: Alter> Store<S> {
         ensures following { names_of S.Store self.new ≡ names_of S.Store self.old }
         ensures crash { HasCleanDisk (database S.Store self.new) → (content : Content) → Holds S.Store self.old content → (trees : _) → (database S.Store self.new).may_leave trees
             → AreOf (database S.Store self.old).now.schema (names_of S.Store self.old) content trees }
-        ensures beside { HasCleanDisk (database S.Store self.new) → (content : Content) → Holds S.Store self.old content → IsTrue (database S.Store self.new).is_open → LiesBeside (database S.Store self.old).now (database S.Store self.new).now }
+        ensures unchanged { HasCleanDisk (database S.Store self.new) → (content : Content) → Holds S.Store self.old content → IsTrue (database S.Store self.new).is_open → (database S.Store self.new).now ≡ (database S.Store self.old).now }
         ensures crash_beside { HasCleanDisk (database S.Store self.new) → (content : Content) → Holds S.Store self.old content → (trees : _) → (database S.Store self.new).may_leave trees → SparesBeside (database S.Store self.old).now trees }
+        ensures clean { HasCleanDisk (database S.Store self.new) → HasCleanDisk (database S.Store self.old) }
         ensures fault { IfErr result IsListFault }
     {
         if self.broken {

@@ -7,9 +7,9 @@ ghost use Rattle.sqlite.specs.State.{HasCleanDisk, IsUnchanged, Survives};
 ghost use Rattle.sqlite.specs.Held.{state};
 ghost use Rattle.store.specs.Inside.{WasOpen};
 ghost use Rattle.store.specs.Layout.{HasMeta, IsLaidOut, IsFirstLaidOut};
-ghost use Rattle.store.specs.Rows.{meta_rows, first_meta_rows, HasRowids, IsHeldRow, IsFollowRow, IsSpanRow, IsExecutedRow, AreNames, AreSpans, KeepsRules, KeepsFirstRules, touches, span_in, id_in};
+ghost use Rattle.store.specs.Rows.{meta_rows, HasRowids, IsHeldRow, IsFollowRow, IsSpanRow, IsExecutedRow, AreNames, AreSpans, KeepsRules, KeepsFirstRules, touches, span_in, id_in};
 ghost use Rattle.store.specs.Judge.{IsMeta};
-ghost use Rattle.store.specs.Load.{StatesLayout, AsksAll, Ascends, by_order, Rested, OnSeen, Judges, IsLoadFault, all_held_text, all_spans_text, all_follow_text, all_executed_text, IsLoaded, IsFirstLoaded};
+ghost use Rattle.store.specs.Load.{StatesLayout, AsksAll, Rested, OnSeen, Judges, IsLoadFault, all_held_text, all_spans_text, all_follow_text, all_executed_text, IsLoaded, IsFirstLoaded};
 
 use crate::fault::StoreFault;
 use crate::table_rows::{executed_from, filter_from, meta_in, spans_from};
@@ -20,7 +20,7 @@ use gtid::GtidSet;
 use sqlite::{Alter, Connection, Error, Row};
 use std::alloc::Global;
 
-/// What the rows of a database of layout 2 stand for.
+/// The executed set and the filter of a database that is opened.
 #[derive(Debug, Drop)]
 pub(crate) struct Loaded {
     pub(crate) executed: GtidSet,
@@ -28,11 +28,10 @@ pub(crate) struct Loaded {
 }
 
 /// All rows of a table, read by this statement.
-pub(crate) fn read_all<S: Alter>(conn: &mut Connection<S>, sql: &str) -> Result<Vec<Row>, Error>
+fn read_all<S: Alter>(conn: &mut Connection<S>, sql: &str) -> Result<Vec<Row>, Error>
     requires { conn.old.in_transaction ≡ false }
     ensures autocommit { conn.new.in_transaction ≡ false }
     ensures rows { HasCleanDisk (state S.Store conn.new) → (tree : ℕ) → AsksAll (state S.Store conn.old).now.schema sql.now tree → IfOk result (λ rows. IsPermutation ((state S.Store conn.old).now.trees tree) rows.items) }
-    ensures ascend { HasCleanDisk (state S.Store conn.new) → (tree : ℕ) → (asks : AsksAll (state S.Store conn.old).now.schema sql.now tree) → IfOk result (λ rows. Ascends (by_order asks.order) rows.items) }
     ensures same { HasCleanDisk (state S.Store conn.new) → (tree : ℕ) → AsksAll (state S.Store conn.old).now.schema sql.now tree → OnOk result (IsUnchanged (state S.Store conn.old) (state S.Store conn.new)) }
     ensures rested { HasCleanDisk (state S.Store conn.new) → (tree : ℕ) → AsksAll (state S.Store conn.old).now.schema sql.now tree → Rested (state S.Store conn.old) (state S.Store conn.new) }
     ensures crash { Survives (state S.Store conn.old) (state S.Store conn.new) (λ _. (tree : ℕ) → ¬ AsksAll (state S.Store conn.old).now.schema sql.now tree) }
@@ -48,7 +47,7 @@ pub(crate) fn read_all<S: Alter>(conn: &mut Connection<S>, sql: &str) -> Result<
 pub(crate) fn read_meta<S: Alter>(conn: &mut Connection<S>) -> Result<Meta, Error>
     requires { conn.old.in_transaction ≡ false }
     ensures autocommit { conn.new.in_transaction ≡ false }
-    ensures says { HasCleanDisk (state S.Store conn.new) → HasMeta (state S.Store conn.old).now.schema → IfOk result (IsMeta (first_meta_rows (state S.Store conn.old).now)) }
+    ensures says { HasCleanDisk (state S.Store conn.new) → HasMeta (state S.Store conn.old).now.schema → IfOk result (IsMeta (meta_rows (state S.Store conn.old).now)) }
     ensures same { HasCleanDisk (state S.Store conn.new) → HasMeta (state S.Store conn.old).now.schema → OnOk result (IsUnchanged (state S.Store conn.old) (state S.Store conn.new)) }
     ensures rested { HasCleanDisk (state S.Store conn.new) → HasMeta (state S.Store conn.old).now.schema → Rested (state S.Store conn.old) (state S.Store conn.new) }
     ensures crash { HasMeta (state S.Store conn.old).now.schema → Survives (state S.Store conn.old) (state S.Store conn.new) (λ _. ⊥) }
@@ -159,7 +158,7 @@ pub(crate) fn load_first<S: Alter>(
 ) -> Result<GtidSet, StoreFault>
     requires { conn.old.in_transaction ≡ false }
     ensures autocommit { conn.new.in_transaction ≡ false }
-    ensures loads { HasCleanDisk (state S.Store conn.new) → IsFirstLaidOut (state S.Store conn.old).now.schema → (state S.Store conn.old).now ≡ (state S.Store conn.old).committed → StatesLayout (pos 1) (first_meta_rows (state S.Store conn.old).now) → Judges result (IsFirstLoaded (state S.Store conn.new)) (KeepsFirstRules (state S.Store conn.old).now) }
+    ensures loads { HasCleanDisk (state S.Store conn.new) → IsFirstLaidOut (state S.Store conn.old).now.schema → (state S.Store conn.old).now ≡ (state S.Store conn.old).committed → StatesLayout (pos 1) (meta_rows (state S.Store conn.old).now) → Judges result (IsFirstLoaded (state S.Store conn.new)) (KeepsFirstRules (state S.Store conn.old).now) }
     ensures same { HasCleanDisk (state S.Store conn.new) → IsFirstLaidOut (state S.Store conn.old).now.schema → OnSeen result (IsUnchanged (state S.Store conn.old) (state S.Store conn.new)) }
     ensures rested { HasCleanDisk (state S.Store conn.new) → IsFirstLaidOut (state S.Store conn.old).now.schema → Rested (state S.Store conn.old) (state S.Store conn.new) }
     ensures lives { Survives (state S.Store conn.old) (state S.Store conn.new) (λ _. Unit {0}) }

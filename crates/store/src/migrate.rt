@@ -48,7 +48,7 @@ fn make_follow<S: Alter>(tx: &mut Transaction<'_, S>) -> Result<usize, Error>
     )
 }
 
-/// Records that the tables have layout 2. Other rows of `meta` stay.
+/// Records that the tables have layout 2. Other rows of `meta` stay, which no clause says.
 fn raise_layout<S: Alter>(tx: &mut Transaction<'_, S>) -> Result<usize, Error>
     ensures same_reference { tx.new.conn.ghost_name ≡ tx.old.conn.ghost_name }
     ensures migrated { HasCleanDisk (state S.Store tx.new.conn.now) → (content : Content) → IsMigrating HasBare (pos 1) content (state S.Store tx.old.conn.now) → OnOk result (IsMigrating HasBare (pos 2) content (state S.Store tx.new.conn.now)) }

@@ -7,7 +7,7 @@ ghost use Rattle.store.specs.declared.fault.StoreFault.TheVariants.{Memory, Dama
 ghost use Rattle.store.specs.Layout.{IsVacant, IsFirstLaidOut, IsLaidOut};
 ghost use Rattle.sqlite.specs.Effect.{Database as Stored};
 ghost use Rattle.store.specs.Judge.{IsMeta};
-ghost use Rattle.store.specs.Rows.{first_meta_rows};
+ghost use Rattle.store.specs.Rows.{meta_rows};
 ghost use Rattle.store.specs.Load.{StatesLayout, HasLayout};
 ghost use Rattle.store.specs.Beside.{LiesBeside};
 ghost use Rattle.store.specs.Open.{all};
@@ -96,10 +96,10 @@ fn enter_first<S: Alter>(
 ) -> Result<Loaded, StoreFault>
     requires { conn.old.in_transaction ≡ false }
     ensures autocommit { conn.new.in_transaction ≡ false }
-    ensures entered { HasCleanDisk (state S.Store conn.new) → IsReady (state S.Store conn.old) → IsFirstLaidOut (state S.Store conn.old).now.schema → StatesLayout (pos 1) (first_meta_rows (state S.Store conn.old).now) → IfOk result (λ l. IsEntered any only.now (state S.Store conn.old) (state S.Store conn.new) l.executed l.following) }
-    ensures turned { HasCleanDisk (state S.Store conn.new) → IsReady (state S.Store conn.old) → IsFirstLaidOut (state S.Store conn.old).now.schema → StatesLayout (pos 1) (first_meta_rows (state S.Store conn.old).now) → (tables_of (state S.Store conn.old).now.schema).meta ≡ true → IfErr result (IsTurned any only.now (state S.Store conn.old) (state S.Store conn.new)) }
+    ensures entered { HasCleanDisk (state S.Store conn.new) → IsReady (state S.Store conn.old) → IsFirstLaidOut (state S.Store conn.old).now.schema → StatesLayout (pos 1) (meta_rows (state S.Store conn.old).now) → IfOk result (λ l. IsEntered any only.now (state S.Store conn.old) (state S.Store conn.new) l.executed l.following) }
+    ensures turned { HasCleanDisk (state S.Store conn.new) → IsReady (state S.Store conn.old) → IsFirstLaidOut (state S.Store conn.old).now.schema → StatesLayout (pos 1) (meta_rows (state S.Store conn.old).now) → (tables_of (state S.Store conn.old).now.schema).meta ≡ true → IfErr result (IsTurned any only.now (state S.Store conn.old) (state S.Store conn.new)) }
     ensures lives { Survives (state S.Store conn.old) (state S.Store conn.new) (λ _. Unit {0}) }
-    ensures crash { IsReady (state S.Store conn.old) → IsFirstLaidOut (state S.Store conn.old).now.schema → StatesLayout (pos 1) (first_meta_rows (state S.Store conn.old).now) → Survives (state S.Store conn.old) (state S.Store conn.new) (MayEnter only.now (state S.Store conn.old)) }
+    ensures crash { IsReady (state S.Store conn.old) → IsFirstLaidOut (state S.Store conn.old).now.schema → StatesLayout (pos 1) (meta_rows (state S.Store conn.old).now) → Survives (state S.Store conn.old) (state S.Store conn.new) (MayEnter only.now (state S.Store conn.old)) }
     ensures fault { IfErr result (IsOpenFault any) }
 {
     let executed = load_first(alloc, conn)?;
@@ -125,8 +125,8 @@ fn enter_second<S: Alter>(
 ) -> Result<Loaded, StoreFault>
     requires { conn.old.in_transaction ≡ false }
     ensures autocommit { conn.new.in_transaction ≡ false }
-    ensures entered { HasCleanDisk (state S.Store conn.new) → IsReady (state S.Store conn.old) → IsLaidOut (state S.Store conn.old).now.schema → StatesLayout (pos 2) (first_meta_rows (state S.Store conn.old).now) → IfOk result (λ l. IsEntered any only.now (state S.Store conn.old) (state S.Store conn.new) l.executed l.following) }
-    ensures turned { HasCleanDisk (state S.Store conn.new) → IsReady (state S.Store conn.old) → IsLaidOut (state S.Store conn.old).now.schema → StatesLayout (pos 2) (first_meta_rows (state S.Store conn.old).now) → (tables_of (state S.Store conn.old).now.schema).meta ≡ true → IfErr result (IsTurned any only.now (state S.Store conn.old) (state S.Store conn.new)) }
+    ensures entered { HasCleanDisk (state S.Store conn.new) → IsReady (state S.Store conn.old) → IsLaidOut (state S.Store conn.old).now.schema → StatesLayout (pos 2) (meta_rows (state S.Store conn.old).now) → IfOk result (λ l. IsEntered any only.now (state S.Store conn.old) (state S.Store conn.new) l.executed l.following) }
+    ensures turned { HasCleanDisk (state S.Store conn.new) → IsReady (state S.Store conn.old) → IsLaidOut (state S.Store conn.old).now.schema → StatesLayout (pos 2) (meta_rows (state S.Store conn.old).now) → (tables_of (state S.Store conn.old).now.schema).meta ≡ true → IfErr result (IsTurned any only.now (state S.Store conn.old) (state S.Store conn.new)) }
     ensures lives { Survives (state S.Store conn.old) (state S.Store conn.new) (λ _. Unit {0}) }
     ensures crash { IsLaidOut (state S.Store conn.old).now.schema → Survives (state S.Store conn.old) (state S.Store conn.new) (λ _. ⊥) }
     ensures fault { IfErr result (IsOpenFault any) }
@@ -154,7 +154,7 @@ fn has_second(tables: Tables) -> bool
 
 /// The layout of a database with these tables, `meta` among them, or why it is refused.
 fn layout_of(tables: Tables, meta: Meta) -> Result<KnownLayout, StoreFault>
-    ensures judged { (db : Stored) → IsKnown db → IsMeta (first_meta_rows db) meta → tables ≡ tables_of db.schema → tables.meta ≡ true → MatchResult result (HasLayout db) (λ fault. (any : Bool) → (only : Names) → IsWhy any only db fault) }
+    ensures judged { (db : Stored) → IsKnown db → IsMeta (meta_rows db) meta → tables ≡ tables_of db.schema → tables.meta ≡ true → MatchResult result (HasLayout db) (λ fault. (any : Bool) → (only : Names) → IsWhy any only db fault) }
     ensures fault { (any : Bool) → IfErr result (IsOpenFault any) }
 {
     match meta.layout {
@@ -279,7 +279,8 @@ fn open_with<S: Alter>(
 impl<S: Alter> Store<S> {
     /// Opens a database with the filter that it was made for. A new database, which has none of the store's
     /// tables, gets them in one transaction, and is made for all tables. A database of layout 1 is migrated in one
-    /// transaction. Other tables, indexes and views of the database stay as they are.
+    /// transaction. Other tables, their indexes, and views stay as they are; an index of others on `executed` goes with that
+    /// table in a migration.
     ///
     /// Each fault comes with the connection. If that is still open, the database is as it was.
     /// - `Damaged` if a table is missing, or the rows break the rules of their layout.

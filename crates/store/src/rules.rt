@@ -11,7 +11,8 @@ ghost use Rattle.std.specs.Prelude.{codes, ℤ};
 ghost use Rattle.sqlite_value.specs.Order.{column};
 ghost use Rattle.sqlite_value.specs.declared.value.Value.TheVariants.{Int};
 ghost use Rattle.binlog.specs.FilterView.{names_of};
-ghost use Rattle.store.specs.Judge.{span_of_id, IsAfter, IsCause, IsOnly, layouts};
+ghost use Rattle.store.specs.Faults.{IsFailure};
+ghost use Rattle.store.specs.Judge.{span_of_id, IsAfter, IsOnly, layouts};
 
 use crate::fault::StoreFault;
 use crate::span_rows::is_source;
@@ -82,7 +83,7 @@ fn number_at(row: &Row, at: usize) -> Result<Option<u64>, Error>
 /// Whether a row is a lawful row of `held`.
 pub(crate) fn is_held(row: &Row) -> Result<bool, StoreFault>
     ensures judged { IfOk result (λ b. MatchBool b (IsHeldRow row.now) (¬ IsHeldRow row.now)) }
-    ensures fault { IfErr result IsCause }
+    ensures fault { IfErr result IsFailure }
 {
     if row.column_count() != 5 {
         return Ok(false);
@@ -125,7 +126,7 @@ pub(crate) fn is_after(last: Option<i64>, id: i64) -> bool
 }
 
 /// Whether the rowids are integers and ascend.
-pub(crate) fn ascend(rows: &[Row]) -> Result<bool, Error>
+fn ascend(rows: &[Row]) -> Result<bool, Error>
     ensures { IfOk result (λ b. b ≡ true → HasRowids rows.now) }
 {
     let mut last = None;
@@ -231,7 +232,7 @@ fn span_of(row: &Row) -> Result<Option<Span>, Error>
 /// The spans of the rows, if all are lawful rows of `spans`.
 pub(crate) fn spans_of(alloc: Global, rows: &[Row]) -> Result<Option<Vec<Span>>, StoreFault>
     ensures judged { IfOk result (λ o. MatchOption o (¬ AllByRecursion IsSpanRow rows.now) (λ spans. AllByRecursion IsSpanRow rows.now × (spans.items ≡ map span_in rows.now))) }
-    ensures fault { IfErr result IsCause }
+    ensures fault { IfErr result IsFailure }
 {
     let mut spans = Vec::new(alloc);
     for row in rows {
@@ -277,7 +278,7 @@ fn id_of(row: &Row) -> Result<Option<Span>, Error>
 /// The GTIDs of the rows as spans, if all are lawful rows of `executed`.
 pub(crate) fn ids_of(alloc: Global, rows: &[Row]) -> Result<Option<Vec<Span>>, StoreFault>
     ensures judged { IfOk result (λ o. MatchOption o (¬ AllByRecursion IsExecutedRow rows.now) (λ spans. AllByRecursion IsExecutedRow rows.now × (spans.items ≡ map (λ r. span_of_id (id_in r)) rows.now))) }
-    ensures fault { IfErr result IsCause }
+    ensures fault { IfErr result IsFailure }
 {
     let mut spans = Vec::new(alloc);
     for row in rows {
@@ -294,7 +295,7 @@ pub(crate) fn ids_of(alloc: Global, rows: &[Row]) -> Result<Option<Vec<Span>>, S
 /// The name of a table in a row, if it is a lawful row of `follow`.
 fn name_of(alloc: Global, row: &Row) -> Result<Option<(Vec<u8>, Vec<u8>)>, StoreFault>
     ensures judged { IfOk result (λ o. MatchOption o (¬ IsFollowRow row.now) (λ name. IsFollowRow row.now × ((name.0.items, name.1.items) ≡ name_in row.now))) }
-    ensures fault { IfErr result IsCause }
+    ensures fault { IfErr result IsFailure }
 {
     if row.column_count() != 3 {
         return Ok(None);
@@ -320,7 +321,7 @@ pub(crate) fn names_in(
     rows: &[Row],
 ) -> Result<Option<Vec<(Vec<u8>, Vec<u8>)>>, StoreFault>
     ensures judged { IfOk result (λ o. MatchOption o (¬ AllByRecursion IsFollowRow rows.now) (λ names. AllByRecursion IsFollowRow rows.now × (names_of names.items ≡ map name_in rows.now))) }
-    ensures fault { IfErr result IsCause }
+    ensures fault { IfErr result IsFailure }
 {
     let mut names = Vec::new(alloc);
     for row in rows {

@@ -7,7 +7,8 @@ ghost use Rattle.sqlite.specs.State.{HasCleanDisk, IsLive, Survives};
 ghost use Rattle.sqlite.specs.Held.{state};
 ghost use Rattle.sqlite.specs.Given.{HasGiven};
 ghost use Rattle.store.specs.Rows.{IsHeldRow, HasRowids};
-ghost use Rattle.store.specs.Judge.{IsCause, HasVerdict, HasOrder};
+ghost use Rattle.store.specs.Faults.{IsFailure};
+ghost use Rattle.store.specs.Judge.{HasVerdict, HasOrder};
 ghost use Rattle.store.specs.Load.{HasJudged, Judges, Rested, IsLoadFault};
 
 use crate::fault::StoreFault;
@@ -53,7 +54,7 @@ fn with_lawful(verdict: Verdict, row: &Row) -> Result<Verdict, Error>
 /// The verdict on the rows so far and one more. After an unlawful row no other is looked at.
 fn with_row(verdict: Verdict, row: &Row) -> Result<Verdict, StoreFault>
     ensures judged { (rows : List RowValue) → HasVerdict verdict rows → IfOk result (λ after. HasVerdict after (rows ++ row.now ∷ [])) }
-    ensures fault { IfErr result IsCause }
+    ensures fault { IfErr result IsFailure }
 {
     if let Verdict::Unlawful = verdict {
         return Ok(Verdict::Unlawful);
@@ -71,7 +72,7 @@ pub(crate) fn judge_rows<S: Alter>(rows: &mut Rows<'_, S>) -> Result<Verdict, St
     ensures judged { HasCleanDisk (state S.Store rows.new.conn.now) → (sql : _) → HasGiven S.Store sql [] rows.old.conn.now [] → IsLive (state S.Store rows.old.conn.now) → IfOk result (HasJudged sql (state S.Store rows.old.conn.now) (state S.Store rows.new.conn.now)) }
     ensures rested { HasCleanDisk (state S.Store rows.new.conn.now) → Rested (state S.Store rows.old.conn.now) (state S.Store rows.new.conn.now) }
     ensures survives { Survives (state S.Store rows.old.conn.now) (state S.Store rows.new.conn.now) (λ _. ⊥) }
-    ensures fault { IfErr result IsCause }
+    ensures fault { IfErr result IsFailure }
 {
     let mut verdict = Verdict::Lawful(None);
     'rows: for _ in 0..u64::MAX {

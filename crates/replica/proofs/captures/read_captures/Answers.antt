@@ -1,5 +1,5 @@
 use Rattle.std.proofs.Common.{rules, ◌≡◌, ◌++◌, ◌∷◌, [], ◌+◌, List, slice_get, take, length, refl, sym, ap, ◌∙◌, subst, subst₂, All}
-use Rattle.std.proofs.lemmas.Bool.{not-false}
+use Rattle.std.proofs.lemmas.Bool.{not-false, not-true}
 use Rattle.std.proofs.lemmas.List.{take_more, length_push}
 use Rattle.std.proofs.Math.Seq.{take-length}
 use Rattle.std.proofs.lemmas.Option.{slice_get_read}
@@ -19,6 +19,7 @@ pub loop-capture-init : goal.loop-capture-init
 loop-capture-init g c = record {
   piece = search rules;
   may = subst (λ (l : List Ended). All (λ (e : Ended). MayEnd e.reason (g.W.Observer.has_stopped c.opened.new.self)) l) (sym c.requires.none) (search rules);
+  heeds = λ some. absurd (some c.requires.none);
   count = search rules;
   room = search rules;
   clean = λ h. h;
@@ -70,6 +71,7 @@ loop-capture-preserved g c =
       piece = search rules;
       may = more_ends c.loop-capture.ends.items c.in-Ok.end (g.W.Observer.has_stopped c.loop-capture.observer) (g.W.Observer.has_stopped c.read_capture.new.observer) (g.W.Observer.has_stopped c.ended-goes_on.new.self) c.push_reserved.new.self.items
           (search rules) c.ended-goes_on.ensures.stays c.push_reserved.ensures.items inv.may c.in-Ok.ensures.neither;
+      heeds = λ some. not-true _ (sym c.ended-goes_on.ensures.goes_on ∙ c.if-not-goes_on.false);
       count = ap length ends ∙ length_push c.loop-capture.ends.items c.in-Ok.end ∙ ap (λ n. n + 1) inv.count ∙ sym next;
       room = search rules;
       clean = λ h. inv.clean (c.read_capture.ensures.clean h);

@@ -1,4 +1,4 @@
-use Rattle.std.proofs.Common.{◌≡◌, ◌<◌, ◌≤◌, Bool, true, length, take, vec_capacity, All}
+use Rattle.std.proofs.Common.{◌≡◌, ◌≢◌, ◌<◌, ◌≤◌, Bool, true, false, [], length, take, vec_capacity, All}
 use Rattle.sqlite.specs.State.{HasCleanDisk}
 use Rattle.sqlite.specs.Held.{state}
 use Rattle.store.specs.State.{Content}
@@ -12,6 +12,7 @@ abbrev pub invariant-loop-capture : goal.invariant-loop-capture
 invariant-loop-capture g l = record {
   piece : 0 < length l.piece;
   may : All (λ end. MayEnd end.reason (g.W.Observer.has_stopped l.observer)) l.ends.items;
+  heeds : l.ends.items ≢ [] → g.W.Observer.has_stopped l.observer ≡ false;
   count : length l.ends.items ≡ length l.yielded;
   room : length l.fn.captures.items ≤ vec_capacity l.ends;
   clean : HasCleanDisk (state g.S.Store l.store.conn) → HasCleanDisk (state g.S.Store l.fn.store.conn);

@@ -4,6 +4,7 @@ use Rattle.store.specs.Layout.{read_text}
 use Rattle.store.specs.Rows.{key_in}
 use Rattle.store.proofs.Selects.{key_params}
 use Rattle.store.proofs.Keeps.{opened_query, live_query}
+use Rattle.store.proofs.Steps.{clean_before}
 use Rattle.store.proofs.Counted.{find_read, find_same, find_survives, rests_read}
 use Rattle.store.proofs.counting.find.Goals as goal
 
@@ -28,3 +29,6 @@ returns-clause-opened g c clean = opened_query (λ v. v.items) _ _ (state g.S.St
 
 pub returns-clause-live : goal.returns-clause-live
 returns-clause-live g c clean = live_query (λ v. v.items) _ _ (state g.S.Store c.args.conn.now) (state g.S.Store c.query_all.new.self) c.query_all.result (c.query_all.ensures.ok clean)
+
+pub returns-clause-clean : goal.returns-clause-clean
+returns-clause-clean g c clean = clean_before (state g.S.Store c.args.conn.now) (state g.S.Store c.query_all.new.self) _ c.query_all.ensures.survives clean

@@ -66,3 +66,17 @@ returns-clause-shut g c clean shut =
     let same : new ≡ c.conn-2-1.given.0 = search rules in
     let late : HasCleanDisk (s new) = subst (λ k. HasCleanDisk (s k)) (sym same) clean in
     absurd (false≢true (sym shut ∙ begun_open g.S.Store listed_text c.args.conn.now mid (c.in-Ok.ensures.begun (clean_before (s mid) (s new) _ c.hand_all.ensures.survives late))))
+
+pub returns-in-Err-clause-clean : goal.returns-in-Err-clause-clean
+returns-in-Err-clause-clean g c clean =
+    let s = state g.S.Store in
+    let refused = rw c.in-Err.is at c.query.follows.holds-at-none in
+    clean_before (s c.args.conn.now) (s c.query.follows.lender-at-none) _ refused.survives clean
+
+pub returns-clause-clean : goal.returns-clause-clean
+returns-clause-clean g c clean =
+    let s = state g.S.Store in
+    let mid = c.in-Ok.rows.conn.now in
+    let new = c.hand_all.new.rows.conn.now in
+    let same : new ≡ c.conn-2-1.given.0 = search rules in
+    clean_before (s c.args.conn.now) (s mid) _ c.in-Ok.ensures.survives (clean_before (s mid) (s new) _ c.hand_all.ensures.survives (subst (λ k. HasCleanDisk (s k)) (sym same) clean))

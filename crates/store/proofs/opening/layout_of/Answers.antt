@@ -1,5 +1,5 @@
 use Rattle.std.proofs.Common.{◌≡◌, ◌≢◌, true, refl, pos, sym, ap, subst, ◌∙◌, rules}
-use Rattle.store.specs.Rows.{first_meta_rows}
+use Rattle.store.specs.Rows.{meta_rows}
 use Rattle.store.specs.Entering.{no_layout, tables_of}
 use Rattle.store.specs.Judge.{IsOnly, layouts}
 use Rattle.store.proofs.Known.{without_first, unlawful_first, whole_first, without_second, unlawful_second, whole_second, says_at}
@@ -32,11 +32,11 @@ returns-else-not-meta-2-clause-judged c db known meta tables has =
 pub returns-in-Some-clause-judged : goal.returns-in-Some-clause-judged
 returns-in-Some-clause-judged c db known meta tables has any only =
     let there_is : (tables_of db.schema).meta ≡ true = ap (λ t. t.meta) (sym tables) ∙ has in
-    let says = says_at (first_meta_rows db) c.args.meta _ _ meta c.in-Some.is refl in
+    let says = says_at (meta_rows db) c.args.meta _ _ meta c.in-Some.is refl in
     let not_first : c.in-Some.n ≢ pos 1 = search rules in
     let not_second : c.in-Some.n ≢ pos 2 = search rules in
     search (rules, there_is, says, not_first, not_second)
 
 pub returns-in-None-clause-judged : goal.returns-in-None-clause-judged
 returns-in-None-clause-judged c db known meta tables has any only =
-    no_layout (ap (λ t. t.meta) (sym tables) ∙ has) (subst (IsOnly (layouts (first_meta_rows db))) c.in-None.is meta.layout)
+    no_layout (ap (λ t. t.meta) (sym tables) ∙ has) (subst (IsOnly (layouts (meta_rows db))) c.in-None.is meta.layout)

@@ -84,3 +84,6 @@ returns-in-Err-replace-clause-beside g c clean content was is_open =
 pub returns-in-Err-replace-clause-crash_beside : goal.returns-in-Err-replace-clause-crash_beside
 returns-in-Err-replace-clause-crash_beside g c clean content was trees left =
     spares_either g.S.Store c.args.self.now.following content (λ h db is_open may. g.met.S.Store.settled h.store db is_open may) c.args.self.now.conn trees was.rest ((c.in-Err-replace.ensures.crash c.args.self.now.following content was.rest was.executed).crash clean trees left)
+
+pub returns-in-Err-replace-clause-unchanged : goal.returns-in-Err-replace-clause-unchanged
+returns-in-Err-replace-clause-unchanged g c clean content was failed is_open = (c.in-Err-replace.ensures.replaces clean c.args.self.now.following content was.rest was.executed is_open).0

@@ -3,7 +3,7 @@ use Rattle.std.specs.FinSet as set
 use Rattle.gtid.specs.Identifier.{id}
 use Rattle.gather.specs.View.{delivery_value}
 use Rattle.store.specs.Changes.{is_executed}
-use Rattle.store.proofs.Applying.{applied, applied_shut, left_whole, same_schema, lies_beside, spares, spares_moved}
+use Rattle.store.proofs.Applying.{applied, applied_shut, left_whole, same_schema, lies_beside, stays_now, spares, spares_moved}
 use Rattle.store.proofs.store.Store.apply.Goals as goal
 
 pub returns-clause-applies : goal.returns-clause-applies
@@ -31,6 +31,12 @@ pub returns-clause-beside : goal.returns-clause-beside
 returns-clause-beside g c clean content was is_open =
     let same = c.replace-executed.ensures.value ∙ was.executed in
     lies_beside g.S.Store content (delivery_value c.args.delivery.now) c.args.self.now (record c.args.self.now { conn = c.apply_new-executed.new.conn; executed = c.apply_new-executed.result.0; broken = c.breaks-self.result; autocommit = c.self-1.given.0 }) c.apply_new-executed.result.1 is_open
+    (c.apply_new-executed.ensures.comes clean content was.rest same)
+
+pub returns-clause-unchanged : goal.returns-clause-unchanged
+returns-clause-unchanged g c clean content was failed is_open =
+    let same = c.replace-executed.ensures.value ∙ was.executed in
+    stays_now g.S.Store content (delivery_value c.args.delivery.now) c.args.self.now (record c.args.self.now { conn = c.apply_new-executed.new.conn; executed = c.apply_new-executed.result.0; broken = c.breaks-self.result; autocommit = c.self-1.given.0 }) c.apply_new-executed.result.1 failed is_open
     (c.apply_new-executed.ensures.comes clean content was.rest same)
 
 pub returns-clause-crash_beside : goal.returns-clause-crash_beside

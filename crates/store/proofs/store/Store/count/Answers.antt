@@ -1,7 +1,6 @@
 use Rattle.std.proofs.Common.{◌∙◌, sym}
 use Rattle.std.proofs.lemmas.Bool.{false≢true}
 use Rattle.sqlite.specs.Held.{state}
-use Rattle.store.proofs.Spared.{beside_unchanged}
 use Rattle.store.proofs.Applying.{spares_kept}
 use Rattle.store.proofs.Counted.{row_count, rest_unchanged, rest_read}
 use Rattle.store.proofs.store.Store.count.Goals as goal
@@ -25,15 +24,15 @@ returns-in-Ok-clause-shut g c clean content was shut = absurd (false≢true (sym
 pub returns-in-Err-clause-shut : goal.returns-in-Err-clause-shut
 returns-in-Err-clause-shut g c clean content was shut = record { whole = was.whole; executed = was.executed; rest = λ is_open. absurd (false≢true (sym shut ∙ c.count.ensures.opened clean is_open)) }
 
-pub returns-in-Ok-clause-beside : goal.returns-in-Ok-clause-beside
-returns-in-Ok-clause-beside g c clean content was is_open = beside_unchanged (state g.S.Store c.args.self.now.conn).now (state g.S.Store c.count.new.conn).now (c.in-Ok.ensures.same clean was.rest.stands.laid_out).0.now_is
+pub returns-in-Ok-clause-unchanged : goal.returns-in-Ok-clause-unchanged
+returns-in-Ok-clause-unchanged g c clean content was is_open = (c.in-Ok.ensures.same clean was.rest.stands.laid_out).0.now_is
 
 pub returns-in-Ok-clause-crash_beside : goal.returns-in-Ok-clause-crash_beside
 returns-in-Ok-clause-crash_beside g c clean content was trees left =
     spares_kept g.S.Store c.args.self.now.following content (λ h db is_open may. g.met.S.Store.settled h.store db is_open may) c.args.self.now.conn c.count.new.conn trees was.rest (c.count.ensures.survives was.rest.stands.laid_out) clean left
 
-pub returns-in-Err-clause-beside : goal.returns-in-Err-clause-beside
-returns-in-Err-clause-beside g c clean content was is_open = beside_unchanged (state g.S.Store c.args.self.now.conn).now (state g.S.Store c.count.new.conn).now (c.count.ensures.rests clean was.rest.stands.laid_out was.rest.settled is_open).0
+pub returns-in-Err-clause-unchanged : goal.returns-in-Err-clause-unchanged
+returns-in-Err-clause-unchanged g c clean content was is_open = (c.count.ensures.rests clean was.rest.stands.laid_out was.rest.settled is_open).0
 
 pub returns-in-Err-clause-crash_beside : goal.returns-in-Err-clause-crash_beside
 returns-in-Err-clause-crash_beside g c clean content was trees left =

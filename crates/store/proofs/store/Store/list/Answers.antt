@@ -2,7 +2,6 @@ use Rattle.std.proofs.Common.{refl}
 use Rattle.sqlite.specs.Held.{state}
 use Rattle.store.proofs.Applying.{spares_kept}
 use Rattle.store.proofs.Handing.{held_listed, kept_now}
-use Rattle.store.proofs.Spared.{beside_unchanged}
 use Rattle.store.proofs.store.Store.list.Goals as goal
 
 pub returns-clause-lists : goal.returns-clause-lists
@@ -10,10 +9,9 @@ returns-clause-lists g c clean content was =
     let handed = c.list_held.ensures.hands clean c.args.self.now.following content was.rest in
     (handed.0, held_listed g.S.Store c.args.self.now _ content c.list_held.result was was.whole refl refl handed.1)
 
-pub returns-clause-beside : goal.returns-clause-beside
-returns-clause-beside g c clean content was is_open =
-    beside_unchanged (state g.S.Store c.args.self.now.conn).now (state g.S.Store c.list_held.new.conn).now
-    (kept_now (state g.S.Store c.args.self.now.conn) (state g.S.Store c.list_held.new.conn) c.list_held.result (c.list_held.ensures.hands clean c.args.self.now.following content was.rest).1 was.rest.settled is_open)
+pub returns-clause-unchanged : goal.returns-clause-unchanged
+returns-clause-unchanged g c clean content was is_open =
+    kept_now (state g.S.Store c.args.self.now.conn) (state g.S.Store c.list_held.new.conn) c.list_held.result (c.list_held.ensures.hands clean c.args.self.now.following content was.rest).1 was.rest.settled is_open
 
 pub returns-clause-crash_beside : goal.returns-clause-crash_beside
 returns-clause-crash_beside g c clean content was trees left =
