@@ -51,6 +51,11 @@ const GTID_TIMES: f64 = 1.5;
 /// The goal for a store in a file.
 const STORE_TIMES: f64 = 3.0;
 
+/// The goal for opening one of 1,000,000 rows: at most this many times the C library's test and a read of all rows,
+const OPEN_TIMES: f64 = 2.0;
+/// and at most this much memory.
+const OPEN_MEMORY: usize = 160 * MIB;
+
 /// What a store is given: transactions with a number of rows each, or rows that are removed and inserted again.
 const STORES: [(&str, &[&str]); 3] = [
     ("a store of 20,000 transactions of one row", &["add", "20000", "1"]),
@@ -355,6 +360,7 @@ fn compare_stores(jobs: &str, store: &str, folder: &Path) -> io::Result<bool> {
     if million.status != 0 {
         return Err(io::Error::other("store.py fails"));
     }
+    let goal = Goal { other: "C", runs: STORE_RUNS, times: OPEN_TIMES, bound: OPEN_MEMORY };
     let (ours, theirs) = ([jobs, "store", "open", file], ["python3", store, "open", file]);
     met &= compare_from("a store of 1,000,000 rows opened", &ours, &theirs, folder, &goal, || Ok(()))?;
     remove_store(file)?;
