@@ -1,6 +1,6 @@
 //! Images written as bytes.
 
-ghost use Rattle.std.specs.Prelude.{◌≡◌, ◌+◌, ◌≤◌, ◌<◌, ◌^◌, ◌/◌, ◌%◌, ◌++◌, ◌↔◌, length, set, nat_lt, IsTrue, OnOk, OnErr, Err, MatchOption};
+ghost use Rattle.std.specs.Prelude.{◌≡◌, ◌+◌, ◌≤◌, ◌<◌, ◌^◌, ◌/◌, ◌%◌, ◌++◌, ◌↔◌, length, set, IsTrue, OnOk, OnErr, Err, MatchOption};
 ghost use Rattle.binlog.specs.Cell.{cell_value, number_cell};
 ghost use Rattle.gather.specs.Image.{cell_image, image, HasCellImage, HasImage};
 ghost use Rattle.gather.specs.ImageCells.{cell_values};

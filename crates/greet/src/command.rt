@@ -1,7 +1,7 @@
 //! The replica's commands. MySQL Source Documentation, "Client/Server Protocol", the page `COM_QUERY`, and
 //! "Replication Protocol", the page `COM_BINLOG_DUMP_GTID`.
 
-ghost use Rattle.std.specs.Prelude.{◌≡◌, ◌≢◌, ◌<◌, ◌^◌, ◌+◌, [], ◌++◌, List, length, drop, IsTrue, ◌↔◌, IfOk, IfErr, MatchResult, OnOk, OnErr, Ok, Err, vec_len, vec_capacity};
+ghost use Rattle.std.specs.Prelude.{◌≡◌, ◌≢◌, ◌<◌, ◌+◌, [], ◌++◌, length, drop, IsTrue, ◌↔◌, IfOk, IfErr, MatchResult, OnOk, OnErr, Ok, Err, vec_len, vec_capacity};
 ghost use Rattle.byteorder.specs.Endian.{little_bytes, little_number};
 ghost use Rattle.greet.specs.Message.{DumpValue, IsDump, FitsDump, dump_bytes, query_bytes};
 ghost use Rattle.greet.specs.Refusal.{dump_refusal, dump_name_size, dump_set_size};

@@ -1,8 +1,7 @@
 //! Parts of messages.
 
-ghost use Rattle.std.specs.Prelude.{◌≡◌, ◌<◌, ◌+◌, ◌++◌, ◌∷◌, true, false, take, drop, length, flat_map, IfSome, IfNone, IsTrue, ◌↔◌, OnOk, OnErr, Err, vec_len, vec_capacity};
+ghost use Rattle.std.specs.Prelude.{◌≡◌, ◌<◌, ◌+◌, ◌++◌, ◌∷◌, length, flat_map, IfSome, IfNone, IsTrue, ◌↔◌, OnOk, OnErr, Err, vec_len, vec_capacity};
 ghost use Rattle.greet.specs.Message.{IsText};
-ghost use Rattle.greet.specs.Refusal.{has_zero, before_zero, after_zero};
 
 use crate::fault::GreetFault;
 

@@ -1,7 +1,7 @@
 //! The source's replies: OK, a request to switch the authentication method, and EOF. MySQL Source Documentation,
 //! "Client/Server Protocol": the pages `OK_Packet`, `EOF_Packet`, `ERR_Packet` and `Protocol::AuthSwitchRequest`.
 
-ghost use Rattle.std.specs.Prelude.{◌≡◌, ◌≢◌, ℕ, ◌++◌, ◌∷◌, List, true, false, IfOk, IfErr, IfSome, IfNone, MatchResult, ⊤, OnOk, OnErr, Ok, Err, Some, None};
+ghost use Rattle.std.specs.Prelude.{◌≡◌, ◌≢◌, ℕ, ◌∷◌, List, true, false, IfOk, IfErr, IfSome, IfNone, MatchResult, ⊤, OnOk, OnErr, Ok, Err, Some, None};
 ghost use Rattle.greet.specs.PacketHeader.{auth_switch};
 ghost use Rattle.greet.specs.Message.{IsOkPacket, IsSwitch, IsEofPacket};
 ghost use Rattle.greet.specs.Refusal.{reply_refusal, ok_refusal, eof_refusal, switch_refusal, after_int, has_insert_id};

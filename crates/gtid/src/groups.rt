@@ -1,10 +1,10 @@
 //! The groups of a set, in the order of the bytes of their sources.
 
-ghost use Rattle.std.specs.Prelude.{◌≡◌, ℕ, ◌≤◌, ◌⊎◌, ◌↔◌, ◌||◌, [], ◌∷◌, true, false, not, length, take, drop, IsTrue, OnOk, OnErr, Ok, Err, IfOk, IfErr, IfSome, IfNone, IsOk, vec_capacity};
+ghost use Rattle.std.specs.Prelude.{◌≡◌, ℕ, ◌⊎◌, ◌↔◌, ◌||◌, [], true, false, not, IsTrue, OnOk, OnErr, Ok, Err, IfOk, IfErr, IfSome, IfNone, IsOk, vec_capacity};
 ghost use Rattle.gtid.specs.Identifier.{Id, id, is_one};
 ghost use Rattle.gtid.specs.Interval.{has, AreLeast, IsNear};
 ghost use Rattle.gtid.specs.Combination.{keeps};
-ghost use Rattle.gtid.specs.Group.{Ascend, sources, is_listed, IsNext, IsNoHigher, Splits, AreBelow, IsAt, IsGap};
+ghost use Rattle.gtid.specs.Group.{Ascend, sources, is_listed, IsNext, IsNoHigher, Splits, IsAt, IsGap};
 ghost use Rattle.gtid.specs.Beside.{Among};
 ghost use Rattle.gtid.specs.Reserved.{HasRoom};
 

@@ -2,7 +2,7 @@
 //!
 //! A law is a function that does nothing: its clauses are proved of the definitions themselves.
 
-ghost use Rattle.std.specs.Prelude.{◌≡◌, ◌⊎◌, ℕ, ◌-◌, ◌≤◌, ◌<◌, ◌^◌, ◌++◌, true, List, length};
+ghost use Rattle.std.specs.Prelude.{◌≡◌, ◌⊎◌, ℕ, ◌-◌, ◌≤◌, ◌<◌, ◌^◌, ◌++◌, true, List};
 ghost use Rattle.std.specs.FinSet.{contains};
 ghost use Rattle.std.specs.List.{AllByRecursion};
 ghost use Rattle.gtid.specs.Identifier.{Id, Ids, IsGtid};

@@ -18,7 +18,7 @@ use std::{fs, io};
 /// The word for the output of the command.
 pub const OUTPUT: &str = "-";
 
-const IN_USE: &str = "it is the database, its log or one of the streams";
+const IN_USE: &str = "it is the database, its WAL file or one of the streams";
 
 /// What is written at once.
 #[derive(Clone, Copy)]
@@ -148,8 +148,8 @@ fn is_in_use(rt: &HostRuntime, name: &str, db: &str, streams: &[&str]) -> io::Re
             return Ok(true);
         }
     }
-    let log = format!(in rt.alloc(); "{db}-wal")?;
-    Ok(is_path(rt, db, path.as_str()) || is_path(rt, log.as_str(), path.as_str()))
+    let wal = format!(in rt.alloc(); "{db}-wal")?;
+    Ok(is_path(rt, db, path.as_str()) || is_path(rt, wal.as_str(), path.as_str()))
 }
 
 /// Whether a name leads to this path.

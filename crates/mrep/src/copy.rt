@@ -1,9 +1,9 @@
 //! `mrep copy`: a copy of a database, made at any moment, also while another process writes it.
 //!
 //! The database is not opened and not locked, and nothing is written to it. Its two files are copied as they are, first
-//! the database file and then its log, and the log's header is read before and after. A log is only ever written after
+//! the database file and then its WAL file, whose header is read before and after. A WAL file is only ever written after
 //! what it has, until it is begun anew, under a header with another salt. So where the header is the same, each page that
-//! was copied back into the database file meanwhile stands in the copied log too, and opening the copy finds the state
+//! was copied back into the database file meanwhile stands in the copied WAL file too, and opening the copy finds the state
 //! after some last commit, at least of all that had ended before. The copy is opened, and so tested, as any file is, and
 //! closed, which leaves one file; only then it gets its name.
 
@@ -15,8 +15,8 @@ use std::alloc::{AllocError, Global};
 use std::io::ErrorKind;
 use std::{fs, io};
 
-/// How long the header of a log is (SQLite, "Database File Format", section 4.1).
-const LOG_HEADER: usize = 32;
+/// How long the header of a WAL file is (SQLite, "Database File Format", section 4.1).
+const WAL_HEADER: usize = 32;
 
 /// How often the files are copied, at most.
 const TRIES: u32 = 100;
@@ -25,22 +25,22 @@ const SAME: &str = "it is the database itself";
 
 const EXISTS: &str = "the file exists; --force replaces it";
 
-const HAS_LOG: &str =
-    "a log with transactions stands beside it: open it once, which copies them back, or remove both";
+const HAS_WAL: &str =
+    "a WAL file with transactions stands beside it: open it once, which copies them back, or remove both";
 
-const TOO_FAST: &str = "no whole copy could be made, since its log was begun anew each time";
+const TOO_FAST: &str = "no whole copy could be made, since its WAL file was begun anew each time";
 
-/// The names of a database file and of its log.
+/// The names of a database file and of its WAL file.
 #[derive(Drop)]
 struct Names {
     file: String,
-    log: String,
+    wal: String,
 }
 
-/// The log of a database file has its name with `-wal` at the end.
+/// The WAL file has the name of the database file with `-wal` at the end.
 fn names_of(alloc: Global, file: String) -> Result<Names, AllocError> {
-    let log = format!(in alloc; "{file}-wal")?;
-    Ok(Names { file, log })
+    let wal = format!(in alloc; "{file}-wal")?;
+    Ok(Names { file, wal })
 }
 
 /// Copies a database to a file, which is replaced only if that is asked for and no other process has it open as a
@@ -63,7 +63,7 @@ pub fn copy<'a>(rt: &HostRuntime, db: &'a str, to: &'a str, force: bool) -> Resu
     if made.is_err() {
         let _ = fs::remove_file(rt, part.file.as_str());
     }
-    let _ = fs::remove_file(rt, part.log.as_str());
+    let _ = fs::remove_file(rt, part.wal.as_str());
     drop(replaced);
     made?;
     Ok(DONE)
@@ -88,8 +88,8 @@ fn refusal_of(
     if !force {
         return Ok(Some(EXISTS));
     }
-    match has_frames(rt, target.log.as_str()) {
-        Ok(true) => Ok(Some(HAS_LOG)),
+    match has_frames(rt, target.wal.as_str()) {
+        Ok(true) => Ok(Some(HAS_WAL)),
         Ok(false) => Ok(None),
         Err(cause) if cause.kind() == ErrorKind::NotFound => Ok(None),
         Err(cause) => Err(cause),
@@ -127,7 +127,7 @@ fn make<'a>(
 /// Whether both files can be read.
 fn try_read(rt: &HostRuntime, from: &Names) -> io::Result<()> {
     fs::open(rt, from.file.as_str())?;
-    header(rt, from.log.as_str())?;
+    header(rt, from.wal.as_str())?;
     Ok(())
 }
 
@@ -141,25 +141,25 @@ fn copy_files(rt: &HostRuntime, from: &Names, part: &Names) -> io::Result<bool> 
     Ok(false)
 }
 
-/// Copies the two files. Whether the log was not begun anew meanwhile.
+/// Copies the two files. Whether the WAL file was not begun anew meanwhile.
 fn copy_once(rt: &HostRuntime, from: &Names, part: &Names) -> io::Result<bool> {
-    let before = header(rt, from.log.as_str())?;
+    let before = header(rt, from.wal.as_str())?;
     fs::copy(rt, from.file.as_str(), part.file.as_str())?;
     if before.is_some() {
-        match fs::copy(rt, from.log.as_str(), part.log.as_str()) {
+        match fs::copy(rt, from.wal.as_str(), part.wal.as_str()) {
             Ok(_) => {}
             Err(cause) if cause.kind() == ErrorKind::NotFound => return Ok(false),
             Err(cause) => return Err(cause),
         }
     } else {
-        let _ = fs::remove_file(rt, part.log.as_str());
+        let _ = fs::remove_file(rt, part.wal.as_str());
     }
-    Ok(header(rt, from.log.as_str())? == before)
+    Ok(header(rt, from.wal.as_str())? == before)
 }
 
-/// The header of a log, if it has one.
-fn header(rt: &HostRuntime, log: &str) -> io::Result<Option<[u8; LOG_HEADER]>> {
-    match read_head::<LOG_HEADER>(rt, log) {
+/// The header of a WAL file, if it has one.
+fn header(rt: &HostRuntime, wal: &str) -> io::Result<Option<[u8; WAL_HEADER]>> {
+    match read_head::<WAL_HEADER>(rt, wal) {
         Ok(head) => Ok(head),
         Err(cause) if cause.kind() == ErrorKind::NotFound => Ok(None),
         Err(cause) => Err(cause),

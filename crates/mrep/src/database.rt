@@ -24,7 +24,8 @@ pub type FileOf = FileStore<File>;
 /// How an SQLite file begins (SQLite, "Database File Format", section 1.3).
 const MAGIC: [u8; 16] = *b"SQLite format 3\0";
 
-/// Where the page number of the first frame stands in a log, after the log's header (section 4.1), and where it ends.
+/// Where the page number of the first frame stands in a WAL file, after that file's header (section 4.1), and where it
+/// ends.
 const FIRST_PAGE: usize = 32;
 
 const FIRST_PAGE_END: usize = FIRST_PAGE + 4;
@@ -39,12 +40,12 @@ const DAMAGED: &str =
     "the database is damaged: its pages or its schema cannot be read, or a row does not obey it";
 
 const READ_ONLY: &str =
-    "the file may only be read, and each command locks it for writing and keeps a log beside it";
+    "the file may only be read, and each command locks it for writing and keeps a WAL file beside it";
 
 const NO_FILE: &str = "not the name of a file to SQLite: put ./ before it";
 
 const NOT_USABLE: &str =
-    "unable to open database file: it has several names or is no file, sqlite3 has left a journal, or its log or folder cannot be written";
+    "unable to open database file: it has several names or is no file, sqlite3 has left a journal, or its WAL file or folder cannot be written";
 
 /// What a command does with the store in a database file.
 pub trait Work {
@@ -67,11 +68,11 @@ pub fn work_on<'a, K: Work + Drop>(
     name: &'a str,
     work: K,
 ) -> Result<K::Done, Failure<'a>> {
-    let log = missing_log(rt, name)?;
-    work_in(rt, name, log, name, work)
+    let wal = missing_wal(rt, name)?;
+    work_in(rt, name, wal, name, work)
 }
 
-/// Opens and closes a copy of a database in a file, which copies its log back into it. A failure names the database.
+/// Opens and closes a copy of a database in a file, which copies its WAL file back into it. A failure names the database.
 pub fn test<'a>(rt: &HostRuntime, copy: &str, name: &'a str) -> Result<(), Failure<'a>> {
     work_in(rt, copy, None, name, Nothing)
 }
@@ -93,13 +94,13 @@ impl Work for Nothing {
     }
 }
 
-/// Opens the database at a path, whose log is the one given if that was missing before, does some work with its store, and
-/// closes it. A failure has the name. A function that hands a store in a file on to a generic one takes long to prove, so
-/// there is this one alone.
+/// Opens the database at a path, whose WAL file is the one given if that was missing before, does some work with its
+/// store, and closes it. A failure has the name. A function that hands a store in a file on to a generic one takes long to
+/// prove, so there is this one alone.
 fn work_in<'a, K: Work + Drop>(
     rt: &HostRuntime,
     path: &str,
-    log: Option<String>,
+    wal: Option<String>,
     name: &'a str,
     work: K,
 ) -> Result<K::Done, Failure<'a>> {
@@ -109,7 +110,7 @@ fn work_in<'a, K: Work + Drop>(
             let done = work.run(rt.alloc(), name, &mut store);
             close_after(name, store, done)
         }
-        Err(unopened) => Err(refusal(rt, name, leave(rt, log, unopened))),
+        Err(unopened) => Err(refusal(rt, name, leave(rt, wal, unopened))),
     }
 }
 
@@ -123,10 +124,10 @@ pub fn replay_into<'a, R: Read + Drop, W: Observer>(
     captures: Vec<Capture<R>>,
     observer: &mut W,
 ) -> Result<Replayed<File>, Failure<'a>> {
-    let log = missing_log(rt, name)?;
+    let wal = missing_wal(rt, name)?;
     match replica::replay(rt, name, Unknown, only, config, captures, observer) {
         Ok(done) => Ok(done),
-        Err(unopened) => Err(refusal(rt, name, leave(rt, log, unopened))),
+        Err(unopened) => Err(refusal(rt, name, leave(rt, wal, unopened))),
     }
 }
 
@@ -142,10 +143,10 @@ pub fn follow_into<'a, T: Duplex + Drop, F: FnOnce() -> io::Result<T> + Drop, W:
 ) -> Result<FollowedFile<T, io::Error, File>, Failure<'a>>
     requires { F.IsAlwaysCallable connect }
 {
-    let log = missing_log(rt, name)?;
+    let wal = missing_wal(rt, name)?;
     match follow_file(rt, name, Unknown, only, config, connect, observer) {
         Ok(done) => Ok(done),
-        Err(unopened) => Err(refusal(rt, name, leave(rt, log, unopened))),
+        Err(unopened) => Err(refusal(rt, name, leave(rt, wal, unopened))),
     }
 }
 
@@ -155,10 +156,10 @@ pub fn lock<'a>(rt: &HostRuntime, name: &'a str) -> Result<Option<Files<File>>, 
     if !fs::exists(rt, name).unwrap_or(false) {
         return Ok(None);
     }
-    let log = missing_log(rt, name)?;
+    let wal = missing_wal(rt, name)?;
     match sqlite_std_file::open(rt, name, Unknown) {
         Ok(files) => {
-            remove_unused(rt, log);
+            remove_unused(rt, wal);
             Ok(Some(files))
         }
         Err(OpenError::Busy) => Err(Failure::Unusable { name, why: LOCKED }),
@@ -176,28 +177,28 @@ enum Cause {
 }
 
 /// Closes what is left of an opening that failed, and returns its cause.
-fn leave(rt: &HostRuntime, log: Option<String>, unopened: Unopened<File>) -> Cause {
+fn leave(rt: &HostRuntime, wal: Option<String>, unopened: Unopened<File>) -> Cause {
     match unopened {
         Unopened::Memory => Cause::Fault(StoreFault::Memory),
         Unopened::Files(cause, left) => {
             if left.is_some() {
-                remove_unused(rt, log);
+                remove_unused(rt, wal);
             }
             Cause::Fault(StoreFault::Database(cause))
         }
-        Unopened::Database(fault, conn) => leave_database(rt, log, fault, conn),
+        Unopened::Database(fault, conn) => leave_database(rt, wal, fault, conn),
     }
 }
 
 /// Closes a database that was opened and whose store was not, and returns the cause.
 fn leave_database(
     rt: &HostRuntime,
-    log: Option<String>,
+    wal: Option<String>,
     fault: StoreFault,
     mut conn: Connection<FileOf>,
 ) -> Cause {
     let cause = cause_in(fault, &mut conn);
-    remove_unused(rt, log);
+    remove_unused(rt, wal);
     let _ = conn.close();
     cause
 }
@@ -213,31 +214,31 @@ fn cause_in<S: Alter>(fault: StoreFault, conn: &mut Connection<S>) -> Cause {
     }
 }
 
-/// The name of the log of a database file that is there, if it has no log yet.
-fn missing_log(rt: &HostRuntime, name: &str) -> Result<Option<String>, AllocError> {
+/// The name of the WAL file of a database file that is there, if it has none yet.
+fn missing_wal(rt: &HostRuntime, name: &str) -> Result<Option<String>, AllocError> {
     let Ok(real) = fs::canonicalize(rt, name) else {
         return Ok(None);
     };
-    let log = format!(in rt.alloc(); "{}-wal", real.as_str())?;
-    Ok(match fs::exists(rt, log.as_str()) {
-        Ok(false) => Some(log),
+    let wal = format!(in rt.alloc(); "{}-wal", real.as_str())?;
+    Ok(match fs::exists(rt, wal.as_str()) {
+        Ok(false) => Some(wal),
         _ => None,
     })
 }
 
-/// Removes a log that was missing before the database was opened, if nothing was written to it. The database must still
-/// be locked, so that no other process has it open.
-fn remove_unused(rt: &HostRuntime, log: Option<String>) {
-    if let Some(log) = log
-        && let Ok(false) = has_frames(rt, log.as_str())
+/// Removes a WAL file that was missing before the database was opened, if nothing was written to it. The database must
+/// still be locked, so that no other process has it open.
+fn remove_unused(rt: &HostRuntime, wal: Option<String>) {
+    if let Some(wal) = wal
+        && let Ok(false) = has_frames(rt, wal.as_str())
     {
-        let _ = fs::remove_file(rt, log.as_str());
+        let _ = fs::remove_file(rt, wal.as_str());
     }
 }
 
-/// Whether a log has a first frame: its page number is there and is not 0.
-pub fn has_frames(rt: &HostRuntime, log: &str) -> io::Result<bool> {
-    let Some(head) = read_head::<FIRST_PAGE_END>(rt, log)? else {
+/// Whether a WAL file has a first frame: its page number is there and is not 0.
+pub fn has_frames(rt: &HostRuntime, wal: &str) -> io::Result<bool> {
+    let Some(head) = read_head::<FIRST_PAGE_END>(rt, wal)? else {
         return Ok(false);
     };
     Ok(head[FIRST_PAGE..] != [0; 4])

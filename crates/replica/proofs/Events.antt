@@ -4,7 +4,7 @@ use Rattle.sqlite_trees.specs.declared.store.Store.{Ghosts}
 use Rattle.sqlite_trees.specs.Tree.{Trees}
 use Rattle.sqlite.specs.Held.{state}
 use Rattle.wire.proofs.Cuts.{begun_by}
-use Rattle.std.proofs.lemmas.Bool.{true≢false, false≢true}
+use Rattle.std.proofs.lemmas.Bool.{true≢false, false≢true, cases_Bool}
 use Rattle.binlog.specs.Filter.{Names}
 use Rattle.binlog.specs.Event.{EventValue, IsEvent}
 use Rattle.gather.specs.Transaction.{DeliveryValue}
@@ -19,7 +19,7 @@ use Rattle.store.specs.declared.fault.Applied.TheVariants as applied
 use Rattle.store.specs.declared.fault.StoreFault.{StoreFault}
 use Rattle.store.specs.declared.fault.StoreFault.TheVariants as fault
 use Rattle.store.specs.declared.store.Store.{Store}
-use Rattle.store.specs.Store.{Holds, HasFailed, HoldsAs, Applies, Leaves}
+use Rattle.store.specs.Store.{Holds, HasFailed, HoldsAs, Keeps, IsBroken, Applies, Leaves}
 use Rattle.replica.specs.declared.end.Reason.{Reason}
 use Rattle.replica.specs.declared.end.Reason.TheVariants.{EndOfInput, SourceEof, SourceError, Wire, Greet, Event, Gather, Refused, Database, Memory, ReadFailed, WriteFailed, Halted}
 use Rattle.replica.specs.Stream.{Payload, Carries}
@@ -138,3 +138,14 @@ module _ {S : Type 0} (g : Ghosts S) (es : List EventValue) (ds : List DeliveryV
   over_whole now old new d gatherer (Err (fault.Layout n)) out holds more it schema leaves is = absurd it
   over_whole now old new d gatherer (Err fault.Broken) out holds more it schema leaves is = absurd it
   over_whole now old new d gatherer (Err fault.Follows) out holds more it schema leaves is = absurd it
+
+-- ---- the observer
+module _ {S : Type 0} (g : Ghosts S) where
+  -- it has stopped, so the store stays as it is
+  pub heeded : (is : Bool) (now : Content) (d : DeliveryValue) (store new : Store S g) (halted stopped : Bool) → HoldsAs g is now store → (is_executed now d ≡ false → halted ≡ stopped) → stopped ≡ true → halted ≡ false
+      → (IsBroken g store → new ≡ store) → ((content : Content) → Keeps g store content → is_executed content d ≡ true → new ≡ store) → new ≡ store
+  heeded true now d store new halted stopped holds heeds on off broken known = broken holds.broken
+  heeded false now d store new halted stopped holds heeds on off broken known = elim (cases_Bool (is_executed now d)) [
+    | inl it ↦ known now (record { whole = holds.whole; executed = holds.executed; rest = λ _. holds.rest }) it
+    | inr it ↦ absurd (false≢true (sym off ∙ heeds it ∙ on))
+  ]

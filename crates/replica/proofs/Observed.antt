@@ -1,5 +1,5 @@
 -- How an observer may end a connection.
-use Rattle.std.proofs.Common.{◌≡◌, ◌∷◌, ◌++◌, [], List, All, Bool, true, sym, subst}
+use Rattle.std.proofs.Common.{◌≡◌, ◌∷◌, ◌++◌, ◌∙◌, [], List, All, Bool, true, sym, subst}
 use Rattle.std.proofs.lemmas.List.Elements.{All-push}
 use Rattle.replica.specs.declared.end.Ended.{Ended}
 use Rattle.replica.specs.declared.end.Reason.{Reason}
@@ -66,3 +66,7 @@ pub more_ends : (ends : List Ended) (end : Ended) (before between after : Bool) 
     → may_all ends before → MayEnd end.reason between → may_all all after
 more_ends ends end before between after all stays later is h last =
     ends_later all between after later (subst (λ (l : List Ended). may_all l between) (sym is) (All-push (λ (e : Ended). MayEnd e.reason between) ends end (ends_later ends before between stays h) last))
+
+-- what has stayed as it was stays once more
+pub still : {X : Type 0} (H : X → Type 0) (old mid new : X) → mid ≡ old → H old → (H mid → new ≡ mid) → new ≡ old
+still H old mid new same holds next = next (subst H (sym same) holds) ∙ same

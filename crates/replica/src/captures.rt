@@ -1,8 +1,7 @@
 //! Captured connections, read in order.
 
-ghost use Rattle.std.specs.Prelude.{◌≡◌, ◌≢◌, ◌<◌, ◌≤◌, [], Bool, true, false, not, length, vec_capacity, IfOk, IfErr, Ok, Err, All};
+ghost use Rattle.std.specs.Prelude.{◌≡◌, ◌≢◌, ◌<◌, ◌≤◌, [], Bool, true, false, length, vec_capacity, IfOk, IfErr, Ok, Err, All};
 ghost use Rattle.sqlite.specs.State.{HasCleanDisk};
-ghost use Rattle.sqlite.specs.Held.{state};
 ghost use Rattle.store.specs.State.{Content};
 ghost use Rattle.store.specs.Store.{HoldsAs, IsBroken, database, names_of};
 ghost use Rattle.replica.specs.Capture.{HasReadOne, HasBrokenOff, Reads};
@@ -52,6 +51,7 @@ fn read_capture<R: Read + Drop, S: Alter, W: Observer>(
         → HasBrokenOff S.Store R.Read.remaining config.now.limit store.old store.new was old capture) }
     ensures neither { IfOk result (λ end. MayEnd end.reason (W.has_stopped observer.new)) }
     ensures stays { W.has_stopped observer.old ≡ true → W.has_stopped observer.new ≡ true }
+    ensures heeds { (is : Bool) (now : Content) → HoldsAs S.Store is now store.old → W.has_stopped observer.old ≡ true → store.new ≡ store.old }
     ensures following { names_of S.Store store.new ≡ names_of S.Store store.old }
     ensures broken { IsBroken S.Store store.old → store.new ≡ store.old }
     ensures clean { HasCleanDisk (database S.Store store.new) → HasCleanDisk (database S.Store store.old) }

@@ -1,6 +1,6 @@
 //! The settings of a replica.
 
-ghost use Rattle.std.specs.Prelude.{◌≡◌, ◌≢◌, ◌↔◌, IfOk, Err};
+ghost use Rattle.std.specs.Prelude.{◌≡◌, ◌↔◌, IfOk, Err};
 ghost use Rattle.replica.specs.Settings.{IsUserName, IsLimit};
 
 use std::alloc::{AllocError, Global};

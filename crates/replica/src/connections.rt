@@ -1,8 +1,7 @@
 //! Connections read in order.
 
-ghost use Rattle.std.specs.Prelude.{◌≡◌, Bool, true, List, IsErr, IfOk, All};
+ghost use Rattle.std.specs.Prelude.{◌≡◌, Bool, IsErr, IfOk, All};
 ghost use Rattle.sqlite.specs.State.{HasCleanDisk};
-ghost use Rattle.sqlite.specs.Held.{state};
 ghost use Rattle.store.specs.State.{Content};
 ghost use Rattle.store.specs.Store.{HoldsAs, database, names_of, IsBroken};
 ghost use Rattle.replica.specs.Conn.{IsOwn};

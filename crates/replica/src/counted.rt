@@ -1,6 +1,6 @@
 //! Streams of two directions, and counts of what failed on them.
 
-ghost use Rattle.std.specs.Prelude.{ℕ, Option, ◌≡◌, ◌<◌, ◌≤◌, ◌+◌, ◌-◌, ◌^◌, min, length, is_err, is_ok, if◌then◌else◌, OnErr, Ok, None};
+ghost use Rattle.std.specs.Prelude.{ℕ, Option, ◌≡◌, ◌<◌, ◌+◌, ◌-◌, ◌^◌, length, is_err, if◌then◌else◌, Ok, None};
 ghost use Rattle.std.specs.Io.{ReadsAtMost, WritesAtMost};
 ghost use Rattle.std.specs.Io.KnownBytes.{Keeps, ReadConsumes, WriteAppends};
 ghost use Rattle.replica.specs.Failing.{failed_to_write, HaveFailed};

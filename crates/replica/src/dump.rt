@@ -1,17 +1,15 @@
 //! Payloads of the dump: events, and the EOF at the end of the log.
 
-ghost use Rattle.std.specs.Prelude.{◌≡◌, ◌⊎◌, Bool, List, ◌++◌, ◌∷◌, [], IfOk, IfErr, IfSome, IfNone, true, false, MatchResult, Ok, Err};
+ghost use Rattle.std.specs.Prelude.{◌≡◌, Bool, List, ◌∷◌, [], IfOk, IfErr, IfSome, IfNone, true, false, Ok, Err};
 ghost use Rattle.sqlite.specs.State.{HasCleanDisk};
-ghost use Rattle.sqlite.specs.Held.{state};
 ghost use Rattle.binlog.specs.Filter.{Names};
 ghost use Rattle.binlog.specs.Event.{EventValue};
-ghost use Rattle.binlog.specs.EventView.{event_value};
 ghost use Rattle.gather.specs.Transaction.{DeliveryValue};
 ghost use Rattle.gather.specs.Standing.{Stands as Gathers};
 ghost use Rattle.gather.specs.View.{delivery_value, delivered};
 ghost use Rattle.store.specs.State.{Content};
-ghost use Rattle.store.specs.Store.{Holds, HasFailed, HoldsAs, database, names_of, IsBroken};
-ghost use Rattle.replica.specs.Stream.{Payload, Carries, InDump};
+ghost use Rattle.store.specs.Store.{HoldsAs, database, names_of, IsBroken};
+ghost use Rattle.replica.specs.Stream.{Payload};
 ghost use Rattle.gather.specs.declared.gatherer.Gatherer.{Gatherer};
 ghost use Rattle.replica.specs.PayloadStep.{EndsDump, GathersMore, outcome_of, reason_of_events};
 ghost use Rattle.replica.specs.Message.{begins_event};
@@ -116,6 +114,8 @@ fn apply<S: Alter, W: Observer>(
     ensures clean { HasCleanDisk (database S.Store store.new) → HasCleanDisk (database S.Store store.old) }
     ensures neither { IfErr result (λ reason. MayEnd reason (W.has_stopped observer.new)) }
     ensures stays { W.has_stopped observer.old ≡ true → W.has_stopped observer.new ≡ true }
+    // Once the observer has stopped, the store stays as it is.
+    ensures heeds { (is : Bool) (now : Content) → HoldsAs S.Store is now store.old → W.has_stopped observer.old ≡ true → store.new ≡ store.old }
     ensures following { names_of S.Store store.new ≡ names_of S.Store store.old }
     ensures broken { IsBroken S.Store store.old → store.new ≡ store.old }
     ensures step { HasCleanDisk (database S.Store store.new) → (is : Bool) (now : Content) (es : List EventValue) (ds : List DeliveryValue) (p : Payload) (gatherer : Gatherer) → HoldsAs S.Store is now store.old
@@ -141,6 +141,8 @@ pub(crate) fn take_event<S: Alter, W: Observer>(
     ensures clean { HasCleanDisk (database S.Store store.new) → HasCleanDisk (database S.Store store.old) }
     ensures neither { IfErr result (λ reason. MayEnd reason (W.has_stopped observer.new)) }
     ensures stays { W.has_stopped observer.old ≡ true → W.has_stopped observer.new ≡ true }
+    // Once the observer has stopped, the store stays as it is.
+    ensures heeds { (is : Bool) (now : Content) → HoldsAs S.Store is now store.old → W.has_stopped observer.old ≡ true → store.new ≡ store.old }
     ensures following { names_of S.Store store.new ≡ names_of S.Store store.old }
     ensures broken { IsBroken S.Store store.old → store.new ≡ store.old }
     ensures step { HasCleanDisk (database S.Store store.new) → (is : Bool) (now : Content) (es : List EventValue) (ds : List DeliveryValue) → Gathers es ds gatherer.old → HoldsAs S.Store is now store.old

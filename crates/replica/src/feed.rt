@@ -1,8 +1,7 @@
 //! Reading a connection.
 
-ghost use Rattle.std.specs.Prelude.{◌≡◌, ◌↔◌, ℕ, ◌+◌, ◌<◌, ◌≤◌, ◌++◌, [], List, length, Bool, true, false, IsErr, IsSome, IfSome, option_map, None};
+ghost use Rattle.std.specs.Prelude.{◌≡◌, ◌↔◌, ℕ, ◌+◌, ◌<◌, ◌≤◌, ◌++◌, [], List, length, Bool, true, IsErr, IsSome, IfSome, option_map, None};
 ghost use Rattle.sqlite.specs.State.{HasCleanDisk};
-ghost use Rattle.sqlite.specs.Held.{state};
 ghost use Rattle.sqlite_schema.specs.declared.schema.Schema.{Schema};
 ghost use Rattle.binlog.specs.Filter.{Names};
 ghost use Rattle.store.specs.State.{Content};
@@ -11,7 +10,7 @@ ghost use Rattle.replica.specs.Sent.{SentFor};
 ghost use Rattle.replica.specs.Standing.{Stands, end_of, room_of, taken_of};
 ghost use Rattle.replica.specs.Over.{StandsOver};
 ghost use Rattle.replica.specs.PayloadStep.{reason_of};
-ghost use Rattle.store.specs.Store.{database, names_of, IsBroken};
+ghost use Rattle.store.specs.Store.{HoldsAs, database, names_of, IsBroken};
 
 use crate::config::Config;
 use crate::end::{Ended, Reason};
@@ -102,6 +101,8 @@ impl Session {
         // The connection is halted only if the observer has stopped.
         ensures neither { MayEnd (end_of self.old).reason (W.has_stopped observer.old) → MayEnd (end_of self.new).reason (W.has_stopped observer.new) }
         ensures stays { W.has_stopped observer.old ≡ true → W.has_stopped observer.new ≡ true }
+        // Once it has stopped, the store stays as it is.
+        ensures heeds { (is : Bool) (now : Content) → HoldsAs S.Store is now store.old → W.has_stopped observer.old ≡ true → store.new ≡ store.old }
         ensures stopped { IsErr result ↔ IsSome self.old.ended }
         ensures after { IsSome self.old.ended → (self.new ≡ self.old) × (store.new ≡ store.old) }
         ensures room { self.new.ended ≡ None → room_of self.new + length bytes.now ≤ room_of self.old }
@@ -133,6 +134,7 @@ impl Session {
         ensures config { self.new.config ≡ self.old.config }
         ensures neither { MayEnd (end_of self.old).reason (W.has_stopped observer.old) → MayEnd (end_of self.new).reason (W.has_stopped observer.new) }
         ensures stays { W.has_stopped observer.old ≡ true → W.has_stopped observer.new ≡ true }
+        ensures heeds { (is : Bool) (now : Content) → HoldsAs S.Store is now store.old → W.has_stopped observer.old ≡ true → store.new ≡ store.old }
         ensures room { self.new.ended ≡ None → (self.old.ended ≡ None) × (room_of self.new + length (taken_of result bytes.now) ≤ room_of self.old) }
     {
         if self.ended.is_some() {

@@ -7,7 +7,7 @@ ghost use Rattle.sqlite_trees.specs.View.{IsClean};
 ghost use Rattle.sqlite_store.specs.FileStore.{view};
 ghost use Rattle.sqlite.specs.State.{HasCleanDisk};
 ghost use Rattle.sqlite.specs.Held.{state};
-ghost use Rattle.sqlite.specs.Files.{over_files, file_state, IsClosed, FailsToClose};
+ghost use Rattle.sqlite.specs.Files.{over_files, IsClosed, FailsToClose};
 ghost use Rattle.sqlite.specs.Closing.{IsCopied};
 ghost use Rattle.binlog.specs.Filter.{Names};
 ghost use Rattle.store.specs.State.{Content};
@@ -86,7 +86,7 @@ pub fn open_file<P: Start>(
     }
 }
 
-/// Closes a store and its files: the log is copied into the database file. An error comes with what is left of them.
+/// Closes a store and its files: the WAL file is copied into the database file. An error comes with what is left of them.
 pub fn close_file<D: Disk + Drop>(
     store: Store<FileStore<D>>,
 ) -> Result<Files<D>, (Error, FileStore<D>)>

@@ -25,15 +25,15 @@ const MOST_PAGES: u64 = 4_000;
 /// The size of a page of a new database, in bytes.
 const PAGE: u64 = 4_096;
 
-/// How many pages that a transaction has written are kept in memory before they go to the log: 47 MiB. A page that is
-/// written again after that goes to the log again, so with fewer pages the log of a large transaction grows faster.
+/// How many pages that a transaction has written are kept in memory before they go to the WAL: 47 MiB. A page that is
+/// written again after that goes to the WAL again, so with fewer pages the WAL of a large transaction grows faster.
 const SPILL_PAGES: usize = 12_000;
 
 const NO_MEMORY: Error = Error::SqliteFailure(ErrorCode::OutOfMemory);
 
 const CANNOT_OPEN: Error = Error::SqliteFailure(ErrorCode::CannotOpen);
 
-/// Opens the database file and its log, which are made if they are not there, and locks them. It refuses `:memory:`, which
+/// Opens the database file and its WAL file, which are made if they are not there, and locks them. It refuses `:memory:`, which
 /// SQLite takes for no file, and a URI, as `Connection::open_from` does.
 fn open_pair<P: Start>(rt: &HostRuntime, path: &str, start: P) -> Result<Files<FileFrom<P>>, Error>
     ensures usable { IfOk result (λ files. IsTrue (file_is_usable P.Start files.log) × IsTrue (file_is_usable P.Start files.db)) }
@@ -64,7 +64,7 @@ fn cache_pages(rt: &HostRuntime, path: &str, expected: u64) -> usize {
         .min(MOST_PAGES) as usize
 }
 
-/// The options of a connection to a file. The log's salts begin with a random number.
+/// The options of a connection to a file. The WAL's salts begin with a random number.
 fn options(rt: &HostRuntime, path: &str, expected: u64) -> Result<Options, Error> {
     let Ok(state) = RandomState::new(rt) else {
         return Err(CANNOT_OPEN);

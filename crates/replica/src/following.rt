@@ -6,7 +6,7 @@ ghost use Rattle.sqlite.specs.State.{HasCleanDisk};
 ghost use Rattle.sqlite_schema.specs.declared.schema.Schema.{Schema};
 ghost use Rattle.store.specs.State.{Content};
 ghost use Rattle.store.specs.Store.{HoldsAs, IsBroken, database, names_of};
-ghost use Rattle.replica.specs.Conn.{IsOwn, MayEnd};
+ghost use Rattle.replica.specs.Conn.{MayEnd};
 ghost use Rattle.replica.specs.Standing.{end_of};
 ghost use Rattle.replica.specs.Over.{StandsOver};
 ghost use Rattle.replica.specs.Failing.{HaveFailed};
@@ -105,6 +105,7 @@ fn read_piece<T: Duplex, S: Alter, W: Observer>(
     ensures config { session.new.config ≡ session.old.config }
     ensures neither { MayEnd (end_of session.old).reason (W.has_stopped observer.old) → MayEnd (end_of session.new).reason (W.has_stopped observer.new) }
     ensures stays { W.has_stopped observer.old ≡ true → W.has_stopped observer.new ≡ true }
+    ensures heeds { (is : Bool) (now : Content) → HoldsAs S.Store is now store.old → W.has_stopped observer.old ≡ true → store.new ≡ store.old }
     ensures turns { result ≡ Turn.Read → turns_left session.new < turns_left session.old }
     ensures still { result ≢ Turn.Read → (session.new ≡ session.old) × (store.new ≡ store.old) × Keeps (T.Read.remaining stream.old.stream) (T.Read.remaining stream.new.stream) }
     ensures at_end { result ≡ Turn.AtEnd → IsAtEnd (T.Read.remaining stream.new.stream) }
@@ -182,6 +183,8 @@ pub fn follow_observed<T: Duplex, S: Alter, W: Observer>(
         → Follows S.Store config store.old store.new was old (T.Read.remaining stream.old.stream) (T.Read.remaining stream.new.stream) (T.Write.contents stream.old.stream) (T.Write.contents stream.new.stream) result }
     // The connection is halted only if the observer has stopped.
     ensures asked { result.reason ≡ Reason.Halted → W.has_stopped observer.new ≡ true }
+    // Once it has stopped, the store stays as it is.
+    ensures heeds { (is : Bool) (now : Content) → HoldsAs S.Store is now store.old → W.has_stopped observer.old ≡ true → store.new ≡ store.old }
     ensures read_failed { (result.reason ≡ Reason.ReadFailed) ↔ (stream.old.failed_reads < stream.new.failed_reads) }
     ensures write_failed { (result.reason ≡ Reason.WriteFailed) ↔ (stream.old.failed_writes < stream.new.failed_writes) }
     ensures once { (stream.new.failed_reads ≤ stream.old.failed_reads + 1) × (stream.new.failed_writes ≤ stream.old.failed_writes + 1) }

@@ -101,7 +101,7 @@ pub fn some_end(_bytes: &[u8])
 }
 
 /// What closed files hold is found by the next call that opens them: as they are, and what a crash leaves of them, with its
-/// log or without. So what `replay` and `follow_file` promise carries on from one call to the next.
+/// WAL file or without. So what `replay` and `follow_file` promise carries on from one call to the next.
 pub fn found_again<D: Disk>(_files: &Files<D>)
     ensures closed { (only names : Names) (content : Content) → AreClosedWith D.Disk names content _files.now → FilesHold only names content (image_of D.Disk _files.now) }
     ensures left { (only names : Names) (content : Content) (image : Image) → AreClosedWith D.Disk names content _files.now → outcomes D.Disk _files.now.log _files.now.db image → FilesHold only names content image × FilesHold only names content (record image { log = [] }) }

@@ -1,6 +1,6 @@
 //! Messages that a replica sends.
 
-ghost use Rattle.std.specs.Prelude.{◌≡◌, ◌≢◌, ◌++◌, ◌⊎◌, ◌+◌, ◌≤◌, length, [], IfOk, OnOk, OnErr, IfErr, Err, Ok};
+ghost use Rattle.std.specs.Prelude.{◌≡◌, ◌⊎◌, ◌+◌, ◌≤◌, length, [], IfOk, OnOk, OnErr, IfErr, Err, Ok};
 ghost use Rattle.byteorder.specs.Endian.{little_bytes};
 ghost use Rattle.wire.specs.Packet.{largest_payload};
 ghost use Rattle.greet.specs.Message.{response, dump_bytes, checksum_query};

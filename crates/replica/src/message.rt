@@ -1,11 +1,11 @@
 //! Messages of a source before the dump.
 
-ghost use Rattle.std.specs.Prelude.{◌≡◌, [], OnOk, OnErr, IfOk, IfErr, Option};
+ghost use Rattle.std.specs.Prelude.{◌≡◌, OnOk, OnErr, IfOk, IfErr, Option};
 ghost use Rattle.binlog.specs.Filter.{Names};
 ghost use Rattle.greet.specs.View.{Refuses};
 ghost use Rattle.greet.specs.Refusal.{Refusal};
 ghost use Rattle.gtid.specs.Identifier.{Ids};
-ghost use Rattle.replica.specs.Stream.{next_due, next_id, Hello, Reply, SecondReply, QueryReply, InDump};
+ghost use Rattle.replica.specs.Stream.{next_due, Hello, Reply, SecondReply, QueryReply, InDump};
 ghost use Rattle.replica.specs.Conn.{IsOwn};
 ghost use Rattle.replica.specs.Standing.{due_at, due_of};
 ghost use Rattle.replica.specs.PayloadStep.{IsAnswered, EndsAt, IsReportOf};

@@ -1,18 +1,16 @@
 //! What a session does with a payload.
 
-ghost use Rattle.std.specs.Prelude.{◌≡◌, ◌≤◌, ◌<◌, ◌+◌, ◌^◌, Bool, List, ℕ, Some, None, true, false, length, [], if◌then◌else◌};
+ghost use Rattle.std.specs.Prelude.{◌≡◌, ◌≤◌, ◌<◌, ◌+◌, Bool, List, ℕ, Some, None, true, false, length, [], if◌then◌else◌};
 ghost use Rattle.sqlite.specs.State.{HasCleanDisk};
-ghost use Rattle.sqlite.specs.Held.{state};
 ghost use Rattle.sqlite_schema.specs.declared.schema.Schema.{Schema};
 ghost use Rattle.binlog.specs.Filter.{Names};
-ghost use Rattle.gtid.specs.Identifier.{Ids};
 ghost use Rattle.wire.specs.Packet.{packing_length};
 ghost use Rattle.store.specs.State.{Content};
 ghost use Rattle.replica.specs.Standing.{Stands, Meets, first_id_of, offset_of, MovesOn, room_of, end_of};
 ghost use Rattle.replica.specs.Conn.{IsOwn, MayEnd};
 ghost use Rattle.replica.specs.Over.{StandsOver, MeetsOver};
 ghost use Rattle.replica.specs.declared.phase.Phase.TheVariants as phase;
-ghost use Rattle.store.specs.Store.{database, names_of, IsBroken};
+ghost use Rattle.store.specs.Store.{HoldsAs, database, names_of, IsBroken};
 
 use crate::dump::take_event;
 use crate::end::{Ended, Reason};
@@ -115,6 +113,7 @@ impl Session {
         ensures config { self.new.config ≡ self.old.config }
         ensures neither { MayEnd (end_of self.new).reason (W.has_stopped observer.new) }
         ensures stays { W.has_stopped observer.old ≡ true → W.has_stopped observer.new ≡ true }
+        ensures heeds { (is : Bool) (now : Content) → HoldsAs S.Store is now store.old → W.has_stopped observer.old ≡ true → store.new ≡ store.old }
         ensures further { self.new.ended ≡ None → (self.new.at ≡ end) × (self.new.assembler.held ≡ []) }
         ensures takes { HasCleanDisk (database S.Store store.new) → (schema : Schema) (was : Bool) (old : Content) (b o : List ℕ) → end ≡ self.old.at + packing_length (length payload.now)
             → MeetsOver S.Store self.old store.old schema was old b o payload.now → StandsOver S.Store self.new store.new schema was old b o }
@@ -141,6 +140,7 @@ impl Session {
         ensures config { self.new.config ≡ self.old.config }
         ensures neither { MayEnd (end_of self.new).reason (W.has_stopped observer.new) }
         ensures stays { W.has_stopped observer.old ≡ true → W.has_stopped observer.new ≡ true }
+        ensures heeds { (is : Bool) (now : Content) → HoldsAs S.Store is now store.old → W.has_stopped observer.old ≡ true → store.new ≡ store.old }
         ensures room { self.new.ended ≡ None → room_of self.new + packing_length (length payload.now) ≤ room_of self.old }
         ensures takes { HasCleanDisk (database S.Store store.new) → (schema : Schema) (was : Bool) (old : Content) (b o : List ℕ)
             → MeetsOver S.Store self.old store.old schema was old b o payload.now → StandsOver S.Store self.new store.new schema was old b o }

@@ -1,6 +1,6 @@
 //! Replaying captured connections into a database file.
 
-ghost use Rattle.std.specs.Prelude.{◌≡◌, true, IfOk, IfErr, Err, All};
+ghost use Rattle.std.specs.Prelude.{◌≡◌, ◌≢◌, [], true, false, IfOk, IfErr, Ok, Err, All};
 ghost use Rattle.sqlite_wal.specs.Files.{image_at};
 ghost use Rattle.binlog.specs.Filter.{Names};
 ghost use Rattle.store.specs.State.{Content};
@@ -60,6 +60,8 @@ pub fn replay<P: Start, R: Read + Drop, W: Observer>(
         → Replays R.Read.remaining config.now.limit names content captures.items done) }
     // Connections are left unread for the observer only if that has stopped, and so is a connection halted.
     ensures asked { IfOk result (λ done. done.read ≡ Err Halt.Observer → W.has_stopped observer.new ≡ true) }
+    // Once it has stopped, no further connection is read.
+    ensures heeds { IfOk result (λ done. done.read ≡ Ok tt → done.ends.items ≢ [] → W.has_stopped observer.new ≡ false) }
     ensures neither { IfOk result (λ done. All (λ end. MayEnd end.reason (W.has_stopped observer.new)) done.ends.items) }
     // A database that stands for a content is refused only if the database fails or memory runs out, and is left with that
     // content.

@@ -1,14 +1,13 @@
 //! What a source sends for a dump command. MySQL Source Documentation, "Replication Protocol", the page
 //! `COM_BINLOG_DUMP_GTID`.
 
-ghost use Rattle.std.specs.Prelude.{◌≡◌, ◌⊎◌, [], ◌∷◌, MatchResult, flat_map, IfOk, IfErr, OnOk, OnErr, Err};
+ghost use Rattle.std.specs.Prelude.{◌≡◌, ◌⊎◌, [], MatchResult, flat_map, IfOk, IfErr, OnOk, OnErr, Err};
 ghost use Rattle.std.specs.List.{AllByRecursion};
 ghost use Rattle.greet.specs.Message.{DumpValue};
 ghost use Rattle.gtid.specs.Identifier.{Ids};
 ghost use Rattle.gtid.specs.Encoding.{IsEncoding};
-ghost use Rattle.binlog.specs.Event.{format};
 ghost use Rattle.scripted_source.specs.Script.{script_values, script_events};
-ghost use Rattle.scripted_source.specs.Source.{AppendsPackings, set_fault, payloads_of, end_payloads, Asks, AsksFor, HasRequest, CanSend, due, IsScriptsFault, IsAnswer, IsAnswerFault};
+ghost use Rattle.scripted_source.specs.Source.{AppendsPackings, set_fault, payloads_of, end_payloads, Asks, AsksFor, CanSend, due, IsScriptsFault, IsAnswer, IsAnswerFault};
 ghost use Rattle.scripted_source.specs.declared.fault.ForgeFault.TheVariants.{Request, Memory};
 
 use crate::fault::ForgeFault;

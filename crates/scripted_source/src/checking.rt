@@ -1,7 +1,7 @@
 //! What a replica sends to a source. MySQL Source Documentation, "Client/Server Protocol", the pages "Connection Phase"
 //! and `COM_QUERY`, and "Replication Protocol", the page `COM_BINLOG_DUMP_GTID`.
 
-ghost use Rattle.std.specs.Prelude.{◌≡◌, ◌⊎◌, ◌↔◌, List, ℕ, MatchResult, IfOk, IfErr, IsTrue, OnOk, OnErr, Err, ⊤};
+ghost use Rattle.std.specs.Prelude.{◌≡◌, ◌⊎◌, ◌↔◌, List, ℕ, MatchResult, IfOk, IfErr, IsTrue, OnErr, Err};
 ghost use Rattle.greet.specs.Message.{checksum_query};
 ghost use Rattle.greet.specs.Complete.{HasResponse};
 ghost use Rattle.gtid.specs.Identifier.{Ids};

@@ -1,10 +1,8 @@
 //! What a source sends before the dump. MySQL Source Documentation, "Client/Server Protocol", the page "Connection
 //! Phase".
 
-ghost use Rattle.std.specs.Prelude.{◌≡◌, [], ◌∷◌, IfOk, OnOk, OnErr, Err};
-ghost use Rattle.greet.specs.Message.{FitsGreeting};
-ghost use Rattle.greet.specs.View.{greeting_value};
-ghost use Rattle.scripted_source.specs.Source.{IsOpening, AppendsPayload, greeting_payload, ok_payload};
+ghost use Rattle.std.specs.Prelude.{◌≡◌, IfOk, OnOk, OnErr, Err};
+ghost use Rattle.scripted_source.specs.Source.{IsOpening, AppendsPayload, greeting_payload};
 ghost use Rattle.scripted_source.specs.declared.fault.ForgeFault.TheVariants.{Memory};
 
 use crate::fault::ForgeFault;

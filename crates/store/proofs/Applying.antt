@@ -2,13 +2,11 @@
 use Rattle.std.proofs.Common.{◌≡◌, ◌⊎◌, inl, inr, ℕ, List, false, IsErr, IsTrue, Ok, Err, Result, refl, sym, ap, subst, subst₂, ◌∙◌}
 use Rattle.std.specs.FinSet as set
 use Rattle.std.proofs.lemmas.Bool.{false≢true, cases_Bool, true≢false}
-use Rattle.sqlite_value.specs.Order.{Row}
 use Rattle.sqlite_trees.specs.Tree.{Trees}
-use Rattle.sqlite.specs.declared.error.Error.{Error}
 use Rattle.sqlite.specs.Effect.{Database as Stored, IsDatabase}
 use Rattle.sqlite_trees.specs.declared.store.Store.{Ghosts}
 use Rattle.sqlite.specs.Held.{Held, state}
-use Rattle.sqlite.specs.State.{State, HasCleanDisk, IsNotRun, Survives}
+use Rattle.sqlite.specs.State.{State, HasCleanDisk, Survives}
 use Rattle.sqlite.proofs.StateLemmas.{survives_then}
 use Rattle.gtid.specs.Identifier.{Id, Ids}
 use Rattle.gtid.specs.Span.{IsLeastList}
@@ -43,11 +41,6 @@ rest_same a b names content is_open now committed rest = record {
   stands = subst (λ (db : Stored). StandsFor db names content) (sym now) rest.stands;
   sound = subst IsDatabase (sym now) rest.sound;
 }
-
-pub reported_failed : (sql : List ℕ) (params : Row) (at : ℕ) (reason : Refusal) (old new : State) (e : Error) → IsNotRun old new sql params e → IsReported at reason old new (Database e)
-unfolding IsNotRun
-reported_failed sql params at reason old new e (inl h) is_open = (h.1.0.was_open, λ settled. (h.1.0.now_is, h.1.0.committed_is))
-reported_failed sql params at reason old new e (inr h) is_open = (h.3.was_open is_open, λ settled. let u = h.3.undone is_open in (u.0 ∙ sym settled, u.1))
 
 -- ---- a connection that was shut
 pub shut_after : (old new : State) → WasOpen old new → old.is_open ≡ false → new.is_open ≡ false

@@ -269,8 +269,17 @@ module _ (base : Schema) (v : IsVacant base) where
   unfolding same_name
   follow_three = free_still two spans (codes "follow") (free_still one held (codes "follow") (free_still base meta (codes "follow") v.no_follow refl) refl) refl
 
+  meta_one : IsFound one (length base.tables) (made base meta)
+  meta_one = found_made base meta v.no_meta (omega (arith, v.room))
+
+  meta_two : IsFound two (length base.tables) (made base meta)
+  meta_two = found_still one held (length base.tables) (made base meta) meta_one
+
+  meta_three : IsFound three (length base.tables) (made base meta)
+  meta_three = found_still two spans (length base.tables) (made base meta) meta_two
+
   meta_found : IsFound four (length base.tables) (made base meta)
-  meta_found = found_still three follow (length base.tables) (made base meta) (found_still two spans (length base.tables) (made base meta) (found_still one held (length base.tables) (made base meta) (found_made base meta v.no_meta (omega (arith, v.room)))))
+  meta_found = found_still three follow (length base.tables) (made base meta) meta_three
 
   held_found : IsFound four (length one.tables) (made one held)
   held_found = found_still three follow (length one.tables) (made one held) (found_still two spans (length one.tables) (made one held) (found_made one held held_one (omega (arith, v.room, next_one))))
@@ -280,6 +289,15 @@ module _ (base : Schema) (v : IsVacant base) where
 
   follow_found : IsFound four (length three.tables) (made three follow)
   follow_found = found_made three follow follow_three (omega (arith, v.room, next_three))
+
+  pub meta_at_one : meta_tree one ≡ next_tree base
+  meta_at_one = tree_is one (length base.tables) (made base meta) meta_one
+
+  pub meta_at_two : meta_tree two ≡ next_tree base
+  meta_at_two = tree_is two (length base.tables) (made base meta) meta_two
+
+  pub meta_at_three : meta_tree three ≡ next_tree base
+  meta_at_three = tree_is three (length base.tables) (made base meta) meta_three
 
   pub meta_at_base : meta_tree four ≡ next_tree base
   meta_at_base = tree_is four (length base.tables) (made base meta) meta_found

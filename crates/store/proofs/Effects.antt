@@ -30,9 +30,10 @@ use Rattle.sqlite.proofs.Callers.{one_permutation}
 use Rattle.store.specs.Layout.{IsLaidOut, IsFound, tree_named, meta_tree, held_tree, spans_tree, follow_tree, meta_at, held_at, spans_at, follow_at}
 use Rattle.store.specs.Changes.{most}
 use Rattle.gather.specs.Image.{IsSomeImage}
-use Rattle.store.specs.Rows.{Key, IsHeldRow, HasRowids, is_at, has_n, count, with_one, without_one, held_rows, span_rows}
+use Rattle.store.specs.Rows.{Key, IsHeldRow, HasRowids, is_at, has_n, count, with_one, without_one, meta_rows, held_rows, span_rows}
 use Rattle.store.specs.Inside.{IsWorking, GoesOn, HasCounts, Appear, AddsNew, Deletes}
-use Rattle.store.specs.Beside.{LiesBeside, own_names}
+use Rattle.store.specs.Beside.{LiesBeside, own_names, other_keys}
+use Rattle.store.proofs.Keys.{keys_same}
 use Rattle.store.proofs.Spared.{beside_written, own_found, own_held}
 use Rattle.store.proofs.AnyWhole.{has_index}
 use Rattle.store.proofs.Statements.{Applied, given_row, cast_int}
@@ -95,10 +96,10 @@ same_rows old new name is same = ap (λ s. new.now.trees (tree_named s name)) is
 
 -- what lies beside is as it was committed, also after a table of the store is written
 pub still_beside : (old new : State) (edit : Edit) (at : ℕ) → old.in_transaction ≡ true → LiesBeside old.committed old.now → IsDatabase old.now → Applied old.now.schema old new edit → IsFound old.now.schema at edit.table
-    → list_any (same_name edit.table.name) (own_names old.committed.schema) ≡ true → LiesBeside new.committed new.now
-still_beside old new edit at inside beside sound h found named =
+    → list_any (same_name edit.table.name) (own_names old.committed.schema) ≡ true → other_keys new.now ≡ other_keys old.now → LiesBeside new.committed new.now
+still_beside old new edit at inside beside sound h found named keys =
     subst (λ c. LiesBeside c new.now) (sym (h.shown.committed_is ∙ ap (λ b. cond b old.committed new.now) inside))
-    (beside_written old.committed old.now new.now edit.table.tree beside sound h.sound h.frozen h.schema_is (own_found (own_names old.committed.schema) old.now.schema at edit.table found named) h.step.tables)
+    (beside_written old.committed old.now new.now edit.table.tree beside sound h.sound h.frozen h.schema_is (own_found (own_names old.committed.schema) old.now.schema at edit.table found named) h.step.tables keys)
 
 module _ (old new : State) (was : IsWorking old) where
   abbrev schema : Schema
@@ -122,6 +123,9 @@ module _ (old new : State) (was : IsWorking old) where
   spans_stay : (edit : Edit) → Applied schema old new edit → edit.table ≡ held_at schema → span_rows new.now ≡ span_rows old.now
   spans_stay edit h at = same_rows old new (codes "spans") h.schema_is (stays schema l.spans.at (spans_at schema) old.now.trees new.now.trees edit l.spans.found h.step (rw at (spans_held schema l)))
 
+  meta_stays : (edit : Edit) → Applied schema old new edit → edit.table ≡ held_at schema → meta_rows new.now ≡ meta_rows old.now
+  meta_stays edit h at = same_rows old new (codes "meta") h.schema_is (stays schema l.meta.at (meta_at schema) old.now.trees new.now.trees edit l.meta.found h.step (rw at (meta_held schema l)))
+
   goes_on : (edit : Edit) → Applied schema old new edit → edit.table ≡ held_at schema → HasRowids (new.now.trees (held_tree schema)) → AllByRecursion IsHeldRow (new.now.trees (held_tree schema)) → GoesOn old new
   goes_on edit h at shaped lawful = record {
     working = record {
@@ -132,11 +136,11 @@ module _ (old new : State) (was : IsWorking old) where
       spans_apart = subst HasRowids (sym (spans_stay edit h at)) was.spans_apart;
       lawful = subst (AllByRecursion IsHeldRow) (sym (rows_new edit h)) lawful;
       sound = h.sound;
-      beside = still_beside old new edit l.held.at was.inside was.beside was.sound h (rw at l.held.found) (rw at (own_held old.committed.schema));
+      beside = still_beside old new edit l.held.at was.inside was.beside was.sound h (rw at l.held.found) (rw at (own_held old.committed.schema)) (keys_same old.now new.now h.schema_is (meta_stays edit h at));
     };
     schema = h.schema_is;
     committed = h.shown.committed_is ∙ ap (λ b. cond b old.committed new.now) was.inside;
-    meta = same_rows old new (codes "meta") h.schema_is (stays schema l.meta.at (meta_at schema) old.now.trees new.now.trees edit l.meta.found h.step (rw at (meta_held schema l)));
+    meta = meta_stays edit h at;
     follow = same_rows old new (codes "follow") h.schema_is (stays schema l.follow.at (follow_at schema) old.now.trees new.now.trees edit l.follow.found h.step (rw at (follow_held schema l)));
   }
 

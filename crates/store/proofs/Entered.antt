@@ -38,6 +38,7 @@ entered_new any only following executed old new none same empty rest = record {
   executed_is = empty;
   wanted = λ _. same;
   beside = rest.1;
+  same = λ l. let bad = sym none.no_meta ∙ l.meta.found.by_name in absurd (cc);
 }
 
 pub may_new : (only following : Names) (old new : State) → IsVacant old.now.schema → following ≡ only → Survives old new (MayStandFor old.now following nothing) → Survives old new (MayEnter only old)
@@ -59,6 +60,7 @@ module _ (any : Bool) (only following : Names) (executed : Ids) (old mid new : S
     executed_is = l.executed_is;
     wanted = wanted;
     beside = subst (λ (db : Stored). LiesBeside db new.now) same.0.now_is rest.1;
+    same = λ laid. let bad = sym (stood_first same l).laid_out.no_spans ∙ laid.spans.found.by_name in absurd (cc);
   }
 
   pub other_first : IsUnchanged old mid → IsFirstLoaded mid executed → following ≡ all → (any ≡ false) × (following ≢ only) → IsTurned any only old mid Follows
@@ -86,6 +88,7 @@ module _ (any : Bool) (only following : Names) (executed : Ids) (old new : State
     executed_is = l.executed_is;
     wanted = wanted;
     beside = beside_unchanged old.now new.now same.0.now_is;
+    same = λ _. same.0.now_is;
   }
 
   pub other_second : IsUnchanged old new → IsLoaded new executed following → (any ≡ false) × (following ≢ only) → IsTurned any only old new Follows

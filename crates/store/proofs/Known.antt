@@ -81,6 +81,7 @@ module _ (any : Bool) (only : Names) (old mid new : State) (same : IsUnchanged o
     executed_is = e.executed_is;
     wanted = e.wanted;
     beside = subst (λ (db : Stored). LiesBeside db new.now) same.0.now_is e.beside;
+    same = λ laid. e.same (subst (λ (db : Stored). IsLaidOut db.schema) (sym same.0.now_is) laid) ∙ same.0.now_is;
   }
 
   pub turned_after : (fault : StoreFault) → IsTurned any only mid new fault → IsTurned any only old new fault

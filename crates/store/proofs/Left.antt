@@ -20,7 +20,7 @@ use Rattle.sqlite.specs.Does.{lacks_sequence, is_acted_on}
 use Rattle.sqlite.specs.Rows.{sequence}
 use Rattle.sqlite.specs.Effect.{Database, IsDatabase, SparesFrozen}
 use Rattle.store.specs.Layout.{meta, held, tree_named, executed_tree, meta_tree, held_tree, meta_at, held_at, executed_at, IsFound, HasTable, IsApart, IsNoParent, IsFirstLaidOut}
-use Rattle.store.specs.Beside.{own_names, is_own, tables_beside, indexes_beside, LiesBeside}
+use Rattle.store.specs.Beside.{own_names, is_own, tables_beside, indexes_beside, other_keys, LiesBeside}
 use Rattle.store.specs.Migrating.{IsCut}
 use Rattle.store.proofs.AnyWhole.{has_index}
 use Rattle.store.proofs.Beside.{tree_is, has_table}
@@ -276,9 +276,9 @@ module _ (names : List (List ℕ)) (schema : Schema) (tree : ℕ) (own : is_own 
       ∙ filter-filter (λ (i : Index). not (is_own names schema i.table)) q (λ i. beside_off i.table) schema.indexes
 
 pub beside_dropped : (old mid new : Database) (tree : ℕ) → LiesBeside old mid → IsDatabase mid → IsDatabase new → SparesFrozen mid new → is_own (own_names old.schema) mid.schema tree ≡ true → new.schema ≡ without_table mid.schema tree
-    → KeepsRows (without_table mid.schema tree).tables mid.trees new.trees → LiesBeside old new
-beside_dropped old mid new tree before sound sound_new spares own is rows =
+    → KeepsRows (without_table mid.schema tree).tables mid.trees new.trees → other_keys new ≡ other_keys mid → LiesBeside old new
+beside_dropped old mid new tree before sound sound_new spares own is rows keys =
     let names = own_names old.schema in
     beside_then old mid new before sound sound_new spares (follows_left mid new tree is) (ap (tables_beside names) is ∙ tables_left names mid.schema tree own) (ap (indexes_beside names) is ∙ indexes_left names mid.schema tree own)
     (λ t has outside. all_has (λ (t : Table). new.trees t.tree ≡ mid.trees t.tree) (without_table mid.schema tree).tables t rows
-    (has_kept (λ (t : Table). not (t.tree == tree)) mid.schema.tables t has (beside_off names mid.schema tree own t.tree (ap not outside))))
+    (has_kept (λ (t : Table). not (t.tree == tree)) mid.schema.tables t has (beside_off names mid.schema tree own t.tree (ap not outside)))) keys

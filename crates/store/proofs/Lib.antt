@@ -4,6 +4,7 @@ pub mod AnyWhole
 pub mod AnyMaking
 pub mod Beside
 pub mod Frozen
+pub mod Keys
 pub mod Spared
 pub mod Selects
 pub mod Works

@@ -1,5 +1,5 @@
 -- What each statement that makes the tables does, where it succeeds.
-use Rattle.std.proofs.Common.{◌≡◌, inl, inr, ℕ, ◌++◌, codes, pos, List, [], ◌∷◌, false, true, cond, map, None, Ok, Err, Result, OnOk, refl, sym, ap, subst, ◌∙◌}
+use Rattle.std.proofs.Common.{◌≡◌, inl, inr, ℕ, ◌++◌, codes, pos, List, [], ◌∷◌, false, true, cond, map, filter, None, Ok, Err, Result, OnOk, refl, sym, ap, subst, ◌∙◌}
 use Rattle.std.specs.List.{AllByRecursion, list_any}
 use Rattle.std.specs.List.Sorted.{IsPermutation}
 use Rattle.std.proofs.lemmas.List.Sorted.{IsPermutation-map, list_any-IsPermutation}
@@ -10,7 +10,7 @@ use Rattle.sqlite_value.specs.Order.{Row}
 use Rattle.sqlite_schema.specs.declared.schema.Table.{Table}
 use Rattle.sqlite_schema.specs.declared.schema.Schema.{Schema}
 use Rattle.sqlite_schema.specs.declared.command.Command.TheVariants.{CreateTable}
-use Rattle.sqlite_schema.specs.Names.{same_name}
+use Rattle.sqlite_schema.specs.Names.{same_name, table_named}
 use Rattle.sqlite_catalog.specs.Change.{created, next_tree, KeepsRows}
 use Rattle.sqlite_rules.specs.Edit.{edit_of, are_fresh, is_taken, next_rowid, put_all}
 use Rattle.sqlite_rules.specs.declared.error.Rowids.TheVariants.{Chosen}
@@ -29,11 +29,12 @@ use Rattle.binlog.proofs.Admitted.{name_cmp_total, name_cmp-same}
 use Rattle.store.specs.Layout.{meta, meta_text, held, held_text, spans, spans_text, follow, follow_text, IsVacant, IsLaidOut, meta_at, held_at, spans_at, follow_at, meta_tree, held_tree, spans_tree, follow_tree}
 use Rattle.store.specs.Rows.{AreNames, IsFollowRow, name_in, meta_rows, held_rows, span_rows, follow_rows}
 use Rattle.store.specs.Making.{IsMaking, IsNaming, layout_row, with_tables, trees_of, with_meta, with_held, with_spans, new_layout, layout_text, layout_terms, add_name_text, add_name_terms}
-use Rattle.store.proofs.Beside.{made, laid_out, meta_at_base, held_at_one, spans_at_two, follow_at_three, counted_base, counted_one, counted_two, counted_three}
+use Rattle.store.proofs.Beside.{made, laid_out, meta_at_one, meta_at_two, meta_at_three, meta_at_base, held_at_one, spans_at_two, follow_at_three, counted_base, counted_one, counted_two, counted_three}
 use Rattle.store.proofs.AnyMaking.{MakesTable, runs_made, meta_makes, held_makes, spans_makes, follow_makes, layout_is, layout_plain, add_name_is, add_name_plain}
 use Rattle.store.proofs.Statements.{puts, Applied, went, same_value, cast_null, cast_int}
 use Rattle.store.proofs.RowLemmas.{put_among}
-use Rattle.store.specs.Beside.{LiesBeside, own_names}
+use Rattle.store.specs.Beside.{LiesBeside, own_names, has_other_key, other_keys}
+use Rattle.store.proofs.Keys.{keys_same, keys_vacant, keys_none}
 use Rattle.store.proofs.Spared.{beside_made, own_meta, own_held, own_spans, own_follow}
 use Rattle.store.proofs.Effects.{fresh_alone, same_rows, stays, still_beside, meta_held, meta_spans, follow_held, follow_spans, follow_meta}
 
@@ -90,40 +91,64 @@ module _ (schema : Schema) (sql : List ℕ) (table : Table) (m : MakesTable sql 
 
 -- what lies beside is as it was committed, also after a table of the store is made
 pub still_made : (schema : Schema) (table : Table) (old new : State) (sql : List ℕ) (count : ℕ) → old.now.schema ≡ schema → old.in_transaction ≡ true → LiesBeside old.committed old.now → IsDatabase old.now → list_any (same_name table.name) (own_names old.committed.schema) ≡ true
-    → new.now.schema ≡ created schema table → KeepsRows schema.tables old.now.trees new.now.trees → Writes old new None CreateTable sql [] count → LiesBeside new.committed new.now
-still_made schema table old new sql count has inside beside sound named is kept w =
+    → new.now.schema ≡ created schema table → KeepsRows schema.tables old.now.trees new.now.trees → Writes old new None CreateTable sql [] count → other_keys new.now ≡ other_keys old.now → LiesBeside new.committed new.now
+still_made schema table old new sql count has inside beside sound named is kept w keys =
     subst (λ c. LiesBeside c new.now) (sym (w.shown.committed_is ∙ ap (λ b. cond b old.committed new.now) inside))
-    (beside_made old.committed old.now new.now table beside sound w.sound w.frozen named (is ∙ ap (λ s. created s table) (sym has)) (subst (λ (s : Schema). KeepsRows s.tables old.now.trees new.now.trees) (sym has) kept))
+    (beside_made old.committed old.now new.now table beside sound w.sound w.frozen named (is ∙ ap (λ s. created s table) (sym has)) (subst (λ (s : Schema). KeepsRows s.tables old.now.trees new.now.trees) (sym has) kept) keys)
+
+-- meta has no row while the tables are made, if it is there
+abbrev HasNoKey : List Table → Type 0
+HasNoKey ts = (base : Schema) → IsVacant base → (db : Database) → db.schema ≡ with_tables base ts → AllByRecursion (λ tree. db.trees tree ≡ []) (trees_of base ts) → other_keys db ≡ []
+
+no_row : (schema : Schema) (tree : ℕ) (db : Database) → db.schema ≡ schema → meta_tree schema ≡ tree → db.trees tree ≡ [] → other_keys db ≡ []
+no_row schema tree db is at none = keys_none db (ap (filter has_other_key) (ap (λ s. db.trees (meta_tree s)) is ∙ ap db.trees at ∙ none))
+
+no_key : HasNoKey []
+no_key base v db is none = keys_vacant db (ap (λ s. table_named s (codes "meta")) is ∙ v.no_meta)
+
+no_key_one : HasNoKey with_meta
+no_key_one base v db is none = no_row (with_tables base with_meta) (next_tree base) db is (meta_at_one base v) none.0
+
+no_key_two : HasNoKey with_held
+no_key_two base v db is none = no_row (with_tables base with_held) (next_tree base) db is (meta_at_two base v) none.1.0
+
+no_key_three : HasNoKey with_spans
+no_key_three base v db is none = no_row (with_tables base with_spans) (next_tree base) db is (meta_at_three base v) none.1.1.0
+
+no_key_four : HasNoKey new_layout
+no_key_four base v db is none = no_row (with_tables base new_layout) (next_tree base) db is (meta_at_base base v) none.1.1.1.0
 
 module _ (ts : List Table) (sql : List ℕ) (table : Table) (m : MakesTable sql table) (named : (schema : Schema) → list_any (same_name table.name) (own_names schema) ≡ true) (counted : (base : Schema) → IsVacant base → lacks_sequence (created (with_tables base ts) table) ≡ false)
-    (old new : State) where
+    (before : HasNoKey ts) (after : HasNoKey (table ∷ ts)) (old new : State) where
   done : (r : Result ℕ Error) → IsMaking ts old → ExecutesInside 0 sql [] old new r → OnOk r (IsMaking (table ∷ ts) new)
   done (Ok count) was h =
       let schema = with_tables was.base ts in
       let it = creates schema sql table m (counted was.base was.vacant) old new was.schema_is count h.0 in
+      let empty : AllByRecursion (λ tree. new.now.trees tree ≡ []) (trees_of was.base (table ∷ ts)) = (it.1, still_empty schema (trees_of was.base ts) old.now.trees new.now.trees it.2 (made_trees was.base ts) was.empty) in
       record {
         is_open = it.3.shown.is_open;
         inside = it.3.shown.mode ∙ was.inside;
         base = was.base;
         vacant = was.vacant;
         schema_is = it.0;
-        empty = (it.1, still_empty schema (trees_of was.base ts) old.now.trees new.now.trees it.2 (made_trees was.base ts) was.empty);
+        empty = empty;
         sound = it.3.sound;
-        beside = still_made schema table old new sql count was.schema_is was.inside was.beside was.sound (named old.committed.schema) it.0 it.2 it.3;
+        beside = still_made schema table old new sql count was.schema_is was.inside was.beside was.sound (named old.committed.schema) it.0 it.2 it.3
+            (after was.base was.vacant new.now it.0 empty ∙ sym (before was.base was.vacant old.now was.schema_is was.empty));
       }
   done (Err e) was h = tt
 
 pub done_meta : (old new : State) (r : Result ℕ Error) → IsMaking [] old → ExecutesInside 0 meta_text [] old new r → OnOk r (IsMaking with_meta new)
-done_meta old new r was h = done [] meta_text meta meta_makes own_meta counted_base old new r was h
+done_meta old new r was h = done [] meta_text meta meta_makes own_meta counted_base no_key no_key_one old new r was h
 
 pub done_held : (old new : State) (r : Result ℕ Error) → IsMaking with_meta old → ExecutesInside 0 held_text [] old new r → OnOk r (IsMaking with_held new)
-done_held old new r was h = done with_meta held_text held held_makes own_held counted_one old new r was h
+done_held old new r was h = done with_meta held_text held held_makes own_held counted_one no_key_one no_key_two old new r was h
 
 pub done_spans : (old new : State) (r : Result ℕ Error) → IsMaking with_held old → ExecutesInside 0 spans_text [] old new r → OnOk r (IsMaking with_spans new)
-done_spans old new r was h = done with_held spans_text spans spans_makes own_spans counted_two old new r was h
+done_spans old new r was h = done with_held spans_text spans spans_makes own_spans counted_two no_key_two no_key_three old new r was h
 
 pub done_follow : (old new : State) (r : Result ℕ Error) → IsMaking with_spans old → ExecutesInside 0 follow_text [] old new r → OnOk r (IsMaking new_layout new)
-done_follow old new r was h = done with_spans follow_text follow follow_makes own_follow counted_three old new r was h
+done_follow old new r was h = done with_spans follow_text follow follow_makes own_follow counted_three no_key_three no_key_four old new r was h
 
 -- ---- the row of meta
 
@@ -173,17 +198,20 @@ marks old new count was h =
     let schema = old.now.schema in
     let a = marked old new l count h in
     let edit = edit_of old.now.trees (meta_at schema) [] Chosen 0 ((Null ∷ Text (codes "layout") ∷ Int (pos 2) ∷ []) ∷ []) in
+    let meta_is : meta_rows new.now ≡ layout_row ∷ [] =
+    ap (λ s. new.now.trees (meta_tree s)) a.schema_is ∙ a.step.rows ∙ ap (put_all (old.now.trees (meta_tree schema))) (news_marked old.now.trees (meta_at schema) refl b.meta) ∙ ap (λ rows. put_all rows (layout_row ∷ [])) b.meta in
     let follow_is : follow_rows new.now ≡ [] = same_rows old new (codes "follow") a.schema_is (stays schema l.follow.at (follow_at schema) old.now.trees new.now.trees edit l.follow.found a.step (follow_meta schema l)) ∙ b.follow in
     record {
       is_open = a.shown.is_open;
       inside = a.shown.mode ∙ was.inside;
       laid_out = subst IsLaidOut (sym a.schema_is) l;
-      meta = ap (λ s. new.now.trees (meta_tree s)) a.schema_is ∙ a.step.rows ∙ ap (put_all (old.now.trees (meta_tree schema))) (news_marked old.now.trees (meta_at schema) refl b.meta) ∙ ap (λ rows. put_all rows (layout_row ∷ [])) b.meta;
+      meta = meta_is;
       held = same_rows old new (codes "held") a.schema_is (stays schema l.held.at (held_at schema) old.now.trees new.now.trees edit l.held.found a.step (λ same. meta_held schema l (sym same))) ∙ b.held;
       spans = same_rows old new (codes "spans") a.schema_is (stays schema l.spans.at (spans_at schema) old.now.trees new.now.trees edit l.spans.found a.step (λ same. meta_spans schema l (sym same))) ∙ b.spans;
       follow = rw follow_is (record { lawful = tt; names_are = refl });
       sound = a.sound;
-      beside = still_beside old new edit l.meta.at was.inside was.beside was.sound a l.meta.found (own_meta old.committed.schema);
+      beside = still_beside old new edit l.meta.at was.inside was.beside was.sound a l.meta.found (own_meta old.committed.schema)
+          (keys_none new.now (ap (filter has_other_key) meta_is) ∙ sym (keys_none old.now (ap (filter has_other_key) b.meta)));
     }
 
 pub done_layout : (old new : State) (r : Result ℕ Error) → IsMaking new_layout old → ExecutesInside 0 layout_text [] old new r → OnOk r (IsNaming set.empty new)
@@ -220,17 +248,18 @@ names_one old new names name count was h =
     let edit = edit_of old.now.trees (follow_at schema) [] Chosen 0 ((Null ∷ Blob name.0 ∷ Blob name.1 ∷ []) ∷ []) in
     let news = news_named old.now.trees (follow_tree schema) name in
     let free : is_taken rows (new_name rows name) ≡ false = fresh_alone rows (new_name rows name) (ap (are_fresh rows) (sym news) ∙ a.step.fresh) in
+    let meta_is : meta_rows new.now ≡ meta_rows old.now = same_rows old new (codes "meta") a.schema_is (stays schema l.meta.at (meta_at schema) old.now.trees new.now.trees edit l.meta.found a.step (λ same. follow_meta schema l (sym same))) in
     let follow_is : follow_rows new.now ≡ put_row (new_name rows name) rows = ap (λ s. new.now.trees (follow_tree s)) a.schema_is ∙ a.step.rows ∙ ap (put_all rows) news in
     record {
       is_open = a.shown.is_open;
       inside = a.shown.mode ∙ was.inside;
       laid_out = subst IsLaidOut (sym a.schema_is) l;
-      meta = same_rows old new (codes "meta") a.schema_is (stays schema l.meta.at (meta_at schema) old.now.trees new.now.trees edit l.meta.found a.step (λ same. follow_meta schema l (sym same))) ∙ was.meta;
+      meta = meta_is ∙ was.meta;
       held = same_rows old new (codes "held") a.schema_is (stays schema l.held.at (held_at schema) old.now.trees new.now.trees edit l.held.found a.step (λ same. follow_held schema l (sym same))) ∙ was.held;
       spans = same_rows old new (codes "spans") a.schema_is (stays schema l.spans.at (spans_at schema) old.now.trees new.now.trees edit l.spans.found a.step (λ same. follow_spans schema l (sym same))) ∙ was.spans;
       follow = rw follow_is (named_put rows names name free was.follow);
       sound = a.sound;
-      beside = still_beside old new edit l.follow.at was.inside was.beside was.sound a l.follow.found (own_follow old.committed.schema);
+      beside = still_beside old new edit l.follow.at was.inside was.beside was.sound a l.follow.found (own_follow old.committed.schema) (keys_same old.now new.now a.schema_is meta_is);
     }
 
 pub done_name : (old new : State) (names : Names) (name : Name) (r : Result ℕ Error) → IsNaming names old → ExecutesInside 0 add_name_text (Blob name.0 ∷ Blob name.1 ∷ []) old new r → OnOk r (IsNaming (set.insert names name) new)

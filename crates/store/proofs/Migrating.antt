@@ -40,13 +40,14 @@ use Rattle.gtid.specs.Identifier.{IsGtid, AreGtids, id_cmp}
 use Rattle.gtid.proofs.Sets.{id_cmp_total, id_cmp-same}
 use Rattle.store.specs.State.{Content}
 use Rattle.store.specs.Layout.{meta, held, spans, spans_text, follow, follow_text, tree_named, executed_tree, meta_tree, held_tree, executed_at, meta_at, held_at, spans_at, follow_at, HasMeta, HasTable, IsApart, IsLaidOut}
-use Rattle.store.specs.Beside.{own_names, LiesBeside}
+use Rattle.store.specs.Beside.{own_names, has_other_key, other_keys, LiesBeside}
 use Rattle.store.specs.Rows.{HasRowids, IsMetaRow, SaysLayout, IsExecutedRow, id_in, is_text, meta_rows, held_rows}
 use Rattle.store.specs.Making.{with_tables, trees_of}
 use Rattle.store.specs.Migrating.{IsCut, HasTables, HasBare, made_spans, made_both, drop_executed_text, raise_text, says_layout, IsFirstInside, IsMigrating}
 use Rattle.store.proofs.AnyMaking.{MakesTable, runs_dropped, spans_makes, follow_makes}
 use Rattle.store.proofs.AnyWhole.{has_index}
-use Rattle.store.proofs.Beside.{tree_still}
+use Rattle.store.proofs.Beside.{has_still, tree_still}
+use Rattle.store.proofs.Keys.{keys_there}
 use Rattle.store.proofs.Cut.{base_has, one_has, counted_base, counted_one, bare}
 use Rattle.store.proofs.Left.{cut, not_acted, meta_left, held_left, meta_off, held_off, rows_left, beside_dropped}
 use Rattle.store.proofs.MigratingTexts.{raise_is, raise_plain}
@@ -54,7 +55,7 @@ use Rattle.store.proofs.Making.{creates, still_made, still_empty, made_trees}
 use Rattle.store.proofs.Selects.{shown_bool}
 use Rattle.store.proofs.Spared.{beside_unchanged, own_found, own_executed, own_meta, own_spans, own_follow}
 use Rattle.store.proofs.Statements.{changes, on_table, went, same_value, cast_int}
-use Rattle.store.proofs.RowLemmas.{put_among, rowids_put, rowids_without, left_is, equal_is, all_filtered}
+use Rattle.store.proofs.RowLemmas.{put_among, put_left_out, filtered_again, rowids_put, rowids_without, left_is, equal_is, all_filtered}
 use Rattle.store.proofs.Effects.{fresh_alone, own_id, same_rows, stays, still_beside, meta_held, meta_spans, follow_meta}
 
 -- meta and held stay
@@ -122,11 +123,14 @@ drops content old new count was h =
     subst₂ (KeepsRows (without_table schema (executed_tree schema)).tables) trees (sym (ap (λ (d : Database). d.trees) now)) left.1.1 in
     let none : table_named old.committed.schema (codes "spans") ≡ None = subst (λ (d : Database). table_named d.schema (codes "spans") ≡ None) was.settled v.no_spans in
     let own = own_found (own_names old.committed.schema) schema at (executed_at schema) v.executed.found (own_executed old.committed.schema none) in
-    let beside = beside_dropped old.committed old.now new.now (executed_tree schema) (beside_unchanged old.committed old.now was.settled) was.sound w.sound w.frozen own is kept in
+    let meta_is : meta_rows new.now ≡ meta_rows old.now = ap (λ s. new.now.trees (meta_tree s)) is ∙ ap new.now.trees (meta_left schema v) ∙ rows_left schema v meta v.meta (meta_off schema v) old.now.trees new.now.trees kept in
+    let there : HasMeta new.now.schema = subst HasMeta (sym is) (cut schema v).meta in
+    let keys : other_keys new.now ≡ other_keys old.now = keys_there new.now there ∙ ap (filter has_other_key) meta_is ∙ sym (keys_there old.now v.meta) in
+    let beside = beside_dropped old.committed old.now new.now (executed_tree schema) (beside_unchanged old.committed old.now was.settled) was.sound w.sound w.frozen own is kept keys in
     moves_on (λ s. Unit {0}) (HasTables []) (pos 1) content old new (begun content old was)
     (w.shown.is_open, w.shown.mode ∙ was.inside, w.sound, subst (λ c. LiesBeside c new.now) (sym (w.shown.committed_is ∙ ap (λ b. cond b old.committed new.now) was.inside)) beside)
     (record { base = without_table schema (executed_tree schema); cut = cut schema v; schema_is = is; empty = tt })
-    (ap (λ s. new.now.trees (meta_tree s)) is ∙ ap new.now.trees (meta_left schema v) ∙ rows_left schema v meta v.meta (meta_off schema v) old.now.trees new.now.trees kept)
+    meta_is
     (ap (λ s. new.now.trees (held_tree s)) is ∙ ap new.now.trees (held_left schema v) ∙ rows_left schema v held v.held (held_off schema v) old.now.trees new.now.trees kept)
 
 pub done_drop : (content : Content) (old new : State) (r : Result ℕ Error) → IsFirstInside content old → ExecutesInside 0 drop_executed_text [] old new r → OnOk r (IsMigrating (HasTables []) (pos 1) content new)
@@ -147,8 +151,10 @@ module _ (ts : List Table) (sql : List ℕ) (table : Table) (m : MakesTable sql 
       ap (λ s. new.now.trees (tree_named s x.name)) it.0 ∙ ap new.now.trees (tree_still schema table x hx)
       ∙ all_has (λ (u : Table). new.now.trees u.tree ≡ old.now.trees u.tree) schema.tables (record x { tree = tree_named schema x.name }) it.2 (has_index schema.tables hx.at (record x { tree = tree_named schema x.name }) hx.found.by_index)
       ∙ ap (λ s. old.now.trees (tree_named s x.name)) (sym t.schema_is) in
+      let keys : other_keys new.now ≡ other_keys old.now =
+      keys_there new.now (subst HasMeta (sym it.0) (has_still schema table meta there.0)) ∙ ap (filter has_other_key) (same meta there.0) ∙ sym (keys_there old.now (subst HasMeta (sym t.schema_is) there.0)) in
       moves_on (HasTables ts) (HasTables (table ∷ ts)) (pos 1) content old new was
-      (it.3.shown.is_open, it.3.shown.mode ∙ was.inside, it.3.sound, still_made schema table old new sql count t.schema_is was.inside was.beside was.sound (named old.committed.schema) it.0 it.2 it.3)
+      (it.3.shown.is_open, it.3.shown.mode ∙ was.inside, it.3.sound, still_made schema table old new sql count t.schema_is was.inside was.beside was.sound (named old.committed.schema) it.0 it.2 it.3 keys)
       (record { base = t.base; cut = t.cut; schema_is = it.0; empty = (it.1, still_empty schema (trees_of t.base ts) old.now.trees new.now.trees it.2 (made_trees t.base ts) t.empty) })
       (same meta there.0) (same held there.1)
 
@@ -255,7 +261,9 @@ raises content old new count was h =
       rows = rw held_is was.rows;
       lawful = was.lawful;
       sound = a.sound;
-      beside = still_beside old new edit l.meta.at was.inside was.beside was.sound a l.meta.found (own_meta old.committed.schema);
+      beside = still_beside old new edit l.meta.at was.inside was.beside was.sound a l.meta.found (own_meta old.committed.schema)
+          (keys_there new.now (subst HasMeta (sym a.schema_is) l.meta) ∙ ap (filter has_other_key) meta_is ∙ put_left_out has_other_key row (without_rowid it.id rows) (ap not it.named) free ∙ ap (filter has_other_key) rest ∙ filtered_again has_other_key rows
+          ∙ sym (keys_there old.now l.meta));
     }
 
 pub done_raise : (content : Content) (old new : State) (r : Result ℕ Error) → IsMigrating HasBare (pos 1) content old → ExecutesInside 0 raise_text [] old new r → OnOk r (IsMigrating HasBare (pos 2) content new)

@@ -180,6 +180,26 @@ put_among new (r ∷ rows) free =
     go Equal apart more = absurd (cc)
     go Greater apart more = IsPermutation-refl (new ∷ r ∷ rows)
 
+-- ---- rows that a test leaves out
+
+-- a row that does not pass is put in
+pub put_left_out : (p : Row → Bool) (new : Row) (rows : List Row) → p new ≡ false → is_taken rows new ≡ false → filter p (put_row new rows) ≡ filter p rows
+put_left_out p new [] out free = rw out refl
+put_left_out p new (r ∷ rows) out free =
+    let parts = or_parts _ _ free in go (value_cmp (rowid r) (rowid new)) parts.0 (put_left_out p new rows out parts.1)
+  where
+    go : (o : Ordering) → is_eq o ≡ false → filter p (put_row new rows) ≡ filter p rows → filter p (match_ordering o (r ∷ put_row new rows) (new ∷ rows) (new ∷ r ∷ rows)) ≡ filter p (r ∷ rows)
+    go Less apart more = ap (λ l. cond (p r) (r ∷ l) l) more
+    go Equal apart more = absurd (cc)
+    go Greater apart more = rw out refl
+
+pub filtered_again : (p : Row → Bool) (rows : List Row) → filter p (filter p rows) ≡ filter p rows
+filtered_again p [] = refl
+filtered_again p (r ∷ rows) = elim (cases_Bool (p r)) [
+  | inl passes ↦ rw passes (rw passes (ap (λ l. r ∷ l) (filtered_again p rows)))
+  | inr fails ↦ rw fails (filtered_again p rows)
+]
+
 -- ---- the three edits of held
 
 share_same : (key k : Key) (row : Row) (n : ℕ) → is_at key row ≡ true → number_in (column row 4) ≡ n → share k row ≡ cond (same_key key k) n 0

@@ -17,11 +17,12 @@ use Rattle.sqlite.specs.declared.error.Error.{Error}
 use Rattle.sqlite.specs.State.{State, ExecutesInside}
 use Rattle.sqlite.proofs.Callers.{one_permutation}
 use Rattle.store.specs.Layout.{IsLaidOut, meta_at, held_at, spans_at, follow_at, spans_tree, add_span_text, drop_span_text, set_end_text}
-use Rattle.store.specs.Rows.{IsHeldRow, HasRowids, held_rows, span_rows, shown_span, shown_spans, begins_at}
+use Rattle.store.specs.Rows.{IsHeldRow, HasRowids, meta_rows, held_rows, span_rows, shown_span, shown_spans, begins_at}
 use Rattle.store.specs.Inside.{IsWorking, GoesOn, Moves, Begins}
 use Rattle.store.proofs.Statements.{Applied, cast_null, cast_int, adds_span, drops_span, sets_end}
 use Rattle.store.proofs.RowLemmas.{rowids_put, rowids_without, left_is, put_among}
 use Rattle.store.proofs.Effects.{fresh_alone, keyed_row, own_id, same_rows, stays, still_beside, meta_spans, held_spans, follow_spans}
+use Rattle.store.proofs.Keys.{keys_same}
 use Rattle.store.proofs.Spared.{own_spans}
 
 -- ---- what is stored of spans, and what passes a test
@@ -87,6 +88,9 @@ module _ (old new : State) (was : IsWorking old) where
   held_stays : (edit : Edit) → Applied schema old new edit → edit.table ≡ spans_at schema → held_rows new.now ≡ held_rows old.now
   held_stays edit h at = same_rows old new (codes "held") h.schema_is (stays schema l.held.at (held_at schema) old.now.trees new.now.trees edit l.held.found h.step (rw at (held_spans schema l)))
 
+  meta_stays : (edit : Edit) → Applied schema old new edit → edit.table ≡ spans_at schema → meta_rows new.now ≡ meta_rows old.now
+  meta_stays edit h at = same_rows old new (codes "meta") h.schema_is (stays schema l.meta.at (meta_at schema) old.now.trees new.now.trees edit l.meta.found h.step (rw at (meta_spans schema l)))
+
   goes_on : (edit : Edit) → Applied schema old new edit → edit.table ≡ spans_at schema → HasRowids (new.now.trees (spans_tree schema)) → GoesOn old new
   goes_on edit h at shaped = record {
     working = record {
@@ -97,11 +101,11 @@ module _ (old new : State) (was : IsWorking old) where
       spans_apart = subst HasRowids (sym (rows_new edit h)) shaped;
       lawful = subst (AllByRecursion IsHeldRow) (sym (held_stays edit h at)) was.lawful;
       sound = h.sound;
-      beside = still_beside old new edit l.spans.at was.inside was.beside was.sound h (rw at l.spans.found) (rw at (own_spans old.committed.schema));
+      beside = still_beside old new edit l.spans.at was.inside was.beside was.sound h (rw at l.spans.found) (rw at (own_spans old.committed.schema)) (keys_same old.now new.now h.schema_is (meta_stays edit h at));
     };
     schema = h.schema_is;
     committed = h.shown.committed_is ∙ ap (λ b. cond b old.committed new.now) was.inside;
-    meta = same_rows old new (codes "meta") h.schema_is (stays schema l.meta.at (meta_at schema) old.now.trees new.now.trees edit l.meta.found h.step (rw at (meta_spans schema l)));
+    meta = meta_stays edit h at;
     follow = same_rows old new (codes "follow") h.schema_is (stays schema l.follow.at (follow_at schema) old.now.trees new.now.trees edit l.follow.found h.step (rw at (follow_spans schema l)));
   }
 

@@ -20,7 +20,7 @@ use Rattle.sqlite_catalog.proofs.LayoutLemmas.{index_owner, zipped_left}
 use Rattle.sqlite_catalog.proofs.StepLemmas.{table_below}
 use Rattle.sqlite.specs.Effect.{Database, IsDatabase, SparesFrozen}
 use Rattle.store.specs.Layout.{IsFound}
-use Rattle.store.specs.Beside.{own_names, is_own, tables_beside, indexes_beside, LiesBeside}
+use Rattle.store.specs.Beside.{own_names, is_own, tables_beside, indexes_beside, other_keys, LiesBeside}
 use Rattle.store.proofs.AnyWhole.{has_index}
 use Rattle.store.proofs.Frozen.{Follows, follows_same, follows_made, still_frozen}
 
@@ -34,6 +34,7 @@ beside_same db = record {
   frozen = λ tree row is. (is, refl);
   texts = λ row has is. has;
   version = refl;
+  keys = refl;
 }
 
 -- the database as it was
@@ -61,8 +62,8 @@ module _ (old mid new : Database) (before : LiesBeside old mid) (sound : IsDatab
   outside_indexes schema i has = let it = has_filtered (λ (i : Index). not (is_own names schema i.table)) schema.indexes i has in (it.0, not-true _ it.1)
 
   pub beside_then : tables_beside names new.schema ≡ tables_beside names mid.schema → indexes_beside names new.schema ≡ indexes_beside names mid.schema
-      → ((t : Table) → Has mid.schema.tables t → is_own names mid.schema t.tree ≡ false → new.trees t.tree ≡ mid.trees t.tree) → LiesBeside old new
-  beside_then tables indexes rows = record {
+      → ((t : Table) → Has mid.schema.tables t → is_own names mid.schema t.tree ≡ false → new.trees t.tree ≡ mid.trees t.tree) → other_keys new ≡ other_keys mid → LiesBeside old new
+  beside_then tables indexes rows keys = record {
     tables = tables ∙ before.tables;
     indexes = indexes ∙ before.indexes;
     views = follows.views ∙ before.views;
@@ -85,15 +86,16 @@ module _ (old mid new : Database) (before : LiesBeside old mid) (sound : IsDatab
         (now.0, now.1 ∙ was.1);
     texts = λ row has is. spares.texts row (before.texts row has is) is;
     version = spares.version ∙ before.version;
+    keys = keys ∙ before.keys;
   }
 
 -- a table of the store is written
 pub beside_written : (old mid new : Database) (tree : ℕ) → LiesBeside old mid → IsDatabase mid → IsDatabase new → SparesFrozen mid new → new.schema ≡ mid.schema → is_own (own_names old.schema) mid.schema tree ≡ true
-    → AllByRecursion (λ (t : Table). t.tree ≢ tree → new.trees t.tree ≡ mid.trees t.tree) mid.schema.tables → LiesBeside old new
-beside_written old mid new tree before sound sound_new spares same own rows =
+    → AllByRecursion (λ (t : Table). t.tree ≢ tree → new.trees t.tree ≡ mid.trees t.tree) mid.schema.tables → other_keys new ≡ other_keys mid → LiesBeside old new
+beside_written old mid new tree before sound sound_new spares same own rows keys =
     let names = own_names old.schema in
     beside_then old mid new before sound sound_new spares (follows_same mid new same) (ap (tables_beside names) same) (ap (indexes_beside names) same)
-    (λ t has outside. all_has (λ (t : Table). t.tree ≢ tree → new.trees t.tree ≡ mid.trees t.tree) _ t rows has (λ is. absurd (false≢true (sym outside ∙ ap (is_own names mid.schema) is ∙ own))))
+    (λ t has outside. all_has (λ (t : Table). t.tree ≢ tree → new.trees t.tree ≡ mid.trees t.tree) _ t rows has (λ is. absurd (false≢true (sym outside ∙ ap (is_own names mid.schema) is ∙ own)))) keys
 
 -- ---- A table that is found is the store's by its name.
 
@@ -146,12 +148,12 @@ module _ (names : List (List ℕ)) (schema : Schema) (table : Table) (named : li
       (filter_same q (λ i. not (is_own names schema i.table)) schema.indexes (all_from (λ (i : Index). q i ≡ not (is_own names schema i.table)) schema.indexes (λ i has. ap not (older i.table (low i has)))))
 
 pub beside_made : (old mid new : Database) (table : Table) → LiesBeside old mid → IsDatabase mid → IsDatabase new → SparesFrozen mid new → list_any (same_name table.name) (own_names old.schema) ≡ true → new.schema ≡ created mid.schema table
-    → KeepsRows mid.schema.tables mid.trees new.trees → LiesBeside old new
-beside_made old mid new table before sound sound_new spares named is rows =
+    → KeepsRows mid.schema.tables mid.trees new.trees → other_keys new ≡ other_keys mid → LiesBeside old new
+beside_made old mid new table before sound sound_new spares named is rows keys =
     let names = own_names old.schema in
     let low : (i : Index) → Has mid.schema.indexes i → i.table < next_tree mid.schema = λ i has. let of = owner mid sound i has in rw (of.2) (table_below mid.schema of.0 of.1) in
     beside_then old mid new before sound sound_new spares (follows_made mid new table is) (ap (tables_beside names) is ∙ tables_made names mid.schema table named) (ap (indexes_beside names) is ∙ indexes_made names mid.schema table named low)
-    (λ t has outside. all_has (λ (t : Table). new.trees t.tree ≡ mid.trees t.tree) _ t rows has)
+    (λ t has outside. all_has (λ (t : Table). new.trees t.tree ≡ mid.trees t.tree) _ t rows has) keys
 
 module _ (schema : Schema) where
   pub own_meta : list_any (same_name (codes "meta")) (own_names schema) ≡ true

@@ -10,6 +10,7 @@ use Rattle.sqlite_schema.specs.declared.schema.Schema.{Schema}
 use Rattle.sqlite_schema.specs.Names.{same_name, table_named}
 use Rattle.sqlite_catalog.specs.Calls.{KeepsForeign}
 use Rattle.sqlite.specs.Effect.{Database}
+use Rattle.store.specs.Rows.{is_text, meta_rows}
 
 -- The names of the tables of layout 2, and where there is no table spans, also of layout 1.
 unfoldable pub own_names : Schema → List (List ℕ)
@@ -27,6 +28,14 @@ tables_beside names schema = filter (λ t. not (is_own names schema t.tree)) sch
 unfoldable pub indexes_beside : List (List ℕ) → Schema → List Index
 indexes_beside names schema = filter (λ i. not (is_own names schema i.table)) schema.indexes
 
+-- a row of meta that does not say the layout
+abbrev pub has_other_key : Row → Bool
+has_other_key row = not (is_text (codes "layout") (column row 1))
+
+-- The rows of meta with other keys than `layout`, and none where there is no such table.
+unfoldable pub other_keys : Database → List Row
+other_keys db = if is_some (table_named db.schema (codes "meta")) then filter has_other_key (meta_rows db) else []
+
 -- The list of objects has the tree as one whose SQL is not understood, as a table WITHOUT ROWID, by this row and no other.
 pub record IsFrozen (objects : List Row) (tree : ℕ) (row : Row) : Type 0 where
   pub alone : filter (has_rowid (pos (tree + 1))) objects ≡ row ∷ []
@@ -34,7 +43,7 @@ pub record IsFrozen (objects : List Row) (tree : ℕ) (row : Row) : Type 0 where
 
 -- Beside the tables of the store there are the same tables, indexes and views: declared as they were, on the same trees. The tables have
 -- the same rows, and the indexes the same entries. A tree whose SQL is not understood is listed as it was and has the same rows, the texts
--- of those trees and of the triggers stay, and so does the user version.
+-- of those trees and of the triggers stay, and so do the user version and the rows of meta with other keys than `layout`.
 pub record LiesBeside (old new : Database) : Type 0 where
   pub tables : tables_beside (own_names old.schema) new.schema ≡ tables_beside (own_names old.schema) old.schema
   pub indexes : indexes_beside (own_names old.schema) new.schema ≡ indexes_beside (own_names old.schema) old.schema
@@ -44,3 +53,4 @@ pub record LiesBeside (old new : Database) : Type 0 where
   pub frozen : (tree : ℕ) (row : Row) → IsFrozen (old.trees catalog_tree) tree row → IsFrozen (new.trees catalog_tree) tree row × (new.trees tree ≡ old.trees tree)
   pub texts : KeepsForeign (old.trees catalog_tree) (new.trees catalog_tree)
   pub version : new.trees version_tree ≡ old.trees version_tree
+  pub keys : other_keys new ≡ other_keys old

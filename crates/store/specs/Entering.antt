@@ -103,6 +103,7 @@ pub record IsEntered (any : Bool) (only : Names) (old new : State) (executed : I
   pub executed_is : executed ≡ content.executed
   pub wanted : IsWanted any only names
   pub beside : LiesBeside old.now new.now
+  pub same : IsLaidOut old.now.schema → new.now ≡ old.now
 
 -- It is refused with its reason, and nothing has changed.
 abbrev pub IsTurned : Bool → Names → State → State → StoreFault → Type 0

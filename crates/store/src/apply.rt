@@ -1,6 +1,6 @@
 //! Applying a transaction of the source.
 
-ghost use Rattle.std.specs.Prelude.{◌≡◌, ◌≢◌, false, Err, IsErr, IsTrue, IfErr};
+ghost use Rattle.std.specs.Prelude.{◌≡◌, ◌≢◌, true, false, Ok, Err, IsErr, IsTrue, IfErr};
 ghost use Rattle.std.specs.FinSet as set;
 ghost use Rattle.sqlite.specs.State.{HasCleanDisk, Survives};
 ghost use Rattle.sqlite.specs.Held.{state};
@@ -12,10 +12,12 @@ ghost use Rattle.store.specs.Beside.{LiesBeside};
 ghost use Rattle.store.specs.Apply.{SparesBeside, IsAtRest, Comes, MayMove, IsReported, FailsShut};
 ghost use Rattle.store.specs.Faults.{IsApplyFault};
 ghost use Rattle.store.specs.Store.{Holds, Keeps, Applies, AppliesShut, Leaves, breaks, database, names_of, IsBroken, IsWhole};
+ghost use Rattle.store.specs.declared.fault.Applied.TheVariants.{Repeat};
 ghost use Rattle.store.specs.declared.fault.StoreFault.TheVariants.{Broken, Memory};
 
 use crate::changes::run;
 use crate::fault::{Applied, StoreFault};
+use crate::inserts::check_open;
 use crate::row_change::Refusal;
 use crate::store::Store;
 use binlog::Follow;
@@ -34,7 +36,7 @@ fn refuse<S: Alter>(conn: &mut Connection<S>, at: usize, why: Refusal) -> StoreF
     ensures other { result ≢ Memory }
     ensures fault { IsApplyFault result }
 {
-    if let Err(error) = conn.prepare("SELECT n FROM held") {
+    if let Err(error) = check_open(conn) {
         return StoreFault::Database(error);
     }
     match why {
@@ -100,6 +102,7 @@ impl<S: Alter> Store<S> {
     pub fn apply(&mut self, delivery: &Delivery) -> Result<Applied, StoreFault>
         ensures applies { HasCleanDisk (database S.Store self.new) → (content : Content) → Holds S.Store self.old content → Applies S.Store content (delivery_value delivery.now) self.old self.new result }
         ensures shut { HasCleanDisk (database S.Store self.new) → (content : Content) → Keeps S.Store self.old content → (database S.Store self.old).is_open ≡ false → AppliesShut S.Store content (delivery_value delivery.now) self.old self.new result }
+        ensures known { (content : Content) → Keeps S.Store self.old content → is_executed content (delivery_value delivery.now) ≡ true → (result ≡ Ok Repeat) × (self.new ≡ self.old) }
         ensures broken { IsBroken S.Store self.old → (result ≡ Err Broken) × (self.new ≡ self.old) }
         ensures following { names_of S.Store self.new ≡ names_of S.Store self.old }
         ensures schema { HasCleanDisk (database S.Store self.new) → (content : Content) → Holds S.Store self.old content → IsWhole S.Store self.new → (database S.Store self.new).now.schema ≡ (database S.Store self.old).now.schema }

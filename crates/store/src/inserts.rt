@@ -202,8 +202,8 @@ fn run<S: Alter>(
     Ok(true)
 }
 
-/// Fails if the connection is not open.
-fn check_open<S: Alter>(conn: &mut Connection<S>) -> Result<(), Error>
+/// Fails if the connection is not open, as it may be after a roll back.
+pub(crate) fn check_open<S: Alter>(conn: &mut Connection<S>) -> Result<(), Error>
     requires { conn.old.in_transaction ≡ false }
     ensures autocommit { conn.new.in_transaction ≡ false }
     ensures same { HasCleanDisk (state S.Store conn.new) → OnOk result (IsUnchanged (state S.Store conn.old) (state S.Store conn.new)) }

@@ -1,6 +1,6 @@
 //! Reading the tables of a database that is opened.
 
-ghost use Rattle.std.specs.Prelude.{◌≡◌, ℕ, ℤ, false, pos, map, IfOk, IfErr, OnOk, MatchOption, IsPermutation, IsTrue};
+ghost use Rattle.std.specs.Prelude.{◌≡◌, ℕ, false, pos, map, IfOk, IfErr, OnOk, IsPermutation, IsTrue};
 ghost use Rattle.std.specs.List.{AllByRecursion, IsDistinct};
 ghost use Rattle.std.specs.FinSet as set;
 ghost use Rattle.sqlite.specs.State.{HasCleanDisk, IsUnchanged, Survives};
@@ -9,7 +9,7 @@ ghost use Rattle.store.specs.Inside.{WasOpen};
 ghost use Rattle.store.specs.Layout.{HasMeta, IsLaidOut, IsFirstLaidOut};
 ghost use Rattle.store.specs.Rows.{meta_rows, HasRowids, IsHeldRow, IsFollowRow, IsSpanRow, IsExecutedRow, AreNames, AreSpans, KeepsRules, KeepsFirstRules, touches, span_in, id_in};
 ghost use Rattle.store.specs.Judge.{IsMeta};
-ghost use Rattle.store.specs.Load.{StatesLayout, AsksAll, Rested, OnSeen, Judges, IsLoadFault, all_held_text, all_spans_text, all_follow_text, all_executed_text, IsLoaded, IsFirstLoaded};
+ghost use Rattle.store.specs.Load.{StatesLayout, AsksAll, Ascends, by_order, Rested, OnSeen, Judges, IsLoadFault, all_held_text, all_spans_text, all_follow_text, all_executed_text, IsLoaded, IsFirstLoaded};
 
 use crate::fault::StoreFault;
 use crate::table_rows::{executed_from, filter_from, meta_in, spans_from};
@@ -32,6 +32,7 @@ fn read_all<S: Alter>(conn: &mut Connection<S>, sql: &str) -> Result<Vec<Row>, E
     requires { conn.old.in_transaction ≡ false }
     ensures autocommit { conn.new.in_transaction ≡ false }
     ensures rows { HasCleanDisk (state S.Store conn.new) → (tree : ℕ) → AsksAll (state S.Store conn.old).now.schema sql.now tree → IfOk result (λ rows. IsPermutation ((state S.Store conn.old).now.trees tree) rows.items) }
+    ensures ascend { HasCleanDisk (state S.Store conn.new) → (tree : ℕ) → (asks : AsksAll (state S.Store conn.old).now.schema sql.now tree) → IfOk result (λ rows. Ascends (by_order asks.order) rows.items) }
     ensures same { HasCleanDisk (state S.Store conn.new) → (tree : ℕ) → AsksAll (state S.Store conn.old).now.schema sql.now tree → OnOk result (IsUnchanged (state S.Store conn.old) (state S.Store conn.new)) }
     ensures rested { HasCleanDisk (state S.Store conn.new) → (tree : ℕ) → AsksAll (state S.Store conn.old).now.schema sql.now tree → Rested (state S.Store conn.old) (state S.Store conn.new) }
     ensures crash { Survives (state S.Store conn.old) (state S.Store conn.new) (λ _. (tree : ℕ) → ¬ AsksAll (state S.Store conn.old).now.schema sql.now tree) }

@@ -1,15 +1,17 @@
 //! Making the tables of a new database.
 
-ghost use Rattle.std.specs.Prelude.{◌≡◌, [], false, OnOk, OnErr};
+ghost use Rattle.std.specs.Prelude.{◌≡◌, [], pos, true, false, OnOk, OnErr};
 ghost use Rattle.std.specs.FinSet as set;
 ghost use Rattle.sqlite.specs.State.{HasCleanDisk, Survives, KeepsCommit};
 ghost use Rattle.sqlite.specs.Held.{state};
 ghost use Rattle.binlog.specs.Filter.{Names};
 ghost use Rattle.binlog.specs.FilterView.{names_of};
+ghost use Rattle.store.specs.State.{Content};
 ghost use Rattle.store.specs.Beside.{LiesBeside};
 ghost use Rattle.store.specs.Apply.{IsAtRest, Rests};
 ghost use Rattle.store.specs.Open.{nothing, IsBlank, MayStandFor};
 ghost use Rattle.store.specs.Making.{with_meta, with_held, with_spans, new_layout, IsMaking, IsNaming, HasMade};
+ghost use Rattle.store.specs.Migrating.{made_spans, HasTables, HasBare, IsMigrating};
 
 use binlog::Follow;
 use sqlite::types::ValueRef;
@@ -39,10 +41,11 @@ fn make_held<S: Alter>(tx: &mut Transaction<'_, S>) -> Result<usize, Error>
     )
 }
 
-fn make_spans<S: Alter>(tx: &mut Transaction<'_, S>) -> Result<usize, Error>
+pub(crate) fn make_spans<S: Alter>(tx: &mut Transaction<'_, S>) -> Result<usize, Error>
     ensures same_reference { tx.new.conn.ghost_name ≡ tx.old.conn.ghost_name }
     ensures made { HasCleanDisk (state S.Store tx.new.conn.now) → IsMaking with_held (state S.Store tx.old.conn.now) → OnOk result (IsMaking with_spans (state S.Store tx.new.conn.now)) }
-    ensures kept { HasCleanDisk (state S.Store tx.new.conn.now) → IsMaking with_held (state S.Store tx.old.conn.now) → KeepsCommit (state S.Store tx.old.conn.now) (state S.Store tx.new.conn.now) }
+    ensures migrated { HasCleanDisk (state S.Store tx.new.conn.now) → (content : Content) → IsMigrating (HasTables []) (pos 1) content (state S.Store tx.old.conn.now) → OnOk result (IsMigrating (HasTables made_spans) (pos 1) content (state S.Store tx.new.conn.now)) }
+    ensures kept { HasCleanDisk (state S.Store tx.new.conn.now) → (state S.Store tx.old.conn.now).in_transaction ≡ true → KeepsCommit (state S.Store tx.old.conn.now) (state S.Store tx.new.conn.now) }
     ensures survives { Survives (state S.Store tx.old.conn.now) (state S.Store tx.new.conn.now) (λ _. ⊥) }
 {
     tx.execute(
@@ -51,10 +54,11 @@ fn make_spans<S: Alter>(tx: &mut Transaction<'_, S>) -> Result<usize, Error>
     )
 }
 
-fn make_follow<S: Alter>(tx: &mut Transaction<'_, S>) -> Result<usize, Error>
+pub(crate) fn make_follow<S: Alter>(tx: &mut Transaction<'_, S>) -> Result<usize, Error>
     ensures same_reference { tx.new.conn.ghost_name ≡ tx.old.conn.ghost_name }
     ensures made { HasCleanDisk (state S.Store tx.new.conn.now) → IsMaking with_spans (state S.Store tx.old.conn.now) → OnOk result (IsMaking new_layout (state S.Store tx.new.conn.now)) }
-    ensures kept { HasCleanDisk (state S.Store tx.new.conn.now) → IsMaking with_spans (state S.Store tx.old.conn.now) → KeepsCommit (state S.Store tx.old.conn.now) (state S.Store tx.new.conn.now) }
+    ensures migrated { HasCleanDisk (state S.Store tx.new.conn.now) → (content : Content) → IsMigrating (HasTables made_spans) (pos 1) content (state S.Store tx.old.conn.now) → OnOk result (IsMigrating HasBare (pos 1) content (state S.Store tx.new.conn.now)) }
+    ensures kept { HasCleanDisk (state S.Store tx.new.conn.now) → (state S.Store tx.old.conn.now).in_transaction ≡ true → KeepsCommit (state S.Store tx.old.conn.now) (state S.Store tx.new.conn.now) }
     ensures survives { Survives (state S.Store tx.old.conn.now) (state S.Store tx.new.conn.now) (λ _. ⊥) }
 {
     tx.execute(

@@ -9,8 +9,9 @@ ghost use Rattle.store.specs.Beside.{LiesBeside};
 ghost use Rattle.store.specs.Apply.{IsAtRest, Rests};
 ghost use Rattle.store.specs.Open.{all, IsFirstAtRest, MayMigrate};
 ghost use Rattle.store.specs.Making.{HasMade};
-ghost use Rattle.store.specs.Migrating.{made_spans, HasTables, HasBare, IsFirstInside, IsMigrating};
+ghost use Rattle.store.specs.Migrating.{HasTables, HasBare, IsFirstInside, IsMigrating};
 
+use crate::make::{make_follow, make_spans};
 use crate::span_lists::add_all;
 use gtid::GtidSet;
 use sqlite::{Alter, Connection, Error, Transaction};
@@ -24,31 +25,7 @@ fn drop_executed<S: Alter>(tx: &mut Transaction<'_, S>) -> Result<usize, Error>
     tx.execute("DROP TABLE executed", &[])
 }
 
-fn make_spans<S: Alter>(tx: &mut Transaction<'_, S>) -> Result<usize, Error>
-    ensures same_reference { tx.new.conn.ghost_name ≡ tx.old.conn.ghost_name }
-    ensures migrated { HasCleanDisk (state S.Store tx.new.conn.now) → (content : Content) → IsMigrating (HasTables []) (pos 1) content (state S.Store tx.old.conn.now) → OnOk result (IsMigrating (HasTables made_spans) (pos 1) content (state S.Store tx.new.conn.now)) }
-    ensures kept { HasCleanDisk (state S.Store tx.new.conn.now) → (content : Content) → IsMigrating (HasTables []) (pos 1) content (state S.Store tx.old.conn.now) → KeepsCommit (state S.Store tx.old.conn.now) (state S.Store tx.new.conn.now) }
-    ensures survives { Survives (state S.Store tx.old.conn.now) (state S.Store tx.new.conn.now) (λ _. ⊥) }
-{
-    tx.execute(
-        "CREATE TABLE spans (source BLOB NOT NULL, lo INTEGER NOT NULL, hi INTEGER NOT NULL, PRIMARY KEY (source, lo))",
-        &[],
-    )
-}
-
-fn make_follow<S: Alter>(tx: &mut Transaction<'_, S>) -> Result<usize, Error>
-    ensures same_reference { tx.new.conn.ghost_name ≡ tx.old.conn.ghost_name }
-    ensures migrated { HasCleanDisk (state S.Store tx.new.conn.now) → (content : Content) → IsMigrating (HasTables made_spans) (pos 1) content (state S.Store tx.old.conn.now) → OnOk result (IsMigrating HasBare (pos 1) content (state S.Store tx.new.conn.now)) }
-    ensures kept { HasCleanDisk (state S.Store tx.new.conn.now) → (content : Content) → IsMigrating (HasTables made_spans) (pos 1) content (state S.Store tx.old.conn.now) → KeepsCommit (state S.Store tx.old.conn.now) (state S.Store tx.new.conn.now) }
-    ensures survives { Survives (state S.Store tx.old.conn.now) (state S.Store tx.new.conn.now) (λ _. ⊥) }
-{
-    tx.execute(
-        "CREATE TABLE follow (schema_name BLOB NOT NULL, table_name BLOB NOT NULL, PRIMARY KEY (schema_name, table_name))",
-        &[],
-    )
-}
-
-/// Records that the tables have layout 2. Other rows of `meta` stay, which no clause says.
+/// Records that the tables have layout 2. Other rows of `meta` stay.
 fn raise_layout<S: Alter>(tx: &mut Transaction<'_, S>) -> Result<usize, Error>
     ensures same_reference { tx.new.conn.ghost_name ≡ tx.old.conn.ghost_name }
     ensures migrated { HasCleanDisk (state S.Store tx.new.conn.now) → (content : Content) → IsMigrating HasBare (pos 1) content (state S.Store tx.old.conn.now) → OnOk result (IsMigrating HasBare (pos 2) content (state S.Store tx.new.conn.now)) }

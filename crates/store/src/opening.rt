@@ -248,6 +248,7 @@ fn open_with<S: Alter>(
     requires { conn.in_transaction ≡ false }
     ensures opens { IfOk result (λ store. HasCleanDisk (database S.Store store) → IsReady (state S.Store conn) → Opens S.Store any only.now (state S.Store conn) store) }
     ensures beside { IfOk result (λ store. HasCleanDisk (database S.Store store) → IsReady (state S.Store conn) → LiesBeside (state S.Store conn).now (database S.Store store).now) }
+    ensures unchanged { IfOk result (λ store. HasCleanDisk (database S.Store store) → IsReady (state S.Store conn) → IsLaidOut (state S.Store conn).now.schema → (database S.Store store).now ≡ (state S.Store conn).now) }
     ensures turned { IfErr result (λ e. HasCleanDisk (state S.Store e.1) → IsReady (state S.Store conn) → IsTurned any only.now (state S.Store conn) (state S.Store e.1) e.0) }
     ensures headless { (tables_of (state S.Store conn).now.schema).meta ≡ false → has_any (tables_of (state S.Store conn).now.schema) ≡ true → result ≡ Err (Damaged, conn) }
     ensures autocommit { IfErr result (λ e. e.1.in_transaction ≡ false) }
@@ -292,6 +293,8 @@ impl<S: Alter> Store<S> {
         requires { conn.in_transaction ≡ false }
         ensures opens { IfOk result (λ store. HasCleanDisk (database S.Store store) → IsReady (state S.Store conn) → Opens S.Store true all (state S.Store conn) store) }
         ensures beside { IfOk result (λ store. HasCleanDisk (database S.Store store) → IsReady (state S.Store conn) → LiesBeside (state S.Store conn).now (database S.Store store).now) }
+        // In a database of layout 2 nothing changes.
+        ensures unchanged { IfOk result (λ store. HasCleanDisk (database S.Store store) → IsReady (state S.Store conn) → IsLaidOut (state S.Store conn).now.schema → (database S.Store store).now ≡ (state S.Store conn).now) }
         ensures turned { IfErr result (λ e. HasCleanDisk (state S.Store e.1) → IsReady (state S.Store conn) → IsTurned true all (state S.Store conn) (state S.Store e.1) e.0) }
         ensures headless { (tables_of (state S.Store conn).now.schema).meta ≡ false → has_any (tables_of (state S.Store conn).now.schema) ≡ true → result ≡ Err (Damaged, conn) }
         ensures autocommit { IfErr result (λ e. e.1.in_transaction ≡ false) }
@@ -317,6 +320,7 @@ impl<S: Alter> Store<S> {
         requires { conn.in_transaction ≡ false }
         ensures opens { IfOk result (λ store. HasCleanDisk (database S.Store store) → IsReady (state S.Store conn) → Opens S.Store false filter.now (state S.Store conn) store) }
         ensures beside { IfOk result (λ store. HasCleanDisk (database S.Store store) → IsReady (state S.Store conn) → LiesBeside (state S.Store conn).now (database S.Store store).now) }
+        ensures unchanged { IfOk result (λ store. HasCleanDisk (database S.Store store) → IsReady (state S.Store conn) → IsLaidOut (state S.Store conn).now.schema → (database S.Store store).now ≡ (state S.Store conn).now) }
         ensures turned { IfErr result (λ e. HasCleanDisk (state S.Store e.1) → IsReady (state S.Store conn) → IsTurned false filter.now (state S.Store conn) (state S.Store e.1) e.0) }
         ensures headless { (tables_of (state S.Store conn).now.schema).meta ≡ false → has_any (tables_of (state S.Store conn).now.schema) ≡ true → result ≡ Err (Damaged, conn) }
         ensures autocommit { IfErr result (λ e. e.1.in_transaction ≡ false) }

@@ -1,13 +1,13 @@
 //! Whether rows keep the rules of their tables, and what they stand for.
 
-ghost use Rattle.std.specs.Prelude.{◌≡◌, true, map, ◌<◌, ◌≤◌, ◌^◌, pos, ℕ, IfOk, OnOk, IfErr, IfSome, IfNone, MatchBool, MatchOption};
+ghost use Rattle.std.specs.Prelude.{◌≡◌, true, map, ◌<◌, ◌≤◌, pos, ℕ, IfOk, OnOk, IfErr, IfSome, IfNone, MatchBool, MatchOption};
 ghost use Rattle.std.specs.List.{AllByRecursion};
 ghost use Rattle.store.specs.Changes.{most};
 ghost use Rattle.gtid.specs.Identifier.{IsSource};
 ghost use Rattle.gtid.specs.declared.span.Span.{Span};
 ghost use Rattle.gather.specs.Image.{IsSomeImage};
 ghost use Rattle.store.specs.Rows.{IsMetaRow, IsFollowRow, IsSpanRow, IsHeldRow, IsExecutedRow, HasRowids, span_in, id_in, name_in, is_text};
-ghost use Rattle.std.specs.Prelude.{codes, ℤ};
+ghost use Rattle.std.specs.Prelude.{codes};
 ghost use Rattle.sqlite_value.specs.Order.{column};
 ghost use Rattle.sqlite_value.specs.declared.value.Value.TheVariants.{Int};
 ghost use Rattle.binlog.specs.FilterView.{names_of};

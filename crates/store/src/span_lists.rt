@@ -9,12 +9,11 @@ ghost use Rattle.gtid.specs.declared.span.Span.{Span};
 ghost use Rattle.store.specs.Rows.{stored_span, span_rows, shown_spans};
 ghost use Rattle.store.specs.Inside.{IsWorking, GoesOn, Moves, HasLeft, AreRowsOf, Shows, Records, Stays};
 
+use crate::rules::MOST;
 use crate::span_rows::{add_span, drop_span, is_source};
 use gtid::laws::numbers_in_range;
 use gtid::{GtidSet, Span, Spans};
 use sqlite::{Alter, Error, Transaction};
-
-const END: u64 = 9_223_372_036_854_775_808;
 
 /// Inserts a span. One that the columns cannot hold is refused.
 fn add<S: Alter>(tx: &mut Transaction<'_, S>, span: Span) -> Result<usize, Error>
@@ -24,10 +23,10 @@ fn add<S: Alter>(tx: &mut Transaction<'_, S>, span: Span) -> Result<usize, Error
     ensures stays { Stays (state S.Store tx.old.conn.now) (state S.Store tx.new.conn.now) }
 {
     is_source(span.source);
-    if span.lo >= END {
+    if span.lo > MOST {
         return Err(Error::IntegralValueOutOfRange(0));
     }
-    if span.hi >= END {
+    if span.hi > MOST {
         return Err(Error::IntegralValueOutOfRange(0));
     }
     add_span(tx, &span.source, span.lo as i64, span.hi as i64)
@@ -53,7 +52,7 @@ fn remove<S: Alter>(tx: &mut Transaction<'_, S>, span: Span) -> Result<usize, Er
     ensures goes { HasCleanDisk (state S.Store tx.new.conn.now) → IsWorking (state S.Store tx.old.conn.now) → OnOk result (GoesOn (state S.Store tx.old.conn.now) (state S.Store tx.new.conn.now)) }
     ensures stays { Stays (state S.Store tx.old.conn.now) (state S.Store tx.new.conn.now) }
 {
-    if span.lo >= END {
+    if span.lo > MOST {
         return Err(Error::IntegralValueOutOfRange(0));
     }
     drop_span(tx, &span.source, span.lo as i64)

@@ -1,6 +1,6 @@
 //! Length-encoded integers.
 
-ghost use Rattle.std.specs.Prelude.{◌≡◌, ℕ, ◌+◌, ◌≤◌, ◌<◌, ◌++◌, List, length, take, IfSome, IfNone, OnOk, OnErr, vec_len, vec_capacity};
+ghost use Rattle.std.specs.Prelude.{◌≡◌, ℕ, ◌+◌, ◌≤◌, ◌<◌, ◌++◌, length, take, IfSome, IfNone, OnOk, OnErr, vec_len, vec_capacity};
 ghost use Rattle.wire.specs.Integer.{IsLengthEncoded, length_encoded};
 
 use crate::fault::WireFault;

@@ -1,6 +1,6 @@
 //! The current payload, taken out of its packets as their bytes come.
 
-ghost use Rattle.std.specs.Prelude.{◌≡◌, ◌≢◌, ℕ, ◌+◌, ◌%◌, ◌≤◌, ◌<◌, ◌++◌, ◌∷◌, [], ◌↔◌, ◌⊎◌, length, take, IfOk, IfErr, IsTrue};
+ghost use Rattle.std.specs.Prelude.{◌≡◌, ◌≢◌, ℕ, ◌+◌, ◌≤◌, ◌<◌, ◌++◌, [], ◌↔◌, length, take, IfOk, IfErr, IsTrue};
 ghost use Rattle.wire.specs.Header.{IsHeader};
 ghost use Rattle.wire.specs.Packet.{largest_payload};
 
@@ -63,7 +63,7 @@ fn read_header(header: &[u8], id: u8, room: usize) -> Result<usize, WireFault>
 }
 
 impl Unpacker {
-    ghost use Rattle.std.specs.Prelude.{◌≡◌, ◌≢◌, ℕ, ◌+◌, ◌%◌, ◌≤◌, ◌<◌, ◌++◌, [], ◌↔◌, length, take, IfOk, IfErr, IsTrue};
+    ghost use Rattle.std.specs.Prelude.{◌≡◌, ◌≢◌, ℕ, ◌+◌, ◌≤◌, ◌<◌, ◌++◌, [], ◌↔◌, length, take, IfOk, IfErr, IsTrue};
     ghost use Rattle.wire.specs.Payload.{IsOutOfSequence, IsTooLarge, IsWholePayload, NeedsRoom};
     ghost use Rattle.wire.specs.Held.{held_of, IsInHeader, IsInChunk, IsUnpacking, IsComplete, Consumes};
 

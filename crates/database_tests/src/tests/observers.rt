@@ -1,6 +1,6 @@
 //! An observer that stops before a transaction.
 
-ghost use Rattle.std.specs.Prelude.{◌≡◌, true};
+ghost use Rattle.std.specs.Prelude.{true};
 
 use super::fixtures::{Work, in_memory, open};
 use super::same::same;

@@ -1,8 +1,8 @@
 //! A stream in memory.
 
-ghost use Rattle.std.specs.Prelude.{◌≡◌, Some, Option, ℕ, length, is_err, if◌then◌else◌};
+ghost use Rattle.std.specs.Prelude.{◌≡◌, Some, Option, is_err};
 ghost use Rattle.std.specs.Io.{ReadsAtMost, WritesAtMost};
-ghost use Rattle.std.specs.Io.KnownBytes.{ReadConsumes, WriteAppends, Keeps};
+ghost use Rattle.std.specs.Io.KnownBytes.{ReadConsumes, WriteAppends};
 ghost use Rattle.replica.specs.Failing.{failed_to_write, HaveFailed};
 
 use replica::Duplex;

@@ -8,11 +8,11 @@ use Rattle.replica.specs.declared.session.Session.{Session}
 use Rattle.replica.specs.declared.following.Turn.{Turn}
 use Rattle.replica.specs.declared.following.Turn.TheVariants as turn
 use Rattle.replica.specs.Failing.{HaveFailed}
-use Rattle.store.specs.Store.{database}
+use Rattle.store.specs.Store.{HoldsAs, database}
 use Rattle.replica.specs.Conn.{IsNoStreamFailure, MayEnd}
 use Rattle.replica.specs.Standing.{end_of}
 use Rattle.replica.specs.Follow.{Follows, reads_failed, failed_reads_of, failed_writes_of}
-use Rattle.replica.proofs.Observed.{asked, may_later, not_of_stream}
+use Rattle.replica.proofs.Observed.{asked, may_later, not_of_stream, still}
 use Rattle.replica.proofs.Failed.{none_failed, failed_later, failed_none, counted_none}
 use Rattle.replica.proofs.Advance.{none_after}
 use Rattle.replica.proofs.Followed.{follows-memory, follows-sends_no_more, follows-write_failed, follows-ended, follows-read_failed, following-begins, following-sent, following-read, follows-same, some_after, ended_early, over-out, length_kept}
@@ -37,6 +37,8 @@ turns-init g c = record {
   broken = λ h. refl;
   clean = λ h. h;
   neither = rw c.new-session.ensures.ended tt;
+  stays = λ h. h;
+  heeds = λ is now holds on. refl;
   may = rw c.new-session.ensures.ended tt;
   following = λ clean was old holds.
       following-begins g.S.Store (λ h db is_open may. g.met.S.Store.settled h.store db is_open may) c.new-session.result c.args.store.now was old (g.T.Read.remaining c.args.stream.now.stream) (g.T.Write.contents c.args.stream.now.stream) c.new-session.ensures.ended holds (c.new-session.ensures.stands c.args.store.now.following was old);
@@ -98,6 +100,8 @@ turns-preserved g c =
       broken = search rules;
       clean = λ h. inv.clean (c.read_piece.ensures.clean h);
       neither = not_of_stream (end_of c.read_piece.new.session).reason (g.W.Observer.has_stopped c.read_piece.new.observer) may;
+      stays = λ h. c.read_piece.ensures.stays (inv.stays h);
+      heeds = λ is now holds on. still (HoldsAs g.S.Store is now) c.args.store.now c.turns.store c.read_piece.new.store (inv.heeds is now holds on) holds (λ h. c.read_piece.ensures.heeds is now h (inv.stays on));
       may = may;
       following = λ clean was old holds.
           let f = inv.following (c.read_piece.ensures.clean clean) was old holds in
@@ -213,3 +217,22 @@ returns-in-AtEnd-clause-asked g c =
     asked c.finish-in-AtEnd.result.reason after
     (subst (λ (e : Ended). MayEnd e.reason after) (sym (c.finish-in-AtEnd.ensures.end ∙ ap (λ (s : Session). end_of s) still.0 ∙ c.send_pending.ensures.sent.4.end))
     (may_later (end_of c.turns.session).reason (g.W.Observer.has_stopped c.turns.observer) after c.read_piece.ensures.stays c.turns.invariant.may))
+
+pub returns-then-sends_no_more-clause-heeds : goal.returns-then-sends_no_more-clause-heeds
+returns-then-sends_no_more-clause-heeds g c = c.turns.invariant.heeds
+
+pub returns-then-not-send_pending-clause-heeds : goal.returns-then-not-send_pending-clause-heeds
+returns-then-not-send_pending-clause-heeds g c = c.turns.invariant.heeds
+
+pub returns-then-is_some-clause-heeds : goal.returns-then-is_some-clause-heeds
+returns-then-is_some-clause-heeds g c = c.turns.invariant.heeds
+
+pub returns-in-AtEnd-clause-heeds : goal.returns-in-AtEnd-clause-heeds
+returns-in-AtEnd-clause-heeds g c is now holds on =
+    let inv = c.turns.invariant in
+    still (HoldsAs g.S.Store is now) c.args.store.now c.turns.store c.read_piece.new.store (inv.heeds is now holds on) holds (λ h. c.read_piece.ensures.heeds is now h (inv.stays on))
+
+pub returns-in-Failed-clause-heeds : goal.returns-in-Failed-clause-heeds
+returns-in-Failed-clause-heeds g c is now holds on =
+    let inv = c.turns.invariant in
+    still (HoldsAs g.S.Store is now) c.args.store.now c.turns.store c.read_piece.new.store (inv.heeds is now holds on) holds (λ h. c.read_piece.ensures.heeds is now h (inv.stays on))

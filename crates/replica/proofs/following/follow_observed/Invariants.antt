@@ -1,4 +1,4 @@
-use Rattle.std.proofs.Common.{◌≡◌, Bool, length}
+use Rattle.std.proofs.Common.{◌≡◌, Bool, true, length}
 use Rattle.sqlite.specs.State.{HasCleanDisk}
 use Rattle.store.specs.State.{Content}
 use Rattle.store.specs.Store.{HoldsAs, IsBroken, database, names_of}
@@ -19,6 +19,8 @@ invariant-turns g l = record {
   broken : IsBroken g.S.Store l.fn.store → l.store ≡ l.fn.store;
   clean : HasCleanDisk (database g.S.Store l.store) → HasCleanDisk (database g.S.Store l.fn.store);
   neither : IsNoStreamFailure (end_of l.session).reason;
+  stays : g.W.Observer.has_stopped l.fn.observer ≡ true → g.W.Observer.has_stopped l.observer ≡ true;
+  heeds : (is : Bool) (now : Content) → HoldsAs g.S.Store is now l.fn.store → g.W.Observer.has_stopped l.fn.observer ≡ true → l.store ≡ l.fn.store;
   may : MayEnd (end_of l.session).reason (g.W.Observer.has_stopped l.observer);
   following : HasCleanDisk (database g.S.Store l.store) → (was : Bool) (old : Content) → HoldsAs g.S.Store was old l.fn.store
       → IsFollowing g.S.Store l.session l.fn.store l.store was old

@@ -2,12 +2,13 @@ use Rattle.std.proofs.Common.{rules, ◌≡◌, ◌++◌, ◌∙◌, ℕ, List, 
 use Rattle.std.proofs.KnownBytes.{Consumes-nil, Keeps-refl}
 use Rattle.std.specs.Io.KnownBytes.{Consumes}
 use Rattle.sqlite.specs.Held.{state}
+use Rattle.store.specs.Store.{HoldsAs}
 use Rattle.replica.specs.declared.end.Reason.TheVariants.{EndOfInput}
 use Rattle.replica.specs.declared.end.Ended.{Ended}
 use Rattle.replica.specs.Standing.{end_of}
 use Rattle.replica.specs.Over.{StandsOver}
 use Rattle.replica.specs.Conn.{MayEnd}
-use Rattle.replica.proofs.Observed.{may_later}
+use Rattle.replica.proofs.Observed.{may_later, still}
 use Rattle.replica.proofs.Runs.{begins}
 use Rattle.replica.proofs.FromReader.{taking_more, taken, no_end, is_ended, not_ended, going_on, Keeps-from_none}
 use Rattle.replica.proofs.reader.read_stream.Goals as goal
@@ -17,6 +18,7 @@ loop-reader-init g c = record {
   some = search rules;
   may = c.feed_observed.ensures.neither (rw c.new-session.ensures.ended tt);
   stays = λ h. c.feed_observed.ensures.stays (c.received.ensures h);
+  heeds = λ is now holds on. c.feed_observed.ensures.heeds is now holds (c.received.ensures on);
   taking = record {
     read = [];
     consumes = Consumes-nil (g.R.Read.remaining c.args.reader.now);
@@ -36,6 +38,9 @@ loop-reader-preserved g c = record {
   may = c.feed_observed-in-Ok.ensures.neither
       (may_later (end_of c.loop-reader.session).reason (g.W.Observer.has_stopped c.loop-reader.observer) (g.W.Observer.has_stopped c.received-in-Ok.new.self) c.received-in-Ok.ensures c.loop-reader.invariant.may);
   stays = λ h. c.feed_observed-in-Ok.ensures.stays (c.received-in-Ok.ensures (c.loop-reader.invariant.stays h));
+  heeds = λ is now holds on.
+      let inv = c.loop-reader.invariant in
+      still (HoldsAs g.S.Store is now) c.args.store.now c.loop-reader.store c.feed_observed-in-Ok.new.store (inv.heeds is now holds on) holds (λ h. c.feed_observed-in-Ok.ensures.heeds is now h (c.received-in-Ok.ensures (inv.stays on)));
   taking = taking_more g.S.Store c.args.config.limit c.args.first.now c.args.store.now c.loop-reader.session c.loop-reader.store (g.R.Read.remaining c.args.reader.now) (g.R.Read.remaining c.loop-reader.reader)
       c.feed_observed-in-Ok.new.self c.feed_observed-in-Ok.new.store (g.R.Read.remaining c.read_some.new.reader) (take c.in-Ok.count c.read_some.new.piece) c.loop-reader.invariant.taking c.in-Ok.ensures.bytes.0
       c.feed_observed-in-Ok.ensures.config c.feed_observed-in-Ok.ensures.following c.feed_observed-in-Ok.ensures.broken c.feed_observed-in-Ok.ensures.clean c.feed_observed-in-Ok.ensures.stands;
@@ -76,6 +81,15 @@ returns-in-Err-clause-stays g c = c.loop-reader.invariant.stays
 
 pub returns-clause-stays : goal.returns-clause-stays
 returns-clause-stays g c = c.loop-reader.invariant.stays
+
+pub returns-in-Ok-eq0-clause-heeds : goal.returns-in-Ok-eq0-clause-heeds
+returns-in-Ok-eq0-clause-heeds g c = c.loop-reader.invariant.heeds
+
+pub returns-in-Err-clause-heeds : goal.returns-in-Err-clause-heeds
+returns-in-Err-clause-heeds g c = c.loop-reader.invariant.heeds
+
+pub returns-clause-heeds : goal.returns-clause-heeds
+returns-clause-heeds g c = c.loop-reader.invariant.heeds
 
 pub returns-clause-neither : goal.returns-clause-neither
 returns-clause-neither g c = subst (λ (e : Ended). MayEnd e.reason (g.W.Observer.has_stopped c.loop-reader.observer)) (sym c.finish-2.ensures.end) c.loop-reader.invariant.may

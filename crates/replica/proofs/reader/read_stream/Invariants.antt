@@ -1,4 +1,6 @@
-use Rattle.std.proofs.Common.{◌≡◌, ◌<◌, true, length}
+use Rattle.std.proofs.Common.{◌≡◌, ◌<◌, Bool, true, length}
+use Rattle.store.specs.State.{Content}
+use Rattle.store.specs.Store.{HoldsAs}
 use Rattle.replica.specs.Conn.{MayEnd}
 use Rattle.replica.specs.Standing.{end_of}
 use Rattle.replica.proofs.FromReader.{IsTaking, turns_left}
@@ -9,6 +11,7 @@ invariant-loop-reader g l = record {
   some : 0 < length l.piece;
   may : MayEnd (end_of l.session).reason (g.W.Observer.has_stopped l.observer);
   stays : g.W.Observer.has_stopped l.fn.observer ≡ true → g.W.Observer.has_stopped l.observer ≡ true;
+  heeds : (is : Bool) (now : Content) → HoldsAs g.S.Store is now l.fn.store → g.W.Observer.has_stopped l.fn.observer ≡ true → l.store ≡ l.fn.store;
   taking : IsTaking g.S.Store l.fn.config.limit l.fn.first l.fn.store l.session l.store (g.R.Read.remaining l.fn.reader) (g.R.Read.remaining l.reader);
 }
 

@@ -11,7 +11,7 @@ returns-in_err-make_spans-clause-kept g c clean content was =
     let d = state g.S.Store c.make_spans.new.tx.conn.now in
     let first : HasCleanDisk b = omega (arith, c.make_spans.ensures.survives.clean) in
     let dropped = c.in_ok-drop_executed.ensures.migrated first content was in
-    kept_then a b d (c.in_ok-drop_executed.ensures.kept first content was) (c.make_spans.ensures.kept clean content dropped)
+    kept_then a b d (c.in_ok-drop_executed.ensures.kept first content was) (c.make_spans.ensures.kept clean dropped.inside)
 
 pub returns-in_err-make_follow-clause-kept : goal.returns-in_err-make_follow-clause-kept
 returns-in_err-make_follow-clause-kept g c clean content was =
@@ -24,7 +24,7 @@ returns-in_err-make_follow-clause-kept g c clean content was =
     let dropped = c.in_ok-drop_executed.ensures.migrated first content was in
     let spans = c.in_ok-make_spans.ensures.migrated second content dropped in
     kept_then a b e (c.in_ok-drop_executed.ensures.kept first content was)
-    (kept_then b d e (c.in_ok-make_spans.ensures.kept second content dropped) (c.make_follow.ensures.kept clean content spans))
+    (kept_then b d e (c.in_ok-make_spans.ensures.kept second dropped.inside) (c.make_follow.ensures.kept clean spans.inside))
 
 pub returns-in_err-raise_layout-clause-kept : goal.returns-in_err-raise_layout-clause-kept
 returns-in_err-raise_layout-clause-kept g c clean content was =
@@ -38,8 +38,8 @@ returns-in_err-raise_layout-clause-kept g c clean content was =
     let spans = c.in_ok-make_spans.ensures.migrated second content dropped in
     let follow = c.in_ok-make_follow.ensures.migrated third content spans in
     kept_then _ _ _ (c.in_ok-drop_executed.ensures.kept first content was)
-    (kept_then _ _ _ (c.in_ok-make_spans.ensures.kept second content dropped)
-    (kept_then _ _ _ (c.in_ok-make_follow.ensures.kept third content spans) (c.raise_layout.ensures.kept clean content follow)))
+    (kept_then _ _ _ (c.in_ok-make_spans.ensures.kept second dropped.inside)
+    (kept_then _ _ _ (c.in_ok-make_follow.ensures.kept third spans.inside) (c.raise_layout.ensures.kept clean content follow)))
 
 pub returns-clause-migrated : goal.returns-clause-migrated
 returns-clause-migrated g c clean content was =
@@ -66,5 +66,5 @@ returns-clause-kept g c clean content was =
     let spans = c.in_ok-make_spans.ensures.migrated second content dropped in
     let follow = c.in_ok-make_follow.ensures.migrated third content spans in
     kept_then _ _ _ (c.in_ok-drop_executed.ensures.kept first content was)
-    (kept_then _ _ _ (c.in_ok-make_spans.ensures.kept second content dropped)
-    (kept_then _ _ _ (c.in_ok-make_follow.ensures.kept third content spans) (c.in_ok-raise_layout.ensures.kept clean content follow)))
+    (kept_then _ _ _ (c.in_ok-make_spans.ensures.kept second dropped.inside)
+    (kept_then _ _ _ (c.in_ok-make_follow.ensures.kept third spans.inside) (c.in_ok-raise_layout.ensures.kept clean content follow)))

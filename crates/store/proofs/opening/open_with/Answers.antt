@@ -41,3 +41,6 @@ returns-in-Err-clause-leaves g c names content over =
 
 pub returns-in-Ok-clause-beside : goal.returns-in-Ok-clause-beside
 returns-in-Ok-clause-beside g c clean ready = (c.in-Ok.ensures.entered clean ready).beside
+
+pub returns-in-Ok-clause-unchanged : goal.returns-in-Ok-clause-unchanged
+returns-in-Ok-clause-unchanged g c clean ready = (c.in-Ok.ensures.entered clean ready).same

@@ -1,8 +1,10 @@
-use Rattle.std.proofs.Common.{rules, ◌≡◌, ◌+◌, ◌≤◌, ℕ, List, None, length, sym, ◌∙◌, subst}
+use Rattle.std.proofs.Common.{rules, ◌≡◌, ◌+◌, ◌≤◌, ℕ, List, None, length, refl, sym, ◌∙◌, subst}
 use Rattle.std.proofs.lemmas.List.{take_rest}
+use Rattle.store.specs.Store.{HoldsAs}
 use Rattle.replica.specs.Standing.{room_of}
 use Rattle.replica.proofs.Advance.{over-append}
 use Rattle.replica.proofs.Fed.{Fed, fed_none, fed_more, fed_all, room_more}
+use Rattle.replica.proofs.Observed.{still}
 use Rattle.replica.proofs.session.Session.feed_observed.Goals as goal
 
 pub returns-then-is_some-clause-stands : goal.returns-then-is_some-clause-stands
@@ -17,6 +19,7 @@ loop-used-init g c = record {
   config = search rules;
   neither = λ h. h;
   stays = λ h. h;
+  heeds = λ is now holds on. refl;
   room = search rules;
 }
 
@@ -33,6 +36,7 @@ loop-used-preserved g c =
       config = search rules;
       neither = λ h. c.advance.ensures.neither (inv.neither h);
       stays = λ h. c.advance.ensures.stays (inv.stays h);
+      heeds = λ is now holds on. still (HoldsAs g.S.Store is now) c.args.store.now c.loop-used.store c.advance.new.store (inv.heeds is now holds on) holds (λ h. c.advance.ensures.heeds is now h (inv.stays on));
       room = subst (λ (l : List ℕ). c.advance.new.self.ended ≡ None → room_of c.advance.new.self + length c.args.bytes.now ≤ room_of c.args.self.now + length l) (sym (take_rest rest used))
           (room_more c.loop-used.self c.advance.new.self rest used (room_of c.args.self.now) (length c.args.bytes.now) c.in-Some.ensures.used.1 c.in-Some.ensures.room inv.room);
     }
@@ -40,3 +44,8 @@ loop-used-preserved g c =
 pub returns-clause-stands : goal.returns-clause-stands
 returns-clause-stands g c =
     fed_all g.S.Store c.args.self.now c.args.store.now c.loop-used.self c.loop-used.store c.advance.new.self c.advance.new.store c.args.bytes.now c.loop-used.rest.now c.loop-used.invariant.fed c.advance.ensures.clean c.in_default.ensures.stands
+
+pub returns-clause-heeds : goal.returns-clause-heeds
+returns-clause-heeds g c is now holds on =
+    let inv = c.loop-used.invariant in
+    still (HoldsAs g.S.Store is now) c.args.store.now c.loop-used.store c.advance.new.store (inv.heeds is now holds on) holds (λ h. c.advance.ensures.heeds is now h (inv.stays on))

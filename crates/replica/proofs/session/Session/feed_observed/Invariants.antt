@@ -1,4 +1,6 @@
-use Rattle.std.proofs.Common.{◌≡◌, ◌+◌, ◌≤◌, length, true, None}
+use Rattle.std.proofs.Common.{◌≡◌, ◌+◌, ◌≤◌, Bool, length, true, None}
+use Rattle.store.specs.State.{Content}
+use Rattle.store.specs.Store.{HoldsAs}
 use Rattle.replica.specs.Conn.{MayEnd}
 use Rattle.replica.specs.Standing.{end_of, room_of}
 use Rattle.replica.proofs.Fed.{Fed}
@@ -12,6 +14,7 @@ invariant-loop-used g l = record {
   config : l.self.config ≡ l.fn.self.config;
   neither : MayEnd (end_of l.fn.self).reason (g.W.Observer.has_stopped l.fn.observer) → MayEnd (end_of l.self).reason (g.W.Observer.has_stopped l.observer);
   stays : g.W.Observer.has_stopped l.fn.observer ≡ true → g.W.Observer.has_stopped l.observer ≡ true;
+  heeds : (is : Bool) (now : Content) → HoldsAs g.S.Store is now l.fn.store → g.W.Observer.has_stopped l.fn.observer ≡ true → l.store ≡ l.fn.store;
   room : l.self.ended ≡ None → room_of l.self + length l.bytes ≤ room_of l.fn.self + length l.rest;
 }
 

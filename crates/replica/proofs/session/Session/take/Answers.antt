@@ -34,6 +34,7 @@ returns-in-Login g c =
       config = c.take_message.ensures.config;
       neither = own_may (end_of c.take_message.new.self).reason (g.W.Observer.has_stopped c.args.observer.now) c.take_message.ensures.neither;
       stays = λ h. h;
+      heeds = λ is now holds on. refl;
       room = λ none. let f = c.take_message.ensures.further none in room_left s c.take_message.new.self c.in-Some.end n f.0 f.1 c.requires.between.0 ends (omega (arith, c.in-Some.ensures));
       takes = λ clean schema was old b o m.
           over_same g.S.Store (λ h db is_open may. g.met.S.Store.settled h.store db is_open may) s c.take_message.new.self c.args.store.now schema was old b o c.args.payload.now m

@@ -1,8 +1,0 @@
-use Rattle.std.proofs.Common.{refl}
-use Rattle.sqlite.specs.Held.{state}
-use Rattle.store.proofs.Migrating.{done_spans}
-use Rattle.store.proofs.migrate.make_spans.Goals as goal
-
-pub returns-clause-migrated : goal.returns-clause-migrated
-returns-clause-migrated g c clean content was =
-    done_spans content (state g.S.Store c.args.tx.now.conn.now) (state g.S.Store c.execute.new.self.conn.now) c.execute.result was (c.execute.ensures.runs clean (rw was.inside refl))
