@@ -14,6 +14,7 @@ use Rattle.sqlite.specs.Effect.{Database}
 use Rattle.sqlite.specs.State.{State, HasCleanDisk}
 use Rattle.sqlite.specs.Files.{over_files, file_state, IsClosed, FailsToClose}
 use Rattle.sqlite.specs.Closing.{IsCopied}
+use Rattle.sqlite.specs.Held.{Held}
 use Rattle.binlog.specs.Filter.{Names}
 use Rattle.store.specs.State.{Content}
 use Rattle.store.specs.declared.store.Store.{Store}
@@ -31,7 +32,7 @@ use Rattle.replica.specs.Crash.{IsLeftOfAll}
 use Rattle.replica.specs.Crash as crash
 use Rattle.replica.specs.Over.{HasReadAll, LeavesOnly}
 use Rattle.replica.specs.Capture.{Reads}
-use Rattle.replica.specs.File.{AreClosedWith, LeavesContent}
+use Rattle.replica.specs.File.{AreClosedWith, LeavesContent, IsCleanlyClosed, WasClosed}
 use Rattle.replica.specs.Replay.{LeadsTo, MayLeave}
 use Rattle.replica.specs.FollowFile.{Connects, MayHold, FollowsFile}
 use Rattle.replica.proofs.Captured.{reads_weaker}
@@ -45,6 +46,18 @@ rest_left s names content rest only =
 rest_of : {D : Type 0} {g : Ghosts D} (is : Bool) (content : Content) (store : Store (FileStore D g) over_files) → IsTrue (database over_files store).is_open → HoldsAs over_files is content store → IsAtRest (database over_files store) store.following content
 rest_of false content store is_open holds = holds.rest
 rest_of true content store is_open holds = holds.rest is_open
+
+-- files that were closed with a clean disk, or could not be, had a clean disk before
+pub clean_before_closing : {D : Type 0} {g : Ghosts D} (conn : Held (FileStore D g)) (closed : Result (Files D) (Error × FileStore D g))
+    → IfOk closed (λ files. AreClean g files.log files.db → IsCopied conn files)
+    → IfErr closed (λ e. IsClosed conn e.1 × (IsClean (view e.1) → FailsToClose conn e.1 e.0))
+    → IsCleanlyClosed closed → HasCleanDisk (file_state conn)
+clean_before_closing conn (Ok files) copied failed honest = (copied honest).was_clean
+clean_before_closing conn (Err e) copied failed honest = let quiet = failed.0.quiet in omega (arith, quiet.clean, honest)
+
+pub was_closed : {D : Type 0} {g : Ghosts D} (conn : Held (FileStore D g)) (closed : Result (Files D) (Error × FileStore D g)) → IfErr closed (λ e. IsClosed conn e.1 × (IsClean (view e.1) → FailsToClose conn e.1 e.0)) → WasClosed closed
+was_closed conn (Ok files) failed = tt
+was_closed conn (Err e) failed = (conn, failed.0, failed.1)
 
 module _ {D : Type 0} (g : Ghosts D) (names : Names) (after : Store (FileStore D g) over_files) (kept : after.following ≡ names) where
   -- closed files hold what the store held

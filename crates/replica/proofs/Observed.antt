@@ -1,5 +1,6 @@
 -- How an observer may end a connection.
-use Rattle.std.proofs.Common.{◌≡◌, ◌∷◌, ◌++◌, ◌∙◌, [], List, All, Bool, true, sym, subst}
+use Rattle.std.proofs.Common.{◌≡◌, ◌≢◌, ◌≤◌, ◌∷◌, ◌++◌, ◌∙◌, [], List, All, Bool, true, false, length, arith, sym, subst}
+use Rattle.std.proofs.lemmas.Bool.{false≢true}
 use Rattle.std.proofs.lemmas.List.Elements.{All-push}
 use Rattle.replica.specs.declared.end.Ended.{Ended}
 use Rattle.replica.specs.declared.end.Reason.{Reason}
@@ -70,3 +71,12 @@ more_ends ends end before between after all stays later is h last =
 -- what has stayed as it was stays once more
 pub still : {X : Type 0} (H : X → Type 0) (old mid new : X) → mid ≡ old → H old → (H mid → new ≡ mid) → new ≡ old
 still H old mid new same holds next = next (subst H (sym same) holds) ∙ same
+
+-- where ends mean that the observer has not stopped, and it has, there is none, and after one more there is one
+pub none_yet : (ends : List Ended) (stopped : Bool) → (ends ≢ [] → stopped ≡ false) → stopped ≡ true → length ends ≤ 1
+none_yet [] stopped heeds on = omega arith
+none_yet (e ∷ es) stopped heeds on = absurd (false≢true (sym (heeds (λ none. cc)) ∙ on))
+
+pub one_at_most : (ends : List Ended) (end : Ended) (all : List Ended) → all ≡ ends ++ end ∷ [] → (stopped : Bool) → (ends ≢ [] → stopped ≡ false) → stopped ≡ true → length all ≤ 1
+one_at_most [] end all is stopped heeds on = rw is (omega arith)
+one_at_most (e ∷ es) end all is stopped heeds on = absurd (false≢true (sym (heeds (λ none. cc)) ∙ on))

@@ -1,19 +1,27 @@
 -- Databases in files.
-use Rattle.std.specs.Prelude.{◌≡◌, ◌⊎◌, Bool, true, false, [], Option, None, Some}
+use Rattle.std.specs.Prelude.{◌≡◌, ◌⊎◌, Bool, true, false, [], Option, None, Some, Result, IfErr, MatchResult}
 use Rattle.std.specs.Borrow.{Bor}
 use Rattle.sqlite_disk.specs.declared.Disk.{Ghosts}
 use Rattle.sqlite_disk.specs.declared.Files.{Files}
 use Rattle.sqlite_wal.specs.Recovery.{Image}
 use Rattle.sqlite_wal.specs.Files.{outcomes}
+use Rattle.sqlite_wal.specs.Reads.{AreClean}
 use Rattle.sqlite_trees.specs.Tree.{Trees}
+use Rattle.sqlite_trees.specs.View.{IsClean}
+use Rattle.sqlite_store.specs.declared.store.FileStore.{FileStore}
+use Rattle.sqlite_store.specs.FileStore.{view}
+use Rattle.sqlite.specs.declared.error.Error.{Error}
 use Rattle.sqlite.specs.State.{State, HasCleanDisk}
-use Rattle.sqlite.specs.Files.{HoldsDatabase, image_of, file_state}
+use Rattle.sqlite.specs.Start.{FindsIn}
+use Rattle.sqlite.specs.Held.{Held}
+use Rattle.sqlite.specs.Files.{HoldsDatabase, image_of, over_files, file_state, IsOpened, IsClosed, IsCleanLeft, LeavesFiles, FailsToOpenFiles, FailsToClose}
 use Rattle.sqlite.specs.Closing.{HoldsAlone}
 use Rattle.binlog.specs.Filter.{Names}
 use Rattle.store.specs.State.{Content}
 use Rattle.store.specs.Open.{nothing, all}
-use Rattle.store.specs.Entering.{IsLeft}
-use Rattle.store.specs.Faults.{IsFailure}
+use Rattle.store.specs.declared.store.Store.{Store}
+use Rattle.store.specs.Store.{Opens}
+use Rattle.store.specs.Entering.{IsLeft, IsReady, IsOf, IsWanted, IsRefused, IsTurned}
 use Rattle.replica.specs.declared.file.Unopened.{Unopened}
 
 -- the filter that a database is opened with: the given one, or the one that admits all tables
@@ -36,10 +44,43 @@ FilesHold only names content image =
 abbrev pub LeavesContent : Names → Names → Content → State → Type 0
 LeavesContent only names content s = HasCleanDisk s → (trees : Trees) → s.may_leave trees → IsLeft only names content trees
 
--- A database of this content is refused only by a failure or for memory, and is left as that content.
-abbrev pub IsUnopened : {D : Type 0} {g : Ghosts D} → Names → Names → Content → Unopened D g → Type 0
-IsUnopened only names content (Unopened.Database cause conn) = (HasCleanDisk (file_state conn) → IsFailure cause) × LeavesContent only names content (file_state conn)
-IsUnopened only names content _ = Unit {0}
+-- A database of this content is refused only by a failure, for memory, or since it was made for other tables, and is left as that
+-- content.
+abbrev pub IsUnopened : {D : Type 0} {g : Ghosts D} → Bool → Names → Names → Content → Unopened D g → Type 0
+IsUnopened any only names content (Unopened.Database cause conn) = (HasCleanDisk (file_state conn) → IsRefused any only names cause) × LeavesContent only names content (file_state conn)
+IsUnopened any only names content _ = Unit {0}
+
+-- The connection is open, has changed nothing, and reads what the files hold.
+pub record HasFound {D : Type 0} {g : Ghosts D} (image : Image) (conn : Held (FileStore D g)) : Type 0 where
+  pub finds : FindsIn image (file_state conn)
+  pub opened : IsOpened conn
+
+-- The store was opened over what a connection has found in the files.
+abbrev pub IsOpenedIn : {D : Type 0} {g : Ghosts D} → Bool → Names → Image → Store (FileStore D g) over_files → Type 0
+IsOpenedIn {D} {g} any only image store = (before : Held (FileStore D g)) × HasFound image before × (IsReady (file_state before) → Opens over_files any only (file_state before) store)
+
+-- The database that was found is refused with its reason and left as it is. Where files could not be opened as a database, the error is
+-- what they met, and they are left as they were, unless there was no database in them (LeavesFiles); `from` says of them that nothing
+-- had happened to them before.
+abbrev pub IsTurnedBack : {D : Type 0} {g : Ghosts D} → Bool → Names → Image → (Files D → Type 0) → Unopened D g → Type 0
+IsTurnedBack any only image from Unopened.Memory = Unit {0}
+IsTurnedBack any only image from (Unopened.Files error None) = Unit {0}
+IsTurnedBack {D} {g} any only image from (Unopened.Files error (Some left)) = (files : Files D) × from files × (IsCleanLeft left → FailsToOpenFiles files left error × LeavesFiles files left)
+IsTurnedBack {D} {g} any only image from (Unopened.Database cause conn) =
+    HasCleanDisk (file_state conn) → (before : Held (FileStore D g)) × HasFound image before × (IsReady (file_state before) → IsTurned any only (file_state before) (file_state conn) cause)
+
+-- The files were closed, or could not be, with a disk that never lied.
+abbrev pub IsCleanlyClosed : {D : Type 0} {g : Ghosts D} → Result (Files D) (Error × FileStore D g) → Type 0
+IsCleanlyClosed {D} {g} closed = MatchResult closed (λ files. AreClean g files.log files.db) (λ e. IsClean (view e.1))
+
+-- Files that could not be closed are as a connection left them, and the error is what they met.
+abbrev pub WasClosed : {D : Type 0} {g : Ghosts D} → Result (Files D) (Error × FileStore D g) → Type 0
+WasClosed {D} {g} closed = IfErr closed (λ e. (conn : Held (FileStore D g)) × IsClosed conn e.1 × (IsClean (view e.1) → FailsToClose conn e.1 e.0))
+
+-- If the tables of the database in the files were known, it stood for a content and for tables that were wanted.
+abbrev pub WasWanted : {D : Type 0} {g : Ghosts D} → Bool → Names → Image → Result (Files D) (Error × FileStore D g) → Type 0
+WasWanted {D} {g} any only image closed =
+    IsCleanlyClosed closed → (before : Held (FileStore D g)) × HasFound image before × (IsReady (file_state before) → (names : Names) × (content : Content) × IsOf only names (file_state before).now content × IsWanted any only names)
 
 module _ {D : Type 0} (g : Ghosts D) where
   -- The closed files, and whatever a crash may leave of them, hold a database that stands for this content and these

@@ -94,6 +94,7 @@ pub(crate) fn read_captures<R: Read + Drop, S: Alter, W: Observer>(
     ensures asked { result ≡ Err Halt.Observer → W.has_stopped observer.new ≡ true }
     // Once it has stopped, no further capture is read.
     ensures heeds { result ≡ Ok tt → ends.new.items ≢ [] → W.has_stopped observer.new ≡ false }
+    ensures no_more { W.has_stopped observer.old ≡ true → length ends.new.items ≤ 1 }
     ensures neither { All (λ end. MayEnd end.reason (W.has_stopped observer.new)) ends.new.items }
     ensures following { names_of S.Store store.new ≡ names_of S.Store store.old }
     ensures broken { IsBroken S.Store store.old → store.new ≡ store.old }

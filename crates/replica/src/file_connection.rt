@@ -1,12 +1,12 @@
 //! A connection to the files of a database, with room for more pages than the crate `sqlite` takes by itself.
 
-ghost use Rattle.std.specs.Prelude.{◌≡◌, true, false, codes, IsTrue, IfOk, Err};
+ghost use Rattle.std.specs.Prelude.{◌≡◌, true, false, codes, IsTrue, None, IfOk, IfErr, IfSome, Err};
 ghost use Rattle.sqlite_wal.specs.Files.{image_at};
 ghost use Rattle.sqlite_std_file.specs.File.{file_is_usable, IsFresh};
 ghost use Rattle.sqlite.specs.State.{HasCleanDisk};
 ghost use Rattle.sqlite.specs.Held.{IsNew};
 ghost use Rattle.sqlite.specs.Start.{FindsIn};
-ghost use Rattle.sqlite.specs.Files.{file_state, IsOpened};
+ghost use Rattle.sqlite.specs.Files.{file_state, IsOpened, IsCleanLeft, FailsToOpenFiles, LeavesFiles};
 
 use sqlite::{Connection, Error, ErrorCode, FileFrom, FileStore, Files, Leftover, Start};
 use sqlite_pager::Options;
@@ -86,6 +86,8 @@ pub(crate) fn open_files<P: Start>(
     ensures opened { IfOk result (λ c. HasCleanDisk (file_state c) → IsOpened c) }
     ensures found { IfOk result (λ c. HasCleanDisk (file_state c) → FindsIn (image_at P.Start) (file_state c)) }
     ensures fresh { IfOk result IsNew }
+    ensures memory { path.now ≡ codes ":memory:" → result ≡ Err (Error.SqliteFailure ErrorCode.CannotOpen, None) }
+    ensures cause { IfErr result (λ e. IfSome e.1 (λ left. (files : _) × (IsFresh true files.log × IsFresh false files.db) × (IsCleanLeft left → FailsToOpenFiles files left e.0 × LeavesFiles files left))) }
 {
     let files = match open_pair(rt, path, start) {
         Ok(files) => files,

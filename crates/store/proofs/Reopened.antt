@@ -21,8 +21,7 @@ use Rattle.store.specs.State.{Content}
 use Rattle.store.specs.Layout.{IsLaidOut, IsFirstLaidOut, IsFound, HasTable, IsApart, IsNoParent, tree_named, meta, executed, held, spans, follow, meta_tree, executed_tree, held_tree, spans_tree, follow_tree}
 use Rattle.store.specs.Rows.{StandsFor, SaysLayout, HasRowids, IsMetaRow, IsHeldRow, IsExecutedRow, id_in, AreNames, AreSpans, span_rows, bag_of, count}
 use Rattle.store.specs.Apply.{AreOf, IsAtRest}
-use Rattle.store.specs.Entering.{IsOf, IsReady, IsWanted, IsTurned, IsLeft, MayEnter}
-use Rattle.store.specs.Faults.{IsFailure}
+use Rattle.store.specs.Entering.{IsOf, IsReady, IsRefused, IsTurned, IsLeft, MayEnter}
 use Rattle.store.proofs.SameSchema.{tables_again, next_again, vacant_again}
 use Rattle.store.proofs.OneState.{one_of, known_of, not_damaged, not_other}
 use Rattle.store.proofs.Entered.{weaken}
@@ -170,12 +169,12 @@ module _ (any : Bool) (only names : Names) (content : Content) (s : State) (is_o
   pub survives_again : (new : State) → Survives s new (MayEnter only s) → Survives s new (IsLeft only names content)
   survives_again new h = weaken s new (MayEnter only s) (IsLeft only names content) left_again h
 
-  pub fails : IsWanted any only names → (fault : StoreFault) (new : State) → IsTurned any only s new fault → IsFailure fault
-  fails wanted (NoSuchRow at) new t = t.0
-  fails wanted (CountFull at) new t = t.0
-  fails wanted (Database e) new t = tt
-  fails wanted Memory new t = tt
-  fails wanted Damaged new t = not_damaged only s.now names content sound (left_apart only names content s.now sound left) of t.0
-  fails wanted (Layout k) new t = not_other only s.now names content k of t.0
-  fails wanted Broken new t = t.0
-  fails wanted Follows new t = let one = one_of only s.now t.0.1 names t.0.2 content (inr t.0.3) of in t.0.4 (one.0 ∙ wanted t.0.0)
+  pub refused_for : (fault : StoreFault) (new : State) → IsTurned any only s new fault → IsRefused any only names fault
+  refused_for (NoSuchRow at) new t = inl t.0
+  refused_for (CountFull at) new t = inl t.0
+  refused_for (Database e) new t = inl tt
+  refused_for Memory new t = inl tt
+  refused_for Damaged new t = inl (not_damaged only s.now names content sound (left_apart only names content s.now sound left) of t.0)
+  refused_for (Layout k) new t = inl (not_other only s.now names content k of t.0)
+  refused_for Broken new t = inl t.0
+  refused_for Follows new t = let one = one_of only s.now t.0.1 names t.0.2 content (inr t.0.3) of in inr (refl, t.0.0, λ same. t.0.4 (one.0 ∙ same))

@@ -15,6 +15,7 @@ use Rattle.store.specs.Layout.{IsVacant, IsFirstLaidOut, HasMeta, IsLaidOut}
 use Rattle.store.specs.Beside.{LiesBeside}
 use Rattle.store.specs.Rows.{StandsFor, StandsForFirst, SaysLayout, KeepsRules, KeepsFirstRules, HasRowids, meta_rows, span_rows}
 use Rattle.store.specs.Apply.{IsAtRest, Rests}
+use Rattle.store.specs.Faults.{IsFailure}
 use Rattle.store.specs.Open.{nothing, all, MayStandFor}
 
 -- ---- Which tables are there.
@@ -92,6 +93,10 @@ IsWhy any only db Follows = (any ≡ false) × (names : Names) × (content : Con
 IsWhy any only db (Db e) = Unit {0}
 IsWhy any only db Memory = Unit {0}
 IsWhy any only db _ = ⊥
+
+-- A database that stands for a content is refused where it failed, memory ran out, or it was made for other names.
+abbrev pub IsRefused : Bool → Names → Names → StoreFault → Type 0
+IsRefused any only names fault = IsFailure fault ⊎ ((fault ≡ Follows) × (any ≡ false) × (names ≢ only))
 
 -- ---- The outcome.
 

@@ -15,7 +15,7 @@ ghost use Rattle.store.specs.Store.{Holds, Opens, database, names_of};
 ghost use Rattle.binlog.specs.Filter.{Names};
 ghost use Rattle.store.specs.State.{Content};
 ghost use Rattle.store.specs.Faults.{IsOpenFault, IsFailure};
-ghost use Rattle.store.specs.Entering.{IsReady, IsKnown, IsWhy, IsLeft, ReadsLeft, IsEntered, IsTurned, IsWanted, MayEnter, tables_of, has_any, has_first, has_second};
+ghost use Rattle.store.specs.Entering.{IsReady, IsKnown, IsWhy, IsLeft, ReadsLeft, IsEntered, IsRefused, IsTurned, IsWanted, MayEnter, tables_of, has_any, has_first, has_second};
 
 use crate::fault::StoreFault;
 use crate::load::{Loaded, load, load_first, read_meta};
@@ -254,7 +254,7 @@ fn open_with<S: Alter>(
     ensures autocommit { IfErr result (λ e. e.1.in_transaction ≡ false) }
     ensures crash { IfOk result (λ store. IsReady (state S.Store conn) → Survives (state S.Store conn) (database S.Store store) (MayEnter only.now (state S.Store conn))) }
     ensures left { IfErr result (λ e. IsReady (state S.Store conn) → Survives (state S.Store conn) (state S.Store e.1) (MayEnter only.now (state S.Store conn))) }
-    ensures reopens { (names : Names) (content : Content) → ReadsLeft only.now names content (state S.Store conn) → IsWanted any only.now names → MatchResult result (λ store. HasCleanDisk (database S.Store store) → Holds S.Store store content × (names_of S.Store store ≡ names)) (λ e. HasCleanDisk (state S.Store e.1) → IsFailure e.0) }
+    ensures reopens { (names : Names) (content : Content) → ReadsLeft only.now names content (state S.Store conn) → MatchResult result (λ store. HasCleanDisk (database S.Store store) → Holds S.Store store content × (names_of S.Store store ≡ names) × IsWanted any only.now names) (λ e. HasCleanDisk (state S.Store e.1) → IsRefused any only.now names e.0) }
     ensures leaves { (names : Names) (content : Content) → ReadsLeft only.now names content (state S.Store conn) → MatchResult result (λ store. Survives (state S.Store conn) (database S.Store store) (IsLeft only.now names content)) (λ e. Survives (state S.Store conn) (state S.Store e.1) (IsLeft only.now names content)) }
     ensures fault { IfErr result (λ e. IsOpenFault any e.0) }
     ensures clean { MatchResult result (λ store. HasCleanDisk (database S.Store store) → HasCleanDisk (state S.Store conn)) (λ e. HasCleanDisk (state S.Store e.1) → HasCleanDisk (state S.Store conn)) }
@@ -326,7 +326,7 @@ impl<S: Alter> Store<S> {
         ensures autocommit { IfErr result (λ e. e.1.in_transaction ≡ false) }
         ensures crash { IfOk result (λ store. IsReady (state S.Store conn) → Survives (state S.Store conn) (database S.Store store) (MayEnter filter.now (state S.Store conn))) }
         ensures left { IfErr result (λ e. IsReady (state S.Store conn) → Survives (state S.Store conn) (state S.Store e.1) (MayEnter filter.now (state S.Store conn))) }
-        ensures reopens { (names : Names) (content : Content) → ReadsLeft filter.now names content (state S.Store conn) → IsWanted false filter.now names → MatchResult result (λ store. HasCleanDisk (database S.Store store) → Holds S.Store store content × (names_of S.Store store ≡ names)) (λ e. HasCleanDisk (state S.Store e.1) → IsFailure e.0) }
+        ensures reopens { (names : Names) (content : Content) → ReadsLeft filter.now names content (state S.Store conn) → MatchResult result (λ store. HasCleanDisk (database S.Store store) → Holds S.Store store content × (names_of S.Store store ≡ names) × IsWanted false filter.now names) (λ e. HasCleanDisk (state S.Store e.1) → IsRefused false filter.now names e.0) }
         ensures leaves { (names : Names) (content : Content) → ReadsLeft filter.now names content (state S.Store conn) → MatchResult result (λ store. Survives (state S.Store conn) (database S.Store store) (IsLeft filter.now names content)) (λ e. Survives (state S.Store conn) (state S.Store e.1) (IsLeft filter.now names content)) }
         ensures fault { IfErr result (λ e. IsOpenFault false e.0) }
         ensures clean { MatchResult result (λ store. HasCleanDisk (database S.Store store) → HasCleanDisk (state S.Store conn)) (λ e. HasCleanDisk (state S.Store e.1) → HasCleanDisk (state S.Store conn)) }

@@ -11,7 +11,7 @@ use Rattle.replica.specs.declared.end.Ended.{Ended}
 use Rattle.replica.specs.Over.{HasReadAll}
 use Rattle.replica.specs.Capture.{AreRead, AreReadUpTo}
 use Rattle.replica.specs.Conn.{MayEnd}
-use Rattle.replica.proofs.Observed.{ends_later, more_ends}
+use Rattle.replica.proofs.Observed.{ends_later, more_ends, none_yet, one_at_most}
 use Rattle.replica.proofs.Captured.{no_captures, captures_more, breaks_off}
 use Rattle.replica.proofs.captures.read_captures.Goals as goal
 
@@ -20,6 +20,7 @@ loop-capture-init g c = record {
   piece = search rules;
   may = subst (λ (l : List Ended). All (λ (e : Ended). MayEnd e.reason (g.W.Observer.has_stopped c.opened.new.self)) l) (sym c.requires.none) (search rules);
   heeds = λ some. absurd (some c.requires.none);
+  stays = c.opened.ensures;
   count = search rules;
   room = search rules;
   clean = λ h. h;
@@ -72,6 +73,7 @@ loop-capture-preserved g c =
       may = more_ends c.loop-capture.ends.items c.in-Ok.end (g.W.Observer.has_stopped c.loop-capture.observer) (g.W.Observer.has_stopped c.read_capture.new.observer) (g.W.Observer.has_stopped c.ended-goes_on.new.self) c.push_reserved.new.self.items
           (search rules) c.ended-goes_on.ensures.stays c.push_reserved.ensures.items inv.may c.in-Ok.ensures.neither;
       heeds = λ some. not-true _ (sym c.ended-goes_on.ensures.goes_on ∙ c.if-not-goes_on.false);
+      stays = λ h. c.ended-goes_on.ensures.stays (c.read_capture.ensures.stays (inv.stays h));
       count = ap length ends ∙ length_push c.loop-capture.ends.items c.in-Ok.end ∙ ap (λ n. n + 1) inv.count ∙ sym next;
       room = search rules;
       clean = λ h. inv.clean (c.read_capture.ensures.clean h);
@@ -105,3 +107,13 @@ returns-clause-neither g c = c.loop-capture.invariant.may
 
 pub returns-then-not-goes_on-clause-asked : goal.returns-then-not-goes_on-clause-asked
 returns-then-not-goes_on-clause-asked g c is = not-false _ (sym c.ended-goes_on.ensures.goes_on ∙ c.if-not-goes_on.true)
+
+pub returns-in-Err-clause-no_more : goal.returns-in-Err-clause-no_more
+returns-in-Err-clause-no_more g c on = none_yet c.loop-capture.ends.items (g.W.Observer.has_stopped c.loop-capture.observer) c.loop-capture.invariant.heeds (c.loop-capture.invariant.stays on)
+
+pub returns-then-not-goes_on-clause-no_more : goal.returns-then-not-goes_on-clause-no_more
+returns-then-not-goes_on-clause-no_more g c on =
+    one_at_most c.loop-capture.ends.items c.in-Ok.end c.push_reserved.new.self.items c.push_reserved.ensures.items (g.W.Observer.has_stopped c.loop-capture.observer) c.loop-capture.invariant.heeds (c.loop-capture.invariant.stays on)
+
+pub returns-clause-no_more : goal.returns-clause-no_more
+returns-clause-no_more g c on = none_yet c.loop-capture.ends.items (g.W.Observer.has_stopped c.loop-capture.observer) c.loop-capture.invariant.heeds (c.loop-capture.invariant.stays on)

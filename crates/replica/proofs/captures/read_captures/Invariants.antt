@@ -13,6 +13,7 @@ invariant-loop-capture g l = record {
   piece : 0 < length l.piece;
   may : All (λ end. MayEnd end.reason (g.W.Observer.has_stopped l.observer)) l.ends.items;
   heeds : l.ends.items ≢ [] → g.W.Observer.has_stopped l.observer ≡ false;
+  stays : g.W.Observer.has_stopped l.fn.observer ≡ true → g.W.Observer.has_stopped l.observer ≡ true;
   count : length l.ends.items ≡ length l.yielded;
   room : length l.fn.captures.items ≤ vec_capacity l.ends;
   clean : HasCleanDisk (state g.S.Store l.store.conn) → HasCleanDisk (state g.S.Store l.fn.store.conn);

@@ -18,3 +18,8 @@ returns-in-Ok-open_files_with-clause-found g c clean =
     let found = c.in-Ok-open_files_with.ensures.found clean in
     let same = ap₂ image (ap₂ (seen g.P.Start.log g.P.Start.db) log.0 log.1) (ap₂ (seen g.P.Start.log g.P.Start.db) db.0 db.1) in
     subst (λ i. FindsIn i (file_state c.in-Ok-open_files_with.conn)) same (record { holds = found.holds; reads = found.reads })
+
+pub returns-in-Err-open_files_with-clause-cause : goal.returns-in-Err-open_files_with-clause-cause
+returns-in-Err-open_files_with-clause-cause g c =
+    let failed = c.in-Err-open_files_with.ensures in
+    (c.in-Ok.files, c.in-Ok.ensures.fresh, λ clean. (failed.cause clean, failed.unharmed clean))
