@@ -12,13 +12,16 @@ use gather::{Change, Delivery, ImageRef};
 use gtid::{Gtid, GtidSet};
 use std::alloc::{AllocError, Global};
 use std::fs::{File, OpenOptions};
-use std::io::{BufWriter, Read, Seek, SeekFrom, Write};
+use std::io::{BufWriter, ErrorKind, Read, Seek, SeekFrom, Write};
 use std::{fs, io};
 
 /// The word for the output of the command.
 pub const OUTPUT: &str = "-";
 
-const IN_USE: &str = "it is the database, its WAL file or one of the streams";
+const IN_USE: &str = "it is the database, its WAL file or another file that is read";
+
+/// How often a file is made again that another process removes.
+const TRIES: u32 = 100;
 
 /// What is written at once.
 #[derive(Clone, Copy)]
@@ -41,9 +44,11 @@ pub struct Feed {
     encoding: Encoding,
     alloc: Global,
     /// Whether the file was made for the feed.
-    pub is_new: bool,
+    is_new: bool,
     /// Whether the file ends inside a line.
     is_cut: bool,
+    /// Whether it is on a disk, and not a pipe or a device.
+    is_regular: bool,
 }
 
 impl Feed {
@@ -55,36 +60,71 @@ impl Feed {
             alloc,
             is_new: false,
             is_cut: false,
+            is_regular: false,
         }
     }
 
-    /// A feed to the end of a file, which is made if it does not exist. The file must be none of those that the command
-    /// uses.
+    /// A feed to the end of a file, which is made if it does not exist, or to a pipe or a device. A file must be none of
+    /// those that the command uses: the database, its WAL file and the others.
     pub fn to_file<'a>(
         rt: &HostRuntime,
         name: &'a str,
         db: &str,
-        streams: &[&str],
+        others: &[&str],
         encoding: Encoding,
     ) -> Result<Feed, Failure<'a>> {
-        let is_new = !fs::exists(rt, name).unwrap_or(true);
-        let opened = open(rt, name, db, streams);
-        match opened {
-            Ok(Some((file, is_cut))) => Ok(Feed {
-                file: Some(file),
-                encoding,
-                alloc: rt.alloc(),
-                is_new,
-                is_cut,
-            }),
-            Ok(None) => {
-                remove(rt, name, is_new);
+        let mut feed = match open(rt, name, encoding) {
+            Ok(feed) => feed,
+            Err(cause) => return Err(Failure::File { name, cause }),
+        };
+        match feed.find_end(rt, name, db, others) {
+            Ok(true) => Ok(feed),
+            Ok(false) => {
+                feed.discard(rt, name);
                 Err(Failure::Unusable { name, why: IN_USE })
             }
             Err(cause) => {
-                remove(rt, name, is_new);
+                feed.discard(rt, name);
                 Err(Failure::File { name, cause })
             }
+        }
+    }
+
+    /// Finds out whether a file ends inside a line. `false` if it is one that the command uses.
+    fn find_end(
+        &mut self,
+        rt: &HostRuntime,
+        name: &str,
+        db: &str,
+        others: &[&str],
+    ) -> io::Result<bool> {
+        if !self.is_regular {
+            return Ok(true);
+        }
+        if is_in_use(rt, name, db, others)? {
+            return Ok(false);
+        }
+        let Some(file) = &mut self.file else {
+            return Ok(true);
+        };
+        self.is_cut = ends_inside(file.get_mut())?;
+        Ok(true)
+    }
+
+    /// Gives the feed up, and removes its file if that was made for it, is still empty, and is no other process's feed.
+    pub fn discard(self, rt: &HostRuntime, name: &str) {
+        if !self.is_new {
+            return;
+        }
+        let Some(file) = &self.file else {
+            return;
+        };
+        let is_empty = match file.get_ref().metadata() {
+            Ok(metadata) => metadata.len() == 0,
+            Err(_) => false,
+        };
+        if is_empty && file.get_ref().try_lock().is_ok() {
+            let _ = fs::remove_file(rt, name);
         }
     }
 
@@ -106,49 +146,75 @@ impl Feed {
         write_entry(self.alloc, self.encoding, entry, file)?;
         file.flush()?;
         match entry {
-            FeedEntry::Changes(delivery) if !delivery.changes.is_empty() => file
-                .get_ref()
-                .sync_data(),
+            FeedEntry::Changes(delivery) if self.is_regular && !delivery.changes.is_empty() => {
+                file.get_ref().sync_data()
+            }
             _ => Ok(()),
         }
     }
 }
 
-/// Removes a file that was made for a feed.
-pub fn remove(rt: &HostRuntime, name: &str, is_new: bool) {
-    if is_new {
-        let _ = fs::remove_file(rt, name);
+/// Opens the file of a feed. A process that has a file locked for itself removes it: then it is made again.
+fn open(rt: &HostRuntime, name: &str, encoding: Encoding) -> io::Result<Feed> {
+    let is_regular = match fs::metadata(rt, name) {
+        Ok(metadata) => metadata.is_file(),
+        Err(cause) if cause.kind() == ErrorKind::NotFound => true,
+        Err(cause) => return Err(cause),
+    };
+    let (mut file, mut is_new) = open_once(rt, name, is_regular)?;
+    for _ in 0..TRIES {
+        if !is_regular || (file.try_lock_shared().is_ok() && fs::exists(rt, name)?) {
+            break;
+        }
+        (file, is_new) = open_once(rt, name, is_regular)?;
     }
+    Ok(Feed {
+        file: Some(BufWriter::new(rt.alloc(), file)?),
+        encoding,
+        alloc: rt.alloc(),
+        is_new,
+        is_cut: false,
+        is_regular,
+    })
 }
 
-/// Opens the file of a feed, and finds out whether it ends inside a line. `None` if it is one that the command uses.
-fn open(
-    rt: &HostRuntime,
-    name: &str,
-    db: &str,
-    streams: &[&str],
-) -> io::Result<Option<(BufWriter<File>, bool)>> {
-    let mut file = OpenOptions::new()
+/// Opens a file for a feed, and says whether it was made.
+fn open_once(rt: &HostRuntime, name: &str, is_regular: bool) -> io::Result<(File, bool)> {
+    if !is_regular {
+        return Ok((OpenOptions::new().write(true).open(rt, name)?, false));
+    }
+    let made = OpenOptions::new()
         .read(true)
         .append(true)
-        .create(true)
-        .open(rt, name)?;
-    if is_in_use(rt, name, db, streams)? {
-        return Ok(None);
+        .create_new(true)
+        .open(rt, name);
+    match made {
+        Ok(file) => Ok((file, true)),
+        Err(cause) if cause.kind() == ErrorKind::AlreadyExists => {
+            let file = OpenOptions::new()
+                .read(true)
+                .append(true)
+                .create(true)
+                .open(rt, name)?;
+            Ok((file, false))
+        }
+        Err(cause) => Err(cause),
     }
-    let is_cut = ends_inside(&mut file)?;
-    Ok(Some((BufWriter::new(rt.alloc(), file)?, is_cut)))
 }
 
 /// Whether a file is one of those that the command uses.
-fn is_in_use(rt: &HostRuntime, name: &str, db: &str, streams: &[&str]) -> io::Result<bool> {
+fn is_in_use(rt: &HostRuntime, name: &str, db: &str, others: &[&str]) -> io::Result<bool> {
     let path = fs::canonicalize(rt, name)?;
-    for stream in streams {
-        if is_path(rt, stream, path.as_str()) {
+    for other in others {
+        if is_path(rt, other, path.as_str()) {
             return Ok(true);
         }
     }
-    let wal = format!(in rt.alloc(); "{db}-wal")?;
+    // The WAL file stands beside the file that a link leads to.
+    let wal = match fs::canonicalize(rt, db) {
+        Ok(real) => format!(in rt.alloc(); "{}-wal", real.as_str())?,
+        Err(_) => format!(in rt.alloc(); "{db}-wal")?,
+    };
     Ok(is_path(rt, db, path.as_str()) || is_path(rt, wal.as_str(), path.as_str()))
 }
 

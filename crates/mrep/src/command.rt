@@ -263,8 +263,10 @@ pub fn command<S: AsStr, O: Write, E: Write>(
     match run(rt, words, out, err) {
         Ok(status) => status,
         Err(failure) => {
-            if !matches!(failure, Failure::Output(_)) {
-                let _ = out.flush();
+            if !matches!(failure, Failure::Output(_))
+                && let Err(cause) = out.flush()
+            {
+                let _ = Failure::Output(cause).write(err);
             }
             let _ = failure.write(err);
             failure.status()

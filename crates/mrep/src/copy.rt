@@ -12,6 +12,7 @@ ghost use Rattle.std.specs.Prelude.{◌≡◌, IfOk};
 use crate::database::{has_frames, lock, read_head, test};
 use crate::failure::{DONE, Failure};
 use std::alloc::{AllocError, Global};
+use std::fs::File;
 use std::io::ErrorKind;
 use std::{fs, io};
 
@@ -27,6 +28,14 @@ const EXISTS: &str = "the file exists; --force replaces it";
 
 const HAS_WAL: &str =
     "a WAL file with transactions stands beside it: open it once, which copies them back, or remove both";
+
+const HAS_JOURNAL: &str =
+    "sqlite3 has left a journal beside it: open it once with sqlite3, or remove both";
+
+const HAS_PART: &str =
+    "the file with .part after this name exists: another copy is being made, or one was killed: then remove it";
+
+const NO_FILE: &str = "it is no regular file";
 
 const TOO_FAST: &str = "no whole copy could be made, since its WAL file was begun anew each time";
 
@@ -52,14 +61,15 @@ pub fn copy<'a>(rt: &HostRuntime, db: &'a str, to: &'a str, force: bool) -> Resu
         Ok(path) => names_of(rt.alloc(), String::from_str(rt.alloc(), path.as_str())?)?,
         Err(cause) => return Err(Failure::File { name: db, cause }),
     };
-    match refusal_of(rt, &from, to, force) {
-        Ok(None) => {}
-        Ok(Some(why)) => return Err(Failure::Unusable { name: to, why }),
-        Err(cause) => return Err(Failure::File { name: to, cause }),
-    }
+    judge(db, fault_of(rt, &from))?;
+    judge(to, refusal_of(rt, &from, to, force))?;
     let replaced = lock(rt, to)?;
     let part = names_of(rt.alloc(), format!(in rt.alloc(); "{to}.part")?)?;
-    let made = make(rt, db, to, &from, &part);
+    judge(to, claim(rt, &from, &part))?;
+    let made = match judge(to, refusal_of(rt, &from, to, force)) {
+        Ok(()) => make(rt, db, to, &from, &part),
+        Err(failure) => Err(failure),
+    };
     if made.is_err() {
         let _ = fs::remove_file(rt, part.file.as_str());
     }
@@ -69,29 +79,97 @@ pub fn copy<'a>(rt: &HostRuntime, db: &'a str, to: &'a str, force: bool) -> Resu
     Ok(DONE)
 }
 
-/// Why a file may not be made or replaced, if it may not.
+/// The failure of a file that may not be used, if it may not.
+fn judge<'a>(name: &'a str, judged: io::Result<Option<&'static str>>) -> Result<(), Failure<'a>> {
+    match judged {
+        Ok(None) => Ok(()),
+        Ok(Some(why)) => Err(Failure::Unusable { name, why }),
+        Err(cause) => Err(Failure::File { name, cause }),
+    }
+}
+
+/// Why a file may not be copied as a database, if it may not.
+fn fault_of(rt: &HostRuntime, from: &Names) -> io::Result<Option<&'static str>> {
+    if !fs::metadata(rt, from.file.as_str())?.is_file() {
+        return Ok(Some(NO_FILE));
+    }
+    if has_journal(rt, from.file.as_str())? {
+        return Ok(Some(HAS_JOURNAL));
+    }
+    Ok(None)
+}
+
+/// Why a file may not be made or replaced, if it may not. What lies beside its name would be read with the copy.
 fn refusal_of(
     rt: &HostRuntime,
     from: &Names,
     to: &str,
     force: bool,
 ) -> io::Result<Option<&'static str>> {
-    let path = match fs::canonicalize(rt, to) {
-        Ok(path) => path,
-        Err(cause) if cause.kind() == ErrorKind::NotFound => return Ok(None),
-        Err(cause) => return Err(cause),
-    };
-    let target = names_of(rt.alloc(), String::from_str(rt.alloc(), path.as_str())?)?;
-    if target.file.as_str() == from.file.as_str() {
+    if is_one_of(rt, to, from)? {
         return Ok(Some(SAME));
     }
-    if !force {
+    let there = match fs::canonicalize(rt, to) {
+        Ok(path) => Some(path),
+        Err(cause) if cause.kind() == ErrorKind::NotFound => None,
+        Err(cause) => return Err(cause),
+    };
+    if there.is_some() && !force {
         return Ok(Some(EXISTS));
     }
-    match has_frames(rt, target.wal.as_str()) {
-        Ok(true) => Ok(Some(HAS_WAL)),
-        Ok(false) => Ok(None),
-        Err(cause) if cause.kind() == ErrorKind::NotFound => Ok(None),
+    if let Some(path) = there
+        && has_transactions(rt, path.as_str())?
+    {
+        return Ok(Some(HAS_WAL));
+    }
+    if has_transactions(rt, to)? {
+        return Ok(Some(HAS_WAL));
+    }
+    if has_journal(rt, to)? {
+        return Ok(Some(HAS_JOURNAL));
+    }
+    Ok(None)
+}
+
+/// Makes the file of a copy, which no other process has then. Why it cannot be made, if it cannot.
+fn claim(rt: &HostRuntime, from: &Names, part: &Names) -> io::Result<Option<&'static str>> {
+    if is_one_of(rt, part.file.as_str(), from)? || is_one_of(rt, part.wal.as_str(), from)? {
+        return Ok(Some(SAME));
+    }
+    match File::create_new(rt, part.file.as_str()) {
+        Ok(_) => {}
+        Err(cause) if cause.kind() == ErrorKind::AlreadyExists => return Ok(Some(HAS_PART)),
+        Err(cause) => return Err(cause),
+    }
+    let _ = fs::remove_file(rt, part.wal.as_str());
+    Ok(None)
+}
+
+/// Whether a name leads to a database file or to its WAL file.
+fn is_one_of(rt: &HostRuntime, name: &str, names: &Names) -> io::Result<bool> {
+    match fs::canonicalize(rt, name) {
+        Ok(path) => Ok(path.as_str() == names.file.as_str() || path.as_str() == names.wal.as_str()),
+        Err(cause) if cause.kind() == ErrorKind::NotFound => Ok(false),
+        Err(cause) => Err(cause),
+    }
+}
+
+/// Whether a WAL file with transactions stands beside a name.
+fn has_transactions(rt: &HostRuntime, file: &str) -> io::Result<bool> {
+    let wal = format!(in rt.alloc(); "{file}-wal")?;
+    match has_frames(rt, wal.as_str()) {
+        Err(cause) if cause.kind() == ErrorKind::NotFound => Ok(false),
+        found => found,
+    }
+}
+
+/// Whether a journal of sqlite3 that is to be rolled back stands beside a name: one that does not begin with a zero
+/// (section 3).
+fn has_journal(rt: &HostRuntime, file: &str) -> io::Result<bool> {
+    let journal = format!(in rt.alloc(); "{file}-journal")?;
+    match read_head::<1>(rt, journal.as_str()) {
+        Ok(head) => Ok(head.is_some_and(|head| head != [0])),
+        Err(cause) if cause.kind() == ErrorKind::NotFound => Ok(false),
         Err(cause) => Err(cause),
     }
 }

@@ -4,7 +4,7 @@ use crate::cells::write_first_cells;
 use crate::name::{Shown, write_table};
 use crate::reason::write_escaped;
 use binlog::{EventFault, EventFaultKind};
-use gather::{Change, Delivery, ImageRef};
+use gather::{Change, Delivery, GatherFault, ImageRef};
 use gtid::Gtid;
 use replica::{Reason, Refusal};
 use std::alloc::Global;
@@ -53,17 +53,21 @@ impl Details {
         }
     }
 
-    /// Writes the lines, each after the name of the stream, and how the transaction can be left out. Ends that no
-    /// transaction has caused have no lines.
+    /// Writes the lines, each after the name of the stream, and how the transaction can be left out: a source that is
+    /// followed does not send it again, and a stream does, whose events are read all the same. Ends that no transaction has
+    /// caused have no lines.
     pub fn write<E: Write>(
         &self,
         stream: &str,
         db: &str,
+        is_live: bool,
         reason: &Reason,
         err: &mut E,
     ) -> io::Result<()> {
         let can_skip = match reason {
-            Reason::Event(_) | Reason::Gather(_) | Reason::Refused(_) => true,
+            Reason::Gather(GatherFault::NoFormat) => false,
+            Reason::Event(_) | Reason::Gather(_) => is_live,
+            Reason::Refused(_) => true,
             Reason::Database(_) | Reason::Memory | Reason::Halted => false,
             _ => return Ok(()),
         };
@@ -100,17 +104,20 @@ fn write_fault(fault: EventFault, event: &[u8], out: &mut Vec<u8>) -> io::Result
     match fault.kind {
         EventFaultKind::Statement => write_statement(event.get(fault.at..).unwrap_or(&[]), out),
         EventFaultKind::ColumnType(_) => match table_in(event) {
-            Some((schema, table, types)) => {
+            Some((schema, table, types, count)) => {
                 write_place(schema, table, out)?;
                 match fault.at.checked_sub(types) {
-                    Some(column) => writeln!(out, ", column {}", column.saturating_add(1)),
-                    None => writeln!(out),
+                    Some(column) if column < count => {
+                        writeln!(out, ", column {}", column.saturating_add(1))
+                    }
+                    // It is a type in the metadata, after those of the columns.
+                    _ => writeln!(out),
                 }
             }
             None => Ok(()),
         },
         EventFaultKind::Metadata => match table_in(event) {
-            Some((schema, table, _)) => {
+            Some((schema, table, _, _)) => {
                 write_place(schema, table, out)?;
                 writeln!(out)
             }
@@ -140,22 +147,25 @@ fn write_place(schema: &[u8], table: &[u8], out: &mut Vec<u8>) -> io::Result<()>
     write_table(schema, table, out)
 }
 
-/// The names in a table map, and the offset at which the types of its columns begin (MySQL Source Documentation, "Binlog
-/// Event", the page `binary_log::Table_map_event`).
-fn table_in(event: &[u8]) -> Option<(&[u8], &[u8], usize)> {
+/// The names in a table map, the offset at which the types of its columns begin, and how many these are (MySQL Source
+/// Documentation, "Binlog Event", the page `binary_log::Table_map_event`).
+fn table_in(event: &[u8]) -> Option<(&[u8], &[u8], usize, usize)> {
     let schema_end = 28 + usize::from(*event.get(27)?);
     let schema = event.get(28..schema_end)?;
     let table_end = schema_end + 2 + usize::from(*event.get(schema_end + 1)?);
     let table = event.get(schema_end + 2..table_end)?;
     let count = table_end + 1;
     // The number of columns is a length-encoded integer.
-    let width = match *event.get(count)? {
-        0..=250 => 1,
-        252 => 3,
-        253 => 4,
-        _ => 9,
+    let (width, columns) = match *event.get(count)? {
+        few @ 0..=250 => (1, usize::from(few)),
+        252 => {
+            let bytes = [*event.get(count + 1)?, *event.get(count + 2)?];
+            (3, usize::from(u16::from_le_bytes(bytes)))
+        }
+        253 => (4, usize::MAX),
+        _ => (9, usize::MAX),
     };
-    Some((schema, table, count + width))
+    Some((schema, table, count + width, columns))
 }
 
 /// Writes the table and the row of a change that is refused.

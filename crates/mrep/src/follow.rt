@@ -2,7 +2,7 @@
 
 ghost use Rattle.std.specs.Prelude.{◌≤◌, IfOk};
 
-use crate::change_feed::{OUTPUT, remove};
+use crate::change_feed::OUTPUT;
 use crate::database::{closed, follow_into};
 use crate::failure::{Failure, MEMORY};
 use crate::replay::{Report, check, feed_of, status_of, stop_of, tables};
@@ -55,11 +55,7 @@ pub fn follow_source<'a, W: Write, E: Write>(
     };
     let config = settings(rt, words, server_id)?;
     let streams = [words.host];
-    let feed = feed_of(rt, words.report, words.db, &[])?;
-    let is_new = match &feed {
-        Some(feed) => feed.is_new,
-        None => false,
-    };
+    let feed = feed_of(rt, words.report, words.db, &[words.password_file])?;
     let source = Source {
         rt,
         streams: &streams,
@@ -71,14 +67,21 @@ pub fn follow_source<'a, W: Write, E: Write>(
         total: None,
     };
     let mut watch = Watch::new(source, reporting, feed, out, err);
-    let followed = follow_over(rt, words, port, only.as_ref(), config, &mut watch);
-    if followed.is_err() {
-        remove(rt, words.report.changes.unwrap_or(OUTPUT), is_new);
-    }
-    let Followed { connection, closed } = followed?;
+    let followed = match follow_over(rt, words, port, only.as_ref(), config, &mut watch) {
+        Ok(followed) => followed,
+        Err(failure) => {
+            watch.discard(words.report.changes.unwrap_or(OUTPUT));
+            return Err(failure);
+        }
+    };
+    let Followed { connection, closed } = followed;
     let (end, failure) = match connection {
         Ok(ended) => ended,
         Err(cause) => {
+            let stopped = stop_of(watch.stop(), words.report);
+            if let Err(failure) = stopped.and(closed) {
+                let _ = failure.write(err);
+            }
             return Err(Failure::Host {
                 name: words.host,
                 cause,

@@ -40,7 +40,7 @@ use crate::command::command;
 use crate::failure::{MEMORY, USAGE};
 use std::io::BufWriter;
 use std::process::ExitCode;
-use std::{env, io};
+use std::{env, fs, io};
 
 /// How much of the stack is used at the start, in frames of some 4 KiB: twice what a command has been seen to use.
 const FRAMES: u32 = 64;
@@ -64,12 +64,21 @@ fn use_stack(frames: u32, at: usize) -> u8 {
 
 /// Runs the command with buffered output. It fails only if an argument is not UTF-8 or memory runs out.
 fn run(rt: &HostRuntime) -> io::Result<u8> {
+    // They take the place of standard streams that are closed, so that no file or socket that is opened does, and nothing
+    // that is meant for these is written to it. A write to them fails.
+    let held = [
+        fs::open(rt, "/dev/null"),
+        fs::open(rt, "/dev/null"),
+        fs::open(rt, "/dev/null"),
+    ];
     let words: Vec<String> = env::args(rt)?.collect(rt.alloc())?;
     if use_stack(FRAMES, words.len()) > 1 {
         return Err(io::ErrorKind::OutOfMemory.into());
     }
     let mut out = BufWriter::new(rt.alloc(), rt.stdout())?;
-    Ok(command(rt, words.as_slice(), &mut out, &mut rt.stderr()))
+    let status = command(rt, words.as_slice(), &mut out, &mut rt.stderr());
+    drop(held);
+    Ok(status)
 }
 
 fn main(rt: HostRuntime) -> ExitCode {

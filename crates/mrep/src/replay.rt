@@ -3,7 +3,7 @@
 ghost use Rattle.std.specs.Prelude.{◌≡◌, ◌≤◌, Err, IfOk, IfErr};
 ghost use Rattle.mrep.specs.Reason.{first_status};
 
-use crate::change_feed::{Feed, OUTPUT, remove};
+use crate::change_feed::{Feed, OUTPUT};
 use crate::database::{closed, replay_into};
 use crate::failure::{DONE, Failure, MEMORY};
 use crate::name::read_table;
@@ -106,10 +106,6 @@ pub fn replay<'a, W: Write, E: Write>(
         return Err(Failure::Memory);
     };
     let feed = feed_of(rt, report, db, names)?;
-    let is_new = match &feed {
-        Some(feed) => feed.is_new,
-        None => false,
-    };
     let source = Source {
         rt,
         streams: names,
@@ -118,25 +114,30 @@ pub fn replay<'a, W: Write, E: Write>(
     };
     let reporting = Reporting {
         progress: report.progress,
-        total: if total == 0 { None } else { Some(total) },
+        total,
     };
     let mut watch = Watch::new(source, reporting, feed, out, err);
     let done = replay_into(rt, db, only.as_ref(), &config, captures, &mut watch);
-    let stopped = stop_of(watch.stop(), report);
     let done = match done {
         Ok(done) => done,
         Err(failure) => {
-            remove(rt, report.changes.unwrap_or(OUTPUT), is_new);
+            watch.discard(report.changes.unwrap_or(OUTPUT));
             return Err(failure);
         }
     };
+    let stopped = stop_of(watch.stop(), report);
     let Replayed {
         ends,
         read,
         closed: files,
     } = done;
     let read = match read {
-        Err(Halt::Reader(cause)) => Err(unread(names, ends.len(), cause)),
+        Err(Halt::Reader(cause)) => {
+            if let Err(failure) = stopped {
+                let _ = failure.write(err);
+            }
+            Err(unread(names, ends.len(), cause))
+        }
         Ok(()) | Err(Halt::Observer) => stopped,
     };
     status_of(&ends, read.and(closed(db, files)), err)
@@ -186,36 +187,46 @@ pub fn tables<'a>(alloc: Global, words: &[&'a str]) -> Result<Follow, Failure<'a
     }
 }
 
-/// Opens the streams, in order, reads the first byte of each, and adds up their sizes.
+/// Opens the streams, in order, reads the first byte of each, and adds up their sizes, if all are files.
 fn open_streams<'a>(
     rt: &HostRuntime,
     names: &[&'a str],
-) -> Result<(Vec<Capture<File>>, u64), Failure<'a>> {
+) -> Result<(Vec<Capture<File>>, Option<u64>), Failure<'a>> {
     let mut streams = Vec::with_capacity(rt.alloc(), names.len())?;
-    let mut total = 0u64;
+    let mut total = Some(0u64);
     for name in names {
-        let stream = open_stream(rt, name)?;
-        total = total.saturating_add(stream.size);
+        let (stream, is_file) = open_stream(rt, name)?;
+        total = match total {
+            Some(sum) if is_file => Some(sum.saturating_add(stream.size)),
+            _ => None,
+        };
         streams.push(stream)?;
     }
     Ok((streams, total))
 }
 
-fn open_stream<'a>(rt: &HostRuntime, name: &'a str) -> Result<Capture<File>, Failure<'a>> {
+/// Opens a stream and reads its first byte. Whether it is a file, whose size is known.
+fn open_stream<'a>(
+    rt: &HostRuntime,
+    name: &'a str,
+) -> Result<(Capture<File>, bool), Failure<'a>> {
     let mut reader = fs::open(rt, name).map_err(|cause| Failure::File { name, cause })?;
-    let size = match reader.metadata() {
-        Ok(metadata) => metadata.len(),
+    let metadata = match reader.metadata() {
+        Ok(metadata) => metadata,
         Err(cause) => return Err(Failure::File { name, cause }),
     };
+    let is_file = metadata.is_file();
+    let size = if is_file { metadata.len() } else { 0 };
     let mut byte = [0u8; 1];
     let first = match read_some(&mut reader, &mut byte) {
         Ok(0) => None,
         Ok(_) => Some(byte[0]),
         Err(cause) => return Err(Failure::File { name, cause }),
     };
-    Ok(Capture {
+    let capture = Capture {
         first,
         reader,
         size,
-    })
+    };
+    Ok((capture, is_file))
 }

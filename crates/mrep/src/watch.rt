@@ -29,6 +29,7 @@ pub struct Source<'a> {
     pub rt: &'a HostRuntime,
     /// The names of the streams.
     pub streams: &'a [&'a str],
+    /// The port of a source that is followed; 0 if streams are read.
     pub port: u16,
     pub db: &'a str,
 }
@@ -102,7 +103,7 @@ impl<'a, O: Write, E: Write> Watch<'a, O, E> {
         }
     }
 
-    /// Writes the line of an end: to standard error where the output has the change feed.
+    /// Writes the line of an end at once: to standard error where the output has the change feed.
     fn print(&mut self, number: usize, end: &Ended) -> io::Result<()>
         ensures { self.new.stop ≡ self.old.stop }
     {
@@ -113,7 +114,8 @@ impl<'a, O: Write, E: Write> Watch<'a, O, E> {
         if to_err {
             return write_end(number, end, self.err);
         }
-        write_end(number, end, self.out)
+        write_end(number, end, self.out)?;
+        self.out.flush()
     }
 
     /// Writes the cause of an end to standard error, and in which transaction it was.
@@ -121,7 +123,8 @@ impl<'a, O: Write, E: Write> Watch<'a, O, E> {
         ensures { self.new.stop ≡ self.old.stop }
     {
         let _ = write_cause(stream, self.source.db, reason, self.err);
-        let _ = self.details.write(stream, self.source.db, reason, self.err);
+        let is_live = self.source.port != 0;
+        let _ = self.details.write(stream, self.source.db, is_live, reason, self.err);
         self.details.clear();
     }
 
@@ -147,6 +150,14 @@ impl<'a, O: Write, E: Write> Watch<'a, O, E> {
             None => self.explain(stream, &end.reason),
         }
         printed
+    }
+
+    /// Gives the change feed to this file up: nothing was reported.
+    pub fn discard(self, name: &str) {
+        let Watch { source, feed, .. } = self;
+        if let Some(feed) = feed {
+            feed.discard(source.rt, name);
+        }
     }
 
     /// Why reading was stopped, if it was.
