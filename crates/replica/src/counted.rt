@@ -1,9 +1,9 @@
 //! Streams of two directions, and counts of what failed on them.
 
-ghost use Rattle.std.specs.Prelude.{ℕ, Option, ◌≡◌, ◌<◌, ◌+◌, ◌-◌, ◌^◌, length, is_err, if◌then◌else◌, Ok, None};
+ghost use Rattle.std.specs.Prelude.{ℕ, Option, ◌≡◌, ◌<◌, ◌+◌, ◌-◌, ◌^◌, length, is_err, if◌then◌else◌, Ok, Some, None};
 ghost use Rattle.std.specs.Io.{ReadsAtMost, WritesAtMost};
 ghost use Rattle.std.specs.Io.KnownBytes.{Keeps, ReadConsumes, WriteAppends};
-ghost use Rattle.replica.specs.Failing.{failed_to_write, HaveFailed};
+ghost use Rattle.replica.specs.Failing.{failed_to_write, cause_of, HaveFailed};
 
 use std::io;
 use std::io::{Read, Write};
@@ -93,6 +93,7 @@ impl<T: Duplex> Counted<T> {
         ensures empty { length buf.old ≡ 0 → (result ≡ Ok 0) × (self.new ≡ self.old) }
         ensures reads { self.new.failed_reads ≡ self.old.failed_reads + (if is_err result then 1 else 0) }
         ensures writes { self.new.failed_writes ≡ self.old.failed_writes }
+        ensures cause { self.new.failure ≡ (if is_err result then Some (cause_of result) else self.old.failure) }
         // The stream's own failed reads rise exactly as the count does.
         ensures reported { HaveFailed (T.failures self.old.stream) (T.failures self.new.stream) (if is_err result then 1 else 0) 0 }
     {
@@ -116,6 +117,7 @@ impl<T: Duplex> Counted<T> {
         ensures empty { length buf.now ≡ 0 → (result ≡ Ok 0) × (self.new ≡ self.old) }
         ensures writes { self.new.failed_writes ≡ self.old.failed_writes + (if failed_to_write result (length buf.now) then 1 else 0) }
         ensures reads { self.new.failed_reads ≡ self.old.failed_reads }
+        ensures cause { self.new.failure ≡ (if failed_to_write result (length buf.now) then Some (cause_of result) else self.old.failure) }
         // The stream's own failed writes rise exactly as the count does.
         ensures reported { HaveFailed (T.failures self.old.stream) (T.failures self.new.stream) 0 (if failed_to_write result (length buf.now) then 1 else 0) }
     {
