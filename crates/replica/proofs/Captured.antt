@@ -36,24 +36,24 @@ module _ {R : Type 0} (left : R → Option (List ℕ)) where
   one_more (c ∷ captures) (x ∷ bs) (e ∷ ends) capture b end all one = (all.0, one_more captures bs ends capture b end all.1 one)
 
 module _ {S : Type 0} (g : Ghosts S) {R : Type 0} (left : R → Option (List ℕ)) where
-  pub read_one : {E : Type 0} (limit other : ℕ) (before after : Store S g) (capture : Capture R) (first : List ℕ) (rest : Option (List ℕ)) (result : Result Ended E) → other ≡ limit → first ≡ option_to_list capture.first
-      → IfOk result (λ end. HasCleanDisk (database g after) → (was : Bool) (old : Content) → HoldsAs g was old before → HasReadOf g other before after was old first (left capture.reader) rest end)
+  pub read_one : {E : Type 0} (limit other most : ℕ) (before after : Store S g) (capture : Capture R) (first : List ℕ) (rest : Option (List ℕ)) (result : Result Ended E) → other ≡ limit → first ≡ option_to_list capture.first
+      → IfOk result (λ end. HasCleanDisk (database g after) → (was : Bool) (old : Content) → HoldsAs g was old before → HasReadOf g other most before after was old first (left capture.reader) rest end)
       → IfOk result (λ end. HasCleanDisk (database g after) → (was : Bool) (old : Content) → HoldsAs g was old before → end.reason ≡ EndOfInput → IsAtEnd rest)
       → IfOk result (λ end. HasCleanDisk (database g after) → (was : Bool) (old : Content) → HoldsAs g was old before → HasReadOne g left limit before after was old capture end)
-  read_one limit other before after capture first rest (Ok end) same is read all = λ clean was old holds.
+  read_one limit other most before after capture first rest (Ok end) same is read all = λ clean was old holds.
       let r = read clean was old holds in
       record {
         b = first ++ r.read;
         is_read = record { comes = record { rest = rest; read = r.read; consumes = r.consumes; bytes = ap (λ (l : List ℕ). l ++ r.read) is }; all = all clean was old holds };
         has_read = subst (λ n. HasRead g n before after was old (first ++ r.read) end) same r.has_read;
       }
-  read_one limit other before after capture first rest (Err e) same is read all = tt
+  read_one limit other most before after capture first rest (Err e) same is read all = tt
 
-  pub broken_off : {E : Type 0} (limit other : ℕ) (before after : Store S g) (capture : Capture R) (first : List ℕ) (rest : Option (List ℕ)) (result : Result Ended E) → other ≡ limit → first ≡ option_to_list capture.first
-      → IfErr result (λ e. HasCleanDisk (database g after) → (was : Bool) (old : Content) → HoldsAs g was old before → (end : Ended) × (end.reason ≡ EndOfInput) × HasReadOf g other before after was old first (left capture.reader) rest end)
+  pub broken_off : {E : Type 0} (limit other most : ℕ) (before after : Store S g) (capture : Capture R) (first : List ℕ) (rest : Option (List ℕ)) (result : Result Ended E) → other ≡ limit → first ≡ option_to_list capture.first
+      → IfErr result (λ e. HasCleanDisk (database g after) → (was : Bool) (old : Content) → HoldsAs g was old before → (end : Ended) × (end.reason ≡ EndOfInput) × HasReadOf g other most before after was old first (left capture.reader) rest end)
       → IfErr result (λ e. HasCleanDisk (database g after) → (was : Bool) (old : Content) → HoldsAs g was old before → HasBrokenOff g left limit before after was old capture)
-  broken_off limit other before after capture first rest (Ok end) same is failed = tt
-  broken_off limit other before after capture first rest (Err e) same is failed = λ clean was old holds.
+  broken_off limit other most before after capture first rest (Ok end) same is failed = tt
+  broken_off limit other most before after capture first rest (Err e) same is failed = λ clean was old holds.
       let (end, unended, r) = failed clean was old holds in
       record {
         b = first ++ r.read;

@@ -19,12 +19,12 @@ use Rattle.replica.specs.declared.end.Ended.{Ended}
 use Rattle.replica.specs.declared.session.Session.{Session}
 use Rattle.replica.specs.Settings.{Settings}
 use Rattle.replica.specs.Stream.{Due, Reading, due_after}
-use Rattle.replica.specs.Conn.{Why, Conn, BreaksStore, IsNoStreamFailure}
+use Rattle.replica.specs.Conn.{Why, Conn, EndsInLast, BreaksStore, IsNoStreamFailure, reported_as}
 use Rattle.replica.specs.Crash.{IsLeftOfOne}
 use Rattle.replica.specs.Sent.{SentFor}
 use Rattle.replica.specs.Standing.{Stands, GoesOn, HasEnded, end_of, room_of}
 use Rattle.replica.specs.Over.{StandsOver, HasRead, LeavesOnly}
-use Rattle.replica.specs.Follow.{IsInFull, IsOfStream, MaySendLess, Follows, IsFollowing, HandsOut, EndsInLast, piece_length, reported_as, sends_no_more_after, turns_left, while_going}
+use Rattle.replica.specs.Follow.{IsInFull, IsOfStream, MaySendLess, Follows, IsFollowing, HandsOut, piece_length, sends_no_more_after, turns_left, while_going}
 use Rattle.replica.proofs.Stood.{conn_of, sent_of}
 use Rattle.replica.proofs.Runs.{begins, read_all}
 
@@ -314,11 +314,11 @@ module _ {S : Type 0} (g : Ghosts S) where
           reads = reads';
           writes = subst (λ (l : List ℕ). Appends written0 written' (f.sent ++ l)) (sym (ap (λ (l : List ℕ). y ++ l) all ∙ append-nil y)) writes';
           stands = over-out session after store (database g before).now.schema was old f.read f.sent (y ++ z) hands f.stands;
-          last = subst (λ (c : Settings). EndsInLast c.limit before.following was old f.read) (sym hands.config) f.last;
+          last = subst (λ (c : Settings). EndsInLast c.limit piece_length before.following was old [] f.read) (sym hands.config) f.last;
         }
 
   -- a session that goes on has read bytes that do not end the connection
-  unended : (session : Session) (before store : Store S g) (schema : Schema) (was : Bool) (old : Content) (b o : List ℕ) → store.following ≡ before.following → session.ended ≡ None
+  pub unended : (session : Session) (before store : Store S g) (schema : Schema) (was : Bool) (old : Content) (b o : List ℕ) → store.following ≡ before.following → session.ended ≡ None
       → (s : StandsOver g session store schema was old b o) → Conn session.config.limit before.following was old b s.now (reported_as EndOfInput (end_of session))
   unended session before store schema was old b o names going s =
       let conn : Conn session.config.limit before.following was old b s.now (end_of session) =
@@ -362,7 +362,7 @@ module _ {S : Type 0} (g : Ghosts S) where
     reads = Consumes-trans left0 left left' f.read x f.reads consumes;
     writes = Appends-kept written0 written written' f.sent f.writes keeps;
     stands = stands;
-    last = subst (λ (c : Settings). EndsInLast c.limit before.following was old (f.read ++ x)) (sym config) (record {
+    last = subst (λ (c : Settings). EndsInLast c.limit piece_length before.following was old [] (f.read ++ x)) (sym config) (record {
       front = f.read;
       last = x;
       read_is = refl;

@@ -1,5 +1,5 @@
 -- A connection while it is being read.
-use Rattle.std.proofs.Common.{◌≡◌, ℕ, ◌+◌, Bool, List, [], ◌++◌, true, false, Option, None, Some, is_some, option_map, MatchOption, unwrap_or, refl, sym, ap, ◌∙◌, subst, append_assoc}
+use Rattle.std.proofs.Common.{◌≡◌, ◌≤◌, ◌⊎◌, ℕ, ◌+◌, Bool, List, [], ◌++◌, length, inr, true, false, Option, None, Some, is_some, option_map, MatchOption, unwrap_or, refl, sym, ap, ◌∙◌, subst, append_assoc}
 use Rattle.std.specs.Io.KnownBytes.{Consumes, Keeps}
 use Rattle.std.proofs.KnownBytes.{Consumes-trans, Consumes-kept}
 use Rattle.sqlite_trees.specs.declared.store.Store.{Ghosts}
@@ -15,8 +15,10 @@ use Rattle.replica.specs.declared.end.Ended.{Ended}
 use Rattle.replica.specs.declared.session.Session.{Session}
 use Rattle.replica.specs.Standing.{Stands, GoesOn, HasEnded, end_of, room_of}
 use Rattle.replica.specs.Over.{StandsOver}
-use Rattle.replica.proofs.Runs.{read_all}
+use Rattle.replica.specs.Conn.{Conn, EndsInLast, reported_as}
 use Rattle.replica.specs.Over.{HasReadOf}
+use Rattle.replica.proofs.Runs.{read_all}
+use Rattle.replica.proofs.Followed.{unended}
 
 -- how many more reads there may be
 abbrev turns : Option Ended → ℕ → ℕ
@@ -34,7 +36,7 @@ Keeps-from_none (Some x) (Some y) p = sym p
 
 module _ {S : Type 0} (g : Ghosts S) where
   -- these bytes were taken from the reader, and this is the position of the session and its store
-  pub record IsTaking (limit : ℕ) (first : List ℕ) (entry : Store S g) (session : Session) (store : Store S g) (left left' : Option (List ℕ)) : Type 0 where
+  pub record IsTaking (limit most : ℕ) (first : List ℕ) (entry : Store S g) (session : Session) (store : Store S g) (left left' : Option (List ℕ)) : Type 0 where
     pub read : List ℕ
     pub consumes : Consumes left left' read
     pub limit_is : session.config.limit ≡ limit
@@ -42,14 +44,15 @@ module _ {S : Type 0} (g : Ghosts S) where
     pub broken : entry.broken ≡ true → store ≡ entry
     pub clean : HasCleanDisk (state g store.conn) → HasCleanDisk (state g entry.conn)
     pub stands : HasCleanDisk (state g store.conn) → (was : Bool) (old : Content) → HoldsAs g was old entry → StandsOver g session store (state g entry.conn).now.schema was old (first ++ read) []
+    pub last : HasCleanDisk (state g store.conn) → (was : Bool) (old : Content) → HoldsAs g was old entry → (read ≡ []) ⊎ EndsInLast limit most entry.following was old first read
 
   -- more bytes were taken, and the session was fed with them
-  pub taking_more : (limit : ℕ) (first : List ℕ) (entry : Store S g) (session : Session) (store : Store S g) (left left' : Option (List ℕ)) (after : Session) (new : Store S g) (left'' : Option (List ℕ)) (piece : List ℕ)
-      → IsTaking limit first entry session store left left' → Consumes left' left'' piece → after.config ≡ session.config → new.following ≡ store.following → (store.broken ≡ true → new ≡ store)
+  pub taking_more : (limit most : ℕ) (first : List ℕ) (entry : Store S g) (session : Session) (store : Store S g) (left left' : Option (List ℕ)) (after : Session) (new : Store S g) (left'' : Option (List ℕ)) (piece : List ℕ)
+      → IsTaking limit most first entry session store left left' → session.ended ≡ None → length piece ≤ most → Consumes left' left'' piece → after.config ≡ session.config → new.following ≡ store.following → (store.broken ≡ true → new ≡ store)
       → (HasCleanDisk (state g new.conn) → HasCleanDisk (state g store.conn))
       → (HasCleanDisk (state g new.conn) → (schema : Schema) (was : Bool) (old : Content) (b o : List ℕ) → StandsOver g session store schema was old b o → StandsOver g after new schema was old (b ++ piece) o)
-      → IsTaking limit first entry after new left left''
-  taking_more limit first entry session store left left' after new left'' piece t consumes config following broken clean leads = record {
+      → IsTaking limit most first entry after new left left''
+  taking_more limit most first entry session store left left' after new left'' piece t going within consumes config following broken clean leads = record {
     read = t.read ++ piece;
     consumes = Consumes-trans left left' left'' t.read piece t.consumes consumes;
     limit_is = ap (λ s. s.limit) config ∙ t.limit_is;
@@ -58,16 +61,29 @@ module _ {S : Type 0} (g : Ghosts S) where
     clean = λ h. t.clean (clean h);
     stands = λ h was old holds. subst (λ (l : List ℕ). StandsOver g after new (state g entry.conn).now.schema was old l []) (append_assoc first t.read piece)
         (leads h (state g entry.conn).now.schema was old (first ++ t.read) [] (t.stands (clean h) was old holds));
+    last = λ h was old holds.
+        let s = t.stands (clean h) was old holds in
+        inr (record {
+          front = t.read;
+          last = piece;
+          read_is = refl;
+          piece = within;
+          now = s.now;
+          end = end_of session;
+          unended = subst (λ (n : ℕ). Conn n entry.following was old (first ++ t.read) s.now (reported_as EndOfInput (end_of session))) t.limit_is
+              (unended g session entry store (state g entry.conn).now.schema was old (first ++ t.read) [] t.following going s);
+        });
   }
 
   -- what has been read so far
-  pub taken : (limit : ℕ) (first : List ℕ) (entry : Store S g) (session : Session) (store : Store S g) (left left' left'' : Option (List ℕ)) (was : Bool) (old : Content) (end : Ended)
-      → IsTaking limit first entry session store left left' → Keeps left' left'' → end ≡ end_of session → HasCleanDisk (state g store.conn) → HoldsAs g was old entry
-      → HasReadOf g limit entry store was old first left left'' end
-  taken limit first entry session store left left' left'' was old end t keeps end_is clean holds = record {
+  pub taken : (limit most : ℕ) (first : List ℕ) (entry : Store S g) (session : Session) (store : Store S g) (left left' left'' : Option (List ℕ)) (was : Bool) (old : Content) (end : Ended)
+      → IsTaking limit most first entry session store left left' → Keeps left' left'' → end ≡ end_of session → HasCleanDisk (state g store.conn) → HoldsAs g was old entry
+      → HasReadOf g limit most entry store was old first left left'' end
+  taken limit most first entry session store left left' left'' was old end t keeps end_is clean holds = record {
     read = t.read;
     consumes = Consumes-kept left left' left'' t.read t.consumes keeps;
     has_read = read_all g session entry store limit was old (first ++ t.read) [] end t.limit_is t.following end_is (t.stands clean was old holds);
+    last = t.last clean was old holds;
   }
 
 -- a session that has ended was not ended by the end of the input

@@ -1,5 +1,5 @@
 -- What a connection does to what a replica holds, and how it ends; what a list of connections does.
-use Rattle.std.specs.Prelude.{◌≡◌, ℕ, ◌+◌, ◌<◌, ◌⊎◌, Bool, true, false, List, [], ◌∷◌, ◌++◌, length}
+use Rattle.std.specs.Prelude.{◌≡◌, ℕ, ◌+◌, ◌<◌, ◌≤◌, ◌⊎◌, Bool, true, false, List, [], ◌∷◌, ◌++◌, length}
 use Rattle.wire.specs.Packet.{largest_payload}
 use Rattle.wire.specs.declared.fault.WireFault.TheVariants as wire
 use Rattle.greet.specs.Message.{IsOkPacket}
@@ -128,6 +128,21 @@ pub record Conn (limit : ℕ) (names : Names) (was_broken : Bool) (old : Content
   pub has_applied : HasApplied names old reading.deliveries (due_after reading.payloads) end.applied new
   pub why : Why limit names (due_after reading.payloads) reading.events reading.deliveries (length reading.front) reading.id reading.rest was_broken old new end.at end.reason
   pub kept : was_broken ≡ true → new ≡ old
+
+-- the end with another reason
+abbrev pub reported_as : Reason → Ended → Ended
+reported_as reason end = record { reason = reason; at = end.at; applied = end.applied }
+
+-- After the first bytes of a connection these were read, and it had not ended before the last piece of them, which has at
+-- most so many bytes.
+pub record EndsInLast (limit most : ℕ) (names : Names) (was_broken : Bool) (old : Content) (first read : List ℕ) : Type 0 where
+  pub front : List ℕ
+  pub last : List ℕ
+  pub read_is : read ≡ front ++ last
+  pub piece : length last ≤ most
+  pub now : Content
+  pub end : Ended
+  pub unended : Conn limit names was_broken old (first ++ front) now (reported_as EndOfInput end)
 
 -- Applying the first `count` transactions of the bytes refuses none, and leads from old to new.
 pub record AppliesFirst (limit : ℕ) (names : Names) (old : Content) (b : List ℕ) (count applied : ℕ) (new : Content) : Type 0 where

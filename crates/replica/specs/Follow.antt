@@ -1,5 +1,5 @@
 -- The outcome of following a stream.
-use Rattle.std.specs.Prelude.{◌≡◌, ◌≤◌, ℕ, ◌+◌, ◌⊎◌, Bool, true, false, List, [], ◌++◌, length, Option, Some, None}
+use Rattle.std.specs.Prelude.{◌≡◌, ℕ, ◌+◌, ◌⊎◌, Bool, true, false, List, [], ◌++◌, Option, Some, None}
 use Rattle.std.specs.Io.KnownBytes.{Appends, Consumes, IsAtEnd}
 use Rattle.sqlite_trees.specs.declared.store.Store.{Ghosts}
 use Rattle.binlog.specs.Filter.{Names}
@@ -13,7 +13,7 @@ use Rattle.replica.specs.declared.session.Session.{Session}
 use Rattle.replica.specs.declared.following.Turn.{Turn}
 use Rattle.replica.specs.declared.following.Turn.TheVariants as turn
 use Rattle.replica.specs.Settings.{Settings}
-use Rattle.replica.specs.Conn.{Conn, IsOfBytes}
+use Rattle.replica.specs.Conn.{Conn, IsOfBytes, EndsInLast, reported_as}
 use Rattle.replica.specs.Sent.{SentFor}
 use Rattle.replica.specs.Standing.{Stands, end_of, room_of}
 use Rattle.replica.specs.Over.{StandsOver, HasRead}
@@ -44,10 +44,6 @@ IsOfStream ReadFailed = Unit {0}
 IsOfStream WriteFailed = Unit {0}
 IsOfStream _ = ⊥
 
--- the end with another reason
-abbrev pub reported_as : Reason → Ended → Ended
-reported_as reason end = record { reason = reason; at = end.at; applied = end.applied }
-
 -- The content, the offset and the count are exactly those of the bytes.
 abbrev pub EndsInFull : ℕ → Names → Bool → Content → List ℕ → Content → Ended → Type 0
 EndsInFull limit names was old b new end = (reason : Reason) × IsInFull reason × Conn limit names was old b new (reported_as reason end)
@@ -55,16 +51,6 @@ EndsInFull limit names was old b new end = (reason : Reason) × IsInFull reason 
 -- how many bytes a read asks for, at most: 64 KiB
 abbrev pub piece_length : ℕ
 piece_length = 65536
-
--- The connection had not ended before the last piece was read.
-pub record EndsInLast (limit : ℕ) (names : Names) (was : Bool) (old : Content) (read : List ℕ) : Type 0 where
-  pub front : List ℕ
-  pub last : List ℕ
-  pub read_is : read ≡ front ++ last
-  pub piece : length last ≤ piece_length
-  pub now : Content
-  pub end : Ended
-  pub unended : Conn limit names was old front now (reported_as EndOfInput end)
 
 module _ {S : Type 0} (g : Ghosts S) where
   -- A store that held this content, and had failed or not, has followed a stream to this end. The stream had these
@@ -77,7 +63,7 @@ module _ {S : Type 0} (g : Ghosts S) where
     pub reads : Consumes left left' read
     pub writes : Appends written written' sent
     pub has_read : HasRead g settings.limit before after was old read end
-    pub last : EndsInLast settings.limit (names_of g before) was old read
+    pub last : EndsInLast settings.limit piece_length (names_of g before) was old [] read
     pub in_full : IsOfStream end.reason → EndsInFull settings.limit (names_of g before) was old read has_read.new end
     -- a read fails only if the bytes read do not end the connection
     pub unended : end.reason ≡ ReadFailed → Conn settings.limit (names_of g before) was old read has_read.new (reported_as EndOfInput end)
@@ -93,7 +79,7 @@ module _ {S : Type 0} (g : Ghosts S) where
     pub reads : Consumes left left' read
     pub writes : Appends written written' sent
     pub stands : StandsOver g session store (database g before).now.schema was old read sent
-    pub last : EndsInLast session.config.limit (names_of g before) was old read
+    pub last : EndsInLast session.config.limit piece_length (names_of g before) was old [] read
 
 -- none after the end
 abbrev pub while_going : Option Ended → ℕ → ℕ

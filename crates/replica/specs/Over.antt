@@ -1,5 +1,5 @@
 -- A session with its store, and a list of connections with a store.
-use Rattle.std.specs.Prelude.{◌≡◌, ℕ, Bool, false, List, ◌++◌, Option}
+use Rattle.std.specs.Prelude.{◌≡◌, ℕ, ◌⊎◌, Bool, false, List, [], ◌++◌, Option}
 use Rattle.std.specs.Io.KnownBytes.{Consumes}
 use Rattle.sqlite_trees.specs.declared.store.Store.{Ghosts}
 use Rattle.sqlite_trees.specs.Tree.{Trees}
@@ -9,7 +9,7 @@ use Rattle.store.specs.declared.store.Store.{Store}
 use Rattle.store.specs.Store.{HoldsAs, AreOf, database, names_of}
 use Rattle.replica.specs.declared.end.Ended.{Ended}
 use Rattle.replica.specs.declared.session.Session.{Session}
-use Rattle.replica.specs.Conn.{Conn, BreaksStore, History}
+use Rattle.replica.specs.Conn.{Conn, EndsInLast, BreaksStore, History}
 use Rattle.replica.specs.Standing.{Stands, Meets, end_of}
 use Rattle.replica.specs.Crash.{IsLeftOfOne, IsLeftOfAll}
 
@@ -49,11 +49,13 @@ module _ {S : Type 0} (g : Ghosts S) where
     pub leaves : was ≡ false → LeavesOnly (database g before).now.schema after (IsLeftOfOne limit (names_of g before) old b new end)
 
   -- A store that held this content, and had failed or not, has read a connection with this end: these first bytes, and
-  -- those that were taken from a reader.
-  pub record HasReadOf (limit : ℕ) (before after : Store S g) (was : Bool) (old : Content) (first : List ℕ) (left left' : Option (List ℕ)) (end : Ended) : Type 0 where
+  -- those that were taken from a reader, a piece of at most so many bytes at a time.
+  pub record HasReadOf (limit most : ℕ) (before after : Store S g) (was : Bool) (old : Content) (first : List ℕ) (left left' : Option (List ℕ)) (end : Ended) : Type 0 where
     pub read : List ℕ
     pub consumes : Consumes left left' read
     pub has_read : HasRead limit before after was old (first ++ read) end
+    -- none were taken after the piece in which the connection ended
+    pub last : (read ≡ []) ⊎ EndsInLast limit most (names_of g before) was old first read
 
   -- A store that held this content under this schema, and had failed or not, has read these connections with these
   -- ends.

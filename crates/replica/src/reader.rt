@@ -48,15 +48,16 @@ pub fn read_stream<R: Read, S: Alter, W: Observer>(
 ) -> io::Result<Ended>
     requires { 0 < length piece.old }
     ensures piece { length piece.new ≡ length piece.old }
-    // The end and the content of the store are those of exactly the bytes that were read.
+    // The end and the content of the store are those of exactly the bytes that were read, and none were read after the
+    // piece in which the connection ended.
     ensures read { IfOk result (λ end. HasCleanDisk (database S.Store store.new) → (was : Bool) (old : Content) → HoldsAs S.Store was old store.old
-        → HasReadOf S.Store config.limit store.old store.new was old first.now (R.remaining reader.old) (R.remaining reader.new) end) }
+        → HasReadOf S.Store config.limit (length piece.old) store.old store.new was old first.now (R.remaining reader.old) (R.remaining reader.new) end) }
     // If the input has ended, nothing is left unread.
     ensures all { IfOk result (λ end. HasCleanDisk (database S.Store store.new) → (was : Bool) (old : Content) → HoldsAs S.Store was old store.old
         → end.reason ≡ EndOfInput → IsAtEnd (R.remaining reader.new)) }
     // The bytes that were read before the error did not end the connection.
     ensures failed { IfErr result (λ _. HasCleanDisk (database S.Store store.new) → (was : Bool) (old : Content) → HoldsAs S.Store was old store.old
-        → (end : End) × (end.reason ≡ EndOfInput) × HasReadOf S.Store config.limit store.old store.new was old first.now (R.remaining reader.old) (R.remaining reader.new) end) }
+        → (end : End) × (end.reason ≡ EndOfInput) × HasReadOf S.Store config.limit (length piece.old) store.old store.new was old first.now (R.remaining reader.old) (R.remaining reader.new) end) }
     // The connection is halted only if the observer has stopped.
     ensures neither { IfOk result (λ end. MayEnd end.reason (W.has_stopped observer.new)) }
     ensures stays { W.has_stopped observer.old ≡ true → W.has_stopped observer.new ≡ true }

@@ -1,15 +1,15 @@
-use Rattle.std.proofs.Common.{ap}
+use Rattle.std.proofs.Common.{ap, length}
 use Rattle.replica.proofs.Captured.{read_one, broken_off, unread_one, first_of}
 use Rattle.replica.proofs.captures.read_capture.Goals as goal
 
 pub returns-in-Ok-clause-read : goal.returns-in-Ok-clause-read
 returns-in-Ok-clause-read g c =
-    read_one g.S.Store g.R.Read.remaining c.args.config.now.limit c.in-Ok.config.limit c.args.store.now c.read_stream.new.store c.args.capture c.as_slice-first.result.now (g.R.Read.remaining c.read_stream.new.reader) c.read_stream.result
+    read_one g.S.Store g.R.Read.remaining c.args.config.now.limit c.in-Ok.config.limit (length c.args.piece.now) c.args.store.now c.read_stream.new.store c.args.capture c.as_slice-first.result.now (g.R.Read.remaining c.read_stream.new.reader) c.read_stream.result
     (ap (λ s. s.limit) c.in-Ok.ensures) (first_of c.args.capture.first c.as_slice-first.result.now c.as_slice-first.ensures) c.read_stream.ensures.read c.read_stream.ensures.all
 
 pub returns-in-Ok-clause-failed : goal.returns-in-Ok-clause-failed
 returns-in-Ok-clause-failed g c =
-    broken_off g.S.Store g.R.Read.remaining c.args.config.now.limit c.in-Ok.config.limit c.args.store.now c.read_stream.new.store c.args.capture c.as_slice-first.result.now (g.R.Read.remaining c.read_stream.new.reader) c.read_stream.result
+    broken_off g.S.Store g.R.Read.remaining c.args.config.now.limit c.in-Ok.config.limit (length c.args.piece.now) c.args.store.now c.read_stream.new.store c.args.capture c.as_slice-first.result.now (g.R.Read.remaining c.read_stream.new.reader) c.read_stream.result
     (ap (λ s. s.limit) c.in-Ok.ensures) (first_of c.args.capture.first c.as_slice-first.result.now c.as_slice-first.ensures) c.read_stream.ensures.failed
 
 pub returns-clause-read : goal.returns-clause-read

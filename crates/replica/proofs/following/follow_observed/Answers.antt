@@ -1,5 +1,5 @@
 use Rattle.std.proofs.Common.{Bool, if◌then◌else◌, length, arith, ◌≡◌, ◌≢◌, ◌++◌, true, Option, None, is_some, unwrap_or, sym, ap, ◌∙◌, subst, refl, rules}
-use Rattle.replica.specs.Follow.{reported_as}
+use Rattle.replica.specs.Conn.{reported_as}
 use Rattle.std.proofs.KnownBytes.{Appends-kept, Keeps-trans}
 use Rattle.replica.specs.declared.end.Ended.{Ended}
 use Rattle.replica.specs.declared.end.Reason.{Reason}

@@ -1,4 +1,4 @@
-use Rattle.std.proofs.Common.{rules, ◌≡◌, ◌++◌, ◌∙◌, ℕ, List, [], take, refl, sym, ap, subst, append-nil}
+use Rattle.std.proofs.Common.{rules, length, inl, ◌≡◌, ◌++◌, ◌∙◌, ℕ, List, [], take, refl, sym, ap, subst, append-nil}
 use Rattle.std.proofs.KnownBytes.{Consumes-nil, Keeps-refl}
 use Rattle.std.specs.Io.KnownBytes.{Consumes}
 use Rattle.sqlite.specs.Held.{state}
@@ -9,6 +9,7 @@ use Rattle.replica.specs.Standing.{end_of}
 use Rattle.replica.specs.Over.{StandsOver}
 use Rattle.replica.specs.Conn.{MayEnd}
 use Rattle.replica.proofs.Observed.{may_later, still}
+use Rattle.replica.proofs.Advance.{none_after}
 use Rattle.replica.proofs.Runs.{begins}
 use Rattle.replica.proofs.FromReader.{taking_more, taken, no_end, is_ended, not_ended, going_on, Keeps-from_none}
 use Rattle.replica.proofs.reader.read_stream.Goals as goal
@@ -29,6 +30,7 @@ loop-reader-init g c = record {
     stands = λ h was old holds. subst (λ (l : List ℕ). StandsOver g.S.Store c.feed_observed.new.self c.feed_observed.new.store (state g.S.Store c.args.store.now.conn).now.schema was old l []) (sym (append-nil c.args.first.now))
         (c.feed_observed.ensures.stands h (state g.S.Store c.args.store.now.conn).now.schema was old [] []
         (begins g.S.Store (λ h db is_open may. g.met.S.Store.settled h.store db is_open may) c.new-session.result c.args.store.now was old holds (c.new-session.ensures.stands c.args.store.now.following was old)));
+    last = λ h was old holds. inl refl;
   };
 }
 
@@ -41,15 +43,16 @@ loop-reader-preserved g c = record {
   heeds = λ is now holds on.
       let inv = c.loop-reader.invariant in
       still (HoldsAs g.S.Store is now) c.args.store.now c.loop-reader.store c.feed_observed-in-Ok.new.store (inv.heeds is now holds on) holds (λ h. c.feed_observed-in-Ok.ensures.heeds is now h (c.received-in-Ok.ensures (inv.stays on)));
-  taking = taking_more g.S.Store c.args.config.limit c.args.first.now c.args.store.now c.loop-reader.session c.loop-reader.store (g.R.Read.remaining c.args.reader.now) (g.R.Read.remaining c.loop-reader.reader)
-      c.feed_observed-in-Ok.new.self c.feed_observed-in-Ok.new.store (g.R.Read.remaining c.read_some.new.reader) (take c.in-Ok.count c.read_some.new.piece) c.loop-reader.invariant.taking c.in-Ok.ensures.bytes.0
+  taking = taking_more g.S.Store c.args.config.limit (length c.args.piece.now) c.args.first.now c.args.store.now c.loop-reader.session c.loop-reader.store (g.R.Read.remaining c.args.reader.now) (g.R.Read.remaining c.loop-reader.reader)
+      c.feed_observed-in-Ok.new.self c.feed_observed-in-Ok.new.store (g.R.Read.remaining c.read_some.new.reader) (take c.in-Ok.count c.read_some.new.piece) c.loop-reader.invariant.taking
+      (none_after c.loop-reader.session.ended (not_ended (λ e. e.now) c.ended.result c.loop-reader.session.ended c.ended.ensures c.loop-reader-test.ensures)) (search rules) c.in-Ok.ensures.bytes.0
       c.feed_observed-in-Ok.ensures.config c.feed_observed-in-Ok.ensures.following c.feed_observed-in-Ok.ensures.broken c.feed_observed-in-Ok.ensures.clean c.feed_observed-in-Ok.ensures.stands;
 }
 
 pub returns-in-Ok-eq0-clause-read : goal.returns-in-Ok-eq0-clause-read
 returns-in-Ok-eq0-clause-read g c clean was old holds =
     let zero : c.in-Ok-eq0.field-0 ≡ 0 = search rules in
-    taken g.S.Store c.args.config.limit c.args.first.now c.args.store.now c.loop-reader.session c.loop-reader.store (g.R.Read.remaining c.args.reader.now) (g.R.Read.remaining c.loop-reader.reader)
+    taken g.S.Store c.args.config.limit (length c.args.piece.now) c.args.first.now c.args.store.now c.loop-reader.session c.loop-reader.store (g.R.Read.remaining c.args.reader.now) (g.R.Read.remaining c.loop-reader.reader)
     (g.R.Read.remaining c.read_some.new.reader) was old c.finish.result c.loop-reader.invariant.taking
     (Keeps-from_none (g.R.Read.remaining c.loop-reader.reader) (g.R.Read.remaining c.read_some.new.reader) (subst (λ (n : ℕ). Consumes (g.R.Read.remaining c.loop-reader.reader) (g.R.Read.remaining c.read_some.new.reader) (take n c.read_some.new.piece)) zero c.in-Ok-eq0.ensures.bytes.0)) c.finish.ensures.end clean holds
 
@@ -57,13 +60,13 @@ pub returns-in-Err-clause-failed : goal.returns-in-Err-clause-failed
 returns-in-Err-clause-failed g c clean was old holds = (
   end_of c.loop-reader.session,
   going_on c.loop-reader.session (not_ended (λ e. e.now) c.ended.result c.loop-reader.session.ended c.ended.ensures c.loop-reader-test.ensures),
-  taken g.S.Store c.args.config.limit c.args.first.now c.args.store.now c.loop-reader.session c.loop-reader.store (g.R.Read.remaining c.args.reader.now) (g.R.Read.remaining c.loop-reader.reader)
+  taken g.S.Store c.args.config.limit (length c.args.piece.now) c.args.first.now c.args.store.now c.loop-reader.session c.loop-reader.store (g.R.Read.remaining c.args.reader.now) (g.R.Read.remaining c.loop-reader.reader)
       (g.R.Read.remaining c.read_some.new.reader) was old (end_of c.loop-reader.session) c.loop-reader.invariant.taking c.in-Err.ensures.bytes refl clean holds,
 )
 
 pub returns-clause-read : goal.returns-clause-read
 returns-clause-read g c clean was old holds =
-    taken g.S.Store c.args.config.limit c.args.first.now c.args.store.now c.loop-reader.session c.loop-reader.store (g.R.Read.remaining c.args.reader.now) (g.R.Read.remaining c.loop-reader.reader)
+    taken g.S.Store c.args.config.limit (length c.args.piece.now) c.args.first.now c.args.store.now c.loop-reader.session c.loop-reader.store (g.R.Read.remaining c.args.reader.now) (g.R.Read.remaining c.loop-reader.reader)
     (g.R.Read.remaining c.loop-reader.reader) was old c.finish-2.result c.loop-reader.invariant.taking (Keeps-refl (g.R.Read.remaining c.loop-reader.reader)) c.finish-2.ensures.end clean holds
 
 pub returns-clause-all : goal.returns-clause-all

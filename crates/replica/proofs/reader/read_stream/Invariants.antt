@@ -12,7 +12,7 @@ invariant-loop-reader g l = record {
   may : MayEnd (end_of l.session).reason (g.W.Observer.has_stopped l.observer);
   stays : g.W.Observer.has_stopped l.fn.observer ≡ true → g.W.Observer.has_stopped l.observer ≡ true;
   heeds : (is : Bool) (now : Content) → HoldsAs g.S.Store is now l.fn.store → g.W.Observer.has_stopped l.fn.observer ≡ true → l.store ≡ l.fn.store;
-  taking : IsTaking g.S.Store l.fn.config.limit l.fn.first l.fn.store l.session l.store (g.R.Read.remaining l.fn.reader) (g.R.Read.remaining l.reader);
+  taking : IsTaking g.S.Store l.fn.config.limit (length l.fn.piece) l.fn.first l.fn.store l.session l.store (g.R.Read.remaining l.fn.reader) (g.R.Read.remaining l.reader);
 }
 
 abbrev pub decreases-loop-reader : goal.decreases-loop-reader
