@@ -206,10 +206,7 @@ fn open_streams<'a>(
 }
 
 /// Opens a stream and reads its first byte. Whether it is a file, whose size is known.
-fn open_stream<'a>(
-    rt: &HostRuntime,
-    name: &'a str,
-) -> Result<(Capture<File>, bool), Failure<'a>> {
+fn open_stream<'a>(rt: &HostRuntime, name: &'a str) -> Result<(Capture<File>, bool), Failure<'a>> {
     let mut reader = fs::open(rt, name).map_err(|cause| Failure::File { name, cause })?;
     let metadata = match reader.metadata() {
         Ok(metadata) => metadata,

@@ -124,7 +124,9 @@ impl<'a, O: Write, E: Write> Watch<'a, O, E> {
     {
         let _ = write_cause(stream, self.source.db, reason, self.err);
         let is_live = self.source.port != 0;
-        let _ = self.details.write(stream, self.source.db, is_live, reason, self.err);
+        let _ = self
+            .details
+            .write(stream, self.source.db, is_live, reason, self.err);
         self.details.clear();
     }
 
