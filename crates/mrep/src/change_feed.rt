@@ -5,29 +5,23 @@
 //! of the last transaction of an earlier run whether it was committed.
 
 use crate::failure::Failure;
+use crate::feed_file::FeedFile;
 use crate::json_lines::{write_image, write_label};
 use crate::output_format::Encoding;
-use crate::set_text::text_of;
 use gather::{Change, Delivery, ImageRef};
-use gtid::{Gtid, GtidSet};
+use gtid::Gtid;
 use std::alloc::{AllocError, Global};
-use std::fs::{File, OpenOptions};
-use std::io::{BufWriter, ErrorKind, Read, Seek, SeekFrom, Write};
-use std::{fs, io};
+use std::io;
+use std::io::{BufWriter, Write};
 
 /// The word for the output of the command.
 pub const OUTPUT: &str = "-";
 
-const IN_USE: &str = "it is the database, its WAL file or another file that is read";
-
-/// How often a file is made again that another process removes.
-const TRIES: u32 = 100;
-
 /// What is written at once.
 #[derive(Clone, Copy)]
 pub enum FeedEntry<'a> {
-    /// The executed set at the start.
-    Opened(&'a GtidSet),
+    /// The executed set at the start, as a text.
+    Opened(&'a str),
     /// The changes of a transaction that is to be committed.
     Changes(&'a Delivery),
     /// The transaction has been committed.
@@ -40,15 +34,9 @@ pub enum FeedEntry<'a> {
 #[derive(Drop)]
 pub struct Feed {
     /// The file, or `None` for the output of the command.
-    file: Option<BufWriter<File>>,
+    file: Option<FeedFile>,
     encoding: Encoding,
     alloc: Global,
-    /// Whether the file was made for the feed.
-    is_new: bool,
-    /// Whether the file ends inside a line.
-    is_cut: bool,
-    /// Whether it is on a disk, and not a pipe or a device.
-    is_regular: bool,
 }
 
 impl Feed {
@@ -58,14 +46,11 @@ impl Feed {
             file: None,
             encoding,
             alloc,
-            is_new: false,
-            is_cut: false,
-            is_regular: false,
         }
     }
 
     /// A feed to the end of a file, which is made if it does not exist, or to a pipe or a device. A file must be none of
-    /// those that the command uses: the database, its WAL file and the others.
+    /// those that the command uses, the database, what lies beside it and the others, and no other process's feed.
     pub fn to_file<'a>(
         rt: &HostRuntime,
         name: &'a str,
@@ -73,58 +58,19 @@ impl Feed {
         others: &[&str],
         encoding: Encoding,
     ) -> Result<Feed, Failure<'a>> {
-        let mut feed = match open(rt, name, encoding) {
-            Ok(feed) => feed,
-            Err(cause) => return Err(Failure::File { name, cause }),
-        };
-        match feed.find_end(rt, name, db, others) {
-            Ok(true) => Ok(feed),
-            Ok(false) => {
-                feed.discard(rt, name);
-                Err(Failure::Unusable { name, why: IN_USE })
-            }
-            Err(cause) => {
-                feed.discard(rt, name);
-                Err(Failure::File { name, cause })
-            }
-        }
+        let file = FeedFile::open(rt, name, db, others)?;
+        Ok(Feed {
+            file: Some(file),
+            encoding,
+            alloc: rt.alloc(),
+        })
     }
 
-    /// Finds out whether a file ends inside a line. `false` if it is one that the command uses.
-    fn find_end(
-        &mut self,
-        rt: &HostRuntime,
-        name: &str,
-        db: &str,
-        others: &[&str],
-    ) -> io::Result<bool> {
-        if !self.is_regular {
-            return Ok(true);
-        }
-        if is_in_use(rt, name, db, others)? {
-            return Ok(false);
-        }
-        let Some(file) = &mut self.file else {
-            return Ok(true);
-        };
-        self.is_cut = ends_inside(file.get_mut())?;
-        Ok(true)
-    }
-
-    /// Gives the feed up, and removes its file if that was made for it, is still empty, and is no other process's feed.
+    /// Gives the feed up, and removes its file if that was made for it and is still empty.
     pub fn discard(self, rt: &HostRuntime, name: &str) {
-        if !self.is_new {
-            return;
-        }
-        let Some(file) = &self.file else {
-            return;
-        };
-        let is_empty = match file.get_ref().metadata() {
-            Ok(metadata) => metadata.len() == 0,
-            Err(_) => false,
-        };
-        if is_empty && file.get_ref().try_lock().is_ok() {
-            let _ = fs::remove_file(rt, name);
+        let Feed { file, .. } = self;
+        if let Some(file) = file {
+            file.discard(rt, name);
         }
     }
 
@@ -133,109 +79,53 @@ impl Feed {
         self.file.is_none()
     }
 
-    /// Writes an entry. When the changes of a transaction are written, a file has them on its disk.
+    /// Writes an entry: to a file, all of it or nothing. When the changes of a transaction are written, a file has them on
+    /// its disk. An executed set that the last line of a file has already is not written again.
     pub fn write<O: Write>(&mut self, entry: FeedEntry<'_>, out: &mut O) -> io::Result<()> {
         let Some(file) = &mut self.file else {
             write_entry(self.alloc, self.encoding, entry, out)?;
             return out.flush();
         };
-        if self.is_cut {
-            file.write_all(b"\n")?;
-            self.is_cut = false;
-        }
-        write_entry(self.alloc, self.encoding, entry, file)?;
-        file.flush()?;
-        match entry {
-            FeedEntry::Changes(delivery) if self.is_regular && !delivery.changes.is_empty() => {
-                file.get_ref().sync_data()
+        if let FeedEntry::Opened(executed) = entry {
+            let line = open_line(self.alloc, executed)?;
+            if file.ends_with(line.as_bytes())? {
+                return Ok(());
             }
-            _ => Ok(()),
         }
+        let begin = file.begin()?;
+        let written = write_to_file(self.alloc, self.encoding, entry, file);
+        if written.is_err() {
+            file.cut(begin);
+        }
+        written
     }
 }
 
-/// Opens the file of a feed. A process that has a file locked for itself removes it: then it is made again.
-fn open(rt: &HostRuntime, name: &str, encoding: Encoding) -> io::Result<Feed> {
-    let is_regular = match fs::metadata(rt, name) {
-        Ok(metadata) => metadata.is_file(),
-        Err(cause) if cause.kind() == ErrorKind::NotFound => true,
-        Err(cause) => return Err(cause),
-    };
-    let (mut file, mut is_new) = open_once(rt, name, is_regular)?;
-    for _ in 0..TRIES {
-        if !is_regular || (file.try_lock_shared().is_ok() && fs::exists(rt, name)?) {
-            break;
-        }
-        (file, is_new) = open_once(rt, name, is_regular)?;
-    }
-    Ok(Feed {
-        file: Some(BufWriter::new(rt.alloc(), file)?),
-        encoding,
-        alloc: rt.alloc(),
-        is_new,
-        is_cut: false,
-        is_regular,
-    })
-}
-
-/// Opens a file for a feed, and says whether it was made.
-fn open_once(rt: &HostRuntime, name: &str, is_regular: bool) -> io::Result<(File, bool)> {
-    if !is_regular {
-        return Ok((OpenOptions::new().write(true).open(rt, name)?, false));
-    }
-    let made = OpenOptions::new()
-        .read(true)
-        .append(true)
-        .create_new(true)
-        .open(rt, name);
-    match made {
-        Ok(file) => Ok((file, true)),
-        Err(cause) if cause.kind() == ErrorKind::AlreadyExists => {
-            let file = OpenOptions::new()
-                .read(true)
-                .append(true)
-                .create(true)
-                .open(rt, name)?;
-            Ok((file, false))
-        }
+/// Writes an entry to a file; the changes of a transaction are synced.
+fn write_to_file(
+    alloc: Global,
+    encoding: Encoding,
+    entry: FeedEntry<'_>,
+    file: &FeedFile,
+) -> io::Result<()> {
+    let mut writer = BufWriter::new(alloc, file.append())?;
+    let written = write_entry(alloc, encoding, entry, &mut writer);
+    let flushed = match written {
+        Ok(()) => writer.flush(),
         Err(cause) => Err(cause),
-    }
-}
-
-/// Whether a file is one of those that the command uses.
-fn is_in_use(rt: &HostRuntime, name: &str, db: &str, others: &[&str]) -> io::Result<bool> {
-    let path = fs::canonicalize(rt, name)?;
-    for other in others {
-        if is_path(rt, other, path.as_str()) {
-            return Ok(true);
-        }
-    }
-    // The WAL file stands beside the file that a link leads to.
-    let wal = match fs::canonicalize(rt, db) {
-        Ok(real) => format!(in rt.alloc(); "{}-wal", real.as_str())?,
-        Err(_) => format!(in rt.alloc(); "{db}-wal")?,
     };
-    Ok(is_path(rt, db, path.as_str()) || is_path(rt, wal.as_str(), path.as_str()))
-}
-
-/// Whether a name leads to this path.
-fn is_path(rt: &HostRuntime, name: &str, path: &str) -> bool {
-    match fs::canonicalize(rt, name) {
-        Ok(other) => other.as_str() == path,
-        Err(_) => false,
+    // What a failure has left in the buffer is not written when that is dropped.
+    let _ = writer.into_parts();
+    flushed?;
+    match entry {
+        FeedEntry::Changes(delivery) if !delivery.changes.is_empty() => file.sync(),
+        _ => Ok(()),
     }
 }
 
-/// Whether a file ends inside a line.
-fn ends_inside(file: &mut File) -> io::Result<bool> {
-    let metadata = file.metadata()?;
-    if !metadata.is_file() || metadata.len() == 0 {
-        return Ok(false);
-    }
-    let mut last = [0; 1];
-    file.seek(SeekFrom::End(-1))?;
-    file.read_exact(&mut last)?;
-    Ok(last != *b"\n")
+/// The line of the executed set.
+fn open_line(alloc: Global, executed: &str) -> Result<String, AllocError> {
+    format!(in alloc; "{{\"type\":\"open\",\"executed\":\"{executed}\"}}\n")
 }
 
 /// Writes the lines of an entry.
@@ -247,8 +137,8 @@ fn write_entry<W: Write>(
 ) -> io::Result<()> {
     match entry {
         FeedEntry::Opened(executed) => {
-            let text = text_of(alloc, executed)?;
-            writeln!(out, "{{\"type\":\"open\",\"executed\":\"{text}\"}}")
+            let line = open_line(alloc, executed)?;
+            out.write_all(line.as_bytes())
         }
         FeedEntry::Changes(delivery) => {
             for change in delivery.changes.iter() {

@@ -9,11 +9,12 @@
 
 ghost use Rattle.std.specs.Prelude.{◌≡◌, IfOk};
 
+use crate::copy_part::{Claim, Names, Part, make_part, names_of};
 use crate::database::{has_frames, lock, read_head, test};
 use crate::failure::{DONE, Failure};
-use std::alloc::{AllocError, Global};
+use crate::name_lock::lock_alone;
 use std::fs::File;
-use std::io::ErrorKind;
+use std::io::{ErrorKind, Seek, SeekFrom};
 use std::{fs, io};
 
 /// How long the header of a WAL file is (SQLite, "Database File Format", section 4.1).
@@ -32,28 +33,15 @@ const HAS_WAL: &str =
 const HAS_JOURNAL: &str =
     "sqlite3 has left a journal beside it: open it once with sqlite3, or remove both";
 
-const HAS_PART: &str =
-    "the file with .part after this name exists: another copy is being made, or one was killed: then remove it";
-
 const NO_FILE: &str = "it is no regular file";
+
+const NO_FILE_BESIDE: &str =
+    "what stands beside it, at its name with -wal or -journal, is no regular file";
 
 const TOO_FAST: &str = "no whole copy could be made, since its WAL file was begun anew each time";
 
-/// The names of a database file and of its WAL file.
-#[derive(Drop)]
-struct Names {
-    file: String,
-    wal: String,
-}
-
-/// The WAL file has the name of the database file with `-wal` at the end.
-fn names_of(alloc: Global, file: String) -> Result<Names, AllocError> {
-    let wal = format!(in alloc; "{file}-wal")?;
-    Ok(Names { file, wal })
-}
-
-/// Copies a database to a file, which is replaced only if that is asked for and no other process has it open as a
-/// database. After a failure that file is as it was, and no other is left.
+/// Copies a database to a file. One that is there is replaced only if that is asked for, and no other process has it open
+/// as a database or is about to open it. After a failure that file is as it was, and no other is left.
 pub fn copy<'a>(rt: &HostRuntime, db: &'a str, to: &'a str, force: bool) -> Result<u8, Failure<'a>>
     ensures { IfOk result (λ status. status ≡ DONE) }
 {
@@ -63,20 +51,40 @@ pub fn copy<'a>(rt: &HostRuntime, db: &'a str, to: &'a str, force: bool) -> Resu
     };
     judge(db, fault_of(rt, &from))?;
     judge(to, refusal_of(rt, &from, to, force))?;
+    let name_lock = lock_alone(rt, to)?;
     let replaced = lock(rt, to)?;
-    let part = names_of(rt.alloc(), format!(in rt.alloc(); "{to}.part")?)?;
-    judge(to, claim(rt, &from, &part))?;
+    let part = part_of(rt, &from, to)?;
     let made = match judge(to, refusal_of(rt, &from, to, force)) {
         Ok(()) => make(rt, db, to, &from, &part),
         Err(failure) => Err(failure),
     };
-    if made.is_err() {
-        let _ = fs::remove_file(rt, part.file.as_str());
-    }
-    let _ = fs::remove_file(rt, part.wal.as_str());
+    part.remove(rt, made.is_ok());
     drop(replaced);
+    drop(name_lock);
     made?;
     Ok(DONE)
+}
+
+/// Makes the file in which the copy is made.
+fn part_of<'a>(rt: &HostRuntime, from: &Names, to: &'a str) -> Result<Part, Failure<'a>> {
+    let names = names_of(rt.alloc(), format!(in rt.alloc(); "{to}.part")?)?;
+    for name in [names.file.as_str(), names.wal.as_str()] {
+        match is_one_of(rt, name, from) {
+            Ok(false) => {}
+            Ok(true) => {
+                return Err(Failure::Unusable {
+                    name: to,
+                    why: SAME,
+                });
+            }
+            Err(cause) => return Err(Failure::File { name: to, cause }),
+        }
+    }
+    match make_part(rt, names) {
+        Ok(Claim::Made(part)) => Ok(part),
+        Ok(Claim::Refused(why)) => Err(Failure::Unusable { name: to, why }),
+        Err(cause) => Err(Failure::File { name: to, cause }),
+    }
 }
 
 /// The failure of a file that may not be used, if it may not.
@@ -92,6 +100,9 @@ fn judge<'a>(name: &'a str, judged: io::Result<Option<&'static str>>) -> Result<
 fn fault_of(rt: &HostRuntime, from: &Names) -> io::Result<Option<&'static str>> {
     if !fs::metadata(rt, from.file.as_str())?.is_file() {
         return Ok(Some(NO_FILE));
+    }
+    if has_odd_beside(rt, from.file.as_str())? {
+        return Ok(Some(NO_FILE_BESIDE));
     }
     if has_journal(rt, from.file.as_str())? {
         return Ok(Some(HAS_JOURNAL));
@@ -109,40 +120,64 @@ fn refusal_of(
     if is_one_of(rt, to, from)? {
         return Ok(Some(SAME));
     }
-    let there = match fs::canonicalize(rt, to) {
-        Ok(path) => Some(path),
-        Err(cause) if cause.kind() == ErrorKind::NotFound => None,
+    if is_there(rt, to)? {
+        if is_odd(rt, to)? {
+            return Ok(Some(NO_FILE));
+        }
+        if !force {
+            return Ok(Some(EXISTS));
+        }
+    }
+    match fs::canonicalize(rt, to) {
+        Ok(path) => {
+            if let Some(why) = refusal_beside(rt, path.as_str())? {
+                return Ok(Some(why));
+            }
+        }
+        Err(cause) if cause.kind() == ErrorKind::NotFound => {}
         Err(cause) => return Err(cause),
-    };
-    if there.is_some() && !force {
-        return Ok(Some(EXISTS));
     }
-    if let Some(path) = there
-        && has_transactions(rt, path.as_str())?
-    {
+    refusal_beside(rt, to)
+}
+
+/// Whether something has a name, be it a link that leads nowhere.
+fn is_there(rt: &HostRuntime, name: &str) -> io::Result<bool> {
+    match fs::symlink_metadata(rt, name) {
+        Ok(_) => Ok(true),
+        Err(cause) if cause.kind() == ErrorKind::NotFound => Ok(false),
+        Err(cause) => Err(cause),
+    }
+}
+
+/// Whether a name leads to something that is no regular file.
+fn is_odd(rt: &HostRuntime, name: &str) -> io::Result<bool> {
+    match fs::metadata(rt, name) {
+        Ok(metadata) => Ok(!metadata.is_file()),
+        Err(cause) if cause.kind() == ErrorKind::NotFound => Ok(false),
+        Err(cause) => Err(cause),
+    }
+}
+
+/// Why what stands beside a name forbids that a file has it, if it does.
+fn refusal_beside(rt: &HostRuntime, file: &str) -> io::Result<Option<&'static str>> {
+    if has_odd_beside(rt, file)? {
+        return Ok(Some(NO_FILE_BESIDE));
+    }
+    if has_transactions(rt, file)? {
         return Ok(Some(HAS_WAL));
     }
-    if has_transactions(rt, to)? {
-        return Ok(Some(HAS_WAL));
-    }
-    if has_journal(rt, to)? {
+    if has_journal(rt, file)? {
         return Ok(Some(HAS_JOURNAL));
     }
     Ok(None)
 }
 
-/// Makes the file of a copy, which no other process has then. Why it cannot be made, if it cannot.
-fn claim(rt: &HostRuntime, from: &Names, part: &Names) -> io::Result<Option<&'static str>> {
-    if is_one_of(rt, part.file.as_str(), from)? || is_one_of(rt, part.wal.as_str(), from)? {
-        return Ok(Some(SAME));
-    }
-    match File::create_new(rt, part.file.as_str()) {
-        Ok(_) => {}
-        Err(cause) if cause.kind() == ErrorKind::AlreadyExists => return Ok(Some(HAS_PART)),
-        Err(cause) => return Err(cause),
-    }
-    let _ = fs::remove_file(rt, part.wal.as_str());
-    Ok(None)
+/// Whether something that is no regular file has the name of a WAL file or of a journal: a pipe, say, which an opening
+/// would wait for.
+fn has_odd_beside(rt: &HostRuntime, file: &str) -> io::Result<bool> {
+    let wal = format!(in rt.alloc(); "{file}-wal")?;
+    let journal = format!(in rt.alloc(); "{file}-journal")?;
+    Ok(is_odd(rt, wal.as_str())? || is_odd(rt, journal.as_str())?)
 }
 
 /// Whether a name leads to a database file or to its WAL file.
@@ -180,11 +215,15 @@ fn make<'a>(
     db: &'a str,
     to: &'a str,
     from: &Names,
-    part: &Names,
+    part: &Part,
 ) -> Result<(), Failure<'a>> {
     if let Err(cause) = try_read(rt, from) {
         return Err(Failure::File { name: db, cause });
     }
+    let replaces = match is_there(rt, to) {
+        Ok(replaces) => replaces,
+        Err(cause) => return Err(Failure::File { name: to, cause }),
+    };
     match copy_files(rt, from, part) {
         Ok(true) => {}
         Ok(false) => {
@@ -195,9 +234,13 @@ fn make<'a>(
         }
         Err(cause) => return Err(Failure::File { name: to, cause }),
     }
-    test(rt, part.file.as_str(), db)?;
-    match put(rt, part, to) {
-        Ok(()) => Ok(()),
+    test(rt, part.names.file.as_str(), to, db)?;
+    match part.put(rt, to, replaces) {
+        Ok(true) => Ok(()),
+        Ok(false) => Err(Failure::Unusable {
+            name: to,
+            why: EXISTS,
+        }),
         Err(cause) => Err(Failure::File { name: to, cause }),
     }
 }
@@ -210,7 +253,7 @@ fn try_read(rt: &HostRuntime, from: &Names) -> io::Result<()> {
 }
 
 /// Copies the two files until they fit each other. Whether they do at last.
-fn copy_files(rt: &HostRuntime, from: &Names, part: &Names) -> io::Result<bool> {
+fn copy_files(rt: &HostRuntime, from: &Names, part: &Part) -> io::Result<bool> {
     for _ in 0..TRIES {
         if copy_once(rt, from, part)? {
             return Ok(true);
@@ -220,19 +263,33 @@ fn copy_files(rt: &HostRuntime, from: &Names, part: &Names) -> io::Result<bool> 
 }
 
 /// Copies the two files. Whether the WAL file was not begun anew meanwhile.
-fn copy_once(rt: &HostRuntime, from: &Names, part: &Names) -> io::Result<bool> {
+fn copy_once(rt: &HostRuntime, from: &Names, part: &Part) -> io::Result<bool> {
     let before = header(rt, from.wal.as_str())?;
-    fs::copy(rt, from.file.as_str(), part.file.as_str())?;
+    let mut file = &part.file;
+    file.set_len(0)?;
+    file.seek(SeekFrom::Start(0))?;
+    copy_into(rt, from.file.as_str(), &part.file)?;
+    part.remove_wal(rt)?;
     if before.is_some() {
-        match fs::copy(rt, from.wal.as_str(), part.wal.as_str()) {
-            Ok(_) => {}
+        match fs::open(rt, from.wal.as_str()) {
+            Ok(wal) => copy_open(wal, &part.make_wal(rt)?)?,
             Err(cause) if cause.kind() == ErrorKind::NotFound => return Ok(false),
             Err(cause) => return Err(cause),
         }
-    } else {
-        let _ = fs::remove_file(rt, part.wal.as_str());
     }
     Ok(header(rt, from.wal.as_str())? == before)
+}
+
+/// Copies a file into one that is open.
+fn copy_into(rt: &HostRuntime, from: &str, to: &File) -> io::Result<()> {
+    copy_open(fs::open(rt, from)?, to)
+}
+
+/// Copies an open file, with its mode, into another.
+fn copy_open(mut from: File, mut to: &File) -> io::Result<()> {
+    to.set_permissions(from.metadata()?.permissions())?;
+    io::copy(&mut from, &mut to)?;
+    Ok(())
 }
 
 /// The header of a WAL file, if it has one.
@@ -242,10 +299,4 @@ fn header(rt: &HostRuntime, wal: &str) -> io::Result<Option<[u8; WAL_HEADER]>> {
         Err(cause) if cause.kind() == ErrorKind::NotFound => Ok(None),
         Err(cause) => Err(cause),
     }
-}
-
-/// Gives a file that is whole its name, once it is on the disk.
-fn put(rt: &HostRuntime, part: &Names, to: &str) -> io::Result<()> {
-    fs::open(rt, part.file.as_str())?.sync_all()?;
-    fs::rename(rt, part.file.as_str(), to)
 }

@@ -4,6 +4,8 @@ ghost use Rattle.std.specs.Prelude.{◌≡◌, Ok, IfOk};
 
 use crate::damage::{Damage, damage_in};
 use crate::failure::Failure;
+use crate::name_lock::{LOCKED, NameLock, is_file, is_special, lock_shared};
+use crate::unsupported::unsupported_in;
 use binlog::Follow;
 use replica::{
     Capture, Config, Duplex, FollowedFile, Observer, Replayed, Unopened, close_file, follow_file,
@@ -29,8 +31,6 @@ const MAGIC: [u8; 16] = *b"SQLite format 3\0";
 const FIRST_PAGE: usize = 32;
 
 const FIRST_PAGE_END: usize = FIRST_PAGE + 4;
-
-const LOCKED: &str = "database is locked: another process has it open";
 
 const JOURNAL: &str = "sqlite3 has left a journal beside it: open it once with sqlite3";
 
@@ -61,6 +61,16 @@ pub trait Work {
     ) -> Result<Self::Done, Failure<'a>>;
 }
 
+/// A database file: its path, and its names in failures.
+#[derive(Clone, Copy)]
+struct Place<'p, 'a> {
+    path: &'p str,
+    /// The name where the file cannot be used.
+    file: &'a str,
+    /// The name where what it holds cannot be used.
+    content: &'a str,
+}
+
 /// Opens the database in a file, which is made if it does not exist, with its own filter, does some work with its store, and
 /// closes it.
 pub fn work_on<'a, K: Work + Drop>(
@@ -68,13 +78,49 @@ pub fn work_on<'a, K: Work + Drop>(
     name: &'a str,
     work: K,
 ) -> Result<K::Done, Failure<'a>> {
-    let wal = missing_wal(rt, name)?;
-    work_in(rt, name, wal, name, work)
+    let opening = begin(rt, name)?;
+    let place = Place {
+        path: name,
+        file: name,
+        content: name,
+    };
+    match work_in(rt, place, opening.wal, work) {
+        Ok(done) => Ok(done),
+        Err(failure) => {
+            opening.lock.discard(rt, name);
+            Err(failure)
+        }
+    }
 }
 
-/// Opens and closes a copy of a database in a file, which copies its WAL file back into it. A failure names the database.
-pub fn test<'a>(rt: &HostRuntime, copy: &str, name: &'a str) -> Result<(), Failure<'a>> {
-    work_in(rt, copy, None, name, Nothing)
+/// Opens and closes a copy of a database in a file, which copies its WAL file back into it. A failure names the file that is
+/// to be made, or the database where that is what cannot be used.
+pub fn test<'a>(rt: &HostRuntime, copy: &str, to: &'a str, db: &'a str) -> Result<(), Failure<'a>> {
+    let place = Place {
+        path: copy,
+        file: to,
+        content: db,
+    };
+    work_in(rt, place, None, Nothing)
+}
+
+/// What an opening begins with: the lock of the name, and the name of the WAL file if there is none yet.
+#[derive(Drop)]
+struct Opening {
+    lock: NameLock,
+    wal: Option<String>,
+}
+
+/// Locks the name of a database that is to be opened.
+fn begin<'a>(rt: &HostRuntime, name: &'a str) -> Result<Opening, Failure<'a>> {
+    let lock = lock_shared(rt, name)?;
+    match missing_wal(rt, name) {
+        Ok(wal) => Ok(Opening { lock, wal }),
+        Err(_) => {
+            lock.discard(rt, name);
+            Err(Failure::Memory)
+        }
+    }
 }
 
 /// No work.
@@ -94,24 +140,41 @@ impl Work for Nothing {
     }
 }
 
-/// Opens the database at a path, whose WAL file is the one given if that was missing before, does some work with its
-/// store, and closes it. A failure has the name. A function that hands a store in a file on to a generic one takes long to
-/// prove, so there is this one alone.
+/// Opens the database at a place, whose WAL file is the one given if that was missing before, does some work with its
+/// store, and closes it. A function that hands a store in a file on to a generic one takes long to prove, so there is this
+/// one alone.
 fn work_in<'a, K: Work + Drop>(
     rt: &HostRuntime,
-    path: &str,
+    place: Place<'_, 'a>,
     wal: Option<String>,
-    name: &'a str,
     work: K,
 ) -> Result<K::Done, Failure<'a>> {
-    match open_file(rt, path, Unknown, 0, None) {
+    match open_file(rt, place.path, Unknown, 0, None) {
         Ok(store) => {
             let mut store = store;
-            let done = work.run(rt.alloc(), name, &mut store);
-            close_after(name, store, done)
+            let done = work.run(rt.alloc(), place.content, &mut store);
+            close_after(place.file, store, done)
         }
-        Err(unopened) => Err(refusal(rt, name, leave(rt, wal, unopened))),
+        Err(unopened) => Err(refusal(rt, place, leave(rt, wal, unopened))),
     }
+}
+
+/// The failure of an opening, whose files are closed, after the lock of the name is given up.
+fn give_up<'a>(
+    rt: &HostRuntime,
+    name: &'a str,
+    opening: Opening,
+    unopened: Unopened<File>,
+) -> Failure<'a> {
+    let Opening { lock, wal } = opening;
+    let place = Place {
+        path: name,
+        file: name,
+        content: name,
+    };
+    let failure = refusal(rt, place, leave(rt, wal, unopened));
+    lock.discard(rt, name);
+    failure
 }
 
 /// Reads captured connections into the database in a file, which is made if it does not exist, and closed at the end. With a
@@ -124,10 +187,10 @@ pub fn replay_into<'a, R: Read + Drop, W: Observer>(
     captures: Vec<Capture<R>>,
     observer: &mut W,
 ) -> Result<Replayed<File>, Failure<'a>> {
-    let wal = missing_wal(rt, name)?;
+    let opening = begin(rt, name)?;
     match replica::replay(rt, name, Unknown, only, config, captures, observer) {
         Ok(done) => Ok(done),
-        Err(unopened) => Err(refusal(rt, name, leave(rt, wal, unopened))),
+        Err(unopened) => Err(give_up(rt, name, opening, unopened)),
     }
 }
 
@@ -143,17 +206,17 @@ pub fn follow_into<'a, T: Duplex + Drop, F: FnOnce() -> io::Result<T> + Drop, W:
 ) -> Result<FollowedFile<T, io::Error, File>, Failure<'a>>
     requires { F.IsAlwaysCallable connect }
 {
-    let wal = missing_wal(rt, name)?;
+    let opening = begin(rt, name)?;
     match follow_file(rt, name, Unknown, only, config, connect, observer) {
         Ok(done) => Ok(done),
-        Err(unopened) => Err(refusal(rt, name, leave(rt, wal, unopened))),
+        Err(unopened) => Err(give_up(rt, name, opening, unopened)),
     }
 }
 
 /// Locks a file that is there as an open database is locked, until the result is dropped. Nothing is written to it. A file
 /// that this process may not open is not locked.
 pub fn lock<'a>(rt: &HostRuntime, name: &'a str) -> Result<Option<Files<File>>, Failure<'a>> {
-    if !fs::exists(rt, name).unwrap_or(false) {
+    if !is_file(rt, name) {
         return Ok(None);
     }
     let wal = missing_wal(rt, name)?;
@@ -256,43 +319,67 @@ pub fn read_head<const N: usize>(rt: &HostRuntime, name: &str) -> io::Result<Opt
 }
 
 /// The failure of a database file that could not be opened.
-fn refusal<'a>(rt: &HostRuntime, name: &'a str, cause: Cause) -> Failure<'a> {
+fn refusal<'a>(rt: &HostRuntime, place: Place<'_, 'a>, cause: Cause) -> Failure<'a> {
+    let Place {
+        path,
+        file,
+        content,
+    } = place;
     let cause = match cause {
         Cause::Fault(fault) => fault,
-        Cause::Damage(damage) => return Failure::Damaged { name, damage },
+        Cause::Damage(damage) => {
+            return Failure::Damaged {
+                name: content,
+                damage,
+            };
+        }
     };
-    let StoreFault::Database(Error::SqliteFailure(code)) = cause else {
-        return Failure::Database { name, cause };
-    };
-    let why = match code {
-        ErrorCode::CannotOpen => return cannot_open(rt, name),
-        ErrorCode::DatabaseBusy => LOCKED,
-        ErrorCode::NotADatabase | ErrorCode::DatabaseCorrupt => match is_database(rt, name) {
-            Ok(false) => NO_DATABASE,
-            _ => DAMAGED,
+    match cause {
+        StoreFault::Database(Error::SqliteFailure(code)) => match code {
+            ErrorCode::CannotOpen => cannot_open(rt, path, file),
+            ErrorCode::DatabaseBusy => Failure::Unusable {
+                name: file,
+                why: LOCKED,
+            },
+            ErrorCode::NotADatabase | ErrorCode::DatabaseCorrupt => Failure::Unusable {
+                name: content,
+                why: fault_in(rt, path),
+            },
+            _ => Failure::Database { name: file, cause },
         },
-        _ => return Failure::Database { name, cause },
-    };
-    Failure::Unusable { name, why }
+        StoreFault::Database(_) | StoreFault::Memory => Failure::Database { name: file, cause },
+        _ => Failure::Database {
+            name: content,
+            cause,
+        },
+    }
+}
+
+/// Why a file is not taken for a database.
+fn fault_in(rt: &HostRuntime, path: &str) -> &'static str {
+    match is_database(rt, path) {
+        Ok(false) => NO_DATABASE,
+        _ => unsupported_in(rt, path).unwrap_or(DAMAGED),
+    }
 }
 
 /// Whether a file begins as an SQLite file.
-fn is_database(rt: &HostRuntime, name: &str) -> io::Result<bool> {
+pub fn is_database(rt: &HostRuntime, name: &str) -> io::Result<bool> {
     Ok(read_head::<16>(rt, name)? == Some(MAGIC))
 }
 
 /// The failure of a database file that is not opened: its name, if SQLite has another meaning for that; or the system's
 /// cause, if the system refuses the file itself.
-fn cannot_open<'a>(rt: &HostRuntime, name: &'a str) -> Failure<'a> {
-    if name == ":memory:" || name.starts_with("file:") {
+fn cannot_open<'a>(rt: &HostRuntime, path: &str, name: &'a str) -> Failure<'a> {
+    if is_special(path) {
         return Failure::Unusable { name, why: NO_FILE };
     }
-    match try_open(rt, name) {
+    match try_open(rt, path) {
         Ok(()) => Failure::Unusable {
             name,
             why: NOT_USABLE,
         },
-        Err(cause) if is_protected(cause.kind()) && fs::open(rt, name).is_ok() => {
+        Err(cause) if is_protected(cause.kind()) && fs::open(rt, path).is_ok() => {
             Failure::Unusable {
                 name,
                 why: READ_ONLY,

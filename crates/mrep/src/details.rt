@@ -1,5 +1,6 @@
 //! What is known of the transaction in which a connection ended.
 
+use crate::advice::Quoted;
 use crate::cells::write_first_cells;
 use crate::name::{Shown, write_table};
 use crate::reason::write_escaped;
@@ -13,6 +14,10 @@ use std::io::Write;
 
 /// How much of a statement or a row is printed, in bytes.
 const SHOWN: usize = 512;
+
+/// The words of SQL before a password or its hash (MySQL Reference Manual, "CREATE USER Statement", "SET PASSWORD
+/// Statement").
+const SECRETS: [&[u8]; 2] = [b"IDENTIFIED", b"PASSWORD"];
 
 /// The transaction at hand, and lines of text that say where in it the connection has ended.
 #[derive(Drop)]
@@ -71,7 +76,7 @@ impl Details {
             Reason::Database(_) | Reason::Memory | Reason::Halted => false,
             _ => return Ok(()),
         };
-        let (stream, db) = (Shown(stream), Shown(db));
+        let stream = Shown(stream);
         for line in self.lines.split(|byte| *byte == b'\n') {
             if !line.is_empty() {
                 write!(err, "mrep: {stream}: ")?;
@@ -88,7 +93,8 @@ impl Details {
         }
         writeln!(
             err,
-            "mrep: {stream}: to leave it out: mrep skip --db {db} {gtid}"
+            "mrep: {stream}: to leave it out, and lose the rows it has: mrep skip --db {} {gtid}",
+            Quoted(db)
         )
     }
 
@@ -127,10 +133,14 @@ fn write_fault(fault: EventFault, event: &[u8], out: &mut Vec<u8>) -> io::Result
     }
 }
 
-/// Writes the first bytes of a statement.
+/// Writes the first bytes of a statement, of one with a password up to the word before it.
 fn write_statement(text: &[u8], out: &mut Vec<u8>) -> io::Result<()> {
     out.write_all(b"the statement is: ")?;
-    match text.split_at_checked(SHOWN) {
+    let shown = match secret_in(text) {
+        Some(at) => at.min(SHOWN),
+        None => SHOWN,
+    };
+    match text.split_at_checked(shown) {
         Some((head, [_, ..])) => {
             write_escaped(head, out)?;
             out.write_all(b"...\n")
@@ -140,6 +150,21 @@ fn write_statement(text: &[u8], out: &mut Vec<u8>) -> io::Result<()> {
             writeln!(out)
         }
     }
+}
+
+/// Where a statement may have a password: after the first word that comes before one.
+fn secret_in(text: &[u8]) -> Option<usize> {
+    let mut found = None;
+    for word in SECRETS {
+        let at = text
+            .windows(word.len())
+            .position(|part| part.eq_ignore_ascii_case(word));
+        if let Some(at) = at {
+            let end = at.saturating_add(word.len());
+            found = Some(found.map_or(end, |other: usize| other.min(end)));
+        }
+    }
+    found
 }
 
 fn write_place(schema: &[u8], table: &[u8], out: &mut Vec<u8>) -> io::Result<()> {

@@ -5,15 +5,26 @@ ghost use Rattle.std.specs.Prelude.{◌≤◌, IfOk};
 use crate::change_feed::OUTPUT;
 use crate::database::{closed, follow_into};
 use crate::failure::{Failure, MEMORY};
-use crate::replay::{Report, check, feed_of, status_of, stop_of, tables};
+use crate::name::Shown;
+use crate::progress::Progress;
+use crate::replay::{Report, check, feed_of, progress_of, status_of, stop_of, tables};
 use crate::socket::Socket;
-use crate::watch::{Reporting, Source, Watch};
+use crate::watch::{Source, Watch};
 use binlog::Follow;
 use replica::{Config, ConfigFault, Ended, FollowedFile, Observer};
-use std::io::{ErrorKind, Write};
+use std::io::{ErrorKind, Read, Write};
 use std::net::TcpStream;
+use std::os::unix::fs::MetadataExt;
 use std::{fs, io};
 use wire::LARGEST_PAYLOAD;
+
+/// How long a password may be, in bytes.
+const LONGEST_PASSWORD: u64 = 65_536;
+
+const NO_PASSWORD: &str = "a password has at most 65,536 bytes";
+
+/// The bits of a file's mode by which its group and others may read it.
+const OTHERS_READ: u32 = 0o044;
 
 /// The arguments.
 #[derive(Clone, Copy)]
@@ -54,6 +65,7 @@ pub fn follow_source<'a, W: Write, E: Write>(
         None => None,
     };
     let config = settings(rt, words, server_id)?;
+    warn(rt, words.password_file, err);
     let streams = [words.host];
     let feed = feed_of(rt, words.report, words.db, &[words.password_file])?;
     let source = Source {
@@ -61,13 +73,17 @@ pub fn follow_source<'a, W: Write, E: Write>(
         streams: &streams,
         port,
         db: words.db,
+        changes: words.report.changes,
     };
-    let reporting = Reporting {
-        progress: words.report.progress,
-        total: None,
+    let progress = progress_of(rt, words.report, None);
+    let host = Host {
+        rt,
+        name: words.host,
+        port,
+        progress: progress.as_ref(),
     };
-    let mut watch = Watch::new(source, reporting, feed, out, err);
-    let followed = match follow_over(rt, words, port, only.as_ref(), config, &mut watch) {
+    let mut watch = Watch::new(source, progress.as_ref(), feed, out, err);
+    let followed = match follow_over(host, words, only.as_ref(), config, &mut watch) {
         Ok(followed) => followed,
         Err(failure) => {
             watch.discard(words.report.changes.unwrap_or(OUTPUT));
@@ -107,10 +123,45 @@ fn number<'a>(word: &'a str, largest: u32) -> Result<u32, Failure<'a>>
     }
 }
 
+/// The bytes of the password file. `None` if they are more than a password and a line feed may have.
+fn read_password(rt: &HostRuntime, name: &str) -> io::Result<Option<Vec<u8>>> {
+    let mut bytes = Vec::new(rt.alloc());
+    let most = LONGEST_PASSWORD + 1;
+    fs::open(rt, name)?.take(most + 1).read_to_end(&mut bytes)?;
+    Ok(if bytes.len() as u64 > most {
+        None
+    } else {
+        Some(bytes)
+    })
+}
+
+/// Says on standard error if others may read the password file.
+fn warn<E: Write>(rt: &HostRuntime, name: &str, err: &mut E) {
+    if let Ok(metadata) = fs::metadata(rt, name)
+        && metadata.is_file()
+        && metadata.mode() & OTHERS_READ != 0
+    {
+        let _ = writeln!(
+            err,
+            "mrep: {}: others may read the password: chmod 600 keeps them out",
+            Shown(name)
+        );
+    }
+}
+
 /// The settings, with the password from its file: the bytes of the file without one line feed at the end.
 fn settings<'a>(rt: &HostRuntime, words: Words<'a>, server_id: u32) -> Result<Config, Failure<'a>> {
     let name = words.password_file;
-    let bytes = fs::read(rt, name).map_err(|cause| Failure::File { name, cause })?;
+    let bytes = match read_password(rt, name) {
+        Ok(Some(bytes)) => bytes,
+        Ok(None) => {
+            return Err(Failure::Unusable {
+                name,
+                why: NO_PASSWORD,
+            });
+        }
+        Err(cause) => return Err(Failure::File { name, cause }),
+    };
     let password = match bytes.as_slice() {
         [line @ .., b'\n'] => line,
         all => all,
@@ -147,12 +198,13 @@ struct Host<'r> {
     rt: &'r HostRuntime,
     name: &'r str,
     port: u16,
+    progress: Option<&'r Progress>,
 }
 
-impl Host<'_> {
-    fn connect(self) -> io::Result<Socket> {
+impl<'r> Host<'r> {
+    fn connect(self) -> io::Result<Socket<'r>> {
         match TcpStream::connect(self.rt, (self.name, self.port)) {
-            Ok(stream) => Ok(Socket(stream)),
+            Ok(stream) => Ok(Socket::new(self.rt, stream, self.progress)),
             Err(cause) => Err(cause),
         }
     }
@@ -160,18 +212,13 @@ impl Host<'_> {
 
 /// Follows over a socket.
 fn follow_over<'a, W: Observer>(
-    rt: &HostRuntime,
+    host: Host<'_>,
     words: Words<'a>,
-    port: u16,
     only: Option<&Follow>,
     config: Config,
     observer: &mut W,
 ) -> Result<Followed<'a>, Failure<'a>> {
-    let host = Host {
-        rt,
-        name: words.host,
-        port,
-    };
+    let rt = host.rt;
     let FollowedFile {
         connection,
         closed: files,

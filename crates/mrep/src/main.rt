@@ -5,23 +5,27 @@
 #![tactic(auto)]
 
 mod adopt;
+mod advice;
 mod arguments;
 mod cells;
 mod change_feed;
 mod command;
 mod copy;
+mod copy_part;
 mod csv_lines;
 mod damage;
 mod database;
 mod details;
 mod events;
 mod failure;
+mod feed_file;
 mod follow;
 mod forge;
 mod hex;
 mod json_lines;
 mod minus;
 mod name;
+mod name_lock;
 mod output_format;
 mod payload_lines;
 mod payload_listing;
@@ -33,11 +37,14 @@ mod sets;
 mod show;
 mod skip;
 mod socket;
+mod stack_room;
 mod tables;
+mod unsupported;
 mod watch;
 
 use crate::command::command;
 use crate::failure::{MEMORY, USAGE};
+use crate::stack_room::has_room;
 use std::io::BufWriter;
 use std::process::ExitCode;
 use std::{env, fs, io};
@@ -46,6 +53,9 @@ use std::{env, fs, io};
 const FRAMES: u32 = 64;
 
 const FRAME: usize = 4096;
+
+/// What these frames take at most, in bytes: each has some words more than its room.
+const STACK: u64 = 64 * (4096 + 512);
 
 /// Uses the stack, so that the system gives it its room at the start: a stack that cannot grow later, when memory has
 /// run out, would end the process by a signal, where an allocation that is refused ends it with a message. Answers 0 or
@@ -72,7 +82,7 @@ fn run(rt: &HostRuntime) -> io::Result<u8> {
         fs::open(rt, "/dev/null"),
     ];
     let words: Vec<String> = env::args(rt)?.collect(rt.alloc())?;
-    if use_stack(FRAMES, words.len()) > 1 {
+    if !has_room(rt, STACK) || use_stack(FRAMES, words.len()) > 1 {
         return Err(io::ErrorKind::OutOfMemory.into());
     }
     let mut out = BufWriter::new(rt.alloc(), rt.stdout())?;

@@ -3,6 +3,7 @@
 ghost use Rattle.std.specs.Prelude.{◌≡◌, ◌≤◌};
 ghost use Rattle.mrep.specs.Reason.{status_of, first_status};
 
+use crate::change_feed::OUTPUT;
 use crate::failure;
 use crate::failure::{DONE, FILES, MEMORY, REFUSED};
 use crate::hex::digits_of;
@@ -111,10 +112,11 @@ pub fn write_end<W: Write>(number: usize, end: &Ended, out: &mut W) -> io::Resul
 }
 
 /// Writes the cause to standard error if the line of an end leaves it out: the stream or the database file, and the
-/// cause.
+/// cause. What stops a command before a transaction is its change feed.
 pub fn write_cause<W: Write>(
     stream: &str,
     file: &str,
+    changes: Option<&str>,
     reason: &Reason,
     out: &mut W,
 ) -> io::Result<()> {
@@ -127,7 +129,7 @@ pub fn write_cause<W: Write>(
         Reason::Refused(refusal) => write_refusal(Shown(stream), *refusal, out),
         Reason::Database(fault) => failure::write_named(file, fault, out),
         Reason::Memory => failure::write_named(stream, &"out of memory", out),
-        Reason::Halted => failure::write_named(stream, &"stopped before a transaction", out),
+        Reason::Halted => write_halted(Shown(stream), changes, out),
         Reason::EndOfInput | Reason::SourceEof | Reason::ReadFailed | Reason::WriteFailed => Ok(()),
     }
 }
@@ -139,6 +141,19 @@ fn write_refusal<W: Write>(stream: Shown<'_>, refusal: Refusal, out: &mut W) -> 
         Refusal::CountFull(at) => (at, "the count of the row is at its maximum"),
     };
     writeln!(out, "mrep: {stream}: change {at}: {why}")
+}
+
+/// Writes what stopped the command before a transaction.
+fn write_halted<W: Write>(stream: Shown<'_>, changes: Option<&str>, out: &mut W) -> io::Result<()> {
+    let feed = match changes {
+        Some(OUTPUT) | None => "standard output",
+        Some(name) => name,
+    };
+    writeln!(
+        out,
+        "mrep: {stream}: stopped before a transaction, since its changes could not be written to {}",
+        Shown(feed)
+    )
 }
 
 /// Writes the message of a source.

@@ -8,13 +8,14 @@ use crate::database::{closed, replay_into};
 use crate::failure::{DONE, Failure, MEMORY};
 use crate::name::read_table;
 use crate::output_format::{Format, encoding_of};
+use crate::progress::Progress;
 use crate::reason::first_status;
-use crate::watch::{Reporting, Source, Stop, Watch};
+use crate::watch::{Source, Stop, Watch};
 use binlog::Follow;
 use replica::{Capture, Config, Ended, Halt, Replayed, read_some};
 use std::alloc::Global;
 use std::fs::File;
-use std::io::Write;
+use std::io::{IsTerminal, Write};
 use std::{fs, io};
 use wire::LARGEST_PAYLOAD;
 
@@ -70,6 +71,16 @@ pub fn feed_of<'a>(
     }
 }
 
+/// The progress that is reported, if that is asked for, with how many bytes are to be read, if that is known.
+pub fn progress_of(rt: &HostRuntime, report: Report<'_>, total: Option<u64>) -> Option<Progress> {
+    if report.progress {
+        let redraws = rt.stderr().is_terminal();
+        Some(Progress::new(rt, total, redraws))
+    } else {
+        None
+    }
+}
+
 /// The failure that stopped the reading, if there is one.
 pub fn stop_of<'a>(stop: Option<Stop>, report: Report<'a>) -> Result<(), Failure<'a>> {
     match (stop, report.changes) {
@@ -111,12 +122,10 @@ pub fn replay<'a, W: Write, E: Write>(
         streams: names,
         port: 0,
         db,
+        changes: report.changes,
     };
-    let reporting = Reporting {
-        progress: report.progress,
-        total,
-    };
-    let mut watch = Watch::new(source, reporting, feed, out, err);
+    let progress = progress_of(rt, report, total);
+    let mut watch = Watch::new(source, progress.as_ref(), feed, out, err);
     let done = replay_into(rt, db, only.as_ref(), &config, captures, &mut watch);
     let done = match done {
         Ok(done) => done,

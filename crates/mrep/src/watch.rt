@@ -2,17 +2,19 @@
 
 ghost use Rattle.std.specs.Prelude.{◌≡◌, true, is_some};
 
+use crate::advice::write_advice;
 use crate::change_feed::{Feed, FeedEntry};
 use crate::details::Details;
 use crate::name::Shown;
 use crate::progress::Progress;
 use crate::reason::{write_cause, write_end};
+use crate::set_text::text_of;
 use binlog::Event;
 use gather::Delivery;
 use gtid::GtidSet;
 use replica::{Ended, Observer, Reason};
 use std::io;
-use std::io::{IsTerminal, Write};
+use std::io::Write;
 
 /// Why reading is stopped.
 #[derive(Drop)]
@@ -32,16 +34,20 @@ pub struct Source<'a> {
     /// The port of a source that is followed; 0 if streams are read.
     pub port: u16,
     pub db: &'a str,
+    /// The name of the change feed, if there is one.
+    pub changes: Option<&'a str>,
 }
 
 /// An observer that reports.
 #[derive(Drop)]
-pub struct Watch<'a, O, E> {
+pub struct Watch<'a, 'p, O, E> {
     source: Source<'a>,
     out: &'a mut O,
     err: &'a mut E,
-    progress: Option<Progress>,
+    progress: Option<&'p Progress>,
     feed: Option<Feed>,
+    /// The executed set at the start, until the feed has it.
+    executed: Option<String>,
     /// Whether the store has failed: it applies nothing more, so nothing more is fed.
     has_failed: bool,
     details: Details,
@@ -50,34 +56,22 @@ pub struct Watch<'a, O, E> {
     stop: Option<Stop>,
 }
 
-/// Whether progress is reported, and how many bytes are to be read, if that is known.
-#[derive(Clone, Copy)]
-pub struct Reporting {
-    pub progress: bool,
-    pub total: Option<u64>,
-}
-
-impl<'a, O: Write, E: Write> Watch<'a, O, E> {
+impl<'a, 'p, O: Write, E: Write> Watch<'a, 'p, O, E> {
     /// An observer that nothing has been reported to.
     pub fn new(
         source: Source<'a>,
-        reporting: Reporting,
+        progress: Option<&'p Progress>,
         feed: Option<Feed>,
         out: &'a mut O,
         err: &'a mut E,
-    ) -> Watch<'a, O, E> {
-        let progress = if reporting.progress {
-            let redraws = source.rt.stderr().is_terminal();
-            Some(Progress::new(source.rt, reporting.total, redraws))
-        } else {
-            None
-        };
+    ) -> Watch<'a, 'p, O, E> {
         Watch {
             source,
             out,
             err,
             progress,
             feed,
+            executed: None,
             has_failed: false,
             details: Details::new(source.rt.alloc()),
             ended: 0,
@@ -103,6 +97,15 @@ impl<'a, O: Write, E: Write> Watch<'a, O, E> {
         }
     }
 
+    /// Writes the executed set at the start, unless the feed has it.
+    fn put_executed(&mut self)
+        ensures { is_some self.old.stop ≡ true → is_some self.new.stop ≡ true }
+    {
+        if let Some(text) = self.executed.take() {
+            self.put(FeedEntry::Opened(text.as_str()));
+        }
+    }
+
     /// Writes the line of an end at once: to standard error where the output has the change feed.
     fn print(&mut self, number: usize, end: &Ended) -> io::Result<()>
         ensures { self.new.stop ≡ self.old.stop }
@@ -122,7 +125,9 @@ impl<'a, O: Write, E: Write> Watch<'a, O, E> {
     fn explain(&mut self, stream: &str, reason: &Reason)
         ensures { self.new.stop ≡ self.old.stop }
     {
-        let _ = write_cause(stream, self.source.db, reason, self.err);
+        let Source { db, changes, .. } = self.source;
+        let _ = write_cause(stream, db, changes, reason, self.err);
+        let _ = write_advice(stream, reason, self.err);
         let is_live = self.source.port != 0;
         let _ = self
             .details
@@ -139,8 +144,8 @@ impl<'a, O: Write, E: Write> Watch<'a, O, E> {
     ) -> io::Result<()>
         ensures { self.new.stop ≡ self.old.stop }
     {
-        if let Some(progress) = &mut self.progress {
-            progress.end_line(self.err);
+        if let Some(progress) = self.progress {
+            progress.finish(self.source.rt, self.err);
         }
         let printed = self.print(number, end);
         let name = self.source.streams.get(number.saturating_sub(1));
@@ -169,14 +174,25 @@ impl<'a, O: Write, E: Write> Watch<'a, O, E> {
     }
 }
 
-impl<'a, O: Write, E: Write> Observer for Watch<'a, O, E> {
+impl<'a, 'p, O: Write, E: Write> Observer for Watch<'a, 'p, O, E> {
     ghost has_stopped = { λ w. is_some w.stop };
 
     fn opened(&mut self, executed: &GtidSet) {
-        self.put(FeedEntry::Opened(executed));
+        if self.feed.is_none() {
+            return;
+        }
+        match text_of(self.source.rt.alloc(), executed) {
+            Ok(text) => self.executed = Some(text),
+            Err(_) => self.stop = Some(Stop::Feed(io::ErrorKind::OutOfMemory.into())),
+        }
+        // A source that cannot be reached adds nothing to the feed, however often it is tried.
+        if self.source.port == 0 {
+            self.put_executed();
+        }
     }
 
     fn connected(&mut self) {
+        self.put_executed();
         if self.progress.is_some() {
             let name = self.source.streams.first().copied().unwrap_or("");
             let _ = writeln!(
@@ -189,7 +205,7 @@ impl<'a, O: Write, E: Write> Observer for Watch<'a, O, E> {
     }
 
     fn received(&mut self, count: usize) {
-        if let Some(progress) = &mut self.progress {
+        if let Some(progress) = self.progress {
             progress.read(self.source.rt, count, self.err);
         }
     }
@@ -212,7 +228,7 @@ impl<'a, O: Write, E: Write> Observer for Watch<'a, O, E> {
             Ok(applied) => {
                 self.details.gtid = None;
                 if *applied {
-                    if let Some(progress) = &mut self.progress {
+                    if let Some(progress) = self.progress {
                         progress.count();
                     }
                     self.put(FeedEntry::Committed(delivery.gtid));

@@ -1,0 +1,160 @@
+//! The lock of a database file's name: a command holds it shared while it has the database open, and `mrep copy` alone
+//! while it replaces the file.
+//!
+//! The database's own lock is taken on a file that is open, and by then another file may have its name. This lock is
+//! taken before that, and counts only if the name still leads to the file afterwards; so no file is replaced between the
+//! opening of its name and its lock. It is an advisory lock on the whole file (`flock`), which other programs do not look at.
+
+use crate::failure::Failure;
+use std::fs::{File, OpenOptions, TryLockError};
+use std::io::ErrorKind;
+use std::os::unix::fs::{MetadataExt, OpenOptionsExt};
+use std::{fs, io};
+
+/// How often a name is locked again whose file was replaced meanwhile.
+const TRIES: u32 = 100;
+
+/// The mode of a file that is made for the rows of others: its owner alone may read and write it.
+pub const PRIVATE: u32 = 0o600;
+
+/// What is said of a database that is locked.
+pub const LOCKED: &str = "database is locked: another process has it open";
+
+/// A database file whose name is locked until this is dropped. On a file system without such locks, and where this
+/// process may not open the file, nothing is locked.
+#[derive(Drop)]
+pub struct NameLock {
+    file: Option<File>,
+    /// Whether the file was made for the lock.
+    is_new: bool,
+}
+
+/// Locks the name of a database file that is to be opened, beside others that have it open. A file that is not there is
+/// made, empty, for its owner alone; of a name that no such file can have, the opening says so.
+pub fn lock_shared<'a>(rt: &HostRuntime, name: &'a str) -> Result<NameLock, Failure<'a>> {
+    for _ in 0..TRIES {
+        let Some(lock) = open_or_make(rt, name) else {
+            break;
+        };
+        let Some(file) = &lock.file else {
+            break;
+        };
+        match file.try_lock_shared() {
+            Ok(()) if is_named(rt, file, name) => return Ok(lock),
+            Ok(()) => {}
+            Err(TryLockError::WouldBlock) => return Err(Failure::Unusable { name, why: LOCKED }),
+            Err(TryLockError::Error(_)) => return Ok(lock),
+        }
+    }
+    Ok(NameLock {
+        file: None,
+        is_new: false,
+    })
+}
+
+/// Locks the name of a file that is to be replaced. `None` if there is no file, or none that this process may open.
+pub fn lock_alone<'a>(rt: &HostRuntime, name: &'a str) -> Result<Option<NameLock>, Failure<'a>> {
+    for _ in 0..TRIES {
+        if !is_file(rt, name) {
+            return Ok(None);
+        }
+        let Ok(file) = fs::open(rt, name) else {
+            return Ok(None);
+        };
+        match file.try_lock() {
+            Ok(()) if !is_named(rt, &file, name) => continue,
+            Err(TryLockError::WouldBlock) => return Err(Failure::Unusable { name, why: LOCKED }),
+            Ok(()) | Err(TryLockError::Error(_)) => {}
+        }
+        return Ok(Some(NameLock {
+            file: Some(file),
+            is_new: false,
+        }));
+    }
+    Ok(None)
+}
+
+impl NameLock {
+    /// Gives the name up after an opening that was refused, and removes the file if it was made for the lock, is still
+    /// empty, and no other process is about to open it.
+    pub fn discard(self, rt: &HostRuntime, name: &str) {
+        let NameLock { file, is_new } = self;
+        if let Some(file) = file
+            && is_new
+            && is_empty(&file)
+            && file.try_lock().is_ok()
+        {
+            let _ = fs::remove_file(rt, name);
+        }
+    }
+}
+
+/// Opens the file of a name, or makes it. `None` if that is no name of a file to SQLite, if something else has the name, or
+/// if the system refuses it.
+fn open_or_make(rt: &HostRuntime, name: &str) -> Option<NameLock> {
+    if is_special(name) {
+        return None;
+    }
+    match fs::metadata(rt, name) {
+        Ok(metadata) if !metadata.is_file() => return None,
+        Ok(_) => {}
+        Err(cause) if cause.kind() != ErrorKind::NotFound => return None,
+        Err(_) => {
+            if let Ok(file) = private().create_new(true).open(rt, name) {
+                return Some(NameLock {
+                    file: Some(file),
+                    is_new: true,
+                });
+            }
+        }
+    }
+    match fs::open(rt, name) {
+        Ok(file) => Some(NameLock {
+            file: Some(file),
+            is_new: false,
+        }),
+        Err(_) => None,
+    }
+}
+
+/// Whether SQLite has another meaning for a name (SQLite, "Uniform Resource Identifiers", and "In-Memory Databases").
+pub fn is_special(name: &str) -> bool {
+    name == ":memory:" || name.starts_with("file:")
+}
+
+/// How a file for the rows of others is opened to be read and written, and made if it is asked for.
+pub fn private() -> OpenOptions {
+    let mut options = OpenOptions::new();
+    options.read(true).write(true).mode(PRIVATE);
+    options
+}
+
+/// Whether a name leads to a regular file.
+pub fn is_file(rt: &HostRuntime, name: &str) -> bool {
+    match fs::metadata(rt, name) {
+        Ok(metadata) => metadata.is_file(),
+        Err(_) => false,
+    }
+}
+
+/// Whether a name leads to the file that is open.
+pub fn is_named(rt: &HostRuntime, file: &File, name: &str) -> bool {
+    match is_same(rt, file, name) {
+        Ok(same) => same,
+        Err(_) => false,
+    }
+}
+
+/// Whether a name leads to the file that is open: it is the same inode of the same device.
+fn is_same(rt: &HostRuntime, file: &File, name: &str) -> io::Result<bool> {
+    let (open, named) = (file.metadata()?, fs::metadata(rt, name)?);
+    Ok(open.dev() == named.dev() && open.ino() == named.ino())
+}
+
+/// Whether an open file has no bytes.
+pub fn is_empty(file: &File) -> bool {
+    match file.metadata() {
+        Ok(metadata) => metadata.len() == 0,
+        Err(_) => false,
+    }
+}
