@@ -4,18 +4,30 @@ use crate::output_format::{ENCODINGS, FORMATS};
 use clap::{Arg, ArgAction, Command};
 use std::alloc::{AllocError, Global};
 
-/// The version that `mrep --version` prints.
+/// The version that `mrep -V` prints.
 const VERSION: &str = "0.1.0";
+
+/// What `mrep --version` prints: the version, the layouts of databases, and the identity of the toolchain, as `rt version`
+/// prints it.
+const LONG_VERSION: &str =
+    "0.1.0\nlayout 2; a database of layout 1 is migrated\nproved with rattle-kit-13f logic dac8208d650f15bf";
+
+/// The shells that `mrep completions` knows.
+const SHELLS: [&str; 3] = ["bash", "zsh", "fish"];
 
 /// How an argument is given.
 #[derive(Clone, Copy)]
-enum Kind {
+pub enum Kind {
     /// A word.
     Word,
+    /// A word that is one of these.
+    WordOf(&'static [&'static str]),
     /// One word or more.
     Words,
     /// A required option with a value of this name.
     Needed(&'static str),
+    /// An option with a value of this name, and what it is without the option.
+    Usual(&'static str, &'static str),
     /// A required option with a value of this name, which may begin with a hyphen.
     NeededText(&'static str),
     /// An option with a value of this name, which may begin with a hyphen.
@@ -33,13 +45,44 @@ impl Kind {
     fn is_required(self) -> bool {
         matches!(
             self,
-            Kind::Word | Kind::Words | Kind::Needed(_) | Kind::NeededText(_)
+            Kind::Word | Kind::WordOf(_) | Kind::Words | Kind::Needed(_) | Kind::NeededText(_)
         )
     }
 
     /// Whether its value may begin with a hyphen.
     fn may_be_hyphenated(self) -> bool {
         matches!(self, Kind::NeededText(_) | Kind::Text(_))
+    }
+
+    /// The name of the value, of an option that has one.
+    pub fn value(self) -> Option<&'static str> {
+        match self {
+            Kind::Needed(value)
+            | Kind::Usual(value, _)
+            | Kind::NeededText(value)
+            | Kind::Text(value)
+            | Kind::Repeated(value)
+            | Kind::OneOf(value, _) => Some(value),
+            Kind::Word | Kind::WordOf(_) | Kind::Words | Kind::Flag => None,
+        }
+    }
+
+    /// The words of which it is one, and none where it may be any.
+    pub fn words(self) -> &'static [&'static str] {
+        match self {
+            Kind::WordOf(words) | Kind::OneOf(_, words) => words,
+            _ => &[],
+        }
+    }
+
+    /// Whether it is given after its name.
+    pub fn is_option(self) -> bool {
+        !matches!(self, Kind::Word | Kind::WordOf(_) | Kind::Words)
+    }
+
+    /// Whether it may be given more than once.
+    pub fn is_repeated(self) -> bool {
+        matches!(self, Kind::Words | Kind::Repeated(_))
     }
 
     /// What is done with its values.
@@ -54,12 +97,21 @@ impl Kind {
 
 /// An argument: its name, how it is given, and its help.
 #[derive(Clone, Copy)]
-struct Argument(&'static str, Kind, &'static str);
+pub struct Argument(pub &'static str, pub Kind, pub &'static str);
 
-/// A command: its name, its help, and its arguments in the order of the help.
-struct CommandRow(&'static str, &'static str, &'static [Argument]);
+/// A command: its name, its help, its arguments in the order of the help, and examples.
+pub struct CommandRow(
+    pub &'static str,
+    pub &'static str,
+    pub &'static [Argument],
+    pub &'static str,
+);
 
-const FILE: Argument = Argument("FILE", Kind::Word, "A file with a stream of packets");
+const FILE: Argument = Argument(
+    "FILE",
+    Kind::Word,
+    "A file with a stream of packets, or `-` for standard input",
+);
 
 const SET: Argument = Argument("SET", Kind::Word, "A GTID set");
 
@@ -97,16 +149,18 @@ const ONLY: Argument = Argument(
 );
 
 /// All commands, in the order of the help.
-static COMMANDS: [CommandRow; 12] = [
+pub static COMMANDS: [CommandRow; 13] = [
     CommandRow(
         "packets",
         "List the payloads of a stream of packets: offset, sequence id, length",
         &[FILE],
+        "Examples:\n  mrep packets capture.bin\n  zcat capture.bin.gz | mrep packets -",
     ),
     CommandRow(
         "events",
         "List the events of a stream of packets: offset, sequence id, type, size, kind",
         &[FILE],
+        "Example, of what follows the opening of a capture:\n  tail -c +101 capture.bin | mrep events -",
     ),
     CommandRow(
         "minus",
@@ -115,6 +169,7 @@ static COMMANDS: [CommandRow; 12] = [
             Argument("X", Kind::Word, "A GTID set"),
             Argument("Y", Kind::Word, "The GTID set to subtract"),
         ],
+        "Example:\n  mrep minus 3e11fa47-71ca-11e1-9e33-c80aa9429562:1-5 3e11fa47-71ca-11e1-9e33-c80aa9429562:2:4",
     ),
     CommandRow(
         "replay",
@@ -128,9 +183,10 @@ static COMMANDS: [CommandRow; 12] = [
             Argument(
                 "STREAM",
                 Kind::Words,
-                "A file with the bytes that a source sent on one connection",
+                "A file with the bytes that a source sent on one connection, or `-` for standard input",
             ),
         ],
+        "Examples:\n  mrep replay --db F.db --only shop.items capture.bin\n  zcat capture.bin.gz | mrep replay --db F.db --changes feed.json --bytes utf8 -",
     ),
     CommandRow(
         "follow",
@@ -140,11 +196,11 @@ static COMMANDS: [CommandRow; 12] = [
             Argument(
                 "host",
                 Kind::Needed("H"),
-                "The source's host name or address",
+                "The source's host name or address; an IPv6 address may stand in brackets",
             ),
             Argument(
                 "port",
-                Kind::Needed("P"),
+                Kind::Usual("P", "3306"),
                 "The source's port, from 1 to 65535",
             ),
             Argument(
@@ -172,6 +228,7 @@ static COMMANDS: [CommandRow; 12] = [
             BYTES,
             ONLY,
         ],
+        "Example:\n  mrep follow --db F.db --host db1 --user repl --password-file W --server-id 7 --only shop.items",
     ),
     CommandRow(
         "show",
@@ -194,17 +251,25 @@ static COMMANDS: [CommandRow; 12] = [
                 "Print bytes in CSV and JSON as text where they are UTF-8, as hexadecimal digits or as base64. Without it: hex",
             ),
         ],
+        "Example:\n  mrep show --db F.db --only shop.items --format json --bytes utf8",
     ),
     CommandRow(
         "tables",
         "Print the tables that a database was made for, and how many rows of each it has",
         &[DB],
+        "Example:\n  mrep tables --db F.db",
     ),
-    CommandRow("gtids", "Print the executed GTID set of a database", &[DB]),
+    CommandRow(
+        "gtids",
+        "Print the executed GTID set of a database",
+        &[DB],
+        "Example:\n  mrep gtids --db F.db",
+    ),
     CommandRow(
         "missing",
         "Print the part of a GTID set that is not in the executed set of a database",
         &[DB, SET],
+        "Example:\n  mrep missing --db F.db 3e11fa47-71ca-11e1-9e33-c80aa9429562:1-1000",
     ),
     CommandRow(
         "copy",
@@ -214,11 +279,13 @@ static COMMANDS: [CommandRow; 12] = [
             Argument("TO", Kind::Word, "The file to make"),
             Argument("force", Kind::Flag, "Replace the file if it exists"),
         ],
+        "Example:\n  mrep copy --db F.db copy.db && mrep tables --db copy.db",
     ),
     CommandRow(
         "adopt",
         "Record a GTID set as executed without changes, and print what was new of it",
         &[DB, SET],
+        "Example:\n  mrep adopt --db F.db 3e11fa47-71ca-11e1-9e33-c80aa9429562:1-1000",
     ),
     CommandRow(
         "skip",
@@ -231,6 +298,13 @@ static COMMANDS: [CommandRow; 12] = [
                 "A GTID: a hyphenated UUID, `:` and a number",
             ),
         ],
+        "Example:\n  mrep skip --db F.db 3e11fa47-71ca-11e1-9e33-c80aa9429562:7",
+    ),
+    CommandRow(
+        "completions",
+        "Print what a shell completes of a command line of mrep, for this shell to read",
+        &[Argument("SHELL", Kind::WordOf(&SHELLS), "The shell")],
+        "Example:\n  mrep completions bash > ~/.local/share/bash-completion/completions/mrep",
     ),
 ];
 
@@ -244,9 +318,11 @@ fn arg_of<'a>(alloc: Global, row: &Argument) -> Arg<'a> {
         .allow_hyphen_values(kind.may_be_hyphenated());
     match kind {
         Kind::Word => arg,
+        Kind::WordOf(words) => arg.value_parser(words),
         Kind::Words => arg.num_args(1..),
         Kind::Flag => arg.long(name),
         Kind::OneOf(value, words) => arg.long(name).value_name(value).value_parser(words),
+        Kind::Usual(value, usual) => arg.long(name).value_name(value).default_value(usual),
         Kind::Needed(value) | Kind::NeededText(value) | Kind::Text(value) | Kind::Repeated(value) =>
             arg.long(name).value_name(value),
     }
@@ -267,14 +343,16 @@ fn with_arguments<'a>(
 
 /// The command of a row.
 fn command_of<'a>(alloc: Global, row: &CommandRow) -> Result<Command<'a>, AllocError> {
-    let CommandRow(name, about, rows) = *row;
-    with_arguments(alloc, Command::new(alloc, name).about(about), rows)
+    let CommandRow(name, about, rows, examples) = *row;
+    let command = Command::new(alloc, name).about(about).after_help(examples);
+    with_arguments(alloc, command, rows)
 }
 
 /// The command without those below it.
 fn program<'a>(alloc: Global) -> Command<'a> {
     Command::new(alloc, "mrep")
         .version(VERSION)
+        .long_version(LONG_VERSION)
         .about("A MySQL replication follower")
         .subcommand_required(true)
 }

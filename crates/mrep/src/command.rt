@@ -4,11 +4,14 @@ ghost use Rattle.std.specs.Prelude.{◌≤◌, IfOk, IfSome};
 
 use crate::adopt::adopt;
 use crate::arguments::grammar;
+use crate::completions::completions;
 use crate::copy::copy;
 use crate::failure::{DONE, Failure, MEMORY};
 use crate::follow::{Words, follow_source};
+use crate::input::INPUT;
 use crate::minus::minus;
 use crate::name::Shown;
+use crate::notes::{has_database, note_made, note_patterns};
 use crate::payload_lines::{Lines, list};
 use crate::replay::{Choice as Picked, Report, replay};
 use crate::sets::{gtids, missing};
@@ -21,6 +24,14 @@ use std::alloc::{AllocError, Global};
 use std::convert::AsStr;
 use std::io;
 use std::io::Write;
+
+const NO_COMMAND: &str = "a command is required";
+
+const INPUT_AGAIN: &str = "standard input, `-`, is one stream, and cannot be given twice";
+
+/// What help ends with.
+const STATUSES: &[u8] =
+    b"\nExit status:\n  0  done\n  1  refused by the source, or by what the data says\n  2  a mistake in the arguments\n  3  a file, a host, the database or the output\n  4  out of memory\n";
 
 /// The argument with this name. Arguments with these names are required.
 fn word<'a>(given: &ArgMatches<'a>, name: &str) -> &'a str {
@@ -39,6 +50,7 @@ fn run_plain<'a, W: Write>(
     let status = match name {
         "packets" => list(rt, word(given, "FILE"), Lines::Packets, out)?,
         "events" => list(rt, word(given, "FILE"), Lines::Events, out)?,
+        "completions" => completions(word(given, "SHELL"), out)?,
         "minus" => minus(rt, word(given, "X"), word(given, "Y"), out)?,
         _ => return Ok(None),
     };
@@ -54,18 +66,19 @@ fn choice<'g, 'a>(given: &'g ArgMatches<'a>) -> Choice<'g, 'a> {
     }
 }
 
-/// Runs a command that reads a database, if the name is that of one.
-fn run_reading<'a, W: Write>(
+/// Runs a command over a database in a file, if the name is that of one.
+fn run_over<'a, W: Write, E: Write>(
     rt: &HostRuntime,
     name: &str,
     given: &ArgMatches<'a>,
     out: &mut W,
+    err: &mut E,
 ) -> Result<Option<u8>, Failure<'a>>
     ensures { IfOk result (λ done. IfSome done (λ status. status ≤ MEMORY)) }
 {
     let file = word(given, "db");
     let status = match name {
-        "show" => show(rt, file, choice(given), out)?,
+        "show" => show(rt, file, choice(given), out, err)?,
         "tables" => tables(rt, file, out)?,
         "gtids" => gtids(rt, file, out)?,
         "missing" => missing(rt, file, word(given, "SET"), out)?,
@@ -75,6 +88,27 @@ fn run_reading<'a, W: Write>(
         _ => return Ok(None),
     };
     Ok(Some(status))
+}
+
+/// Runs a command over a database in a file, if the name is that of one, and tells if one that only reads has made it.
+fn run_reading<'a, W: Write, E: Write>(
+    rt: &HostRuntime,
+    name: &str,
+    given: &ArgMatches<'a>,
+    out: &mut W,
+    err: &mut E,
+) -> Result<Option<u8>, Failure<'a>>
+    ensures { IfOk result (λ done. IfSome done (λ status. status ≤ MEMORY)) }
+{
+    let file = word(given, "db");
+    let only_reads = matches!(name, "show" | "tables" | "gtids" | "missing");
+    let may_make = only_reads && !has_database(rt, file);
+    let done = run_over(rt, name, given, out, err);
+    if may_make && has_database(rt, file) {
+        let _ = out.flush();
+        note_made(file, err);
+    }
+    done
 }
 
 /// The arguments of what `mrep replay` and `mrep follow` report.
@@ -138,7 +172,7 @@ fn run_named<'a, W: Write, E: Write>(
     if let Some(status) = run_plain(rt, name, given, out)? {
         return Ok(Some(status));
     }
-    run_reading(rt, name, given, out)
+    run_reading(rt, name, given, out, err)
 }
 
 /// Words with their control characters escaped.
@@ -197,14 +231,29 @@ fn run_matches<'a, O: Write, E: Write>(
     let Some((name, given)) = matches.subcommand() else {
         return Err(no_command(command));
     };
+    if reads_input_again(given) {
+        return Err(mistake(command, ErrorKind::ArgumentConflict, INPUT_AGAIN));
+    }
+    note_patterns(given.get_strs("only").unwrap_or(&[]), err);
     match run_named(rt, name, given, out, err)? {
         Some(status) => flushed(status, out, err),
         None => Err(no_command(command)),
     }
 }
 
+/// Whether standard input is to be read as two streams.
+fn reads_input_again(given: &ArgMatches<'_>) -> bool {
+    let streams = given.get_strs("STREAM").unwrap_or(&[]);
+    streams.iter().filter(|name| **name == INPUT).count() > 1
+}
+
 fn no_command<'a>(command: &mut Command<'a>) -> Failure<'a> {
-    match command.error(ErrorKind::MissingSubcommand, "a command is required") {
+    mistake(command, ErrorKind::MissingSubcommand, NO_COMMAND)
+}
+
+/// A mistake in the words.
+fn mistake<'a>(command: &mut Command<'a>, kind: ErrorKind, why: &str) -> Failure<'a> {
+    match command.error(kind, why) {
         Ok(error) => Failure::Words(error),
         Err(_) => Failure::Memory,
     }
@@ -226,9 +275,12 @@ fn answer<'a, S: AsStr, O: Write>(
     Ok(DONE)
 }
 
-/// Prints help or the version, and flushes it.
+/// Prints help, with the exit statuses, or the version, and flushes it.
 fn print<O: Write>(text: &clap::Error, out: &mut O) -> io::Result<()> {
     write!(out, "{text}")?;
+    if text.kind() == ErrorKind::DisplayHelp {
+        out.write_all(STATUSES)?;
+    }
     out.flush()
 }
 

@@ -12,9 +12,11 @@ use crate::socket::Socket;
 use crate::watch::{Source, Watch};
 use binlog::Follow;
 use replica::{Config, ConfigFault, Ended, FollowedFile, Observer};
+use std::alloc::AllocError;
 use std::io::{ErrorKind, Read, Write};
 use std::net::TcpStream;
 use std::os::unix::fs::MetadataExt;
+use std::rc::Rc;
 use std::{fs, io};
 use wire::LARGEST_PAYLOAD;
 
@@ -67,22 +69,22 @@ pub fn follow_source<'a, W: Write, E: Write>(
     let config = settings(rt, words, server_id)?;
     warn(rt, words.password_file, err);
     let streams = [words.host];
+    let progress = progress_of(rt, words.report, None)?;
+    let host = Host {
+        rt,
+        name: words.host,
+        port,
+        progress: shared(&progress)?,
+    };
     let feed = feed_of(rt, words.report, words.db, &[words.password_file])?;
     let source = Source {
         rt,
         streams: &streams,
         port,
         db: words.db,
-        changes: words.report.changes,
+        changes: words.report.changes.unwrap_or(OUTPUT),
     };
-    let progress = progress_of(rt, words.report, None);
-    let host = Host {
-        rt,
-        name: words.host,
-        port,
-        progress: progress.as_ref(),
-    };
-    let mut watch = Watch::new(source, progress.as_ref(), feed, out, err);
+    let mut watch = Watch::new(source, progress, feed, out, err);
     let followed = match follow_over(host, words, only.as_ref(), config, &mut watch) {
         Ok(followed) => followed,
         Err(failure) => {
@@ -192,18 +194,37 @@ struct Followed<'a> {
     closed: Result<(), Failure<'a>>,
 }
 
-/// Where the source listens.
-#[derive(Clone, Copy)]
+/// The host of a name: an IPv6 address may stand in brackets.
+fn unbracketed(name: &str) -> &str {
+    let Some(rest) = name.strip_prefix('[') else {
+        return name;
+    };
+    match rest.strip_suffix(']') {
+        Some(address) if address.contains(':') => address,
+        _ => name,
+    }
+}
+
+/// The same progress, for a second owner.
+fn shared(progress: &Option<Rc<Progress>>) -> Result<Option<Rc<Progress>>, AllocError> {
+    match progress {
+        Some(progress) => Ok(Some(progress.clone()?)),
+        None => Ok(None),
+    }
+}
+
+/// Where the source listens, and the progress that the connection reports, if it is reported.
+#[derive(Drop)]
 struct Host<'r> {
     rt: &'r HostRuntime,
     name: &'r str,
     port: u16,
-    progress: Option<&'r Progress>,
+    progress: Option<Rc<Progress>>,
 }
 
 impl<'r> Host<'r> {
     fn connect(self) -> io::Result<Socket<'r>> {
-        match TcpStream::connect(self.rt, (self.name, self.port)) {
+        match TcpStream::connect(self.rt, (unbracketed(self.name), self.port)) {
             Ok(stream) => Ok(Socket::new(self.rt, stream, self.progress)),
             Err(cause) => Err(cause),
         }

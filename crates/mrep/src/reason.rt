@@ -116,7 +116,7 @@ pub fn write_end<W: Write>(number: usize, end: &Ended, out: &mut W) -> io::Resul
 pub fn write_cause<W: Write>(
     stream: &str,
     file: &str,
-    changes: Option<&str>,
+    changes: &str,
     reason: &Reason,
     out: &mut W,
 ) -> io::Result<()> {
@@ -144,10 +144,11 @@ fn write_refusal<W: Write>(stream: Shown<'_>, refusal: Refusal, out: &mut W) -> 
 }
 
 /// Writes what stopped the command before a transaction.
-fn write_halted<W: Write>(stream: Shown<'_>, changes: Option<&str>, out: &mut W) -> io::Result<()> {
-    let feed = match changes {
-        Some(OUTPUT) | None => "standard output",
-        Some(name) => name,
+fn write_halted<W: Write>(stream: Shown<'_>, changes: &str, out: &mut W) -> io::Result<()> {
+    let feed = if changes == OUTPUT {
+        "standard output"
+    } else {
+        changes
     };
     writeln!(
         out,

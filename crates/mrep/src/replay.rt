@@ -6,6 +6,7 @@ ghost use Rattle.mrep.specs.Reason.{first_status};
 use crate::change_feed::{Feed, OUTPUT};
 use crate::database::{closed, replay_into};
 use crate::failure::{DONE, Failure, MEMORY};
+use crate::input::Input;
 use crate::name::read_table;
 use crate::output_format::{Format, encoding_of};
 use crate::progress::Progress;
@@ -13,10 +14,10 @@ use crate::reason::first_status;
 use crate::watch::{Source, Stop, Watch};
 use binlog::Follow;
 use replica::{Capture, Config, Ended, Halt, Replayed, read_some};
-use std::alloc::Global;
-use std::fs::File;
+use std::alloc::{AllocFailed, Global};
+use std::io;
 use std::io::{IsTerminal, Write};
-use std::{fs, io};
+use std::rc::Rc;
 use wire::LARGEST_PAYLOAD;
 
 /// The server id of the replica. It is never sent: a replay sends nothing.
@@ -72,13 +73,17 @@ pub fn feed_of<'a>(
 }
 
 /// The progress that is reported, if that is asked for, with how many bytes are to be read, if that is known.
-pub fn progress_of(rt: &HostRuntime, report: Report<'_>, total: Option<u64>) -> Option<Progress> {
-    if report.progress {
-        let redraws = rt.stderr().is_terminal();
-        Some(Progress::new(rt, total, redraws))
-    } else {
-        None
+pub fn progress_of(
+    rt: &HostRuntime,
+    report: Report<'_>,
+    total: Option<u64>,
+) -> Result<Option<Rc<Progress>>, AllocFailed<Progress>> {
+    if !report.progress {
+        return Ok(None);
     }
+    let redraws = rt.stderr().is_terminal();
+    let progress = Rc::new(rt.alloc(), Progress::new(rt, total, redraws))?;
+    Ok(Some(progress))
 }
 
 /// The failure that stopped the reading, if there is one.
@@ -116,16 +121,16 @@ pub fn replay<'a, W: Write, E: Write>(
     let Ok(config) = Config::new(rt.alloc(), b"", b"", SERVER_ID, false, LARGEST_PAYLOAD) else {
         return Err(Failure::Memory);
     };
+    let progress = progress_of(rt, report, total)?;
     let feed = feed_of(rt, report, db, names)?;
     let source = Source {
         rt,
         streams: names,
         port: 0,
         db,
-        changes: report.changes,
+        changes: report.changes.unwrap_or(OUTPUT),
     };
-    let progress = progress_of(rt, report, total);
-    let mut watch = Watch::new(source, progress.as_ref(), feed, out, err);
+    let mut watch = Watch::new(source, progress, feed, out, err);
     let done = replay_into(rt, db, only.as_ref(), &config, captures, &mut watch);
     let done = match done {
         Ok(done) => done,
@@ -200,7 +205,7 @@ pub fn tables<'a>(alloc: Global, words: &[&'a str]) -> Result<Follow, Failure<'a
 fn open_streams<'a>(
     rt: &HostRuntime,
     names: &[&'a str],
-) -> Result<(Vec<Capture<File>>, Option<u64>), Failure<'a>> {
+) -> Result<(Vec<Capture<Input>>, Option<u64>), Failure<'a>> {
     let mut streams = Vec::with_capacity(rt.alloc(), names.len())?;
     let mut total = Some(0u64);
     for name in names {
@@ -215,14 +220,12 @@ fn open_streams<'a>(
 }
 
 /// Opens a stream and reads its first byte. Whether it is a file, whose size is known.
-fn open_stream<'a>(rt: &HostRuntime, name: &'a str) -> Result<(Capture<File>, bool), Failure<'a>> {
-    let mut reader = fs::open(rt, name).map_err(|cause| Failure::File { name, cause })?;
-    let metadata = match reader.metadata() {
-        Ok(metadata) => metadata,
+fn open_stream<'a>(rt: &HostRuntime, name: &'a str) -> Result<(Capture<Input>, bool), Failure<'a>> {
+    let mut reader = Input::open(rt, name).map_err(|cause| Failure::File { name, cause })?;
+    let size = match reader.size() {
+        Ok(size) => size,
         Err(cause) => return Err(Failure::File { name, cause }),
     };
-    let is_file = metadata.is_file();
-    let size = if is_file { metadata.len() } else { 0 };
     let mut byte = [0u8; 1];
     let first = match read_some(&mut reader, &mut byte) {
         Ok(0) => None,
@@ -232,7 +235,7 @@ fn open_stream<'a>(rt: &HostRuntime, name: &'a str) -> Result<(Capture<File>, bo
     let capture = Capture {
         first,
         reader,
-        size,
+        size: size.unwrap_or(0),
     };
-    Ok((capture, is_file))
+    Ok((capture, size.is_some()))
 }

@@ -8,6 +8,7 @@ use replica::Duplex;
 use std::io;
 use std::io::{ErrorKind, Read, Write};
 use std::net::TcpStream;
+use std::rc::Rc;
 
 /// A TCP connection, and the progress that is reported once nothing has come for a second. Nothing is specified about its
 /// bytes.
@@ -15,7 +16,7 @@ use std::net::TcpStream;
 pub struct Socket<'r> {
     rt: &'r HostRuntime,
     stream: TcpStream,
-    progress: Option<&'r Progress>,
+    progress: Option<Rc<Progress>>,
 }
 
 impl<'r> Socket<'r> {
@@ -23,12 +24,27 @@ impl<'r> Socket<'r> {
     pub fn new(
         rt: &'r HostRuntime,
         stream: TcpStream,
-        progress: Option<&'r Progress>,
+        progress: Option<Rc<Progress>>,
     ) -> Socket<'r> {
         Socket {
             rt,
             stream,
             progress,
+        }
+    }
+
+    /// Whether there is progress to report.
+    fn has_news(&self) -> bool {
+        match &self.progress {
+            Some(progress) => progress.has_news(),
+            None => false,
+        }
+    }
+
+    /// Reports the progress.
+    fn report(&self) {
+        if let Some(progress) = &self.progress {
+            progress.report(self.rt, &mut self.rt.stderr());
         }
     }
 
@@ -68,13 +84,11 @@ impl Duplex for Socket<'_> {
     ghost failures = { λ s. None };
 
     fn receive(&mut self, buf: &mut [u8]) -> io::Result<usize> {
-        if let Some(progress) = self.progress
-            && progress.has_news()
-        {
+        if self.has_news() {
             if let Some(read) = self.read_soon(buf) {
                 return read;
             }
-            progress.report(self.rt, &mut self.rt.stderr());
+            self.report();
         }
         self.stream.read(buf)
     }

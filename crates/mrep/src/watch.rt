@@ -15,6 +15,7 @@ use gtid::GtidSet;
 use replica::{Ended, Observer, Reason};
 use std::io;
 use std::io::Write;
+use std::rc::Rc;
 
 /// Why reading is stopped.
 #[derive(Drop)]
@@ -34,17 +35,17 @@ pub struct Source<'a> {
     /// The port of a source that is followed; 0 if streams are read.
     pub port: u16,
     pub db: &'a str,
-    /// The name of the change feed, if there is one.
-    pub changes: Option<&'a str>,
+    /// The name of the change feed: `-` for standard output, also without one.
+    pub changes: &'a str,
 }
 
 /// An observer that reports.
 #[derive(Drop)]
-pub struct Watch<'a, 'p, O, E> {
+pub struct Watch<'a, O, E> {
     source: Source<'a>,
     out: &'a mut O,
     err: &'a mut E,
-    progress: Option<&'p Progress>,
+    progress: Option<Rc<Progress>>,
     feed: Option<Feed>,
     /// The executed set at the start, until the feed has it.
     executed: Option<String>,
@@ -56,15 +57,15 @@ pub struct Watch<'a, 'p, O, E> {
     stop: Option<Stop>,
 }
 
-impl<'a, 'p, O: Write, E: Write> Watch<'a, 'p, O, E> {
+impl<'a, O: Write, E: Write> Watch<'a, O, E> {
     /// An observer that nothing has been reported to.
     pub fn new(
         source: Source<'a>,
-        progress: Option<&'p Progress>,
+        progress: Option<Rc<Progress>>,
         feed: Option<Feed>,
         out: &'a mut O,
         err: &'a mut E,
-    ) -> Watch<'a, 'p, O, E> {
+    ) -> Watch<'a, O, E> {
         Watch {
             source,
             out,
@@ -144,7 +145,7 @@ impl<'a, 'p, O: Write, E: Write> Watch<'a, 'p, O, E> {
     ) -> io::Result<()>
         ensures { self.new.stop ≡ self.old.stop }
     {
-        if let Some(progress) = self.progress {
+        if let Some(progress) = &self.progress {
             progress.finish(self.source.rt, self.err);
         }
         let printed = self.print(number, end);
@@ -174,7 +175,7 @@ impl<'a, 'p, O: Write, E: Write> Watch<'a, 'p, O, E> {
     }
 }
 
-impl<'a, 'p, O: Write, E: Write> Observer for Watch<'a, 'p, O, E> {
+impl<'a, O: Write, E: Write> Observer for Watch<'a, O, E> {
     ghost has_stopped = { λ w. is_some w.stop };
 
     fn opened(&mut self, executed: &GtidSet) {
@@ -205,7 +206,7 @@ impl<'a, 'p, O: Write, E: Write> Observer for Watch<'a, 'p, O, E> {
     }
 
     fn received(&mut self, count: usize) {
-        if let Some(progress) = self.progress {
+        if let Some(progress) = &self.progress {
             progress.read(self.source.rt, count, self.err);
         }
     }
@@ -228,7 +229,7 @@ impl<'a, 'p, O: Write, E: Write> Observer for Watch<'a, 'p, O, E> {
             Ok(applied) => {
                 self.details.gtid = None;
                 if *applied {
-                    if let Some(progress) = self.progress {
+                    if let Some(progress) = &self.progress {
                         progress.count();
                     }
                     self.put(FeedEntry::Committed(delivery.gtid));
