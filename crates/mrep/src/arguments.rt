@@ -59,7 +59,11 @@ struct Argument(&'static str, Kind, &'static str);
 /// A command: its name, its help, and its arguments in the order of the help.
 struct CommandRow(&'static str, &'static str, &'static [Argument]);
 
-const FILE: Argument = Argument("FILE", Kind::Word, "A file with a stream of packets");
+const FILE: Argument = Argument(
+    "FILE",
+    Kind::Word,
+    "A file with a stream of packets, or `-` for standard input",
+);
 
 const SET: Argument = Argument("SET", Kind::Word, "A GTID set");
 
@@ -128,7 +132,7 @@ static COMMANDS: [CommandRow; 12] = [
             Argument(
                 "STREAM",
                 Kind::Words,
-                "A file with the bytes that a source sent on one connection",
+                "A file with the bytes that a source sent on one connection, or `-` for standard input",
             ),
         ],
     ),

@@ -7,6 +7,7 @@ use crate::arguments::grammar;
 use crate::copy::copy;
 use crate::failure::{DONE, Failure, MEMORY};
 use crate::follow::{Words, follow_source};
+use crate::input::INPUT;
 use crate::minus::minus;
 use crate::name::Shown;
 use crate::payload_lines::{Lines, list};
@@ -21,6 +22,10 @@ use std::alloc::{AllocError, Global};
 use std::convert::AsStr;
 use std::io;
 use std::io::Write;
+
+const NO_COMMAND: &str = "a command is required";
+
+const INPUT_AGAIN: &str = "standard input, `-`, is one stream, and cannot be given twice";
 
 /// The argument with this name. Arguments with these names are required.
 fn word<'a>(given: &ArgMatches<'a>, name: &str) -> &'a str {
@@ -197,14 +202,28 @@ fn run_matches<'a, O: Write, E: Write>(
     let Some((name, given)) = matches.subcommand() else {
         return Err(no_command(command));
     };
+    if reads_input_again(given) {
+        return Err(mistake(command, ErrorKind::ArgumentConflict, INPUT_AGAIN));
+    }
     match run_named(rt, name, given, out, err)? {
         Some(status) => flushed(status, out, err),
         None => Err(no_command(command)),
     }
 }
 
+/// Whether standard input is to be read as two streams.
+fn reads_input_again(given: &ArgMatches<'_>) -> bool {
+    let streams = given.get_strs("STREAM").unwrap_or(&[]);
+    streams.iter().filter(|name| **name == INPUT).count() > 1
+}
+
 fn no_command<'a>(command: &mut Command<'a>) -> Failure<'a> {
-    match command.error(ErrorKind::MissingSubcommand, "a command is required") {
+    mistake(command, ErrorKind::MissingSubcommand, NO_COMMAND)
+}
+
+/// A mistake in the words.
+fn mistake<'a>(command: &mut Command<'a>, kind: ErrorKind, why: &str) -> Failure<'a> {
+    match command.error(kind, why) {
         Ok(error) => Failure::Words(error),
         Err(_) => Failure::Memory,
     }

@@ -19,6 +19,7 @@ mod failure;
 mod follow;
 mod forge;
 mod hex;
+mod input;
 mod json_lines;
 mod minus;
 mod name;

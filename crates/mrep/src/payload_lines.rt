@@ -4,13 +4,13 @@ ghost use Rattle.std.specs.Prelude.{◌≤◌, IfOk};
 
 use crate::events::write_event;
 use crate::failure::{DONE, Failure, REFUSED};
+use crate::input::Input;
 use crate::payload_listing::{Entry, Listing};
 use crate::reason::wire_reason;
 use replica::{PIECE, read_some};
 use std::alloc::Global;
+use std::io;
 use std::io::{Read, Write};
-use std::rt::Files;
-use std::{fs, io};
 use wire::WireFault;
 
 /// What is printed of a payload.
@@ -22,17 +22,17 @@ pub enum Lines {
     Events,
 }
 
-/// Lists the payloads of a file, and returns the status: 0 if the file ends with a payload, 1 if it ends inside one or
+/// Lists the payloads of a file or of standard input, and returns the status: 0 if the file ends with a payload, 1 if it ends inside one or
 /// has a fault.
-pub fn list<'a, R: Files + AllocGlobal, W: Write>(
-    rt: &R,
+pub fn list<'a, W: Write>(
+    rt: &HostRuntime,
     name: &'a str,
     lines: Lines,
     out: &mut W,
 ) -> Result<u8, Failure<'a>>
     ensures { IfOk result (λ status. status ≤ REFUSED) }
 {
-    let mut file = fs::open(rt, name).map_err(|cause| Failure::File { name, cause })?;
+    let mut file = Input::open(rt, name).map_err(|cause| Failure::File { name, cause })?;
     let mut piece = vec![in rt.alloc(); 0; PIECE]?;
     list_all(rt.alloc(), &mut file, name, lines, &mut piece, out)
 }

@@ -6,6 +6,7 @@ ghost use Rattle.mrep.specs.Reason.{first_status};
 use crate::change_feed::{Feed, OUTPUT};
 use crate::database::{closed, replay_into};
 use crate::failure::{DONE, Failure, MEMORY};
+use crate::input::Input;
 use crate::name::read_table;
 use crate::output_format::{Format, encoding_of};
 use crate::reason::first_status;
@@ -13,9 +14,8 @@ use crate::watch::{Reporting, Source, Stop, Watch};
 use binlog::Follow;
 use replica::{Capture, Config, Ended, Halt, Replayed, read_some};
 use std::alloc::Global;
-use std::fs::File;
+use std::io;
 use std::io::Write;
-use std::{fs, io};
 use wire::LARGEST_PAYLOAD;
 
 /// The server id of the replica. It is never sent: a replay sends nothing.
@@ -191,7 +191,7 @@ pub fn tables<'a>(alloc: Global, words: &[&'a str]) -> Result<Follow, Failure<'a
 fn open_streams<'a>(
     rt: &HostRuntime,
     names: &[&'a str],
-) -> Result<(Vec<Capture<File>>, Option<u64>), Failure<'a>> {
+) -> Result<(Vec<Capture<Input>>, Option<u64>), Failure<'a>> {
     let mut streams = Vec::with_capacity(rt.alloc(), names.len())?;
     let mut total = Some(0u64);
     for name in names {
@@ -206,14 +206,12 @@ fn open_streams<'a>(
 }
 
 /// Opens a stream and reads its first byte. Whether it is a file, whose size is known.
-fn open_stream<'a>(rt: &HostRuntime, name: &'a str) -> Result<(Capture<File>, bool), Failure<'a>> {
-    let mut reader = fs::open(rt, name).map_err(|cause| Failure::File { name, cause })?;
-    let metadata = match reader.metadata() {
-        Ok(metadata) => metadata,
+fn open_stream<'a>(rt: &HostRuntime, name: &'a str) -> Result<(Capture<Input>, bool), Failure<'a>> {
+    let mut reader = Input::open(rt, name).map_err(|cause| Failure::File { name, cause })?;
+    let size = match reader.size() {
+        Ok(size) => size,
         Err(cause) => return Err(Failure::File { name, cause }),
     };
-    let is_file = metadata.is_file();
-    let size = if is_file { metadata.len() } else { 0 };
     let mut byte = [0u8; 1];
     let first = match read_some(&mut reader, &mut byte) {
         Ok(0) => None,
@@ -223,7 +221,7 @@ fn open_stream<'a>(rt: &HostRuntime, name: &'a str) -> Result<(Capture<File>, bo
     let capture = Capture {
         first,
         reader,
-        size,
+        size: size.unwrap_or(0),
     };
-    Ok((capture, is_file))
+    Ok((capture, size.is_some()))
 }
