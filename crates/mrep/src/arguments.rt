@@ -16,6 +16,8 @@ enum Kind {
     Words,
     /// A required option with a value of this name.
     Needed(&'static str),
+    /// An option with a value of this name, and what it is without the option.
+    Usual(&'static str, &'static str),
     /// A required option with a value of this name, which may begin with a hyphen.
     NeededText(&'static str),
     /// An option with a value of this name, which may begin with a hyphen.
@@ -144,11 +146,11 @@ static COMMANDS: [CommandRow; 12] = [
             Argument(
                 "host",
                 Kind::Needed("H"),
-                "The source's host name or address",
+                "The source's host name or address; an IPv6 address may stand in brackets",
             ),
             Argument(
                 "port",
-                Kind::Needed("P"),
+                Kind::Usual("P", "3306"),
                 "The source's port, from 1 to 65535",
             ),
             Argument(
@@ -251,6 +253,7 @@ fn arg_of<'a>(alloc: Global, row: &Argument) -> Arg<'a> {
         Kind::Words => arg.num_args(1..),
         Kind::Flag => arg.long(name),
         Kind::OneOf(value, words) => arg.long(name).value_name(value).value_parser(words),
+        Kind::Usual(value, usual) => arg.long(name).value_name(value).default_value(usual),
         Kind::Needed(value) | Kind::NeededText(value) | Kind::Text(value) | Kind::Repeated(value) =>
             arg.long(name).value_name(value),
     }

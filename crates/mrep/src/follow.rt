@@ -141,6 +141,17 @@ struct Followed<'a> {
     closed: Result<(), Failure<'a>>,
 }
 
+/// The host of a name: an IPv6 address may stand in brackets.
+fn unbracketed(name: &str) -> &str {
+    let Some(rest) = name.strip_prefix('[') else {
+        return name;
+    };
+    match rest.strip_suffix(']') {
+        Some(address) if address.contains(':') => address,
+        _ => name,
+    }
+}
+
 /// Where the source listens.
 #[derive(Clone, Copy)]
 struct Host<'r> {
@@ -151,7 +162,7 @@ struct Host<'r> {
 
 impl Host<'_> {
     fn connect(self) -> io::Result<Socket> {
-        match TcpStream::connect(self.rt, (self.name, self.port)) {
+        match TcpStream::connect(self.rt, (unbracketed(self.name), self.port)) {
             Ok(stream) => Ok(Socket(stream)),
             Err(cause) => Err(cause),
         }
