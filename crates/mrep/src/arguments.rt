@@ -4,12 +4,17 @@ use crate::output_format::{ENCODINGS, FORMATS};
 use clap::{Arg, ArgAction, Command};
 use std::alloc::{AllocError, Global};
 
-/// The version that `mrep --version` prints.
+/// The version that `mrep -V` prints.
 const VERSION: &str = "0.1.0";
+
+/// What `mrep --version` prints: the version, the layouts of databases, and the identity of the toolchain, as `rt version`
+/// prints it.
+const LONG_VERSION: &str =
+    "0.1.0\nlayout 2; a database of layout 1 is migrated\nproved with rattle-kit-13f logic dac8208d650f15bf";
 
 /// How an argument is given.
 #[derive(Clone, Copy)]
-enum Kind {
+pub enum Kind {
     /// A word.
     Word,
     /// One word or more.
@@ -56,10 +61,15 @@ impl Kind {
 
 /// An argument: its name, how it is given, and its help.
 #[derive(Clone, Copy)]
-struct Argument(&'static str, Kind, &'static str);
+pub struct Argument(pub &'static str, pub Kind, pub &'static str);
 
-/// A command: its name, its help, and its arguments in the order of the help.
-struct CommandRow(&'static str, &'static str, &'static [Argument]);
+/// A command: its name, its help, its arguments in the order of the help, and examples.
+pub struct CommandRow(
+    pub &'static str,
+    pub &'static str,
+    pub &'static [Argument],
+    pub &'static str,
+);
 
 const FILE: Argument = Argument(
     "FILE",
@@ -108,11 +118,13 @@ static COMMANDS: [CommandRow; 12] = [
         "packets",
         "List the payloads of a stream of packets: offset, sequence id, length",
         &[FILE],
+        "Examples:\n  mrep packets capture.bin\n  zcat capture.bin.gz | mrep packets -",
     ),
     CommandRow(
         "events",
         "List the events of a stream of packets: offset, sequence id, type, size, kind",
         &[FILE],
+        "Example, of what follows the opening of a capture:\n  tail -c +101 capture.bin | mrep events -",
     ),
     CommandRow(
         "minus",
@@ -121,6 +133,7 @@ static COMMANDS: [CommandRow; 12] = [
             Argument("X", Kind::Word, "A GTID set"),
             Argument("Y", Kind::Word, "The GTID set to subtract"),
         ],
+        "Example:\n  mrep minus 3e11fa47-71ca-11e1-9e33-c80aa9429562:1-5 3e11fa47-71ca-11e1-9e33-c80aa9429562:2:4",
     ),
     CommandRow(
         "replay",
@@ -137,6 +150,7 @@ static COMMANDS: [CommandRow; 12] = [
                 "A file with the bytes that a source sent on one connection, or `-` for standard input",
             ),
         ],
+        "Examples:\n  mrep replay --db F.db --only shop.items capture.bin\n  zcat capture.bin.gz | mrep replay --db F.db --changes feed.json --bytes utf8 -",
     ),
     CommandRow(
         "follow",
@@ -178,6 +192,7 @@ static COMMANDS: [CommandRow; 12] = [
             BYTES,
             ONLY,
         ],
+        "Example:\n  mrep follow --db F.db --host db1 --user repl --password-file W --server-id 7 --only shop.items",
     ),
     CommandRow(
         "show",
@@ -200,17 +215,25 @@ static COMMANDS: [CommandRow; 12] = [
                 "Print bytes in CSV and JSON as text where they are UTF-8, as hexadecimal digits or as base64. Without it: hex",
             ),
         ],
+        "Example:\n  mrep show --db F.db --only shop.items --format json --bytes utf8",
     ),
     CommandRow(
         "tables",
         "Print the tables that a database was made for, and how many rows of each it has",
         &[DB],
+        "Example:\n  mrep tables --db F.db",
     ),
-    CommandRow("gtids", "Print the executed GTID set of a database", &[DB]),
+    CommandRow(
+        "gtids",
+        "Print the executed GTID set of a database",
+        &[DB],
+        "Example:\n  mrep gtids --db F.db",
+    ),
     CommandRow(
         "missing",
         "Print the part of a GTID set that is not in the executed set of a database",
         &[DB, SET],
+        "Example:\n  mrep missing --db F.db 3e11fa47-71ca-11e1-9e33-c80aa9429562:1-1000",
     ),
     CommandRow(
         "copy",
@@ -220,11 +243,13 @@ static COMMANDS: [CommandRow; 12] = [
             Argument("TO", Kind::Word, "The file to make"),
             Argument("force", Kind::Flag, "Replace the file if it exists"),
         ],
+        "Example:\n  mrep copy --db F.db copy.db && mrep tables --db copy.db",
     ),
     CommandRow(
         "adopt",
         "Record a GTID set as executed without changes, and print what was new of it",
         &[DB, SET],
+        "Example:\n  mrep adopt --db F.db 3e11fa47-71ca-11e1-9e33-c80aa9429562:1-1000",
     ),
     CommandRow(
         "skip",
@@ -237,6 +262,7 @@ static COMMANDS: [CommandRow; 12] = [
                 "A GTID: a hyphenated UUID, `:` and a number",
             ),
         ],
+        "Example:\n  mrep skip --db F.db 3e11fa47-71ca-11e1-9e33-c80aa9429562:7",
     ),
 ];
 
@@ -274,14 +300,16 @@ fn with_arguments<'a>(
 
 /// The command of a row.
 fn command_of<'a>(alloc: Global, row: &CommandRow) -> Result<Command<'a>, AllocError> {
-    let CommandRow(name, about, rows) = *row;
-    with_arguments(alloc, Command::new(alloc, name).about(about), rows)
+    let CommandRow(name, about, rows, examples) = *row;
+    let command = Command::new(alloc, name).about(about).after_help(examples);
+    with_arguments(alloc, command, rows)
 }
 
 /// The command without those below it.
 fn program<'a>(alloc: Global) -> Command<'a> {
     Command::new(alloc, "mrep")
         .version(VERSION)
+        .long_version(LONG_VERSION)
         .about("A MySQL replication follower")
         .subcommand_required(true)
 }

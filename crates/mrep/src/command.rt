@@ -27,6 +27,10 @@ const NO_COMMAND: &str = "a command is required";
 
 const INPUT_AGAIN: &str = "standard input, `-`, is one stream, and cannot be given twice";
 
+/// What help ends with.
+const STATUSES: &[u8] =
+    b"\nExit status:\n  0  done\n  1  refused by the source, or by what the data says\n  2  a mistake in the arguments\n  3  a file, a host, the database or the output\n  4  out of memory\n";
+
 /// The argument with this name. Arguments with these names are required.
 fn word<'a>(given: &ArgMatches<'a>, name: &str) -> &'a str {
     given.get_str(name).unwrap_or("")
@@ -245,9 +249,12 @@ fn answer<'a, S: AsStr, O: Write>(
     Ok(DONE)
 }
 
-/// Prints help or the version, and flushes it.
+/// Prints help, with the exit statuses, or the version, and flushes it.
 fn print<O: Write>(text: &clap::Error, out: &mut O) -> io::Result<()> {
     write!(out, "{text}")?;
+    if text.kind() == ErrorKind::DisplayHelp {
+        out.write_all(STATUSES)?;
+    }
     out.flush()
 }
 
