@@ -10,6 +10,7 @@ use crate::follow::{Words, follow_source};
 use crate::input::INPUT;
 use crate::minus::minus;
 use crate::name::Shown;
+use crate::notes::{has_database, note_made, note_patterns};
 use crate::payload_lines::{Lines, list};
 use crate::replay::{Choice as Picked, Report, replay};
 use crate::sets::{gtids, missing};
@@ -63,18 +64,19 @@ fn choice<'g, 'a>(given: &'g ArgMatches<'a>) -> Choice<'g, 'a> {
     }
 }
 
-/// Runs a command that reads a database, if the name is that of one.
-fn run_reading<'a, W: Write>(
+/// Runs a command over a database in a file, if the name is that of one.
+fn run_over<'a, W: Write, E: Write>(
     rt: &HostRuntime,
     name: &str,
     given: &ArgMatches<'a>,
     out: &mut W,
+    err: &mut E,
 ) -> Result<Option<u8>, Failure<'a>>
     ensures { IfOk result (λ done. IfSome done (λ status. status ≤ MEMORY)) }
 {
     let file = word(given, "db");
     let status = match name {
-        "show" => show(rt, file, choice(given), out)?,
+        "show" => show(rt, file, choice(given), out, err)?,
         "tables" => tables(rt, file, out)?,
         "gtids" => gtids(rt, file, out)?,
         "missing" => missing(rt, file, word(given, "SET"), out)?,
@@ -84,6 +86,27 @@ fn run_reading<'a, W: Write>(
         _ => return Ok(None),
     };
     Ok(Some(status))
+}
+
+/// Runs a command over a database in a file, if the name is that of one, and tells if one that only reads has made it.
+fn run_reading<'a, W: Write, E: Write>(
+    rt: &HostRuntime,
+    name: &str,
+    given: &ArgMatches<'a>,
+    out: &mut W,
+    err: &mut E,
+) -> Result<Option<u8>, Failure<'a>>
+    ensures { IfOk result (λ done. IfSome done (λ status. status ≤ MEMORY)) }
+{
+    let file = word(given, "db");
+    let only_reads = matches!(name, "show" | "tables" | "gtids" | "missing");
+    let may_make = only_reads && !has_database(rt, file);
+    let done = run_over(rt, name, given, out, err);
+    if may_make && has_database(rt, file) {
+        let _ = out.flush();
+        note_made(file, err);
+    }
+    done
 }
 
 /// The arguments of what `mrep replay` and `mrep follow` report.
@@ -147,7 +170,7 @@ fn run_named<'a, W: Write, E: Write>(
     if let Some(status) = run_plain(rt, name, given, out)? {
         return Ok(Some(status));
     }
-    run_reading(rt, name, given, out)
+    run_reading(rt, name, given, out, err)
 }
 
 /// Words with their control characters escaped.
@@ -209,6 +232,7 @@ fn run_matches<'a, O: Write, E: Write>(
     if reads_input_again(given) {
         return Err(mistake(command, ErrorKind::ArgumentConflict, INPUT_AGAIN));
     }
+    note_patterns(given.get_strs("only").unwrap_or(&[]), err);
     match run_named(rt, name, given, out, err)? {
         Some(status) => flushed(status, out, err),
         None => Err(no_command(command)),

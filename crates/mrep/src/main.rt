@@ -23,6 +23,7 @@ mod input;
 mod json_lines;
 mod minus;
 mod name;
+mod notes;
 mod output_format;
 mod payload_lines;
 mod payload_listing;

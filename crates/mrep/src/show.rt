@@ -8,9 +8,9 @@ use crate::database::{Work, work_on};
 use crate::failure::{DONE, Failure};
 use crate::json_lines::write_object;
 use crate::name::write_table;
+use crate::notes::Chosen;
 use crate::output_format::{Encoding, Format, encoding_of, format_of};
 use crate::replay::tables;
-use binlog::Follow;
 use csv::Writer;
 use sqlite::Alter;
 use std::alloc::Global;
@@ -27,49 +27,51 @@ pub struct Choice<'g, 'a> {
     pub bytes: Option<&'a str>,
 }
 
-/// Prints the rows of a database, each once, with the number of its copies.
-pub fn show<'a, W: Write>(
+/// Prints the rows of a database, each once, with the number of its copies. Tells of which tables that are named it has
+/// none.
+pub fn show<'a, W: Write, E: Write>(
     rt: &HostRuntime,
     file: &'a str,
     choice: Choice<'_, 'a>,
     out: &mut W,
+    err: &mut E,
 ) -> Result<u8, Failure<'a>>
     ensures { IfOk result (λ status. status ≡ DONE) }
 {
     let format = format_of(choice.format);
     let encoding = encoding_of(choice.bytes, format)?;
     let only = tables(rt.alloc(), choice.only.unwrap_or(&[]))?;
-    work_on(
-        rt,
-        file,
-        Showing {
-            only,
-            format,
-            encoding,
-            out,
-        },
-    )?;
+    let only = Chosen::new(rt.alloc(), only)?;
+    let showing = Showing {
+        only,
+        format,
+        encoding,
+        out: &mut *out,
+    };
+    let only = work_on(rt, file, showing)?;
+    out.flush()?;
+    let _ = only.note_missing(file, err);
     Ok(DONE)
 }
 
 /// The printing of the rows of these tables in this format.
 #[derive(Drop)]
 struct Showing<'o, W> {
-    only: Follow,
+    only: Chosen,
     format: Format,
     encoding: Encoding,
     out: &'o mut W,
 }
 
 impl<W: Write> Work for Showing<'_, W> {
-    type Done = ();
+    type Done = Chosen;
 
     fn run<'a, S: Alter>(
         self,
         alloc: Global,
         name: &'a str,
         store: &mut Store<S>,
-    ) -> Result<(), Failure<'a>> {
+    ) -> Result<Chosen, Failure<'a>> {
         write_rows(
             alloc,
             name,
@@ -82,29 +84,54 @@ impl<W: Write> Work for Showing<'_, W> {
     }
 }
 
-/// Writes the rows of these tables in this format.
+/// Writes the rows of these tables in this format. Returns of which of them there was a row.
 fn write_rows<'a, S: Alter, W: Write>(
     alloc: Global,
     name: &'a str,
     store: &mut Store<S>,
-    only: Follow,
+    only: Chosen,
     format: Format,
     encoding: Encoding,
     out: &mut W,
-) -> Result<(), Failure<'a>> {
+) -> Result<Chosen, Failure<'a>> {
     match format {
-        Format::Text => list(name, store, &mut Lines { only, out }),
+        Format::Text => write_lines(name, store, only, out),
         Format::Csv => write_records(alloc, name, store, only, encoding, out),
-        Format::Json => {
-            let mut objects = Objects {
-                alloc,
-                only,
-                encoding,
-                out,
-            };
-            list(name, store, &mut objects)
-        }
+        Format::Json => write_objects(alloc, name, store, only, encoding, out),
     }
+}
+
+/// Writes a line for each row of these tables.
+fn write_lines<'a, S: Alter, W: Write>(
+    name: &'a str,
+    store: &mut Store<S>,
+    only: Chosen,
+    out: &mut W,
+) -> Result<Chosen, Failure<'a>> {
+    let mut lines = Lines { only, out };
+    list(name, store, &mut lines)?;
+    let Lines { only, .. } = lines;
+    Ok(only)
+}
+
+/// Writes an object for each row of these tables.
+fn write_objects<'a, S: Alter, W: Write>(
+    alloc: Global,
+    name: &'a str,
+    store: &mut Store<S>,
+    only: Chosen,
+    encoding: Encoding,
+    out: &mut W,
+) -> Result<Chosen, Failure<'a>> {
+    let mut objects = Objects {
+        alloc,
+        only,
+        encoding,
+        out,
+    };
+    list(name, store, &mut objects)?;
+    let Objects { only, .. } = objects;
+    Ok(only)
 }
 
 /// Writes a record for each row of these tables.
@@ -112,10 +139,10 @@ fn write_records<'a, S: Alter, W: Write>(
     alloc: Global,
     name: &'a str,
     store: &mut Store<S>,
-    only: Follow,
+    only: Chosen,
     encoding: Encoding,
     out: &mut W,
-) -> Result<(), Failure<'a>> {
+) -> Result<Chosen, Failure<'a>> {
     let mut all = Records {
         alloc,
         only,
@@ -123,8 +150,13 @@ fn write_records<'a, S: Alter, W: Write>(
         records: records(out),
     };
     list(name, store, &mut all)?;
-    match all.records.flush() {
-        Ok(()) => Ok(()),
+    let Records {
+        only,
+        mut records,
+        ..
+    } = all;
+    match records.flush() {
+        Ok(()) => Ok(only),
         Err(error) => Err(Failure::Output(cause_of(error))),
     }
 }
@@ -145,7 +177,7 @@ pub fn list<'a, S: Alter, V: Visitor<Error = io::Error>>(
 /// Writes a line for each row of these tables.
 #[derive(Drop)]
 struct Lines<'o, W> {
-    only: Follow,
+    only: Chosen,
     out: &'o mut W,
 }
 
@@ -155,7 +187,7 @@ impl<W: Write> Visitor for Lines<'_, W> {
     ghost row_gives = { λ _ _ _ _. Unit {0} };
 
     fn row(&mut self, row: &Listed<'_>) -> io::Result<()> {
-        if !self.only.follows(row.schema, row.table) {
+        if !self.only.takes(row) {
             return Ok(());
         }
         write_row(row, self.out)
@@ -166,7 +198,7 @@ impl<W: Write> Visitor for Lines<'_, W> {
 #[derive(Drop)]
 struct Records<'o, W: Write> {
     alloc: Global,
-    only: Follow,
+    only: Chosen,
     encoding: Encoding,
     records: Writer<&'o mut W>,
 }
@@ -177,7 +209,7 @@ impl<W: Write> Visitor for Records<'_, W> {
     ghost row_gives = { λ _ _ _ _. Unit {0} };
 
     fn row(&mut self, row: &Listed<'_>) -> io::Result<()> {
-        if !self.only.follows(row.schema, row.table) {
+        if !self.only.takes(row) {
             return Ok(());
         }
         write_record(self.alloc, row, self.encoding, &mut self.records)
@@ -188,7 +220,7 @@ impl<W: Write> Visitor for Records<'_, W> {
 #[derive(Drop)]
 struct Objects<'o, W> {
     alloc: Global,
-    only: Follow,
+    only: Chosen,
     encoding: Encoding,
     out: &'o mut W,
 }
@@ -199,7 +231,7 @@ impl<W: Write> Visitor for Objects<'_, W> {
     ghost row_gives = { λ _ _ _ _. Unit {0} };
 
     fn row(&mut self, row: &Listed<'_>) -> io::Result<()> {
-        if !self.only.follows(row.schema, row.table) {
+        if !self.only.takes(row) {
             return Ok(());
         }
         write_object(self.alloc, row, self.encoding, self.out)

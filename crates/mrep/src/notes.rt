@@ -1,0 +1,90 @@
+//! What a command tells on standard error beside its lines, and ends as it does without it.
+
+use crate::name::{Shown, write_table};
+use binlog::Follow;
+use std::alloc::{AllocError, Global};
+use std::cmp::Ordering;
+use std::io::Write;
+use std::{fs, io};
+use store::Listed;
+
+/// Whether a file has a database: it is there, and has bytes.
+pub fn has_database(rt: &HostRuntime, file: &str) -> bool {
+    match fs::metadata(rt, file) {
+        Ok(metadata) => metadata.len() > 0,
+        Err(_) => false,
+    }
+}
+
+/// Tells that a command which reads a database has made it.
+pub fn note_made<E: Write>(file: &str, err: &mut E) {
+    let _ = writeln!(
+        err,
+        "mrep: {}: there was no database, and an empty one is made",
+        Shown(file)
+    );
+}
+
+/// Tells of each name of a table with a `*` that it is no pattern.
+pub fn note_patterns<E: Write>(words: &[&str], err: &mut E) {
+    for word in words {
+        if word.contains('*') && word.contains('.') {
+            let _ = writeln!(
+                err,
+                "mrep: {}: `*` stands for itself, and only the table of exactly this name is meant",
+                Shown(word)
+            );
+        }
+    }
+}
+
+/// Tables that are asked for, all if none is named, and of which of them a row was there.
+#[derive(Drop)]
+pub struct Chosen {
+    tables: Follow,
+    /// For each name whether there was a row.
+    seen: Vec<bool>,
+}
+
+impl Chosen {
+    /// Tables of which no row was there yet.
+    pub fn new(alloc: Global, tables: Follow) -> Result<Chosen, AllocError> {
+        let seen = vec![in alloc; false; tables.names().len()]?;
+        Ok(Chosen { tables, seen })
+    }
+
+    /// Whether a row is one of these tables, which then had one.
+    pub fn takes(&mut self, row: &Listed<'_>) -> bool {
+        let names = self.tables.names();
+        if names.is_empty() {
+            return true;
+        }
+        let Ok(place) = names.binary_search_by(|name| compare(name, row)) else {
+            return false;
+        };
+        if let Some(seen) = self.seen.get_mut(place) {
+            *seen = true;
+        }
+        true
+    }
+
+    /// Tells of which tables that are named there was no row.
+    pub fn note_missing<E: Write>(&self, file: &str, err: &mut E) -> io::Result<()> {
+        for (name, seen) in self.tables.names().iter().zip(self.seen.iter()) {
+            if !*seen {
+                write!(err, "mrep: {}: it has no row of ", Shown(file))?;
+                write_table(&name.0, &name.1, err)?;
+                writeln!(err)?;
+            }
+        }
+        Ok(())
+    }
+}
+
+/// How a name compares with that of a row's table.
+fn compare(name: &(Vec<u8>, Vec<u8>), row: &Listed<'_>) -> Ordering {
+    match name.0.as_slice().cmp(row.schema) {
+        Ordering::Equal => name.1.as_slice().cmp(row.table),
+        unlike => unlike,
+    }
+}
