@@ -12,11 +12,16 @@ const VERSION: &str = "0.1.0";
 const LONG_VERSION: &str =
     "0.1.0\nlayout 2; a database of layout 1 is migrated\nproved with rattle-kit-13f logic dac8208d650f15bf";
 
+/// The shells that `mrep completions` knows.
+const SHELLS: [&str; 3] = ["bash", "zsh", "fish"];
+
 /// How an argument is given.
 #[derive(Clone, Copy)]
 pub enum Kind {
     /// A word.
     Word,
+    /// A word that is one of these.
+    WordOf(&'static [&'static str]),
     /// One word or more.
     Words,
     /// A required option with a value of this name.
@@ -40,13 +45,44 @@ impl Kind {
     fn is_required(self) -> bool {
         matches!(
             self,
-            Kind::Word | Kind::Words | Kind::Needed(_) | Kind::NeededText(_)
+            Kind::Word | Kind::WordOf(_) | Kind::Words | Kind::Needed(_) | Kind::NeededText(_)
         )
     }
 
     /// Whether its value may begin with a hyphen.
     fn may_be_hyphenated(self) -> bool {
         matches!(self, Kind::NeededText(_) | Kind::Text(_))
+    }
+
+    /// The name of the value, of an option that has one.
+    pub fn value(self) -> Option<&'static str> {
+        match self {
+            Kind::Needed(value)
+            | Kind::Usual(value, _)
+            | Kind::NeededText(value)
+            | Kind::Text(value)
+            | Kind::Repeated(value)
+            | Kind::OneOf(value, _) => Some(value),
+            Kind::Word | Kind::WordOf(_) | Kind::Words | Kind::Flag => None,
+        }
+    }
+
+    /// The words of which it is one, and none where it may be any.
+    pub fn words(self) -> &'static [&'static str] {
+        match self {
+            Kind::WordOf(words) | Kind::OneOf(_, words) => words,
+            _ => &[],
+        }
+    }
+
+    /// Whether it is given after its name.
+    pub fn is_option(self) -> bool {
+        !matches!(self, Kind::Word | Kind::WordOf(_) | Kind::Words)
+    }
+
+    /// Whether it may be given more than once.
+    pub fn is_repeated(self) -> bool {
+        matches!(self, Kind::Words | Kind::Repeated(_))
     }
 
     /// What is done with its values.
@@ -113,7 +149,7 @@ const ONLY: Argument = Argument(
 );
 
 /// All commands, in the order of the help.
-static COMMANDS: [CommandRow; 12] = [
+pub static COMMANDS: [CommandRow; 13] = [
     CommandRow(
         "packets",
         "List the payloads of a stream of packets: offset, sequence id, length",
@@ -264,6 +300,12 @@ static COMMANDS: [CommandRow; 12] = [
         ],
         "Example:\n  mrep skip --db F.db 3e11fa47-71ca-11e1-9e33-c80aa9429562:7",
     ),
+    CommandRow(
+        "completions",
+        "Print what a shell completes of a command line of mrep, for this shell to read",
+        &[Argument("SHELL", Kind::WordOf(&SHELLS), "The shell")],
+        "Example:\n  mrep completions bash > ~/.local/share/bash-completion/completions/mrep",
+    ),
 ];
 
 /// The argument of a row.
@@ -276,6 +318,7 @@ fn arg_of<'a>(alloc: Global, row: &Argument) -> Arg<'a> {
         .allow_hyphen_values(kind.may_be_hyphenated());
     match kind {
         Kind::Word => arg,
+        Kind::WordOf(words) => arg.value_parser(words),
         Kind::Words => arg.num_args(1..),
         Kind::Flag => arg.long(name),
         Kind::OneOf(value, words) => arg.long(name).value_name(value).value_parser(words),

@@ -4,6 +4,7 @@ ghost use Rattle.std.specs.Prelude.{◌≤◌, IfOk, IfSome};
 
 use crate::adopt::adopt;
 use crate::arguments::grammar;
+use crate::completions::completions;
 use crate::copy::copy;
 use crate::failure::{DONE, Failure, MEMORY};
 use crate::follow::{Words, follow_source};
@@ -49,6 +50,7 @@ fn run_plain<'a, W: Write>(
     let status = match name {
         "packets" => list(rt, word(given, "FILE"), Lines::Packets, out)?,
         "events" => list(rt, word(given, "FILE"), Lines::Events, out)?,
+        "completions" => completions(word(given, "SHELL"), out)?,
         "minus" => minus(rt, word(given, "X"), word(given, "Y"), out)?,
         _ => return Ok(None),
     };

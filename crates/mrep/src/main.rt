@@ -9,6 +9,7 @@ mod arguments;
 mod cells;
 mod change_feed;
 mod command;
+mod completions;
 mod copy;
 mod csv_lines;
 mod damage;
