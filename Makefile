@@ -1,16 +1,24 @@
 # make        proves and builds mrep, puts it at bin/mrep, and runs it on a sample: a captured stream is replayed into
 #             a new database, whose rows and executed set are shown
+# make install, make uninstall
+#             puts bin/mrep, the page mrep.1, completions, the pages and a systemd unit below PREFIX (/usr/local), with
+#             DESTDIR before it; and removes them
 # make test   runs the whole gate, tests/run: every proof, the tests and the program, a program that must not compile, the
 #             libraries out of memory, beside all this the wrong bodies, and then, with the program that was built, what else
 #             tests/ has: the tests of the libraries' calls, which are run and not proved, the commands, messages, rows as
 #             CSV and JSON, the change feed, files read by sqlite3, damaged databases, streams and their faults, captured
-#             streams, a source over loopback, streams compared with an independent reading, changed bytes, running out of
-#             memory, kills, copies beside a writer, and the commands, examples and names of the pages
+#             streams, a source over loopback, the manual page and the completions, `make install`, streams compared with
+#             an independent reading, changed bytes, running out of memory, kills, copies beside a writer, and the
+#             commands, examples and names of the pages
 # make bench  times mrep, the sets and the transactions against plain Rust programs that do the same jobs, the store
 #             against the C library of SQLite, a whole replay against a C program, and mrep over twice and four times as
 #             much (needs rustc; the store also python3, the replay cc and the library of SQLite)
 
-.PHONY: all build test bench
+.PHONY: all build demo install uninstall test bench
+
+PREFIX = /usr/local
+DESTDIR =
+PROGRAM = bin/mrep
 
 all: build
 	rm -f bin/sample.db bin/sample.db-wal
@@ -22,6 +30,12 @@ build:
 	cd crates/mrep && rt run -- --version
 	mkdir -p bin
 	cp crates/mrep/out/mrep bin/mrep
+
+install:
+	scripts/install "$(PROGRAM)" "$(PREFIX)" "$(DESTDIR)"
+
+uninstall:
+	scripts/install --remove "$(PROGRAM)" "$(PREFIX)" "$(DESTDIR)"
 
 test:
 	tests/run
