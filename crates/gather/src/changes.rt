@@ -1,6 +1,6 @@
 //! The changes of a transaction, held together.
 
-ghost use Rattle.std.specs.Prelude.{◌≡◌, ℕ, [], ◌∷◌, ◌++◌, length, OnOk, OnErr, IfOk, Err};
+ghost use Rattle.std.specs.Prelude.{◌≡◌, ℕ, [], ◌∷◌, ◌++◌, ◌^◌, ◌≤◌, length, OnOk, OnErr, IfOk, Err};
 ghost use Rattle.binlog.specs.RowsView.{pair_value};
 ghost use Rattle.gather.specs.Image.{image, HasImage};
 ghost use Rattle.gather.specs.Transaction.{change_of};
@@ -235,6 +235,7 @@ fn push_image(row: &Row<'_>, images: &mut Vec<u8>) -> Result<u32, GatherFault>
 fn size_of(image: &[u8]) -> Result<u32, GatherFault>
     ensures ok { IfOk result (λ size. size ≡ length image.now) }
     ensures err { OnErr result (result ≡ Err Memory) }
+    ensures large { OnErr result (2 ^ 32 ≤ length image.now) }
 {
     match u32::try_from(image.len()) {
         Ok(size) => Ok(size),

@@ -6,6 +6,7 @@ use crate::change_feed::OUTPUT;
 use crate::database::{closed, follow_into};
 use crate::failure::{Failure, MEMORY};
 use crate::name::Shown;
+use crate::notes::Chosen;
 use crate::progress::Progress;
 use crate::replay::{Report, check, feed_of, progress_of, status_of, stop_of, tables};
 use crate::socket::Socket;
@@ -62,6 +63,10 @@ pub fn follow_source<'a, W: Write, E: Write>(
     check(words.report)?;
     let port = number(words.port, 65_535)? as u16;
     let server_id = number(words.server_id, u32::MAX)?;
+    let chosen = match only {
+        Some(names) => Some(Chosen::new(rt.alloc(), tables(rt.alloc(), names)?)?),
+        None => None,
+    };
     let only = match only {
         Some(names) => Some(tables(rt.alloc(), names)?),
         None => None,
@@ -84,7 +89,7 @@ pub fn follow_source<'a, W: Write, E: Write>(
         db: words.db,
         changes: words.report.changes.unwrap_or(OUTPUT),
     };
-    let mut watch = Watch::new(source, progress, feed, out, err);
+    let mut watch = Watch::new(source, progress, feed, chosen, out, err);
     let followed = match follow_over(host, words, only.as_ref(), config, &mut watch) {
         Ok(followed) => followed,
         Err(failure) => {
@@ -107,6 +112,7 @@ pub fn follow_source<'a, W: Write, E: Write>(
         }
     };
     let printed = watch.report(1, &end, failure);
+    watch.note_missing();
     let stopped = stop_of(watch.stop(), words.report);
     let written = match printed {
         Ok(()) => stopped.and(closed),

@@ -6,7 +6,6 @@ use std::alloc::{AllocError, Global};
 use std::cmp::Ordering;
 use std::io::Write;
 use std::{fs, io};
-use store::Listed;
 
 /// Whether a file has a database: it is there, and has bytes.
 pub fn has_database(rt: &HostRuntime, file: &str) -> bool {
@@ -53,13 +52,13 @@ impl Chosen {
         Ok(Chosen { tables, seen })
     }
 
-    /// Whether a row is one of these tables, which then had one.
-    pub fn takes(&mut self, row: &Listed<'_>) -> bool {
+    /// Whether a row is of one of these tables, which then had one.
+    pub fn takes(&mut self, schema: &[u8], table: &[u8]) -> bool {
         let names = self.tables.names();
         if names.is_empty() {
             return true;
         }
-        let Ok(place) = names.binary_search_by(|name| compare(name, row)) else {
+        let Ok(place) = names.binary_search_by(|name| compare(name, schema, table)) else {
             return false;
         };
         if let Some(seen) = self.seen.get_mut(place) {
@@ -81,10 +80,10 @@ impl Chosen {
     }
 }
 
-/// How a name compares with that of a row's table.
-fn compare(name: &(Vec<u8>, Vec<u8>), row: &Listed<'_>) -> Ordering {
-    match name.0.as_slice().cmp(row.schema) {
-        Ordering::Equal => name.1.as_slice().cmp(row.table),
+/// How a name compares with that of a table.
+fn compare(name: &(Vec<u8>, Vec<u8>), schema: &[u8], table: &[u8]) -> Ordering {
+    match name.0.as_slice().cmp(schema) {
+        Ordering::Equal => name.1.as_slice().cmp(table),
         unlike => unlike,
     }
 }

@@ -8,6 +8,7 @@ use crate::database::{closed, replay_into};
 use crate::failure::{DONE, Failure, MEMORY};
 use crate::input::Input;
 use crate::name::read_table;
+use crate::notes::Chosen;
 use crate::output_format::{Format, encoding_of};
 use crate::progress::Progress;
 use crate::reason::first_status;
@@ -117,6 +118,10 @@ pub fn replay<'a, W: Write, E: Write>(
         Some(words) => Some(tables(rt.alloc(), words)?),
         None => None,
     };
+    let chosen = match choice.only {
+        Some(words) => Some(Chosen::new(rt.alloc(), tables(rt.alloc(), words)?)?),
+        None => None,
+    };
     let (captures, total) = open_streams(rt, names)?;
     let Ok(config) = Config::new(rt.alloc(), b"", b"", SERVER_ID, false, LARGEST_PAYLOAD) else {
         return Err(Failure::Memory);
@@ -130,7 +135,7 @@ pub fn replay<'a, W: Write, E: Write>(
         db,
         changes: report.changes.unwrap_or(OUTPUT),
     };
-    let mut watch = Watch::new(source, progress, feed, out, err);
+    let mut watch = Watch::new(source, progress, feed, chosen, out, err);
     let done = replay_into(rt, db, only.as_ref(), &config, captures, &mut watch);
     let done = match done {
         Ok(done) => done,
@@ -139,6 +144,7 @@ pub fn replay<'a, W: Write, E: Write>(
             return Err(failure);
         }
     };
+    watch.note_missing();
     let stopped = stop_of(watch.stop(), report);
     let Replayed {
         ends,

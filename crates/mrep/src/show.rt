@@ -187,7 +187,7 @@ impl<W: Write> Visitor for Lines<'_, W> {
     ghost row_gives = { λ _ _ _ _. Unit {0} };
 
     fn row(&mut self, row: &Listed<'_>) -> io::Result<()> {
-        if !self.only.takes(row) {
+        if !self.only.takes(row.schema, row.table) {
             return Ok(());
         }
         write_row(row, self.out)
@@ -209,7 +209,7 @@ impl<W: Write> Visitor for Records<'_, W> {
     ghost row_gives = { λ _ _ _ _. Unit {0} };
 
     fn row(&mut self, row: &Listed<'_>) -> io::Result<()> {
-        if !self.only.takes(row) {
+        if !self.only.takes(row.schema, row.table) {
             return Ok(());
         }
         write_record(self.alloc, row, self.encoding, &mut self.records)
@@ -231,7 +231,7 @@ impl<W: Write> Visitor for Objects<'_, W> {
     ghost row_gives = { λ _ _ _ _. Unit {0} };
 
     fn row(&mut self, row: &Listed<'_>) -> io::Result<()> {
-        if !self.only.takes(row) {
+        if !self.only.takes(row.schema, row.table) {
             return Ok(());
         }
         write_object(self.alloc, row, self.encoding, self.out)

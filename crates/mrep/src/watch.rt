@@ -6,6 +6,7 @@ use crate::advice::write_advice;
 use crate::change_feed::{Feed, FeedEntry};
 use crate::details::Details;
 use crate::name::Shown;
+use crate::notes::Chosen;
 use crate::progress::Progress;
 use crate::reason::{write_cause, write_end};
 use crate::set_text::text_of;
@@ -49,8 +50,12 @@ pub struct Watch<'a, O, E> {
     feed: Option<Feed>,
     /// The executed set at the start, until the feed has it.
     executed: Option<String>,
+    /// The tables that are asked for of a new database, and which of them have come.
+    chosen: Option<Chosen>,
     /// Whether the store has failed: it applies nothing more, so nothing more is fed.
     has_failed: bool,
+    /// Whether a transaction was applied.
+    has_applied: bool,
     details: Details,
     /// How many connections have ended.
     ended: usize,
@@ -63,6 +68,7 @@ impl<'a, O: Write, E: Write> Watch<'a, O, E> {
         source: Source<'a>,
         progress: Option<Rc<Progress>>,
         feed: Option<Feed>,
+        chosen: Option<Chosen>,
         out: &'a mut O,
         err: &'a mut E,
     ) -> Watch<'a, O, E> {
@@ -73,7 +79,9 @@ impl<'a, O: Write, E: Write> Watch<'a, O, E> {
             progress,
             feed,
             executed: None,
+            chosen,
             has_failed: false,
+            has_applied: false,
             details: Details::new(source.rt.alloc()),
             ended: 0,
             stop: None,
@@ -168,6 +176,17 @@ impl<'a, O: Write, E: Write> Watch<'a, O, E> {
         }
     }
 
+    /// Tells of which tables that are asked for of a new database it has no row, since none came with what was applied.
+    pub fn note_missing(&mut self)
+        ensures { self.new.stop ≡ self.old.stop }
+    {
+        if let Some(chosen) = &self.chosen
+            && self.has_applied
+        {
+            let _ = chosen.note_missing(self.source.db, self.err);
+        }
+    }
+
     /// Why reading was stopped, if it was.
     pub fn stop(self) -> Option<Stop> {
         let Watch { stop, .. } = self;
@@ -179,6 +198,9 @@ impl<'a, O: Write, E: Write> Observer for Watch<'a, O, E> {
     ghost has_stopped = { λ w. is_some w.stop };
 
     fn opened(&mut self, executed: &GtidSet) {
+        if !executed.is_subset(&GtidSet::new(self.source.rt.alloc())) {
+            self.chosen = None;
+        }
         if self.feed.is_none() {
             return;
         }
@@ -214,6 +236,11 @@ impl<'a, O: Write, E: Write> Observer for Watch<'a, O, E> {
     fn event(&mut self, event: &Event<'_>) {
         match event {
             Event::Gtid(gtid) => self.details.gtid = Some(*gtid),
+            Event::TableMap(map) => {
+                if let Some(chosen) = &mut self.chosen {
+                    chosen.takes(map.schema, map.table);
+                }
+            }
             Event::Format | Event::Rotate { .. } | Event::Stop => self.details.gtid = None,
             _ => {}
         }
@@ -229,6 +256,7 @@ impl<'a, O: Write, E: Write> Observer for Watch<'a, O, E> {
             Ok(applied) => {
                 self.details.gtid = None;
                 if *applied {
+                    self.has_applied = true;
                     if let Some(progress) = &self.progress {
                         progress.count();
                     }
