@@ -51,11 +51,13 @@ pub fn copy<'a>(rt: &HostRuntime, db: &'a str, to: &'a str, force: bool) -> Resu
     };
     judge(db, fault_of(rt, &from))?;
     judge(to, refusal_of(rt, &from, to, force))?;
+    // What comes to have the name from now on is not replaced: it is not locked.
+    let replaces = force && is_there(rt, to).unwrap_or(false);
     let name_lock = lock_alone(rt, to)?;
     let replaced = lock(rt, to)?;
     let part = part_of(rt, &from, to)?;
     let made = match judge(to, refusal_of(rt, &from, to, force)) {
-        Ok(()) => make(rt, db, to, &from, &part),
+        Ok(()) => make(rt, db, to, &from, &part, replaces),
         Err(failure) => Err(failure),
     };
     part.remove(rt, made.is_ok());
@@ -216,14 +218,11 @@ fn make<'a>(
     to: &'a str,
     from: &Names,
     part: &Part,
+    replaces: bool,
 ) -> Result<(), Failure<'a>> {
     if let Err(cause) = try_read(rt, from) {
         return Err(Failure::File { name: db, cause });
     }
-    let replaces = match is_there(rt, to) {
-        Ok(replaces) => replaces,
-        Err(cause) => return Err(Failure::File { name: to, cause }),
-    };
     match copy_files(rt, from, part) {
         Ok(true) => {}
         Ok(false) => {
