@@ -10,8 +10,11 @@ use std::fs::{self, File};
 use std::io::{self, BufWriter, Write};
 use std::path::Path;
 
-/// The goal: at most this many times the time of the C program.
-const TIMES: f64 = 1.7;
+/// The goal: at most this many times the time of the C program, and no goal for that with the statements of `mrep`.
+const TIMES: (f64, f64) = (1.7, f64::INFINITY);
+
+/// The same for transactions of one row.
+const TIMES_OF_ONE: (f64, f64) = (1.35, 1.6);
 
 /// How many bytes of rows an event has, about.
 const EVENT: usize = 8192;
@@ -156,7 +159,7 @@ pub fn compare_with_c(mrep: &str, folder: &Path) -> io::Result<bool> {
     let (file, full, bytes) = (name(&database)?, name(&filled)?, name(&stream)?);
     let (plain, fewest) = (name(&plain)?, name(&fewest)?);
     let mut met = true;
-    let mut compare = |job: &str, is_filled: bool, runs: usize| -> io::Result<()> {
+    let mut compare = |job: &str, is_filled: bool, runs: usize, times: (f64, f64)| -> io::Result<()> {
         let before = || {
             remove_store(&file)?;
             if is_filled {
@@ -165,28 +168,28 @@ pub fn compare_with_c(mrep: &str, folder: &Path) -> io::Result<bool> {
             Ok(())
         };
         let ours = [mrep, "replay", "--db", &file, &bytes];
-        let goal = Goal { other: "C", runs, times: TIMES, bound: usize::MAX };
+        let goal = Goal { other: "C", runs, times: times.0, bound: usize::MAX };
         met &= compare_from(job, &ours, &[&plain, &file, &bytes], folder, &goal, before)?;
-        let free = Goal { other: "C with the same statements", runs, times: f64::INFINITY, bound: usize::MAX };
-        met &= compare_from(job, &ours, &[&fewest, &file, &bytes], folder, &free, before)?;
+        let goal = Goal { other: "C with the same statements", runs, times: times.1, bound: usize::MAX };
+        met &= compare_from(job, &ours, &[&fewest, &file, &bytes], folder, &goal, before)?;
         Ok(())
     };
     make_inserts(&stream, 100_000, 1)?;
-    compare("100,000 transactions of one row", false, 2)?;
+    compare("100,000 transactions of one row", false, 2, TIMES_OF_ONE)?;
     make_inserts(&stream, 100, 10_000)?;
-    compare("100 transactions of 10,000 rows", false, 2)?;
+    compare("100 transactions of 10,000 rows", false, 2, TIMES)?;
     make_wide(&stream, 100, 1_000)?;
-    compare("100,000 rows of 50 columns", false, 2)?;
+    compare("100,000 rows of 50 columns", false, 2, TIMES)?;
     make_large(&stream, 200)?;
-    compare("200 rows of 1 MB", false, 2)?;
+    compare("200 rows of 1 MB", false, 2, TIMES)?;
     make_inserts(&stream, 1, 1_000_000)?;
-    compare("a transaction of 1,000,000 rows", false, RUNS_OF_ONE)?;
+    compare("a transaction of 1,000,000 rows", false, RUNS_OF_ONE, TIMES)?;
     remove_store(&full)?;
     if run(&[mrep, "replay", "--db", &full, &bytes], &folder.join("made"))?.status != 0 {
         return Err(io::Error::other("a replay fails"));
     }
     make_changes(&stream, 2, 1_000)?;
-    compare("100,000 updates and deletes over 1,000,000 rows, with the open", true, RUNS_OF_ONE)?;
+    compare("100,000 updates and deletes over 1,000,000 rows, with the open", true, RUNS_OF_ONE, TIMES)?;
     remove_store(&file)?;
     remove_store(&full)?;
     fs::remove_file(&stream)?;

@@ -90,7 +90,7 @@ fn run_over<'a, W: Write, E: Write>(
     Ok(Some(status))
 }
 
-/// Runs a command over a database in a file, if the name is that of one, and tells if one that only reads has made it.
+/// Runs a command over a database in a file, if the name is that of one, and reports if one that only reads has made it.
 fn run_reading<'a, W: Write, E: Write>(
     rt: &HostRuntime,
     name: &str,

@@ -9,7 +9,7 @@
 
 ghost use Rattle.std.specs.Prelude.{◌≡◌, IfOk};
 
-use crate::copy_part::{Claim, Names, Part, make_part, names_of};
+use crate::copy_part::{Making, Names, Part, make_part, names_of};
 use crate::database::{has_frames, lock, read_head, test};
 use crate::failure::{DONE, Failure};
 use crate::name_lock::lock_alone;
@@ -83,8 +83,8 @@ fn part_of<'a>(rt: &HostRuntime, from: &Names, to: &'a str) -> Result<Part, Fail
         }
     }
     match make_part(rt, names) {
-        Ok(Claim::Made(part)) => Ok(part),
-        Ok(Claim::Refused(why)) => Err(Failure::Unusable { name: to, why }),
+        Ok(Making::Made(part)) => Ok(part),
+        Ok(Making::Refused(why)) => Err(Failure::Unusable { name: to, why }),
         Err(cause) => Err(Failure::File { name: to, cause }),
     }
 }
@@ -103,7 +103,7 @@ fn fault_of(rt: &HostRuntime, from: &Names) -> io::Result<Option<&'static str>> 
     if !fs::metadata(rt, from.file.as_str())?.is_file() {
         return Ok(Some(NO_FILE));
     }
-    if has_odd_beside(rt, from.file.as_str())? {
+    if has_no_file_beside(rt, from.file.as_str())? {
         return Ok(Some(NO_FILE_BESIDE));
     }
     if has_journal(rt, from.file.as_str())? {
@@ -123,7 +123,7 @@ fn refusal_of(
         return Ok(Some(SAME));
     }
     if is_there(rt, to)? {
-        if is_odd(rt, to)? {
+        if is_no_file(rt, to)? {
             return Ok(Some(NO_FILE));
         }
         if !force {
@@ -152,7 +152,7 @@ fn is_there(rt: &HostRuntime, name: &str) -> io::Result<bool> {
 }
 
 /// Whether a name leads to something that is no regular file.
-fn is_odd(rt: &HostRuntime, name: &str) -> io::Result<bool> {
+fn is_no_file(rt: &HostRuntime, name: &str) -> io::Result<bool> {
     match fs::metadata(rt, name) {
         Ok(metadata) => Ok(!metadata.is_file()),
         Err(cause) if cause.kind() == ErrorKind::NotFound => Ok(false),
@@ -162,7 +162,7 @@ fn is_odd(rt: &HostRuntime, name: &str) -> io::Result<bool> {
 
 /// Why what stands beside a name forbids that a file has it, if it does.
 fn refusal_beside(rt: &HostRuntime, file: &str) -> io::Result<Option<&'static str>> {
-    if has_odd_beside(rt, file)? {
+    if has_no_file_beside(rt, file)? {
         return Ok(Some(NO_FILE_BESIDE));
     }
     if has_transactions(rt, file)? {
@@ -176,10 +176,10 @@ fn refusal_beside(rt: &HostRuntime, file: &str) -> io::Result<Option<&'static st
 
 /// Whether something that is no regular file has the name of a WAL file or of a journal: a pipe, say, which an opening
 /// would wait for.
-fn has_odd_beside(rt: &HostRuntime, file: &str) -> io::Result<bool> {
+fn has_no_file_beside(rt: &HostRuntime, file: &str) -> io::Result<bool> {
     let wal = format!(in rt.alloc(); "{file}-wal")?;
     let journal = format!(in rt.alloc(); "{file}-journal")?;
-    Ok(is_odd(rt, wal.as_str())? || is_odd(rt, journal.as_str())?)
+    Ok(is_no_file(rt, wal.as_str())? || is_no_file(rt, journal.as_str())?)
 }
 
 /// Whether a name leads to a database file or to its WAL file.

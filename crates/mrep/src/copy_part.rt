@@ -1,17 +1,11 @@
 //! The files in which `mrep copy` makes a copy, TO.part and TO.part-wal, until it has its name.
-//!
-//! TO.part is locked as long as the copy is made (`flock`). So one that a killed process has left is known by its lock,
-//! which is free, and is made anew.
 
 use crate::database::is_database;
-use crate::name_lock::{is_named, private};
+use crate::name_lock::private;
+use crate::part_file::{Claim, Leftover, claim, give_name, remove};
 use std::alloc::{AllocError, Global};
-use std::fs::{File, TryLockError};
-use std::io::ErrorKind;
+use std::fs::File;
 use std::{fs, io};
-
-/// How often TO.part is made again that another process has made or removed meanwhile.
-const TRIES: u32 = 100;
 
 const IN_USE: &str =
     "another copy to this name is being made: the file with .part after it is locked";
@@ -31,6 +25,15 @@ pub fn names_of(alloc: Global, file: String) -> Result<Names, AllocError> {
     Ok(Names { file, wal })
 }
 
+/// A copy that a killed process has left: it is empty, or begins as an SQLite file.
+struct LeftCopy;
+
+impl Leftover for LeftCopy {
+    fn is_left(rt: &HostRuntime, name: &str) -> io::Result<bool> {
+        is_database(rt, name)
+    }
+}
+
 /// The files of a copy that is being made, which no other process has then.
 #[derive(Drop)]
 pub struct Part {
@@ -40,7 +43,7 @@ pub struct Part {
 }
 
 /// What came of making the files of a copy.
-pub enum Claim {
+pub enum Making {
     Made(Part),
     /// They are not made, for this reason.
     Refused(&'static str),
@@ -48,64 +51,22 @@ pub enum Claim {
 
 /// Makes TO.part, empty, and removes a TO.part-wal. A TO.part that is there is made anew if it is what a killed process has
 /// left of a copy.
-pub fn make_part(rt: &HostRuntime, names: Names) -> io::Result<Claim> {
-    for _ in 0..TRIES {
-        let (file, is_new) = match private().create_new(true).open(rt, names.file.as_str()) {
-            Ok(file) => (file, true),
-            Err(cause) if cause.kind() == ErrorKind::AlreadyExists => {
-                if !is_copy(rt, names.file.as_str())? {
-                    return Ok(Claim::Refused(NO_COPY));
-                }
-                match fs::open(rt, names.file.as_str()) {
-                    Ok(file) => (file, false),
-                    Err(cause) if cause.kind() == ErrorKind::NotFound => continue,
-                    Err(cause) => return Err(cause),
-                }
-            }
-            Err(cause) => return Err(cause),
-        };
-        match file.try_lock() {
-            Ok(()) => {}
-            Err(TryLockError::WouldBlock) => return Ok(Claim::Refused(IN_USE)),
-            Err(TryLockError::Error(cause)) => return Err(cause),
+pub fn make_part(rt: &HostRuntime, names: Names) -> io::Result<Making> {
+    match claim::<LeftCopy>(rt, names.file.as_str())? {
+        Claim::Made(file) => {
+            let part = Part { names, file };
+            part.remove_wal(rt)?;
+            Ok(Making::Made(part))
         }
-        if !is_named(rt, &file, names.file.as_str()) {
-            continue;
-        }
-        if !is_new {
-            fs::remove_file(rt, names.file.as_str())?;
-            continue;
-        }
-        let part = Part { names, file };
-        part.remove_wal(rt)?;
-        return Ok(Claim::Made(part));
-    }
-    Ok(Claim::Refused(IN_USE))
-}
-
-/// Whether a regular file is what a killed process may have left of a copy: it is empty, or begins as an SQLite file. One that
-/// is gone meanwhile may have been.
-fn is_copy(rt: &HostRuntime, name: &str) -> io::Result<bool> {
-    match fs::symlink_metadata(rt, name) {
-        Ok(metadata) if !metadata.is_file() => Ok(false),
-        Ok(metadata) if metadata.len() == 0 => Ok(true),
-        Ok(_) => match is_database(rt, name) {
-            Ok(is_database) => Ok(is_database),
-            Err(cause) if cause.kind() == ErrorKind::NotFound => Ok(true),
-            Err(cause) => Err(cause),
-        },
-        Err(cause) if cause.kind() == ErrorKind::NotFound => Ok(true),
-        Err(cause) => Err(cause),
+        Claim::InUse => Ok(Making::Refused(IN_USE)),
+        Claim::Foreign => Ok(Making::Refused(NO_COPY)),
     }
 }
 
 impl Part {
     /// Removes TO.part-wal, whatever has that name.
     pub fn remove_wal(&self, rt: &HostRuntime) -> io::Result<()> {
-        match fs::remove_file(rt, self.names.wal.as_str()) {
-            Err(cause) if cause.kind() != ErrorKind::NotFound => Err(cause),
-            _ => Ok(()),
-        }
+        remove(rt, self.names.wal.as_str())
     }
 
     /// Makes TO.part-wal, which nothing has the name of.
@@ -127,20 +88,11 @@ impl Part {
         Ok(true)
     }
 
-    /// Gives the copy its name. Where it is not to replace a file, that is a second name, and the first one goes: no call
-    /// renames only where the new name is free. On a file system without second names it is renamed if the name is free.
+    /// Gives the copy its name. On a file system without second names it is renamed also where it is not to replace a file.
     fn name(&self, rt: &HostRuntime, to: &str, replaces: bool) -> io::Result<bool> {
         let part = self.names.file.as_str();
-        if !replaces {
-            match fs::hard_link(rt, part, to) {
-                Ok(()) => {
-                    fs::remove_file(rt, part)?;
-                    return Ok(true);
-                }
-                Err(cause) if cause.kind() == ErrorKind::AlreadyExists => return Ok(false),
-                Err(_) if fs::symlink_metadata(rt, to).is_ok() => return Ok(false),
-                Err(_) => {}
-            }
+        if !replaces && let Ok(is_named) = give_name(rt, part, to) {
+            return Ok(is_named);
         }
         fs::rename(rt, part, to)?;
         Ok(true)

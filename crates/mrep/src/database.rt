@@ -24,7 +24,7 @@ use store::{Store, StoreFault};
 pub type FileOf = FileStore<File>;
 
 /// How an SQLite file begins (SQLite, "Database File Format", section 1.3).
-const MAGIC: [u8; 16] = *b"SQLite format 3\0";
+pub const MAGIC: [u8; 16] = *b"SQLite format 3\0";
 
 /// Where the page number of the first frame stands in a WAL file, after that file's header (section 4.1), and where it
 /// ends.

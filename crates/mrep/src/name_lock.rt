@@ -5,7 +5,11 @@
 //! taken before that, and counts only if the name still leads to the file afterwards; so no file is replaced between the
 //! opening of its name and its lock. It is an advisory lock on the whole file (`flock`), which other programs do not look at.
 
+use crate::database::has_frames;
 use crate::failure::Failure;
+use crate::new_database::{Made, is_as_made, make};
+use crate::part_file::remove_other;
+use std::alloc::AllocError;
 use std::fs::{File, OpenOptions, TryLockError};
 use std::io::ErrorKind;
 use std::os::unix::fs::{MetadataExt, OpenOptionsExt};
@@ -30,11 +34,14 @@ pub struct NameLock {
 }
 
 /// Locks the name of a database file that is to be opened, beside others that have it open. A file that is not there is
-/// made, empty, for its owner alone; of a name that no such file can have, the opening says so.
+/// made, for its owner alone; of a name that no such file can have, the opening says so.
 pub fn lock_shared<'a>(rt: &HostRuntime, name: &'a str) -> Result<NameLock, Failure<'a>> {
+    let names = PartNames::new(rt, name)?;
     for _ in 0..TRIES {
-        let Some(lock) = open_or_make(rt, name) else {
-            break;
+        let lock = match open_or_make(rt, name, &names) {
+            Found::File(lock) => lock,
+            Found::InUse => return Err(Failure::Unusable { name, why: LOCKED }),
+            Found::No => break,
         };
         let Some(file) = &lock.file else {
             break;
@@ -75,13 +82,14 @@ pub fn lock_alone<'a>(rt: &HostRuntime, name: &'a str) -> Result<Option<NameLock
 }
 
 impl NameLock {
-    /// Gives the name up after an opening that was refused, and removes the file if it was made for the lock, is still
-    /// empty, and no other process is about to open it.
+    /// Gives the name up after an opening that was refused, and removes the file if it was made for the lock, is still as
+    /// it was made, with no transactions in a WAL file, and no other process is about to open it.
     pub fn discard(self, rt: &HostRuntime, name: &str) {
         let NameLock { file, is_new } = self;
         if let Some(file) = file
             && is_new
-            && is_empty(&file)
+            && is_as_made(&file)
+            && let Ok(false) = has_wal(rt, name)
             && file.try_lock().is_ok()
         {
             let _ = fs::remove_file(rt, name);
@@ -89,32 +97,79 @@ impl NameLock {
     }
 }
 
-/// Opens the file of a name, or makes it. `None` if that is no name of a file to SQLite, if something else has the name, or
-/// if the system refuses it.
-fn open_or_make(rt: &HostRuntime, name: &str) -> Option<NameLock> {
+/// The names that a database file has until it is whole, before it has its own: as a new one, and as a copy.
+#[derive(Drop)]
+struct PartNames {
+    new: String,
+    copy: String,
+}
+
+impl PartNames {
+    fn new(rt: &HostRuntime, name: &str) -> Result<PartNames, AllocError> {
+        let new = format!(in rt.alloc(); "{name}.new")?;
+        let copy = format!(in rt.alloc(); "{name}.part")?;
+        Ok(PartNames { new, copy })
+    }
+}
+
+/// What was found under a name, or made.
+enum Found {
+    File(NameLock),
+    /// Another process is making the file.
+    InUse,
+    /// That is no name of a file to SQLite, something else has the name, or the system refuses it.
+    No,
+}
+
+/// Opens the file of a name, or makes it.
+fn open_or_make(rt: &HostRuntime, name: &str, names: &PartNames) -> Found {
     if is_special(name) {
-        return None;
+        return Found::No;
     }
     match fs::metadata(rt, name) {
-        Ok(metadata) if !metadata.is_file() => return None,
+        Ok(metadata) if !metadata.is_file() => return Found::No,
+        Ok(metadata) if metadata.nlink() > 1 => {
+            let _ = remove_other(rt, names.new.as_str(), name);
+            let _ = remove_other(rt, names.copy.as_str(), name);
+        }
         Ok(_) => {}
-        Err(cause) if cause.kind() != ErrorKind::NotFound => return None,
-        Err(_) => {
-            if let Ok(file) = private().create_new(true).open(rt, name) {
-                return Some(NameLock {
+        Err(cause) if cause.kind() != ErrorKind::NotFound => return Found::No,
+        Err(_) => match make_file(rt, name, names) {
+            Made::File(file) => {
+                return Found::File(NameLock {
                     file: Some(file),
                     is_new: true,
                 });
             }
-        }
+            Made::InUse => return Found::InUse,
+            Made::Taken => {}
+        },
     }
     match fs::open(rt, name) {
-        Ok(file) => Some(NameLock {
+        Ok(file) => Found::File(NameLock {
             file: Some(file),
             is_new: false,
         }),
-        Err(_) => None,
+        Err(_) => Found::No,
     }
+}
+
+/// Makes a database file that is not there: with its first page, or empty where that cannot be, as on a file system on which
+/// no file has two names.
+fn make_file(rt: &HostRuntime, name: &str, names: &PartNames) -> Made {
+    if let Ok(made) = make(rt, names.new.as_str(), name) {
+        return made;
+    }
+    match private().create_new(true).open(rt, name) {
+        Ok(file) => Made::File(file),
+        Err(_) => Made::Taken,
+    }
+}
+
+/// Whether a WAL file with transactions stands beside a database file.
+fn has_wal(rt: &HostRuntime, name: &str) -> io::Result<bool> {
+    let wal = format!(in rt.alloc(); "{name}-wal")?;
+    Ok(is_file(rt, wal.as_str()) && has_frames(rt, wal.as_str())?)
 }
 
 /// Whether SQLite has another meaning for a name (SQLite, "Uniform Resource Identifiers", and "In-Memory Databases").

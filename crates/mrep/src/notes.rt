@@ -1,4 +1,4 @@
-//! What a command tells on standard error beside its lines, and ends as it does without it.
+//! What a command reports on standard error beside its lines, and ends as it does without it.
 
 use crate::name::{Shown, write_table};
 use binlog::Follow;
@@ -15,7 +15,7 @@ pub fn has_database(rt: &HostRuntime, file: &str) -> bool {
     }
 }
 
-/// Tells that a command which reads a database has made it.
+/// Reports that a command which reads a database has made it.
 pub fn note_made<E: Write>(file: &str, err: &mut E) {
     let _ = writeln!(
         err,
@@ -24,7 +24,7 @@ pub fn note_made<E: Write>(file: &str, err: &mut E) {
     );
 }
 
-/// Tells of each name of a table with a `*` that it is no pattern.
+/// Reports of each name of a table with a `*` that it is no pattern.
 pub fn note_patterns<E: Write>(words: &[&str], err: &mut E) {
     for word in words {
         if word.contains('*') && word.contains('.') {
@@ -67,7 +67,7 @@ impl Chosen {
         true
     }
 
-    /// Tells of which tables that are named there was no row.
+    /// Reports of which tables that are named there was no row.
     pub fn note_missing<E: Write>(&self, file: &str, err: &mut E) -> io::Result<()> {
         for (name, seen) in self.tables.names().iter().zip(self.seen.iter()) {
             if !*seen {

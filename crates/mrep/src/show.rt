@@ -27,7 +27,7 @@ pub struct Choice<'g, 'a> {
     pub bytes: Option<&'a str>,
 }
 
-/// Prints the rows of a database, each once, with the number of its copies. Tells of which tables that are named it has
+/// Prints the rows of a database, each once, with the number of its copies. Reports of which tables that are named it has
 /// none.
 pub fn show<'a, W: Write, E: Write>(
     rt: &HostRuntime,

@@ -176,7 +176,7 @@ impl<'a, O: Write, E: Write> Watch<'a, O, E> {
         }
     }
 
-    /// Tells of which tables that are asked for of a new database it has no row, since none came with what was applied.
+    /// Reports of which tables that are asked for of a new database it has no row, since none came with what was applied.
     pub fn note_missing(&mut self)
         ensures { self.new.stop ≡ self.old.stop }
     {

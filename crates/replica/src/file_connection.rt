@@ -11,23 +11,34 @@ ghost use Rattle.sqlite.specs.Files.{file_state, IsOpened, IsCleanLeft, FailsToO
 use sqlite::{Connection, Error, ErrorCode, FileFrom, FileStore, Files, Leftover, Start};
 use sqlite_pager::Options;
 use sqlite_std_file::OpenError;
-use std::fs;
 use std::hash::{BuildHasher, RandomState};
-use std::io::ErrorKind;
+use std::io::{ErrorKind, Read};
+use std::{fs, io};
 
-/// The least number of pages that were read and are kept in memory, 4 MiB, and the greatest, 16 MiB. They are allocated when a
-/// database is opened, so a small one is opened in less time and memory with fewer; with 2,000, the crate's own number, an
-/// opening of a large one reads more of them again.
-const LEAST_PAGES: u64 = 1_000;
+/// The least of the pages that were read and are kept in memory, and the most, in bytes. They are allocated when a database is
+/// opened, so a small one is opened in less time and memory with fewer; with 8 MB, the crate's own number, an opening of a
+/// large one reads more of them again.
+const LEAST_CACHE: u64 = 4_096_000;
 
-const MOST_PAGES: u64 = 4_000;
+const MOST_CACHE: u64 = 16_384_000;
 
-/// The size of a page of a new database, in bytes.
+/// The size of a page where the file does not say it, in bytes: the crate gives it to a database that it makes in an empty file.
 const PAGE: u64 = 4_096;
 
-/// How many pages that a transaction has written are kept in memory before they go to the WAL: 47 MiB. A page that is
+/// How many bytes in pages that a transaction has written are kept in memory before they go to the WAL. A page that is
 /// written again after that goes to the WAL again, so with fewer pages the WAL of a large transaction grows faster.
-const SPILL_PAGES: usize = 12_000;
+const SPILL: u64 = 49_152_000;
+
+/// How many bytes in pages the WAL may have before it is copied back: as many as 1,000 of 4,096 bytes, SQLite's own number.
+const CHECKPOINT: u64 = 4_096_000;
+
+/// Where the header of a file has the size of its pages, where that ends, and the least there is (SQLite, "Database File
+/// Format", section 1.3.2).
+const PAGE_SIZE: usize = 16;
+
+const HEAD: usize = PAGE_SIZE + 2;
+
+const LEAST_PAGE: u64 = 512;
 
 const NO_MEMORY: Error = Error::SqliteFailure(ErrorCode::OutOfMemory);
 
@@ -52,26 +63,34 @@ fn open_pair<P: Start>(rt: &HostRuntime, path: &str, start: P) -> Result<Files<F
     }
 }
 
-/// How many pages of a database file are kept in memory: as many as it has, and as `expected` bytes more take, within the
-/// limits.
-fn cache_pages(rt: &HostRuntime, path: &str, expected: u64) -> usize {
-    let size = match fs::metadata(rt, path) {
-        Ok(metadata) => metadata.len(),
-        Err(_) => 0,
-    };
-    (size.saturating_add(expected) / PAGE)
-        .max(LEAST_PAGES)
-        .min(MOST_PAGES) as usize
+/// How long a database file is, and the size of its pages, both in bytes.
+fn sizes(rt: &HostRuntime, path: &str) -> io::Result<(u64, u64)> {
+    let mut file = fs::open(rt, path)?;
+    let length = file.metadata()?.len();
+    let mut head = [0u8; HEAD];
+    file.read_exact(&mut head)?;
+    let stated = u16::from_be_bytes([head[PAGE_SIZE], head[PAGE_SIZE + 1]]);
+    Ok((length, if stated == 1 { 65_536 } else { stated as u64 }))
 }
 
-/// The options of a connection to a file. The WAL's salts begin with a random number.
+/// The options of a connection to a file: as many pages are kept in memory as it has, and as `expected` bytes more take, within
+/// the limits. The WAL's salts begin with a random number.
 fn options(rt: &HostRuntime, path: &str, expected: u64) -> Result<Options, Error> {
     let Ok(state) = RandomState::new(rt) else {
         return Err(CANNOT_OPEN);
     };
+    let (length, page) = match sizes(rt, path) {
+        Ok((length, page)) if page >= LEAST_PAGE => (length, page),
+        _ => (0, PAGE),
+    };
+    let cache = length
+        .saturating_add(expected)
+        .max(LEAST_CACHE)
+        .min(MOST_CACHE);
     let mut options = Options::new(state.hash_one(&0u8));
-    options.cache_pages = cache_pages(rt, path, expected);
-    options.spill_pages = SPILL_PAGES;
+    options.cache_pages = (cache / page) as usize;
+    options.spill_pages = (SPILL / page) as usize;
+    options.checkpoint_frames = (CHECKPOINT / page) as usize;
     Ok(options)
 }
 
