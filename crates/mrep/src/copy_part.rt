@@ -2,7 +2,7 @@
 
 use crate::database::is_database;
 use crate::name_lock::private;
-use crate::part_file::{Claim, Leftover, claim, give_name, remove};
+use crate::part_file::{Claim, Leftover, begin, give_name, remove};
 use std::alloc::{AllocError, Global};
 use std::fs::File;
 use std::{fs, io};
@@ -52,7 +52,7 @@ pub enum Making {
 /// Makes TO.part, empty, and removes a TO.part-wal. A TO.part that is there is made anew if it is what a killed process has
 /// left of a copy.
 pub fn make_part(rt: &HostRuntime, names: Names) -> io::Result<Making> {
-    match claim::<LeftCopy>(rt, names.file.as_str())? {
+    match begin::<LeftCopy>(rt, names.file.as_str())? {
         Claim::Made(file) => {
             let part = Part { names, file };
             part.remove_wal(rt)?;

@@ -4,13 +4,13 @@
 //! an F that is half made.
 
 use crate::database::MAGIC;
-use crate::part_file::{Claim, Leftover, claim, give_name, remove};
+use crate::part_file::{Claim, Leftover, begin, give_name, remove};
 use std::fs::File;
 use std::os::unix::fs::FileExt;
 use std::{fs, io};
 
-/// The size of the pages of a new database, in bytes. A transaction of one row writes some ten pages to the WAL and, later, to
-/// the database file.
+/// The size of the pages of a new database, in bytes. What a small transaction costs grows with it, and what a row of some
+/// hundred bytes takes in the file falls (bench/README.md).
 const PAGE: usize = 2048;
 
 /// The first page of a database without tables, as a connection makes it in an empty file, but for the size of its pages
@@ -74,7 +74,7 @@ impl Leftover for LeftPage {
 /// Makes a database file that is not there, with its first page, where the folder and its file system allow that. `part` is
 /// its name until it is whole.
 pub fn make(rt: &HostRuntime, part: &str, name: &str) -> io::Result<Made> {
-    let file = match claim::<LeftPage>(rt, part)? {
+    let file = match begin::<LeftPage>(rt, part)? {
         Claim::Made(file) => file,
         Claim::InUse => return Ok(Made::InUse),
         Claim::Foreign => return Err(io::ErrorKind::AlreadyExists.into()),

@@ -29,7 +29,7 @@ pub trait Leftover {
 }
 
 /// Makes a file, empty, for its owner alone, and locks it. One that is there is made anew if a killed process has left it.
-pub fn claim<L: Leftover>(rt: &HostRuntime, name: &str) -> io::Result<Claim> {
+pub fn begin<L: Leftover>(rt: &HostRuntime, name: &str) -> io::Result<Claim> {
     for _ in 0..TRIES {
         let (file, is_new) = match private().create_new(true).open(rt, name) {
             Ok(file) => (file, true),
