@@ -8,8 +8,9 @@ SIZES are lengths of stored images, 20,50,100,200,400,700,1500,3000 if none is g
 one, 1,10,1000,100000; PAGES are sizes of pages in bytes, 1024,2048,4096,8192. For each it makes a new database with
 sqlite3, inserts rows in any order, updates each once, deletes half of them, and opens it. A line has the size of a row,
 the rows of a transaction, the size of a page, and for inserting, updating, deleting and opening what a row takes: thousands
-of instructions; of transactions of 100,000 rows microseconds of a processor, the best of three runs. Then for the first
-three the bytes that a row has written to the WAL and to the file, and the bytes a row of the file after inserting.
+of instructions; of transactions of 100,000 rows, or as many as have 70 MB, microseconds of a processor, the best of three runs.
+Then for the first three the bytes that a row has written to the WAL and to the file, and the bytes a row of the file after
+inserting.
 """
 
 import concurrent.futures
@@ -33,8 +34,9 @@ with open(f'{ROOT}/samples/s1.bin', 'rb') as sample:
     S1 = sample.read()
 OPENING, FORMAT = S1[:100], S1[104:221]
 SOURCE = bytes(range(16))
-# How many rows there are in all, by how many a transaction has.
+# How many rows there are in all, by how many a transaction has, and how many bytes of images at most.
 ROWS = {1: 1000, 10: 2000, 1000: 5000, 100000: 100000}
+MOST = 70_000_000
 # What an image has beside the bytes of its text.
 BESIDE = 13
 
@@ -75,7 +77,7 @@ def transaction(number, code, changes):
 def write_streams(folder, size, each):
     """The streams that insert rows, update them and delete half of them, and how many rows each changes."""
     chance = random.Random(size * 1000003 + each)
-    count = ROWS[each]
+    count = min(ROWS[each], MOST // size)
     keys = chance.sample(range(2 ** 32), count)
     rows = [(key, chance.randbytes(size - BESIDE)) for key in keys]
     after = [(key, chance.randbytes(size - BESIDE)) for key, _ in rows]

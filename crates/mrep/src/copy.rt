@@ -53,8 +53,11 @@ pub fn copy<'a>(rt: &HostRuntime, db: &'a str, to: &'a str, force: bool) -> Resu
     judge(to, refusal_of(rt, &from, to, force))?;
     // What comes to have the name from now on is not replaced: it is not locked.
     let replaces = force && is_there(rt, to).unwrap_or(false);
-    let name_lock = lock_alone(rt, to)?;
-    let replaced = lock(rt, to)?;
+    let (name_lock, replaced) = if replaces {
+        (lock_alone(rt, to)?, lock(rt, to)?)
+    } else {
+        (None, None)
+    };
     let part = part_of(rt, &from, to)?;
     let made = match judge(to, refusal_of(rt, &from, to, force)) {
         Ok(()) => make(rt, db, to, &from, &part, replaces),
