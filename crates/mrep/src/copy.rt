@@ -12,7 +12,7 @@ ghost use Rattle.std.specs.Prelude.{◌≡◌, IfOk};
 use crate::copy_part::{Making, Names, Part, make_part, names_of};
 use crate::database::{has_frames, lock, read_head, test};
 use crate::failure::{DONE, Failure};
-use crate::name_lock::lock_alone;
+use crate::name_lock::{keep_one_name, lock_alone};
 use std::fs::File;
 use std::io::{ErrorKind, Seek, SeekFrom};
 use std::{fs, io};
@@ -51,6 +51,7 @@ pub fn copy<'a>(rt: &HostRuntime, db: &'a str, to: &'a str, force: bool) -> Resu
     };
     judge(db, fault_of(rt, &from))?;
     judge(to, refusal_of(rt, &from, to, force))?;
+    keep_one_name(rt, to)?;
     // What comes to have the name from now on is not replaced: it is not locked.
     let replaces = force && is_there(rt, to).unwrap_or(false);
     let (name_lock, replaced) = if replaces {

@@ -30,7 +30,7 @@ struct LeftCopy;
 
 impl Leftover for LeftCopy {
     fn is_left(rt: &HostRuntime, name: &str) -> io::Result<bool> {
-        is_database(rt, name)
+        Ok(fs::metadata(rt, name)?.len() == 0 || is_database(rt, name)?)
     }
 }
 

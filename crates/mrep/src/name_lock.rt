@@ -7,7 +7,7 @@
 
 use crate::database::has_frames;
 use crate::failure::Failure;
-use crate::new_database::{Made, is_as_made, make};
+use crate::new_database::{Made, is_first_page, make};
 use crate::part_file::remove_other;
 use std::alloc::AllocError;
 use std::fs::{File, OpenOptions, TryLockError};
@@ -36,9 +36,10 @@ pub struct NameLock {
 /// Locks the name of a database file that is to be opened, beside others that have it open. A file that is not there is
 /// made, for its owner alone; of a name that no such file can have, the opening says so.
 pub fn lock_shared<'a>(rt: &HostRuntime, name: &'a str) -> Result<NameLock, Failure<'a>> {
-    let names = PartNames::new(rt, name)?;
+    keep_one_name(rt, name)?;
+    let part = format!(in rt.alloc(); "{name}.new")?;
     for _ in 0..TRIES {
-        let lock = match open_or_make(rt, name, &names) {
+        let lock = match open_or_make(rt, name, part.as_str()) {
             Found::File(lock) => lock,
             Found::InUse => return Err(Failure::Unusable { name, why: LOCKED }),
             Found::No => break,
@@ -83,13 +84,12 @@ pub fn lock_alone<'a>(rt: &HostRuntime, name: &'a str) -> Result<Option<NameLock
 
 impl NameLock {
     /// Gives the name up after an opening that was refused, and removes the file if it was made for the lock, is still as
-    /// it was made, with no transactions in a WAL file, and no other process is about to open it.
+    /// it was made, and no other process is about to open it.
     pub fn discard(self, rt: &HostRuntime, name: &str) {
         let NameLock { file, is_new } = self;
         if let Some(file) = file
             && is_new
-            && is_as_made(&file)
-            && let Ok(false) = has_wal(rt, name)
+            && is_as_made(rt, &file, name)
             && file.try_lock().is_ok()
         {
             let _ = fs::remove_file(rt, name);
@@ -97,19 +97,20 @@ impl NameLock {
     }
 }
 
-/// The names that a database file has until it is whole, before it has its own: as a new one, and as a copy.
-#[derive(Drop)]
-struct PartNames {
-    new: String,
-    copy: String,
-}
-
-impl PartNames {
-    fn new(rt: &HostRuntime, name: &str) -> Result<PartNames, AllocError> {
-        let new = format!(in rt.alloc(); "{name}.new")?;
-        let copy = format!(in rt.alloc(); "{name}.part")?;
-        Ok(PartNames { new, copy })
+/// Removes the names F.new and F.part of a database file F, which a process that made it was killed with before it could: no
+/// database with two names is opened, since what lies beside it stands beside one of them.
+pub fn keep_one_name(rt: &HostRuntime, name: &str) -> Result<(), AllocError> {
+    if let Ok(metadata) = fs::metadata(rt, name)
+        && metadata.is_file()
+        && metadata.nlink() > 1
+        && let Ok(real) = fs::canonicalize(rt, name)
+    {
+        for suffix in [".new", ".part"] {
+            let other = format!(in rt.alloc(); "{}{suffix}", real.as_str())?;
+            let _ = remove_other(rt, other.as_str(), real.as_str());
+        }
     }
+    Ok(())
 }
 
 /// What was found under a name, or made.
@@ -122,19 +123,15 @@ enum Found {
 }
 
 /// Opens the file of a name, or makes it.
-fn open_or_make(rt: &HostRuntime, name: &str, names: &PartNames) -> Found {
+fn open_or_make(rt: &HostRuntime, name: &str, part: &str) -> Found {
     if is_special(name) {
         return Found::No;
     }
     match fs::metadata(rt, name) {
         Ok(metadata) if !metadata.is_file() => return Found::No,
-        Ok(metadata) if metadata.nlink() > 1 => {
-            let _ = remove_other(rt, names.new.as_str(), name);
-            let _ = remove_other(rt, names.copy.as_str(), name);
-        }
         Ok(_) => {}
         Err(cause) if cause.kind() != ErrorKind::NotFound => return Found::No,
-        Err(_) => match make_file(rt, name, names) {
+        Err(_) => match make_file(rt, name, part) {
             Made::File(file) => {
                 return Found::File(NameLock {
                     file: Some(file),
@@ -155,9 +152,12 @@ fn open_or_make(rt: &HostRuntime, name: &str, names: &PartNames) -> Found {
 }
 
 /// Makes a database file that is not there: with its first page, or empty where that cannot be, as on a file system on which
-/// no file has two names.
-fn make_file(rt: &HostRuntime, name: &str, names: &PartNames) -> Made {
-    if let Ok(made) = make(rt, names.new.as_str(), name) {
+/// no file has two names. Beside a WAL file with transactions, which a database that is gone has left, it is empty too: these
+/// would be taken for those of the new one.
+fn make_file(rt: &HostRuntime, name: &str, part: &str) -> Made {
+    if let Ok(false) = has_wal(rt, name)
+        && let Ok(made) = make(rt, part, name)
+    {
         return made;
     }
     match private().create_new(true).open(rt, name) {
@@ -170,6 +170,14 @@ fn make_file(rt: &HostRuntime, name: &str, names: &PartNames) -> Made {
 fn has_wal(rt: &HostRuntime, name: &str) -> io::Result<bool> {
     let wal = format!(in rt.alloc(); "{name}-wal")?;
     Ok(is_file(rt, wal.as_str()) && has_frames(rt, wal.as_str())?)
+}
+
+/// Whether a database file is as it was made: it is empty, or has its first page and no transactions in a WAL file.
+fn is_as_made(rt: &HostRuntime, file: &File, name: &str) -> bool {
+    if is_empty(file) {
+        return true;
+    }
+    matches!(is_first_page(file), Ok(true)) && matches!(has_wal(rt, name), Ok(false))
 }
 
 /// Whether SQLite has another meaning for a name (SQLite, "Uniform Resource Identifiers", and "In-Memory Databases").

@@ -46,14 +46,16 @@ pub enum Made {
     InUse,
 }
 
-/// What a killed process has left of a first page: its first bytes, and zeros where a crash has lost others.
+/// What a killed process has left of a first page: its first bytes, and zeros where a crash has lost others. A file with a WAL
+/// file beside it is a database that was opened.
 struct LeftPage;
 
 impl Leftover for LeftPage {
     fn is_left(rt: &HostRuntime, name: &str) -> io::Result<bool> {
+        let wal = format!(in rt.alloc(); "{name}-wal")?;
         let file = fs::open(rt, name)?;
         let length = file.metadata()?.len();
-        if length > PAGE as u64 {
+        if length > PAGE as u64 || fs::exists(rt, wal.as_str())? {
             return Ok(false);
         }
         let mut found = [0u8; PAGE];
@@ -102,20 +104,9 @@ fn write(file: &File) -> io::Result<()> {
     file.sync_all()
 }
 
-/// Whether a database file is as it was made: it is empty, or has its first page alone.
-pub fn is_as_made(file: &File) -> bool {
-    match has_first_page(file) {
-        Ok(has) => has,
-        Err(_) => false,
-    }
-}
-
-fn has_first_page(file: &File) -> io::Result<bool> {
-    let length = file.metadata()?.len();
-    if length == 0 {
-        return Ok(true);
-    }
-    if length != PAGE as u64 {
+/// Whether a file has the first page of a new database and nothing else.
+pub fn is_first_page(file: &File) -> io::Result<bool> {
+    if file.metadata()?.len() != PAGE as u64 {
         return Ok(false);
     }
     let mut found = [0u8; PAGE];

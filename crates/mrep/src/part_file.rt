@@ -48,7 +48,12 @@ pub fn begin<L: Leftover>(rt: &HostRuntime, name: &str) -> io::Result<Claim> {
         match file.try_lock() {
             Ok(()) => {}
             Err(TryLockError::WouldBlock) => return Ok(Claim::InUse),
-            Err(TryLockError::Error(cause)) => return Err(cause),
+            Err(TryLockError::Error(cause)) => {
+                if is_new {
+                    remove(rt, name)?;
+                }
+                return Err(cause);
+            }
         }
         if !is_named(rt, &file, name) {
             continue;
@@ -65,7 +70,6 @@ pub fn begin<L: Leftover>(rt: &HostRuntime, name: &str) -> io::Result<Claim> {
 fn may_be_left<L: Leftover>(rt: &HostRuntime, name: &str) -> io::Result<bool> {
     let found = match fs::symlink_metadata(rt, name) {
         Ok(metadata) if !metadata.is_file() => return Ok(false),
-        Ok(metadata) if metadata.len() == 0 => return Ok(true),
         Ok(_) => L::is_left(rt, name),
         Err(cause) => Err(cause),
     };
@@ -76,11 +80,12 @@ fn may_be_left<L: Leftover>(rt: &HostRuntime, name: &str) -> io::Result<bool> {
 }
 
 /// Gives a file that is whole its name, if nothing has that: it is a second name at first, and then the first one goes, since
-/// no call renames only where the new name is free. `false` if something has the name.
+/// no call renames only where the new name is free. `false` if something has the name. Where the first one cannot be removed
+/// it is a leftover, as after a kill.
 pub fn give_name(rt: &HostRuntime, part: &str, name: &str) -> io::Result<bool> {
     match fs::hard_link(rt, part, name) {
         Ok(()) => {
-            remove(rt, part)?;
+            let _ = remove(rt, part);
             Ok(true)
         }
         Err(cause) if cause.kind() == ErrorKind::AlreadyExists => Ok(false),
