@@ -4,8 +4,8 @@ written to the WAL and to the database file (strace), and the length of the file
 
     pages.py PROGRAM [SIZES [TRANSACTIONS [PAGES]]]
 
-SIZES are lengths of stored images, 20,50,100,200,400,700,1500,3000 if none is given; TRANSACTIONS are numbers of rows of
-one, 1,10,1000,100000; PAGES are sizes of pages in bytes, 1024,2048,4096,8192. For each it makes a new database with
+SIZES are lengths of stored images, from 13 on, 20,50,100,200,400,700,1500,3000 if none is given; TRANSACTIONS are numbers of
+rows of one, of 1,10,1000,100000; PAGES are sizes of pages in bytes, 1024,2048,4096,8192. For each it makes a new database with
 sqlite3, inserts rows in any order, updates each once, deletes half of them, and opens it. A line has the size of a row,
 the rows of a transaction, the size of a page, and for inserting, updating, deleting and opening what a row takes: thousands
 of instructions; of transactions of 100,000 rows, or as many as have 70 MB, microseconds of a processor, the best of three runs.
@@ -101,9 +101,7 @@ def make(db, page):
     base.execute('PRAGMA journal_mode = WAL')
     base.execute('VACUUM')
     base.close()
-    with open(db, 'rb') as file:
-        head = file.read()
-    if len(head) != page or int.from_bytes(head[16:18], 'big') != page:
+    if os.path.getsize(db) != page:
         raise SystemExit(f'sqlite3 makes no empty database of pages of {page}')
 
 

@@ -6,10 +6,11 @@
 //! of a disk.
 
 use super::{BEGIN, FORMAT, MAP, OPENING, Run, TEXT, best, event, gtid, meets, mib, most, remove_store, run};
-use std::fs::{self, File, OpenOptions};
+use std::fs::{self, File, OpenOptions, Permissions};
 use std::io::{self, BufReader, BufWriter, Read, Write};
 use std::net::{Shutdown, TcpListener};
 use std::os::fd::AsRawFd;
+use std::os::unix::fs::PermissionsExt;
 use std::path::{Path, PathBuf};
 use std::process::Command;
 use std::thread;
@@ -186,6 +187,7 @@ pub fn compare_connections(mrep: &str, jobs: &str, folder: &Path) -> io::Result<
         pipe: folder.join("pipe"),
     };
     fs::write(&files.password, "\n")?;
+    fs::set_permissions(&files.password, Permissions::from_mode(0o600))?;
     let _ = fs::remove_file(&files.pipe);
     if !Command::new("mkfifo").arg(&files.pipe).status()?.success() {
         return Err(io::Error::other("mkfifo fails"));
