@@ -8,8 +8,8 @@ use Rattle.wire.specs.declared.fault.WireFault.{WireFault}
 use Rattle.wire.specs.declared.fault.WireFault.TheVariants.{Sequence, TooLarge, Memory, Ended}
 use Rattle.wire.proofs.OneReading.{more_wrong, more_large}
 use Rattle.wire.specs.Packet.{largest_payload}
-use Rattle.mrep.specs.declared.payload_listing.Entry.{Entry}
-use Rattle.mrep.specs.declared.payload_listing.Listing.{Listing}
+use Rattle.mrep.specs.declared.commands.payload_listing.Entry.{Entry}
+use Rattle.mrep.specs.declared.commands.payload_listing.Listing.{Listing}
 use Rattle.mrep.specs.PayloadListing.{Lists, held_of, with_entry, first_id, IsNoPayload, Stands, IsWrong, Faults}
 
 -- bytes after the rest are part of the rest

@@ -5,10 +5,10 @@ use Rattle.std.specs.declared.io.Error.{Error}
 use Rattle.std.specs.declared.io.ErrorKind.TheVariants as io_kind
 use Rattle.clap.specs.Words.{kind_of}
 use Rattle.clap.specs.declared.error.ErrorKind.TheVariants as clap_kind
-use Rattle.mrep.specs.declared.failure.Failure.{Failure}
+use Rattle.mrep.specs.declared.report.failure.Failure.{Failure}
 use Rattle.store.specs.declared.fault.StoreFault.{StoreFault}
 use Rattle.store.specs.declared.fault.StoreFault.TheVariants as store
-use Rattle.mrep.specs.declared.failure.Failure.TheVariants.{Words, Set, Gtid, Table, Number, Bytes, User, File, Host, Database, Damaged, Unusable, Output, Memory}
+use Rattle.mrep.specs.declared.report.failure.Failure.TheVariants.{Words, Set, Gtid, Table, Number, Bytes, User, File, Host, Database, Damaged, Unusable, Output, Memory}
 
 -- 4 if memory ran out, otherwise 3
 abbrev pub IsFileStatus : Error → ℕ → Type 0

@@ -5,8 +5,8 @@ use Rattle.wire.specs.Packet.{largest_payload}
 use Rattle.wire.specs.declared.assembler.Step.{Step}
 use Rattle.wire.specs.declared.fault.WireFault.{WireFault}
 use Rattle.wire.specs.declared.fault.WireFault.TheVariants.{Sequence, TooLarge, Memory, Ended}
-use Rattle.mrep.specs.declared.payload_listing.Entry.{Entry}
-use Rattle.mrep.specs.declared.payload_listing.Listing.{Listing}
+use Rattle.mrep.specs.declared.commands.payload_listing.Entry.{Entry}
+use Rattle.mrep.specs.declared.commands.payload_listing.Listing.{Listing}
 
 -- The bytes are the packings of payloads, one after the other, and then the rest. Each entry has the offset of the
 -- first byte of one of them, the sequence id of its first packet, and the payload's bytes. The first has this offset.

@@ -4,51 +4,16 @@
 //! the process.
 #![tactic(auto)]
 
-mod adopt;
-mod advice;
 mod arguments;
-mod cells;
-mod change_feed;
-mod command;
-mod completions;
-mod copy;
-mod copy_part;
-mod csv_lines;
-mod damage;
+mod commands;
 mod database;
-mod details;
-mod events;
-mod failure;
-mod feed_file;
-mod follow;
 mod forge;
-mod hex;
-mod input;
-mod json_lines;
-mod minus;
-mod name;
-mod name_lock;
-mod new_database;
-mod notes;
-mod output_format;
-mod part_file;
-mod payload_lines;
-mod payload_listing;
-mod progress;
-mod reason;
-mod replay;
-mod set_text;
-mod sets;
-mod show;
-mod skip;
-mod socket;
+mod print;
+mod report;
 mod stack_room;
-mod tables;
-mod unsupported;
-mod watch;
 
-use crate::command::command;
-use crate::failure::{MEMORY, USAGE};
+use crate::commands::command;
+use crate::report::failure::{MEMORY, USAGE};
 use crate::stack_room::has_room;
 use std::io::BufWriter;
 use std::process::ExitCode;

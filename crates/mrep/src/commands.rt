@@ -1,0 +1,176 @@
+//! Runs the command that the arguments name.
+
+ghost use Rattle.std.specs.Prelude.{◌≤◌, IfOk, IfSome};
+
+pub mod completions;
+pub mod copy;
+pub mod events;
+pub mod follow;
+pub mod input;
+pub mod jobs;
+pub mod minus;
+pub mod payload_lines;
+pub mod payload_listing;
+pub mod replay;
+pub mod socket;
+
+use crate::arguments::grammar::grammar;
+use crate::arguments::mistake::{escaped, input_again, no_command};
+use crate::arguments::value::word;
+use crate::commands::completions::completions;
+use crate::commands::copy::copy;
+use crate::commands::follow::follow;
+use crate::commands::input::INPUT;
+use crate::commands::jobs::{job_of, run_job};
+use crate::commands::minus::minus;
+use crate::commands::payload_lines::{Lines, list};
+use crate::commands::replay::replay;
+use crate::report::failure::{DONE, Failure, MEMORY};
+use crate::report::notes::note_patterns;
+use clap::error::ErrorKind;
+use clap::{ArgMatches, Command};
+use std::alloc::Global;
+use std::convert::AsStr;
+use std::io;
+use std::io::Write;
+
+/// What help ends with.
+const STATUSES: &[u8] =
+    b"\nExit status:\n  0  done\n  1  refused by the source, or by what the data says\n  2  a mistake in the arguments\n  3  a file, a host, the database or the output\n  4  out of memory\n";
+
+/// Runs the command that the arguments name; the first argument is the program's own name. Returns the exit status: 0
+/// done, 1 refused by the source or because of what the data says, 2 a mistake in the arguments, 3 a file, a socket,
+/// the database or the output, 4 out of memory.
+///
+/// The lines of a command, help and the version go to `out`, which is flushed; everything else goes to `err`.
+pub fn command<S: AsStr, O: Write, E: Write>(
+    rt: &HostRuntime,
+    words: &[S],
+    out: &mut O,
+    err: &mut E,
+) -> u8
+    ensures { result ≤ MEMORY }
+{
+    match run(rt, words, out, err) {
+        Ok(status) => status,
+        Err(failure) => {
+            if !matches!(failure, Failure::Output(_))
+                && let Err(cause) = out.flush()
+            {
+                let _ = Failure::Output(cause).write(err);
+            }
+            let _ = failure.write(err);
+            failure.status()
+        }
+    }
+}
+
+fn run<'a, S: AsStr, O: Write, E: Write>(
+    rt: &HostRuntime,
+    words: &'a [S],
+    out: &mut O,
+    err: &mut E,
+) -> Result<u8, Failure<'a>>
+    ensures { IfOk result (λ status. status ≤ MEMORY) }
+{
+    let mut command = grammar(rt.alloc())?;
+    match command.try_get_matches_from_mut(words) {
+        Ok(matches) => run_matches(rt, &mut command, &matches, out, err),
+        Err(error) => answer(rt.alloc(), words, error, out),
+    }
+}
+
+/// Prints help or the version, where words ask for that; otherwise they are a mistake.
+fn answer<'a, S: AsStr, O: Write>(
+    alloc: Global,
+    words: &[S],
+    error: clap::Error,
+    out: &mut O,
+) -> Result<u8, Failure<'a>>
+    ensures { IfOk result (λ status. status ≤ MEMORY) }
+{
+    if error.use_stderr() {
+        return Err(Failure::Words(escaped(alloc, words, error)?));
+    }
+    print(&error, out)?;
+    Ok(DONE)
+}
+
+/// Prints help, with the exit statuses, or the version, and flushes it.
+fn print<O: Write>(text: &clap::Error, out: &mut O) -> io::Result<()> {
+    write!(out, "{text}")?;
+    if text.kind() == ErrorKind::DisplayHelp {
+        out.write_all(STATUSES)?;
+    }
+    out.flush()
+}
+
+/// Runs the command of the matches.
+fn run_matches<'a, O: Write, E: Write>(
+    rt: &HostRuntime,
+    command: &mut Command<'a>,
+    matches: &ArgMatches<'a>,
+    out: &mut O,
+    err: &mut E,
+) -> Result<u8, Failure<'a>>
+    ensures { IfOk result (λ status. status ≤ MEMORY) }
+{
+    let Some((name, given)) = matches.subcommand() else {
+        return Err(no_command(command));
+    };
+    if reads_input_again(given) {
+        return Err(input_again(command));
+    }
+    note_patterns(given.get_strs("only").unwrap_or(&[]), err);
+    match run_named(rt, name, given, out, err)? {
+        Some(status) => flushed(status, out, err),
+        None => Err(no_command(command)),
+    }
+}
+
+/// Whether standard input is to be read as two streams.
+fn reads_input_again(given: &ArgMatches<'_>) -> bool {
+    let streams = given.get_strs("STREAM").unwrap_or(&[]);
+    streams.iter().filter(|name| **name == INPUT).count() > 1
+}
+
+/// Runs the command of this name, if there is one.
+fn run_named<'a, W: Write, E: Write>(
+    rt: &HostRuntime,
+    name: &str,
+    given: &ArgMatches<'a>,
+    out: &mut W,
+    err: &mut E,
+) -> Result<Option<u8>, Failure<'a>>
+    ensures { IfOk result (λ done. IfSome done (λ status. status ≤ MEMORY)) }
+{
+    let status = match name {
+        "packets" => list(rt, word(given, "FILE"), Lines::Packets, out)?,
+        "events" => list(rt, word(given, "FILE"), Lines::Events, out)?,
+        "minus" => minus(rt, given, out)?,
+        "replay" => replay(rt, given, out, err)?,
+        "follow" => follow(rt, given, out, err)?,
+        "copy" => copy(rt, given)?,
+        "completions" => completions(word(given, "SHELL"), out)?,
+        _ => match job_of(rt.alloc(), name, given)? {
+            Some(job) => run_job(rt, word(given, "db"), job, out, err)?,
+            None => return Ok(None),
+        },
+    };
+    Ok(Some(status))
+}
+
+/// Flushes the output of a command that ends with this status. If that fails, a command with status 0 fails, and any
+/// other keeps its status.
+fn flushed<'a, O: Write, E: Write>(status: u8, out: &mut O, err: &mut E) -> Result<u8, Failure<'a>>
+    ensures { status ≤ MEMORY → IfOk result (λ s. s ≤ MEMORY) }
+{
+    match out.flush() {
+        Ok(()) => Ok(status),
+        Err(cause) if status == DONE => Err(Failure::Output(cause)),
+        Err(cause) => {
+            let _ = Failure::Output(cause).write(err);
+            Ok(status)
+        }
+    }
+}

@@ -1,0 +1,226 @@
+//! `mrep follow`: a source followed over a socket.
+
+ghost use Rattle.std.specs.Prelude.{◌≤◌, IfOk};
+
+use crate::arguments::value::{number, word};
+use crate::commands::socket::Socket;
+use crate::database::open::{closed, follow_into};
+use crate::print::name::Shown;
+use crate::report::failure::{Failure, MEMORY, write_failure};
+use crate::report::progress::Progress;
+use crate::report::status::status_after;
+use crate::report::wanted::Wanted;
+use crate::report::watch::{Source, Watch};
+use binlog::Follow;
+use clap::ArgMatches;
+use replica::{Config, ConfigFault, Ended, FollowedFile, Observer};
+use std::alloc::AllocError;
+use std::io::{ErrorKind, Read, Write};
+use std::net::TcpStream;
+use std::os::unix::fs::MetadataExt;
+use std::rc::Rc;
+use std::{fs, io};
+use wire::LARGEST_PAYLOAD;
+
+/// How long a password may be, in bytes.
+const LONGEST_PASSWORD: u64 = 65_536;
+
+const NO_PASSWORD: &str = "a password has at most 65,536 bytes";
+
+/// The bits of a file's mode by which its group and others may read it.
+const OTHERS_READ: u32 = 0o044;
+
+/// Follows a source into a database until the connection ends, prints how it ended, and returns the exit status. With a
+/// filter the database keeps only the rows of the tables that it admits.
+///
+/// Faults are looked for in the arguments, the password file, the user name, the database and the socket, in this
+/// order.
+pub fn follow<'a, W: Write, E: Write>(
+    rt: &HostRuntime,
+    given: &ArgMatches<'a>,
+    out: &mut W,
+    err: &mut E,
+) -> Result<u8, Failure<'a>>
+    ensures { IfOk result (λ status. status ≤ MEMORY) }
+{
+    let wanted = Wanted::of(given)?;
+    let port = number(word(given, "port"), 65_535)? as u16;
+    let server_id = number(word(given, "server-id"), u32::MAX)?;
+    let chosen = wanted.chosen(rt.alloc())?;
+    let filter = wanted.filter(rt.alloc())?;
+    let config = settings(rt, given, server_id)?;
+    let password_file = word(given, "password-file");
+    warn(rt, password_file, err);
+    let name = word(given, "host");
+    let progress = wanted.progress(rt, None)?;
+    let host = Host {
+        rt,
+        name,
+        port,
+        progress: shared(&progress)?,
+    };
+    let feed = wanted.feed(rt, &[password_file])?;
+    let streams = [name];
+    let source = Source {
+        rt,
+        streams: &streams,
+        port,
+        db: wanted.db,
+        changes: wanted.feed_name(),
+    };
+    let mut watch = Watch::new(source, progress, feed, chosen, out, err);
+    let followed = match follow_over(host, wanted.db, filter.as_ref(), config, &mut watch) {
+        Ok(followed) => followed,
+        Err(failure) => {
+            watch.discard(wanted.feed_name());
+            return Err(failure);
+        }
+    };
+    let Followed { connection, closed } = followed;
+    let (end, failure) = match connection {
+        Ok(ended) => ended,
+        Err(cause) => {
+            write_failure(wanted.stopped(watch.stop()).and(closed), err);
+            return Err(Failure::Host { name, cause });
+        }
+    };
+    let printed = watch.report(1, &end, failure);
+    watch.note_missing();
+    let stopped = wanted.stopped(watch.stop());
+    let written = match printed {
+        Ok(()) => stopped.and(closed),
+        Err(cause) => Err(Failure::Output(cause)),
+    };
+    status_after(&[end], written, err)
+}
+
+/// The bytes of the password file. `None` if they are more than a password and a line feed may have.
+fn read_password(rt: &HostRuntime, name: &str) -> io::Result<Option<Vec<u8>>> {
+    let mut bytes = Vec::new(rt.alloc());
+    let most = LONGEST_PASSWORD + 1;
+    fs::open(rt, name)?.take(most + 1).read_to_end(&mut bytes)?;
+    Ok(if bytes.len() as u64 > most {
+        None
+    } else {
+        Some(bytes)
+    })
+}
+
+/// Says on standard error if others may read the password file.
+fn warn<E: Write>(rt: &HostRuntime, name: &str, err: &mut E) {
+    if let Ok(metadata) = fs::metadata(rt, name)
+        && metadata.is_file()
+        && metadata.mode() & OTHERS_READ != 0
+    {
+        let _ = writeln!(
+            err,
+            "mrep: {}: others may read the password: chmod 600 keeps them out",
+            Shown(name)
+        );
+    }
+}
+
+/// The settings, with the password from its file: the bytes of the file without one line feed at the end.
+fn settings<'a>(
+    rt: &HostRuntime,
+    given: &ArgMatches<'a>,
+    server_id: u32,
+) -> Result<Config, Failure<'a>> {
+    let (user, name) = (word(given, "user"), word(given, "password-file"));
+    let bytes = match read_password(rt, name) {
+        Ok(Some(bytes)) => bytes,
+        Ok(None) => {
+            return Err(Failure::Unusable {
+                name,
+                why: NO_PASSWORD,
+            });
+        }
+        Err(cause) => return Err(Failure::File { name, cause }),
+    };
+    let password = match bytes.as_slice() {
+        [line @ .., b'\n'] => line,
+        all => all,
+    };
+    let once = given.get_flag("once");
+    match Config::new(
+        rt.alloc(),
+        user.as_bytes(),
+        password,
+        server_id,
+        once,
+        LARGEST_PAYLOAD,
+    ) {
+        Ok(config) => Ok(config),
+        Err(ConfigFault::Memory) => Err(Failure::Memory),
+        Err(cause) => Err(Failure::User { word: user, cause }),
+    }
+}
+
+/// How following a source went.
+struct Followed<'a> {
+    /// How the connection ended, and the cause of the last failure of its stream, if there was one; or why there is no
+    /// connection.
+    connection: io::Result<(Ended, Option<ErrorKind>)>,
+    /// Whether the database was closed.
+    closed: Result<(), Failure<'a>>,
+}
+
+/// The host of a name: an IPv6 address may stand in brackets.
+fn unbracketed(name: &str) -> &str {
+    let Some(rest) = name.strip_prefix('[') else {
+        return name;
+    };
+    match rest.strip_suffix(']') {
+        Some(address) if address.contains(':') => address,
+        _ => name,
+    }
+}
+
+/// The same progress, for a second owner.
+fn shared(progress: &Option<Rc<Progress>>) -> Result<Option<Rc<Progress>>, AllocError> {
+    match progress {
+        Some(progress) => Ok(Some(progress.clone()?)),
+        None => Ok(None),
+    }
+}
+
+/// Where the source listens, and the progress that the connection reports, if it is reported.
+#[derive(Drop)]
+struct Host<'r> {
+    rt: &'r HostRuntime,
+    name: &'r str,
+    port: u16,
+    progress: Option<Rc<Progress>>,
+}
+
+impl<'r> Host<'r> {
+    fn connect(self) -> io::Result<Socket<'r>> {
+        match TcpStream::connect(self.rt, (unbracketed(self.name), self.port)) {
+            Ok(stream) => Ok(Socket::new(self.rt, stream, self.progress)),
+            Err(cause) => Err(cause),
+        }
+    }
+}
+
+/// Follows over a socket.
+fn follow_over<'a, W: Observer>(
+    host: Host<'_>,
+    db: &'a str,
+    only: Option<&Follow>,
+    config: Config,
+    observer: &mut W,
+) -> Result<Followed<'a>, Failure<'a>> {
+    let rt = host.rt;
+    let FollowedFile {
+        connection,
+        closed: files,
+    } = follow_into(rt, db, only, config, move || host.connect(), observer)?;
+    let connection = match connection {
+        Ok((end, stream)) => Ok((end, stream.failure())),
+        Err(cause) => Err(cause),
+    };
+    Ok(Followed {
+        connection,
+        closed: closed(db, files),
+    })
+}

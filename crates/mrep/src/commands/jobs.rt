@@ -1,0 +1,82 @@
+//! The commands over the store in a database file: `show`, `tables`, `gtids`, `missing`, `adopt` and `skip`.
+
+ghost use Rattle.std.specs.Prelude.{◌≡◌, IfOk};
+
+use crate::arguments::value::{gtid_set, tables, word};
+use crate::database::job::Job;
+use crate::database::open::work_on;
+use crate::print::output_format::{encoding_of, format_of};
+use crate::print::printer::Selection;
+use crate::report::failure::{DONE, Failure};
+use crate::report::notes::{Chosen, has_database, note_made};
+use clap::ArgMatches;
+use gtid::Gtid;
+use std::alloc::Global;
+use std::io::Write;
+
+/// The job of the command of this name, if it is one over a store.
+pub fn job_of<'a>(
+    alloc: Global,
+    name: &str,
+    given: &ArgMatches<'a>,
+) -> Result<Option<Job>, Failure<'a>> {
+    let job = match name {
+        "show" => Job::Show(selection(alloc, given)?),
+        "tables" => Job::Tables,
+        "gtids" => Job::Executed,
+        "missing" => Job::Missing(gtid_set(alloc, "SET", word(given, "SET"))?),
+        "adopt" => Job::Adopt(gtid_set(alloc, "SET", word(given, "SET"))?),
+        "skip" => match Gtid::parse(word(given, "G")) {
+            Some(gtid) => Job::Skip(gtid),
+            None => return Err(Failure::Gtid { word: "G" }),
+        },
+        _ => return Ok(None),
+    };
+    Ok(Some(job))
+}
+
+/// Which rows `mrep show` prints, and how.
+fn selection<'a>(alloc: Global, given: &ArgMatches<'a>) -> Result<Selection, Failure<'a>> {
+    let format = format_of(given.get_str("format"));
+    let encoding = encoding_of(given.get_str("bytes"), format)?;
+    let only = tables(alloc, given.get_strs("only").unwrap_or(&[]))?;
+    Ok(Selection {
+        chosen: Chosen::new(alloc, only)?,
+        format,
+        encoding,
+    })
+}
+
+/// Does a job with the store in a database file, and prints what comes of it. Reports if a job that only reads has made the
+/// database.
+pub fn run_job<'a, W: Write, E: Write>(
+    rt: &HostRuntime,
+    file: &'a str,
+    job: Job,
+    out: &mut W,
+    err: &mut E,
+) -> Result<u8, Failure<'a>>
+    ensures { IfOk result (λ status. status ≡ DONE) }
+{
+    let may_make = job.only_reads() && !has_database(rt, file);
+    let done = run_and_print(rt, file, job, out, err);
+    if may_make && has_database(rt, file) {
+        let _ = out.flush();
+        note_made(file, err);
+    }
+    done?;
+    Ok(DONE)
+}
+
+/// Does a job, and prints what comes of it once the database is closed.
+fn run_and_print<'a, W: Write, E: Write>(
+    rt: &HostRuntime,
+    file: &'a str,
+    job: Job,
+    out: &mut W,
+    err: &mut E,
+) -> Result<(), Failure<'a>> {
+    let done = work_on(rt, file, job, out)?;
+    done.print(file, out, err)?;
+    Ok(())
+}

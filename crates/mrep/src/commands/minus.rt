@@ -1,0 +1,39 @@
+//! `mrep minus`: a GTID set without the members of another.
+
+ghost use Rattle.std.specs.Prelude.{◌≡◌, [], string_bytes, IfOk};
+ghost use Rattle.std.specs.FinSet as set;
+ghost use Rattle.gtid.specs.Identifier.{Ids};
+ghost use Rattle.gtid.specs.Text.{IsRead, AppendsText};
+
+use crate::arguments::value::{gtid_set, word};
+use crate::print::set_text::text_of;
+use crate::report::failure::{DONE, Failure};
+use clap::ArgMatches;
+use std::alloc::Global;
+use std::io::Write;
+
+/// Prints a set without the members of another. Both are given as texts.
+pub fn minus<'a, R: AllocGlobal, W: Write>(
+    rt: &R,
+    given: &ArgMatches<'a>,
+    out: &mut W,
+) -> Result<u8, Failure<'a>>
+    ensures { IfOk result (λ status. status ≡ DONE) }
+{
+    let text = difference(rt.alloc(), word(given, "X"), word(given, "Y"))?;
+    writeln!(out, "{text}")?;
+    Ok(DONE)
+}
+
+/// The text of a set without the members of another.
+fn difference<'a>(alloc: Global, left: &str, right: &str) -> Result<String, Failure<'a>>
+    ensures { IfOk result (λ text. (x y : Ids) → IsRead left.now x → IsRead right.now y → AppendsText (set.difference x y) [] (string_bytes text)) }
+{
+    let mut kept = gtid_set(alloc, "X", left)?;
+    let taken = gtid_set(alloc, "Y", right)?;
+    let Ok(()) = kept.subtract(&taken) else {
+        return Err(Failure::Memory);
+    };
+    let text = text_of(alloc, &kept)?;
+    Ok(text)
+}

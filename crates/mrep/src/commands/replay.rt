@@ -1,0 +1,137 @@
+//! `mrep replay`: connections read from files into a database.
+
+ghost use Rattle.std.specs.Prelude.{◌≤◌, IfOk};
+
+use crate::commands::input::Input;
+use crate::database::open::{closed, replay_into};
+use crate::report::failure::{Failure, MEMORY, write_failure};
+use crate::report::status::status_after;
+use crate::report::wanted::Wanted;
+use crate::report::watch::{Source, Watch};
+use clap::ArgMatches;
+use replica::{Capture, Config, Halt, Replayed, read_some};
+use std::io;
+use std::io::Write;
+use wire::LARGEST_PAYLOAD;
+
+/// The server id of the replica. It is never sent: a replay sends nothing.
+const SERVER_ID: u32 = 1;
+
+/// Reads streams into a database, each as one connection, and prints how each ended. Returns the first of their
+/// statuses that is not 0, or 0.
+pub fn replay<'a, W: Write, E: Write>(
+    rt: &HostRuntime,
+    given: &ArgMatches<'a>,
+    out: &mut W,
+    err: &mut E,
+) -> Result<u8, Failure<'a>>
+    ensures { IfOk result (λ status. status ≤ MEMORY) }
+{
+    let streams = given.get_strs("STREAM").unwrap_or(&[]);
+    replay_streams(rt, Wanted::of(given)?, streams, out, err)
+}
+
+/// All streams are opened and their first bytes are read before the database is opened.
+fn replay_streams<'a, W: Write, E: Write>(
+    rt: &HostRuntime,
+    wanted: Wanted<'_, 'a>,
+    names: &[&'a str],
+    out: &mut W,
+    err: &mut E,
+) -> Result<u8, Failure<'a>>
+    ensures { IfOk result (λ status. status ≤ MEMORY) }
+{
+    let filter = wanted.filter(rt.alloc())?;
+    let chosen = wanted.chosen(rt.alloc())?;
+    let (captures, total) = open_streams(rt, names)?;
+    let Ok(config) = Config::new(rt.alloc(), b"", b"", SERVER_ID, false, LARGEST_PAYLOAD) else {
+        return Err(Failure::Memory);
+    };
+    let progress = wanted.progress(rt, total)?;
+    let feed = wanted.feed(rt, names)?;
+    let source = Source {
+        rt,
+        streams: names,
+        port: 0,
+        db: wanted.db,
+        changes: wanted.feed_name(),
+    };
+    let mut watch = Watch::new(source, progress, feed, chosen, out, err);
+    let done = replay_into(
+        rt,
+        wanted.db,
+        filter.as_ref(),
+        &config,
+        captures,
+        &mut watch,
+    );
+    let done = match done {
+        Ok(done) => done,
+        Err(failure) => {
+            watch.discard(wanted.feed_name());
+            return Err(failure);
+        }
+    };
+    watch.note_missing();
+    let stopped = wanted.stopped(watch.stop());
+    let Replayed {
+        ends,
+        read,
+        closed: files,
+    } = done;
+    let read = match read {
+        Err(Halt::Reader(cause)) => {
+            write_failure(stopped, err);
+            Err(unread(names, ends.len(), cause))
+        }
+        Ok(()) | Err(Halt::Observer) => stopped,
+    };
+    status_after(&ends, read.and(closed(wanted.db, files)), err)
+}
+
+/// The failure of the reading of a stream, the one after this many.
+fn unread<'a>(names: &[&'a str], ended: usize, cause: io::Error) -> Failure<'a> {
+    match names.get(ended) {
+        Some(name) => Failure::File { name, cause },
+        None => Failure::Output(cause),
+    }
+}
+
+/// Opens the streams, in order, reads the first byte of each, and adds up their sizes, if all are files.
+fn open_streams<'a>(
+    rt: &HostRuntime,
+    names: &[&'a str],
+) -> Result<(Vec<Capture<Input>>, Option<u64>), Failure<'a>> {
+    let mut streams = Vec::with_capacity(rt.alloc(), names.len())?;
+    let mut total = Some(0u64);
+    for name in names {
+        let (stream, is_file) = open_stream(rt, name)?;
+        total = match total {
+            Some(sum) if is_file => Some(sum.saturating_add(stream.size)),
+            _ => None,
+        };
+        streams.push(stream)?;
+    }
+    Ok((streams, total))
+}
+
+/// Opens a stream and reads its first byte. Whether it is a file, whose size is known.
+fn open_stream<'a>(rt: &HostRuntime, name: &'a str) -> Result<(Capture<Input>, bool), Failure<'a>> {
+    let mut reader = Input::open(rt, name).map_err(|cause| Failure::File { name, cause })?;
+    let size = match reader.size() {
+        Ok(size) => size,
+        Err(cause) => return Err(Failure::File { name, cause }),
+    };
+    let mut byte = [0u8; 1];
+    let first = match read_some(&mut reader, &mut byte) {
+        Ok(0) => None,
+        Ok(_) => Some(byte[0]),
+        Err(cause) => return Err(Failure::File { name, cause }),
+    };
+    let capture = Capture {
+        first,
+        reader,
+        size: size.unwrap_or(0),
+    };
+    Ok((capture, size.is_some()))
+}

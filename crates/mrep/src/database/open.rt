@@ -1,0 +1,412 @@
+//! Opening and closing a database file.
+
+ghost use Rattle.std.specs.Prelude.{◌≡◌, Ok, IfOk};
+
+use crate::database::damage::{Damage, damage_in};
+use crate::database::job::{Done, Job};
+use crate::database::name_lock::{LOCKED, NameLock, is_file, is_special, lock_shared};
+use crate::database::unsupported::unsupported_in;
+use crate::report::failure::Failure;
+use binlog::Follow;
+use replica::{
+    Capture, Config, Duplex, FollowedFile, Observer, Replayed, Unopened, close_file, follow_file,
+    open_file,
+};
+use sqlite::{Alter, Connection, Error, ErrorCode, File, FileStore, Files};
+use sqlite_disk::Unknown;
+use sqlite_std_file::OpenError;
+use std::alloc::{AllocError, Global};
+use std::fs::OpenOptions;
+use std::io::{ErrorKind, Read, Write};
+use std::{fs, io};
+use store::{Store, StoreFault};
+
+/// A store in a database file.
+pub type FileOf = FileStore<File>;
+
+/// How an SQLite file begins (SQLite, "Database File Format", section 1.3).
+pub const MAGIC: [u8; 16] = *b"SQLite format 3\0";
+
+/// Where the page number of the first frame stands in a WAL file, after that file's header (section 4.1), and where it
+/// ends.
+const FIRST_PAGE: usize = 32;
+
+const FIRST_PAGE_END: usize = FIRST_PAGE + 4;
+
+const JOURNAL: &str = "sqlite3 has left a journal beside it: open it once with sqlite3";
+
+const NO_DATABASE: &str = "not an SQLite database";
+
+const DAMAGED: &str =
+    "the database is damaged: its pages or its schema cannot be read, or a row does not obey it";
+
+const READ_ONLY: &str =
+    "the file may only be read, and each command locks it for writing and keeps a WAL file beside it";
+
+const NO_FILE: &str = "not the name of a file to SQLite: put ./ before it";
+
+const NOT_USABLE: &str =
+    "unable to open database file: it has several names or is no file, sqlite3 has left a journal, or its WAL file or folder cannot be written";
+
+/// A database file: its path, and its names in failures.
+#[derive(Clone, Copy)]
+struct Place<'p, 'a> {
+    path: &'p str,
+    /// The name where the file cannot be used.
+    file: &'a str,
+    /// The name where what it holds cannot be used.
+    content: &'a str,
+}
+
+impl<'a> Place<'a, 'a> {
+    /// A file that is given by this name.
+    fn named(name: &'a str) -> Place<'a, 'a> {
+        Place {
+            path: name,
+            file: name,
+            content: name,
+        }
+    }
+}
+
+/// Opens the database in a file, which is made if it does not exist, with its own filter, does a job with its store, and closes
+/// it.
+pub fn work_on<'a, W: Write>(
+    rt: &HostRuntime,
+    name: &'a str,
+    job: Job,
+    out: &mut W,
+) -> Result<Done, Failure<'a>> {
+    let opening = begin(rt, name)?;
+    match work_in(rt, Place::named(name), opening.wal, job, out) {
+        Ok(done) => Ok(done),
+        Err(failure) => {
+            opening.lock.discard(rt, name);
+            Err(failure)
+        }
+    }
+}
+
+/// Opens and closes a copy of a database in a file, which copies its WAL file back into it. A failure names the file that is
+/// to be made, or the database where that is what cannot be used.
+pub fn test<'a>(rt: &HostRuntime, copy: &str, to: &'a str, db: &'a str) -> Result<(), Failure<'a>> {
+    let place = Place {
+        path: copy,
+        file: to,
+        content: db,
+    };
+    work_in(rt, place, None, Job::Nothing, &mut Vec::new(rt.alloc()))?;
+    Ok(())
+}
+
+/// What an opening begins with: the lock of the name, and the name of the WAL file if there is none yet.
+#[derive(Drop)]
+struct Opening {
+    lock: NameLock,
+    wal: Option<String>,
+}
+
+/// Locks the name of a database that is to be opened.
+fn begin<'a>(rt: &HostRuntime, name: &'a str) -> Result<Opening, Failure<'a>> {
+    let lock = lock_shared(rt, name)?;
+    match missing_wal(rt, name) {
+        Ok(wal) => Ok(Opening { lock, wal }),
+        Err(_) => {
+            lock.discard(rt, name);
+            Err(Failure::Memory)
+        }
+    }
+}
+
+/// Opens the database at a place, whose WAL file is the one given if that was missing before, does a job with its store, and
+/// closes it. A function that hands a store in a file on to a generic one takes long to prove, so there is this one alone.
+fn work_in<'a, W: Write>(
+    rt: &HostRuntime,
+    place: Place<'_, 'a>,
+    wal: Option<String>,
+    job: Job,
+    out: &mut W,
+) -> Result<Done, Failure<'a>> {
+    match open_file(rt, place.path, Unknown, 0, None) {
+        Ok(store) => {
+            let mut store = store;
+            let done = job.run(rt.alloc(), place.content, &mut store, out);
+            close_after(place.file, store, done)
+        }
+        Err(unopened) => Err(refusal(rt, place, leave(rt, wal, unopened))),
+    }
+}
+
+/// The failure of an opening, whose files are closed, after the lock of the name is given up.
+fn give_up<'a>(
+    rt: &HostRuntime,
+    name: &'a str,
+    opening: Opening,
+    unopened: Unopened<File>,
+) -> Failure<'a> {
+    let Opening { lock, wal } = opening;
+    let failure = refusal(rt, Place::named(name), leave(rt, wal, unopened));
+    lock.discard(rt, name);
+    failure
+}
+
+/// Reads captured connections into the database in a file, which is made if it does not exist, and closed at the end. With a
+/// filter, the database is made for it or must have been; without one, its own filter holds.
+pub fn replay_into<'a, R: Read + Drop, W: Observer>(
+    rt: &HostRuntime,
+    name: &'a str,
+    only: Option<&Follow>,
+    config: &Config,
+    captures: Vec<Capture<R>>,
+    observer: &mut W,
+) -> Result<Replayed<File>, Failure<'a>> {
+    let opening = begin(rt, name)?;
+    match replica::replay(rt, name, Unknown, only, config, captures, observer) {
+        Ok(done) => Ok(done),
+        Err(unopened) => Err(give_up(rt, name, opening, unopened)),
+    }
+}
+
+/// Follows a source into the database in a file, which is opened as by [`replay_into`] before `connect` is called, and closed
+/// at the end.
+pub fn follow_into<'a, T: Duplex + Drop, F: FnOnce() -> io::Result<T> + Drop, W: Observer>(
+    rt: &HostRuntime,
+    name: &'a str,
+    only: Option<&Follow>,
+    config: Config,
+    connect: F,
+    observer: &mut W,
+) -> Result<FollowedFile<T, io::Error, File>, Failure<'a>>
+    requires { F.IsAlwaysCallable connect }
+{
+    let opening = begin(rt, name)?;
+    match follow_file(rt, name, Unknown, only, config, connect, observer) {
+        Ok(done) => Ok(done),
+        Err(unopened) => Err(give_up(rt, name, opening, unopened)),
+    }
+}
+
+/// Locks a file that is there as an open database is locked, until the result is dropped. Nothing is written to it. A file
+/// that this process may not open is not locked.
+pub fn lock<'a>(rt: &HostRuntime, name: &'a str) -> Result<Option<Files<File>>, Failure<'a>> {
+    if !is_file(rt, name) {
+        return Ok(None);
+    }
+    let wal = missing_wal(rt, name)?;
+    match sqlite_std_file::open(rt, name, Unknown) {
+        Ok(files) => {
+            remove_unused(rt, wal);
+            Ok(Some(files))
+        }
+        Err(OpenError::Busy) => Err(Failure::Unusable { name, why: LOCKED }),
+        Err(OpenError::HotJournal) => Err(Failure::Unusable { name, why: JOURNAL }),
+        Err(OpenError::OutOfMemory) => Err(Failure::Memory),
+        Err(OpenError::Io(_)) => Ok(None),
+    }
+}
+
+/// Why an opening failed.
+enum Cause {
+    Fault(StoreFault),
+    /// The tables are damaged, and what of them is.
+    Damage(Damage),
+}
+
+/// Closes what is left of an opening that failed, and returns its cause.
+fn leave(rt: &HostRuntime, wal: Option<String>, unopened: Unopened<File>) -> Cause {
+    match unopened {
+        Unopened::Memory => Cause::Fault(StoreFault::Memory),
+        Unopened::Files(cause, left) => {
+            if left.is_some() {
+                remove_unused(rt, wal);
+            }
+            Cause::Fault(StoreFault::Database(cause))
+        }
+        Unopened::Database(fault, conn) => leave_database(rt, wal, fault, conn),
+    }
+}
+
+/// Closes a database that was opened and whose store was not, and returns the cause.
+fn leave_database(
+    rt: &HostRuntime,
+    wal: Option<String>,
+    fault: StoreFault,
+    mut conn: Connection<FileOf>,
+) -> Cause {
+    let cause = cause_in(fault, &mut conn);
+    remove_unused(rt, wal);
+    let _ = conn.close();
+    cause
+}
+
+/// The cause of a fault of opening a database: of damage, what is damaged, if that is found.
+fn cause_in<S: Alter>(fault: StoreFault, conn: &mut Connection<S>) -> Cause {
+    if fault != StoreFault::Damaged {
+        return Cause::Fault(fault);
+    }
+    match damage_in(conn) {
+        Some(damage) => Cause::Damage(damage),
+        None => Cause::Fault(fault),
+    }
+}
+
+/// The name of the WAL file of a database file that is there, if it has none yet.
+fn missing_wal(rt: &HostRuntime, name: &str) -> Result<Option<String>, AllocError> {
+    let Ok(real) = fs::canonicalize(rt, name) else {
+        return Ok(None);
+    };
+    let wal = format!(in rt.alloc(); "{}-wal", real.as_str())?;
+    Ok(match fs::exists(rt, wal.as_str()) {
+        Ok(false) => Some(wal),
+        _ => None,
+    })
+}
+
+/// Removes a WAL file that was missing before the database was opened, if nothing was written to it. The database must
+/// still be locked, so that no other process has it open.
+fn remove_unused(rt: &HostRuntime, wal: Option<String>) {
+    if let Some(wal) = wal
+        && let Ok(false) = has_frames(rt, wal.as_str())
+    {
+        let _ = fs::remove_file(rt, wal.as_str());
+    }
+}
+
+/// Whether a WAL file has a first frame: its page number is there and is not 0.
+pub fn has_frames(rt: &HostRuntime, wal: &str) -> io::Result<bool> {
+    let Some(head) = read_head::<FIRST_PAGE_END>(rt, wal)? else {
+        return Ok(false);
+    };
+    Ok(head[FIRST_PAGE..] != [0; 4])
+}
+
+/// The first bytes of a file, if it has that many.
+pub fn read_head<const N: usize>(rt: &HostRuntime, name: &str) -> io::Result<Option<[u8; N]>> {
+    let mut file = fs::open(rt, name)?;
+    if file.metadata()?.len() < N as u64 {
+        return Ok(None);
+    }
+    let mut head = [0; N];
+    file.read_exact(&mut head)?;
+    Ok(Some(head))
+}
+
+/// The failure of a database file that could not be opened.
+fn refusal<'a>(rt: &HostRuntime, place: Place<'_, 'a>, cause: Cause) -> Failure<'a> {
+    let Place {
+        path,
+        file,
+        content,
+    } = place;
+    let cause = match cause {
+        Cause::Fault(fault) => fault,
+        Cause::Damage(damage) => {
+            return Failure::Damaged {
+                name: content,
+                damage,
+            };
+        }
+    };
+    match cause {
+        StoreFault::Database(Error::SqliteFailure(code)) => match code {
+            ErrorCode::CannotOpen => cannot_open(rt, path, file),
+            ErrorCode::DatabaseBusy => Failure::Unusable {
+                name: file,
+                why: LOCKED,
+            },
+            ErrorCode::NotADatabase | ErrorCode::DatabaseCorrupt => Failure::Unusable {
+                name: content,
+                why: fault_in(rt, path),
+            },
+            _ => Failure::Database { name: file, cause },
+        },
+        StoreFault::Database(_) | StoreFault::Memory => Failure::Database { name: file, cause },
+        _ => Failure::Database {
+            name: content,
+            cause,
+        },
+    }
+}
+
+/// Why a file is not taken for a database.
+fn fault_in(rt: &HostRuntime, path: &str) -> &'static str {
+    match is_database(rt, path) {
+        Ok(false) => NO_DATABASE,
+        _ => unsupported_in(rt, path).unwrap_or(DAMAGED),
+    }
+}
+
+/// Whether a file begins as an SQLite file.
+pub fn is_database(rt: &HostRuntime, name: &str) -> io::Result<bool> {
+    Ok(read_head::<16>(rt, name)? == Some(MAGIC))
+}
+
+/// The failure of a database file that is not opened: its name, if SQLite has another meaning for that; or the system's
+/// cause, if the system refuses the file itself.
+fn cannot_open<'a>(rt: &HostRuntime, path: &str, name: &'a str) -> Failure<'a> {
+    if is_special(path) {
+        return Failure::Unusable { name, why: NO_FILE };
+    }
+    match try_open(rt, path) {
+        Ok(()) => Failure::Unusable {
+            name,
+            why: NOT_USABLE,
+        },
+        Err(cause) if is_protected(cause.kind()) && fs::open(rt, path).is_ok() => {
+            Failure::Unusable {
+                name,
+                why: READ_ONLY,
+            }
+        }
+        Err(cause) => Failure::File { name, cause },
+    }
+}
+
+fn is_protected(kind: ErrorKind) -> bool {
+    matches!(
+        kind,
+        ErrorKind::PermissionDenied | ErrorKind::ReadOnlyFilesystem
+    )
+}
+
+/// Opens a file as a database is opened, makes it if it is missing, and closes it.
+fn try_open(rt: &HostRuntime, name: &str) -> io::Result<()> {
+    let mut options = OpenOptions::new();
+    options.read(true).write(true);
+    if !fs::exists(rt, name)? {
+        options.create_new(true);
+    }
+    options.open(rt, name)?;
+    Ok(())
+}
+
+/// Closes the file after what was done over it. A failure of that comes before one of the closing.
+fn close_after<'a, T: Drop>(
+    name: &'a str,
+    store: Store<FileOf>,
+    done: Result<T, Failure<'a>>,
+) -> Result<T, Failure<'a>>
+    ensures { IfOk result (λ value. done.entry ≡ Ok value) }
+{
+    let closed = closed(name, close_file(store));
+    let value = done?;
+    closed?;
+    Ok(value)
+}
+
+/// Whether the files were closed.
+pub fn closed<'a>(
+    name: &'a str,
+    files: Result<Files<File>, (Error, FileOf)>,
+) -> Result<(), Failure<'a>> {
+    match files {
+        Ok(_) => Ok(()),
+        Err((cause, left)) => {
+            drop(left.close());
+            Err(Failure::Database {
+                name,
+                cause: StoreFault::Database(cause),
+            })
+        }
+    }
+}

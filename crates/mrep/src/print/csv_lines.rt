@@ -1,0 +1,113 @@
+//! Rows as records of comma-separated fields (RFC 4180).
+
+use crate::print::hex::write_hex;
+use crate::print::name::write_name;
+use crate::print::output_format::Encoding;
+use base64::engine::general_purpose::STANDARD;
+use binlog::Cell;
+use csv::{Error, ErrorKind, Writer, WriterBuilder};
+use std::alloc::Global;
+use std::io::Write;
+use std::{io, str};
+use store::Listed;
+
+/// How a field begins that is no text: `\N` is NULL, and `\x` and digits are bytes.
+const MARK: u8 = b'\\';
+
+/// A writer of records with any number of fields.
+pub fn records<W: Write + Drop>(out: W) -> Writer<W> {
+    let mut builder = WriterBuilder::new();
+    builder.flexible(true);
+    builder.from_writer(out)
+}
+
+/// The error of the output, or of memory.
+pub fn cause_of(error: Error) -> io::Error {
+    match error.into_kind() {
+        ErrorKind::Io(cause) => cause,
+        ErrorKind::OutOfMemory => io::ErrorKind::OutOfMemory.into(),
+        _ => io::ErrorKind::InvalidData.into(),
+    }
+}
+
+fn put<W: Write + Drop>(field: &[u8], out: &mut Writer<W>) -> io::Result<()> {
+    match out.write_field(field) {
+        Ok(()) => Ok(()),
+        Err(error) => Err(cause_of(error)),
+    }
+}
+
+/// Writes a name as the text format has it.
+fn put_name<W: Write + Drop>(alloc: Global, name: &[u8], out: &mut Writer<W>) -> io::Result<()> {
+    let mut field = Vec::new(alloc);
+    write_name(name, &mut field)?;
+    put(&field, out)
+}
+
+fn put_number<W: Write + Drop>(alloc: Global, number: u64, out: &mut Writer<W>) -> io::Result<()> {
+    let mut field = Vec::new(alloc);
+    write!(field, "{number}")?;
+    put(&field, out)
+}
+
+/// Writes bytes as `\x` and hexadecimal digits.
+fn put_digits<W: Write + Drop>(alloc: Global, bytes: &[u8], out: &mut Writer<W>) -> io::Result<()> {
+    let mut field = Vec::new(alloc);
+    field.write_all(b"\\x")?;
+    write_hex(bytes, &mut field)?;
+    put(&field, out)
+}
+
+/// Writes bytes; those that are to be text and are not UTF-8, or begin with a backslash, as digits.
+fn put_bytes<W: Write + Drop>(
+    alloc: Global,
+    bytes: &[u8],
+    encoding: Encoding,
+    out: &mut Writer<W>,
+) -> io::Result<()> {
+    match encoding {
+        Encoding::Hex => put_digits(alloc, bytes, out),
+        Encoding::Base64 => {
+            let text = STANDARD.encode(alloc, bytes)?;
+            put(text.as_bytes(), out)
+        }
+        Encoding::Utf8 => {
+            if bytes.first() != Some(&MARK) && str::from_utf8(bytes).is_ok() {
+                return put(bytes, out);
+            }
+            put_digits(alloc, bytes, out)
+        }
+    }
+}
+
+fn put_cell<W: Write + Drop>(
+    alloc: Global,
+    cell: Cell<'_>,
+    encoding: Encoding,
+    out: &mut Writer<W>,
+) -> io::Result<()> {
+    match cell {
+        Cell::Null => put(b"\\N", out),
+        Cell::Number { value, .. } => put_number(alloc, value, out),
+        Cell::Bytes(bytes) => put_bytes(alloc, bytes, encoding, out),
+    }
+}
+
+/// Writes the record of a row: schema, table, count, and the cells.
+pub fn write_record<W: Write + Drop>(
+    alloc: Global,
+    row: &Listed<'_>,
+    encoding: Encoding,
+    out: &mut Writer<W>,
+) -> io::Result<()> {
+    put_name(alloc, row.schema, out)?;
+    put_name(alloc, row.table, out)?;
+    put_number(alloc, row.count, out)?;
+    for cell in row.image.cells() {
+        put_cell(alloc, cell, encoding, out)?;
+    }
+    match out.end_record() {
+        Ok(()) => Ok(()),
+        Err(error) => Err(cause_of(error)),
+    }
+}

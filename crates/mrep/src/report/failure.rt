@@ -1,0 +1,195 @@
+//! Why a command failed, apart from what its data says.
+
+ghost use Rattle.std.specs.Prelude.{◌≡◌, ◌≤◌};
+ghost use Rattle.mrep.specs.Failure.{IsFileStatus, IsStatus, database_status};
+ghost use Rattle.mrep.specs.declared.report.failure.Failure.TheVariants as variants;
+
+use crate::database::damage::Damage;
+use crate::print::name::Shown;
+use clap::error::ErrorKind;
+use gtid::GtidFault;
+use replica::ConfigFault;
+use std::alloc::{AllocError, AllocFailed};
+use std::fmt::Display;
+use std::io;
+use std::io::Write;
+use store::StoreFault;
+
+/// Done.
+pub const DONE: u8 = 0;
+/// Refused by what the data says.
+pub const REFUSED: u8 = 1;
+/// A mistake in the arguments.
+pub const USAGE: u8 = 2;
+/// A file, a socket, the database or the output.
+pub const FILES: u8 = 3;
+/// Out of memory.
+pub const MEMORY: u8 = 4;
+
+const NO_GTID: &str =
+    "not a GTID: expected a hyphenated UUID, `:` and a number from 1 to 9223372036854775806";
+
+const NO_TABLE: &str =
+    "not a table: expected SCHEMA.TABLE, with `%` only before two hexadecimal digits";
+
+const NO_BYTES: &[u8] = b"mrep: --bytes needs --format csv or json, or --changes\n";
+
+/// Why a command failed.
+#[derive(Drop)]
+pub enum Failure<'a> {
+    /// The arguments are not those of a command.
+    Words(clap::Error),
+    /// The argument with this name is not the text of a GTID set.
+    Set { word: &'a str, cause: GtidFault },
+    /// The argument with this name is not a GTID.
+    Gtid { word: &'a str },
+    /// This argument is not the name of a table.
+    Table { word: &'a str },
+    /// This argument is not a number from 1 to the largest.
+    Number { word: &'a str, largest: u32 },
+    /// A form of bytes is asked for, and the text format has one form alone.
+    Bytes,
+    /// This argument is not a user name.
+    User { word: &'a str, cause: ConfigFault },
+    /// The file of this name could not be opened or read.
+    File { name: &'a str, cause: io::Error },
+    /// The host of this name was not found or could not be reached.
+    Host { name: &'a str, cause: io::Error },
+    /// The database file of this name could not be opened, or the database failed.
+    Database { name: &'a str, cause: StoreFault },
+    /// The tables of the database file of this name are damaged.
+    Damaged { name: &'a str, damage: Damage },
+    /// The database file of this name cannot be used, for this reason.
+    Unusable { name: &'a str, why: &'static str },
+    /// The output could not be written.
+    Output(io::Error),
+    /// An allocation was refused.
+    Memory,
+}
+
+fn status_of(cause: &io::Error) -> u8
+    ensures status { IsFileStatus cause.now result }
+    ensures range { result ≤ MEMORY }
+{
+    if cause.kind() == io::ErrorKind::OutOfMemory {
+        MEMORY
+    } else {
+        FILES
+    }
+}
+
+/// The status of a fault of opening the store or of reading its rows.
+fn database_status(cause: StoreFault) -> u8
+    ensures status { result ≡ database_status cause }
+    ensures range { result ≤ MEMORY }
+{
+    match cause {
+        StoreFault::Memory => MEMORY,
+        StoreFault::NoSuchRow(_)
+        | StoreFault::CountFull(_)
+        | StoreFault::Database(_)
+        | StoreFault::Damaged
+        | StoreFault::Layout(_)
+        | StoreFault::Broken
+        | StoreFault::Follows => FILES,
+    }
+}
+
+impl Failure<'_> {
+    /// The exit status.
+    pub fn status(&self) -> u8
+        ensures status { IsStatus self.now result }
+        ensures range { result ≤ MEMORY }
+    {
+        match self {
+            Failure::Words(error) if error.kind() == ErrorKind::OutOfMemory => MEMORY,
+            Failure::Words(_)
+            | Failure::Set { .. }
+            | Failure::Gtid { .. }
+            | Failure::Table { .. }
+            | Failure::Number { .. }
+            | Failure::Bytes
+            | Failure::User { .. } => USAGE,
+            Failure::Database { cause, .. } => database_status(*cause),
+            Failure::File { cause, .. } | Failure::Host { cause, .. } | Failure::Output(cause) =>
+                status_of(cause),
+            Failure::Damaged { .. } | Failure::Unusable { .. } => FILES,
+            Failure::Memory => MEMORY,
+        }
+    }
+
+    /// Writes the message. A reader of the output that has gone is none.
+    pub fn write<E: Write>(&self, err: &mut E) -> io::Result<()> {
+        match self {
+            Failure::Words(error) => write!(err, "{error}"),
+            Failure::Set { word, cause } => write_named(word, cause, err),
+            Failure::Gtid { word } => write_named(word, &NO_GTID, err),
+            Failure::Table { word } => write_named(word, &NO_TABLE, err),
+            Failure::Number { word, largest } => {
+                writeln!(
+                    err,
+                    "mrep: {}: not a number from 1 to {largest}",
+                    Shown(word)
+                )
+            }
+            Failure::Bytes => err.write_all(NO_BYTES),
+            Failure::User { word, cause } => write_named(word, cause, err),
+            Failure::File { name, cause } | Failure::Host { name, cause } => {
+                write_named(name, cause, err)
+            }
+            Failure::Database { name, cause } => write_named(name, cause, err),
+            Failure::Damaged { name, damage } => {
+                let fault = StoreFault::Damaged;
+                writeln!(err, "mrep: {}: {fault}: {damage}", Shown(name))
+            }
+            Failure::Unusable { name, why } => write_named(name, why, err),
+            Failure::Output(cause) if cause.kind() == io::ErrorKind::BrokenPipe => Ok(()),
+            Failure::Output(cause) => write_named("output", cause, err),
+            Failure::Memory => err.write_all(b"mrep: out of memory\n"),
+        }
+    }
+}
+
+/// Writes the message of a failure, if there is one.
+pub fn write_failure<E: Write>(done: Result<(), Failure<'_>>, err: &mut E) {
+    if let Err(failure) = done {
+        let _ = failure.write(err);
+    }
+}
+
+/// Writes a line with a cause, after the name of what it is the cause of.
+pub fn write_named<C: Display, E: Write>(name: &str, cause: &C, err: &mut E) -> io::Result<()> {
+    writeln!(err, "mrep: {}: {cause}", Shown(name))
+}
+
+impl From<clap::Error> for Failure<'_> {
+    ghost from_gives = { λ error failure. failure ≡ variants.Words error };
+
+    fn from(error: clap::Error) -> Self {
+        Failure::Words(error)
+    }
+}
+
+impl From<io::Error> for Failure<'_> {
+    ghost from_gives = { λ cause failure. failure ≡ variants.Output cause };
+
+    fn from(cause: io::Error) -> Self {
+        Failure::Output(cause)
+    }
+}
+
+impl From<AllocError> for Failure<'_> {
+    ghost from_gives = { λ _ failure. failure ≡ variants.Memory };
+
+    fn from(_error: AllocError) -> Self {
+        Failure::Memory
+    }
+}
+
+impl<T: Drop> From<AllocFailed<T>> for Failure<'_> {
+    ghost from_gives = { λ _ failure. failure ≡ variants.Memory };
+
+    fn from(_error: AllocFailed<T>) -> Self {
+        Failure::Memory
+    }
+}

@@ -1,0 +1,61 @@
+//! The exit status of the connections that a command has read.
+
+ghost use Rattle.std.specs.Prelude.{◌≡◌, ◌≤◌, Err, IfOk, IfErr};
+ghost use Rattle.mrep.specs.Reason.{status_of, first_status};
+
+use crate::report::failure::{DONE, FILES, Failure, MEMORY, REFUSED};
+use replica::{Ended, Reason};
+use std::io::Write;
+
+/// The exit status of a reason.
+fn status_of(reason: &Reason) -> u8
+    ensures status { result ≡ status_of reason.now }
+    ensures range { result ≤ MEMORY }
+{
+    match reason {
+        Reason::EndOfInput | Reason::SourceEof => DONE,
+        Reason::SourceError { .. }
+        | Reason::Wire(_)
+        | Reason::Greet(_)
+        | Reason::Event(_)
+        | Reason::Gather(_)
+        | Reason::Refused(_) => REFUSED,
+        Reason::Database(_) | Reason::ReadFailed | Reason::WriteFailed | Reason::Halted => FILES,
+        Reason::Memory => MEMORY,
+    }
+}
+
+/// The exit status of connections in order: that of the first that is not 0, or 0.
+fn first_status(ends: &[Ended]) -> u8
+    ensures status { result ≡ first_status ends.now }
+    ensures range { result ≤ MEMORY }
+{
+    for end in ends {
+        let status = status_of(&end.reason);
+        if status != DONE {
+            return status;
+        }
+    }
+    DONE
+}
+
+/// The first status of the connections that is not 0, otherwise that of any other failure.
+pub fn status_after<'a, E: Write>(
+    ends: &[Ended],
+    done: Result<(), Failure<'a>>,
+    err: &mut E,
+) -> Result<u8, Failure<'a>>
+    ensures first { IfOk result (λ status. status ≡ first_status ends.now) }
+    ensures failed { IfErr result (λ failure. (first_status ends.now ≡ DONE) × (done.entry ≡ Err failure)) }
+    ensures range { IfOk result (λ status. status ≤ MEMORY) }
+{
+    let status = first_status(ends);
+    match done {
+        Err(failure) if status == DONE => Err(failure),
+        Err(failure) => {
+            let _ = failure.write(err);
+            Ok(status)
+        }
+        Ok(()) => Ok(status),
+    }
+}

@@ -1,0 +1,293 @@
+//! What `mrep replay` and `mrep follow` report while they read: the line of each end, progress, and the change feed.
+
+ghost use Rattle.std.specs.Prelude.{◌≡◌, true, is_some};
+
+use crate::print::name::Shown;
+use crate::print::set_text::text_of;
+use crate::report::advice::write_advice;
+use crate::report::change_feed::{Feed, FeedEntry};
+use crate::report::details::Details;
+use crate::report::notes::Chosen;
+use crate::report::progress::Progress;
+use crate::report::reason::{write_cause, write_end};
+use binlog::Event;
+use gather::Delivery;
+use gtid::GtidSet;
+use replica::{Ended, Observer, Reason};
+use std::io;
+use std::io::Write;
+use std::rc::Rc;
+
+/// Why reading is stopped.
+#[derive(Drop)]
+pub enum Stop {
+    /// The line of an end could not be written.
+    Output(io::Error),
+    /// The change feed could not be written.
+    Feed(io::Error),
+}
+
+/// What is read, and into which database file.
+#[derive(Clone, Copy)]
+pub struct Source<'a> {
+    pub rt: &'a HostRuntime,
+    /// The names of the streams.
+    pub streams: &'a [&'a str],
+    /// The port of a source that is followed; 0 if streams are read.
+    pub port: u16,
+    pub db: &'a str,
+    /// The name of the change feed: `-` for standard output, also without one.
+    pub changes: &'a str,
+}
+
+/// An observer that reports.
+#[derive(Drop)]
+pub struct Watch<'a, O, E> {
+    source: Source<'a>,
+    out: &'a mut O,
+    err: &'a mut E,
+    progress: Option<Rc<Progress>>,
+    feed: Option<Feed>,
+    /// The executed set at the start, until the feed has it.
+    executed: Option<String>,
+    /// The tables that are asked for of a new database, and which of them have come.
+    chosen: Option<Chosen>,
+    /// Whether the store has failed: it applies nothing more, so nothing more is fed.
+    has_failed: bool,
+    /// Whether a transaction was applied.
+    has_applied: bool,
+    details: Details,
+    /// How many connections have ended.
+    ended: usize,
+    stop: Option<Stop>,
+}
+
+impl<'a, O: Write, E: Write> Watch<'a, O, E> {
+    /// An observer that nothing has been reported to.
+    pub fn new(
+        source: Source<'a>,
+        progress: Option<Rc<Progress>>,
+        feed: Option<Feed>,
+        chosen: Option<Chosen>,
+        out: &'a mut O,
+        err: &'a mut E,
+    ) -> Watch<'a, O, E> {
+        Watch {
+            source,
+            out,
+            err,
+            progress,
+            feed,
+            executed: None,
+            chosen,
+            has_failed: false,
+            has_applied: false,
+            details: Details::new(source.rt.alloc()),
+            ended: 0,
+            stop: None,
+        }
+    }
+
+    /// Writes an entry of the change feed, unless reading is stopped or the store has failed.
+    fn put(&mut self, entry: FeedEntry<'_>)
+        ensures { is_some self.old.stop ≡ true → is_some self.new.stop ≡ true }
+    {
+        if self.stop.is_some() {
+            return;
+        }
+        if self.has_failed {
+            return;
+        }
+        let Some(feed) = &mut self.feed else {
+            return;
+        };
+        if let Err(cause) = feed.write(entry, self.out) {
+            self.stop = Some(Stop::Feed(cause));
+        }
+    }
+
+    /// Writes the executed set at the start, unless the feed has it.
+    fn put_executed(&mut self)
+        ensures { is_some self.old.stop ≡ true → is_some self.new.stop ≡ true }
+    {
+        if let Some(text) = self.executed.take() {
+            self.put(FeedEntry::Opened(text.as_str()));
+        }
+    }
+
+    /// Writes the line of an end at once: to standard error where the output has the change feed.
+    fn print(&mut self, number: usize, end: &Ended) -> io::Result<()>
+        ensures { self.new.stop ≡ self.old.stop }
+    {
+        let to_err = match &self.feed {
+            Some(feed) => feed.is_output(),
+            None => false,
+        };
+        if to_err {
+            return write_end(number, end, self.err);
+        }
+        write_end(number, end, self.out)?;
+        self.out.flush()
+    }
+
+    /// Writes the cause of an end to standard error, and in which transaction it was.
+    fn explain(&mut self, stream: &str, reason: &Reason)
+        ensures { self.new.stop ≡ self.old.stop }
+    {
+        let Source { db, changes, .. } = self.source;
+        let _ = write_cause(stream, db, changes, reason, self.err);
+        let _ = write_advice(stream, reason, self.err);
+        let is_live = self.source.port != 0;
+        let _ = self
+            .details
+            .write(stream, self.source.db, is_live, reason, self.err);
+        self.details.clear();
+    }
+
+    /// Writes the line of an end and its cause. A failure of the stream is the cause if there is one.
+    pub fn report(
+        &mut self,
+        number: usize,
+        end: &Ended,
+        failure: Option<io::ErrorKind>,
+    ) -> io::Result<()>
+        ensures { self.new.stop ≡ self.old.stop }
+    {
+        if let Some(progress) = &self.progress {
+            progress.finish(self.source.rt, self.err);
+        }
+        let printed = self.print(number, end);
+        let name = self.source.streams.get(number.saturating_sub(1));
+        let stream = name.copied().unwrap_or("");
+        match failure {
+            Some(kind) => {
+                let _ = writeln!(self.err, "mrep: {}: {kind}", Shown(stream));
+            }
+            None => self.explain(stream, &end.reason),
+        }
+        printed
+    }
+
+    /// Gives the change feed to this file up: nothing was reported.
+    pub fn discard(self, name: &str) {
+        let Watch { source, feed, .. } = self;
+        if let Some(feed) = feed {
+            feed.discard(source.rt, name);
+        }
+    }
+
+    /// Reports of which tables that are asked for of a new database it has no row, since none came with what was applied.
+    pub fn note_missing(&mut self)
+        ensures { self.new.stop ≡ self.old.stop }
+    {
+        if let Some(chosen) = &self.chosen
+            && self.has_applied
+        {
+            let _ = chosen.note_missing(self.source.db, self.err);
+        }
+    }
+
+    /// Why reading was stopped, if it was.
+    pub fn stop(self) -> Option<Stop> {
+        let Watch { stop, .. } = self;
+        stop
+    }
+}
+
+impl<'a, O: Write, E: Write> Observer for Watch<'a, O, E> {
+    ghost has_stopped = { λ w. is_some w.stop };
+
+    fn opened(&mut self, executed: &GtidSet) {
+        if !executed.is_subset(&GtidSet::new(self.source.rt.alloc())) {
+            self.chosen = None;
+        }
+        if self.feed.is_none() {
+            return;
+        }
+        match text_of(self.source.rt.alloc(), executed) {
+            Ok(text) => self.executed = Some(text),
+            Err(_) => self.stop = Some(Stop::Feed(io::ErrorKind::OutOfMemory.into())),
+        }
+        // A source that cannot be reached adds nothing to the feed, however often it is tried.
+        if self.source.port == 0 {
+            self.put_executed();
+        }
+    }
+
+    fn connected(&mut self) {
+        self.put_executed();
+        if self.progress.is_some() {
+            let name = self.source.streams.first().copied().unwrap_or("");
+            let _ = writeln!(
+                self.err,
+                "mrep: connected to {} port {}",
+                Shown(name),
+                self.source.port
+            );
+        }
+    }
+
+    fn received(&mut self, count: usize) {
+        if let Some(progress) = &self.progress {
+            progress.read(self.source.rt, count, self.err);
+        }
+    }
+
+    fn event(&mut self, event: &Event<'_>) {
+        match event {
+            Event::Gtid(gtid) => self.details.gtid = Some(*gtid),
+            Event::TableMap(map) => {
+                if let Some(chosen) = &mut self.chosen {
+                    chosen.takes(map.schema, map.table);
+                }
+            }
+            Event::Format | Event::Rotate { .. } | Event::Stop => self.details.gtid = None,
+            _ => {}
+        }
+    }
+
+    fn before_apply(&mut self, delivery: &Delivery) -> bool {
+        self.put(FeedEntry::Changes(delivery));
+        self.stop.is_none()
+    }
+
+    fn after_apply(&mut self, delivery: &Delivery, outcome: &Result<bool, Reason>) {
+        match outcome {
+            Ok(applied) => {
+                self.details.gtid = None;
+                if *applied {
+                    self.has_applied = true;
+                    if let Some(progress) = &self.progress {
+                        progress.count();
+                    }
+                    self.put(FeedEntry::Committed(delivery.gtid));
+                }
+            }
+            Err(reason) => {
+                self.details.refuse_change(delivery, reason);
+                // After a failure of the database the transaction may have been committed.
+                if !matches!(reason, Reason::Database(_)) {
+                    self.put(FeedEntry::RolledBack(delivery.gtid));
+                }
+                if matches!(reason, Reason::Database(_) | Reason::Memory) {
+                    self.has_failed = true;
+                }
+            }
+        }
+    }
+
+    fn refused(&mut self, payload: &[u8], reason: &Reason) {
+        self.details.refuse(payload, reason);
+    }
+
+    fn ended(&mut self, end: &Ended) -> bool {
+        self.ended = self.ended.saturating_add(1);
+        let printed = self.report(self.ended, end, None);
+        if let Err(cause) = printed
+            && self.stop.is_none()
+        {
+            self.stop = Some(Stop::Output(cause));
+        }
+        self.stop.is_none()
+    }
+}
