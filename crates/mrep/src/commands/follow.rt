@@ -46,12 +46,10 @@ pub fn follow<'a, W: Write, E: Write>(
     let wanted = Wanted::of(given)?;
     let port = number(word(given, "port"), 65_535)? as u16;
     let server_id = number(word(given, "server-id"), u32::MAX)?;
-    let chosen = wanted.chosen(rt.alloc())?;
     let filter = wanted.filter(rt.alloc())?;
     let config = settings(rt, given, server_id)?;
-    let password_file = word(given, "password-file");
+    let (name, password_file) = (word(given, "host"), word(given, "password-file"));
     warn(rt, password_file, err);
-    let name = word(given, "host");
     let progress = wanted.progress(rt, None)?;
     let host = Host {
         rt,
@@ -59,24 +57,23 @@ pub fn follow<'a, W: Write, E: Write>(
         port,
         progress: shared(&progress)?,
     };
-    let feed = wanted.feed(rt, &[password_file])?;
+    let reports = wanted.reports(rt, progress, &[password_file])?;
     let streams = [name];
-    let source = Source {
-        rt,
-        streams: &streams,
-        port,
-        db: wanted.db,
-        changes: wanted.feed_name(),
-    };
-    let mut watch = Watch::new(source, progress, feed, chosen, out, err);
-    let followed = match follow_over(host, wanted.db, filter.as_ref(), config, &mut watch) {
+    let source = Source::of(rt, &streams, port, &wanted);
+    let mut watch = Watch::new(source, reports, out, err);
+    let Followed { connection, closed } = match follow_over(
+        host,
+        wanted.db,
+        filter.as_ref(),
+        config,
+        &mut watch,
+    ) {
         Ok(followed) => followed,
         Err(failure) => {
             watch.discard(wanted.feed_name());
             return Err(failure);
         }
     };
-    let Followed { connection, closed } = followed;
     let (end, failure) = match connection {
         Ok(ended) => ended,
         Err(cause) => {

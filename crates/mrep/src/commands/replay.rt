@@ -42,21 +42,13 @@ fn replay_streams<'a, W: Write, E: Write>(
     ensures { IfOk result (λ status. status ≤ MEMORY) }
 {
     let filter = wanted.filter(rt.alloc())?;
-    let chosen = wanted.chosen(rt.alloc())?;
     let (captures, total) = open_streams(rt, names)?;
     let Ok(config) = Config::new(rt.alloc(), b"", b"", SERVER_ID, false, LARGEST_PAYLOAD) else {
         return Err(Failure::Memory);
     };
-    let progress = wanted.progress(rt, total)?;
-    let feed = wanted.feed(rt, names)?;
-    let source = Source {
-        rt,
-        streams: names,
-        port: 0,
-        db: wanted.db,
-        changes: wanted.feed_name(),
-    };
-    let mut watch = Watch::new(source, progress, feed, chosen, out, err);
+    let reports = wanted.reports(rt, wanted.progress(rt, total)?, names)?;
+    let source = Source::of(rt, names, 0, &wanted);
+    let mut watch = Watch::new(source, reports, out, err);
     let done = replay_into(
         rt,
         wanted.db,

@@ -6,7 +6,7 @@ use crate::report::change_feed::{Feed, OUTPUT};
 use crate::report::failure::Failure;
 use crate::report::notes::Chosen;
 use crate::report::progress::Progress;
-use crate::report::watch::Stop;
+use crate::report::watch::{Reports, Stop};
 use binlog::Follow;
 use clap::ArgMatches;
 use std::alloc::{AllocFailed, Global};
@@ -52,8 +52,23 @@ impl<'g, 'a> Wanted<'g, 'a> {
         }
     }
 
+    /// All that is reported, with this progress.
+    pub fn reports(
+        &self,
+        rt: &HostRuntime,
+        progress: Option<Rc<Progress>>,
+        read: &[&str],
+    ) -> Result<Reports, Failure<'a>> {
+        let chosen = self.chosen(rt.alloc())?;
+        Ok(Reports {
+            progress,
+            feed: self.feed(rt, read)?,
+            chosen,
+        })
+    }
+
     /// The tables, of which no row has come, if any are named.
-    pub fn chosen(&self, alloc: Global) -> Result<Option<Chosen>, Failure<'a>> {
+    fn chosen(&self, alloc: Global) -> Result<Option<Chosen>, Failure<'a>> {
         match self.filter(alloc)? {
             Some(filter) => Ok(Some(Chosen::new(alloc, filter)?)),
             None => Ok(None),
@@ -75,7 +90,7 @@ impl<'g, 'a> Wanted<'g, 'a> {
     }
 
     /// The change feed, if one is asked for. Its file may be none of those that the command reads.
-    pub fn feed(&self, rt: &HostRuntime, read: &[&str]) -> Result<Option<Feed>, Failure<'a>> {
+    fn feed(&self, rt: &HostRuntime, read: &[&str]) -> Result<Option<Feed>, Failure<'a>> {
         let Some(name) = self.changes else {
             return Ok(None);
         };

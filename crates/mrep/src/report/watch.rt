@@ -10,6 +10,7 @@ use crate::report::details::Details;
 use crate::report::notes::Chosen;
 use crate::report::progress::Progress;
 use crate::report::reason::{write_cause, write_end};
+use crate::report::wanted::Wanted;
 use binlog::Event;
 use gather::Delivery;
 use gtid::GtidSet;
@@ -40,6 +41,33 @@ pub struct Source<'a> {
     pub changes: &'a str,
 }
 
+impl<'a> Source<'a> {
+    /// These streams, or a source at this port, read as it is wanted.
+    pub fn of(
+        rt: &'a HostRuntime,
+        streams: &'a [&'a str],
+        port: u16,
+        wanted: &Wanted<'_, 'a>,
+    ) -> Source<'a> {
+        Source {
+            rt,
+            streams,
+            port,
+            db: wanted.db,
+            changes: wanted.feed_name(),
+        }
+    }
+}
+
+/// What is reported, where it is asked for.
+#[derive(Drop)]
+pub struct Reports {
+    pub progress: Option<Rc<Progress>>,
+    pub feed: Option<Feed>,
+    /// The tables that are asked for of a new database, and which of them have come.
+    pub chosen: Option<Chosen>,
+}
+
 /// An observer that reports.
 #[derive(Drop)]
 pub struct Watch<'a, O, E> {
@@ -66,12 +94,15 @@ impl<'a, O: Write, E: Write> Watch<'a, O, E> {
     /// An observer that nothing has been reported to.
     pub fn new(
         source: Source<'a>,
-        progress: Option<Rc<Progress>>,
-        feed: Option<Feed>,
-        chosen: Option<Chosen>,
+        reports: Reports,
         out: &'a mut O,
         err: &'a mut E,
     ) -> Watch<'a, O, E> {
+        let Reports {
+            progress,
+            feed,
+            chosen,
+        } = reports;
         Watch {
             source,
             out,
