@@ -51,23 +51,13 @@ pub fn follow<'a, W: Write, E: Write>(
     let (name, password_file) = (word(given, "host"), word(given, "password-file"));
     warn(rt, password_file, err);
     let progress = wanted.progress(rt, None)?;
-    let host = Host {
-        rt,
-        name,
-        port,
-        progress: shared(&progress)?,
-    };
+    let host = Host::new(rt, name, port, &progress)?;
     let reports = wanted.reports(rt, progress, &[password_file])?;
     let streams = [name];
     let source = Source::of(rt, &streams, port, &wanted);
     let mut watch = Watch::new(source, reports, out, err);
-    let Followed { connection, closed } = match follow_over(
-        host,
-        wanted.db,
-        filter.as_ref(),
-        config,
-        &mut watch,
-    ) {
+    let followed = follow_over(host, wanted.db, filter.as_ref(), config, &mut watch);
+    let Followed { connection, closed } = match followed {
         Ok(followed) => followed,
         Err(failure) => {
             watch.discard(wanted.feed_name());
@@ -173,14 +163,6 @@ fn unbracketed(name: &str) -> &str {
     }
 }
 
-/// The same progress, for a second owner.
-fn shared(progress: &Option<Rc<Progress>>) -> Result<Option<Rc<Progress>>, AllocError> {
-    match progress {
-        Some(progress) => Ok(Some(progress.clone()?)),
-        None => Ok(None),
-    }
-}
-
 /// Where the source listens, and the progress that the connection reports, if it is reported.
 #[derive(Drop)]
 struct Host<'r> {
@@ -191,6 +173,24 @@ struct Host<'r> {
 }
 
 impl<'r> Host<'r> {
+    fn new(
+        rt: &'r HostRuntime,
+        name: &'r str,
+        port: u16,
+        progress: &Option<Rc<Progress>>,
+    ) -> Result<Host<'r>, AllocError> {
+        let progress = match progress {
+            Some(progress) => Some(progress.clone()?),
+            None => None,
+        };
+        Ok(Host {
+            rt,
+            name,
+            port,
+            progress,
+        })
+    }
+
     fn connect(self) -> io::Result<Socket<'r>> {
         match TcpStream::connect(self.rt, (unbracketed(self.name), self.port)) {
             Ok(stream) => Ok(Socket::new(self.rt, stream, self.progress)),
