@@ -1,7 +1,6 @@
 //! The files of a database: how they are opened, locked, made, copied and closed, and what is wrong with those that are refused.
 
 pub mod copy_part;
-pub mod damage;
 pub mod job;
 pub mod name_lock;
 pub mod new_file;

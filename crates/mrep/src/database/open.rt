@@ -2,7 +2,6 @@
 
 ghost use Rattle.std.specs.Prelude.{◌≡◌, Ok, IfOk};
 
-use crate::database::damage::{Damage, damage_in};
 use crate::database::job::{Done, Job};
 use crate::database::name_lock::{LOCKED, NameLock, is_file, is_special, lock_shared};
 use crate::database::unsupported::unsupported_in;
@@ -19,7 +18,7 @@ use std::alloc::{AllocError, Global};
 use std::fs::OpenOptions;
 use std::io::{ErrorKind, Read, Write};
 use std::{fs, io};
-use store::{Store, StoreFault};
+use store::{Damage, Store, StoreFault};
 
 /// A store in a database file.
 pub type FileOf = FileStore<File>;
@@ -233,18 +232,18 @@ fn leave_database(
     fault: StoreFault,
     mut conn: Connection<FileOf>,
 ) -> Cause {
-    let cause = cause_in(fault, &mut conn);
+    let cause = cause_in(rt.alloc(), fault, &mut conn);
     remove_unused(rt, wal);
     let _ = conn.close();
     cause
 }
 
 /// The cause of a fault of opening a database: of damage, what is damaged, if that is found.
-fn cause_in<S: Alter>(fault: StoreFault, conn: &mut Connection<S>) -> Cause {
+fn cause_in<S: Alter>(alloc: Global, fault: StoreFault, conn: &mut Connection<S>) -> Cause {
     if fault != StoreFault::Damaged {
         return Cause::Fault(fault);
     }
-    match damage_in(conn) {
+    match Damage::find(alloc, conn) {
         Some(damage) => Cause::Damage(damage),
         None => Cause::Fault(fault),
     }

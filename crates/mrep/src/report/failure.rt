@@ -4,7 +4,6 @@ ghost use Rattle.std.specs.Prelude.{◌≡◌, ◌≤◌};
 ghost use Rattle.mrep.specs.Failure.{IsFileStatus, IsStatus, database_status};
 ghost use Rattle.mrep.specs.declared.report.failure.Failure.TheVariants as variants;
 
-use crate::database::damage::Damage;
 use crate::print::name::Shown;
 use clap::error::ErrorKind;
 use gtid::GtidFault;
@@ -13,7 +12,7 @@ use std::alloc::{AllocError, AllocFailed};
 use std::fmt::Display;
 use std::io;
 use std::io::Write;
-use store::StoreFault;
+use store::{Damage, StoreFault};
 
 /// Done.
 pub const DONE: u8 = 0;
