@@ -9,13 +9,13 @@ use Rattle.sqlite.proofs.StateLemmas.{survives_then}
 use Rattle.gtid.specs.Identifier.{Ids}
 use Rattle.binlog.specs.Filter.{Names}
 use Rattle.store.specs.declared.fault.StoreFault.{StoreFault}
-use Rattle.store.specs.declared.tables.Tables.{Tables}
-use Rattle.store.specs.declared.tables.KnownLayout.{KnownLayout}
-use Rattle.store.specs.declared.tables.KnownLayout.TheVariants.{First, Second}
+use Rattle.store.specs.declared.layout.Tables.{Tables}
+use Rattle.store.specs.declared.layout.KnownLayout.{KnownLayout}
+use Rattle.store.specs.declared.layout.KnownLayout.TheVariants.{First, Second}
 use Rattle.store.specs.Layout.{IsFirstLaidOut, HasMeta, IsLaidOut, IsVacant}
 use Rattle.std.specs.List.{AllByRecursion}
 use Rattle.sqlite_value.specs.Order.{Row}
-use Rattle.store.specs.declared.tables.Meta.{Meta}
+use Rattle.store.specs.declared.table.meta.Meta.{Meta}
 use Rattle.store.specs.Judge.{IsMeta, IsOnly, layouts}
 use Rattle.store.specs.Rows.{SaysLayout, meta_rows, IsMetaRow}
 use Rattle.store.specs.Load.{StatesLayout, HasLayout}

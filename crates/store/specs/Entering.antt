@@ -9,7 +9,7 @@ use Rattle.gtid.specs.Identifier.{Ids}
 use Rattle.binlog.specs.Filter.{Names}
 use Rattle.store.specs.declared.fault.StoreFault.{StoreFault}
 use Rattle.store.specs.declared.fault.StoreFault.TheVariants.{Database as Db, Memory, Damaged, Layout, Follows}
-use Rattle.store.specs.declared.tables.Tables.{Tables}
+use Rattle.store.specs.declared.layout.Tables.{Tables}
 use Rattle.store.specs.State.{Content}
 use Rattle.store.specs.Layout.{IsVacant, IsFirstLaidOut, HasMeta, IsLaidOut}
 use Rattle.store.specs.Beside.{LiesBeside}

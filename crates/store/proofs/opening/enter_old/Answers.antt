@@ -2,7 +2,7 @@ use Rattle.std.proofs.Common.{arith}
 use Rattle.std.proofs.lemmas.Result.{err_from_is_err_and, IfOk-weaker, IfErr-weaker}
 use Rattle.sqlite.specs.State.{HasCleanDisk}
 use Rattle.sqlite.specs.Held.{state}
-use Rattle.store.specs.declared.tables.KnownLayout.TheVariants.{First, Second}
+use Rattle.store.specs.declared.layout.KnownLayout.TheVariants.{First, Second}
 use Rattle.store.proofs.Counted.{rests_unchanged}
 use Rattle.store.proofs.Known.{there, has_meta, found, meta_after, entered_after, turned_after, may_then, none_then, may_none}
 use Rattle.store.proofs.opening.enter_old.Goals as goal
