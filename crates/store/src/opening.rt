@@ -18,13 +18,12 @@ ghost use Rattle.store.specs.Faults.{IsOpenFault, IsFailure};
 ghost use Rattle.store.specs.Entering.{IsReady, IsKnown, IsWhy, IsLeft, ReadsLeft, IsEntered, IsRefused, IsTurned, IsWanted, MayEnter, tables_of, has_any, has_first, has_second};
 
 use crate::fault::StoreFault;
+use crate::layout::{KnownLayout, Tables};
 use crate::load::{Loaded, load, load_first};
-use crate::table::meta::read_meta;
 use crate::make::make;
 use crate::migrate::migrate;
 use crate::store::Store;
-use crate::layout::{KnownLayout, Tables};
-use crate::table::meta::Meta;
+use crate::table::meta::{Meta, read_meta};
 use binlog::Follow;
 use gtid::GtidSet;
 use sqlite::{Alter, Connection};

@@ -1,6 +1,6 @@
 //! The table `executed`, which layout 1 has in place of `spans`: a row for each GTID.
 
-ghost use Rattle.std.specs.Prelude.{◌≡◌, ℕ, false, pos, map, IfOk, IfErr, OnOk, None, ◌<◌, MatchOption, []};
+ghost use Rattle.std.specs.Prelude.{◌≡◌, ℕ, false, pos, map, IfOk, IfErr, OnOk, None, ◌<◌, MatchOption, MatchResult, []};
 ghost use Rattle.std.specs.List.{AllByRecursion};
 ghost use Rattle.sqlite.specs.State.{HasCleanDisk, IsUnchanged, Survives, KeepsCommit};
 ghost use Rattle.sqlite.specs.Held.{state};
@@ -15,15 +15,23 @@ ghost use Rattle.store.specs.Migrating.{HasTables, IsFirstInside, IsMigrating};
 ghost use Rattle.std.specs.FinSet as set;
 
 use crate::fault::StoreFault;
-use crate::table::row::{MOST, number_at, read_all, source_of};
+use crate::table::row::{FORM, MOST, SOURCE, number_at, read_all, source_of};
 use crate::table::spans::union_of;
 use gtid::{GtidSet, Span};
-use sqlite::{Alter, Connection, Error, Row, Transaction};
 use sqlite::types::ValueRef;
+use sqlite::{Alter, Connection, Error, Row, Transaction};
 use std::alloc::Global;
 
+/// All rows, in the order in which they are read.
+pub(crate) const ALL: &str = "SELECT rowid, source, number FROM executed ORDER BY rowid";
+
+const NUMBER: &str = "number is not from 1 to 9223372036854775806";
+
 /// The set in `executed`.
-pub(crate) fn load_executed<S: Alter>(alloc: Global, conn: &mut Connection<S>) -> Result<GtidSet, StoreFault>
+pub(crate) fn load_executed<S: Alter>(
+    alloc: Global,
+    conn: &mut Connection<S>,
+) -> Result<GtidSet, StoreFault>
     requires { conn.old.in_transaction ≡ false }
     ensures autocommit { conn.new.in_transaction ≡ false }
     ensures judged { HasCleanDisk (state S.Store conn.new) → (tree : ℕ) → AsksAll (state S.Store conn.old).now.schema all_executed_text tree → Judges result (λ ids. AllByRecursion IsExecutedRow ((state S.Store conn.old).now.trees tree) × (ids ≡ set.from_list (map id_in ((state S.Store conn.old).now.trees tree)))) (AllByRecursion IsExecutedRow ((state S.Store conn.old).now.trees tree)) }
@@ -32,10 +40,7 @@ pub(crate) fn load_executed<S: Alter>(alloc: Global, conn: &mut Connection<S>) -
     ensures crash { Survives (state S.Store conn.old) (state S.Store conn.new) (λ _. (tree : ℕ) → ¬ AsksAll (state S.Store conn.old).now.schema all_executed_text tree) }
     ensures fault { IfErr result IsLoadFault }
 {
-    let rows = read_all(
-        conn,
-        "SELECT rowid, source, number FROM executed ORDER BY rowid",
-    )?;
+    let rows = read_all(conn, ALL)?;
     executed_from(alloc, &rows)
 }
 
@@ -57,7 +62,7 @@ pub(crate) fn ids_of(alloc: Global, rows: &[Row]) -> Result<Option<Vec<Span>>, S
 {
     let mut spans = Vec::new(alloc);
     for row in rows {
-        let Some(span) = id_of(row)? else {
+        let Ok(span) = id_of(row)? else {
             return Ok(None);
         };
         spans.push(span)?;
@@ -65,29 +70,29 @@ pub(crate) fn ids_of(alloc: Global, rows: &[Row]) -> Result<Option<Vec<Span>>, S
     Ok(Some(spans))
 }
 
-/// The GTID of a row as a span, if it is a lawful row of `executed`.
-fn id_of(row: &Row) -> Result<Option<Span>, Error>
-    ensures { IfOk result (λ o. MatchOption o (¬ IsExecutedRow row.now) (λ s. IsExecutedRow row.now × (s ≡ span_of_id (id_in row.now)))) }
+/// The GTID of a row as a span, or the rule of `executed` that the row breaks.
+pub(crate) fn id_of(row: &Row) -> Result<Result<Span, &'static str>, Error>
+    ensures { IfOk result (λ o. MatchResult o (λ s. IsExecutedRow row.now × (s ≡ span_of_id (id_in row.now))) (λ _. ¬ IsExecutedRow row.now)) }
 {
     if row.column_count() != 3 {
-        return Ok(None);
+        return Ok(Err(FORM));
     }
     let ValueRef::Int(_) = row.get_ref(0)? else {
-        return Ok(None);
+        return Ok(Err(FORM));
     };
     let ValueRef::Blob(source) = row.get_ref(1)? else {
-        return Ok(None);
+        return Ok(Err(SOURCE));
+    };
+    let Some(source) = source_of(source) else {
+        return Ok(Err(SOURCE));
     };
     let Some(lo) = number_at(row, 2)? else {
-        return Ok(None);
+        return Ok(Err(NUMBER));
     };
     if lo >= MOST {
-        return Ok(None);
+        return Ok(Err(NUMBER));
     }
-    let Some(source) = source_of(source) else {
-        return Ok(None);
-    };
-    Ok(Some(Span {
+    Ok(Ok(Span {
         source,
         lo,
         hi: lo + 1,

@@ -1,6 +1,6 @@
 //! The table `follow`: the tables whose rows are kept.
 
-ghost use Rattle.std.specs.Prelude.{◌≡◌, [], pos, true, false, OnOk, ℕ, map, IfOk, IfErr, None, ◌<◌, MatchOption};
+ghost use Rattle.std.specs.Prelude.{◌≡◌, [], pos, true, false, OnOk, ℕ, map, IfOk, IfErr, None, ◌<◌, MatchOption, MatchResult};
 ghost use Rattle.sqlite.specs.State.{HasCleanDisk, Survives, KeepsCommit, IsUnchanged};
 ghost use Rattle.sqlite.specs.Held.{state};
 ghost use Rattle.binlog.specs.Filter.{Names};
@@ -17,11 +17,14 @@ ghost use Rattle.store.specs.Faults.{IsFailure};
 ghost use Rattle.std.specs.FinSet as set;
 
 use crate::fault::StoreFault;
-use crate::table::row::read_all;
+use crate::table::row::{FORM, read_all};
 use binlog::Follow;
-use sqlite::{Alter, Connection, Error, Row, Transaction};
 use sqlite::types::ValueRef;
+use sqlite::{Alter, Connection, Error, Row, Transaction};
 use std::alloc::Global;
+
+/// All rows, in the order in which they are read.
+pub(crate) const ALL: &str = "SELECT rowid, schema_name, table_name FROM follow ORDER BY rowid";
 
 pub(crate) fn make_follow<S: Alter>(tx: &mut Transaction<'_, S>) -> Result<usize, Error>
     ensures same_reference { tx.new.conn.ghost_name ≡ tx.old.conn.ghost_name }
@@ -70,7 +73,10 @@ fn add_name<S: Alter>(
 }
 
 /// The filter in `follow`.
-pub(crate) fn load_follow<S: Alter>(alloc: Global, conn: &mut Connection<S>) -> Result<Follow, StoreFault>
+pub(crate) fn load_follow<S: Alter>(
+    alloc: Global,
+    conn: &mut Connection<S>,
+) -> Result<Follow, StoreFault>
     requires { conn.old.in_transaction ≡ false }
     ensures autocommit { conn.new.in_transaction ≡ false }
     ensures judged { HasCleanDisk (state S.Store conn.new) → (tree : ℕ) → AsksAll (state S.Store conn.old).now.schema all_follow_text tree → Judges result (AreNames ((state S.Store conn.old).now.trees tree)) (AllByRecursion IsFollowRow ((state S.Store conn.old).now.trees tree)) }
@@ -79,10 +85,7 @@ pub(crate) fn load_follow<S: Alter>(alloc: Global, conn: &mut Connection<S>) -> 
     ensures crash { Survives (state S.Store conn.old) (state S.Store conn.new) (λ _. (tree : ℕ) → ¬ AsksAll (state S.Store conn.old).now.schema all_follow_text tree) }
     ensures fault { IfErr result IsLoadFault }
 {
-    let rows = read_all(
-        conn,
-        "SELECT rowid, schema_name, table_name FROM follow ORDER BY rowid",
-    )?;
+    let rows = read_all(conn, ALL)?;
     filter_from(alloc, &rows)
 }
 
@@ -110,7 +113,7 @@ pub(crate) fn names_in(
 {
     let mut names = Vec::new(alloc);
     for row in rows {
-        let Some(name) = name_of(alloc, row)? else {
+        let Ok(name) = name_of(alloc, row)? else {
             return Ok(None);
         };
         names.push(name)?;
@@ -118,24 +121,27 @@ pub(crate) fn names_in(
     Ok(Some(names))
 }
 
-/// The name of a table in a row, if it is a lawful row of `follow`.
-fn name_of(alloc: Global, row: &Row) -> Result<Option<(Vec<u8>, Vec<u8>)>, StoreFault>
-    ensures judged { IfOk result (λ o. MatchOption o (¬ IsFollowRow row.now) (λ name. IsFollowRow row.now × ((name.0.items, name.1.items) ≡ name_in row.now))) }
+/// The name of a table in a row, or the rule of `follow` that the row breaks.
+pub(crate) fn name_of(
+    alloc: Global,
+    row: &Row,
+) -> Result<Result<(Vec<u8>, Vec<u8>), &'static str>, StoreFault>
+    ensures judged { IfOk result (λ o. MatchResult o (λ name. IsFollowRow row.now × ((name.0.items, name.1.items) ≡ name_in row.now)) (λ _. ¬ IsFollowRow row.now)) }
     ensures fault { IfErr result IsFailure }
 {
     if row.column_count() != 3 {
-        return Ok(None);
+        return Ok(Err(FORM));
     }
     let ValueRef::Int(_) = row.get_ref(0)? else {
-        return Ok(None);
+        return Ok(Err(FORM));
     };
     let ValueRef::Blob(schema) = row.get_ref(1)? else {
-        return Ok(None);
+        return Ok(Err("schema_name is not a BLOB"));
     };
     let ValueRef::Blob(table) = row.get_ref(2)? else {
-        return Ok(None);
+        return Ok(Err("table_name is not a BLOB"));
     };
-    Ok(Some((
+    Ok(Ok((
         Vec::from_slice(alloc, schema)?,
         Vec::from_slice(alloc, table)?,
     )))

@@ -1,6 +1,6 @@
 //! The table `held`: the rows of the source, each with the number of its copies.
 
-ghost use Rattle.std.specs.Prelude.{◌≡◌, ◌+◌, ◌<◌, ◌≤◌, ◌^◌, pos, ℕ, true, false, Ok, Err, IsOk, IfOk, IfErr, IfSome, OnOk, IsPermutation, map, filter, [], ◌∷◌, Some, IsTrue, ◌++◌, List, MatchBool};
+ghost use Rattle.std.specs.Prelude.{◌≡◌, ◌+◌, ◌<◌, ◌≤◌, ◌^◌, pos, ℕ, true, false, Ok, Err, IsOk, IfOk, IfErr, IfSome, OnOk, IsPermutation, map, filter, [], ◌∷◌, Some, IsTrue, ◌++◌, List, MatchBool, MatchOption};
 ghost use Rattle.sqlite.specs.State.{HasCleanDisk, IsUnchanged, Survives, KeepsCommit, IsLive};
 ghost use Rattle.sqlite.specs.Held.{state};
 ghost use Rattle.sqlite_value.specs.Order.{column, Row as RowValue};
@@ -19,11 +19,15 @@ ghost use Rattle.gather.specs.Image.{IsSomeImage};
 ghost use Rattle.sqlite_value.specs.declared.value.Value.TheVariants.{Int};
 
 use crate::fault::StoreFault;
-use crate::table::row::{is_after, number_at};
+use crate::table::row::{FORM, is_after, number_at};
 use gather::ImageRef;
-use sqlite::{Alter, Connection, Error, ErrorCode, Row, Rows, Transaction};
 use sqlite::types::ValueRef;
+use sqlite::{Alter, Connection, Error, ErrorCode, Row, Rows, Transaction};
 use sqlite_schema::schema::Constraint;
+
+/// All rows, in the order in which they are read.
+pub(crate) const ALL: &str =
+    "SELECT rowid, schema_name, table_name, image, n FROM held ORDER BY rowid";
 
 /// The key of a row of `held`: the names of schema and table, and the stored image.
 #[derive(Clone, Copy)]
@@ -57,10 +61,7 @@ pub(crate) fn load_held<S: Alter>(conn: &mut Connection<S>) -> Result<(), StoreF
 {
     // For the prover: what the connection shows is a database. The call does nothing at run time.
     conn.schema();
-    let mut rows = conn.query(
-        "SELECT rowid, schema_name, table_name, image, n FROM held ORDER BY rowid",
-        &[],
-    )?;
+    let mut rows = conn.query(ALL, &[])?;
     let verdict = judge_rows(&mut rows)?;
     answer(verdict)
 }
@@ -104,7 +105,7 @@ fn with_row(verdict: Verdict, row: &Row) -> Result<Verdict, StoreFault>
     if let Verdict::Unlawful = verdict {
         return Ok(Verdict::Unlawful);
     }
-    if !is_held(row)? {
+    if let Some(_) = held_rule(row)? {
         return Ok(Verdict::Unlawful);
     }
     Ok(with_lawful(verdict, row)?)
@@ -148,30 +149,33 @@ pub(crate) fn answer(verdict: Verdict) -> Result<(), StoreFault>
     }
 }
 
-/// Whether a row is a lawful row of `held`.
-pub(crate) fn is_held(row: &Row) -> Result<bool, StoreFault>
-    ensures judged { IfOk result (λ b. MatchBool b (IsHeldRow row.now) (¬ IsHeldRow row.now)) }
+/// The rule of `held` that a row breaks, if it breaks one.
+pub(crate) fn held_rule(row: &Row) -> Result<Option<&'static str>, StoreFault>
+    ensures judged { IfOk result (λ o. MatchOption o (IsHeldRow row.now) (λ _. ¬ IsHeldRow row.now)) }
     ensures fault { IfErr result IsFailure }
 {
     if row.column_count() != 5 {
-        return Ok(false);
+        return Ok(Some(FORM));
     }
     let ValueRef::Int(_) = row.get_ref(0)? else {
-        return Ok(false);
+        return Ok(Some(FORM));
     };
     let ValueRef::Blob(_) = row.get_ref(1)? else {
-        return Ok(false);
+        return Ok(Some("schema_name is not a BLOB"));
     };
     let ValueRef::Blob(_) = row.get_ref(2)? else {
-        return Ok(false);
+        return Ok(Some("table_name is not a BLOB"));
     };
     let ValueRef::Blob(image) = row.get_ref(3)? else {
-        return Ok(false);
+        return Ok(Some("image is not a BLOB"));
     };
     let Some(_) = number_at(row, 4)? else {
-        return Ok(false);
+        return Ok(Some("n is not from 1 to 9223372036854775807"));
     };
-    Ok(is_image(image))
+    if !is_image(image) {
+        return Ok(Some("image is not a stored image"));
+    }
+    Ok(None)
 }
 
 /// Whether the bytes are a stored image.

@@ -1,6 +1,6 @@
 //! The table `meta`: which layout the tables have.
 
-ghost use Rattle.std.specs.Prelude.{◌≡◌, [], pos, true, false, OnOk, IfOk, None, ◌<◌, MatchBool, codes};
+ghost use Rattle.std.specs.Prelude.{◌≡◌, [], pos, true, false, OnOk, IfOk, None, ◌<◌, MatchBool, MatchOption, codes};
 ghost use Rattle.sqlite.specs.State.{HasCleanDisk, Survives, KeepsCommit, IsUnchanged};
 ghost use Rattle.sqlite.specs.Held.{state};
 ghost use Rattle.store.specs.State.{Content};
@@ -15,9 +15,12 @@ ghost use Rattle.sqlite_value.specs.Order.{column};
 ghost use Rattle.sqlite_value.specs.declared.value.Value.TheVariants.{Int};
 ghost use Rattle.std.specs.FinSet as set;
 
-use crate::table::row::{check_rowids, read_all};
-use sqlite::{Alter, Connection, Error, Row, Transaction};
+use crate::table::row::{FORM, check_rowids, read_all};
 use sqlite::types::ValueRef;
+use sqlite::{Alter, Connection, Error, Row, Transaction};
+
+/// All rows, in the order in which they are read.
+pub(crate) const ALL: &str = "SELECT rowid, k, v FROM meta ORDER BY rowid";
 
 /// What the rows of `meta` say.
 #[derive(Clone, Copy, Debug)]
@@ -70,7 +73,7 @@ pub(crate) fn read_meta<S: Alter>(conn: &mut Connection<S>) -> Result<Meta, Erro
     ensures crash { HasMeta (state S.Store conn.old).now.schema → Survives (state S.Store conn.old) (state S.Store conn.new) (λ _. ⊥) }
     ensures clean { HasCleanDisk (state S.Store conn.new) → HasCleanDisk (state S.Store conn.old) }
 {
-    let rows = read_all(conn, "SELECT rowid, k, v FROM meta ORDER BY rowid")?;
+    let rows = read_all(conn, ALL)?;
     meta_in(&rows)
 }
 
@@ -107,7 +110,7 @@ pub(crate) fn layout_in(rows: &[Row]) -> Result<Option<i64>, Error>
 const LAYOUT: &[u8] = b"layout";
 
 /// Whether a row of `meta` has the key `layout`.
-fn is_layout(row: &Row) -> Result<bool, Error>
+pub(crate) fn is_layout(row: &Row) -> Result<bool, Error>
     ensures { IfOk result (λ b. b ≡ is_text (codes "layout") (column row.now 1)) }
 {
     let ValueRef::Text(key) = row.get_ref(1)? else {
@@ -121,28 +124,28 @@ pub(crate) fn are_meta(rows: &[Row]) -> Result<bool, Error>
     ensures { IfOk result (λ b. MatchBool b (AllByRecursion IsMetaRow rows.now) (¬ AllByRecursion IsMetaRow rows.now)) }
 {
     for row in rows {
-        if !is_meta(row)? {
+        if let Some(_) = meta_rule(row)? {
             return Ok(false);
         }
     }
     Ok(true)
 }
 
-/// Whether a row is a lawful row of `meta`.
-fn is_meta(row: &Row) -> Result<bool, Error>
-    ensures { IfOk result (λ b. MatchBool b (IsMetaRow row.now) (¬ IsMetaRow row.now)) }
+/// The rule of `meta` that a row breaks, if it breaks one.
+pub(crate) fn meta_rule(row: &Row) -> Result<Option<&'static str>, Error>
+    ensures { IfOk result (λ o. MatchOption o (IsMetaRow row.now) (λ _. ¬ IsMetaRow row.now)) }
 {
     if row.column_count() != 3 {
-        return Ok(false);
+        return Ok(Some(FORM));
     }
     let ValueRef::Int(_) = row.get_ref(0)? else {
-        return Ok(false);
+        return Ok(Some(FORM));
     };
     let ValueRef::Text(_) = row.get_ref(1)? else {
-        return Ok(false);
+        return Ok(Some("k is not a text"));
     };
     let ValueRef::Int(_) = row.get_ref(2)? else {
-        return Ok(false);
+        return Ok(Some("v is not a whole number"));
     };
-    Ok(true)
+    Ok(None)
 }

@@ -13,8 +13,14 @@ ghost use Rattle.sqlite.specs.Held.{state};
 ghost use Rattle.store.specs.Inside.{WasOpen};
 ghost use Rattle.store.specs.Load.{AsksAll, Ascends, by_order, Rested};
 
-use sqlite::{Alter, Connection, Error, ErrorCode, Row};
 use sqlite::types::ValueRef;
+use sqlite::{Alter, Connection, Error, ErrorCode, Row};
+
+/// What is said of a row with other columns than its statement asks for. No database gives one.
+pub(crate) const FORM: &str = "it has other columns";
+
+/// What is said of a source that is no UUID.
+pub(crate) const SOURCE: &str = "source is not a BLOB of 16 bytes";
 
 /// The greatest number that a table has: 2^63 - 1.
 pub(crate) const MOST: u64 = 9_223_372_036_854_775_807;

@@ -1,6 +1,6 @@
 //! The table `spans`: the executed set.
 
-ghost use Rattle.std.specs.Prelude.{◌≡◌, [], pos, true, false, OnOk, ℕ, map, IfOk, IfErr, IsPermutation, None, ◌<◌, IfSome, MatchOption, ℤ, List, ◌∷◌, ◌++◌};
+ghost use Rattle.std.specs.Prelude.{◌≡◌, [], pos, true, false, OnOk, ℕ, map, IfOk, IfErr, IsPermutation, None, ◌<◌, IfSome, MatchOption, MatchResult, ℤ, List, ◌∷◌, ◌++◌};
 ghost use Rattle.sqlite.specs.State.{HasCleanDisk, Survives, KeepsCommit, IsUnchanged};
 ghost use Rattle.sqlite.specs.Held.{state};
 ghost use Rattle.store.specs.State.{Content};
@@ -23,13 +23,22 @@ ghost use Rattle.gtid.specs.Beside.{one_or_none, Joins};
 ghost use Rattle.std.specs.FinSet as set;
 
 use crate::fault::StoreFault;
-use crate::table::row::{MOST, check_rowids, is_source, number_at, read_all, source_of};
-use gtid::{Beside, Gtid, GtidSet, Span, Spans};
+use crate::table::row::{
+    FORM, MOST, SOURCE, check_rowids, is_source, number_at, read_all, source_of,
+};
 use gtid::laws::numbers_in_range;
-use sqlite::{Alter, Connection, Error, Row, Transaction};
+use gtid::{Beside, Gtid, GtidSet, Span, Spans};
 use sqlite::types::ValueRef;
+use sqlite::{Alter, Connection, Error, Row, Transaction};
 use std::alloc::Global;
 use std::cmp::Ordering;
+
+/// All rows, in the order in which they are read.
+pub(crate) const ALL: &str = "SELECT rowid, source, lo, hi FROM spans ORDER BY rowid";
+
+const LO: &str = "lo is not from 1 to 9223372036854775806";
+
+const HI: &str = "hi is not above lo and at most 9223372036854775807";
 
 pub(crate) fn make_spans<S: Alter>(tx: &mut Transaction<'_, S>) -> Result<usize, Error>
     ensures same_reference { tx.new.conn.ghost_name ≡ tx.old.conn.ghost_name }
@@ -45,7 +54,10 @@ pub(crate) fn make_spans<S: Alter>(tx: &mut Transaction<'_, S>) -> Result<usize,
 }
 
 /// The set in `spans`.
-pub(crate) fn load_spans<S: Alter>(alloc: Global, conn: &mut Connection<S>) -> Result<GtidSet, StoreFault>
+pub(crate) fn load_spans<S: Alter>(
+    alloc: Global,
+    conn: &mut Connection<S>,
+) -> Result<GtidSet, StoreFault>
     requires { conn.old.in_transaction ≡ false }
     ensures autocommit { conn.new.in_transaction ≡ false }
     ensures judged { HasCleanDisk (state S.Store conn.new) → (tree : ℕ) → AsksAll (state S.Store conn.old).now.schema all_spans_text tree → Judges result (λ ids. AreSpans ((state S.Store conn.old).now.trees tree) ids × HasRowids ((state S.Store conn.old).now.trees tree)) (AllByRecursion IsSpanRow ((state S.Store conn.old).now.trees tree) × IsDistinct touches (map span_in ((state S.Store conn.old).now.trees tree))) }
@@ -54,10 +66,7 @@ pub(crate) fn load_spans<S: Alter>(alloc: Global, conn: &mut Connection<S>) -> R
     ensures crash { Survives (state S.Store conn.old) (state S.Store conn.new) (λ _. (tree : ℕ) → ¬ AsksAll (state S.Store conn.old).now.schema all_spans_text tree) }
     ensures fault { IfErr result IsLoadFault }
 {
-    let rows = read_all(
-        conn,
-        "SELECT rowid, source, lo, hi FROM spans ORDER BY rowid",
-    )?;
+    let rows = read_all(conn, ALL)?;
     spans_from(alloc, &rows)
 }
 
@@ -80,7 +89,7 @@ pub(crate) fn spans_of(alloc: Global, rows: &[Row]) -> Result<Option<Vec<Span>>,
 {
     let mut spans = Vec::new(alloc);
     for row in rows {
-        let Some(span) = span_of(row)? else {
+        let Ok(span) = span_of(row)? else {
             return Ok(None);
         };
         spans.push(span)?;
@@ -88,32 +97,35 @@ pub(crate) fn spans_of(alloc: Global, rows: &[Row]) -> Result<Option<Vec<Span>>,
     Ok(Some(spans))
 }
 
-/// The span of a row, if it is a lawful row of `spans`.
-fn span_of(row: &Row) -> Result<Option<Span>, Error>
-    ensures { IfOk result (λ o. MatchOption o (¬ IsSpanRow row.now) (λ s. IsSpanRow row.now × (s ≡ span_in row.now))) }
+/// The span of a row, or the rule of `spans` that the row breaks.
+pub(crate) fn span_of(row: &Row) -> Result<Result<Span, &'static str>, Error>
+    ensures { IfOk result (λ o. MatchResult o (λ s. IsSpanRow row.now × (s ≡ span_in row.now)) (λ _. ¬ IsSpanRow row.now)) }
 {
     if row.column_count() != 4 {
-        return Ok(None);
+        return Ok(Err(FORM));
     }
     let ValueRef::Int(_) = row.get_ref(0)? else {
-        return Ok(None);
+        return Ok(Err(FORM));
     };
     let ValueRef::Blob(source) = row.get_ref(1)? else {
-        return Ok(None);
+        return Ok(Err(SOURCE));
+    };
+    let Some(source) = source_of(source) else {
+        return Ok(Err(SOURCE));
     };
     let Some(lo) = number_at(row, 2)? else {
-        return Ok(None);
+        return Ok(Err(LO));
     };
+    if lo >= MOST {
+        return Ok(Err(LO));
+    }
     let Some(hi) = number_at(row, 3)? else {
-        return Ok(None);
+        return Ok(Err(HI));
     };
     if hi <= lo {
-        return Ok(None);
+        return Ok(Err(HI));
     }
-    let Some(source) = source_of(source) else {
-        return Ok(None);
-    };
-    Ok(Some(Span { source, lo, hi }))
+    Ok(Ok(Span { source, lo, hi }))
 }
 
 /// The set of the spans. `Damaged` if two overlap or touch.
@@ -165,7 +177,7 @@ fn are_apart(spans: &[Span]) -> bool
 }
 
 /// Whether a span touches or overlaps the last one, if there is one.
-fn touches_last(last: Option<Span>, span: &Span) -> bool
+pub(crate) fn touches_last(last: Option<Span>, span: &Span) -> bool
     ensures { result ≡ touches_last last span.now }
 {
     match last {
