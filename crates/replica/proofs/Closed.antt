@@ -3,6 +3,7 @@ use Rattle.std.proofs.Common.{◌≡◌, ℕ, Bool, true, false, List, Option, R
 use Rattle.std.specs.Prelude.{MatchResult}
 use Rattle.sqlite_disk.specs.declared.Disk.{Ghosts}
 use Rattle.sqlite_disk.specs.declared.Files.{Files}
+use Rattle.sqlite_wal.specs.Recovery.{Image}
 use Rattle.sqlite_wal.specs.Reads.{AreClean}
 use Rattle.sqlite_trees.specs.Tree.{Trees}
 use Rattle.sqlite_trees.specs.View.{IsClean}
@@ -20,7 +21,7 @@ use Rattle.store.specs.State.{Content}
 use Rattle.store.specs.declared.store.Store.{Store}
 use Rattle.store.specs.Apply.{IsAtRest}
 use Rattle.store.specs.Store.{Holds, HoldsAs, database}
-use Rattle.store.specs.Entering.{IsLeft}
+use Rattle.store.specs.Entering.{IsLeft, IsWanted, names_for}
 use Rattle.store.proofs.Reopened.{left_by}
 use Rattle.replica.specs.declared.captures.Capture.{Capture}
 use Rattle.replica.specs.declared.captures.Halt.{Halt}
@@ -32,7 +33,7 @@ use Rattle.replica.specs.Crash.{IsLeftOfAll}
 use Rattle.replica.specs.Crash as crash
 use Rattle.replica.specs.Over.{HasReadAll, LeavesOnly}
 use Rattle.replica.specs.Capture.{Reads}
-use Rattle.replica.specs.File.{AreClosedWith, LeavesContent, IsCleanlyClosed, WasClosed}
+use Rattle.replica.specs.File.{FilesHold, AreClosedWith, LeavesContent, IsOpenedIn, IsCleanlyClosed, WasClosed, ClosesAs}
 use Rattle.replica.specs.Replay.{LeadsTo, MayLeave}
 use Rattle.replica.specs.FollowFile.{Connects, MayHold, FollowsFile}
 use Rattle.replica.proofs.Captured.{reads_weaker}
@@ -48,16 +49,32 @@ rest_of false content store is_open holds = holds.rest
 rest_of true content store is_open holds = holds.rest is_open
 
 -- files that were closed with a clean disk, or could not be, had a clean disk before
-pub clean_before_closing : {D : Type 0} {g : Ghosts D} (conn : Held (FileStore D g)) (closed : Result (Files D) (Error × FileStore D g))
+clean_before_closing : {D : Type 0} {g : Ghosts D} (conn : Held (FileStore D g)) (closed : Result (Files D) (Error × FileStore D g))
     → IfOk closed (λ files. AreClean g files.log files.db → IsCopied conn files)
     → IfErr closed (λ e. IsClosed conn e.1 × (IsClean (view e.1) → FailsToClose conn e.1 e.0))
     → IsCleanlyClosed closed → HasCleanDisk (file_state conn)
 clean_before_closing conn (Ok files) copied failed honest = (copied honest).was_clean
 clean_before_closing conn (Err e) copied failed honest = let quiet = failed.0.quiet in omega (arith, quiet.clean, honest)
 
-pub was_closed : {D : Type 0} {g : Ghosts D} (conn : Held (FileStore D g)) (closed : Result (Files D) (Error × FileStore D g)) → IfErr closed (λ e. IsClosed conn e.1 × (IsClean (view e.1) → FailsToClose conn e.1 e.0)) → WasClosed closed
+was_closed : {D : Type 0} {g : Ghosts D} (conn : Held (FileStore D g)) (closed : Result (Files D) (Error × FileStore D g)) → IfErr closed (λ e. IsClosed conn e.1 × (IsClean (view e.1) → FailsToClose conn e.1 e.0)) → WasClosed closed
 was_closed conn (Ok files) failed = tt
 was_closed conn (Err e) failed = (conn, failed.0, failed.1)
+
+-- a store that was opened over files, and then the closed files
+pub closes_as : {D : Type 0} {g : Ghosts D} (only : Option Names) (image : Image) (opened : Store (FileStore D g) over_files) (conn : Held (FileStore D g)) (closed : Result (Files D) (Error × FileStore D g))
+    → (HasCleanDisk (file_state conn) → HasCleanDisk (database over_files opened))
+    → (HasCleanDisk (database over_files opened) → (names : Names) (content : Content) → FilesHold (names_for only) names content image → Holds over_files opened content × (opened.following ≡ names) × IsWanted only names)
+    → (HasCleanDisk (database over_files opened) → IsOpenedIn only image opened)
+    → IfOk closed (λ files. AreClean g files.log files.db → IsCopied conn files)
+    → IfErr closed (λ e. IsClosed conn e.1 × (IsClean (view e.1) → FailsToClose conn e.1 e.0))
+    → ClosesAs only image closed
+closes_as only image opened conn closed before opens entered copied failed = record {
+  wanted = λ names content files honest. (opens (before (clean_before_closing conn closed copied failed honest)) names content files).2;
+  entered = λ honest.
+      let e = entered (before (clean_before_closing conn closed copied failed honest)) in
+      (e.0, e.1, λ ready. let o = e.2 ready in (opened.following, o.content, o.of, o.wanted));
+  closing = was_closed conn closed failed;
+}
 
 module _ {D : Type 0} (g : Ghosts D) (names : Names) (after : Store (FileStore D g) over_files) (kept : after.following ≡ names) where
   -- closed files hold what the store held

@@ -1,8 +1,12 @@
 -- Databases in files.
-use Rattle.std.specs.Prelude.{◌≡◌, ◌⊎◌, Bool, true, false, [], Option, None, Some, Result, IfErr, MatchResult}
-use Rattle.std.specs.Borrow.{Bor}
+use Rattle.std.specs.Prelude.{◌≡◌, ◌⊎◌, true, false, [], Option, None, Some, Result, IfErr, MatchResult}
 use Rattle.sqlite_disk.specs.declared.Disk.{Ghosts}
 use Rattle.sqlite_disk.specs.declared.Files.{Files}
+use Rattle.sqlite_disk.specs.declared.calls.Calls as calls
+use Rattle.sqlite_disk.specs.declared.start.Start as start
+use Rattle.sqlite_disk.specs.declared.modelled.Modelled.{Modelled}
+use Rattle.sqlite_std_file.specs.declared.host.Host.{Host}
+use Rattle.sqlite_std_file.specs.File.{IsFresh}
 use Rattle.sqlite_wal.specs.Recovery.{Image}
 use Rattle.sqlite_wal.specs.Files.{outcomes}
 use Rattle.sqlite_wal.specs.Reads.{AreClean}
@@ -18,21 +22,11 @@ use Rattle.sqlite.specs.Files.{HoldsDatabase, image_of, over_files, file_state, 
 use Rattle.sqlite.specs.Closing.{HoldsAlone}
 use Rattle.binlog.specs.Filter.{Names}
 use Rattle.store.specs.State.{Content}
-use Rattle.store.specs.Open.{nothing, all}
+use Rattle.store.specs.Open.{nothing}
 use Rattle.store.specs.declared.store.Store.{Store}
 use Rattle.store.specs.Store.{Opens}
-use Rattle.store.specs.Entering.{IsLeft, IsReady, IsOf, IsWanted, IsRefused, IsTurned}
+use Rattle.store.specs.Entering.{IsLeft, IsReady, IsOf, IsWanted, IsRefused, IsTurned, names_for}
 use Rattle.replica.specs.declared.file.Unopened.{Unopened}
-
--- the filter that a database is opened with: the given one, or the one that admits all tables
-abbrev pub only_of : Option (Bor Names) → Names
-only_of None = all
-only_of (Some given) = given.now
-
--- without a filter, the database's own holds
-abbrev pub is_any : Option (Bor Names) → Bool
-is_any None = true
-is_any (Some given) = false
 
 -- The database file is empty or not there, and is to be made for these tables; or the file and its log hold a database
 -- that stands for this content and these tables.
@@ -46,9 +40,12 @@ LeavesContent only names content s = HasCleanDisk s → (trees : Trees) → s.ma
 
 -- A database of this content is refused only by a failure, for memory, or since it was made for other tables, and is left as that
 -- content.
-abbrev pub IsUnopened : {D : Type 0} {g : Ghosts D} → Bool → Names → Names → Content → Unopened D g → Type 0
-IsUnopened any only names content (Unopened.Database cause conn) = (HasCleanDisk (file_state conn) → IsRefused any only names cause) × LeavesContent only names content (file_state conn)
-IsUnopened any only names content _ = Unit {0}
+abbrev pub IsUnopened : {D : Type 0} {g : Ghosts D} → Option Names → Names → Content → Unopened D g
+    → Type 0
+IsUnopened wanted names content (Unopened.Database cause conn) =
+    (HasCleanDisk (file_state conn) → IsRefused wanted names cause)
+    × LeavesContent (names_for wanted) names content (file_state conn)
+IsUnopened wanted names content _ = Unit {0}
 
 -- The connection is open, has changed nothing, and reads what the files hold.
 pub record HasFound {D : Type 0} {g : Ghosts D} (image : Image) (conn : Held (FileStore D g)) : Type 0 where
@@ -56,18 +53,40 @@ pub record HasFound {D : Type 0} {g : Ghosts D} (image : Image) (conn : Held (Fi
   pub opened : IsOpened conn
 
 -- The store was opened over what a connection has found in the files.
-abbrev pub IsOpenedIn : {D : Type 0} {g : Ghosts D} → Bool → Names → Image → Store (FileStore D g) over_files → Type 0
-IsOpenedIn {D} {g} any only image store = (before : Held (FileStore D g)) × HasFound image before × (IsReady (file_state before) → Opens over_files any only (file_state before) store)
+abbrev pub IsOpenedIn : {D : Type 0} {g : Ghosts D} → Option Names → Image
+    → Store (FileStore D g) over_files → Type 0
+IsOpenedIn {D} {g} wanted image store =
+    (before : Held (FileStore D g)) × HasFound image before
+    × (IsReady (file_state before) → Opens over_files wanted (file_state before) store)
 
 -- The database that was found is refused with its reason and left as it is. Where files could not be opened as a database, the error is
 -- what they met, and they are left as they were, unless there was no database in them (LeavesFiles); `from` says of them that nothing
 -- had happened to them before.
-abbrev pub IsTurnedBack : {D : Type 0} {g : Ghosts D} → Bool → Names → Image → (Files D → Type 0) → Unopened D g → Type 0
-IsTurnedBack any only image from Unopened.Memory = Unit {0}
-IsTurnedBack any only image from (Unopened.Files error None) = Unit {0}
-IsTurnedBack {D} {g} any only image from (Unopened.Files error (Some left)) = (files : Files D) × from files × (IsCleanLeft left → FailsToOpenFiles files left error × LeavesFiles files left)
-IsTurnedBack {D} {g} any only image from (Unopened.Database cause conn) =
-    HasCleanDisk (file_state conn) → (before : Held (FileStore D g)) × HasFound image before × (IsReady (file_state before) → IsTurned any only (file_state before) (file_state conn) cause)
+abbrev pub IsTurnedBack : {D : Type 0} {g : Ghosts D} → Option Names → Image → (Files D → Type 0)
+    → Unopened D g → Type 0
+IsTurnedBack wanted image from Unopened.Memory = Unit {0}
+IsTurnedBack wanted image from (Unopened.Files error None) = Unit {0}
+IsTurnedBack {D} {g} wanted image from (Unopened.Files error (Some left)) =
+    (files : Files D) × from files
+    × (IsCleanLeft left → FailsToOpenFiles files left error × LeavesFiles files left)
+IsTurnedBack {D} {g} wanted image from (Unopened.Database cause conn) =
+    HasCleanDisk (file_state conn) → (before : Held (FileStore D g)) × HasFound image before
+    × (IsReady (file_state before) → IsTurned wanted (file_state before) (file_state conn) cause)
+
+-- the files were settled, and nothing has happened to them since
+abbrev pub AreFresh : {S : Type 0} {g : calls.Ghosts Host} {first : start.Ghosts S}
+    → Files (Modelled Host S g first) → Type 0
+AreFresh files = IsFresh true files.log × IsFresh false files.db
+
+-- What an opening for these names leaves that is refused.
+pub record IsTurnedAway {D : Type 0} {g : Ghosts D} (wanted : Option Names) (image : Image)
+    (from : Files D → Type 0) (why : Unopened D g) : Type 0 where
+  -- A database that stands for a content is refused only if it was made for other tables, fails, or
+  -- memory runs out, and is left with that content.
+  pub refused : (names : Names) (content : Content)
+      → FilesHold (names_for wanted) names content image → IsUnopened wanted names content why
+  -- Any other is refused with its reason and left as it is, and so are files that cannot be opened.
+  pub turned : IsTurnedBack wanted image from why
 
 -- The files were closed, or could not be, with a disk that never lied.
 abbrev pub IsCleanlyClosed : {D : Type 0} {g : Ghosts D} → Result (Files D) (Error × FileStore D g) → Type 0
@@ -78,9 +97,23 @@ abbrev pub WasClosed : {D : Type 0} {g : Ghosts D} → Result (Files D) (Error �
 WasClosed {D} {g} closed = IfErr closed (λ e. (conn : Held (FileStore D g)) × IsClosed conn e.1 × (IsClean (view e.1) → FailsToClose conn e.1 e.0))
 
 -- If the tables of the database in the files were known, it stood for a content and for tables that were wanted.
-abbrev pub WasWanted : {D : Type 0} {g : Ghosts D} → Bool → Names → Image → Result (Files D) (Error × FileStore D g) → Type 0
-WasWanted {D} {g} any only image closed =
-    IsCleanlyClosed closed → (before : Held (FileStore D g)) × HasFound image before × (IsReady (file_state before) → (names : Names) × (content : Content) × IsOf only names (file_state before).now content × IsWanted any only names)
+abbrev pub WasWanted : {D : Type 0} {g : Ghosts D} → Option Names → Image
+    → Result (Files D) (Error × FileStore D g) → Type 0
+WasWanted {D} {g} wanted image closed =
+    IsCleanlyClosed closed → (before : Held (FileStore D g)) × HasFound image before
+    × (IsReady (file_state before) → (names : Names) × (content : Content)
+    × IsOf (names_for wanted) names (file_state before).now content × IsWanted wanted names)
+
+-- What closing the files comes to that held a database which was opened for these names.
+pub record ClosesAs {D : Type 0} {g : Ghosts D} (only : Option Names) (image : Image)
+    (closed : Result (Files D) (Error × FileStore D g)) : Type 0 where
+  -- A database that stood for a content was made for the given tables.
+  pub wanted : (names : Names) (content : Content) → FilesHold (names_for only) names content image
+      → IsCleanlyClosed closed → IsWanted only names
+  -- Any other whose tables are known stood for a content too.
+  pub entered : WasWanted only image closed
+  -- Why they could not be closed is what they met.
+  pub closing : WasClosed closed
 
 module _ {D : Type 0} (g : Ghosts D) where
   -- The closed files, and whatever a crash may leave of them, hold a database that stands for this content and these

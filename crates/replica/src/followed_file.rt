@@ -1,14 +1,13 @@
 //! Following a source into a database file.
 
-ghost use Rattle.std.specs.Prelude.{◌≡◌, ◌<◌, Bool, true, false, IfOk, IfErr, IsErr};
+ghost use Rattle.std.specs.Prelude.{◌≡◌, ◌<◌, Bool, true, IfOk, IfErr, IsErr};
 ghost use Rattle.sqlite_wal.specs.Files.{image_at};
-ghost use Rattle.sqlite_std_file.specs.File.{IsFresh};
 ghost use Rattle.sqlite.specs.State.{HasCleanDisk};
 ghost use Rattle.binlog.specs.Filter.{Names};
 ghost use Rattle.store.specs.State.{Content};
 ghost use Rattle.store.specs.Store.{HoldsAs, IsBroken, database, names_of};
-ghost use Rattle.store.specs.Entering.{IsWanted};
-ghost use Rattle.replica.specs.File.{only_of, is_any, FilesHold, IsUnopened, IsTurnedBack, IsCleanlyClosed, WasClosed, WasWanted};
+ghost use Rattle.store.specs.Entering.{wanted_of, names_for};
+ghost use Rattle.replica.specs.File.{FilesHold, IsTurnedAway, AreFresh, ClosesAs};
 ghost use Rattle.replica.specs.declared.end.Reason.TheVariants.{Halted};
 ghost use Rattle.replica.specs.FollowFile.{Connects, FollowsFile, CountsFailures};
 
@@ -91,23 +90,22 @@ pub fn follow_file<
     // If the files held a database that stands for a content, or none was there, the end is that of following the source
     // from that content over the stream that `connect` gave, and the closed files hold a database that stands for the
     // content that this leads to. If it gave none, they hold the content from before.
-    ensures follows { IfOk result (λ done. (names : Names) (content : Content) → FilesHold (only_of only.entry) names content (image_at P.Start)
-        → FollowsFile T.Read.remaining T.Write.contents T.failures (F.post connect) config (only_of only.entry) names content done) }
-    // Such a database was made for the given tables; any other whose tables are known stood for a content too.
-    ensures wanted { IfOk result (λ done. (names : Names) (content : Content) → FilesHold (only_of only.entry) names content (image_at P.Start) → IsCleanlyClosed done.closed → IsWanted (is_any only.entry) (only_of only.entry) names) }
-    ensures entered { IfOk result (λ done. WasWanted (is_any only.entry) (only_of only.entry) (image_at P.Start) done.closed) }
-    // Why the files could not be closed is what they met.
-    ensures closing { IfOk result (λ done. WasClosed done.closed) }
+    ensures follows { IfOk result (λ done. (names : Names) (content : Content)
+        → FilesHold (names_for (wanted_of only.entry)) names content (image_at P.Start)
+        → FollowsFile T.Read.remaining T.Write.contents T.failures (F.post connect) config
+        (names_for (wanted_of only.entry)) names content done) }
+    // Such a database was made for the given tables; any other whose tables are known stood for a content too. Why the files
+    // could not be closed is what they met.
+    ensures closing { IfOk result (λ done. ClosesAs (wanted_of only.entry) (image_at P.Start)
+        done.closed) }
     // A failure of the stream is reported exactly if there was one; it is the last call.
     ensures counts { IfOk result (λ done. IfOk done.connection (λ ended. CountsFailures ended.0 ended.1)) }
     // The connection is halted only if the observer has stopped.
     ensures asked { IfOk result (λ done. IfOk done.connection (λ ended. ended.0.reason ≡ Halted → W.has_stopped observer.new ≡ true)) }
     // A database that stands for a content is refused only if it was made for other tables, fails, or memory runs out, and is
-    // left with that content.
-    ensures refused { IfErr result (λ e. (names : Names) (content : Content) → FilesHold (only_of only.entry) names content (image_at P.Start)
-        → IsUnopened (is_any only.entry) (only_of only.entry) names content e) }
-    // Any other is refused with its reason and left as it is, and so are files that cannot be opened.
-    ensures turned { IfErr result (IsTurnedBack (is_any only.entry) (only_of only.entry) (image_at P.Start) (λ files. IsFresh true files.log × IsFresh false files.db)) }
+    // left with that content. Any other is refused with its reason and left as it is, and so are files that cannot be opened.
+    ensures turned { IfErr result (IsTurnedAway (wanted_of only.entry) (image_at P.Start)
+        AreFresh) }
     // Then nothing was read or reported.
     ensures untouched { IsErr result → observer.new ≡ observer.old }
 {

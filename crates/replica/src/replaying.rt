@@ -2,11 +2,10 @@
 
 ghost use Rattle.std.specs.Prelude.{◌≡◌, ◌≢◌, ◌≤◌, [], true, false, length, IfOk, IfErr, IsErr, Ok, Err, All};
 ghost use Rattle.sqlite_wal.specs.Files.{image_at};
-ghost use Rattle.sqlite_std_file.specs.File.{IsFresh};
 ghost use Rattle.binlog.specs.Filter.{Names};
 ghost use Rattle.store.specs.State.{Content};
-ghost use Rattle.store.specs.Entering.{IsWanted};
-ghost use Rattle.replica.specs.File.{only_of, is_any, FilesHold, IsUnopened, IsTurnedBack, IsCleanlyClosed, WasClosed, WasWanted};
+ghost use Rattle.store.specs.Entering.{wanted_of, names_for};
+ghost use Rattle.replica.specs.File.{FilesHold, IsTurnedAway, AreFresh, ClosesAs};
 ghost use Rattle.replica.specs.Replay.{Replays};
 ghost use Rattle.replica.specs.Conn.{MayEnd};
 
@@ -57,13 +56,13 @@ pub fn replay<P: Start, R: Read + Drop, W: Observer>(
     // If the files held a database that stands for a content, or none was there, the ends are those of taking the
     // connections in order, each once, from that content, and the closed files hold a database that stands for the content
     // that they lead to.
-    ensures replays { IfOk result (λ done. (names : Names) (content : Content) → FilesHold (only_of only.entry) names content (image_at P.Start)
+    ensures replays { IfOk result (λ done. (names : Names) (content : Content)
+        → FilesHold (names_for (wanted_of only.entry)) names content (image_at P.Start)
         → Replays R.Read.remaining config.now.limit names content captures.items done) }
-    // Such a database was made for the given tables; any other whose tables are known stood for a content too.
-    ensures wanted { IfOk result (λ done. (names : Names) (content : Content) → FilesHold (only_of only.entry) names content (image_at P.Start) → IsCleanlyClosed done.closed → IsWanted (is_any only.entry) (only_of only.entry) names) }
-    ensures entered { IfOk result (λ done. WasWanted (is_any only.entry) (only_of only.entry) (image_at P.Start) done.closed) }
-    // Why the files could not be closed is what they met.
-    ensures closing { IfOk result (λ done. WasClosed done.closed) }
+    // Such a database was made for the given tables; any other whose tables are known stood for a content too. Why the files
+    // could not be closed is what they met.
+    ensures closing { IfOk result (λ done. ClosesAs (wanted_of only.entry) (image_at P.Start)
+        done.closed) }
     // Connections are left unread for the observer only if that has stopped, and so is a connection halted.
     ensures asked { IfOk result (λ done. done.read ≡ Err Halt.Observer → W.has_stopped observer.new ≡ true) }
     // Once it has stopped, no further connection is read.
@@ -71,11 +70,9 @@ pub fn replay<P: Start, R: Read + Drop, W: Observer>(
     ensures no_more { IfOk result (λ done. W.has_stopped observer.old ≡ true → length done.ends.items ≤ 1) }
     ensures neither { IfOk result (λ done. All (λ end. MayEnd end.reason (W.has_stopped observer.new)) done.ends.items) }
     // A database that stands for a content is refused only if it was made for other tables, fails, or memory runs out, and is
-    // left with that content.
-    ensures refused { IfErr result (λ e. (names : Names) (content : Content) → FilesHold (only_of only.entry) names content (image_at P.Start)
-        → IsUnopened (is_any only.entry) (only_of only.entry) names content e) }
-    // Any other is refused with its reason and left as it is, and so are files that cannot be opened.
-    ensures turned { IfErr result (IsTurnedBack (is_any only.entry) (only_of only.entry) (image_at P.Start) (λ files. IsFresh true files.log × IsFresh false files.db)) }
+    // left with that content. Any other is refused with its reason and left as it is, and so are files that cannot be opened.
+    ensures turned { IfErr result (IsTurnedAway (wanted_of only.entry) (image_at P.Start)
+        AreFresh) }
     // Then nothing was read or reported.
     ensures untouched { IsErr result → observer.new ≡ observer.old }
 {

@@ -1,5 +1,5 @@
 -- What opening a database comes to.
-use Rattle.std.proofs.Common.{◌≡◌, ◌≢◌, inl, inr, Bool, false, arith, refl, sym, subst, ◌∙◌}
+use Rattle.std.proofs.Common.{◌≡◌, inl, inr, Option, None, Some, IsSome, arith, refl, sym, subst, ◌∙◌}
 use Rattle.sqlite_trees.specs.Tree.{Trees}
 use Rattle.sqlite.specs.Effect.{Database as Stored}
 use Rattle.sqlite.specs.State.{State, Survives, IsUnchanged, HasCleanDisk}
@@ -14,7 +14,7 @@ use Rattle.store.specs.Beside.{LiesBeside}
 use Rattle.store.proofs.Spared.{beside_unchanged}
 use Rattle.store.specs.Apply.{IsAtRest, Rests}
 use Rattle.store.specs.Open.{nothing, all, IsBlank, MayStandFor, MayMigrate}
-use Rattle.store.specs.Entering.{IsReady, IsEntered, IsTurned, IsWanted, MayEnter}
+use Rattle.store.specs.Entering.{IsReady, IsEntered, IsTurned, IsWanted, MayEnter, names_for}
 use Rattle.store.proofs.Counted.{rests_unchanged}
 
 pub weaken : (a b : State) (P Q : Trees → Type 0) → ((db : Trees) → P db → Q db) → Survives a b P → Survives a b Q
@@ -30,13 +30,24 @@ weaken a b P Q f s = record {
 pub blank : (s : State) → IsReady s → IsVacant s.now.schema → IsBlank s
 blank s ready none = record { is_open = ready.is_open; settled = ready.settled; vacant = none }
 
-pub entered_new : (any : Bool) (only following : Names) (executed : Ids) (old new : State) → IsVacant old.now.schema → following ≡ only → executed ≡ nothing.executed → IsAtRest new following nothing × LiesBeside old.now new.now → IsEntered any only old new executed following
-entered_new any only following executed old new none same empty rest = record {
+-- the names that a new database is made for are wanted
+wanted_new : (only : Option Names) (following : Names) → following ≡ names_for only → IsWanted only following
+wanted_new None following same = tt
+wanted_new (Some names) following same = same
+
+-- where some names will not do, others are wanted
+pub some_wanted : (only : Option Names) (names : Names) → (¬ IsWanted only names) → IsSome only
+some_wanted None names other = absurd (other tt)
+some_wanted (Some wanted) names other = refl
+
+pub entered_new : (only : Option Names) (following : Names) (executed : Ids) (old new : State) → IsVacant old.now.schema → following ≡ names_for only → executed ≡ nothing.executed
+    → IsAtRest new following nothing × LiesBeside old.now new.now → IsEntered only old new executed following
+entered_new only following executed old new none same empty rest = record {
   content = nothing;
   of = inl ((none, refl), same);
   rest = rest.0;
   executed_is = empty;
-  wanted = λ _. same;
+  wanted = wanted_new only following same;
   beside = rest.1;
   same = λ l. let bad = sym none.no_meta ∙ l.meta.found.by_name in absurd (cc);
 }
@@ -48,11 +59,11 @@ pub rests_after : (old mid new : State) → IsUnchanged old mid → Rests mid ne
 rests_after old mid new same rests is_open = let r = rests is_open in (r.0 ∙ same.0.now_is, r.1 ∙ same.0.committed_is)
 
 -- ---- layout 1
-module _ (any : Bool) (only following : Names) (executed : Ids) (old mid new : State) where
+module _ (only : Option Names) (following : Names) (executed : Ids) (old mid new : State) where
   stood_first : IsUnchanged old mid → (l : IsFirstLoaded mid executed) → StandsForFirst old.now l.content
   stood_first same l = subst (λ (db : Stored). StandsForFirst db l.content) same.0.now_is l.rest.stands
 
-  pub entered_first : IsUnchanged old mid → (l : IsFirstLoaded mid executed) → following ≡ all → IsWanted any only following → IsAtRest new all l.content × LiesBeside mid.now new.now → IsEntered any only old new executed following
+  pub entered_first : IsUnchanged old mid → (l : IsFirstLoaded mid executed) → following ≡ all → IsWanted only following → IsAtRest new all l.content × LiesBeside mid.now new.now → IsEntered only old new executed following
   entered_first same l is wanted rest = record {
     content = l.content;
     of = inr (inr (is, stood_first same l));
@@ -63,12 +74,12 @@ module _ (any : Bool) (only following : Names) (executed : Ids) (old mid new : S
     same = λ laid. let bad = sym (stood_first same l).laid_out.no_spans ∙ laid.spans.found.by_name in absurd (cc);
   }
 
-  pub other_first : IsUnchanged old mid → IsFirstLoaded mid executed → following ≡ all → (any ≡ false) × (following ≢ only) → IsTurned any only old mid Follows
-  other_first same l is other = ((other.0, following, l.content, inr (is, stood_first same l), other.1), rests_unchanged old mid same)
+  pub other_first : IsUnchanged old mid → IsFirstLoaded mid executed → following ≡ all → (¬ IsWanted only following) → IsTurned only old mid Follows
+  other_first same l is other = ((following, l.content, inr (is, stood_first same l), other), rests_unchanged old mid same)
 
-  pub may_first : Survives old mid (λ _. ⊥) → Survives mid new (MayMigrate mid executed) → (HasCleanDisk mid → IsUnchanged old mid) → (HasCleanDisk mid → IsFirstLoaded mid executed) → Survives old new (MayEnter only old)
+  pub may_first : Survives old mid (λ _. ⊥) → Survives mid new (MayMigrate mid executed) → (HasCleanDisk mid → IsUnchanged old mid) → (HasCleanDisk mid → IsFirstLoaded mid executed) → Survives old new (MayEnter (names_for only) old)
   may_first one two same loaded =
-      survives_then old mid new (λ _. ⊥) (MayMigrate mid executed) (MayEnter only old) (λ _ db none. absurd none)
+      survives_then old mid new (λ _. ⊥) (MayMigrate mid executed) (MayEnter (names_for only) old) (λ _ db none. absurd none)
       (λ clean db may.
       let early : HasCleanDisk mid = omega (arith, two.clean, clean) in
       let l = loaded early in
@@ -76,11 +87,11 @@ module _ (any : Bool) (only following : Names) (executed : Ids) (old mid new : S
       one two
 
 -- ---- layout 2
-module _ (any : Bool) (only following : Names) (executed : Ids) (old new : State) where
+module _ (only : Option Names) (following : Names) (executed : Ids) (old new : State) where
   stood : IsUnchanged old new → (l : IsLoaded new executed following) → StandsFor old.now following l.content
   stood same l = subst (λ (db : Stored). StandsFor db following l.content) same.0.now_is l.rest.stands
 
-  pub entered_second : IsUnchanged old new → IsLoaded new executed following → IsWanted any only following → IsEntered any only old new executed following
+  pub entered_second : IsUnchanged old new → IsLoaded new executed following → IsWanted only following → IsEntered only old new executed following
   entered_second same l wanted = record {
     content = l.content;
     of = inr (inl (stood same l));
@@ -91,5 +102,5 @@ module _ (any : Bool) (only following : Names) (executed : Ids) (old new : State
     same = λ _. same.0.now_is;
   }
 
-  pub other_second : IsUnchanged old new → IsLoaded new executed following → (any ≡ false) × (following ≢ only) → IsTurned any only old new Follows
-  other_second same l other = ((other.0, following, l.content, inl (stood same l), other.1), rests_unchanged old new same)
+  pub other_second : IsUnchanged old new → IsLoaded new executed following → (¬ IsWanted only following) → IsTurned only old new Follows
+  other_second same l other = ((following, l.content, inl (stood same l), other), rests_unchanged old new same)

@@ -1,5 +1,5 @@
 -- Which tables a known schema has, and one reading after another.
-use Rattle.std.proofs.Common.{◌≡◌, ℤ, pos, Bool, true, false, is_some, not, MatchBool, Some, List, ◌||◌, ◌&&◌, arith, refl, sym, ap, subst, ◌∙◌}
+use Rattle.std.proofs.Common.{◌≡◌, ℤ, pos, Bool, true, false, is_some, not, MatchBool, Option, Some, List, ◌||◌, ◌&&◌, arith, refl, sym, ap, subst, ◌∙◌}
 use Rattle.std.proofs.lemmas.Bool.{false≢true, true≢false, and_parts, not-false, not-true}
 use Rattle.sqlite_trees.specs.Tree.{Trees}
 use Rattle.sqlite_schema.specs.declared.schema.Schema.{Schema}
@@ -9,19 +9,19 @@ use Rattle.sqlite.proofs.StateLemmas.{survives_then}
 use Rattle.gtid.specs.Identifier.{Ids}
 use Rattle.binlog.specs.Filter.{Names}
 use Rattle.store.specs.declared.fault.StoreFault.{StoreFault}
-use Rattle.store.specs.declared.tables.Tables.{Tables}
-use Rattle.store.specs.declared.tables.KnownLayout.{KnownLayout}
-use Rattle.store.specs.declared.tables.KnownLayout.TheVariants.{First, Second}
+use Rattle.store.specs.declared.layout.Tables.{Tables}
+use Rattle.store.specs.declared.layout.KnownLayout.{KnownLayout}
+use Rattle.store.specs.declared.layout.KnownLayout.TheVariants.{First, Second}
 use Rattle.store.specs.Layout.{IsFirstLaidOut, HasMeta, IsLaidOut, IsVacant}
 use Rattle.std.specs.List.{AllByRecursion}
 use Rattle.sqlite_value.specs.Order.{Row}
-use Rattle.store.specs.declared.tables.Meta.{Meta}
+use Rattle.store.specs.declared.table.meta.Meta.{Meta}
 use Rattle.store.specs.Judge.{IsMeta, IsOnly, layouts}
 use Rattle.store.specs.Rows.{SaysLayout, meta_rows, IsMetaRow}
 use Rattle.store.specs.Load.{StatesLayout, HasLayout}
 use Rattle.store.specs.Beside.{LiesBeside}
 use Rattle.store.specs.Open.{MayStandFor}
-use Rattle.store.specs.Entering.{IsReady, IsKnown, IsDamaged, lacks_first, lacks_second, breaks_first, breaks_second, blank, first, second, lacking, IsOf, IsWhy, IsEntered, IsTurned, MayEnter, tables_of, has_any, has_first, has_second}
+use Rattle.store.specs.Entering.{IsReady, IsKnown, IsDamaged, lacks_first, lacks_second, breaks_first, breaks_second, blank, first, second, lacking, IsOf, IsWhy, IsEntered, IsTurned, MayEnter, names_for, tables_of, has_any, has_first, has_second}
 use Rattle.store.proofs.Lives.{narrowed}
 use Rattle.store.proofs.Entered.{rests_after, weaken}
 
@@ -72,11 +72,11 @@ ready_after old mid same ready = record {
   known = subst IsKnown (sym same.0.now_is) ready.known;
 }
 
-module _ (any : Bool) (only : Names) (old mid new : State) (same : IsUnchanged old mid) where
-  pub entered_after : (executed : Ids) (names : Names) → IsEntered any only mid new executed names → IsEntered any only old new executed names
+module _ (only : Option Names) (old mid new : State) (same : IsUnchanged old mid) where
+  pub entered_after : (executed : Ids) (names : Names) → IsEntered only mid new executed names → IsEntered only old new executed names
   entered_after executed names e = record {
     content = e.content;
-    of = subst (λ (db : Stored). IsOf only names db e.content) same.0.now_is e.of;
+    of = subst (λ (db : Stored). IsOf (names_for only) names db e.content) same.0.now_is e.of;
     rest = e.rest;
     executed_is = e.executed_is;
     wanted = e.wanted;
@@ -84,8 +84,8 @@ module _ (any : Bool) (only : Names) (old mid new : State) (same : IsUnchanged o
     same = λ laid. e.same (subst (λ (db : Stored). IsLaidOut db.schema) (sym same.0.now_is) laid) ∙ same.0.now_is;
   }
 
-  pub turned_after : (fault : StoreFault) → IsTurned any only mid new fault → IsTurned any only old new fault
-  turned_after fault t = (subst (λ (db : Stored). IsWhy any only db fault) same.0.now_is t.0, rests_after old mid new same t.1)
+  pub turned_after : (fault : StoreFault) → IsTurned only mid new fault → IsTurned only old new fault
+  turned_after fault t = (subst (λ (db : Stored). IsWhy only db fault) same.0.now_is t.0, rests_after old mid new same t.1)
 
 pub may_after : (only : Names) (old mid : State) (db : Trees) → IsUnchanged old mid → MayEnter only mid db → MayEnter only old db
 may_after only old mid db same m = record {

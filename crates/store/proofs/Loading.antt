@@ -20,7 +20,7 @@ use Rattle.binlog.proofs.Admitted.{name_cmp_total, name_cmp-same}
 use Rattle.store.specs.declared.fault.StoreFault.{StoreFault}
 use Rattle.store.specs.declared.fault.StoreFault.TheVariants.{Damaged}
 use Rattle.store.specs.Rows.{alike, HasRowids, IsMetaRow, IsHeldRow, IsFollowRow, IsSpanRow, IsExecutedRow, AreNames, AreSpans, touches, shown_span, span_in, id_in, name_in}
-use Rattle.store.specs.declared.tables.Meta.{Meta}
+use Rattle.store.specs.declared.table.meta.Meta.{Meta}
 use Rattle.store.specs.Judge.{IsMeta}
 use Rattle.store.specs.Load.{Judges, OnSeen}
 use Rattle.store.proofs.Laid.{only_back}

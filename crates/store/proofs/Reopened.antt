@@ -1,5 +1,5 @@
 -- Opening what a crash left.
-use Rattle.std.proofs.Common.{◌≡◌, inl, inr, ℕ, pos, IsTrue, Bool, refl, sym, ap, subst, subst₂, ◌∙◌}
+use Rattle.std.proofs.Common.{◌≡◌, inl, inr, ℕ, pos, IsTrue, Option, refl, sym, ap, subst, subst₂, ◌∙◌}
 use Rattle.std.specs.List.{AllByRecursion}
 use Rattle.std.specs.Option.{option_map}
 use Rattle.std.specs.Prelude.{slice_get, find, ◌==◌, ◌&&◌, not, is_some, false, None, map, codes, List, unwrap_or, option_and_then, IfSome, ◌≢◌}
@@ -21,7 +21,7 @@ use Rattle.store.specs.State.{Content}
 use Rattle.store.specs.Layout.{IsLaidOut, IsFirstLaidOut, IsFound, HasTable, IsApart, IsNoParent, tree_named, meta, executed, held, spans, follow, meta_tree, executed_tree, held_tree, spans_tree, follow_tree}
 use Rattle.store.specs.Rows.{StandsFor, SaysLayout, HasRowids, IsMetaRow, IsHeldRow, IsExecutedRow, id_in, AreNames, AreSpans, span_rows, bag_of, count}
 use Rattle.store.specs.Apply.{AreOf, IsAtRest}
-use Rattle.store.specs.Entering.{IsOf, IsReady, IsRefused, IsTurned, IsLeft, MayEnter}
+use Rattle.store.specs.Entering.{IsOf, IsReady, IsWanted, IsRefused, IsTurned, IsLeft, MayEnter, names_for}
 use Rattle.store.proofs.SameSchema.{tables_again, next_again, vacant_again}
 use Rattle.store.proofs.OneState.{one_of, known_of, not_damaged, not_other}
 use Rattle.store.proofs.Entered.{weaken}
@@ -145,7 +145,7 @@ left_by schema names content trees h only = record {
 
 -- ---- Opening it.
 
-module _ (any : Bool) (only names : Names) (content : Content) (s : State) (is_open : IsTrue s.is_open) (settled : s.now ≡ s.committed) (sound : IsDatabase s.now) (left : IsLeft only names content s.now.trees) where
+module _ (only names : Names) (content : Content) (s : State) (is_open : IsTrue s.is_open) (settled : s.now ≡ s.committed) (sound : IsDatabase s.now) (left : IsLeft only names content s.now.trees) where
   of : IsOf only names s.now content
   of = left_of only names content s.now sound left
 
@@ -169,12 +169,20 @@ module _ (any : Bool) (only names : Names) (content : Content) (s : State) (is_o
   pub survives_again : (new : State) → Survives s new (MayEnter only s) → Survives s new (IsLeft only names content)
   survives_again new h = weaken s new (MayEnter only s) (IsLeft only names content) left_again h
 
-  pub refused_for : (fault : StoreFault) (new : State) → IsTurned any only s new fault → IsRefused any only names fault
-  refused_for (NoSuchRow at) new t = inl t.0
-  refused_for (CountFull at) new t = inl t.0
-  refused_for (Database e) new t = inl tt
-  refused_for Memory new t = inl tt
-  refused_for Damaged new t = inl (not_damaged only s.now names content sound (left_apart only names content s.now sound left) of t.0)
-  refused_for (Layout k) new t = inl (not_other only s.now names content k of t.0)
-  refused_for Broken new t = inl t.0
-  refused_for Follows new t = let one = one_of only s.now t.0.1 names t.0.2 content (inr t.0.3) of in inr (refl, t.0.0, λ same. t.0.4 (one.0 ∙ same))
+pub refused_for : (wanted : Option Names) (names : Names) (content : Content) (s : State) → IsDatabase s.now → IsLeft (names_for wanted) names content s.now.trees
+    → (fault : StoreFault) (new : State) → IsTurned wanted s new fault → IsRefused wanted names fault
+refused_for wanted names content s sound left (NoSuchRow at) new t = inl t.0
+refused_for wanted names content s sound left (CountFull at) new t = inl t.0
+refused_for wanted names content s sound left (Database e) new t = inl tt
+refused_for wanted names content s sound left Memory new t = inl tt
+refused_for wanted names content s sound left Damaged new t =
+    let only = names_for wanted in
+    inl (not_damaged only s.now names content sound (left_apart only names content s.now sound left) (left_of only names content s.now sound left) t.0)
+refused_for wanted names content s sound left (Layout k) new t =
+    let only = names_for wanted in
+    inl (not_other only s.now names content k (left_of only names content s.now sound left) t.0)
+refused_for wanted names content s sound left Broken new t = inl t.0
+refused_for wanted names content s sound left Follows new t =
+    let only = names_for wanted in
+    let one = one_of only s.now t.0.0 names t.0.1 content (inr t.0.2) (left_of only names content s.now sound left) in
+    inr (refl, λ is. t.0.3 (subst (IsWanted wanted) (sym one.0) is))

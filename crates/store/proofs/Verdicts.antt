@@ -11,8 +11,8 @@ use Rattle.sqlite.proofs.Callers.{unchanged_then, begun_plain}
 use Rattle.sqlite.proofs.StateLemmas.{survives_then}
 use Rattle.sqlite_value.specs.Order.{Row}
 use Rattle.sqlite_trees.proofs.ListLemmas.{all-append}
-use Rattle.store.specs.declared.verdict.Verdict.{Verdict}
-use Rattle.store.specs.declared.verdict.Verdict.TheVariants.{Lawful, Unordered, Unlawful}
+use Rattle.store.specs.declared.table.held.Verdict.{Verdict}
+use Rattle.store.specs.declared.table.held.Verdict.TheVariants.{Lawful, Unordered, Unlawful}
 use Rattle.store.specs.Rows.{IsHeldRow, HasRowids}
 use Rattle.store.specs.Judge.{Rise, HasVerdict, HasOrder}
 use Rattle.store.specs.declared.fault.StoreFault.{StoreFault}

@@ -1,5 +1,7 @@
 -- The outcome of opening a database.
-use Rattle.std.specs.Prelude.{◌≡◌, ◌≢◌, ◌⊎◌, ℕ, ℤ, pos, Bool, true, false, ◌&&◌, ◌||◌, is_some, IsTrue, List, codes}
+use Rattle.std.specs.Prelude.{◌≡◌, ◌≢◌, ◌⊎◌, ℕ, ℤ, pos, Bool, true, false, ◌&&◌, ◌||◌, is_some, IsTrue, IfSome, Option, None, Some, List, codes}
+use Rattle.std.specs.Option.{option_copied}
+use Rattle.std.specs.Borrow.{Bor}
 use Rattle.sqlite_schema.specs.declared.schema.Schema.{Schema}
 use Rattle.sqlite_schema.specs.Names.{table_named}
 use Rattle.sqlite_trees.specs.Tree.{Trees}
@@ -9,7 +11,7 @@ use Rattle.gtid.specs.Identifier.{Ids}
 use Rattle.binlog.specs.Filter.{Names}
 use Rattle.store.specs.declared.fault.StoreFault.{StoreFault}
 use Rattle.store.specs.declared.fault.StoreFault.TheVariants.{Database as Db, Memory, Damaged, Layout, Follows}
-use Rattle.store.specs.declared.tables.Tables.{Tables}
+use Rattle.store.specs.declared.layout.Tables.{Tables}
 use Rattle.store.specs.State.{Content}
 use Rattle.store.specs.Layout.{IsVacant, IsFirstLaidOut, HasMeta, IsLaidOut}
 use Rattle.store.specs.Beside.{LiesBeside}
@@ -57,6 +59,21 @@ pub record IsReady (s : State) : Type 0 where
   pub settled : s.now ≡ s.committed
   pub known : IsKnown s.now
 
+-- ---- Which names are wanted.
+
+-- the names that are asked for, if any are
+abbrev pub wanted_of : Option (Bor Names) → Option Names
+wanted_of only = option_copied only
+
+-- the names that a new database is made for: the wanted ones, or those that admit all tables
+abbrev pub names_for : Option Names → Names
+names_for None = all
+names_for (Some names) = names
+
+-- Any names will do, or these alone.
+abbrev pub IsWanted : Option Names → Names → Type 0
+IsWanted wanted names = IfSome wanted (λ only. names ≡ only)
+
 -- ---- What a database stands for.
 
 abbrev pub IsStored : Names → Database → Content → Type 0
@@ -80,39 +97,35 @@ pub data IsDamaged (db : Database) : Type 0 where
 abbrev pub IsOther : Database → ℤ → Type 0
 IsOther db n = ((tables_of db.schema).meta ≡ true) × SaysLayout n (meta_rows db) × (n ≢ pos 1) × (n ≢ pos 2)
 
--- Any names will do, or these alone.
-abbrev pub IsWanted : Bool → Names → Names → Type 0
-IsWanted any only names = any ≡ false → names ≡ only
-
 -- The database has another layout, is damaged, or was made for other names. A failure of the database and running out
 -- of memory have no cause in what the database stands for.
-abbrev pub IsWhy : Bool → Names → Database → StoreFault → Type 0
-IsWhy any only db Damaged = IsDamaged db
-IsWhy any only db (Layout n) = IsOther db n
-IsWhy any only db Follows = (any ≡ false) × (names : Names) × (content : Content) × IsStored names db content × (names ≢ only)
-IsWhy any only db (Db e) = Unit {0}
-IsWhy any only db Memory = Unit {0}
-IsWhy any only db _ = ⊥
+abbrev pub IsWhy : Option Names → Database → StoreFault → Type 0
+IsWhy wanted db Damaged = IsDamaged db
+IsWhy wanted db (Layout n) = IsOther db n
+IsWhy wanted db Follows = (names : Names) × (content : Content) × IsStored names db content × (¬ IsWanted wanted names)
+IsWhy wanted db (Db e) = Unit {0}
+IsWhy wanted db Memory = Unit {0}
+IsWhy wanted db _ = ⊥
 
 -- A database that stands for a content is refused where it failed, memory ran out, or it was made for other names.
-abbrev pub IsRefused : Bool → Names → Names → StoreFault → Type 0
-IsRefused any only names fault = IsFailure fault ⊎ ((fault ≡ Follows) × (any ≡ false) × (names ≢ only))
+abbrev pub IsRefused : Option Names → Names → StoreFault → Type 0
+IsRefused wanted names fault = IsFailure fault ⊎ ((fault ≡ Follows) × (¬ IsWanted wanted names))
 
 -- ---- The outcome.
 
 -- The connection is at rest with what its database stood for, and the set in memory is that of the content. What lies beside is as it was.
-pub record IsEntered (any : Bool) (only : Names) (old new : State) (executed : Ids) (names : Names) : Type 0 where
+pub record IsEntered (only : Option Names) (old new : State) (executed : Ids) (names : Names) : Type 0 where
   pub content : Content
-  pub of : IsOf only names old.now content
+  pub of : IsOf (names_for only) names old.now content
   pub rest : IsAtRest new names content
   pub executed_is : executed ≡ content.executed
-  pub wanted : IsWanted any only names
+  pub wanted : IsWanted only names
   pub beside : LiesBeside old.now new.now
   pub same : IsLaidOut old.now.schema → new.now ≡ old.now
 
 -- It is refused with its reason, and nothing has changed.
-abbrev pub IsTurned : Bool → Names → State → State → StoreFault → Type 0
-IsTurned any only old new fault = IsWhy any only old.now fault × Rests old new
+abbrev pub IsTurned : Option Names → State → State → StoreFault → Type 0
+IsTurned wanted old new fault = IsWhy wanted old.now fault × Rests old new
 
 -- What may be committed stands for the same content as the database did, and what lies beside is as it was.
 pub record MayEnter (only : Names) (old : State) (trees : Trees) : Type 0 where

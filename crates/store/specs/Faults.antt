@@ -1,18 +1,19 @@
 -- Which faults each call reports, whatever the database is.
-use Rattle.std.specs.Prelude.{◌≡◌, Bool, false}
+use Rattle.std.specs.Prelude.{Option, IsSome}
+use Rattle.binlog.specs.Filter.{Names}
 use Rattle.store.specs.declared.fault.StoreFault.{StoreFault}
 use Rattle.store.specs.declared.fault.StoreFault.TheVariants.{NoSuchRow, CountFull, Database, Memory, Damaged, Layout, Broken, Follows}
 
 -- Opening finds that the tables are damaged, of another layout, or made for other names than the given ones, or fails.
-abbrev pub IsOpenFault : Bool → StoreFault → Type 0
-IsOpenFault any (NoSuchRow at) = ⊥
-IsOpenFault any (CountFull at) = ⊥
-IsOpenFault any (Database e) = Unit {0}
-IsOpenFault any Memory = Unit {0}
-IsOpenFault any Damaged = Unit {0}
-IsOpenFault any (Layout n) = Unit {0}
-IsOpenFault any Broken = ⊥
-IsOpenFault any Follows = any ≡ false
+abbrev pub IsOpenFault : Option Names → StoreFault → Type 0
+IsOpenFault wanted (NoSuchRow at) = ⊥
+IsOpenFault wanted (CountFull at) = ⊥
+IsOpenFault wanted (Database e) = Unit {0}
+IsOpenFault wanted Memory = Unit {0}
+IsOpenFault wanted Damaged = Unit {0}
+IsOpenFault wanted (Layout n) = Unit {0}
+IsOpenFault wanted Broken = ⊥
+IsOpenFault wanted Follows = IsSome wanted
 
 -- A transaction is refused at a change, or fails, or the store has failed before.
 abbrev pub IsApplyFault : StoreFault → Type 0

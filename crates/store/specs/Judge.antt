@@ -7,9 +7,9 @@ use Rattle.sqlite_value.specs.Order.{Row, column}
 use Rattle.sqlite_trees.specs.Tree.{rowid}
 use Rattle.gtid.specs.Identifier.{Id}
 use Rattle.gtid.specs.declared.span.Span.{Span}
-use Rattle.store.specs.declared.tables.Meta.{Meta}
-use Rattle.store.specs.declared.verdict.Verdict.{Verdict}
-use Rattle.store.specs.declared.verdict.Verdict.TheVariants.{Lawful, Unordered, Unlawful}
+use Rattle.store.specs.declared.table.meta.Meta.{Meta}
+use Rattle.store.specs.declared.table.held.Verdict.{Verdict}
+use Rattle.store.specs.declared.table.held.Verdict.TheVariants.{Lawful, Unordered, Unlawful}
 use Rattle.store.specs.Rows.{span, is_text, touches, IsMetaRow, IsHeldRow, HasRowids}
 
 -- the span of one GTID

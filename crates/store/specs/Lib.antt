@@ -13,5 +13,6 @@ pub mod Migrating
 pub mod Load
 pub mod Judge
 pub mod Entering
+pub mod Opening
 pub mod Faults
 pub mod AnyOrder

@@ -23,11 +23,11 @@ use Rattle.gtid.specs.Identifier.{Ids}
 use Rattle.binlog.specs.Filter.{Names}
 use Rattle.store.specs.declared.fault.StoreFault.{StoreFault}
 use Rattle.store.specs.declared.fault.StoreFault.TheVariants.{Database, Memory, Damaged}
-use Rattle.store.specs.declared.verdict.Verdict.{Verdict}
+use Rattle.store.specs.declared.table.held.Verdict.{Verdict}
 use Rattle.store.specs.Judge.{HasVerdict}
 use Rattle.store.specs.State.{Content}
-use Rattle.store.specs.declared.tables.KnownLayout.{KnownLayout}
-use Rattle.store.specs.declared.tables.KnownLayout.TheVariants.{First, Second}
+use Rattle.store.specs.declared.layout.KnownLayout.{KnownLayout}
+use Rattle.store.specs.declared.layout.KnownLayout.TheVariants.{First, Second}
 use Rattle.store.specs.Layout.{IsFirstLaidOut, IsLaidOut}
 use Rattle.store.specs.Rows.{SaysLayout, IsMetaRow, HasRowids, meta_rows}
 use Rattle.std.specs.List.{AllByRecursion}

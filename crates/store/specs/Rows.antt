@@ -14,7 +14,7 @@ use Rattle.gtid.specs.Span.{IsLeastList}
 use Rattle.gtid.specs.declared.span.Span.{Span}
 use Rattle.binlog.specs.Filter.{Name, Names}
 use Rattle.gather.specs.Image.{IsSomeImage, image}
-use Rattle.store.specs.declared.held_rows.RowKey.{RowKey}
+use Rattle.store.specs.declared.table.held.RowKey.{RowKey}
 use Rattle.store.specs.State.{TableRow, Bag, Content, has_image}
 use Rattle.store.specs.Changes.{most}
 use Rattle.store.specs.Layout.{IsLaidOut, IsFirstLaidOut, meta_tree, executed_tree, held_tree, spans_tree, follow_tree}

@@ -1,5 +1,5 @@
 -- What a store holds, and the outcome of applying a transaction.
-use Rattle.std.specs.Prelude.{◌≡◌, ◌⊎◌, ℕ, Bool, true, false, IsTrue, MatchBool, Result, Ok, Err}
+use Rattle.std.specs.Prelude.{◌≡◌, ◌⊎◌, ℕ, Bool, true, false, IsTrue, MatchBool, Option, Result, Ok, Err}
 use Rattle.sqlite_trees.specs.declared.store.Store.{Ghosts}
 use Rattle.sqlite_trees.specs.Tree.{Trees}
 use Rattle.sqlite_schema.specs.declared.schema.Schema.{Schema}
@@ -18,7 +18,7 @@ use Rattle.store.specs.State.{Content, TableRow}
 use Rattle.store.specs.Changes.{HasOutcome, is_executed, done, repeat, refused, adopted}
 use Rattle.store.specs.Apply.{IsAtRest, IsApplied}
 pub use Rattle.store.specs.Apply.{AreOf}
-use Rattle.store.specs.Entering.{IsOf, IsWanted}
+use Rattle.store.specs.Entering.{IsOf, IsWanted, names_for}
 
 module _ {S : Type 0} (g : Ghosts S) where
   -- the connection of a store, and its database
@@ -110,10 +110,10 @@ module _ {S : Type 0} (g : Ghosts S) where
   AdoptsShut content new _ = ⊥
 
   -- The store holds what the database stood for.
-  pub record Opens (any : Bool) (only : Names) (old : State) (store : Store S g) : Type 0 where
+  pub record Opens (only : Option Names) (old : State) (store : Store S g) : Type 0 where
     pub content : Content
-    pub of : IsOf only store.following old.now content
-    pub wanted : IsWanted any only store.following
+    pub of : IsOf (names_for only) store.following old.now content
+    pub wanted : IsWanted only store.following
     pub holds : Holds store content
 
 -- What a crash leaves of a transaction that a store has applied.

@@ -15,8 +15,8 @@ ghost use Rattle.store.specs.Store.{Holds, Keeps, Adopts, AdoptsShut, LeavesAdop
 ghost use Rattle.store.specs.declared.fault.StoreFault.TheVariants.{Broken};
 
 use crate::fault::StoreFault;
-use crate::span_lists::replace_all;
 use crate::store::Store;
+use crate::table::spans::replace_all;
 use gtid::{GtidFault, GtidSet};
 use sqlite::{Alter, Connection, Error};
 

@@ -15,7 +15,7 @@ ghost use Rattle.store.specs.Apply.{Fills, IsAtRest, Runs, MayCommit};
 
 use crate::inserts::try_sorted;
 use crate::row_change::{Refusal, make_all};
-use crate::span_rows::record;
+use crate::table::spans::record;
 use binlog::Follow;
 use gather::Delivery;
 use gtid::Beside;

@@ -1,64 +1,19 @@
 //! The number of copies of a row.
 
-ghost use Rattle.std.specs.Prelude.{◌≡◌, ◌<◌, ◌^◌, false, Err, IfOk, IfErr, OnOk, IsPermutation, map, filter, [], ◌∷◌, IsTrue};
-ghost use Rattle.sqlite.specs.State.{HasCleanDisk, Survives, IsUnchanged};
-ghost use Rattle.sqlite.specs.Held.{state};
-ghost use Rattle.sqlite_value.specs.Order.{column};
+ghost use Rattle.std.specs.Prelude.{◌≡◌, ◌<◌, ◌^◌, false, Err, IfOk, IfErr, IsTrue};
+ghost use Rattle.sqlite.specs.State.{HasCleanDisk};
 ghost use Rattle.store.specs.State.{Content, row_of};
-ghost use Rattle.store.specs.Layout.{IsLaidOut};
-ghost use Rattle.store.specs.Rows.{key_in, is_at, held_rows, count};
-ghost use Rattle.store.specs.Inside.{WasOpen};
-ghost use Rattle.store.specs.Apply.{SparesBeside, Rests};
+ghost use Rattle.store.specs.Rows.{count};
+ghost use Rattle.store.specs.Apply.{SparesBeside};
 ghost use Rattle.store.specs.Faults.{IsReadFault};
 ghost use Rattle.store.specs.Store.{Holds, Keeps, Counts, ReadsShut, AreOf, database, names_of, IsBroken};
 ghost use Rattle.store.specs.declared.fault.StoreFault.TheVariants.{Broken};
 
 use crate::fault::StoreFault;
-use crate::held_rows::{RowKey, one_count};
 use crate::store::Store;
+use crate::table::held::{RowKey, count};
 use gather::Image;
-use sqlite::types::ValueRef;
-use sqlite::{Alter, Connection, Error, Row};
-
-/// The rows with the count of a key: one, or none.
-fn find<S: Alter>(conn: &mut Connection<S>, row: &RowKey<'_>) -> Result<Vec<Row>, Error>
-    requires { conn.old.in_transaction ≡ false }
-    ensures autocommit { conn.new.in_transaction ≡ false }
-    ensures shown { HasCleanDisk (state S.Store conn.new) → IsLaidOut (state S.Store conn.old).now.schema → IfOk result (λ rows. IsPermutation (map (λ r. column r 4 ∷ []) (filter (is_at (key_in row.now)) (held_rows (state S.Store conn.old).now))) rows.items) }
-    ensures same { HasCleanDisk (state S.Store conn.new) → IsLaidOut (state S.Store conn.old).now.schema → OnOk result (IsUnchanged (state S.Store conn.old) (state S.Store conn.new)) }
-    ensures rests { HasCleanDisk (state S.Store conn.new) → IsLaidOut (state S.Store conn.old).now.schema → (state S.Store conn.old).now ≡ (state S.Store conn.old).committed → Rests (state S.Store conn.old) (state S.Store conn.new) }
-    ensures survives { IsLaidOut (state S.Store conn.old).now.schema → Survives (state S.Store conn.old) (state S.Store conn.new) (λ _. ⊥) }
-    ensures opened { HasCleanDisk (state S.Store conn.new) → WasOpen (state S.Store conn.old) (state S.Store conn.new) }
-    ensures live { HasCleanDisk (state S.Store conn.new) → OnOk result (IsTrue (state S.Store conn.old).is_open) }
-    ensures clean { HasCleanDisk (state S.Store conn.new) → HasCleanDisk (state S.Store conn.old) }
-{
-    conn.query_all(
-        "SELECT n FROM held WHERE schema_name = ?1 AND table_name = ?2 AND image = ?3",
-        &[
-            ValueRef::Blob(row.schema),
-            ValueRef::Blob(row.table),
-            ValueRef::Blob(row.image),
-        ],
-    )
-}
-
-/// The number of copies of a row that is stored; 0 if it is not there.
-fn count<S: Alter>(conn: &mut Connection<S>, row: &RowKey<'_>) -> Result<u64, Error>
-    requires { conn.old.in_transaction ≡ false }
-    ensures autocommit { conn.new.in_transaction ≡ false }
-    ensures counts { HasCleanDisk (state S.Store conn.new) → IsLaidOut (state S.Store conn.old).now.schema → IfOk result (λ n. n ≡ count (held_rows (state S.Store conn.old).now) (key_in row.now)) }
-    ensures fits { IfOk result (λ n. n < 2 ^ 63) }
-    ensures same { HasCleanDisk (state S.Store conn.new) → IsLaidOut (state S.Store conn.old).now.schema → OnOk result (IsUnchanged (state S.Store conn.old) (state S.Store conn.new)) }
-    ensures rests { HasCleanDisk (state S.Store conn.new) → IsLaidOut (state S.Store conn.old).now.schema → (state S.Store conn.old).now ≡ (state S.Store conn.old).committed → Rests (state S.Store conn.old) (state S.Store conn.new) }
-    ensures survives { IsLaidOut (state S.Store conn.old).now.schema → Survives (state S.Store conn.old) (state S.Store conn.new) (λ _. ⊥) }
-    ensures opened { HasCleanDisk (state S.Store conn.new) → WasOpen (state S.Store conn.old) (state S.Store conn.new) }
-    ensures live { HasCleanDisk (state S.Store conn.new) → OnOk result (IsTrue (state S.Store conn.old).is_open) }
-    ensures clean { HasCleanDisk (state S.Store conn.new) → HasCleanDisk (state S.Store conn.old) }
-{
-    let rows = find(conn, row)?;
-    let found = one_count(rows.as_slice())?;
-    Ok(found.unwrap_or(0))
-}
+use sqlite::Alter;
 
 impl<S: Alter> Store<S> {
     /// The number of copies of a row in a table, at most 2^63 - 1; 0 if it is not there. Nothing changes, and the store

@@ -17,9 +17,9 @@ ghost use Rattle.store.specs.Inside.{IsWorking, WasOpen, Adds, Stays};
 ghost use Rattle.store.specs.Apply.{Fills, IsAtRest, Rests};
 ghost use Rattle.store.specs.AnyOrder.{AddsRow, AddsRows, AreInserts, Tries, MayTry};
 
-use crate::held_rows::{RowKey, insert_eight};
 use crate::row_change::add;
-use crate::span_rows::record;
+use crate::table::held::{RowKey, insert_eight};
+use crate::table::spans::record;
 use binlog::Follow;
 use gather::{Change, Changes, Delivery};
 use gtid::Beside;

@@ -2,10 +2,10 @@
 //!
 //! [`Store::open`] is given a connection in autocommit mode (see `Connection::is_autocommit`). It makes the tables of a
 //! new database, reads those of an existing one, and migrates those of layout 1. [`Store::open_only`] does so with a
-//! filter, and then only the rows of the tables that it admits are kept. [`Store::apply`] applies a transaction of the
-//! source, a [`Delivery`](gather::Delivery): its changes and its GTID go into the database together, or not at all.
-//! [`Applied`] says whether the transaction was new. [`Store::adopt`] adds a set to the executed set, for rows that
-//! contain its transactions already.
+//! filter, and then only the rows of the tables that it admits are kept; [`Store::open_for`] does one or the other.
+//! [`Store::apply`] applies a transaction of the source, a [`Delivery`](gather::Delivery): its changes and its GTID go
+//! into the database together, or not at all. [`Applied`] says whether the transaction was new. [`Store::adopt`] adds a
+//! set to the executed set, for rows that contain its transactions already.
 //!
 //! Rows are kept as a bag: each row with the number of its copies. [`Store::count`] returns that number for one row,
 //! and [`Store::list`] hands all rows in order to a [`Visitor`], each as a [`Listed`]. [`Store::executed`] is the executed
@@ -26,24 +26,21 @@ mod apply;
 mod changes;
 mod contents;
 mod counting;
+mod damage;
 mod fault;
-mod held_rows;
 mod inserts;
 pub mod laws;
+mod layout;
 mod listing;
 mod load;
 mod make;
 mod migrate;
 mod opening;
 mod row_change;
-mod rules;
-mod span_lists;
-mod span_rows;
 mod store;
-mod table_rows;
-mod tables;
-mod verdict;
+mod table;
 
+pub use damage::Damage;
 pub use fault::{Applied, StoreFault};
 pub use listing::{ListError, Listed, Visitor};
 pub use store::Store;

@@ -17,8 +17,8 @@ ghost use Rattle.store.specs.Listing.{Entry, entry_of, shown_entry, HasKey, Give
 ghost use Rattle.store.specs.declared.fault.StoreFault.TheVariants.{Broken};
 
 use crate::fault::StoreFault;
-use crate::held_rows::RowKey;
 use crate::store::Store;
+use crate::table::held::RowKey;
 use gather::ImageRef;
 use sqlite::types::ValueRef;
 use sqlite::{Alter, Connection, Error, ErrorCode, Row, Rows};

@@ -1,6 +1,6 @@
 //! Migration from layout 1 to layout 2.
 
-ghost use Rattle.std.specs.Prelude.{◌≡◌, false, pos, [], OnOk, OnErr};
+ghost use Rattle.std.specs.Prelude.{◌≡◌, false, pos, OnOk, OnErr};
 ghost use Rattle.sqlite.specs.State.{HasCleanDisk, Survives, KeepsCommit};
 ghost use Rattle.sqlite.specs.Held.{state};
 ghost use Rattle.store.specs.State.{Content};
@@ -9,31 +9,14 @@ ghost use Rattle.store.specs.Beside.{LiesBeside};
 ghost use Rattle.store.specs.Apply.{IsAtRest, Rests};
 ghost use Rattle.store.specs.Open.{all, IsFirstAtRest, MayMigrate};
 ghost use Rattle.store.specs.Making.{HasMade};
-ghost use Rattle.store.specs.Migrating.{HasTables, HasBare, IsFirstInside, IsMigrating};
+ghost use Rattle.store.specs.Migrating.{HasBare, IsFirstInside, IsMigrating};
 
-use crate::make::{make_follow, make_spans};
-use crate::span_lists::add_all;
+use crate::table::executed::drop_executed;
+use crate::table::follow::make_follow;
+use crate::table::meta::raise_layout;
+use crate::table::spans::{add_all, make_spans};
 use gtid::GtidSet;
 use sqlite::{Alter, Connection, Error, Transaction};
-
-fn drop_executed<S: Alter>(tx: &mut Transaction<'_, S>) -> Result<usize, Error>
-    ensures same_reference { tx.new.conn.ghost_name ≡ tx.old.conn.ghost_name }
-    ensures migrated { HasCleanDisk (state S.Store tx.new.conn.now) → (content : Content) → IsFirstInside content (state S.Store tx.old.conn.now) → OnOk result (IsMigrating (HasTables []) (pos 1) content (state S.Store tx.new.conn.now)) }
-    ensures kept { HasCleanDisk (state S.Store tx.new.conn.now) → (content : Content) → IsFirstInside content (state S.Store tx.old.conn.now) → KeepsCommit (state S.Store tx.old.conn.now) (state S.Store tx.new.conn.now) }
-    ensures survives { Survives (state S.Store tx.old.conn.now) (state S.Store tx.new.conn.now) (λ _. ⊥) }
-{
-    tx.execute("DROP TABLE executed", &[])
-}
-
-/// Records that the tables have layout 2. Other rows of `meta` stay.
-fn raise_layout<S: Alter>(tx: &mut Transaction<'_, S>) -> Result<usize, Error>
-    ensures same_reference { tx.new.conn.ghost_name ≡ tx.old.conn.ghost_name }
-    ensures migrated { HasCleanDisk (state S.Store tx.new.conn.now) → (content : Content) → IsMigrating HasBare (pos 1) content (state S.Store tx.old.conn.now) → OnOk result (IsMigrating HasBare (pos 2) content (state S.Store tx.new.conn.now)) }
-    ensures kept { HasCleanDisk (state S.Store tx.new.conn.now) → (content : Content) → IsMigrating HasBare (pos 1) content (state S.Store tx.old.conn.now) → KeepsCommit (state S.Store tx.old.conn.now) (state S.Store tx.new.conn.now) }
-    ensures survives { Survives (state S.Store tx.old.conn.now) (state S.Store tx.new.conn.now) (λ _. ⊥) }
-{
-    tx.execute("UPDATE meta SET v = 2 WHERE k = 'layout'", &[])
-}
 
 /// Changes the tables to those of layout 2, without spans.
 fn change_tables<S: Alter>(tx: &mut Transaction<'_, S>) -> Result<(), Error>

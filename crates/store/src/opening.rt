@@ -1,6 +1,6 @@
 //! Opening a database.
 
-ghost use Rattle.std.specs.Prelude.{◌≡◌, ◌≢◌, Bool, false, true, pos, Err, IfOk, IfErr, IsTrue, MatchResult};
+ghost use Rattle.std.specs.Prelude.{◌≡◌, Option, true, false, pos, None, Some, Err, IfOk, IfErr, IsTrue, MatchResult};
 ghost use Rattle.sqlite.specs.State.{HasCleanDisk, IsLive, Survives};
 ghost use Rattle.sqlite.specs.Held.{state};
 ghost use Rattle.store.specs.declared.fault.StoreFault.TheVariants.{Memory, Damaged};
@@ -9,20 +9,18 @@ ghost use Rattle.sqlite.specs.Effect.{Database as Stored};
 ghost use Rattle.store.specs.Judge.{IsMeta};
 ghost use Rattle.store.specs.Rows.{meta_rows};
 ghost use Rattle.store.specs.Load.{StatesLayout, HasLayout};
-ghost use Rattle.store.specs.Beside.{LiesBeside};
-ghost use Rattle.store.specs.Open.{all};
-ghost use Rattle.store.specs.Store.{Holds, Opens, database, names_of};
 ghost use Rattle.binlog.specs.Filter.{Names};
-ghost use Rattle.store.specs.State.{Content};
-ghost use Rattle.store.specs.Faults.{IsOpenFault, IsFailure};
-ghost use Rattle.store.specs.Entering.{IsReady, IsKnown, IsWhy, IsLeft, ReadsLeft, IsEntered, IsRefused, IsTurned, IsWanted, MayEnter, tables_of, has_any, has_first, has_second};
+ghost use Rattle.store.specs.Faults.{IsOpenFault};
+ghost use Rattle.store.specs.Entering.{IsReady, IsKnown, IsWhy, IsEntered, IsTurned, IsWanted, MayEnter, wanted_of, names_for, tables_of, has_any, has_first, has_second};
+ghost use Rattle.store.specs.Opening.{IsOpenedFor};
 
 use crate::fault::StoreFault;
-use crate::load::{Loaded, load, load_first, read_meta};
+use crate::layout::{KnownLayout, Tables};
+use crate::load::{Loaded, load, load_first};
 use crate::make::make;
 use crate::migrate::migrate;
 use crate::store::Store;
-use crate::tables::{KnownLayout, Meta, Tables};
+use crate::table::meta::{Meta, read_meta};
 use binlog::Follow;
 use gtid::GtidSet;
 use sqlite::{Alter, Connection};
@@ -42,25 +40,28 @@ fn tables_of(schema: &Schema) -> Tables
     }
 }
 
-/// A copy of a filter.
-fn copy(alloc: Global, filter: &Follow) -> Result<Follow, StoreFault>
-    ensures ok { IfOk result (λ copied. copied ≡ filter.now) }
+/// The filter that a new database is made for: a copy of the given one, or the one that admits all tables.
+fn names_for(alloc: Global, only: Option<&Follow>) -> Result<Follow, StoreFault>
+    ensures ok { IfOk result (λ names. names ≡ names_for (wanted_of only.entry)) }
     ensures err { IfErr result (λ fault. fault ≡ Memory) }
 {
-    match Follow::new(alloc, filter.names()) {
+    let Some(only) = only else {
+        return Ok(Follow::all(alloc));
+    };
+    match Follow::new(alloc, only.names()) {
         Ok(copied) => Ok(copied),
         Err(_) => Err(StoreFault::Memory),
     }
 }
 
-/// Whether these names differ from `only`. If `any`, all names will do.
-fn differs(following: &Follow, any: bool, only: &Follow) -> bool
-    ensures other { IsTrue result → (any ≡ false) × (following.now ≢ only.now) }
-    ensures wanted { result ≡ false → IsWanted any only.now following.now }
+/// Whether other names than these are wanted.
+fn differs(following: &Follow, only: Option<&Follow>) -> bool
+    ensures other { IsTrue result → ¬ IsWanted (wanted_of only.entry) following.now }
+    ensures wanted { result ≡ false → IsWanted (wanted_of only.entry) following.now }
 {
-    if any {
+    let Some(only) = only else {
         return false;
-    }
+    };
     !following.is_same(only)
 }
 
@@ -68,18 +69,26 @@ fn differs(following: &Follow, any: bool, only: &Follow) -> bool
 fn enter_new<S: Alter>(
     alloc: Global,
     conn: &mut Connection<S>,
-    any: bool,
-    only: &Follow,
+    only: Option<&Follow>,
 ) -> Result<Loaded, StoreFault>
     requires { conn.old.in_transaction ≡ false }
     ensures autocommit { conn.new.in_transaction ≡ false }
-    ensures entered { HasCleanDisk (state S.Store conn.new) → IsReady (state S.Store conn.old) → IsVacant (state S.Store conn.old).now.schema → IfOk result (λ l. IsEntered any only.now (state S.Store conn.old) (state S.Store conn.new) l.executed l.following) }
-    ensures turned { HasCleanDisk (state S.Store conn.new) → IsReady (state S.Store conn.old) → IsVacant (state S.Store conn.old).now.schema → IfErr result (IsTurned any only.now (state S.Store conn.old) (state S.Store conn.new)) }
-    ensures crash { IsReady (state S.Store conn.old) → IsVacant (state S.Store conn.old).now.schema → Survives (state S.Store conn.old) (state S.Store conn.new) (MayEnter only.now (state S.Store conn.old)) }
-    ensures fault { IfErr result (IsOpenFault any) }
+    ensures entered { HasCleanDisk (state S.Store conn.new) → IsReady (state S.Store conn.old)
+        → IsVacant (state S.Store conn.old).now.schema
+        → IfOk result (λ l. IsEntered (wanted_of only.entry) (state S.Store conn.old)
+        (state S.Store conn.new) l.executed l.following) }
+    ensures turned { HasCleanDisk (state S.Store conn.new) → IsReady (state S.Store conn.old)
+        → IsVacant (state S.Store conn.old).now.schema
+        → IfErr result (IsTurned (wanted_of only.entry) (state S.Store conn.old)
+        (state S.Store conn.new)) }
+    ensures crash { IsReady (state S.Store conn.old)
+        → IsVacant (state S.Store conn.old).now.schema
+        → Survives (state S.Store conn.old) (state S.Store conn.new)
+        (MayEnter (names_for (wanted_of only.entry)) (state S.Store conn.old)) }
+    ensures fault { IfErr result (IsOpenFault (wanted_of only.entry)) }
     ensures clean { HasCleanDisk (state S.Store conn.new) → HasCleanDisk (state S.Store conn.old) }
 {
-    let following = copy(alloc, only)?;
+    let following = names_for(alloc, only)?;
     make(conn, &following)?;
     Ok(Loaded {
         executed: GtidSet::new(alloc),
@@ -91,20 +100,32 @@ fn enter_new<S: Alter>(
 fn enter_first<S: Alter>(
     alloc: Global,
     conn: &mut Connection<S>,
-    any: bool,
-    only: &Follow,
+    only: Option<&Follow>,
 ) -> Result<Loaded, StoreFault>
     requires { conn.old.in_transaction ≡ false }
     ensures autocommit { conn.new.in_transaction ≡ false }
-    ensures entered { HasCleanDisk (state S.Store conn.new) → IsReady (state S.Store conn.old) → IsFirstLaidOut (state S.Store conn.old).now.schema → StatesLayout (pos 1) (meta_rows (state S.Store conn.old).now) → IfOk result (λ l. IsEntered any only.now (state S.Store conn.old) (state S.Store conn.new) l.executed l.following) }
-    ensures turned { HasCleanDisk (state S.Store conn.new) → IsReady (state S.Store conn.old) → IsFirstLaidOut (state S.Store conn.old).now.schema → StatesLayout (pos 1) (meta_rows (state S.Store conn.old).now) → (tables_of (state S.Store conn.old).now.schema).meta ≡ true → IfErr result (IsTurned any only.now (state S.Store conn.old) (state S.Store conn.new)) }
+    ensures entered { HasCleanDisk (state S.Store conn.new) → IsReady (state S.Store conn.old)
+        → IsFirstLaidOut (state S.Store conn.old).now.schema
+        → StatesLayout (pos 1) (meta_rows (state S.Store conn.old).now)
+        → IfOk result (λ l. IsEntered (wanted_of only.entry) (state S.Store conn.old)
+        (state S.Store conn.new) l.executed l.following) }
+    ensures turned { HasCleanDisk (state S.Store conn.new) → IsReady (state S.Store conn.old)
+        → IsFirstLaidOut (state S.Store conn.old).now.schema
+        → StatesLayout (pos 1) (meta_rows (state S.Store conn.old).now)
+        → (tables_of (state S.Store conn.old).now.schema).meta ≡ true
+        → IfErr result (IsTurned (wanted_of only.entry) (state S.Store conn.old)
+        (state S.Store conn.new)) }
     ensures lives { Survives (state S.Store conn.old) (state S.Store conn.new) (λ _. Unit {0}) }
-    ensures crash { IsReady (state S.Store conn.old) → IsFirstLaidOut (state S.Store conn.old).now.schema → StatesLayout (pos 1) (meta_rows (state S.Store conn.old).now) → Survives (state S.Store conn.old) (state S.Store conn.new) (MayEnter only.now (state S.Store conn.old)) }
-    ensures fault { IfErr result (IsOpenFault any) }
+    ensures crash { IsReady (state S.Store conn.old)
+        → IsFirstLaidOut (state S.Store conn.old).now.schema
+        → StatesLayout (pos 1) (meta_rows (state S.Store conn.old).now)
+        → Survives (state S.Store conn.old) (state S.Store conn.new)
+        (MayEnter (names_for (wanted_of only.entry)) (state S.Store conn.old)) }
+    ensures fault { IfErr result (IsOpenFault (wanted_of only.entry)) }
 {
     let executed = load_first(alloc, conn)?;
     let following = Follow::all(alloc);
-    if differs(&following, any, only) {
+    if differs(&following, only) {
         return Err(StoreFault::Follows);
     }
     match migrate(conn, &executed) {
@@ -120,19 +141,28 @@ fn enter_first<S: Alter>(
 fn enter_second<S: Alter>(
     alloc: Global,
     conn: &mut Connection<S>,
-    any: bool,
-    only: &Follow,
+    only: Option<&Follow>,
 ) -> Result<Loaded, StoreFault>
     requires { conn.old.in_transaction ≡ false }
     ensures autocommit { conn.new.in_transaction ≡ false }
-    ensures entered { HasCleanDisk (state S.Store conn.new) → IsReady (state S.Store conn.old) → IsLaidOut (state S.Store conn.old).now.schema → StatesLayout (pos 2) (meta_rows (state S.Store conn.old).now) → IfOk result (λ l. IsEntered any only.now (state S.Store conn.old) (state S.Store conn.new) l.executed l.following) }
-    ensures turned { HasCleanDisk (state S.Store conn.new) → IsReady (state S.Store conn.old) → IsLaidOut (state S.Store conn.old).now.schema → StatesLayout (pos 2) (meta_rows (state S.Store conn.old).now) → (tables_of (state S.Store conn.old).now.schema).meta ≡ true → IfErr result (IsTurned any only.now (state S.Store conn.old) (state S.Store conn.new)) }
+    ensures entered { HasCleanDisk (state S.Store conn.new) → IsReady (state S.Store conn.old)
+        → IsLaidOut (state S.Store conn.old).now.schema
+        → StatesLayout (pos 2) (meta_rows (state S.Store conn.old).now)
+        → IfOk result (λ l. IsEntered (wanted_of only.entry) (state S.Store conn.old)
+        (state S.Store conn.new) l.executed l.following) }
+    ensures turned { HasCleanDisk (state S.Store conn.new) → IsReady (state S.Store conn.old)
+        → IsLaidOut (state S.Store conn.old).now.schema
+        → StatesLayout (pos 2) (meta_rows (state S.Store conn.old).now)
+        → (tables_of (state S.Store conn.old).now.schema).meta ≡ true
+        → IfErr result (IsTurned (wanted_of only.entry) (state S.Store conn.old)
+        (state S.Store conn.new)) }
     ensures lives { Survives (state S.Store conn.old) (state S.Store conn.new) (λ _. Unit {0}) }
-    ensures crash { IsLaidOut (state S.Store conn.old).now.schema → Survives (state S.Store conn.old) (state S.Store conn.new) (λ _. ⊥) }
-    ensures fault { IfErr result (IsOpenFault any) }
+    ensures crash { IsLaidOut (state S.Store conn.old).now.schema
+        → Survives (state S.Store conn.old) (state S.Store conn.new) (λ _. ⊥) }
+    ensures fault { IfErr result (IsOpenFault (wanted_of only.entry)) }
 {
     let loaded = load(alloc, conn)?;
-    if differs(&loaded.following, any, only) {
+    if differs(&loaded.following, only) {
         return Err(StoreFault::Follows);
     }
     Ok(loaded)
@@ -154,8 +184,11 @@ fn has_second(tables: Tables) -> bool
 
 /// The layout of a database with these tables, `meta` among them, or why it is refused.
 fn layout_of(tables: Tables, meta: Meta) -> Result<KnownLayout, StoreFault>
-    ensures judged { (db : Stored) → IsKnown db → IsMeta (meta_rows db) meta → tables ≡ tables_of db.schema → tables.meta ≡ true → MatchResult result (HasLayout db) (λ fault. (any : Bool) → (only : Names) → IsWhy any only db fault) }
-    ensures fault { (any : Bool) → IfErr result (IsOpenFault any) }
+    ensures judged { (db : Stored) → IsKnown db → IsMeta (meta_rows db) meta
+        → tables ≡ tables_of db.schema → tables.meta ≡ true
+        → MatchResult result (HasLayout db)
+        (λ fault. (wanted : Option Names) → IsWhy wanted db fault) }
+    ensures fault { (wanted : Option Names) → IfErr result (IsOpenFault wanted) }
 {
     match meta.layout {
         Some(1) => {
@@ -186,49 +219,64 @@ fn enter_old<S: Alter>(
     alloc: Global,
     conn: &mut Connection<S>,
     tables: Tables,
-    any: bool,
-    only: &Follow,
+    only: Option<&Follow>,
 ) -> Result<Loaded, StoreFault>
     requires { conn.old.in_transaction ≡ false }
     ensures autocommit { conn.new.in_transaction ≡ false }
-    ensures entered { HasCleanDisk (state S.Store conn.new) → IsReady (state S.Store conn.old) → tables ≡ tables_of (state S.Store conn.old).now.schema → tables.meta ≡ true → IfOk result (λ l. IsEntered any only.now (state S.Store conn.old) (state S.Store conn.new) l.executed l.following) }
-    ensures turned { HasCleanDisk (state S.Store conn.new) → IsReady (state S.Store conn.old) → tables ≡ tables_of (state S.Store conn.old).now.schema → tables.meta ≡ true → IfErr result (IsTurned any only.now (state S.Store conn.old) (state S.Store conn.new)) }
-    ensures crash { IsReady (state S.Store conn.old) → tables ≡ tables_of (state S.Store conn.old).now.schema → tables.meta ≡ true → Survives (state S.Store conn.old) (state S.Store conn.new) (MayEnter only.now (state S.Store conn.old)) }
-    ensures fault { IfErr result (IsOpenFault any) }
+    ensures entered { HasCleanDisk (state S.Store conn.new) → IsReady (state S.Store conn.old)
+        → tables ≡ tables_of (state S.Store conn.old).now.schema → tables.meta ≡ true
+        → IfOk result (λ l. IsEntered (wanted_of only.entry) (state S.Store conn.old)
+        (state S.Store conn.new) l.executed l.following) }
+    ensures turned { HasCleanDisk (state S.Store conn.new) → IsReady (state S.Store conn.old)
+        → tables ≡ tables_of (state S.Store conn.old).now.schema → tables.meta ≡ true
+        → IfErr result (IsTurned (wanted_of only.entry) (state S.Store conn.old)
+        (state S.Store conn.new)) }
+    ensures crash { IsReady (state S.Store conn.old)
+        → tables ≡ tables_of (state S.Store conn.old).now.schema → tables.meta ≡ true
+        → Survives (state S.Store conn.old) (state S.Store conn.new)
+        (MayEnter (names_for (wanted_of only.entry)) (state S.Store conn.old)) }
+    ensures fault { IfErr result (IsOpenFault (wanted_of only.entry)) }
     ensures clean { HasCleanDisk (state S.Store conn.new) → HasCleanDisk (state S.Store conn.old) }
 {
     let meta = read_meta(conn)?;
     match layout_of(tables, meta)? {
-        KnownLayout::First => enter_first(alloc, conn, any, only),
-        KnownLayout::Second => enter_second(alloc, conn, any, only),
+        KnownLayout::First => enter_first(alloc, conn, only),
+        KnownLayout::Second => enter_second(alloc, conn, only),
     }
 }
 
-/// Opens a database, and returns what its rows stand for. `any` accepts any filter, otherwise it must be `only`.
+/// Opens a database, and returns what its rows stand for. Its filter must be `only`, if there is one.
 fn enter<S: Alter>(
     alloc: Global,
     conn: &mut Connection<S>,
-    any: bool,
-    only: &Follow,
+    only: Option<&Follow>,
 ) -> Result<Loaded, StoreFault>
     requires { conn.old.in_transaction ≡ false }
     ensures autocommit { conn.new.in_transaction ≡ false }
-    ensures entered { HasCleanDisk (state S.Store conn.new) → IsReady (state S.Store conn.old) → IfOk result (λ l. IsEntered any only.now (state S.Store conn.old) (state S.Store conn.new) l.executed l.following) }
-    ensures turned { HasCleanDisk (state S.Store conn.new) → IsReady (state S.Store conn.old) → IfErr result (IsTurned any only.now (state S.Store conn.old) (state S.Store conn.new)) }
-    ensures headless { (tables_of (state S.Store conn.old).now.schema).meta ≡ false → has_any (tables_of (state S.Store conn.old).now.schema) ≡ true → (result ≡ Err Damaged) × (conn.new ≡ conn.old) }
-    ensures crash { IsReady (state S.Store conn.old) → Survives (state S.Store conn.old) (state S.Store conn.new) (MayEnter only.now (state S.Store conn.old)) }
+    ensures entered { HasCleanDisk (state S.Store conn.new) → IsReady (state S.Store conn.old)
+        → IfOk result (λ l. IsEntered (wanted_of only.entry) (state S.Store conn.old)
+        (state S.Store conn.new) l.executed l.following) }
+    ensures turned { HasCleanDisk (state S.Store conn.new) → IsReady (state S.Store conn.old)
+        → IfErr result (IsTurned (wanted_of only.entry) (state S.Store conn.old)
+        (state S.Store conn.new)) }
+    ensures headless { (tables_of (state S.Store conn.old).now.schema).meta ≡ false
+        → has_any (tables_of (state S.Store conn.old).now.schema) ≡ true
+        → (result ≡ Err Damaged) × (conn.new ≡ conn.old) }
+    ensures crash { IsReady (state S.Store conn.old)
+        → Survives (state S.Store conn.old) (state S.Store conn.new)
+        (MayEnter (names_for (wanted_of only.entry)) (state S.Store conn.old)) }
     ensures live { IsLive (state S.Store conn.old) }
-    ensures fault { IfErr result (IsOpenFault any) }
+    ensures fault { IfErr result (IsOpenFault (wanted_of only.entry)) }
     ensures clean { HasCleanDisk (state S.Store conn.new) → HasCleanDisk (state S.Store conn.old) }
 {
     let tables = tables_of(conn.schema());
     if !has_any(tables) {
-        return enter_new(alloc, conn, any, only);
+        return enter_new(alloc, conn, only);
     }
     if !tables.meta {
         return Err(StoreFault::Damaged);
     }
-    enter_old(alloc, conn, tables, any, only)
+    enter_old(alloc, conn, tables, only)
 }
 
 /// Whether any of the tables is there.
@@ -236,45 +284,6 @@ fn has_any(tables: Tables) -> bool
     ensures { result ≡ has_any tables }
 {
     tables.meta || (tables.executed || (tables.held || (tables.spans || tables.follow)))
-}
-
-/// Like `enter`, with a store that owns the connection.
-fn open_with<S: Alter>(
-    alloc: Global,
-    mut conn: Connection<S>,
-    any: bool,
-    only: &Follow,
-) -> Result<Store<S>, (StoreFault, Connection<S>)>
-    requires { conn.in_transaction ≡ false }
-    ensures opens { IfOk result (λ store. HasCleanDisk (database S.Store store) → IsReady (state S.Store conn) → Opens S.Store any only.now (state S.Store conn) store) }
-    ensures beside { IfOk result (λ store. HasCleanDisk (database S.Store store) → IsReady (state S.Store conn) → LiesBeside (state S.Store conn).now (database S.Store store).now) }
-    ensures unchanged { IfOk result (λ store. HasCleanDisk (database S.Store store) → IsReady (state S.Store conn) → IsLaidOut (state S.Store conn).now.schema → (database S.Store store).now ≡ (state S.Store conn).now) }
-    ensures turned { IfErr result (λ e. HasCleanDisk (state S.Store e.1) → IsReady (state S.Store conn) → IsTurned any only.now (state S.Store conn) (state S.Store e.1) e.0) }
-    ensures headless { (tables_of (state S.Store conn).now.schema).meta ≡ false → has_any (tables_of (state S.Store conn).now.schema) ≡ true → result ≡ Err (Damaged, conn) }
-    ensures autocommit { IfErr result (λ e. e.1.in_transaction ≡ false) }
-    ensures crash { IfOk result (λ store. IsReady (state S.Store conn) → Survives (state S.Store conn) (database S.Store store) (MayEnter only.now (state S.Store conn))) }
-    ensures left { IfErr result (λ e. IsReady (state S.Store conn) → Survives (state S.Store conn) (state S.Store e.1) (MayEnter only.now (state S.Store conn))) }
-    ensures reopens { (names : Names) (content : Content) → ReadsLeft only.now names content (state S.Store conn) → MatchResult result (λ store. HasCleanDisk (database S.Store store) → Holds S.Store store content × (names_of S.Store store ≡ names) × IsWanted any only.now names) (λ e. HasCleanDisk (state S.Store e.1) → IsRefused any only.now names e.0) }
-    ensures leaves { (names : Names) (content : Content) → ReadsLeft only.now names content (state S.Store conn) → MatchResult result (λ store. Survives (state S.Store conn) (database S.Store store) (IsLeft only.now names content)) (λ e. Survives (state S.Store conn) (state S.Store e.1) (IsLeft only.now names content)) }
-    ensures fault { IfErr result (λ e. IsOpenFault any e.0) }
-    ensures clean { MatchResult result (λ store. HasCleanDisk (database S.Store store) → HasCleanDisk (state S.Store conn)) (λ e. HasCleanDisk (state S.Store e.1) → HasCleanDisk (state S.Store conn)) }
-{
-    match enter(alloc, &mut conn, any, only) {
-        Ok(loaded) => {
-            let Loaded {
-                executed,
-                following,
-            } = loaded;
-            Ok(Store {
-                conn,
-                executed,
-                following,
-                broken: false,
-                alloc,
-            })
-        }
-        Err(fault) => Err((fault, conn)),
-    }
 }
 
 impl<S: Alter> Store<S> {
@@ -291,22 +300,9 @@ impl<S: Alter> Store<S> {
     /// The connection must be in autocommit mode (see `is_autocommit`).
     pub fn open(alloc: Global, conn: Connection<S>) -> Result<Store<S>, (StoreFault, Connection<S>)>
         requires { conn.in_transaction ≡ false }
-        ensures opens { IfOk result (λ store. HasCleanDisk (database S.Store store) → IsReady (state S.Store conn) → Opens S.Store true all (state S.Store conn) store) }
-        ensures beside { IfOk result (λ store. HasCleanDisk (database S.Store store) → IsReady (state S.Store conn) → LiesBeside (state S.Store conn).now (database S.Store store).now) }
-        // In a database of layout 2 nothing changes.
-        ensures unchanged { IfOk result (λ store. HasCleanDisk (database S.Store store) → IsReady (state S.Store conn) → IsLaidOut (state S.Store conn).now.schema → (database S.Store store).now ≡ (state S.Store conn).now) }
-        ensures turned { IfErr result (λ e. HasCleanDisk (state S.Store e.1) → IsReady (state S.Store conn) → IsTurned true all (state S.Store conn) (state S.Store e.1) e.0) }
-        ensures headless { (tables_of (state S.Store conn).now.schema).meta ≡ false → has_any (tables_of (state S.Store conn).now.schema) ≡ true → result ≡ Err (Damaged, conn) }
-        ensures autocommit { IfErr result (λ e. e.1.in_transaction ≡ false) }
-        ensures crash { IfOk result (λ store. IsReady (state S.Store conn) → Survives (state S.Store conn) (database S.Store store) (MayEnter all (state S.Store conn))) }
-        ensures left { IfErr result (λ e. IsReady (state S.Store conn) → Survives (state S.Store conn) (state S.Store e.1) (MayEnter all (state S.Store conn))) }
-        ensures reopens { (names : Names) (content : Content) → ReadsLeft all names content (state S.Store conn) → MatchResult result (λ store. HasCleanDisk (database S.Store store) → Holds S.Store store content × (names_of S.Store store ≡ names)) (λ e. HasCleanDisk (state S.Store e.1) → IsFailure e.0) }
-        ensures leaves { (names : Names) (content : Content) → ReadsLeft all names content (state S.Store conn) → MatchResult result (λ store. Survives (state S.Store conn) (database S.Store store) (IsLeft all names content)) (λ e. Survives (state S.Store conn) (state S.Store e.1) (IsLeft all names content)) }
-        ensures fault { IfErr result (λ e. IsOpenFault true e.0) }
-        ensures clean { MatchResult result (λ store. HasCleanDisk (database S.Store store) → HasCleanDisk (state S.Store conn)) (λ e. HasCleanDisk (state S.Store e.1) → HasCleanDisk (state S.Store conn)) }
+        ensures { IsOpenedFor S.Store None conn result }
     {
-        let only = Follow::all(alloc);
-        open_with(alloc, conn, true, &only)
+        Store::open_for(alloc, conn, None)
     }
 
     /// Like [`Store::open`], with a filter, for which a new database is made. An existing database must have been made
@@ -318,19 +314,35 @@ impl<S: Alter> Store<S> {
         filter: &Follow,
     ) -> Result<Store<S>, (StoreFault, Connection<S>)>
         requires { conn.in_transaction ≡ false }
-        ensures opens { IfOk result (λ store. HasCleanDisk (database S.Store store) → IsReady (state S.Store conn) → Opens S.Store false filter.now (state S.Store conn) store) }
-        ensures beside { IfOk result (λ store. HasCleanDisk (database S.Store store) → IsReady (state S.Store conn) → LiesBeside (state S.Store conn).now (database S.Store store).now) }
-        ensures unchanged { IfOk result (λ store. HasCleanDisk (database S.Store store) → IsReady (state S.Store conn) → IsLaidOut (state S.Store conn).now.schema → (database S.Store store).now ≡ (state S.Store conn).now) }
-        ensures turned { IfErr result (λ e. HasCleanDisk (state S.Store e.1) → IsReady (state S.Store conn) → IsTurned false filter.now (state S.Store conn) (state S.Store e.1) e.0) }
-        ensures headless { (tables_of (state S.Store conn).now.schema).meta ≡ false → has_any (tables_of (state S.Store conn).now.schema) ≡ true → result ≡ Err (Damaged, conn) }
-        ensures autocommit { IfErr result (λ e. e.1.in_transaction ≡ false) }
-        ensures crash { IfOk result (λ store. IsReady (state S.Store conn) → Survives (state S.Store conn) (database S.Store store) (MayEnter filter.now (state S.Store conn))) }
-        ensures left { IfErr result (λ e. IsReady (state S.Store conn) → Survives (state S.Store conn) (state S.Store e.1) (MayEnter filter.now (state S.Store conn))) }
-        ensures reopens { (names : Names) (content : Content) → ReadsLeft filter.now names content (state S.Store conn) → MatchResult result (λ store. HasCleanDisk (database S.Store store) → Holds S.Store store content × (names_of S.Store store ≡ names) × IsWanted false filter.now names) (λ e. HasCleanDisk (state S.Store e.1) → IsRefused false filter.now names e.0) }
-        ensures leaves { (names : Names) (content : Content) → ReadsLeft filter.now names content (state S.Store conn) → MatchResult result (λ store. Survives (state S.Store conn) (database S.Store store) (IsLeft filter.now names content)) (λ e. Survives (state S.Store conn) (state S.Store e.1) (IsLeft filter.now names content)) }
-        ensures fault { IfErr result (λ e. IsOpenFault false e.0) }
-        ensures clean { MatchResult result (λ store. HasCleanDisk (database S.Store store) → HasCleanDisk (state S.Store conn)) (λ e. HasCleanDisk (state S.Store e.1) → HasCleanDisk (state S.Store conn)) }
+        ensures { IsOpenedFor S.Store (Some filter.now) conn result }
     {
-        open_with(alloc, conn, false, filter)
+        Store::open_for(alloc, conn, Some(filter))
+    }
+
+    /// Like [`Store::open_only`] with a filter, and like [`Store::open`] without one.
+    pub fn open_for(
+        alloc: Global,
+        mut conn: Connection<S>,
+        only: Option<&Follow>,
+    ) -> Result<Store<S>, (StoreFault, Connection<S>)>
+        requires { conn.in_transaction ≡ false }
+        ensures { IsOpenedFor S.Store (wanted_of only.entry) conn result }
+    {
+        match enter(alloc, &mut conn, only) {
+            Ok(loaded) => {
+                let Loaded {
+                    executed,
+                    following,
+                } = loaded;
+                Ok(Store {
+                    conn,
+                    executed,
+                    following,
+                    broken: false,
+                    alloc,
+                })
+            }
+            Err(fault) => Err((fault, conn)),
+        }
     }
 }

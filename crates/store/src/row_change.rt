@@ -10,8 +10,8 @@ ghost use Rattle.gather.specs.View.{change_value};
 ghost use Rattle.store.specs.Changes.{is_admitted};
 ghost use Rattle.store.specs.Inside.{IsWorking, added, removed, Counted, Makes, Does, DoesAll, Stays};
 
-use crate::held_rows::{RowKey, delete, insert, read, update};
-use crate::rules::MOST;
+use crate::table::held::{RowKey, delete, insert, read, update};
+use crate::table::row::MOST;
 use binlog::{Follow, TableDef};
 use gather::{Change, Changes, ImageRef};
 use sqlite::{Alter, Error, Transaction};

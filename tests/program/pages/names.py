@@ -6,7 +6,8 @@
   no crate, of some crate).
 - `CRATE::NAME` and `CRATE::TYPE::NAME` have to be items of that crate; on pages about the code, other names in backticks
   words of some crate.
-- A clause has to be one of a function that the same sentence or row names.
+- A clause has to be one of a function that the same sentence or row names, or a field of the record that its only clause,
+  which has no name, says to hold.
 - In a crate's page: the first column of a table `Function` or `Law` names functions of the crate, and its second
   column clauses of theirs.
 - A table `File` | `Lines`: the file has about so many lines.
@@ -24,9 +25,23 @@ def read(path):
         return file.read()
 
 
+def records(crate):
+    """The records among the definitions of a crate, with their fields."""
+    found = {}
+    for path in glob.glob(f'{root}/crates/{crate}/specs/*.antt'):
+        name = None
+        for line in read(path).split('\n'):
+            head = re.match(r'\s*pub record (\w+)', line)
+            field = re.match(r'\s+pub (\w+) :', line)
+            if head: name = head.group(1)
+            elif field and name: found.setdefault(name, set()).add(field.group(1))
+            elif line and not line.startswith(' '): name = None
+    return found
+
+
 def items(crate):
     """The names of a crate's items, and of each function, also as TYPE::NAME, its clauses."""
-    names, clauses = set(), {}
+    names, clauses, fields = set(), {}, records(crate)
     for path in glob.glob(f'{root}/crates/{crate}/src/**/*.rt', recursive=True):
         owner, function = None, None
         for line in read(path).split('\n'):
@@ -43,6 +58,9 @@ def items(crate):
             found = re.match(r'\s*ensures (\w+) \{', line)
             if found and function:
                 for name in function: clauses[name].add(found.group(1))
+            found = re.match(r'\s*ensures \{ (\w+)', line)
+            if found and function:
+                for name in function: clauses[name].update(fields.get(found.group(1), ()))
             found = re.match(r'    (\w+)(?:\(.*\)| \{.*)?,?$', line)
             if found: names.add(found.group(1))
     return names, clauses

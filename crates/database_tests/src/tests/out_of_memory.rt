@@ -285,10 +285,7 @@ fn open<S: Alter + Drop>(alloc: Global, conn: Connection<S>, only: Option<&Follo
     if !conn.is_autocommit() {
         return Err((StoreFault::Damaged, conn));
     }
-    match only {
-        None => Store::open(alloc, conn),
-        Some(only) => Store::open_only(alloc, conn, only),
-    }
+    Store::open_for(alloc, conn, only)
 }
 
 /// How opening a database ended with this fault, which leaves the content that it had.

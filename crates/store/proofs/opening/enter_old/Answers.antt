@@ -2,7 +2,8 @@ use Rattle.std.proofs.Common.{arith}
 use Rattle.std.proofs.lemmas.Result.{err_from_is_err_and, IfOk-weaker, IfErr-weaker}
 use Rattle.sqlite.specs.State.{HasCleanDisk}
 use Rattle.sqlite.specs.Held.{state}
-use Rattle.store.specs.declared.tables.KnownLayout.TheVariants.{First, Second}
+use Rattle.store.specs.Entering.{wanted_of, names_for}
+use Rattle.store.specs.declared.layout.KnownLayout.TheVariants.{First, Second}
 use Rattle.store.proofs.Counted.{rests_unchanged}
 use Rattle.store.proofs.Known.{there, has_meta, found, meta_after, entered_after, turned_after, may_then, none_then, may_none}
 use Rattle.store.proofs.opening.enter_old.Goals as goal
@@ -15,7 +16,7 @@ returns-in_err-meta-clause-turned g c clean ready tables has =
     rw (p.1, p.2) (tt, rests)
 
 pub returns-in_err-meta-clause-crash : goal.returns-in_err-meta-clause-crash
-returns-in_err-meta-clause-crash g c ready tables has = may_none c.args.only.now _ _ (c.read_meta.ensures.crash (has_meta _ c.args.tables ready tables has))
+returns-in_err-meta-clause-crash g c ready tables has = may_none (names_for (wanted_of c.args.only)) _ _ (c.read_meta.ensures.crash (has_meta _ c.args.tables ready tables has))
 
 pub returns-in_err-layout_of-clause-turned : goal.returns-in_err-layout_of-clause-turned
 returns-in_err-layout_of-clause-turned g c clean ready tables has =
@@ -23,15 +24,15 @@ returns-in_err-layout_of-clause-turned g c clean ready tables has =
     let mf = has_meta old c.args.tables ready tables has in
     let p = err_from_is_err_and c.from_residual-in_err-layout_of.result c.from_residual-in_err-layout_of.ensures.1 in
     rw (p.1, p.2)
-    (c.in_err-layout_of.ensures.judged old.now ready.known (c.in_ok-meta.ensures.says clean mf) tables has c.args.any c.args.only.now, rests_unchanged old (state g.S.Store c.read_meta.new.conn) (c.in_ok-meta.ensures.same clean mf))
+    (c.in_err-layout_of.ensures.judged old.now ready.known (c.in_ok-meta.ensures.says clean mf) tables has (wanted_of c.args.only), rests_unchanged old (state g.S.Store c.read_meta.new.conn) (c.in_ok-meta.ensures.same clean mf))
 
 pub returns-in_err-layout_of-clause-fault : goal.returns-in_err-layout_of-clause-fault
 returns-in_err-layout_of-clause-fault g c =
     let p = err_from_is_err_and c.from_residual-in_err-layout_of.result c.from_residual-in_err-layout_of.ensures.1 in
-    rw (p.1, p.2) (c.in_err-layout_of.ensures.fault c.args.any)
+    rw (p.1, p.2) (c.in_err-layout_of.ensures.fault (wanted_of c.args.only))
 
 pub returns-in_err-layout_of-clause-crash : goal.returns-in_err-layout_of-clause-crash
-returns-in_err-layout_of-clause-crash g c ready tables has = may_none c.args.only.now _ _ (c.read_meta.ensures.crash (has_meta _ c.args.tables ready tables has))
+returns-in_err-layout_of-clause-crash g c ready tables has = may_none (names_for (wanted_of c.args.only)) _ _ (c.read_meta.ensures.crash (has_meta _ c.args.tables ready tables has))
 
 pub returns-in-First-clause-entered : goal.returns-in-First-clause-entered
 returns-in-First-clause-entered g c clean ready tables has =
@@ -42,7 +43,7 @@ returns-in-First-clause-entered g c clean ready tables has =
     let early : HasCleanDisk mid = omega (arith, c.enter_first.ensures.lives.clean, clean) in
     let same = c.in_ok-meta.ensures.same early mf in
     let at = found old mid First ready same (rw c.in-First.is at (c.in_ok-layout_of.ensures.judged old.now ready.known (c.in_ok-meta.ensures.says early mf) tables has)) in
-    IfOk-weaker c.enter_first.result _ _ (λ l e. entered_after c.args.any c.args.only.now old mid new same l.executed l.following e) (c.enter_first.ensures.entered clean at.ready at.has.0 at.has.1)
+    IfOk-weaker c.enter_first.result _ _ (λ l e. entered_after (wanted_of c.args.only) old mid new same l.executed l.following e) (c.enter_first.ensures.entered clean at.ready at.has.0 at.has.1)
 
 pub returns-in-First-clause-turned : goal.returns-in-First-clause-turned
 returns-in-First-clause-turned g c clean ready tables has =
@@ -53,7 +54,7 @@ returns-in-First-clause-turned g c clean ready tables has =
     let early : HasCleanDisk mid = omega (arith, c.enter_first.ensures.lives.clean, clean) in
     let same = c.in_ok-meta.ensures.same early mf in
     let at = found old mid First ready same (rw c.in-First.is at (c.in_ok-layout_of.ensures.judged old.now ready.known (c.in_ok-meta.ensures.says early mf) tables has)) in
-    IfErr-weaker c.enter_first.result _ _ (λ fault t. turned_after c.args.any c.args.only.now old mid new same fault t) (c.enter_first.ensures.turned clean at.ready at.has.0 at.has.1 (meta_after old mid same (there old c.args.tables tables has)))
+    IfErr-weaker c.enter_first.result _ _ (λ fault t. turned_after (wanted_of c.args.only) old mid new same fault t) (c.enter_first.ensures.turned clean at.ready at.has.0 at.has.1 (meta_after old mid same (there old c.args.tables tables has)))
 
 pub returns-in-First-clause-crash : goal.returns-in-First-clause-crash
 returns-in-First-clause-crash g c ready tables has =
@@ -61,7 +62,7 @@ returns-in-First-clause-crash g c ready tables has =
     let mid = state g.S.Store c.read_meta.new.conn in
     let new = state g.S.Store c.enter_first.new.conn in
     let mf = has_meta old c.args.tables ready tables has in
-    may_then c.args.only.now old mid new (c.read_meta.ensures.crash mf) c.enter_first.ensures.lives (λ early. c.in_ok-meta.ensures.same early mf)
+    may_then (names_for (wanted_of c.args.only)) old mid new (c.read_meta.ensures.crash mf) c.enter_first.ensures.lives (λ early. c.in_ok-meta.ensures.same early mf)
     (λ early.
     let at = found old mid First ready (c.in_ok-meta.ensures.same early mf) (rw c.in-First.is at (c.in_ok-layout_of.ensures.judged old.now ready.known (c.in_ok-meta.ensures.says early mf) tables has)) in
     c.enter_first.ensures.crash at.ready at.has.0 at.has.1)
@@ -75,7 +76,7 @@ returns-in-Second-clause-entered g c clean ready tables has =
     let early : HasCleanDisk mid = omega (arith, c.enter_second.ensures.lives.clean, clean) in
     let same = c.in_ok-meta.ensures.same early mf in
     let at = found old mid Second ready same (rw c.in-Second.is at (c.in_ok-layout_of.ensures.judged old.now ready.known (c.in_ok-meta.ensures.says early mf) tables has)) in
-    IfOk-weaker c.enter_second.result _ _ (λ l e. entered_after c.args.any c.args.only.now old mid new same l.executed l.following e) (c.enter_second.ensures.entered clean at.ready at.has.0 at.has.1)
+    IfOk-weaker c.enter_second.result _ _ (λ l e. entered_after (wanted_of c.args.only) old mid new same l.executed l.following e) (c.enter_second.ensures.entered clean at.ready at.has.0 at.has.1)
 
 pub returns-in-Second-clause-turned : goal.returns-in-Second-clause-turned
 returns-in-Second-clause-turned g c clean ready tables has =
@@ -86,7 +87,7 @@ returns-in-Second-clause-turned g c clean ready tables has =
     let early : HasCleanDisk mid = omega (arith, c.enter_second.ensures.lives.clean, clean) in
     let same = c.in_ok-meta.ensures.same early mf in
     let at = found old mid Second ready same (rw c.in-Second.is at (c.in_ok-layout_of.ensures.judged old.now ready.known (c.in_ok-meta.ensures.says early mf) tables has)) in
-    IfErr-weaker c.enter_second.result _ _ (λ fault t. turned_after c.args.any c.args.only.now old mid new same fault t) (c.enter_second.ensures.turned clean at.ready at.has.0 at.has.1 (meta_after old mid same (there old c.args.tables tables has)))
+    IfErr-weaker c.enter_second.result _ _ (λ fault t. turned_after (wanted_of c.args.only) old mid new same fault t) (c.enter_second.ensures.turned clean at.ready at.has.0 at.has.1 (meta_after old mid same (there old c.args.tables tables has)))
 
 pub returns-in-Second-clause-crash : goal.returns-in-Second-clause-crash
 returns-in-Second-clause-crash g c ready tables has =
@@ -94,7 +95,7 @@ returns-in-Second-clause-crash g c ready tables has =
     let mid = state g.S.Store c.read_meta.new.conn in
     let new = state g.S.Store c.enter_second.new.conn in
     let mf = has_meta old c.args.tables ready tables has in
-    none_then c.args.only.now old mid new (c.read_meta.ensures.crash mf) c.enter_second.ensures.lives
+    none_then (names_for (wanted_of c.args.only)) old mid new (c.read_meta.ensures.crash mf) c.enter_second.ensures.lives
     (λ early.
     let at = found old mid Second ready (c.in_ok-meta.ensures.same early mf) (rw c.in-Second.is at (c.in_ok-layout_of.ensures.judged old.now ready.known (c.in_ok-meta.ensures.says early mf) tables has)) in
     c.enter_second.ensures.crash at.has.0)

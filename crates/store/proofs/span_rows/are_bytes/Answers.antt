@@ -1,6 +1,0 @@
-use Rattle.std.proofs.Common.{arith}
-use Rattle.gtid.proofs.Printed.{all_bytes}
-use Rattle.store.proofs.span_rows.are_bytes.Goals as goal
-
-pub returns : goal.returns
-returns c = all_bytes c.args.bytes.now (λ i. omega (arith, c.type_inv.bytes i))

@@ -1,5 +1,0 @@
-use Rattle.std.proofs.Common.{arith}
-use Rattle.store.proofs.span_rows.is_source.Goals as goal
-
-pub returns : goal.returns
-returns c = (omega arith, c.are_bytes.ensures)

@@ -1,0 +1,62 @@
+use Rattle.std.proofs.Common.{◌∙◌, ap, refl, subst, rules}
+use Rattle.sqlite.specs.Held.{state}
+use Rattle.sqlite.specs.Effect.{IsDatabase}
+use Rattle.store.specs.State.{Content}
+use Rattle.store.specs.Entering.{IsWanted, wanted_of, names_for}
+use Rattle.store.proofs.Reopened.{left_ready, found_rest, refused_for, survives_again}
+use Rattle.store.proofs.store.Store.open_for.Goals as goal
+
+pub returns-in-Ok : goal.returns-in-Ok
+returns-in-Ok g c =
+    let wanted = wanted_of c.args.only in
+    let s = state g.S.Store c.args.conn in
+    let new = state g.S.Store c.enter.new.conn in
+    record {
+      opens = λ clean ready.
+          let e = c.in-Ok.ensures.entered clean ready in
+          record { content = e.content; of = e.of; wanted = e.wanted; holds = record { whole = refl; executed = e.executed_is; rest = e.rest } };
+      beside = λ clean ready. (c.in-Ok.ensures.entered clean ready).beside;
+      unchanged = λ clean ready. (c.in-Ok.ensures.entered clean ready).same;
+      turned = tt;
+      headless = λ none some. let it = (c.in-Ok.ensures.headless none some).0 in absurd (cc);
+      autocommit = tt;
+      crash = λ ready. c.enter.ensures.crash ready;
+      left = tt;
+      reopens = λ names content over clean.
+          let sound : IsDatabase s.now = (c.enter.ensures.live over.is_open).0 in
+          let e = c.in-Ok.ensures.entered clean (left_ready (names_for wanted) names content s over.is_open over.settled sound over.left) in
+          let it = found_rest (names_for wanted) names content s over.is_open over.settled sound over.left new _ e.content e.of e.rest in
+          (record { whole = refl; executed = e.executed_is ∙ ap (λ (a : Content). a.executed) it.2; rest = it.1 }, it.0, subst (IsWanted wanted) it.0 e.wanted);
+      leaves = λ names content over.
+          let sound : IsDatabase s.now = (c.enter.ensures.live over.is_open).0 in
+          survives_again (names_for wanted) names content s over.is_open over.settled sound over.left new
+          (c.enter.ensures.crash (left_ready (names_for wanted) names content s over.is_open over.settled sound over.left));
+      fault = tt;
+      clean = λ clean. c.enter.ensures.clean clean;
+    }
+
+pub returns-in-Err : goal.returns-in-Err
+returns-in-Err g c =
+    let wanted = wanted_of c.args.only in
+    let s = state g.S.Store c.args.conn in
+    let new = state g.S.Store c.enter.new.conn in
+    record {
+      opens = tt;
+      beside = tt;
+      unchanged = tt;
+      turned = λ clean ready. c.in-Err.ensures.turned clean ready;
+      headless = λ none some. let it = c.in-Err.ensures.headless none some in search (rules, it);
+      autocommit = c.enter.ensures.autocommit;
+      crash = tt;
+      left = λ ready. c.enter.ensures.crash ready;
+      reopens = λ names content over clean.
+          let sound : IsDatabase s.now = (c.enter.ensures.live over.is_open).0 in
+          refused_for wanted names content s sound over.left c.in-Err.fault new
+          (c.in-Err.ensures.turned clean (left_ready (names_for wanted) names content s over.is_open over.settled sound over.left));
+      leaves = λ names content over.
+          let sound : IsDatabase s.now = (c.enter.ensures.live over.is_open).0 in
+          survives_again (names_for wanted) names content s over.is_open over.settled sound over.left new
+          (c.enter.ensures.crash (left_ready (names_for wanted) names content s over.is_open over.settled sound over.left));
+      fault = c.in-Err.ensures.fault;
+      clean = λ clean. c.enter.ensures.clean clean;
+    }

@@ -1,0 +1,4 @@
+use Rattle.store.proofs.store.Store.open_only.Goals as goal
+
+pub returns : goal.returns
+returns g c = c.open_for.ensures

@@ -1,0 +1,10 @@
+use Rattle.sqlite.specs.Held.{state}
+use Rattle.store.proofs.Loading.{executed_table, on_seen}
+use Rattle.store.proofs.table.executed.load_executed.Goals as goal
+
+pub returns-clause-judged : goal.returns-clause-judged
+returns-clause-judged g c clean tree asks =
+    executed_table ((state g.S.Store c.args.conn.now).now.trees tree) _ (c.in_ok-rows.ensures.rows clean tree asks) c.executed_from.result (rw c.deref.ensures.value at c.executed_from.ensures.judged)
+
+pub returns-clause-same : goal.returns-clause-same
+returns-clause-same g c clean tree asks = on_seen c.executed_from.result (c.in_ok-rows.ensures.same clean tree asks)

@@ -1,0 +1,18 @@
+use Rattle.std.proofs.Common.{◌≡◌, ℕ, List, [], false}
+use Rattle.sqlite.specs.State.{HasCleanDisk, Survives}
+use Rattle.sqlite.specs.Held.{state}
+use Rattle.sqlite.specs.Given.{HasGiven}
+use Rattle.store.specs.Load.{Rested, IsJudging}
+use Rattle.store.proofs.table.held.judge_rows.Given as goal
+
+abbrev pub invariant-rows : goal.invariant-rows
+invariant-rows g l =
+    let old = l.fn.rows.conn.now in
+    let now = l.rows.conn.now in
+    record {
+      same_reference : l.rows.conn.ghost_name ≡ l.fn.rows.conn.ghost_name;
+      autocommit : old.in_transaction ≡ false → now.in_transaction ≡ false;
+      survives : Survives (state g.S.Store old) (state g.S.Store now) (λ _. ⊥);
+      rested : HasCleanDisk (state g.S.Store now) → Rested (state g.S.Store old) (state g.S.Store now);
+      judging : HasCleanDisk (state g.S.Store now) → (sql : List ℕ) → HasGiven g.S.Store sql [] old [] → IsJudging g.S.Store sql old now l.verdict;
+    }

@@ -1,0 +1,8 @@
+use Rattle.std.proofs.Common.{refl}
+use Rattle.sqlite.specs.Held.{state}
+use Rattle.store.proofs.Making.{done_held}
+use Rattle.store.proofs.table.held.make_held.Goals as goal
+
+pub returns-clause-made : goal.returns-clause-made
+returns-clause-made g c clean was =
+    done_held (state g.S.Store c.args.tx.now.conn.now) (state g.S.Store c.execute.new.self.conn.now) c.execute.result was (c.execute.ensures.runs clean (rw was.inside refl))

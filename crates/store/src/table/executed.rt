@@ -1,0 +1,109 @@
+//! The table `executed`, which layout 1 has in place of `spans`: a row for each GTID.
+
+ghost use Rattle.std.specs.Prelude.{◌≡◌, ℕ, false, pos, map, IfOk, IfErr, OnOk, None, ◌<◌, MatchOption, MatchResult, []};
+ghost use Rattle.std.specs.List.{AllByRecursion};
+ghost use Rattle.sqlite.specs.State.{HasCleanDisk, IsUnchanged, Survives, KeepsCommit};
+ghost use Rattle.sqlite.specs.Held.{state};
+ghost use Rattle.store.specs.Rows.{IsExecutedRow, id_in};
+ghost use Rattle.store.specs.Load.{AsksAll, Rested, OnSeen, Judges, IsLoadFault, all_executed_text};
+ghost use Rattle.gtid.specs.declared.span.Span.{Span};
+ghost use Rattle.sqlite_value.specs.declared.value.Value.TheVariants.{Int};
+ghost use Rattle.store.specs.Faults.{IsFailure};
+ghost use Rattle.store.specs.Judge.{span_of_id};
+ghost use Rattle.store.specs.State.{Content};
+ghost use Rattle.store.specs.Migrating.{HasTables, IsFirstInside, IsMigrating};
+ghost use Rattle.std.specs.FinSet as set;
+
+use crate::fault::StoreFault;
+use crate::table::row::{FORM, MOST, SOURCE, number_at, read_all, source_of};
+use crate::table::spans::union_of;
+use gtid::{GtidSet, Span};
+use sqlite::types::ValueRef;
+use sqlite::{Alter, Connection, Error, Row, Transaction};
+use std::alloc::Global;
+
+/// All rows, in the order in which they are read.
+pub(crate) const ALL: &str = "SELECT rowid, source, number FROM executed ORDER BY rowid";
+
+const NUMBER: &str = "number is not from 1 to 9223372036854775806";
+
+/// The set in `executed`.
+pub(crate) fn load_executed<S: Alter>(
+    alloc: Global,
+    conn: &mut Connection<S>,
+) -> Result<GtidSet, StoreFault>
+    requires { conn.old.in_transaction ≡ false }
+    ensures autocommit { conn.new.in_transaction ≡ false }
+    ensures judged { HasCleanDisk (state S.Store conn.new) → (tree : ℕ) → AsksAll (state S.Store conn.old).now.schema all_executed_text tree → Judges result (λ ids. AllByRecursion IsExecutedRow ((state S.Store conn.old).now.trees tree) × (ids ≡ set.from_list (map id_in ((state S.Store conn.old).now.trees tree)))) (AllByRecursion IsExecutedRow ((state S.Store conn.old).now.trees tree)) }
+    ensures same { HasCleanDisk (state S.Store conn.new) → (tree : ℕ) → AsksAll (state S.Store conn.old).now.schema all_executed_text tree → OnSeen result (IsUnchanged (state S.Store conn.old) (state S.Store conn.new)) }
+    ensures rested { HasCleanDisk (state S.Store conn.new) → (tree : ℕ) → AsksAll (state S.Store conn.old).now.schema all_executed_text tree → Rested (state S.Store conn.old) (state S.Store conn.new) }
+    ensures crash { Survives (state S.Store conn.old) (state S.Store conn.new) (λ _. (tree : ℕ) → ¬ AsksAll (state S.Store conn.old).now.schema all_executed_text tree) }
+    ensures fault { IfErr result IsLoadFault }
+{
+    let rows = read_all(conn, ALL)?;
+    executed_from(alloc, &rows)
+}
+
+/// The set of the rows of `executed`.
+pub(crate) fn executed_from(alloc: Global, rows: &[Row]) -> Result<GtidSet, StoreFault>
+    ensures judged { Judges result (λ ids. AllByRecursion IsExecutedRow rows.now × (ids ≡ set.from_list (map id_in rows.now))) (AllByRecursion IsExecutedRow rows.now) }
+    ensures fault { IfErr result IsLoadFault }
+{
+    let Some(spans) = ids_of(alloc, rows)? else {
+        return Err(StoreFault::Damaged);
+    };
+    union_of(alloc, spans)
+}
+
+/// The GTIDs of the rows as spans, if all are lawful rows of `executed`.
+pub(crate) fn ids_of(alloc: Global, rows: &[Row]) -> Result<Option<Vec<Span>>, StoreFault>
+    ensures judged { IfOk result (λ o. MatchOption o (¬ AllByRecursion IsExecutedRow rows.now) (λ spans. AllByRecursion IsExecutedRow rows.now × (spans.items ≡ map (λ r. span_of_id (id_in r)) rows.now))) }
+    ensures fault { IfErr result IsFailure }
+{
+    let mut spans = Vec::new(alloc);
+    for row in rows {
+        let Ok(span) = id_of(row)? else {
+            return Ok(None);
+        };
+        spans.push(span)?;
+    }
+    Ok(Some(spans))
+}
+
+/// The GTID of a row as a span, or the rule of `executed` that the row breaks.
+pub(crate) fn id_of(row: &Row) -> Result<Result<Span, &'static str>, Error>
+    ensures { IfOk result (λ o. MatchResult o (λ s. IsExecutedRow row.now × (s ≡ span_of_id (id_in row.now))) (λ _. ¬ IsExecutedRow row.now)) }
+{
+    if row.column_count() != 3 {
+        return Ok(Err(FORM));
+    }
+    let ValueRef::Int(_) = row.get_ref(0)? else {
+        return Ok(Err(FORM));
+    };
+    let ValueRef::Blob(source) = row.get_ref(1)? else {
+        return Ok(Err(SOURCE));
+    };
+    let Some(source) = source_of(source) else {
+        return Ok(Err(SOURCE));
+    };
+    let Some(lo) = number_at(row, 2)? else {
+        return Ok(Err(NUMBER));
+    };
+    if lo >= MOST {
+        return Ok(Err(NUMBER));
+    }
+    Ok(Ok(Span {
+        source,
+        lo,
+        hi: lo + 1,
+    }))
+}
+
+pub(crate) fn drop_executed<S: Alter>(tx: &mut Transaction<'_, S>) -> Result<usize, Error>
+    ensures same_reference { tx.new.conn.ghost_name ≡ tx.old.conn.ghost_name }
+    ensures migrated { HasCleanDisk (state S.Store tx.new.conn.now) → (content : Content) → IsFirstInside content (state S.Store tx.old.conn.now) → OnOk result (IsMigrating (HasTables []) (pos 1) content (state S.Store tx.new.conn.now)) }
+    ensures kept { HasCleanDisk (state S.Store tx.new.conn.now) → (content : Content) → IsFirstInside content (state S.Store tx.old.conn.now) → KeepsCommit (state S.Store tx.old.conn.now) (state S.Store tx.new.conn.now) }
+    ensures survives { Survives (state S.Store tx.old.conn.now) (state S.Store tx.new.conn.now) (λ _. ⊥) }
+{
+    tx.execute("DROP TABLE executed", &[])
+}
