@@ -1,6 +1,6 @@
 """Looks whether each file, function, clause, law and definition that a page names is there.
 
-    python3 tests/pages/names.py ROOT
+    python3 tests/program/pages/names.py ROOT
 
 - A link has to exist, and a path in backticks: from the root, the page's folder, or the folder of the crate (on a page of
   no crate, of some crate).

@@ -1,6 +1,6 @@
 //! Each call of a scripted source, of a store and of a replica that may run out of memory, on small values. Whichever
 //! allocation is refused, it answers as with memory to spare, or that memory ran out, and then what it was to change is
-//! as it was. `tests/refused/run` refuses each in turn.
+//! as it was. `tests/hostile/oom_calls/run` refuses each in turn.
 
 use super::same::same;
 use super::scripts::{request, scripts};

@@ -1,5 +1,5 @@
 //! Each call that may run out of memory, on small values. Whichever allocation is refused, it answers as with memory to
-//! spare, or `Memory`, and then what it was to change is as it was. `tests/refused/run` refuses each in turn.
+//! spare, or `Memory`, and then what it was to change is as it was. `tests/hostile/oom_calls/run` refuses each in turn.
 
 use crate::tests::event_bytes::{BEGIN, FIRST as FIRST_GTID, FORMAT, MAP, ROWS, XID, event};
 use crate::tests::message_bytes::{As, DUMP, GREETING, RESPONSE, SET, TOO_MANY, read};
