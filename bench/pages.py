@@ -25,7 +25,7 @@ import sys
 import tempfile
 
 ROOT = os.path.abspath(os.path.join(os.path.dirname(os.path.abspath(__file__)), '..'))
-sys.path.insert(0, f'{ROOT}/tests/reference')
+sys.path.insert(0, f'{ROOT}/tests/lib')
 import streams
 
 PROGRAM = os.path.abspath(sys.argv[1])

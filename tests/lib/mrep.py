@@ -59,7 +59,8 @@ A = '3e11fa47-71ca-11e1-9e33-c80aa9429562'
 
 def done(*words, program=PROGRAM, data=b'', **how):
     """A run of the program, which reads the data, with what it wrote to standard output and to standard error."""
-    return subprocess.run([program, *words], input=data, stdout=subprocess.PIPE, stderr=subprocess.PIPE, check=False, **how)
+    given = {'input': data} if data else {'stdin': subprocess.DEVNULL}
+    return subprocess.run([program, *words], **given, stdout=subprocess.PIPE, stderr=subprocess.PIPE, check=False, **how)
 
 
 def run(*words, **how):
