@@ -3,13 +3,13 @@
 import os
 import re
 
+# A function, with its indentation.
+FUNCTION = re.compile(r"^( *)(?:pub(?:\(\w+\))? )?fn (\w+)", re.M)
+
 
 def text_of(path):
     with open(path, encoding="utf-8", errors="replace") as it:
         return it.read()
-
-# A function, with its indentation.
-FUNCTION = re.compile(r"^( *)(?:pub(?:\(\w+\))? )?fn (\w+)", re.M)
 
 
 def module_of(path):
