@@ -150,7 +150,7 @@ const ONLY: Argument = Argument(
 );
 
 /// All commands, in the order of the help.
-pub static COMMANDS: [CommandRow; 13] = [
+static COMMANDS: [CommandRow; 13] = [
     CommandRow(
         "packets",
         "List the payloads of a stream of packets: offset, sequence id, length",
@@ -309,6 +309,11 @@ pub static COMMANDS: [CommandRow; 13] = [
     ),
 ];
 
+/// All commands. The table stands in the proof of each function that names it, and so one alone does.
+pub fn commands() -> &'static [CommandRow] {
+    &COMMANDS
+}
+
 /// The argument of a row.
 fn arg_of<'a>(alloc: Global, row: &Argument) -> Arg<'a> {
     let Argument(name, kind, help) = *row;
@@ -373,5 +378,5 @@ fn with_commands<'a>(
 
 /// All commands and their arguments.
 pub fn grammar<'a>(alloc: Global) -> Result<Command<'a>, AllocError> {
-    with_commands(alloc, program(alloc), &COMMANDS)
+    with_commands(alloc, program(alloc), commands())
 }

@@ -2,7 +2,7 @@
 
 ghost use Rattle.std.specs.Prelude.{◌≡◌, IfOk};
 
-use crate::arguments::grammar::{Argument, COMMANDS, CommandRow};
+use crate::arguments::grammar::{Argument, CommandRow, commands};
 use crate::report::failure::{DONE, Failure};
 use std::io;
 use std::io::Write;
@@ -58,11 +58,11 @@ fn write_words<W: Write>(words: &[&str], out: &mut W) -> io::Result<()> {
 /// Writes a function for bash: which words may come at a place, and those of files where none may.
 fn write_bash<W: Write>(out: &mut W) -> io::Result<()> {
     write!(out, "{BASH_HEAD}")?;
-    for CommandRow(name, ..) in &COMMANDS {
+    for CommandRow(name, ..) in commands() {
         write!(out, "{name} ")?;
     }
     writeln!(out, "help --help --version' ;;")?;
-    for row in &COMMANDS {
+    for row in commands() {
         write_bash_command(row, out)?;
     }
     write!(out, "{BASH_TAIL}")
@@ -92,13 +92,13 @@ fn write_bash_command<W: Write>(row: &CommandRow, out: &mut W) -> io::Result<()>
 /// Writes a function for zsh.
 fn write_zsh<W: Write>(out: &mut W) -> io::Result<()> {
     write!(out, "{ZSH_HEAD}")?;
-    for CommandRow(name, about, ..) in &COMMANDS {
+    for CommandRow(name, about, ..) in commands() {
         write!(out, "        '{name}:")?;
         write_quoted(about, out)?;
         writeln!(out, "'")?;
     }
     write!(out, "{ZSH_MIDDLE}")?;
-    for row in &COMMANDS {
+    for row in commands() {
         write_zsh_command(row, out)?;
     }
     write!(out, "{ZSH_TAIL}")
@@ -151,7 +151,7 @@ fn write_zsh_values<W: Write>(words: &[&str], out: &mut W) -> io::Result<()> {
 /// Writes commands for fish.
 fn write_fish<W: Write>(out: &mut W) -> io::Result<()> {
     write!(out, "{FISH_HEAD}")?;
-    for CommandRow(name, about, arguments, _) in &COMMANDS {
+    for CommandRow(name, about, arguments, _) in commands() {
         write!(
             out,
             "complete -c mrep -n __fish_use_subcommand -f -a {name} -d '"
