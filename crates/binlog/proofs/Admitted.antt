@@ -10,7 +10,7 @@ use Rattle.std.proofs.lemmas.Map.Text.{is_eq-slice_cmp}
 use Rattle.std.proofs.lemmas.Bool.{false≢true, ne_eqb, and_from, false_from_ne_true}
 use Rattle.std.proofs.lemmas.Slice.Eq.{bytes_eq-Decides}
 use Rattle.gtid.proofs.Sets.{then_equal}
-use Rattle.binlog.specs.Filter.{Name, name_cmp, is_listed, admits}
+use Rattle.binlog.specs.Filter.{Name, name_cmp, is_named_in, admits}
 
 pub name_cmp_total : IsTotalOrder name_cmp
 name_cmp_total = then_total (on_total (λ (a : Name). a.0) nat_list_cmp_total) (on_total (λ (a : Name). a.1) nat_list_cmp_total)
@@ -32,7 +32,7 @@ tied a b =
     sym (tied_then (slice_cmp nat_cmp a.0 b.0) (slice_cmp nat_cmp a.1 b.1))
     ∙ (λ i. (is_eq-slice_cmp a.0 b.0 ∙ bytes_eq-sym a.0 b.0) i && (is_eq-slice_cmp a.1 b.1 ∙ bytes_eq-sym a.1 b.1) i)
 
-pub listed : (names : List Name) (name : Name) → set.contains (set.from_list {R = name_cmp} names) name ≡ is_listed name names
+pub listed : (names : List Name) (name : Name) → set.contains (set.from_list {R = name_cmp} names) name ≡ is_named_in name names
 listed names name = set.contains-from_list name_cmp_total names name ∙ (λ i. list_any (λ n. tied name n i) names)
 
 -- the empty list is the empty set, and no other list is
@@ -41,13 +41,13 @@ all_of_none = set.contains-is_subset name_cmp_total set.empty set.empty (λ q is
 
 pub some_name : (name : Name) (names : List Name) → set.is_subset (set.from_list {R = name_cmp} (name ∷ names)) set.empty ≡ false
 some_name name names = false_from_ne_true _ (λ all.
-    let there : set.contains (set.from_list {R = name_cmp} (name ∷ names)) name ≡ true = listed (name ∷ names) name ∙ ap (λ b. b || is_listed name names) (and_from _ _ (itself name.0) (itself name.1)) in
+    let there : set.contains (set.from_list {R = name_cmp} (name ∷ names)) name ≡ true = listed (name ∷ names) name ∙ ap (λ b. b || is_named_in name names) (and_from _ _ (itself name.0) (itself name.1)) in
     false≢true (sym (set.contains-empty name_cmp name) ∙ set.is_subset-contains name_cmp_total _ _ all name there))
 
 not_none : (n : ℕ) → (suc n == 0) ≡ false
 not_none n = ne_eqb (suc n) 0 (λ z. omega (arith, z))
 
-pub follow_by : (count : ℕ) (names : List Name) (schema table : List ℕ) (empty : Bool) → empty ≡ (count == 0) → count ≡ length names → (empty ≡ true → admits (set.from_list names) schema table ≡ true) × (empty ≡ false → admits (set.from_list names) schema table ≡ is_listed (schema, table) names)
+pub follow_by : (count : ℕ) (names : List Name) (schema table : List ℕ) (empty : Bool) → empty ≡ (count == 0) → count ≡ length names → (empty ≡ true → admits (set.from_list names) schema table ≡ true) × (empty ≡ false → admits (set.from_list names) schema table ≡ is_named_in (schema, table) names)
 follow_by count [] schema table empty is counts = ((λ _. ap (λ b. b || set.contains (set.from_list {R = name_cmp} []) (schema, table)) all_of_none), (λ no. absurd (false≢true (sym no ∙ is ∙ ap (λ n. n == 0) counts))))
 follow_by count (name ∷ names) schema table empty is counts = (
   (λ yes. absurd (false≢true (sym (is ∙ ap (λ n. n == 0) counts ∙ not_none (length names)) ∙ yes))),

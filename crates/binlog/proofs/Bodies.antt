@@ -4,7 +4,7 @@ use Rattle.std.proofs.lemmas.List.{length-append, length-drop, length-take, take
 use Rattle.std.proofs.lemmas.Bool.{le-ltb}
 use Rattle.byteorder.specs.Endian.{little_bytes, little_number}
 use Rattle.byteorder.specs.Numbers.{little_number-reads_back, little_from-lt}
-use Rattle.binlog.specs.Body.{IsGtid, IsQuery, text_place, statement, is_statement, query_fault}
+use Rattle.binlog.specs.Body.{IsGtidBody, IsQuery, text_place, statement, is_statement, query_fault}
 use Rattle.binlog.specs.declared.body.query.Query.{Query}
 use Rattle.binlog.specs.declared.body.query.Query.TheVariants.{Begin, Commit}
 use Rattle.binlog.specs.Fault.{number_at}
@@ -18,7 +18,7 @@ long_number bytes fits long =
 
 -- ---- Identifiers.
 
-pub is_gtid : (bytes : List ℕ) → IsBytes bytes → 44 ≤ length bytes → 1 ≤ little_number 8 (drop 36 bytes) → little_number 8 (drop 36 bytes) ≤ 2 ^ 63 - 2 → IsGtid (take 16 (drop 20 bytes)) (little_number 8 (drop 36 bytes)) (drop 19 bytes)
+pub is_gtid : (bytes : List ℕ) → IsBytes bytes → 44 ≤ length bytes → 1 ≤ little_number 8 (drop 36 bytes) → little_number 8 (drop 36 bytes) ≤ 2 ^ 63 - 2 → IsGtidBody (take 16 (drop 20 bytes)) (little_number 8 (drop 36 bytes)) (drop 19 bytes)
 is_gtid bytes fits long low high =
     let enough : 8 ≤ length (drop 36 bytes) = omega (arith, long, length-drop 36 bytes) in
     let c36 = number_at_front 8 (drop 36 bytes) enough (IsBytes-drop 36 bytes fits) in
@@ -36,7 +36,7 @@ pub record ReportedGtid (source : List ℕ) (number : ℕ) (bytes : List ℕ) : 
   pub source_is : take 16 (drop 20 bytes) ≡ source
   pub number_is : little_number 8 (drop 36 bytes) ≡ number
 
-pub gtid_reported : (source : List ℕ) (number : ℕ) (bytes : List ℕ) → IsGtid source number (drop 19 bytes) → ReportedGtid source number bytes
+pub gtid_reported : (source : List ℕ) (number : ℕ) (bytes : List ℕ) → IsGtidBody source number (drop 19 bytes) → ReportedGtid source number bytes
 gtid_reported source number bytes is =
     let rest = little_bytes 8 number ++ is.ignored in
     let body : drop 19 bytes ≡ is.flags ∷ (source ++ rest) = is.body_is ∙ append_assoc (is.flags ∷ source) (little_bytes 8 number) is.ignored in

@@ -9,7 +9,7 @@ use Rattle.std.proofs.lemmas.Slice.Eq.{bytes_eq-Decides}
 use Rattle.byteorder.specs.Endian.{little_bytes, little_number}
 use Rattle.byteorder.specs.Numbers.{little_number-reads_back, little_from-lt}
 use Rattle.binlog.specs.Fault.{refuse, needs, first_of, number_at}
-use Rattle.binlog.specs.Body.{IsFormat, IsRotate, IsXid, IsGtid, IsQuery, statement, is_statement, text_place, read_lengths, length_refusals, format_fault, rotate_fault, xid_fault, gtid_fault, query_fault}
+use Rattle.binlog.specs.Body.{IsFormat, IsRotate, IsXid, IsGtidBody, IsQuery, statement, is_statement, text_place, read_lengths, length_refusals, format_fault, rotate_fault, xid_fault, gtid_fault, query_fault}
 use Rattle.binlog.specs.declared.body.query.Query.{Query}
 use Rattle.binlog.specs.declared.body.query.Query.TheVariants.{Begin, Commit}
 use Rattle.binlog.specs.declared.fault.EventFault.{EventFault}
@@ -99,10 +99,10 @@ xid_one number bytes is = ap (little_number 8) is.1 ∙ little_number-reads_back
 
 -- ---- Identifiers of transactions.
 
-gtid_long : (source : List ℕ) (number : ℕ) (bytes : List ℕ) → IsGtid source number (drop 19 bytes) → 44 ≤ length bytes
+gtid_long : (source : List ℕ) (number : ℕ) (bytes : List ℕ) → IsGtidBody source number (drop 19 bytes) → 44 ≤ length bytes
 gtid_long source number bytes is = omega (arith, ap length is.body_is, length-drop 19 bytes, length-append (is.flags ∷ source ++ little_bytes 8 number) is.ignored, length-append (is.flags ∷ source) (little_bytes 8 number), is.source_length)
 
-pub gtid_not_refused : (source : List ℕ) (number : ℕ) (bytes : List ℕ) → IsGtid source number (drop 19 bytes) → gtid_fault bytes ≡ None
+pub gtid_not_refused : (source : List ℕ) (number : ℕ) (bytes : List ℕ) → IsGtidBody source number (drop 19 bytes) → gtid_fault bytes ≡ None
 unfolding gtid_fault
 gtid_not_refused source number bytes is =
     let long = gtid_long source number bytes is in
@@ -111,7 +111,7 @@ gtid_not_refused source number bytes is =
     let h44 : 44 ≤ length bytes = long in
     rw (le-ltb _ _ h20, le-ltb _ _ h36, le-ltb _ _ h44, (gtid_reported source number bytes is).number_is, le-leb _ _ is.in_range.0, le-leb _ _ is.in_range.1) refl
 
-pub gtid_some : (bytes : List ℕ) → IsBytes bytes → gtid_fault bytes ≡ None → IsGtid (take 16 (drop 20 bytes)) (number_at 8 bytes 36) (drop 19 bytes)
+pub gtid_some : (bytes : List ℕ) → IsBytes bytes → gtid_fault bytes ≡ None → IsGtidBody (take 16 (drop 20 bytes)) (number_at 8 bytes 36) (drop 19 bytes)
 unfolding gtid_fault
 gtid_some bytes fits none =
     let number = number_at 8 bytes 36 in

@@ -3,7 +3,7 @@ use Rattle.std.proofs.Common.{◌≡◌, ℕ, zero, suc, ◌+◌, ◌-◌, ◌*�
 use Rattle.std.specs.Prelude.{nat_le, bit_xor}
 use Rattle.std.proofs.lemmas.Bool.{cases_eq, ne_eqb, eqb-true, leb-true, ltb-true, le-leb, le-ltb, lt-ltb, and_parts, cases_lt}
 use Rattle.std.proofs.lemmas.List.{length-append}
-use Rattle.binlog.specs.Column.{type_code, metadata, string_metadata, is_lawful, IsColumn, HasColumn, metadata_size, metadata_fault, is_within, string_fault, when, column_fault}
+use Rattle.binlog.specs.Column.{type_code, metadata, string_metadata, is_lawful, IsColumn, HasColumn, metadata_size, metadata_fault, is_between, string_fault, when, column_fault}
 use Rattle.binlog.specs.declared.fault.EventFaultKind.{EventFaultKind}
 use Rattle.binlog.specs.declared.fault.EventFaultKind.TheVariants.{Truncated, Metadata, ColumnType as UnknownColumn}
 use Rattle.binlog.specs.declared.column.kind.ColumnKind.{ColumnKind}
@@ -387,18 +387,18 @@ string_column first second rest byte byte' none =
         is_column = record { lawful = lt-ltb _ _ small; code_is = refl; bytes_are = ap (λ m. m ++ rest) (sym (string_bytes 254 first second size byte byte' char refl)) };
       }
       | inr no_char ↦ elim (cases_eq (bit_or first 48) 247) as (λ _. HasColumn 254 (first ∷ second ∷ rest)) [
-        | inl enum ↦ (let e : string_fault (bit_or first 48) size ≡ when (not (is_within 1 2 size)) Metadata = rw (enum) refl in
+        | inl enum ↦ (let e : string_fault (bit_or first 48) size ≡ when (not (is_between 1 2 size)) Metadata = rw (enum) refl in
             record {
               kind = Enum size;
               rest = rest;
-              is_column = record { lawful = when_none (is_within 1 2 size) (sym e ∙ none); code_is = refl; bytes_are = ap (λ m. m ++ rest) (sym (string_bytes 247 first second size byte byte' enum refl)) };
+              is_column = record { lawful = when_none (is_between 1 2 size) (sym e ∙ none); code_is = refl; bytes_are = ap (λ m. m ++ rest) (sym (string_bytes 247 first second size byte byte' enum refl)) };
             })
         | inr no_enum ↦ elim (cases_eq (bit_or first 48) 248) as (λ _. HasColumn 254 (first ∷ second ∷ rest)) [
-          | inl set ↦ (let e : string_fault (bit_or first 48) size ≡ when (not (is_within 1 8 size)) Metadata = rw (set) refl in
+          | inl set ↦ (let e : string_fault (bit_or first 48) size ≡ when (not (is_between 1 8 size)) Metadata = rw (set) refl in
               record {
                 kind = Set size;
                 rest = rest;
-                is_column = record { lawful = when_none (is_within 1 8 size) (sym e ∙ none); code_is = refl; bytes_are = ap (λ m. m ++ rest) (sym (string_bytes 248 first second size byte byte' set refl)) };
+                is_column = record { lawful = when_none (is_between 1 8 size) (sym e ∙ none); code_is = refl; bytes_are = ap (λ m. m ++ rest) (sym (string_bytes 248 first second size byte byte' set refl)) };
               })
           | inr no_set ↦ (let e : string_fault (bit_or first 48) size ≡ Some (UnknownColumn (bit_or first 48)) = rw (ne_eqb _ _ no_char, ne_eqb _ _ no_enum, ne_eqb _ _ no_set) refl in absurd cc)
         ]
@@ -428,7 +428,7 @@ by_known _ _ is_datetime (a ∷ rest) fits long none = record { kind = Datetime2
 by_known _ _ is_time [] fits long none = absurd (omega (arith, long))
 by_known _ _ is_time (a ∷ rest) fits long none = record { kind = Time2 a; rest = rest; is_column = record { lawful = when_none (nat_le a 6) none; code_is = refl; bytes_are = refl } }
 by_known _ _ is_blob [] fits long none = absurd (omega (arith, long))
-by_known _ _ is_blob (a ∷ rest) fits long none = record { kind = Blob a; rest = rest; is_column = record { lawful = when_none (is_within 1 4 a) none; code_is = refl; bytes_are = refl } }
+by_known _ _ is_blob (a ∷ rest) fits long none = record { kind = Blob a; rest = rest; is_column = record { lawful = when_none (is_between 1 4 a) none; code_is = refl; bytes_are = refl } }
 by_known _ _ is_varchar [] fits long none = absurd (omega (arith, long))
 by_known _ _ is_varchar (a ∷ []) fits long none = absurd (omega (arith, long))
 by_known _ _ is_varchar (a ∷ b ∷ rest) fits long none =
@@ -441,7 +441,7 @@ by_known _ _ is_varchar (a ∷ b ∷ rest) fits long none =
 by_known _ _ is_bit [] fits long none = absurd (omega (arith, long))
 by_known _ _ is_bit (a ∷ []) fits long none = absurd (omega (arith, long))
 by_known _ _ is_bit (a ∷ b ∷ rest) fits long none =
-    let p = and_parts (nat_le a 7) (is_within 1 64 (8 * b + a)) (when_none (nat_le a 7 && is_within 1 64 (8 * b + a)) none) in
+    let p = and_parts (nat_le a 7) (is_between 1 64 (8 * b + a)) (when_none (nat_le a 7 && is_between 1 64 (8 * b + a)) none) in
     let small = leb-true _ _ p.0 in
     let low : a ≡ (8 * b + a) % 8 = omega arith in
     let high : b ≡ (8 * b + a) / 8 = omega arith in
@@ -449,7 +449,7 @@ by_known _ _ is_bit (a ∷ b ∷ rest) fits long none =
 by_known _ _ is_decimal [] fits long none = absurd (omega (arith, long))
 by_known _ _ is_decimal (a ∷ []) fits long none = absurd (omega (arith, long))
 by_known _ _ is_decimal (a ∷ b ∷ rest) fits long none =
-    record { kind = NewDecimal a b; rest = rest; is_column = record { lawful = when_none (is_within 1 65 a && (nat_le b 30 && nat_le b a)) none; code_is = refl; bytes_are = refl } }
+    record { kind = NewDecimal a b; rest = rest; is_column = record { lawful = when_none (is_between 1 65 a && (nat_le b 30 && nat_le b a)) none; code_is = refl; bytes_are = refl } }
 by_known _ _ is_string [] fits long none = absurd (omega (arith, long))
 by_known _ _ is_string (a ∷ []) fits long none = absurd (omega (arith, long))
 by_known _ _ is_string (a ∷ b ∷ rest) fits long none = string_column a b rest (fits 0) (fits 1) none

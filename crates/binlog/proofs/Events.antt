@@ -7,7 +7,7 @@ use Rattle.std.proofs.lemmas.Option.{none-some}
 use Rattle.binlog.specs.Fault.{refuse, first_of, number_at}
 use Rattle.binlog.specs.Header.{IsFramed, HasFrame, header_fault}
 use Rattle.binlog.specs.Body.{IsQuery, statement, text_place}
-use Rattle.binlog.specs.Table.{TableValue, IsNamed, AreColumns, names_fault, columns_fault, schema_of, table_of, terminator_place}
+use Rattle.binlog.specs.Table.{TableValue, IsNamed, AreColumns, names_fault, columns_fault, named_schema, named_table, terminator_place}
 use Rattle.binlog.specs.Columns.{columns_at}
 use Rattle.binlog.specs.Rows.{RowsValue, rows_code, rows_fault}
 use Rattle.binlog.specs.Filter.{Names, admits}
@@ -136,10 +136,10 @@ abbrev query_at : List ℕ → EventValue
 query_at bytes = if bytes_eq (drop (text_place bytes) bytes) (codes "BEGIN") then begin else commit
 
 abbrev table_at : List ℕ → TableValue
-table_at bytes = record { id = number_at 6 bytes 19; schema = schema_of bytes; table = table_of bytes; columns = columns_at bytes (terminator_place bytes + 1) }
+table_at bytes = record { id = number_at 6 bytes 19; schema = named_schema bytes; table = named_table bytes; columns = columns_at bytes (terminator_place bytes + 1) }
 
 abbrev map_at : Names → List ℕ → EventValue
-map_at names bytes = if admits names (schema_of bytes) (table_of bytes) then table_map (table_at bytes) else other_map (number_at 6 bytes 19)
+map_at names bytes = if admits names (named_schema bytes) (named_table bytes) then table_map (table_at bytes) else other_map (number_at 6 bytes 19)
 
 abbrev event_at : Names → List ℕ → ℕ → EventValue
 event_at names bytes code =
@@ -176,11 +176,11 @@ said names (rotate position name) code may_ignore bytes (is, body) = let r = rot
 said names (gtid source number) code may_ignore bytes (is, body) = let t = gtid_reported source number bytes body in ap (event_at names bytes) is ∙ (λ i. gtid (t.source_is i) (t.number_is i))
 said names (table_map t) code may_ignore bytes (is, body, admitted) =
     let n = names_reported t.id t.schema t.table body.rest bytes body.named in
-    let taken : admits names (schema_of bytes) (table_of bytes) ≡ true = (λ i. admits names (n.schema_is i) (n.table_is i)) ∙ admitted in
+    let taken : admits names (named_schema bytes) (named_table bytes) ≡ true = (λ i. admits names (n.schema_is i) (n.table_is i)) ∙ admitted in
     ap (event_at names bytes) is ∙ ap (λ b. if b then table_map (table_at bytes) else other_map (number_at 6 bytes 19)) taken ∙ ap table_map (columns_said t body.rest bytes body.named body.columns)
 said names (other_map id) code may_ignore bytes (is, body) =
     let n = names_reported id body.schema body.table body.rest bytes body.named in
-    let left : admits names (schema_of bytes) (table_of bytes) ≡ false = (λ i. admits names (n.schema_is i) (n.table_is i)) ∙ body.other in
+    let left : admits names (named_schema bytes) (named_table bytes) ≡ false = (λ i. admits names (n.schema_is i) (n.table_is i)) ∙ body.other in
     ap (event_at names bytes) is ∙ ap (λ b. if b then table_map (table_at bytes) else other_map (number_at 6 bytes 19)) left ∙ ap other_map n.id_is
 said names (rows r) code may_ignore bytes (is, body) = rows_said names r.kind r code bytes is (rows_reported r bytes body).is
 said names (xid number) code may_ignore bytes (is, body) = ap (event_at names bytes) is ∙ ap xid (xid_one number bytes body)
@@ -205,7 +205,7 @@ rows_fine names Write code may_ignore bytes is none = subst (IsFine names bytes 
 rows_fine names Update code may_ignore bytes is none = subst (IsFine names bytes may_ignore) (sym is) (refl, none)
 rows_fine names Delete code may_ignore bytes is none = subst (IsFine names bytes may_ignore) (sym is) (refl, none)
 
-map_not_refused : (names : Names) (bytes : List ℕ) (columns : Bool) → names_fault bytes ≡ None → admits names (schema_of bytes) (table_of bytes) ≡ columns →
+map_not_refused : (names : Names) (bytes : List ℕ) (columns : Bool) → names_fault bytes ≡ None → admits names (named_schema bytes) (named_table bytes) ≡ columns →
     (columns ≡ true → columns_fault bytes (terminator_place bytes + 1) ≡ None) → table_map_fault names bytes ≡ None
 unfolding table_map_fault
 map_not_refused names bytes true none admitted fine = rw (none, admitted, fine refl) refl
@@ -222,12 +222,12 @@ fine names (rotate position name) code may_ignore bytes (is, body) = subst (IsFi
 fine names (gtid source number) code may_ignore bytes (is, body) = subst (IsFine names bytes may_ignore) (sym is) (refl, gtid_not_refused source number bytes body)
 fine names (table_map t) code may_ignore bytes (is, body, admitted) =
     let n = names_reported t.id t.schema t.table body.rest bytes body.named in
-    let taken : admits names (schema_of bytes) (table_of bytes) ≡ true = (λ i. admits names (n.schema_is i) (n.table_is i)) ∙ admitted in
+    let taken : admits names (named_schema bytes) (named_table bytes) ≡ true = (λ i. admits names (n.schema_is i) (n.table_is i)) ∙ admitted in
     let columns = columns_not_refused t.columns bytes (terminator_place bytes + 1) (subst (AreColumns t.columns) (sym n.rest_is) body.columns) in
     subst (IsFine names bytes may_ignore) (sym is) (refl, map_not_refused names bytes true (names_not_refused t.id t.schema t.table body.rest bytes body.named) taken (λ _. columns))
 fine names (other_map id) code may_ignore bytes (is, body) =
     let n = names_reported id body.schema body.table body.rest bytes body.named in
-    let left : admits names (schema_of bytes) (table_of bytes) ≡ false = (λ i. admits names (n.schema_is i) (n.table_is i)) ∙ body.other in
+    let left : admits names (named_schema bytes) (named_table bytes) ≡ false = (λ i. admits names (n.schema_is i) (n.table_is i)) ∙ body.other in
     subst (IsFine names bytes may_ignore) (sym is) (refl, map_not_refused names bytes false (names_not_refused id body.schema body.table body.rest bytes body.named) left (λ no. absurd (false≢true no)))
 fine names (rows r) code may_ignore bytes (is, body) = rows_fine names r.kind code may_ignore bytes is (rows_not_refused r.kind bytes (rows_reported r bytes body).are)
 fine names (xid number) code may_ignore bytes (is, body) = subst (IsFine names bytes may_ignore) (sym is) (refl, xid_not_refused number bytes body)
@@ -260,10 +260,10 @@ some_map : (names : Names) (code : ℕ) (may_ignore : Bool) (bytes : List ℕ) �
 unfolding table_map_fault
 some_map names code may_ignore bytes fits is none =
     let p1 = passes (names_fault bytes) _ none in
-    let p2 = passes (if admits names (schema_of bytes) (table_of bytes) then columns_fault bytes (terminator_place bytes + 1) else None) [] p1.1 in
+    let p2 = passes (if admits names (named_schema bytes) (named_table bytes) then columns_fault bytes (terminator_place bytes + 1) else None) [] p1.1 in
     let h = has_names bytes fits p1.0 in
     let n = names_reported h.id h.schema h.table h.rest bytes h.named in
-    elim (cases_Bool (admits names (schema_of bytes) (table_of bytes))) as (λ _. HasSome names code may_ignore (drop 19 bytes)) [
+    elim (cases_Bool (admits names (named_schema bytes) (named_table bytes))) as (λ _. HasSome names code may_ignore (drop 19 bytes)) [
       | inl taken ↦
           let fine = ap (λ b. if b then columns_fault bytes (terminator_place bytes + 1) else None) (sym taken) ∙ p2.0 in
           let c = has_columns bytes (terminator_place bytes + 1) fits fine in

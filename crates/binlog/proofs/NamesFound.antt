@@ -9,8 +9,8 @@ use Rattle.std.proofs.lemmas.Bool.{cases_lt, and_from, and_parts, false_from_ne_
 use Rattle.std.proofs.lemmas.List.Folds.{list_any_at, Any-from_list_any}
 use Rattle.std.proofs.lemmas.Slice.Eq.{bytes_eq-Decides}
 use Rattle.gtid.proofs.Placed.{rank}
-use Rattle.binlog.specs.Filter.{Name, name_cmp, is_listed}
-use Rattle.binlog.specs.FilterView.{names_of}
+use Rattle.binlog.specs.Filter.{Name, name_cmp, is_named_in}
+use Rattle.binlog.specs.FilterView.{name_list}
 use Rattle.binlog.proofs.Admitted.{name_cmp_total, name_cmp-same, itself}
 use Rattle.binlog.proofs.NamesOnce.{Kept, name_of, is_named, named}
 
@@ -22,19 +22,19 @@ first_below : (n : Name) (names : List Name) → IsStrictlySortedBy name_cmp (n 
 unfolding IsStrictlySortedBy
 first_below n names up = up
 
-below_at : {A : Type 0} (n : Name) (names : List (Kept A)) (j : ℕ) (d : Kept A) → AllByRecursion (λ y. name_cmp n y ≡ Less) (names_of names) → j < length names → name_cmp n (name_of (slice_index_or names j d)) ≡ Less
+below_at : {A : Type 0} (n : Name) (names : List (Kept A)) (j : ℕ) (d : Kept A) → AllByRecursion (λ y. name_cmp n y ≡ Less) (name_list names) → j < length names → name_cmp n (name_of (slice_index_or names j d)) ≡ Less
 below_at n [] j d below short = absurd (omega (arith, short))
 below_at n (a ∷ names) zero d below short = below.0
 below_at n (a ∷ names) (suc j) d below short = below_at n names j d below.1 (omega (arith, short))
 
-rises : {A : Type 0} (q : Name) (names : List (Kept A)) → IsStrictlySortedBy name_cmp (names_of names) → IsNonDecreasingBy (λ a. ordering_index (compares q a)) names
+rises : {A : Type 0} (q : Name) (names : List (Kept A)) → IsStrictlySortedBy name_cmp (name_list names) → IsNonDecreasingBy (λ a. ordering_index (compares q a)) names
 rises q [] up i j d le short = absurd (omega (arith, short))
 rises q (a ∷ names) up zero zero d le short = omega arith
 rises q (a ∷ names) up zero (suc j) d le short =
     let b = slice_index_or names j d in
-    rank name_cmp_total name_cmp-same (name_of a) (name_of b) q (compares q b) refl (below_at (name_of a) names j d (first_below (name_of a) (names_of names) up).0 (omega (arith, short)))
+    rank name_cmp_total name_cmp-same (name_of a) (name_of b) q (compares q b) refl (below_at (name_of a) names j d (first_below (name_of a) (name_list names) up).0 (omega (arith, short)))
 rises q (a ∷ names) up (suc i) zero d le short = absurd (omega (arith, le))
-rises q (a ∷ names) up (suc i) (suc j) d le short = rises q names (first_below (name_of a) (names_of names) up).1 i j d (omega (arith, le)) (omega (arith, short))
+rises q (a ∷ names) up (suc i) (suc j) d le short = rises q names (first_below (name_of a) (name_list names) up).1 i j d (omega (arith, le)) (omega (arith, short))
 
 -- a name that compares equal is the name, and the other way round
 equal_named : {A : Type 0} (q : Name) (a : Kept A) → compares q a ≡ Equal → is_named q a ≡ true
@@ -60,7 +60,7 @@ differ_above : {o : Ordering} → o ≡ Equal → o ≡ Greater → ⊥
 differ_above a b = Prim.cc
 
 -- what a binary search answers
-pub searched : {A : Type 0} (q : Name) (names : List (Kept A)) (r : Result ℕ ℕ) → IsStrictlySortedBy name_cmp (names_of names) → IsSearchInRange r (length names) → IsBinarySearchResult (compares q) names r → is_ok r ≡ is_listed q (names_of names)
+pub searched : {A : Type 0} (q : Name) (names : List (Kept A)) (r : Result ℕ ℕ) → IsStrictlySortedBy name_cmp (name_list names) → IsSearchInRange r (length names) → IsBinarySearchResult (compares q) names r → is_ok r ≡ is_named_in q (name_list names)
 searched q [] (Ok at) up bound position = absurd (omega (arith, bound))
 searched q (a ∷ names) (Ok at) up bound position = sym (named q (a ∷ names) ∙ list_any_at (is_named q) (a ∷ names) at a bound (equal_named q (slice_index_or (a ∷ names) at a) (position a)))
 searched q names (Err at) up bound position = sym (named q names ∙ false_from_ne_true _ (λ yes.

@@ -15,8 +15,8 @@ use Rattle.std.proofs.lemmas.List.Filters.{dedup_is}
 use Rattle.std.proofs.lemmas.List.Kept.{IsStrictlySortedBy-dedup}
 use Rattle.std.proofs.lemmas.List.Sorted.{list_any-IsPermutation}
 use Rattle.std.proofs.lemmas.Slice.Eq.{bytes_eq-Decides}
-use Rattle.binlog.specs.Filter.{Name, name_cmp, is_listed}
-use Rattle.binlog.specs.FilterView.{names_of}
+use Rattle.binlog.specs.Filter.{Name, name_cmp, is_named_in}
+use Rattle.binlog.specs.FilterView.{name_list}
 use Rattle.binlog.proofs.Admitted.{name_cmp_total, name_cmp-same, listed}
 
 -- a schema and a table as they are kept
@@ -58,7 +58,7 @@ same_named q a b is =
     let parts = and_parts _ _ is in
     λ i. bytes_eq ((bytes_eq-Decides a.0.items b.0.items).0 parts.0 i) q.0 && bytes_eq ((bytes_eq-Decides a.1.items b.1.items).0 parts.1 i) q.1
 
-pub named : {A : Type 0} (q : Name) (names : List (Kept A)) → is_listed q (names_of names) ≡ list_any (is_named q) names
+pub named : {A : Type 0} (q : Name) (names : List (Kept A)) → is_named_in q (name_list names) ≡ list_any (is_named q) names
 named q [] = refl
 named q (a ∷ names) = ap (λ c. is_named q a || c) (named q names)
 
@@ -66,31 +66,31 @@ named_once : {A : Type 0} (q : Name) (names : List (Kept A)) → list_any (is_na
 named_once q [] = refl
 named_once q (a ∷ names) = any_dedup (is_named q) (same_named q) a names
 
-rise : {A : Type 0} (names : List (Kept A)) → IsStrictlySortedBy kept_cmp names → IsStrictlySortedBy name_cmp (names_of names)
+rise : {A : Type 0} (names : List (Kept A)) → IsStrictlySortedBy kept_cmp names → IsStrictlySortedBy name_cmp (name_list names)
 unfolding IsStrictlySortedBy
 rise [] up = tt
 rise {A = A} (a ∷ names) up = (above names up.0, rise names up.1)
   where
-    above : (names : List (Kept A)) → AllByRecursion (λ b. kept_cmp a b ≡ Less) names → AllByRecursion (λ n. name_cmp (name_of a) n ≡ Less) (names_of names)
+    above : (names : List (Kept A)) → AllByRecursion (λ b. kept_cmp a b ≡ Less) names → AllByRecursion (λ n. name_cmp (name_of a) n ≡ Less) (name_list names)
     above [] less = tt
     above (b ∷ names) less = (less.0, above names less.1)
 
 -- Sorted and without duplicates the names ascend, and they are the same set.
-pub once_rise : {A : Type 0} (sorted kept : List (Kept A)) → IsSorted kept_cmp sorted → IsFiltered (DiffersFromLast kept_eq) [] sorted kept → IsStrictlySortedBy name_cmp (names_of kept)
+pub once_rise : {A : Type 0} (sorted kept : List (Kept A)) → IsSorted kept_cmp sorted → IsFiltered (DiffersFromLast kept_eq) [] sorted kept → IsStrictlySortedBy name_cmp (name_list kept)
 once_rise sorted kept up some = rw (dedup_is kept_eq sorted kept some) (rise (dedup kept_eq sorted) (IsStrictlySortedBy-dedup (on_total name_of name_cmp_total) kept_ties sorted up))
 
-pub once_same : {A : Type 0} (copied sorted kept : List (Kept A)) (given : List Name) → names_of copied ≡ given → IsPermutation copied sorted → IsFiltered (DiffersFromLast kept_eq) [] sorted kept → set.from_list {R = name_cmp} (names_of kept) ≡ set.from_list given
-once_same copied sorted kept given of moved some = set.same_set name_cmp_total name_cmp-same (set.from_list (names_of kept)) (set.from_list given) (λ q.
-    listed (names_of kept) q
+pub once_same : {A : Type 0} (copied sorted kept : List (Kept A)) (given : List Name) → name_list copied ≡ given → IsPermutation copied sorted → IsFiltered (DiffersFromLast kept_eq) [] sorted kept → set.from_list {R = name_cmp} (name_list kept) ≡ set.from_list given
+once_same copied sorted kept given of moved some = set.same_set name_cmp_total name_cmp-same (set.from_list (name_list kept)) (set.from_list given) (λ q.
+    listed (name_list kept) q
     ∙ named q kept
     ∙ ap (list_any (is_named q)) (dedup_is kept_eq sorted kept some)
     ∙ named_once q sorted
     ∙ sym (list_any-IsPermutation (is_named q) copied sorted moved)
     ∙ sym (named q copied)
-    ∙ ap (is_listed q) of
+    ∙ ap (is_named_in q) of
     ∙ sym (listed given q))
 
 -- the empty list of names ascends
-pub none_rise : {A : Type 0} (names : List (Kept A)) → names ≡ [] → IsStrictlySortedBy name_cmp (names_of names)
+pub none_rise : {A : Type 0} (names : List (Kept A)) → names ≡ [] → IsStrictlySortedBy name_cmp (name_list names)
 unfolding IsStrictlySortedBy
 none_rise names none = rw none tt

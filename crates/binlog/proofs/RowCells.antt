@@ -8,7 +8,7 @@ use Rattle.byteorder.specs.Endian.{little_bytes, little_number}
 use Rattle.byteorder.specs.Numbers.{little_number-reads_back, little_from-lt, length-bytes_low_first}
 use Rattle.binlog.specs.Cell.{CellValue, null_cell, number_cell, bytes_cell, is_null}
 use Rattle.binlog.specs.Shape.{shape, IsValue, value_end, cell_of}
-use Rattle.binlog.specs.Row.{kinds, bitmap_size, is_set, AreValues, IsRow, further, ◌>>=◌, values_end, row_end, cell_front, cells_of, row_cells}
+use Rattle.binlog.specs.Row.{kinds, bitmap_size, is_set, AreValues, IsRow, further, ◌>>=◌, values_end, row_end, cell_and_others, cells_from, row_cells}
 use Rattle.binlog.specs.declared.column.kind.ColumnKind.{ColumnKind}
 use Rattle.binlog.specs.declared.column.kind.ColumnType.{ColumnType}
 use Rattle.binlog.specs.declared.column.value.Shape.{Shape}
@@ -23,17 +23,17 @@ drop_kinds zero (x ∷ types) t short at = ap (λ (y : ColumnType). y.kind ∷ k
 drop_kinds (suc i) (x ∷ types) t short at = drop_kinds i types t (omega (arith, short)) at
 
 pub null_first : (bitmap values : List ℕ) (types : List ColumnType) (i : ℕ) (t : ColumnType) → i < length types → t ≡ get_or types i t → is_set bitmap i ≡ true →
-    cells_of bitmap i (drop i (kinds types)) values ≡ null_cell ∷ cells_of bitmap (i + 1) (drop (i + 1) (kinds types)) values
-null_first bitmap values types i t short at set = ap (λ l. cells_of bitmap i l values) (drop_kinds i types t short at) ∙ rw (set, add-one) refl
+    cells_from bitmap i (drop i (kinds types)) values ≡ null_cell ∷ cells_from bitmap (i + 1) (drop (i + 1) (kinds types)) values
+null_first bitmap values types i t short at set = ap (λ l. cells_from bitmap i l values) (drop_kinds i types t short at) ∙ rw (set, add-one) refl
 
 pub value_first : (bitmap values : List ℕ) (types : List ColumnType) (i size : ℕ) (t : ColumnType) → i < length types → t ≡ get_or types i t → is_set bitmap i ≡ false →
     value_end (shape t.kind) values ≡ Ok size →
-    cells_of bitmap i (drop i (kinds types)) values ≡ cell_of (shape t.kind) values ∷ cells_of bitmap (i + 1) (drop (i + 1) (kinds types)) (drop size values)
-value_first bitmap values types i size t short at clear is = ap (λ l. cells_of bitmap i l values) (drop_kinds i types t short at) ∙ rw (clear, is, add-one) refl
+    cells_from bitmap i (drop i (kinds types)) values ≡ cell_of (shape t.kind) values ∷ cells_from bitmap (i + 1) (drop (i + 1) (kinds types)) (drop size values)
+value_first bitmap values types i size t short at clear is = ap (λ l. cells_from bitmap i l values) (drop_kinds i types t short at) ∙ rw (clear, is, add-one) refl
 
 pub none_first : (bitmap values : List ℕ) (types : List ColumnType) (i place : ℕ) (t : ColumnType) → i < length types → t ≡ get_or types i t → is_set bitmap i ≡ false →
-    value_end (shape t.kind) values ≡ Err place → cells_of bitmap i (drop i (kinds types)) values ≡ []
-none_first bitmap values types i place t short at clear is = ap (λ l. cells_of bitmap i l values) (drop_kinds i types t short at) ∙ rw (clear, is) refl
+    value_end (shape t.kind) values ≡ Err place → cells_from bitmap i (drop i (kinds types)) values ≡ []
+none_first bitmap values types i place t short at clear is = ap (λ l. cells_from bitmap i l values) (drop_kinds i types t short at) ∙ rw (clear, is) refl
 
 -- ---- The end of a row, found column by column.
 
@@ -171,7 +171,7 @@ earlier bitmap i n cell cells set nulls (suc k) below = let e : i + suc k ≡ su
 
 pub record AreRead (bitmap : List ℕ) (i : ℕ) (types : List ColumnKind) (cells : List CellValue) (values more : List ℕ) : Type 0 where
   pub end : values_end bitmap i types (values ++ more) ≡ Ok (length values)
-  pub cells_are : cells_of bitmap i types (values ++ more) ≡ cells
+  pub cells_are : cells_from bitmap i types (values ++ more) ≡ cells
 
 -- a value, and others after it
 one_read : (bitmap : List ℕ) (i : ℕ) (t : ColumnKind) (types : List ColumnKind) (cell : CellValue) (cells : List CellValue) (values first others more : List ℕ) →
@@ -183,7 +183,7 @@ one_read bitmap i t types cell cells values first others more clear e is rest =
     let all : length first + length others ≡ length values = sym (ap length e ∙ length-append first others) in
     record {
       end = ap (values_end bitmap i (t ∷ types)) cut ∙ rw (clear, v.0, after_first, rest.end) (ap (λ (k : ℕ). Ok k) all);
-      cells_are = ap (cells_of bitmap i (t ∷ types)) cut ∙ rw (clear, v.0, v.1, after_first, rest.cells_are) refl;
+      cells_are = ap (cells_from bitmap i (t ∷ types)) cut ∙ rw (clear, v.0, v.1, after_first, rest.cells_are) refl;
     }
 
 values_are_read : (bitmap : List ℕ) (i : ℕ) (types : List ColumnKind) (cells : List CellValue) (values more : List ℕ) → Nulls bitmap i (length types) cells → AreValues types cells values →
@@ -215,42 +215,42 @@ are_values t types (bytes_cell v) cells bytes first others not_null e is are = (
 
 -- the rest of the values, if the first ends at an offset
 one_there : (bitmap : List ℕ) (i : ℕ) (t : ColumnKind) (types : List ColumnKind) (bytes : List ℕ) (size first : ℕ) (rest : Result ℕ ℕ) → is_set bitmap i ≡ false → value_end (shape t) bytes ≡ Ok first →
-    IsBytes bytes → further first rest ≡ Ok size → ((n : ℕ) → rest ≡ Ok n → AreThere bitmap (suc i) types (cells_of bitmap (suc i) types (drop first bytes)) (drop first bytes) n) →
-    AreThere bitmap i (t ∷ types) (cell_of (shape t) bytes ∷ cells_of bitmap (suc i) types (drop first bytes)) bytes size
+    IsBytes bytes → further first rest ≡ Ok size → ((n : ℕ) → rest ≡ Ok n → AreThere bitmap (suc i) types (cells_from bitmap (suc i) types (drop first bytes)) (drop first bytes) n) →
+    AreThere bitmap i (t ∷ types) (cell_of (shape t) bytes ∷ cells_from bitmap (suc i) types (drop first bytes)) bytes size
 one_there bitmap i t types bytes size first (Err place) clear is fits total others = absurd cc
 one_there bitmap i t types bytes size first (Ok n) clear is fits total others =
     let v = value_is_there (shape t) bytes first fits is in
     let o = others n refl in
     let same : first + n ≡ size = cc in
-    subst (λ k. AreThere bitmap i (t ∷ types) (cell_of (shape t) bytes ∷ cells_of bitmap (suc i) types (drop first bytes)) bytes k) same
+    subst (λ k. AreThere bitmap i (t ∷ types) (cell_of (shape t) bytes ∷ cells_from bitmap (suc i) types (drop first bytes)) bytes k) same
     (record {
       within = (let a = v.within in let b = o.within in omega (arith, a, b, length-drop first bytes));
-      values_are = are_values t types (cell_of (shape t) bytes) (cells_of bitmap (suc i) types (drop first bytes)) (take (first + n) bytes) (take first bytes) (take n (drop first bytes)) v.not_null
+      values_are = are_values t types (cell_of (shape t) bytes) (cells_from bitmap (suc i) types (drop first bytes)) (take (first + n) bytes) (take first bytes) (take n (drop first bytes)) v.not_null
           (take-add first n bytes) v.is_value o.values_are;
-      nulls = earlier bitmap i (length types) (cell_of (shape t) bytes) (cells_of bitmap (suc i) types (drop first bytes)) (clear ∙ sym v.not_null) o.nulls;
+      nulls = earlier bitmap i (length types) (cell_of (shape t) bytes) (cells_from bitmap (suc i) types (drop first bytes)) (clear ∙ sym v.not_null) o.nulls;
     })
 
 -- depending on the value of the first column
 by_value : (bitmap : List ℕ) (i : ℕ) (t : ColumnKind) (types : List ColumnKind) (bytes : List ℕ) (size : ℕ) (end : Result ℕ ℕ) → is_set bitmap i ≡ false → value_end (shape t) bytes ≡ end → IsBytes bytes →
     (end >>= (λ n. values_end bitmap (suc i) types (drop n bytes))) ≡ Ok size →
-    ((first n : ℕ) → values_end bitmap (suc i) types (drop first bytes) ≡ Ok n → AreThere bitmap (suc i) types (cells_of bitmap (suc i) types (drop first bytes)) (drop first bytes) n) →
-    AreThere bitmap i (t ∷ types) (cell_front end (cell_of (shape t) bytes) (λ n. cells_of bitmap (suc i) types (drop n bytes))) bytes size
+    ((first n : ℕ) → values_end bitmap (suc i) types (drop first bytes) ≡ Ok n → AreThere bitmap (suc i) types (cells_from bitmap (suc i) types (drop first bytes)) (drop first bytes) n) →
+    AreThere bitmap i (t ∷ types) (cell_and_others end (cell_of (shape t) bytes) (λ n. cells_from bitmap (suc i) types (drop n bytes))) bytes size
 by_value bitmap i t types bytes size (Err place) clear is fits total others = absurd cc
 by_value bitmap i t types bytes size (Ok first) clear is fits total others = one_there bitmap i t types bytes size first (values_end bitmap (suc i) types (drop first bytes)) clear is fits total (others first)
 
 values_are_there : (bitmap : List ℕ) (i : ℕ) (types : List ColumnKind) (bytes : List ℕ) (size : ℕ) → IsBytes bytes → values_end bitmap i types bytes ≡ Ok size →
-    AreThere bitmap i types (cells_of bitmap i types bytes) bytes size
+    AreThere bitmap i types (cells_from bitmap i types bytes) bytes size
 values_are_there bitmap i [] bytes size fits is =
     let none : 0 ≡ size = cc in
     subst (λ k. AreThere bitmap i [] [] bytes k) none (record { within = omega arith; values_are = refl; nulls = λ k below. absurd (omega (arith, below)) })
-values_are_there bitmap i (t ∷ types) bytes size fits is = elim (cases_Bool (is_set bitmap i)) as (λ _. AreThere bitmap i (t ∷ types) (cells_of bitmap i (t ∷ types) bytes) bytes size) [
+values_are_there bitmap i (t ∷ types) bytes size fits is = elim (cases_Bool (is_set bitmap i)) as (λ _. AreThere bitmap i (t ∷ types) (cells_from bitmap i (t ∷ types) bytes) bytes size) [
   | inl set ↦ (
       let o = values_are_there bitmap (suc i) types bytes size fits (rw set at is) in
-      let e : cells_of bitmap i (t ∷ types) bytes ≡ null_cell ∷ cells_of bitmap (suc i) types bytes = rw set refl in
+      let e : cells_from bitmap i (t ∷ types) bytes ≡ null_cell ∷ cells_from bitmap (suc i) types bytes = rw set refl in
       subst (λ l. AreThere bitmap i (t ∷ types) l bytes size) (sym e)
-      (record { within = o.within; values_are = o.values_are; nulls = earlier bitmap i (length types) null_cell (cells_of bitmap (suc i) types bytes) set o.nulls }))
+      (record { within = o.within; values_are = o.values_are; nulls = earlier bitmap i (length types) null_cell (cells_from bitmap (suc i) types bytes) set o.nulls }))
   | inr clear ↦ (
-      let e : cells_of bitmap i (t ∷ types) bytes ≡ cell_front (value_end (shape t) bytes) (cell_of (shape t) bytes) (λ n. cells_of bitmap (suc i) types (drop n bytes)) = rw clear refl in
+      let e : cells_from bitmap i (t ∷ types) bytes ≡ cell_and_others (value_end (shape t) bytes) (cell_of (shape t) bytes) (λ n. cells_from bitmap (suc i) types (drop n bytes)) = rw clear refl in
       subst (λ l. AreThere bitmap i (t ∷ types) l bytes size) (sym e)
       (by_value bitmap i t types bytes size (value_end (shape t) bytes) clear refl fits (rw clear at is) (λ first n rest. values_are_there bitmap (suc i) types (drop first bytes) n (IsBytes-drop first bytes fits) rest)))
 ]
@@ -270,7 +270,7 @@ row_is_read types cells first rest is =
     let long : size + length is.values ≡ length first = sym (ap length is.bytes_are ∙ length-append is.bitmap is.values ∙ ap (λ (k : ℕ). k + length is.values) is.bitmap_length) in
     let enough : size ≤ length (first ++ rest) = omega (arith, long, length-append first rest) in (
       rw (le-ltb _ _ enough) (ap (further size) ((λ i. values_end (front i) 0 types (back i)) ∙ read.end) ∙ ap (λ (k : ℕ). Ok k) long),
-      (λ i. cells_of (front i) 0 types (back i)) ∙ read.cells_are,
+      (λ i. cells_from (front i) 0 types (back i)) ∙ read.cells_are,
     )
 
 pub split_end : (size end : ℕ) (r : Result ℕ ℕ) → further size r ≡ Ok end → (n : ℕ) × (r ≡ Ok n) × (size + n ≡ end)
@@ -323,10 +323,10 @@ holds_bitmap types cells bytes is =
     omega (arith, size, is.bitmap_length, ap length is.bytes_are, length-append is.bitmap is.values)
 
 pub split_cells : (types : List ColumnType) (size : ℕ) (row front back : List ℕ) → size ≡ bitmap_size (length types) → front ≡ take size row → back ≡ drop size row →
-    cells_of front 0 (kinds types) back ≡ row_cells (kinds types) row
+    cells_from front 0 (kinds types) back ≡ row_cells (kinds types) row
 split_cells types size row front back e is_front is_back =
     let size_is : size ≡ bitmap_size (length (kinds types)) = e ∙ ap bitmap_size (sym (length-map types (λ (t : ColumnType). t.kind))) in
-    λ i. cells_of ((is_front ∙ ap (λ k. take k row) size_is) i) 0 (kinds types) ((is_back ∙ ap (λ k. drop k row) size_is) i)
+    λ i. cells_from ((is_front ∙ ap (λ k. take k row) size_is) i) 0 (kinds types) ((is_back ∙ ap (λ k. drop k row) size_is) i)
 
 pub fewer : (s t : List CellValue) (x : CellValue) → s ≡ x ∷ t → length t < length s
 fewer s t x e = omega (arith, ap length e)

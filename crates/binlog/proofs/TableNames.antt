@@ -5,7 +5,7 @@ use Rattle.std.proofs.lemmas.List.{length-drop, length-take, get_or-drop, take_a
 use Rattle.byteorder.specs.Endian.{little_bytes, little_number}
 use Rattle.byteorder.specs.Numbers.{little_number-reads_back, little_from-lt}
 use Rattle.binlog.specs.Fault.{needs, number_at}
-use Rattle.binlog.specs.Table.{IsNamed, table_place, terminator_place, schema_of, table_of, names_fault}
+use Rattle.binlog.specs.Table.{IsNamed, table_place, terminator_place, named_schema, named_table, names_fault}
 use Rattle.binlog.specs.Columns.{HasNames}
 use Rattle.binlog.proofs.Tables.{passes, is_there}
 use Rattle.wire.proofs.Cuts.{IsBytes, first_left, number_at_front, drop_drop, cut, one, after, drop_front, right_5}
@@ -17,7 +17,7 @@ one_at n m xs next short = one n xs short ∙ ap (λ k. get_or xs n 0 ∷ drop k
 -- ---- The names in the bytes.
 
 pub is_named : (bytes : List ℕ) → IsBytes bytes → terminator_place bytes + 1 ≤ length bytes →
-    IsNamed (number_at 6 bytes 19) (schema_of bytes) (table_of bytes) (drop (terminator_place bytes + 1) bytes) (drop 19 bytes)
+    IsNamed (number_at 6 bytes 19) (named_schema bytes) (named_table bytes) (drop (terminator_place bytes + 1) bytes) (drop 19 bytes)
 is_named bytes fits long =
     let sc = get_or bytes 27 0 in
     let tl = get_or bytes (table_place bytes - 1) 0 in
@@ -58,8 +58,8 @@ is_named bytes fits long =
 pub record ReportedNames (id : ℕ) (schema table rest bytes : List ℕ) : Type 0 where
   pub long : terminator_place bytes + 1 ≤ length bytes
   pub id_is : number_at 6 bytes 19 ≡ id
-  pub schema_is : schema_of bytes ≡ schema
-  pub table_is : table_of bytes ≡ table
+  pub schema_is : named_schema bytes ≡ schema
+  pub table_is : named_table bytes ≡ table
   pub rest_is : drop (terminator_place bytes + 1) bytes ≡ rest
 
 pub names_reported : (id : ℕ) (schema table rest bytes : List ℕ) → IsNamed id schema table rest (drop 19 bytes) → ReportedNames id schema table rest bytes
@@ -133,8 +133,8 @@ has_names bytes fits none =
     let p8 = passes (needs bytes (terminator_place bytes) 1) _ p7.1 in
     record {
       id = number_at 6 bytes 19;
-      schema = schema_of bytes;
-      table = table_of bytes;
+      schema = named_schema bytes;
+      table = named_table bytes;
       rest = drop (terminator_place bytes + 1) bytes;
       named = is_named bytes fits (is_there bytes (terminator_place bytes) 1 p8.0);
     }
@@ -142,8 +142,8 @@ has_names bytes fits none =
 -- ---- The names as the code finds them: the schema's length and the table's.
 
 pub record Found (bytes : List ℕ) (s t : ℕ) : Type 0 where
-  pub schema : take (28 + s - 28) (drop 28 bytes) ≡ schema_of bytes
-  pub table : take (28 + s + 2 + t - (28 + s + 2)) (drop (28 + s + 2) bytes) ≡ table_of bytes
+  pub schema : take (28 + s - 28) (drop 28 bytes) ≡ named_schema bytes
+  pub table : take (28 + s + 2 + t - (28 + s + 2)) (drop (28 + s + 2) bytes) ≡ named_table bytes
   pub end : 28 + s + 2 + t + 1 ≡ terminator_place bytes + 1
 
 pub found : (bytes : List ℕ) (s t : ℕ) → s ≡ get_or bytes 27 0 → t ≡ get_or bytes (28 + s + 1) 0 → Found bytes s t

@@ -5,7 +5,7 @@ use Rattle.std.proofs.lemmas.List.{length-append, length-drop, append-nil}
 use Rattle.std.specs.FinSet as set
 use Rattle.byteorder.specs.Endian.{little_bytes}
 use Rattle.binlog.specs.Header.{IsFramed}
-use Rattle.binlog.specs.Body.{IsFormat, IsGtid, IsQuery, statement}
+use Rattle.binlog.specs.Body.{IsFormat, IsGtidBody, IsQuery, statement}
 use Rattle.binlog.specs.Table.{TableValue}
 use Rattle.binlog.specs.Rows.{RowsValue}
 use Rattle.binlog.specs.Event.{EventValue, format, begin, commit, neutral, stop, rotate, gtid, table_map, other_map, rows, xid, IsOtherMap, HasBody, IsEvent}
@@ -71,7 +71,7 @@ query_written text = record {
   sizes = (refl, refl, refl, omega arith, omega arith);
 }
 
-gtid_written : (source : List ℕ) (number : ℕ) (body : List ℕ) → IsGtid source number body → IsGtid source number (gtid_body source number)
+gtid_written : (source : List ℕ) (number : ℕ) (body : List ℕ) → IsGtidBody source number body → IsGtidBody source number (gtid_body source number)
 gtid_written source number body is = record {
   flags = 0;
   ignored = [];

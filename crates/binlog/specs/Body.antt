@@ -36,7 +36,7 @@ abbrev pub IsXid : ℕ → List ℕ → Type 0
 IsXid number body = (number < 2 ^ 64) × (body ≡ little_bytes 8 number)
 
 -- The GTID of a transaction: flags, 16 bytes of source and a number in range. What follows is ignored.
-pub record IsGtid (source : List ℕ) (number : ℕ) (body : List ℕ) : Type 0 where
+pub record IsGtidBody (source : List ℕ) (number : ℕ) (body : List ℕ) : Type 0 where
   pub flags : ℕ
   pub ignored : List ℕ
   pub body_is : body ≡ flags ∷ source ++ little_bytes 8 number ++ ignored

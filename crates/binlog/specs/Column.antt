@@ -53,21 +53,21 @@ metadata (Enum width) = string_metadata codes.enum width
 metadata (Set width) = string_metadata codes.set width
 metadata _ = []
 
-abbrev pub is_within : ℕ → ℕ → ℕ → Bool
-is_within low high n = nat_le low n && nat_le n high
+abbrev pub is_between : ℕ → ℕ → ℕ → Bool
+is_between low high n = nat_le low n && nat_le n high
 
 -- the ranges of the metadata
 abbrev pub is_lawful : ColumnKind → Bool
 is_lawful (Varchar maximum) = nat_lt maximum 65536
-is_lawful (Blob prefix) = is_within 1 4 prefix
-is_lawful (Bit bits) = is_within 1 64 bits
-is_lawful (NewDecimal precision scale) = is_within 1 65 precision && (nat_le scale 30 && nat_le scale precision)
+is_lawful (Blob prefix) = is_between 1 4 prefix
+is_lawful (Bit bits) = is_between 1 64 bits
+is_lawful (NewDecimal precision scale) = is_between 1 65 precision && (nat_le scale 30 && nat_le scale precision)
 is_lawful (Timestamp2 fraction) = nat_le fraction 6
 is_lawful (Datetime2 fraction) = nat_le fraction 6
 is_lawful (Time2 fraction) = nat_le fraction 6
 is_lawful (Char maximum) = nat_lt maximum 1024
-is_lawful (Enum width) = is_within 1 2 width
-is_lawful (Set width) = is_within 1 8 width
+is_lawful (Enum width) = is_between 1 2 width
+is_lawful (Set width) = is_between 1 8 width
 is_lawful _ = true
 
 -- The type code and the front of the bytes are those of a type whose metadata is in range.
@@ -107,8 +107,8 @@ string_length first second = second + 16 * bit_xor (bit_and first 0x30) 0x30
 abbrev pub string_fault : ℕ → ℕ → Option EventFaultKind
 string_fault real size =
     if real == codes.string then None
-    else if real == codes.enum then when (not (is_within 1 2 size)) Metadata
-    else if real == codes.set then when (not (is_within 1 8 size)) Metadata
+    else if real == codes.enum then when (not (is_between 1 2 size)) Metadata
+    else if real == codes.set then when (not (is_between 1 8 size)) Metadata
     else Some (UnknownColumn real)
 
 -- what is wrong with the metadata of a supported type: its first byte, and the second, if it has two
@@ -116,10 +116,10 @@ unfoldable pub metadata_fault : ℕ → ℕ → ℕ → Option EventFaultKind
 metadata_fault code first second =
     if code == codes.float then when (not (first == 4)) Metadata
     else if code == codes.double then when (not (first == 8)) Metadata
-    else if code == codes.bit then when (not (nat_le first 7 && is_within 1 64 (8 * second + first))) Metadata
+    else if code == codes.bit then when (not (nat_le first 7 && is_between 1 64 (8 * second + first))) Metadata
     else if (code == codes.timestamp2) || (code == codes.datetime2) || (code == codes.time2) then when (not (nat_le first 6)) Metadata
-    else if code == codes.newdecimal then when (not (is_within 1 65 first && (nat_le second 30 && nat_le second first))) Metadata
-    else if code == codes.blob then when (not (is_within 1 4 first)) Metadata
+    else if code == codes.newdecimal then when (not (is_between 1 65 first && (nat_le second 30 && nat_le second first))) Metadata
+    else if code == codes.blob then when (not (is_between 1 4 first)) Metadata
     else if code == codes.string then string_fault (real_type first) (string_length first second)
     else None
 

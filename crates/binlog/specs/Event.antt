@@ -5,8 +5,8 @@ use Rattle.std.specs.List.{list_any}
 use Rattle.binlog.specs.EventType as event_type
 use Rattle.binlog.specs.Fault.{refuse, first_of}
 use Rattle.binlog.specs.Header.{ignorable_flag, IsFramed, header_fault}
-use Rattle.binlog.specs.Body.{IsFormat, IsRotate, IsXid, IsGtid, IsQuery, statement, format_fault, rotate_fault, xid_fault, gtid_fault, query_fault}
-use Rattle.binlog.specs.Table.{TableValue, IsNamed, IsTableMap, names_fault, columns_fault, schema_of, table_of, terminator_place}
+use Rattle.binlog.specs.Body.{IsFormat, IsRotate, IsXid, IsGtidBody, IsQuery, statement, format_fault, rotate_fault, xid_fault, gtid_fault, query_fault}
+use Rattle.binlog.specs.Table.{TableValue, IsNamed, IsTableMap, names_fault, columns_fault, named_schema, named_table, terminator_place}
 use Rattle.binlog.specs.Rows.{RowsValue, IsRows, rows_code, rows_fault}
 use Rattle.binlog.specs.Filter.{Names, admits}
 use Rattle.binlog.specs.declared.body.query.Query.TheVariants.{Begin, Commit}
@@ -72,7 +72,7 @@ HasBody names commit code may_ignore body = (code ≡ event_type.query) × IsQue
 HasBody names neutral code may_ignore body = IsNeutral code may_ignore
 HasBody names stop code may_ignore body = code ≡ event_type.stop
 HasBody names (rotate position name) code may_ignore body = (code ≡ event_type.rotate) × IsRotate position name body
-HasBody names (gtid source number) code may_ignore body = (code ≡ event_type.gtid) × IsGtid source number body
+HasBody names (gtid source number) code may_ignore body = (code ≡ event_type.gtid) × IsGtidBody source number body
 HasBody names (table_map t) code may_ignore body = (code ≡ event_type.table_map) × IsTableMap t body × (admits names t.schema t.table ≡ true)
 HasBody names (other_map id) code may_ignore body = (code ≡ event_type.table_map) × IsOtherMap names id body
 HasBody names (rows r) code may_ignore body = (code ≡ rows_code r.kind) × IsRows r body
@@ -111,7 +111,7 @@ type_fault code may_ignore = first_of (
 unfoldable pub table_map_fault : Names → List ℕ → Option EventFault
 table_map_fault names bytes = first_of (
     names_fault bytes
-    ∷ (if admits names (schema_of bytes) (table_of bytes) then columns_fault bytes (terminator_place bytes + 1) else None)
+    ∷ (if admits names (named_schema bytes) (named_table bytes) then columns_fault bytes (terminator_place bytes + 1) else None)
     ∷ [])
 
 -- the body of this type

@@ -24,12 +24,12 @@ abbrev pub names_code : Coded Names
 names_code = set.code (coded× (coded_list coded_ℕ) (coded_list coded_ℕ))
 
 -- whether a name is in the list
-abbrev pub is_listed : Name → List Name → Bool
-is_listed name names = list_any (λ n. bytes_eq n.0 name.0 && bytes_eq n.1 name.1) names
+abbrev pub is_named_in : Name → List Name → Bool
+is_named_in name names = list_any (λ n. bytes_eq n.0 name.0 && bytes_eq n.1 name.1) names
 
 -- Each of the names is in the list.
 abbrev pub AreAmong : List Name → List Name → Type 0
-AreAmong names of = AllByRecursion (λ n. is_listed n of ≡ true) names
+AreAmong names of = AllByRecursion (λ n. is_named_in n of ≡ true) names
 
 -- whether the filter admits a table
 abbrev pub admits : Names → List ℕ → List ℕ → Bool

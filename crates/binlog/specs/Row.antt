@@ -93,16 +93,16 @@ row_end types bytes =
     else further size (values_end (take size bytes) 0 types (drop size bytes))
 
 -- the cells of the columns from column i on, as far as their values fit
-abbrev pub cell_front : Result ℕ ℕ → CellValue → (ℕ → List CellValue) → List CellValue
-cell_front (Ok size) cell others = cell ∷ others size
-cell_front (Err place) cell others = []
+abbrev pub cell_and_others : Result ℕ ℕ → CellValue → (ℕ → List CellValue) → List CellValue
+cell_and_others (Ok size) cell others = cell ∷ others size
+cell_and_others (Err place) cell others = []
 
-abbrev pub cells_of : List ℕ → ℕ → List ColumnKind → List ℕ → List CellValue
-cells_of bitmap i [] bytes = []
-cells_of bitmap i (t ∷ types) bytes =
-    if is_set bitmap i then null_cell ∷ cells_of bitmap (suc i) types bytes
-    else cell_front (value_end (shape t) bytes) (cell_of (shape t) bytes) (λ size. cells_of bitmap (suc i) types (drop size bytes))
+abbrev pub cells_from : List ℕ → ℕ → List ColumnKind → List ℕ → List CellValue
+cells_from bitmap i [] bytes = []
+cells_from bitmap i (t ∷ types) bytes =
+    if is_set bitmap i then null_cell ∷ cells_from bitmap (suc i) types bytes
+    else cell_and_others (value_end (shape t) bytes) (cell_of (shape t) bytes) (λ size. cells_from bitmap (suc i) types (drop size bytes))
 
 -- the cells of the row at the front of bytes
 abbrev pub row_cells : List ColumnKind → List ℕ → List CellValue
-row_cells types bytes = cells_of (take (bitmap_size (length types)) bytes) 0 types (drop (bitmap_size (length types)) bytes)
+row_cells types bytes = cells_from (take (bitmap_size (length types)) bytes) 0 types (drop (bitmap_size (length types)) bytes)

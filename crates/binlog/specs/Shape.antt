@@ -3,7 +3,7 @@
 use Rattle.std.specs.Prelude.{◌≡◌, ℕ, ◌+◌, ◌-◌, ◌*◌, ◌/◌, ◌%◌, ◌<◌, ◌≤◌, ◌^◌, ◌⊎◌, Bool, true, List, ◌++◌, length, take, drop, nat_lt, if◌then◌else◌, Result, Ok, Err}
 use Rattle.byteorder.specs.Endian.{little_bytes, little_number}
 use Rattle.binlog.specs.Cell.{CellValue, number_cell, bytes_cell}
-use Rattle.binlog.specs.Column.{is_within}
+use Rattle.binlog.specs.Column.{is_between}
 use Rattle.binlog.specs.declared.column.kind.ColumnKind.{ColumnKind}
 use Rattle.binlog.specs.declared.column.kind.ColumnKind.TheVariants.{Tiny, Short, Int24, Long, LongLong, Varchar, Blob, Bit, NewDecimal, Float, Double, Date, Year, Timestamp2, Datetime2, Time2, Char, Enum, Set}
 use Rattle.binlog.specs.declared.column.value.Shape.{Shape}
@@ -40,9 +40,9 @@ shape (Set width) = Number width
 
 -- numbers and lengths of a size that is supported
 abbrev pub is_readable : Shape → Bool
-is_readable (Number width) = is_within 1 8 width
+is_readable (Number width) = is_between 1 8 width
 is_readable (Fixed size) = true
-is_readable (Prefixed size) = is_within 1 4 size
+is_readable (Prefixed size) = is_between 1 4 size
 
 -- The bytes are the cell's value.
 abbrev pub IsValue : Shape → CellValue → List ℕ → Type 0

@@ -65,11 +65,11 @@ abbrev pub terminator_place : List ℕ → ℕ
 terminator_place bytes = table_place bytes + slice_index bytes (table_place bytes - 1)
 
 -- the names
-abbrev pub schema_of : List ℕ → List ℕ
-schema_of bytes = take (slice_index bytes 27) (drop 28 bytes)
+abbrev pub named_schema : List ℕ → List ℕ
+named_schema bytes = take (slice_index bytes 27) (drop 28 bytes)
 
-abbrev pub table_of : List ℕ → List ℕ
-table_of bytes = take (slice_index bytes (table_place bytes - 1)) (drop (table_place bytes) bytes)
+abbrev pub named_table : List ℕ → List ℕ
+named_table bytes = take (slice_index bytes (table_place bytes - 1)) (drop (table_place bytes) bytes)
 
 unfoldable pub names_fault : List ℕ → Option EventFault
 names_fault bytes =
@@ -78,6 +78,15 @@ names_fault bytes =
     needs bytes 19 6 ∷ needs bytes 25 2 ∷ needs bytes 27 1 ∷ needs bytes 28 (slice_index bytes 27) ∷ needs bytes (table - 2) 1
     ∷ needs bytes (table - 1) 1 ∷ needs bytes table (slice_index bytes (table - 1)) ∷ needs bytes (terminator_place bytes) 1
     ∷ [])
+
+-- The type code of this column, counted from 0, is at an offset: after the names and the number of columns.
+pub record IsCodeOf (bytes : List ℕ) (at column : ℕ) : Type 0 where
+  pub at_is : at ≡ terminator_place bytes + 1 + count_width bytes (terminator_place bytes + 1) + column
+  pub within : column < count_at bytes (terminator_place bytes + 1)
+
+-- The names or the number of columns cannot be read.
+abbrev pub HasNoColumns : List ℕ → Type 0
+HasNoColumns bytes = IsTrue (is_none (first_of (names_fault bytes ∷ no_count bytes (terminator_place bytes + 1) Columns ∷ []))) → ⊥
 
 abbrev pub is_column_count : ℕ → Bool
 is_column_count n = nat_le 1 n && nat_le n most_columns

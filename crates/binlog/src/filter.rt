@@ -3,8 +3,8 @@
 ghost use Rattle.std.specs.Prelude.{◌≡◌, ◌↔◌, false, IsTrue, IfOk, IfErr};
 ghost use Rattle.std.specs.FinSet as set;
 ghost use Rattle.std.specs.List.Sorted.{IsStrictlySortedBy};
-ghost use Rattle.binlog.specs.Filter.{name_cmp, admits, is_listed, AreAmong};
-ghost use Rattle.binlog.specs.FilterView.{names_of};
+ghost use Rattle.binlog.specs.Filter.{name_cmp, admits, is_named_in, AreAmong};
+ghost use Rattle.binlog.specs.FilterView.{name_list};
 ghost use Rattle.binlog.specs.declared.fault.EventFaultKind.TheVariants.{Memory};
 
 use crate::fault::EventFault;
@@ -29,14 +29,14 @@ impl Model for Follow {
     ghost coded = { names_code };
 
     ghost use Rattle.std.specs.FinSet as set;
-    ghost use Rattle.binlog.specs.FilterView.{names_of};
+    ghost use Rattle.binlog.specs.FilterView.{name_list};
 
-    ghost view = { λ f. set.from_list (names_of f.names.items) };
+    ghost view = { λ f. set.from_list (name_list f.names.items) };
 
     ghost use Rattle.std.specs.List.Sorted.{IsStrictlySortedBy};
     ghost use Rattle.binlog.specs.Filter.{name_cmp};
 
-    ghost invariant = { λ f. IsStrictlySortedBy name_cmp (names_of f.names.items) };
+    ghost invariant = { λ f. IsStrictlySortedBy name_cmp (name_list f.names.items) };
 }
 
 impl Follow {
@@ -52,7 +52,7 @@ impl Follow {
     /// The tables of a list, each a schema and a name. Duplicates count once, and an empty list means all tables. The
     /// only error is `Memory`.
     pub fn new(alloc: Global, names: &[(Vec<u8>, Vec<u8>)]) -> Result<Follow, EventFault>
-        ensures ok { IfOk result (λ follow. follow ≡ set.from_list (names_of names.now)) }
+        ensures ok { IfOk result (λ follow. follow ≡ set.from_list (name_list names.now)) }
         ensures err { IfErr result (λ fault. fault ≡ record { kind = Memory; at = 0 }) }
     {
         let mut names = copy_all(alloc, names)?;
@@ -64,15 +64,15 @@ impl Follow {
     /// The names, each once and in ascending order by the bytes of the schema and then of the table. If all tables are
     /// followed there are none.
     pub fn names(&self) -> &[(Vec<u8>, Vec<u8>)]
-        ensures ascend { IsStrictlySortedBy name_cmp (names_of result.now) }
-        ensures set { set.from_list (names_of result.now) ≡ self.now }
+        ensures ascend { IsStrictlySortedBy name_cmp (name_list result.now) }
+        ensures set { set.from_list (name_list result.now) ≡ self.now }
     {
         &self.names
     }
 
     /// Whether two lists have the same names. It takes no memory.
     pub fn is_same(&self, other: &Follow) -> bool
-        ensures { IsTrue result ↔ self.now ≡ other.now }
+        ensures { IsTrue result ↔ (self.now ≡ other.now) }
     {
         if !are_among(&self.names, &other.names) {
             return false;
@@ -94,7 +94,7 @@ fn copy_all(
     alloc: Global,
     names: &[(Vec<u8>, Vec<u8>)],
 ) -> Result<Vec<(Vec<u8>, Vec<u8>)>, EventFault>
-    ensures ok { IfOk result (λ copied. names_of copied.items ≡ names_of names.now) }
+    ensures ok { IfOk result (λ copied. name_list copied.items ≡ name_list names.now) }
     ensures err { IfErr result (λ fault. fault ≡ record { kind = Memory; at = 0 }) }
 {
     let mut copied = Vec::new(alloc);
@@ -116,9 +116,9 @@ fn copy(name: &(Vec<u8>, Vec<u8>)) -> Result<(Vec<u8>, Vec<u8>), EventFault>
 
 /// Whether each of the names is one of the list's.
 fn are_among(names: &[(Vec<u8>, Vec<u8>)], of: &[(Vec<u8>, Vec<u8>)]) -> bool
-    requires { IsStrictlySortedBy name_cmp (names_of of.now) }
-    ensures all { IsTrue result → AreAmong (names_of names.now) (names_of of.now) }
-    ensures some { result ≡ false → ¬ AreAmong (names_of names.now) (names_of of.now) }
+    requires { IsStrictlySortedBy name_cmp (name_list of.now) }
+    ensures all { IsTrue result → AreAmong (name_list names.now) (name_list of.now) }
+    ensures some { result ≡ false → ¬ AreAmong (name_list names.now) (name_list of.now) }
 {
     for name in names {
         if !is_listed(of, &name.0, &name.1) {
@@ -130,8 +130,8 @@ fn are_among(names: &[(Vec<u8>, Vec<u8>)], of: &[(Vec<u8>, Vec<u8>)]) -> bool
 
 /// Whether a table is in the list, by binary search.
 fn is_listed(names: &[(Vec<u8>, Vec<u8>)], schema: &[u8], table: &[u8]) -> bool
-    requires { IsStrictlySortedBy name_cmp (names_of names.now) }
-    ensures { result ≡ is_listed (schema.now, table.now) (names_of names.now) }
+    requires { IsStrictlySortedBy name_cmp (name_list names.now) }
+    ensures { result ≡ is_named_in (schema.now, table.now) (name_list names.now) }
 {
     names
         .binary_search_by(|name| compare(name, schema, table))

@@ -28,10 +28,11 @@ mod row_pair;
 mod rows;
 
 pub use body::rows_event::{RowsEvent, RowsKind};
-pub use body::table_map::{TableDef, TableMap};
+pub use body::table_map::{ColumnPlace, TableDef, TableMap};
 pub use cell::{Cell, OwnedCell};
 pub use column::kind::{ColumnKind, ColumnType};
 pub use column::types::{ColumnTypes, ColumnTypesIter};
+pub use column::value::number_fits;
 pub use event::{Event, read_event, read_event_only};
 pub use fault::{EventFault, EventFaultKind};
 pub use filter::Follow;

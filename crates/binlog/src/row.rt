@@ -30,9 +30,9 @@ impl<'a> Model for Row<'a> {
 
     ghost Value = { List CellValue };
 
-    ghost use Rattle.binlog.specs.Row.{kinds, cells_of};
+    ghost use Rattle.binlog.specs.Row.{kinds, cells_from};
 
-    ghost view = { λ r. cells_of r.bitmap.now 0 (kinds r.types.now) r.values.now };
+    ghost view = { λ r. cells_from r.bitmap.now 0 (kinds r.types.now) r.values.now };
 }
 
 /// An iterator over the cells of a row. It takes no memory. In contracts it is the list of those that are still to
@@ -56,9 +56,9 @@ impl<'a> Model for Cells<'a> {
 
     ghost Value = { List CellValue };
 
-    ghost use Rattle.binlog.specs.Row.{kinds, cells_of};
+    ghost use Rattle.binlog.specs.Row.{kinds, cells_from};
 
-    ghost view = { λ c. cells_of c.bitmap.now c.index (drop c.index (kinds c.types.now)) c.values.now };
+    ghost view = { λ c. cells_from c.bitmap.now c.index (drop c.index (kinds c.types.now)) c.values.now };
 }
 
 impl<'a> Row<'a> {

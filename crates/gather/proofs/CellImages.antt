@@ -10,7 +10,7 @@ use Rattle.byteorder.specs.Numbers.{little_number-reads_back, little_from-lt, le
 use Rattle.binlog.specs.Cell.{CellValue, null_cell, number_cell, bytes_cell}
 use Rattle.wire.proofs.Cuts.{IsBytes, IsBytes-rest, take_is_number, drop_at, drop_front}
 use Rattle.gather.specs.Image.{cell_image, HasCellImage}
-use Rattle.gather.specs.ImageCells.{number_front, bytes_front, cell_front, goes_on, cells_of, cells_in}
+use Rattle.gather.specs.ImageCells.{number_front, bytes_front, cell_front, goes_on, cells_in_image, cells_in}
 
 -- ---- What is read is the image of a cell.
 
@@ -107,12 +107,12 @@ image_is_read (bytes_cell value) rest has =
 -- ---- Cells one after another.
 
 -- any two amounts of fuel that are enough give the same
-enough_after : (m n : ℕ) (bytes : List ℕ) (found : Option (CellValue × ℕ)) → cell_front bytes ≡ found → ((size : ℕ) → 1 ≤ size → cells_of m (drop size bytes) ≡ cells_of n (drop size bytes)) →
-    goes_on found (λ size. cells_of m (drop size bytes)) ≡ goes_on found (λ size. cells_of n (drop size bytes))
+enough_after : (m n : ℕ) (bytes : List ℕ) (found : Option (CellValue × ℕ)) → cell_front bytes ≡ found → ((size : ℕ) → 1 ≤ size → cells_in_image m (drop size bytes) ≡ cells_in_image n (drop size bytes)) →
+    goes_on found (λ size. cells_in_image m (drop size bytes)) ≡ goes_on found (λ size. cells_in_image n (drop size bytes))
 enough_after m n bytes None is others = refl
 enough_after m n bytes (Some front) is others = ap (λ l. front.0 ∷ l) (others front.1 (front_is bytes front is).some)
 
-pub enough : (m n : ℕ) (bytes : List ℕ) → length bytes ≤ m → length bytes ≤ n → cells_of m bytes ≡ cells_of n bytes
+pub enough : (m n : ℕ) (bytes : List ℕ) → length bytes ≤ m → length bytes ≤ n → cells_in_image m bytes ≡ cells_in_image n bytes
 enough zero zero bytes a b = refl
 enough zero (suc n) [] a b = refl
 enough zero (suc n) (x ∷ bytes) a b = absurd (omega (arith, a))
@@ -121,7 +121,7 @@ enough (suc m) zero (x ∷ bytes) a b = absurd (omega (arith, b))
 enough (suc m) (suc n) bytes a b = enough_after m n bytes (cell_front bytes) refl
     (λ size some. let shorter = length-drop size bytes in enough m n (drop size bytes) (omega (arith, a, some, shorter)) (omega (arith, b, some, shorter)))
 
-by_length : (count : ℕ) (bytes : List ℕ) (front : CellValue × ℕ) → length bytes ≡ suc count → cell_front bytes ≡ Some front → cells_of (suc count) bytes ≡ front.0 ∷ cells_in (drop front.1 bytes)
+by_length : (count : ℕ) (bytes : List ℕ) (front : CellValue × ℕ) → length bytes ≡ suc count → cell_front bytes ≡ Some front → cells_in_image (suc count) bytes ≡ front.0 ∷ cells_in (drop front.1 bytes)
 by_length count bytes front long is =
     let f = front_is bytes front is in
     let some = f.some in

@@ -15,7 +15,7 @@ use Rattle.binlog.specs.Rows.{RowsValue}
 use Rattle.binlog.specs.Event.{EventValue, format, begin, commit, neutral, stop, rotate, gtid, table_map, other_map, rows, xid}
 use Rattle.binlog.specs.declared.body.table_map.TableDef.{TableDef}
 use Rattle.gather.specs.Transaction.{ChangeValue, said_of, map_of, change_of, is_end, AreChangesOf, AreChanges}
-use Rattle.gather.specs.OpenTransaction.{table_of, said, Adds, Keeps}
+use Rattle.gather.specs.OpenTransaction.{table_of, said, AppendsChanges, HasTaken}
 use Rattle.gather.specs.declared.open_transaction.OpenTransaction.{OpenTransaction}
 
 pub or_none : (x : Option (Option TableValue)) → option_or x None ≡ x
@@ -103,25 +103,25 @@ pub copied : (t : TableValue) (kept : Rc TableDef Global) (d : TableDef) → kep
 copied t kept d is parts = rw (is, parts.0, parts.1, parts.2) refl
 
 -- what is kept of a rows event's number is what the last table map with it says
-pub reported : (body : List EventValue) (current : OpenTransaction) (id : ℕ) (kept : Option (Rc TableDef Global)) → Keeps body current → get nat_cmp current.maps id ≡ Some kept → map_of body id ≡ Some (said id kept)
+pub reported : (body : List EventValue) (current : OpenTransaction) (id : ℕ) (kept : Option (Rc TableDef Global)) → HasTaken body current → get nat_cmp current.maps id ≡ Some kept → map_of body id ≡ Some (said id kept)
 reported body current id kept keeps is = sym (keeps.maps id) ∙ ap (option_map (said id)) is
 
 rows_say_nothing : (maps : BTreeMap ℕ (Option (Rc TableDef Global))) (body : List EventValue) (r : RowsValue) → ((q : ℕ) → option_map (said q) (get nat_cmp maps q) ≡ map_of body q) →
     (q : ℕ) → option_map (said q) (get nat_cmp maps q) ≡ map_of (body ++ rows r ∷ []) q
 rows_say_nothing maps body r before q = before q ∙ sym (map_of_more body (rows r) q)
 
-pub keeps_other : (body : List EventValue) (current : OpenTransaction) (r : RowsValue) → Keeps body current → get nat_cmp current.maps r.id ≡ Some None → Keeps (body ++ rows r ∷ []) current
+pub keeps_other : (body : List EventValue) (current : OpenTransaction) (r : RowsValue) → HasTaken body current → get nat_cmp current.maps r.id ≡ Some None → HasTaken (body ++ rows r ∷ []) current
 keeps_other body current r keeps is = record {
   maps = rows_say_nothing current.maps body r keeps.maps;
   changes = no_changes [] body (rows r) current.changes keeps.changes (None, reported body current r.id None keeps is, refl);
 }
 
-pub adds_rows : (body : List EventValue) (current : OpenTransaction) (r : RowsValue) (kept : Rc TableDef Global) (new : List ChangeValue) → Keeps body current → get nat_cmp current.maps r.id ≡ Some (Some kept) →
-    Adds (table_of r.id kept) r current.changes new → AreChanges [] (body ++ rows r ∷ []) new
+pub adds_rows : (body : List EventValue) (current : OpenTransaction) (r : RowsValue) (kept : Rc TableDef Global) (new : List ChangeValue) → HasTaken body current → get nat_cmp current.maps r.id ≡ Some (Some kept) →
+    AppendsChanges (table_of r.id kept) r current.changes new → AreChanges [] (body ++ rows r ∷ []) new
 adds_rows body current r kept new keeps is adds =
     let own = map (change_of (table_of r.id kept)) adds.pairs in
     let of : AreChangesOf body (rows r) own = (Some (table_of r.id kept), reported body current r.id (Some kept) keeps is, (adds.pairs, adds.read, refl)) in
     subst (AreChanges [] (body ++ rows r ∷ [])) (sym adds.after_is) (changes_more [] body (rows r) current.changes own keeps.changes of)
 
-pub maps_stay : (body : List EventValue) (current : OpenTransaction) (r : RowsValue) → Keeps body current → (q : ℕ) → option_map (said q) (get nat_cmp current.maps q) ≡ map_of (body ++ rows r ∷ []) q
+pub maps_stay : (body : List EventValue) (current : OpenTransaction) (r : RowsValue) → HasTaken body current → (q : ℕ) → option_map (said q) (get nat_cmp current.maps q) ≡ map_of (body ++ rows r ∷ []) q
 maps_stay body current r keeps = rows_say_nothing current.maps body r keeps.maps

@@ -12,7 +12,7 @@ use Rattle.binlog.specs.declared.fault.EventFaultKind.TheVariants.{Columns, Trun
 use Rattle.wire.proofs.Cuts.{IsBytes-all}
 use Rattle.binlog.proofs.RowsItems.{whole_or_early, one_end, some_items}
 use Rattle.gather.specs.Transaction.{ChangeValue, DeliveryValue, is_neutral, is_mark, is_end, map_of, change_of, AreRowChanges, AreChangesOf, IsAnnounced, IsOpen, IsWhole, IsBlock, AreBlocks, is_format_first, AreDeliveries, IsLawful}
-use Rattle.gather.specs.Fault.{is_format, is_gtid, has_format, add_event, last_block, is_announced, is_open, is_of_transaction, is_in_place, type_of, IsRowsFault, IsFault, no_format, misplaced, unread, HasFault, IsRead}
+use Rattle.gather.specs.Fault.{is_format, is_gtid, has_format, add_event, last_block, is_announced, is_open, is_of_transaction, is_in_place, type_of, IsRowsFault, IsFault, no_format, misplaced, unread, HasFault, IsFromBytes}
 use Rattle.gather.specs.declared.fault.GatherFault.{GatherFault}
 use Rattle.gather.specs.declared.fault.GatherFault.TheVariants.{NoFormat, Misplaced, UnknownTable, Event}
 use Rattle.gather.proofs.Maps.{changes_more}
@@ -29,7 +29,7 @@ all_after [] rest all = all
 all_after (b ∷ front) rest all = all_after front rest all.1
 
 -- the rows are bytes
-fitting : (r : RowsValue) → IsRead (rows r) → AllByRecursion (λ b. b < 256) r.bytes
+fitting : (r : RowsValue) → IsFromBytes (rows r) → AllByRecursion (λ b. b < 256) r.bytes
 fitting r is =
     let f = is.is_event.framed in
     let h = is.is_event.has_body.1 in
@@ -115,7 +115,7 @@ by_items body r t is columns (inl whole) = inl (map (change_of t) whole.0, (Some
 by_items body r t is columns (inr early) =
     inr (Event (record { kind = Truncated; at = r.bytes_at + early.1 }), inr (columns, early.0, early.1, early.2, refl))
 
-rows_next : (body : List EventValue) (r : RowsValue) (m : Option (Option TableValue)) → map_of body r.id ≡ m → IsRead (rows r) → RowsNext body r m
+rows_next : (body : List EventValue) (r : RowsValue) (m : Option (Option TableValue)) → map_of body r.id ≡ m → IsFromBytes (rows r) → RowsNext body r m
 rows_next body r None is read = inr (UnknownTable r.id, refl)
 rows_next body r (Some None) is read = inl ([], (None, is, refl))
 rows_next body r (Some (Some t)) is read =
@@ -126,7 +126,7 @@ rows_next body r (Some (Some t)) is read =
 
 -- ---- Lawful, or a fault.
 
-rows_after : (events : List EventValue) (r : RowsValue) → IsRead (rows r) → IsLawful events → has_format events ≡ true → is_open (last_block events) ≡ true → IsOpen (last_block events) → Next events (rows r)
+rows_after : (events : List EventValue) (r : RowsValue) → IsFromBytes (rows r) → IsLawful events → has_format events ≡ true → is_open (last_block events) ≡ true → IsOpen (last_block events) → Next events (rows r)
 rows_after events r read lawful has there o =
     let same : map_of (last_block events) r.id ≡ map_of o.body r.id = ap (λ b. map_of b r.id) o.block_is ∙ map_of_body o.source o.number o.body r.id in
     ⊎_elim
@@ -137,7 +137,7 @@ rows_after events r read lawful has there o =
 open_at : (events : List EventValue) → IsLawful events → is_open (last_block events) ≡ true → IsOpen (last_block events)
 open_at events lawful there = opened_blocks events lawful.are.blocks lawful.deliveries lawful.are.cut lawful.are.each there
 
-in_its_place : (events : List EventValue) (e : EventValue) → IsRead e → IsLawful events → has_format events ≡ true → is_in_place (last_block events) e ≡ true → Next events e
+in_its_place : (events : List EventValue) (e : EventValue) → IsFromBytes e → IsLawful events → has_format events ≡ true → is_in_place (last_block events) e ≡ true → Next events e
 in_its_place events neutral read lawful has there = inl (passed events lawful)
 in_its_place events format read lawful has there = inl (stands events format refl refl refl lawful)
 in_its_place events stop read lawful has there = inl (stands events stop refl refl refl lawful)
@@ -150,7 +150,7 @@ in_its_place events (table_map t) read lawful has there = inl (gone_on events (t
 in_its_place events (other_map id) read lawful has there = inl (gone_on events (other_map id) [] (continues (other_map id) refl refl) (open_at events lawful there) refl lawful)
 in_its_place events (rows r) read lawful has there = rows_after events r read lawful has there (open_at events lawful there)
 
-of_transaction : (events : List EventValue) (e : EventValue) → IsRead e → IsLawful events → is_of_transaction e ≡ true → Next events e
+of_transaction : (events : List EventValue) (e : EventValue) → IsFromBytes e → IsLawful events → is_of_transaction e ≡ true → Next events e
 of_transaction events e read lawful of =
     ⊎_elim
     (λ has. ⊎_elim
@@ -160,7 +160,7 @@ of_transaction events e read lawful of =
     (λ none. inr (record { fault = NoFormat; is_fault = no_format of none refl }))
     (cases_Bool (has_format events))
 
-pub some : (events : List EventValue) (e : EventValue) → IsRead e → IsLawful events → Next events e
+pub some : (events : List EventValue) (e : EventValue) → IsFromBytes e → IsLawful events → Next events e
 some events neutral read lawful = inl (passed events lawful)
 some events format read lawful = inl (stands events format refl refl refl lawful)
 some events stop read lawful = inl (stands events stop refl refl refl lawful)
@@ -288,12 +288,12 @@ placed events e ds (ends is o before all are) = end_place (last_block events) e 
 
 -- ---- Not both.
 
-read_rows : (said : Option TableValue) (r : RowsValue) (own : List ChangeValue) (fault : GatherFault) → IsRead (rows r) → AreRowChanges said r own → IsRowsFault (Some said) r fault → ⊥
+read_rows : (said : Option TableValue) (r : RowsValue) (own : List ChangeValue) (fault : GatherFault) → IsFromBytes (rows r) → AreRowChanges said r own → IsRowsFault (Some said) r fault → ⊥
 read_rows None r own fault read are bad = bad
 read_rows (Some t) r own fault read are (inl bad) = bad.0 are.1.columns
 read_rows (Some t) r own fault read are (inr bad) = whole_or_early r.kind t.columns are.0 bad.1 r.bytes bad.2 (many_columns t r read bad.0) are.1.rows_are bad.3
 
-rows_not_both : (events : List EventValue) (r : RowsValue) (ds : List DeliveryValue) (fault : GatherFault) → IsRead (rows r) → Back events (rows r) ds → IsRowsFault (map_of (last_block events) r.id) r fault → ⊥
+rows_not_both : (events : List EventValue) (r : RowsValue) (ds : List DeliveryValue) (fault : GatherFault) → IsFromBytes (rows r) → Back events (rows r) ds → IsRowsFault (map_of (last_block events) r.id) r fault → ⊥
 rows_not_both events r ds fault read (passes is are) bad = absurd cc
 rows_not_both events r ds fault read (marks is are) bad = absurd cc
 rows_not_both events r ds fault read (announces is are) bad = absurd cc
@@ -303,17 +303,17 @@ rows_not_both events r ds fault read (goes_on o own of are) bad =
     let said : map_of (last_block events) r.id ≡ Some of.0 = ap (λ b. map_of b r.id) o.block_is ∙ map_of_body o.source o.number o.body r.id ∙ of.1 in
     read_rows of.0 r own fault read of.2 (subst (λ m. IsRowsFault m r fault) said bad)
 
-pub not_both : (events : List EventValue) (e : EventValue) (fault : GatherFault) → IsRead e → IsLawful (events ++ e ∷ []) → IsFault events e fault → ⊥
+pub not_both : (events : List EventValue) (e : EventValue) (fault : GatherFault) → IsFromBytes e → IsLawful (events ++ e ∷ []) → IsFault events e fault → ⊥
 not_both events e fault read lawful (no_format of none is) =
     absurd (true≢false (sym (formatted events e lawful.deliveries (back events e lawful.deliveries lawful.are) lawful.are.format_first of) ∙ none))
 not_both events e fault read lawful (misplaced has out is) =
     absurd (true≢false (sym (placed events e lawful.deliveries (back events e lawful.deliveries lawful.are)) ∙ out))
 not_both events e fault read lawful (unread r is has there bad) =
-    rows_not_both events r lawful.deliveries fault (subst IsRead is read) (subst (λ x. Back events x lawful.deliveries) is (back events e lawful.deliveries lawful.are)) bad
+    rows_not_both events r lawful.deliveries fault (subst IsFromBytes is read) (subst (λ x. Back events x lawful.deliveries) is (back events e lawful.deliveries lawful.are)) bad
 
 -- ---- One fault.
 
-one_rows_fault : (m : Option (Option TableValue)) (r : RowsValue) (a b : GatherFault) → IsRead (rows r) → IsRowsFault m r a → IsRowsFault m r b → a ≡ b
+one_rows_fault : (m : Option (Option TableValue)) (r : RowsValue) (a b : GatherFault) → IsFromBytes (rows r) → IsRowsFault m r a → IsRowsFault m r b → a ≡ b
 one_rows_fault None r a b read is_a is_b = is_a ∙ sym is_b
 one_rows_fault (Some None) r a b read is_a is_b = absurd is_a
 one_rows_fault (Some (Some t)) r a b read (inl x) (inl y) = x.1 ∙ sym y.1
@@ -329,7 +329,7 @@ same_event r s is = cc
 open_place : (block : List EventValue) (e : EventValue) (r : RowsValue) → e ≡ rows r → is_open block ≡ true → is_in_place block e ≡ true
 open_place block e r is there = ap (is_in_place block) is ∙ there
 
-pub one : (events : List EventValue) (e : EventValue) (a b : GatherFault) → IsRead e → IsFault events e a → IsFault events e b → a ≡ b
+pub one : (events : List EventValue) (e : EventValue) (a b : GatherFault) → IsFromBytes e → IsFault events e a → IsFault events e b → a ≡ b
 one events e a b read (no_format of none is) (no_format of' none' is') = is ∙ sym is'
 one events e a b read (no_format of none is) (misplaced has out is') = absurd (true≢false (sym has ∙ none))
 one events e a b read (no_format of none is) (unread r e_is has there bad) = absurd (true≢false (sym has ∙ none))
@@ -340,4 +340,4 @@ one events e a b read (unread r e_is has there bad) (no_format of none is') = ab
 one events e a b read (unread r e_is has there bad) (misplaced has' out is') = absurd (true≢false (sym (open_place (last_block events) e r e_is there) ∙ out))
 one events e a b read (unread r e_is has there bad) (unread s e_is' has' there' bad') =
     let same : r ≡ s = same_event r s (sym e_is ∙ e_is') in
-    one_rows_fault (map_of (last_block events) r.id) r a b (subst IsRead e_is read) bad (subst (λ x. IsRowsFault (map_of (last_block events) x.id) x b) (sym same) bad')
+    one_rows_fault (map_of (last_block events) r.id) r a b (subst IsFromBytes e_is read) bad (subst (λ x. IsRowsFault (map_of (last_block events) x.id) x b) (sym same) bad')

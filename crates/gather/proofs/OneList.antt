@@ -6,29 +6,29 @@ use Rattle.binlog.specs.Rows.{RowsValue}
 use Rattle.binlog.specs.Event.{EventValue, format, begin, commit, neutral, stop, rotate, gtid, table_map, other_map, rows, xid}
 use Rattle.binlog.proofs.RowsItems.{one_list}
 use Rattle.gather.specs.Transaction.{ChangeValue, DeliveryValue, change_of, AreRowChanges, AreChangesOf, AreChanges, IsOpen, IsBlock, AreBlocks, AreDeliveries}
-use Rattle.gather.specs.Fault.{add_event, last_block, IsRead}
+use Rattle.gather.specs.Fault.{add_event, last_block, IsFromBytes}
 use Rattle.gather.proofs.Growing.{counted, joined, split, last_is}
 use Rattle.gather.proofs.Shortening.{ended, Given, stays, gives, given, back}
 
 -- ---- Events that were read.
 
 -- a rows event has a column
-some_columns : (r : RowsValue) → IsRead (rows r) → 1 ≤ r.columns
+some_columns : (r : RowsValue) → IsFromBytes (rows r) → 1 ≤ r.columns
 some_columns r is = is.is_event.has_body.1.columns.0
 
 -- and so has the table that it belongs to
-pub many_columns : (t : TableValue) (r : RowsValue) → IsRead (rows r) → length t.columns ≡ r.columns → 1 ≤ length t.columns
+pub many_columns : (t : TableValue) (r : RowsValue) → IsFromBytes (rows r) → length t.columns ≡ r.columns → 1 ≤ length t.columns
 many_columns t r read columns = let some = some_columns r read in omega (arith, some, columns)
 
-all_push : (block : List EventValue) (e : EventValue) → AllByRecursion IsRead block → IsRead e → AllByRecursion IsRead (block ++ e ∷ [])
+all_push : (block : List EventValue) (e : EventValue) → AllByRecursion IsFromBytes block → IsFromBytes e → AllByRecursion IsFromBytes (block ++ e ∷ [])
 all_push [] e all is = (is, tt)
 all_push (x ∷ block) e all is = (all.0, all_push block e all.1 is)
 
-all_before : (events : List EventValue) (e : EventValue) → AllByRecursion IsRead (events ++ e ∷ []) → AllByRecursion IsRead events
+all_before : (events : List EventValue) (e : EventValue) → AllByRecursion IsFromBytes (events ++ e ∷ []) → AllByRecursion IsFromBytes events
 all_before [] e all = tt
 all_before (x ∷ events) e all = (all.0, all_before events e all.1)
 
-all_added : (block : List EventValue) (e : EventValue) → AllByRecursion IsRead block → IsRead e → AllByRecursion IsRead (add_event block e)
+all_added : (block : List EventValue) (e : EventValue) → AllByRecursion IsFromBytes block → IsFromBytes e → AllByRecursion IsFromBytes (add_event block e)
 all_added block neutral all is = all
 all_added block format all is = (is, tt)
 all_added block stop all is = (is, tt)
@@ -42,13 +42,13 @@ all_added block (rows r) all is = all_push block (rows r) all is
 all_added block (xid number) all is = all_push block (xid number) all is
 
 -- those of the last block are among them
-all_last : (block events : List EventValue) → AllByRecursion IsRead block → AllByRecursion IsRead events → AllByRecursion IsRead (fold add_event block events)
+all_last : (block events : List EventValue) → AllByRecursion IsFromBytes block → AllByRecursion IsFromBytes events → AllByRecursion IsFromBytes (fold add_event block events)
 all_last block [] inside all = inside
 all_last block (e ∷ events) inside all = all_last (add_event block e) events (all_added block e inside all.0) all.1
 
 -- ---- One list of changes.
 
-same_rows : (said : Option TableValue) (r : RowsValue) (a b : List ChangeValue) → IsRead (rows r) → AreRowChanges said r a → AreRowChanges said r b → a ≡ b
+same_rows : (said : Option TableValue) (r : RowsValue) (a b : List ChangeValue) → IsFromBytes (rows r) → AreRowChanges said r a → AreRowChanges said r b → a ≡ b
 same_rows None r a b read is_a is_b = is_a ∙ sym is_b
 same_rows (Some t) r a b read is_a is_b =
     is_a.2 ∙ ap (map (change_of t)) (one_list r.kind t.columns is_a.0 is_b.0 r.bytes (many_columns t r read is_a.1.columns) is_a.1.rows_are is_b.1.rows_are) ∙ sym is_b.2
@@ -56,7 +56,7 @@ same_rows (Some t) r a b read is_a is_b =
 same_said : (x y : Option TableValue) (m : Option (Option TableValue)) → m ≡ Some x → m ≡ Some y → x ≡ y
 same_said x y m is_x is_y = cc
 
-same_own : (before : List EventValue) (e : EventValue) (a b : List ChangeValue) → IsRead e → AreChangesOf before e a → AreChangesOf before e b → a ≡ b
+same_own : (before : List EventValue) (e : EventValue) (a b : List ChangeValue) → IsFromBytes e → AreChangesOf before e a → AreChangesOf before e b → a ≡ b
 same_own before (table_map t) a b read is_a is_b = is_a ∙ sym is_b
 same_own before (other_map id) a b read is_a is_b = is_a ∙ sym is_b
 same_own before (rows r) a b read is_a is_b =
@@ -71,7 +71,7 @@ same_own before (rotate position name) a b read is_a is_b = absurd is_a
 same_own before (gtid source number) a b read is_a is_b = absurd is_a
 same_own before (xid number) a b read is_a is_b = absurd is_a
 
-same_changes : (before body : List EventValue) (a b : List ChangeValue) → AllByRecursion IsRead body → AreChanges before body a → AreChanges before body b → a ≡ b
+same_changes : (before body : List EventValue) (a b : List ChangeValue) → AllByRecursion IsFromBytes body → AreChanges before body a → AreChanges before body b → a ≡ b
 same_changes before [] a b read is_a is_b = is_a ∙ sym is_b
 same_changes before (e ∷ body) a b read is_a is_b =
     let own = same_own before e is_a.0 is_b.0 read.0 is_a.2 is_b.2 in
@@ -88,10 +88,10 @@ record SameHead (source source' : List ℕ) (number number' : ℕ) (body body' :
 same_head : (source source' : List ℕ) (number number' : ℕ) (body body' block : List EventValue) → block ≡ gtid source number ∷ begin ∷ body → block ≡ gtid source' number' ∷ begin ∷ body' → SameHead source source' number number' body body'
 same_head source source' number number' body body' block is is' = record { sources = cc; numbers = cc; bodies = cc }
 
-same_ended : (block : List EventValue) (a b : IsOpen block) → AllByRecursion IsRead block → ended block a ≡ ended block b
+same_ended : (block : List EventValue) (a b : IsOpen block) → AllByRecursion IsFromBytes block → ended block a ≡ ended block b
 same_ended block a b read =
     let head = same_head a.source b.source a.number b.number a.body b.body block a.block_is b.block_is in
-    let inside : AllByRecursion IsRead (gtid a.source a.number ∷ begin ∷ a.body) = subst (AllByRecursion IsRead) a.block_is read in
+    let inside : AllByRecursion IsFromBytes (gtid a.source a.number ∷ begin ∷ a.body) = subst (AllByRecursion IsFromBytes) a.block_is read in
     let changes : a.changes ≡ b.changes = same_changes [] a.body a.changes b.changes inside.1.1 a.are_changes (subst (λ l. AreChanges [] l b.changes) (sym head.bodies) b.are_changes) in
     rw (head.sources, head.numbers, changes) refl
 
@@ -117,9 +117,9 @@ no_blocks (x ∷ blocks) ds cut are =
 -- ---- One list.
 
 abbrev pub HasOne : List EventValue → Type 0
-HasOne events = (x y : List DeliveryValue) → AllByRecursion IsRead events → AreDeliveries events x → AreDeliveries events y → x ≡ y
+HasOne events = (x y : List DeliveryValue) → AllByRecursion IsFromBytes events → AreDeliveries events x → AreDeliveries events y → x ≡ y
 
-same_given : (events : List EventValue) (e : EventValue) (x y : List DeliveryValue) → AllByRecursion IsRead events → HasOne events → Given events e x → Given events e y → x ≡ y
+same_given : (events : List EventValue) (e : EventValue) (x y : List DeliveryValue) → AllByRecursion IsFromBytes events → HasOne events → Given events e x → Given events e y → x ≡ y
 same_given events e x y read one (stays is are) (stays is' are') = one x y read are are'
 same_given events e x y read one (stays is are) (gives is' o' before' all' are') = absurd (true≢false (sym is' ∙ is))
 same_given events e x y read one (gives is o before all are) (stays is' are') = absurd (true≢false (sym is ∙ is'))

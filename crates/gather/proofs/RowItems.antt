@@ -19,7 +19,7 @@ use Rattle.binlog.specs.declared.body.table_map.TableDef.{TableDef}
 use Rattle.binlog.proofs.LawfulColumns.{lawful_kinds}
 use Rattle.gather.specs.Transaction.{ChangeValue, change_of}
 use Rattle.gather.specs.Fault.{IsRowsFault}
-use Rattle.gather.specs.OpenTransaction.{table_of, HasImages, Adds}
+use Rattle.gather.specs.OpenTransaction.{table_of, HasImages, AppendsChanges}
 use Rattle.gather.specs.declared.fault.GatherFault.TheVariants.{Event}
 use Rattle.gather.proofs.RowImages.{row_has_image}
 
@@ -89,7 +89,7 @@ walk_more kept r pair left before after new w is = record {
 kinds_length : (kept : Rc TableDef Global) → length (kinds kept.value.types.items) ≡ length kept.value.types.items
 kinds_length kept = length_map (λ t. t.kind) kept.value.types.items
 
-pub walk_ends : (kept : Rc TableDef Global) (r : RowsValue) (before after : List ChangeValue) → Walked kept r [] before after → (id : ℕ) → Adds (table_of id kept) r before after
+pub walk_ends : (kept : Rc TableDef Global) (r : RowsValue) (before after : List ChangeValue) → Walked kept r [] before after → (id : ℕ) → AppendsChanges (table_of id kept) r before after
 walk_ends kept r before after w id =
     ⊎_elim
     (λ whole.

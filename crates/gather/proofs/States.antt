@@ -4,7 +4,7 @@ use Rattle.binlog.specs.Rows.{RowsValue}
 use Rattle.binlog.specs.Event.{EventValue, begin, gtid, rows}
 use Rattle.gather.specs.Transaction.{ChangeValue, map_of, AreChanges}
 use Rattle.gather.specs.Fault.{is_open, IsRowsFault}
-use Rattle.gather.specs.OpenTransaction.{Keeps}
+use Rattle.gather.specs.OpenTransaction.{HasTaken}
 use Rattle.gather.specs.State.{IsAt, BreaksOff, FaultsAt}
 use Rattle.gather.specs.declared.open_transaction.OpenTransaction.{OpenTransaction}
 use Rattle.gather.specs.declared.fault.GatherFault.{GatherFault}
@@ -21,7 +21,7 @@ open_block source number body changes are = ap not (no_end [] body changes are)
 pub map_of_body : (source : List ℕ) (number : ℕ) (body : List EventValue) (id : ℕ) → map_of (gtid source number ∷ begin ∷ body) id ≡ map_of body id
 map_of_body source number body id = or_none _ ∙ or_none (map_of body id)
 
-pub breaks_off : (current : OpenTransaction) (r : RowsValue) (fault : GatherFault) → ((body : List EventValue) → Keeps body current → (fault ≡ Memory) ⊎ IsRowsFault (map_of body r.id) r fault) →
+pub breaks_off : (current : OpenTransaction) (r : RowsValue) (fault : GatherFault) → ((body : List EventValue) → HasTaken body current → (fault ≡ Memory) ⊎ IsRowsFault (map_of body r.id) r fault) →
     (block : List EventValue) → IsAt block (Inside current) → (fault ≡ Memory) ⊎ BreaksOff block (rows r) fault
 breaks_off current r fault faults block (body, is, keeps) =
     let source = current.gtid.source in
@@ -34,6 +34,6 @@ breaks_off current r fault faults block (body, is, keeps) =
     subst (λ b. (fault ≡ Memory) ⊎ BreaksOff b (rows r) fault) (sym is) at
 
 pub rows_break_off : {T : Type 0} (current : OpenTransaction) (r : RowsValue) (state : State) (result : Result T GatherFault) → state ≡ Inside current →
-    ((body : List EventValue) → Keeps body current → IfErr result (λ fault. (fault ≡ Memory) ⊎ IsRowsFault (map_of body r.id) r fault)) → IfErr result (FaultsAt (rows r) state)
+    ((body : List EventValue) → HasTaken body current → IfErr result (λ fault. (fault ≡ Memory) ⊎ IsRowsFault (map_of body r.id) r fault)) → IfErr result (FaultsAt (rows r) state)
 rows_break_off current r state (Ok x) is faults = tt
 rows_break_off current r state (Err fault) is faults = subst (λ p. FaultsAt (rows r) p fault) (sym is) (breaks_off current r fault faults)

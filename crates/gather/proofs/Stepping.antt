@@ -12,7 +12,7 @@ use Rattle.binlog.specs.EventView.{event_value}
 use Rattle.binlog.specs.declared.event.Event.{Event}
 use Rattle.binlog.specs.declared.event.Event.TheVariants.{Rotate, Stop}
 use Rattle.gather.specs.View.{delivered}
-use Rattle.gather.specs.State.{IsAt, GoesOn, FaultsAt, IsInside}
+use Rattle.gather.specs.State.{IsAt, StepsTo, FaultsAt, IsInside}
 use Rattle.gather.specs.Standing.{Brings}
 use Rattle.gather.specs.declared.transaction.Delivery.{Delivery}
 use Rattle.gather.specs.declared.fault.GatherFault.{GatherFault}
@@ -166,7 +166,7 @@ continues neutral of other = absurd cc
 continues stop of other = absurd cc
 continues (rotate position name) of other = absurd cc
 
-pub stepped : (events : List EventValue) (ds own : List DeliveryValue) (formatted : Bool) (before after : State) (e : EventValue) → Continues e → Brings events ds formatted before → GoesOn e before after own →
+pub stepped : (events : List EventValue) (ds own : List DeliveryValue) (formatted : Bool) (before after : State) (e : EventValue) → Continues e → Brings events ds formatted before → StepsTo e before after own →
     Brings (events ++ e ∷ []) (ds ++ own) formatted after
 stepped events ds own formatted before after e k b goes =
     let x = goes (last_block events) b.at in
@@ -186,7 +186,7 @@ fault_from events ds formatted state e fault is b faults =
 
 -- ---- Answers.
 
-pub takes : (result : Result (Option Delivery) GatherFault) (formatted : Bool) (before after : State) (e : EventValue) → Continues e → IfOk result (λ delivery. GoesOn e before after (delivered delivery)) →
+pub takes : (result : Result (Option Delivery) GatherFault) (formatted : Bool) (before after : State) (e : EventValue) → Continues e → IfOk result (λ delivery. StepsTo e before after (delivered delivery)) →
     (events : List EventValue) (ds : List DeliveryValue) → Brings events ds formatted before → IfOk result (λ delivery. Brings (events ++ e ∷ []) (ds ++ delivered delivery) formatted after)
 takes (Ok delivery) formatted before after e k goes events ds b = stepped events ds (delivered delivery) formatted before after e k b goes
 takes (Err fault) formatted before after e k goes events ds b = goes

@@ -118,7 +118,7 @@ pub record HasFault (events : List EventValue) (e : EventValue) : Type 0 where
 -- ---- Events that are read.
 
 -- The event is that of some bytes, whichever tables are followed.
-pub record IsRead (e : EventValue) : Type 0 where
+pub record IsFromBytes (e : EventValue) : Type 0 where
   pub names : Names
   pub bytes : List ℕ
   pub fits : AllByRecursion (λ b. b < 256) bytes

@@ -31,13 +31,13 @@ abbrev pub goes_on : Option (CellValue × ℕ) → (ℕ → List CellValue) → 
 goes_on None others = []
 goes_on (Some front) others = front.0 ∷ others front.1
 
-abbrev pub cells_of : ℕ → List ℕ → List CellValue
-cells_of zero bytes = []
-cells_of (suc most) bytes = goes_on (cell_front bytes) (λ size. cells_of most (drop size bytes))
+abbrev pub cells_in_image : ℕ → List ℕ → List CellValue
+cells_in_image zero bytes = []
+cells_in_image (suc most) bytes = goes_on (cell_front bytes) (λ size. cells_in_image most (drop size bytes))
 
 -- all of them
 abbrev pub cells_in : List ℕ → List CellValue
-cells_in bytes = cells_of (length bytes) bytes
+cells_in bytes = cells_in_image (length bytes) bytes
 
 -- ---- Whether bytes are cells.
 

@@ -29,12 +29,12 @@ HasImages (deleted before) = HasImage before
 HasImages (updated before after) = HasImage before × HasImage after
 
 -- The changes are those from before, and then those of a rows event of the table.
-pub record Adds (t : TableValue) (r : RowsValue) (before after : List ChangeValue) : Type 0 where
+pub record AppendsChanges (t : TableValue) (r : RowsValue) (before after : List ChangeValue) : Type 0 where
   pub pairs : List PairValue
   pub read : IsReadBy t r pairs
   pub after_is : after ≡ before ++ map (change_of t) pairs
 
 -- These events have come after BEGIN.
-pub record Keeps (body : List EventValue) (current : OpenTransaction) : Type 0 where
+pub record HasTaken (body : List EventValue) (current : OpenTransaction) : Type 0 where
   pub maps : (id : ℕ) → option_map (said id) (get nat_cmp current.maps id) ≡ map_of body id
   pub changes : AreChanges [] body current.changes

@@ -16,10 +16,10 @@ pub record Brings (events : List EventValue) (ds : List DeliveryValue) (formatte
 
 -- The gatherer has been given these events, which are lawful, and has answered their transactions: this is its
 -- position.
-pub record Stands (events : List EventValue) (ds : List DeliveryValue) (g : Gatherer) : Type 0 where
+pub record HasGathered (events : List EventValue) (ds : List DeliveryValue) (g : Gatherer) : Type 0 where
   pub given : Brings events ds g.formatted g.state
   pub goes_on : g.ended ≡ false
 
 -- It has answered a fault.
-abbrev pub HasEnded : Gatherer → Type 0
-HasEnded g = g.ended ≡ true
+abbrev pub HasAnsweredFault : Gatherer → Type 0
+HasAnsweredFault g = g.ended ≡ true

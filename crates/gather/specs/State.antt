@@ -5,7 +5,7 @@ use Rattle.binlog.specs.Rows.{RowsValue}
 use Rattle.binlog.specs.Event.{EventValue, begin, gtid, rows}
 use Rattle.gather.specs.Transaction.{DeliveryValue, map_of, IsAnnounced, IsOpen, IsBlock}
 use Rattle.gather.specs.Fault.{is_announced, is_open, is_in_place, type_of, IsRowsFault}
-use Rattle.gather.specs.OpenTransaction.{Keeps}
+use Rattle.gather.specs.OpenTransaction.{HasTaken}
 use Rattle.gather.specs.declared.fault.GatherFault.{GatherFault}
 use Rattle.gather.specs.declared.fault.GatherFault.TheVariants.{Misplaced, Memory}
 use Rattle.gather.specs.declared.open_transaction.OpenTransaction.{OpenTransaction}
@@ -16,7 +16,7 @@ use Rattle.gather.specs.declared.state.State.TheVariants.{Between, Announced, In
 abbrev pub IsAt : List EventValue → State → Type 0
 IsAt block Between = (is_announced block ≡ false) × (is_open block ≡ false)
 IsAt block (Announced id) = block ≡ gtid id.source id.number ∷ []
-IsAt block (Inside current) = (body : List EventValue) × (block ≡ gtid current.gtid.source current.gtid.number ∷ begin ∷ body) × Keeps body current
+IsAt block (Inside current) = (body : List EventValue) × (block ≡ gtid current.gtid.source current.gtid.number ∷ begin ∷ body) × HasTaken body current
 
 -- The event continues a block that has begun, ends these transactions, one or none, and brings the gatherer to a new
 -- state.
@@ -25,8 +25,8 @@ pub record Extends (block : List EventValue) (e : EventValue) (ds : List Deliver
   pub is_block : IsBlock (block ++ e ∷ []) ds
   pub at : IsAt (block ++ e ∷ []) after
 
-abbrev pub GoesOn : EventValue → State → State → List DeliveryValue → Type 0
-GoesOn e before after ds = (block : List EventValue) → IsAt block before → Extends block e ds after
+abbrev pub StepsTo : EventValue → State → State → List DeliveryValue → Type 0
+StepsTo e before after ds = (block : List EventValue) → IsAt block before → Extends block e ds after
 
 -- a transaction is open
 abbrev pub IsInside : State → Type 0

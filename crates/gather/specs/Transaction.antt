@@ -13,6 +13,17 @@ pub data ChangeValue : Type 0 where
   delete : List ℕ → List ℕ → List CellValue → ChangeValue
   update : List ℕ → List ℕ → List CellValue → List CellValue → ChangeValue
 
+-- the names of the schema and of the table
+abbrev pub changed_schema : ChangeValue → List ℕ
+changed_schema (insert schema table after) = schema
+changed_schema (delete schema table before) = schema
+changed_schema (update schema table before after) = schema
+
+abbrev pub changed_table : ChangeValue → List ℕ
+changed_table (insert schema table after) = table
+changed_table (delete schema table before) = table
+changed_table (update schema table before after) = table
+
 -- a transaction: its source and number, and its changes in order
 pub record DeliveryValue : Type 0 where
   pub source : List ℕ

@@ -24,11 +24,11 @@ impl Gatherer {
     ghost use Rattle.gather.specs.Transaction.{DeliveryValue};
     ghost use Rattle.gather.specs.Fault.{IsFault, IsKept};
     ghost use Rattle.gather.specs.View.{delivered};
-    ghost use Rattle.gather.specs.Standing.{Brings, Stands, HasEnded};
+    ghost use Rattle.gather.specs.Standing.{Brings, HasGathered, HasAnsweredFault};
 
     /// A gatherer that has been given no events. It takes no memory.
     pub fn new(alloc: Global) -> Gatherer
-        ensures { Stands [] [] result }
+        ensures { HasGathered [] [] result }
     {
         Gatherer {
             alloc,
@@ -44,14 +44,14 @@ impl Gatherer {
     /// whichever applies first in this order; `Memory` if memory runs out, only at a table map or a rows event that is in
     /// place. After a fault each call answers `Ended`.
     pub fn event(&mut self, event: &Event<'_>) -> Result<Option<Delivery>, GatherFault>
-        ensures taken { (events : List EventValue) (ds : List DeliveryValue) → Stands events ds self.old →
-            IfOk result (λ delivery. Stands (events ++ event_value event.now ∷ []) (ds ++ delivered delivery) self.new) }
-        ensures fault { (events : List EventValue) (ds : List DeliveryValue) → Stands events ds self.old →
+        ensures taken { (events : List EventValue) (ds : List DeliveryValue) → HasGathered events ds self.old →
+            IfOk result (λ delivery. HasGathered (events ++ event_value event.now ∷ []) (ds ++ delivered delivery) self.new) }
+        ensures fault { (events : List EventValue) (ds : List DeliveryValue) → HasGathered events ds self.old →
             IfErr result (λ fault. (fault ≡ GatherFault.Memory) ⊎ IsFault events (event_value event.now) fault) }
-        ensures memory { (events : List EventValue) (ds : List DeliveryValue) → Stands events ds self.old →
+        ensures memory { (events : List EventValue) (ds : List DeliveryValue) → HasGathered events ds self.old →
             IfErr result (λ fault. fault ≡ GatherFault.Memory → IsKept events (event_value event.now)) }
-        ensures ended { HasEnded self.old → result ≡ Err GatherFault.Ended }
-        ensures err { OnErr result (HasEnded self.new) }
+        ensures ended { HasAnsweredFault self.old → result ≡ Err GatherFault.Ended }
+        ensures err { OnErr result (HasAnsweredFault self.new) }
     {
         if self.ended {
             return Err(GatherFault::Ended);

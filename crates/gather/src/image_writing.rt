@@ -7,7 +7,7 @@ ghost use Rattle.gather.specs.ImageCells.{cell_values};
 ghost use Rattle.gather.specs.declared.fault.GatherFault.TheVariants.{Memory};
 
 use crate::fault::GatherFault;
-use binlog::{Cell, Row};
+use binlog::{Cell, Row, number_fits};
 
 /// How many bytes the image of the cells takes, if they have one.
 pub(crate) fn image_size(cells: &[Cell<'_>]) -> Option<usize>
@@ -75,25 +75,8 @@ fn has_image(cell: Cell<'_>) -> bool
 {
     match cell {
         Cell::Null => true,
-        Cell::Number { value, width } => fits(value, width),
+        Cell::Number { value, width } => number_fits(value, width),
         Cell::Bytes(bytes) => bytes.len() < 1 << 32,
-    }
-}
-
-/// Whether a number has an image of `width` bytes.
-fn fits(value: u64, width: u8) -> bool
-    ensures { IsTrue result ↔ ((1 ≤ width) × (width ≤ 8) × (value < 256 ^ width)) }
-{
-    match width {
-        1 => value < 0x100,
-        2 => value < 0x1_0000,
-        3 => value < 0x100_0000,
-        4 => value < 0x1_0000_0000,
-        5 => value < 0x100_0000_0000,
-        6 => value < 0x1_0000_0000_0000,
-        7 => value < 0x100_0000_0000_0000,
-        8 => true,
-        _ => false,
     }
 }
 

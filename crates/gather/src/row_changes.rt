@@ -3,7 +3,7 @@
 ghost use Rattle.std.specs.Prelude.{◌≡◌, ℕ, ◌⊎◌, IfErr, OnOk, Some};
 ghost use Rattle.binlog.specs.RowsView.{rows_value};
 ghost use Rattle.gather.specs.Fault.{IsRowsFault};
-ghost use Rattle.gather.specs.OpenTransaction.{table_of, Adds};
+ghost use Rattle.gather.specs.OpenTransaction.{table_of, AppendsChanges};
 
 use crate::changes::Changes;
 use crate::fault::GatherFault;
@@ -17,7 +17,7 @@ pub(crate) fn push_changes(
     event: &RowsEvent<'_>,
     changes: &mut Changes,
 ) -> Result<(), GatherFault>
-    ensures ok { (id : ℕ) → OnOk result (Adds (table_of id table.now) (rows_value event.now) changes.old changes.new) }
+    ensures ok { (id : ℕ) → OnOk result (AppendsChanges (table_of id table.now) (rows_value event.now) changes.old changes.new) }
     ensures fault { (id : ℕ) → IfErr result (λ fault. (fault ≡ GatherFault.Memory) ⊎ IsRowsFault (Some (Some (table_of id table.now))) (rows_value event.now) fault) }
 {
     let event = *event;

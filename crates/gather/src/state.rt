@@ -7,12 +7,12 @@ ghost use Rattle.binlog.specs.TableView.{table_value};
 ghost use Rattle.gather.specs.Transaction.{is_end};
 ghost use Rattle.gather.specs.Fault.{type_of};
 ghost use Rattle.gather.specs.View.{delivered};
-ghost use Rattle.gather.specs.State.{GoesOn, FaultsAt, IsInside};
+ghost use Rattle.gather.specs.State.{StepsTo, FaultsAt, IsInside};
 
 use crate::fault::GatherFault;
 use crate::open_transaction::OpenTransaction;
 use crate::transaction::Delivery;
-use binlog::{RowsEvent, RowsKind, TableMap, event_type};
+use binlog::{RowsEvent, TableMap, event_type};
 use gtid::Gtid;
 use std::alloc::Global;
 use std::mem;
@@ -30,7 +30,7 @@ pub(crate) enum State {
 
 /// Takes BEGIN, which must come right after the GTID.
 pub(crate) fn take_begin(state: &mut State, alloc: Global) -> Result<Option<Delivery>, GatherFault>
-    ensures taken { IfOk result (λ delivery. GoesOn begin state.old state.new (delivered delivery)) }
+    ensures taken { IfOk result (λ delivery. StepsTo begin state.old state.new (delivered delivery)) }
     ensures fault { IfErr result (FaultsAt begin state.old) }
     ensures no_memory { IfErr result (λ fault. fault ≢ GatherFault.Memory) }
 {
@@ -49,7 +49,7 @@ pub(crate) fn take_map(
     alloc: Global,
     map: &TableMap<'_>,
 ) -> Result<Option<Delivery>, GatherFault>
-    ensures taken { IfOk result (λ delivery. GoesOn (table_map (table_value map.now)) state.old state.new (delivered delivery)) }
+    ensures taken { IfOk result (λ delivery. StepsTo (table_map (table_value map.now)) state.old state.new (delivered delivery)) }
     ensures fault { IfErr result (FaultsAt (table_map (table_value map.now)) state.old) }
     ensures memory { IfErr result (λ fault. fault ≡ GatherFault.Memory → IsInside state.old) }
 {
@@ -64,7 +64,7 @@ pub(crate) fn take_map(
 
 /// Takes a table map of a table that is not followed, which must come after BEGIN.
 pub(crate) fn take_other(state: &mut State, id: u64) -> Result<Option<Delivery>, GatherFault>
-    ensures taken { IfOk result (λ delivery. GoesOn (other_map id) state.old state.new (delivered delivery)) }
+    ensures taken { IfOk result (λ delivery. StepsTo (other_map id) state.old state.new (delivered delivery)) }
     ensures fault { IfErr result (FaultsAt (other_map id) state.old) }
     ensures memory { IfErr result (λ fault. fault ≡ GatherFault.Memory → IsInside state.old) }
 {
@@ -82,7 +82,7 @@ pub(crate) fn take_rows(
     state: &mut State,
     event: &RowsEvent<'_>,
 ) -> Result<Option<Delivery>, GatherFault>
-    ensures taken { IfOk result (λ delivery. GoesOn (rows (rows_value event.now)) state.old state.new (delivered delivery)) }
+    ensures taken { IfOk result (λ delivery. StepsTo (rows (rows_value event.now)) state.old state.new (delivered delivery)) }
     ensures fault { IfErr result (FaultsAt (rows (rows_value event.now)) state.old) }
     ensures memory { IfErr result (λ fault. fault ≡ GatherFault.Memory → IsInside state.old) }
 {
@@ -91,17 +91,13 @@ pub(crate) fn take_rows(
             current.take_rows(event)?;
             Ok(None)
         }
-        _ => Err(GatherFault::Misplaced(match event.kind {
-            RowsKind::Write => event_type::WRITE_ROWS,
-            RowsKind::Update => event_type::UPDATE_ROWS,
-            RowsKind::Delete => event_type::DELETE_ROWS,
-        })),
+        _ => Err(GatherFault::Misplaced(event.kind.code())),
     }
 }
 
 /// Takes an event of this type that ends a transaction, which must come after BEGIN.
 pub(crate) fn take_end(state: &mut State, code: u8) -> Result<Option<Delivery>, GatherFault>
-    ensures taken { (e : EventValue) → is_end e ≡ true → IfOk result (λ delivery. GoesOn e state.old state.new (delivered delivery)) }
+    ensures taken { (e : EventValue) → is_end e ≡ true → IfOk result (λ delivery. StepsTo e state.old state.new (delivered delivery)) }
     ensures fault { (e : EventValue) → is_end e ≡ true → type_of e ≡ code → IfErr result (FaultsAt e state.old) }
     ensures no_memory { IfErr result (λ fault. fault ≢ GatherFault.Memory) }
 {

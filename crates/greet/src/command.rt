@@ -68,7 +68,7 @@ impl<'a> Dump<'a> {
         )
     }
 
-    /// Reads a dump command with any file name and position. Takes no memory.
+    /// Reads a dump command with any file name and position. It takes no memory.
     ///
     /// `Truncated` if the payload is empty, a field does not fit or bytes are left over; `Unexpected` if the first byte
     /// is not that of the command.

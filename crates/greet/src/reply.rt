@@ -55,7 +55,7 @@ impl AuthReply {
     }
 }
 
-/// The scramble of a switch, from the bytes after its first. Takes no memory.
+/// The scramble of a switch, from the bytes after its first. It takes no memory.
 fn read_switch(body: &[u8]) -> Result<[u8; 20], GreetFault>
     ensures found { IfOk result (λ scramble. IsSwitch scramble (auth_switch ∷ body.now)) }
     ensures fault { IfErr result (Refuses (switch_refusal body.now)) }

@@ -67,7 +67,7 @@ impl Response {
     }
 }
 
-/// The `user` and the `auth`. Takes no memory.
+/// The `user` and the `auth`. It takes no memory.
 fn read_parts(payload: &[u8]) -> Result<(&[u8], &[u8]), GreetFault>
     ensures found { IfOk result (λ parts. IsResponse (record { user = parts.0.now; auth = parts.1.now }) payload.now) }
     ensures fault { IfErr result (Refuses (response_refusal payload.now)) }

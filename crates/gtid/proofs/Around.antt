@@ -1,5 +1,5 @@
 -- The spans around the intervals of a source, and the set with one more number.
-use Rattle.std.proofs.Common.{◌≡◌, ◌≢◌, ℕ, zero, suc, ◌<◌, Bool, true, false, nat_eq, ◌&&◌, ◌||◌, List, [], ◌∷◌, ◌++◌, map, length, slice_index_or, refl, ap, sym, subst, ◌∙◌, arith, Option, Some, None, IfSome, inl, inr, subst₂}
+use Rattle.std.proofs.Common.{◌≡◌, ◌≢◌, ℕ, zero, suc, ◌<◌, Bool, true, false, nat_eq, ◌&&◌, ◌||◌, List, [], ◌∷◌, ◌++◌, map, length, slice_index_or, refl, ap, sym, subst, ◌∙◌, arith, Option, Some, None, IfSome, subst₂}
 use Rattle.std.specs.declared.cmp.Ordering.TheVariants.{Less}
 use Rattle.std.specs.Ordering.{nat_cmp}
 use Rattle.std.specs.Cmp.Lexicographic.{slice_cmp}
@@ -7,7 +7,6 @@ use Rattle.std.specs.FinSet as set
 use Rattle.std.specs.List.{list_any}
 use Rattle.std.specs.Option.{option_map}
 use Rattle.std.specs.Str.{bytes_eq}
-use Rattle.std.proofs.lemmas.Bool.{cases_Bool}
 use Rattle.std.proofs.lemmas.List.{append_assoc, map-append}
 use Rattle.std.proofs.lemmas.List.Folds.{list_any-append}
 use Rattle.gtid.specs.Identifier.{Id, Ids}
@@ -165,11 +164,8 @@ both_lawful s None (Some y) front rest h = (tt, lawful_at s 0 front y rest h)
 both_lawful s (Some x) None front rest h = (lawful_at s 0 front x rest h, tt)
 both_lawful s (Some x) (Some y) front rest h = (lawful_at s 0 front x (y ∷ rest) h, lawful_at s 0 (front ++ x ∷ []) y rest (subst (AreLeast 0) (sym (append_assoc front (x ∷ []) (y ∷ rest))) h))
 
--- the neighbours of a number that is in none of the intervals, or of one that is
-pub beside_lawful : (s : List ℕ) (number : ℕ) (intervals : List Interval) (below above : Option Interval) (beside : Beside) → AreLeast 0 intervals → (has intervals number ≡ false → Touches number below above intervals) →
-    (has intervals number ≡ true → (below ≡ None) × (above ≡ None)) → beside.below ≡ option_map (span s) below → beside.above ≡ option_map (span s) above → AreLawful beside.below beside.above
-beside_lawful s number intervals below above beside least touches there is_below is_above =
-    subst₂ AreLawful (sym is_below) (sym is_above) (elim (cases_Bool (has intervals number)) [
-      | inl in_it ↦ (let none = there in_it in subst₂ (λ b a. AreLawful (option_map (span s) b) (option_map (span s) a)) (sym none.0) (sym none.1) (tt, tt))
-      | inr fresh ↦ (let t = touches fresh in both_lawful s below above t.front t.rest (subst (AreLeast 0) t.intervals_are least))
-    ])
+-- the neighbours of a number
+pub beside_lawful : (s : List ℕ) (number : ℕ) (intervals : List Interval) (below above : Option Interval) (beside : Beside) → AreLeast 0 intervals → Touches number below above intervals →
+    beside.below ≡ option_map (span s) below → beside.above ≡ option_map (span s) above → AreLawful beside.below beside.above
+beside_lawful s number intervals below above beside least t is_below is_above =
+    subst₂ AreLawful (sym is_below) (sym is_above) (both_lawful s below above t.front t.rest (subst (AreLeast 0) t.intervals_are least))

@@ -5,7 +5,7 @@ use Rattle.std.specs.Char.{IsAsciiDigit}
 use Rattle.std.proofs.lemmas.Bool.Decides.{nat_tests}
 use Rattle.gtid.specs.Encoding.{SidBlock}
 use Rattle.gtid.specs.Scan.{is_digit}
-use Rattle.gtid.specs.Text.{IsBlank, IsIntervalText, AreIntervalTexts, IsItem, IsList, first_some, list_fault, written_spans}
+use Rattle.gtid.specs.Text.{IsBlankByte, IsIntervalText, AreIntervalTexts, IsItem, IsList, first_some, list_fault, written_spans}
 use Rattle.gtid.specs.Reading.{at_most, appended, after_number, Found, judge, collected, span_of}
 use Rattle.gtid.proofs.Judged.{saturated, found_in, judged_ok, judged_err, item_faults, item_spans}
 use Rattle.gtid.proofs.Scanned.{digit_is}
@@ -18,21 +18,21 @@ use Rattle.gtid.specs.Reading.Part.{Source, First, Second, After}
 
 -- ---- Blanks.
 
-blank_before : (digits b : ℕ) (s bs : List ℕ) → IsBlank b → collected (Source digits) s (b ∷ bs) ≡ collected (Source digits) s bs
+blank_before : (digits b : ℕ) (s bs : List ℕ) → IsBlankByte b → collected (Source digits) s (b ∷ bs) ≡ collected (Source digits) s bs
 blank_before digits b s bs (inl is) = subst (λ c. collected (Source digits) s (c ∷ bs) ≡ collected (Source digits) s bs) (sym is) refl
 blank_before digits b s bs (inr (inl is)) = subst (λ c. collected (Source digits) s (c ∷ bs) ≡ collected (Source digits) s bs) (sym is) refl
 blank_before digits b s bs (inr (inr is)) = subst (λ c. collected (Source digits) s (c ∷ bs) ≡ collected (Source digits) s bs) (sym is) refl
 
-blanks_before : (digits : ℕ) (s blanks rest : List ℕ) → AllByRecursion IsBlank blanks → collected (Source digits) s (blanks ++ rest) ≡ collected (Source digits) s rest
+blanks_before : (digits : ℕ) (s blanks rest : List ℕ) → AllByRecursion IsBlankByte blanks → collected (Source digits) s (blanks ++ rest) ≡ collected (Source digits) s rest
 blanks_before digits s [] rest h = refl
 blanks_before digits s (b ∷ bs) rest h = blank_before digits b s (bs ++ rest) h.0 ∙ blanks_before digits s bs rest h.1
 
-blank_after : (b : ℕ) (s bs : List ℕ) → IsBlank b → collected After s (b ∷ bs) ≡ collected After s bs
+blank_after : (b : ℕ) (s bs : List ℕ) → IsBlankByte b → collected After s (b ∷ bs) ≡ collected After s bs
 blank_after b s bs (inl is) = subst (λ c. collected After s (c ∷ bs) ≡ collected After s bs) (sym is) refl
 blank_after b s bs (inr (inl is)) = subst (λ c. collected After s (c ∷ bs) ≡ collected After s bs) (sym is) refl
 blank_after b s bs (inr (inr is)) = subst (λ c. collected After s (c ∷ bs) ≡ collected After s bs) (sym is) refl
 
-blanks_after : (s blanks rest : List ℕ) → AllByRecursion IsBlank blanks → collected After s (blanks ++ rest) ≡ collected After s rest
+blanks_after : (s blanks rest : List ℕ) → AllByRecursion IsBlankByte blanks → collected After s (blanks ++ rest) ≡ collected After s rest
 blanks_after s [] rest h = refl
 blanks_after s (b ∷ bs) rest h = blank_after b s (bs ++ rest) h.0 ∙ blanks_after s bs rest h.1
 
@@ -156,12 +156,12 @@ tail_end s = record { closes = λ p i pending. close_end p i s pending; after = 
 tail_comma : (s others : List ℕ) → Tail s (44 ∷ others) (collected (Source 0) s others)
 tail_comma s others = record { closes = λ p i pending. close p i 44 s others refl refl pending; after = refl }
 
-close_blank : (p : Part) (i : ℕ × ℕ) (b : ℕ) (s bs : List ℕ) → IsBlank b → Pending p i → collected p s (b ∷ bs) ≡ saturated s i ∷ collected After s bs
+close_blank : (p : Part) (i : ℕ × ℕ) (b : ℕ) (s bs : List ℕ) → IsBlankByte b → Pending p i → collected p s (b ∷ bs) ≡ saturated s i ∷ collected After s bs
 close_blank p i b s bs (inl is) pending = ap (λ (c : ℕ). collected p s (c ∷ bs)) is ∙ close p i 0x20 s bs refl refl pending
 close_blank p i b s bs (inr (inl is)) pending = ap (λ (c : ℕ). collected p s (c ∷ bs)) is ∙ close p i 0x0A s bs refl refl pending
 close_blank p i b s bs (inr (inr is)) pending = ap (λ (c : ℕ). collected p s (c ∷ bs)) is ∙ close p i 0x0D s bs refl refl pending
 
-closes_after : (s tail : List ℕ) (fs : List Found) → Tail s tail fs → (bs : List ℕ) → AllByRecursion IsBlank bs → Closes s (bs ++ tail) fs
+closes_after : (s tail : List ℕ) (fs : List Found) → Tail s tail fs → (bs : List ℕ) → AllByRecursion IsBlankByte bs → Closes s (bs ++ tail) fs
 closes_after s tail fs t [] h = t.closes
 closes_after s tail fs t (b ∷ bs) h = λ p i pending.
     close_blank p i b s (bs ++ tail) h.0 pending ∙ ap (λ gs. saturated s i ∷ gs) (blanks_after s bs tail h.1 ∙ t.after)

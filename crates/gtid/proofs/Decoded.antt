@@ -18,7 +18,7 @@ use Rattle.gtid.specs.declared.fault.GtidFault.{GtidFault}
 use Rattle.gtid.specs.declared.fault.GtidFault.TheVariants.{Memory}
 use Rattle.gtid.specs.Group.{Ascend, sources, IsBelow, ids_of}
 use Rattle.gtid.specs.Blocks.{of_group, blocks}
-use Rattle.gtid.specs.Encoding.{SidBlock, join_block, grouped, blocks_bytes, AreBlocks, IsEncoding, IsDecodeFault}
+use Rattle.gtid.specs.Encoding.{SidBlock, join_block, grouped, blocks_bytes, AreSidBlocks, IsEncoding, IsDecodeFault}
 use Rattle.gtid.specs.declared.group.Group.{Group}
 use Rattle.gtid.proofs.Merged.{ascend_nil, ascend_cons, below_all}
 use Rattle.gtid.proofs.Grouped.{grouped_groups, encodes}
@@ -31,14 +31,14 @@ less_from Less e = refl
 less_from Equal e = absurd (Prim.cc)
 less_from Greater e = absurd (Prim.cc)
 
-below_blocks : (s : List ℕ) (groups : List Group) → AreBlocks (Some s) (blocks groups) → IsBelow s (sources groups)
+below_blocks : (s : List ℕ) (groups : List Group) → AreSidBlocks (Some s) (blocks groups) → IsBelow s (sources groups)
 below_blocks s [] lawful = tt
 below_blocks s (g ∷ groups) lawful =
     let less = less_from (slice_cmp nat_cmp s g.source) lawful.1 in
     (less, below_all s g.source (sources groups) less (below_blocks g.source groups lawful.5))
 
 -- the sources of lawful blocks ascend
-pub ascend_blocks : (before : Option (List ℕ)) (groups : List Group) → AreBlocks before (blocks groups) → Ascend (sources groups)
+pub ascend_blocks : (before : Option (List ℕ)) (groups : List Group) → AreSidBlocks before (blocks groups) → Ascend (sources groups)
 ascend_blocks before [] lawful = ascend_nil
 ascend_blocks before (g ∷ groups) lawful = ascend_cons g.source (sources groups) (below_blocks g.source groups lawful.5) (ascend_blocks (Some g.source) groups lawful.5)
 
@@ -47,7 +47,7 @@ front a x bytes used split is =
     let long : used ≡ length a = omega (arith, ap length split, length-append a x) in
     (λ i. take (long i) (split i)) ∙ take-append_seam a x
 
-pub found_encoding : (groups : List Group) (rest bytes : List ℕ) (used : ℕ) → AreBlocks None (blocks groups) → length groups < 2 ^ 64 → bytes ≡ blocks_bytes (blocks groups) ++ rest → used ≡ length bytes - length rest →
+pub found_encoding : (groups : List Group) (rest bytes : List ℕ) (used : ℕ) → AreSidBlocks None (blocks groups) → length groups < 2 ^ 64 → bytes ≡ blocks_bytes (blocks groups) ++ rest → used ≡ length bytes - length rest →
     IsEncoding (ids_of groups) (take used bytes)
 found_encoding groups rest bytes used lawful fits split is =
     subst (IsEncoding (ids_of groups)) (sym (front (blocks_bytes (blocks groups)) rest bytes used split is)) (encodes groups (ascend_blocks None groups lawful) fits)
@@ -86,7 +86,7 @@ one_set a b x y left right same =
 at_front : (ids : Ids) (n : ℕ) (bytes : List ℕ) (e : IsEncoding ids (take n bytes)) → bytes ≡ blocks_bytes (grouped e.spans) ++ drop n bytes
 at_front ids n bytes e = sym (take-append-drop n bytes) ∙ ap (λ l. l ++ drop n bytes) e.spelled
 
-pub only_found : (groups : List Group) (rest bytes : List ℕ) (used : ℕ) → AreBlocks None (blocks groups) → length groups < 2 ^ 64 → bytes ≡ blocks_bytes (blocks groups) ++ rest → used ≡ length bytes - length rest →
+pub only_found : (groups : List Group) (rest bytes : List ℕ) (used : ℕ) → AreSidBlocks None (blocks groups) → length groups < 2 ^ 64 → bytes ≡ blocks_bytes (blocks groups) ++ rest → used ≡ length bytes - length rest →
     (ids : Ids) (n : ℕ) → n ≤ length bytes → IsEncoding ids (take n bytes) → ◌≡◌ {A = Ids × ℕ} (ids_of groups, used) (ids, n)
 only_found groups rest bytes used lawful fits split is ids n short e =
     let other = at_front ids n bytes e in

@@ -26,7 +26,7 @@ use Rattle.gtid.specs.Interval.{has, is_within, AreLeast}
 use Rattle.gtid.specs.Span.{is_in, IsLawfulSpan}
 use Rattle.gtid.specs.Merged.{AreLeastBefore}
 use Rattle.gtid.specs.Group.{Ascend, sources, IsBelow, AreBelow, is_of, is_listed}
-use Rattle.gtid.specs.Gathering.{start, Follows, Rise, span_sources, AreAbove, interval_of, IsFirst, IsOther}
+use Rattle.gtid.specs.Gathering.{start, ComesAfter, SpansRise, span_sources, AreAbove, interval_of, IsFirst, IsOtherSource}
 use Rattle.gtid.specs.declared.fault.GtidFault.{GtidFault}
 use Rattle.gtid.specs.declared.group.Group.{Group}
 use Rattle.gtid.specs.declared.interval.Interval.{Interval}
@@ -64,35 +64,35 @@ begins_before-order = ranks_by id_cmp_total start
 le_from_cmp : (a b : ℕ) → is_lt (nat_cmp b a) ≡ false → a ≤ b
 le_from_cmp a b h = grind (arith, common_steps, nat_tests)
 
-follows_by : (a b : Span) (o : Ordering) → slice_cmp nat_cmp b.source a.source ≡ o → is_lt (ordering_then o (nat_cmp b.lo a.lo)) ≡ false → Follows a.source a.lo b
+follows_by : (a b : Span) (o : Ordering) → slice_cmp nat_cmp b.source a.source ≡ o → is_lt (ordering_then o (nat_cmp b.lo a.lo)) ≡ false → ComesAfter a.source a.lo b
 follows_by a b Less is h = absurd (Prim.cc)
 follows_by a b Equal is h = inr (set.slice_cmp-IsAntisymmetric set.nat_cmp-IsAntisymmetric b.source a.source is, le_from_cmp a.lo b.lo h)
 follows_by a b Greater is h = inl (lower Greater b.source a.source (sym is) refl)
 
-follows : (a b : Span) → begins_before b a ≡ false → Follows a.source a.lo b
+follows : (a b : Span) → begins_before b a ≡ false → ComesAfter a.source a.lo b
 follows a b h = follows_by a b (slice_cmp nat_cmp b.source a.source) refl h
 
 -- no later span begins before an earlier one
 abbrev AreInOrder : List Span → Type 0
 AreInOrder spans = (i j : ℕ) (d : Span) → i ≤ j → j < length spans → begins_before (get_or spans j d) (get_or spans i d) ≡ false
 
-all_follow : (s : Span) (spans : List Span) → ((k : ℕ) → k < length spans → begins_before (get_or spans k s) s ≡ false) → AllByRecursion (Follows s.source s.lo) spans
+all_follow : (s : Span) (spans : List Span) → ((k : ℕ) → k < length spans → begins_before (get_or spans k s) s ≡ false) → AllByRecursion (ComesAfter s.source s.lo) spans
 all_follow s [] h = tt
 all_follow s (t ∷ spans) h = (follows s t (h 0 (omega arith)), all_follow s spans (λ k short. h (suc k) (omega arith)))
 
-rise_from : (spans : List Span) → AreInOrder spans → Rise spans
+rise_from : (spans : List Span) → AreInOrder spans → SpansRise spans
 rise_from [] h = tt
 rise_from (s ∷ spans) h = (
   all_follow s spans (λ k short. h 0 (suc k) s (omega arith) (omega arith)),
   rise_from spans (λ i j d le short. h (suc i) (suc j) d (omega arith) (omega arith)),
 )
 
-rise_from_sorted : (spans : List Span) → IsSortedBy begins_before spans → Rise spans
+rise_from_sorted : (spans : List Span) → IsSortedBy begins_before spans → SpansRise spans
 rise_from_sorted spans sorted = rise_from spans (sorted_far begins_before begins_before-order spans sorted)
 
 -- from what a sort ensures, where each call of its closure compares where two spans begin
 pub rise_from_sort : {F : Type 0} {g : Mut F (Bor Span × (Bor Span × Unit {0})) Ordering} {f : F} (spans : List Span) → ((lt : Span → Span → Bool) → IsStrictWeakOrder lt → ComparesAs g lt f → IsSortedBy lt spans) →
-    ((a : Bor Span × (Bor Span × Unit {0})) (r : Ordering) (f' : F) → Called g f a r f' → (r ≡ id_cmp (start a.0.now) (start a.1.0.now)) × (f' ≡ f)) → Rise spans
+    ((a : Bor Span × (Bor Span × Unit {0})) (r : Ordering) (f' : F) → Called g f a r f' → (r ≡ id_cmp (start a.0.now) (start a.1.0.now)) × (f' ≡ f)) → SpansRise spans
 rise_from_sort {g = g} {f = f} spans sorted answers =
     rise_from_sorted spans (sorted begins_before begins_before-order
     (always_returns_same g (λ a r. is_lt r ≡ begins_before a.0.now a.1.0.now) f (λ a r f' k. (ap is_lt (answers a r f' k).0, (answers a r f' k).1))))
@@ -113,12 +113,12 @@ pub record Joined (first : Span) (after : List Span) (joined : List Interval) (l
   pub some : last.lo < last.hi
   pub in_range : last.hi < 2 ^ 63
   pub lawful : AllByRecursion IsLawfulSpan left
-  pub rise : Rise left
-  pub follow : AllByRecursion (Follows first.source last.lo) left
+  pub rise : SpansRise left
+  pub follow : AllByRecursion (ComesAfter first.source last.lo) left
   pub fewer : length left ≤ length after
   pub same : (q : Id) → list_any (is_in q) (first ∷ after) ≡ ((bytes_eq q.0 first.source && (has joined q.1 || is_within q.1 last)) || list_any (is_in q) left)
 
-pub joined_first : {joined : List Interval} (first : Span) (after : List Span) → AllByRecursion IsLawfulSpan (first ∷ after) → Rise (first ∷ after) → joined ≡ [] → Joined first after joined (interval_of first) after
+pub joined_first : {joined : List Interval} (first : Span) (after : List Span) → AllByRecursion IsLawfulSpan (first ∷ after) → SpansRise (first ∷ after) → joined ≡ [] → Joined first after joined (interval_of first) after
 joined_first {joined} first after lawful rise none = record {
   before = rw none lawful.0.0;
   some = lawful.0.1;
@@ -130,7 +130,7 @@ joined_first {joined} first after lawful rise none = record {
   same = λ q. rw none refl;
 }
 
-later : (source : List ℕ) (lo : ℕ) (s : Span) → s.source ≡ source → Follows source lo s → lo ≤ s.lo
+later : (source : List ℕ) (lo : ℕ) (s : Span) → s.source ≡ source → ComesAfter source lo s → lo ≤ s.lo
 later source lo s same (inl less) = absurd (not_below_itself source (ap (λ t. slice_cmp nat_cmp source t) (sym same) ∙ less))
 later source lo s same (inr of) = of.1
 
@@ -183,7 +183,7 @@ joined_apart {first} {after} {joined} {joined'} {last} (s ∷ spans) next others
       in_range = j.lawful.0.2;
       lawful = j.lawful.1;
       rise = j.rise.1;
-      follow = subst (λ t. AllByRecursion (Follows t s.lo) spans) same j.rise.0;
+      follow = subst (λ t. AllByRecursion (ComesAfter t s.lo) spans) same j.rise.0;
       fewer = omega (arith, j.fewer);
       same = λ q.
           j.same q
@@ -192,15 +192,15 @@ joined_apart {first} {after} {joined} {joined'} {last} (s ∷ spans) next others
           ∙ ap (λ b. (bytes_eq q.0 first.source && (b || is_within q.1 (interval_of s))) || list_any (is_in q) spans) (sym (ap (λ l. has l q.1) push ∙ has-append joined (last ∷ []) q.1));
     })
 
-above_from : (source : List ℕ) (lo : ℕ) (left : List Span) → AllByRecursion (Follows source lo) left → Rise left → IsOther source left → AreAbove source left
+above_from : (source : List ℕ) (lo : ℕ) (left : List Span) → AllByRecursion (ComesAfter source lo) left → SpansRise left → IsOtherSource source left → AreAbove source left
 above_from source lo [] follow rise other = tt
 above_from source lo (s ∷ spans) follow rise other = let less = lower follow.0 in (less, all_above s.source s.lo spans less rise.0)
   where
-    lower : Follows source lo s → slice_cmp nat_cmp source s.source ≡ Less
+    lower : ComesAfter source lo s → slice_cmp nat_cmp source s.source ≡ Less
     lower (inl less) = less
     lower (inr of) = absurd (other of.0)
 
-    all_above : (t : List ℕ) (at : ℕ) (us : List Span) → slice_cmp nat_cmp source t ≡ Less → AllByRecursion (Follows t at) us → AreAbove source us
+    all_above : (t : List ℕ) (at : ℕ) (us : List Span) → slice_cmp nat_cmp source t ≡ Less → AllByRecursion (ComesAfter t at) us → AreAbove source us
     all_above t at [] less h = tt
     all_above t at (u ∷ us) less (inl more, h) = (nat_list_cmp_total.trans source t u.source less more, all_above t at us less h)
     all_above t at (u ∷ us) less (inr of, h) = (ap (λ v. slice_cmp nat_cmp source v) of.0 ∙ less, all_above t at us less h)
@@ -220,7 +220,7 @@ not_nil : (xs : List Interval) (x : Interval) → xs ++ x ∷ [] ≡ [] → ⊥
 not_nil [] x e = Prim.cc
 not_nil (y ∷ xs) x e = Prim.cc
 
-pub joined_all : {first : Span} {after : List Span} {joined joined' : List Interval} {last : Interval} {left : List Span} → Joined first after joined last left → IsOther first.source left → joined' ≡ joined ++ last ∷ [] →
+pub joined_all : {first : Span} {after : List Span} {joined joined' : List Interval} {last : Interval} {left : List Span} → Joined first after joined last left → IsOtherSource first.source left → joined' ≡ joined ++ last ∷ [] →
     Joins first after joined' left
 joined_all {first} {after} {joined} {joined'} {last} {left} j other push = record {
   least = rw push (least_from_before 0 (last.hi + 1) (joined ++ last ∷ []) (before_push 0 last.lo last.hi (last.hi + 1) joined j.before j.some j.in_range (omega arith)));
@@ -236,7 +236,7 @@ pub record Gathered (all : List Span) (groups : List Group) (left : List Span) :
   pub ascend : Ascend (sources groups)
   pub below : AreBelow (sources groups) (span_sources left)
   pub lawful : AllByRecursion IsLawfulSpan left
-  pub rise : Rise left
+  pub rise : SpansRise left
   pub same : (q : Id) → list_any (is_in q) all ≡ (is_listed q groups || list_any (is_in q) left)
 
 -- the first of the spans that are left, in the words of the code
@@ -244,7 +244,7 @@ pub gathered_next : {all : List Span} {groups : List Group} (left : List Span) (
 gathered_next [] d m some = absurd (omega (arith, some))
 gathered_next {all} {groups} (s ∷ spans) d m some = subst (λ l. Gathered all groups (s ∷ l)) (sym (take_all (length (s ∷ spans) - 1) spans (omega arith))) m
 
-pub gathered_none : {groups : List Group} (spans : List Span) → AllByRecursion IsLawfulSpan spans → Rise spans → groups ≡ [] → Gathered spans groups spans
+pub gathered_none : {groups : List Group} (spans : List Span) → AllByRecursion IsLawfulSpan spans → SpansRise spans → groups ≡ [] → Gathered spans groups spans
 gathered_none spans lawful rise none = rw none
     (record {
       ascend = ascend_nil;
@@ -260,7 +260,7 @@ below_through (s ∷ ss) t us ts h above = (below_all s t ts h.0.0 above, below_
 
 -- one source more
 pub gathered_push : {all : List Span} {groups : List Group} (first : Span) (after : List Span) (g : Group) (groups' : List Group) (left : List Span) → Gathered all groups (first ∷ after) →
-    g.source ≡ first.source → ((q : Id) → list_any (is_in q) (first ∷ after) ≡ (is_of q g || list_any (is_in q) left)) → AreAbove first.source left → AllByRecursion IsLawfulSpan left → Rise left →
+    g.source ≡ first.source → ((q : Id) → list_any (is_in q) (first ∷ after) ≡ (is_of q g || list_any (is_in q) left)) → AreAbove first.source left → AllByRecursion IsLawfulSpan left → SpansRise left →
     groups' ≡ groups ++ g ∷ [] → Gathered all groups' left
 gathered_push {all} {groups} first after g groups' left m source same above lawful rise push =
     let ends : sources groups' ≡ sources groups ++ first.source ∷ [] = ap sources push ∙ sources_push groups g ∙ ap (λ t. sources groups ++ t ∷ []) source in

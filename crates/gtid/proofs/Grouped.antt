@@ -11,7 +11,7 @@ use Rattle.gtid.specs.Identifier.{Ids}
 use Rattle.gtid.specs.Interval.{AreLeast}
 use Rattle.gtid.specs.Group.{Ascend, sources, IsBelow, ids_of}
 use Rattle.gtid.specs.Spans.{span, spans_of}
-use Rattle.gtid.specs.Encoding.{SidBlock, AreBlocks, is_above, join_block, grouped, blocks_bytes, IsEncoding, AppendsEncoding, LacksRoom}
+use Rattle.gtid.specs.Encoding.{SidBlock, AreSidBlocks, is_above, join_block, grouped, blocks_bytes, IsEncoding, AppendsEncoding, LacksRoom}
 use Rattle.gtid.specs.Blocks.{pair, block, of_group, blocks}
 use Rattle.gtid.specs.declared.interval.Interval.{Interval}
 use Rattle.gtid.specs.declared.group.Group.{Group}
@@ -83,7 +83,7 @@ above_first : (before : Option (List ℕ)) (s : List ℕ) (ss : List (List ℕ))
 above_first None s ss after = refl
 above_first (Some t) s ss after = ap is_lt after.0
 
-lawful_blocks : (before : Option (List ℕ)) (groups : List Group) → IsAfter before (sources groups) → Ascend (sources groups) → AreBlocks before (blocks groups)
+lawful_blocks : (before : Option (List ℕ)) (groups : List Group) → IsAfter before (sources groups) → Ascend (sources groups) → AreSidBlocks before (blocks groups)
 lawful_blocks before [] after ascend = tt
 lawful_blocks before (g ∷ groups) after ascend =
     let f = ascend_first g.source (sources groups) ascend in
@@ -100,7 +100,7 @@ pub encodes : (groups : List Group) → Ascend (sources groups) → length group
 encodes groups ascend fits = record {
   spans = spans_of groups;
   least = least_list groups ascend;
-  lawful = subst (AreBlocks None) (sym (grouped_groups groups ascend)) (lawful_blocks None groups tt ascend);
+  lawful = subst (AreSidBlocks None) (sym (grouped_groups groups ascend)) (lawful_blocks None groups tt ascend);
   counted = omega (arith, fits, ap length (grouped_groups groups ascend), length-map groups of_group);
   spelled = ap blocks_bytes (sym (grouped_groups groups ascend));
 }

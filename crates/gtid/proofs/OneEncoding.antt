@@ -6,7 +6,7 @@ use Rattle.std.proofs.lemmas.List.{length-append}
 use Rattle.std.proofs.lemmas.Bool.Decides.{nat_tests}
 use Rattle.byteorder.specs.Endian.{little_bytes, little_number}
 use Rattle.byteorder.specs.Numbers.{little_number-reads_back}
-use Rattle.gtid.specs.Encoding.{SidBlock, interval_bytes, block_bytes, blocks_bytes, first_fault, interval_fault, is_above, source_fault, end_of, last_source, AreIntervals, AreBlocks, IsDecodeFault}
+use Rattle.gtid.specs.Encoding.{SidBlock, interval_bytes, block_bytes, blocks_bytes, first_fault, interval_fault, is_above, source_fault, last_hi, last_source, AreIntervals, AreSidBlocks, IsDecodeFault}
 use Rattle.gtid.specs.Encoding.IsDecodeFault.{no_count, at_source, at_interval}
 use Rattle.gtid.specs.declared.fault.GtidFault.{GtidFault}
 use Rattle.gtid.specs.declared.fault.GtidFault.TheVariants.{Number, Interval, Truncated, Order}
@@ -75,11 +75,11 @@ abbrev pub pair_end : ℕ → List (ℕ × ℕ) → ℕ
 pair_end after [] = after
 pair_end after (i ∷ intervals) = pair_end i.1 intervals
 
-end_is : (i : ℕ × ℕ) (intervals : List (ℕ × ℕ)) → end_of (i ∷ intervals) ≡ pair_end i.1 intervals
+end_is : (i : ℕ × ℕ) (intervals : List (ℕ × ℕ)) → last_hi (i ∷ intervals) ≡ pair_end i.1 intervals
 end_is i [] = refl
 end_is i (j ∷ intervals) = end_is j intervals
 
-pub ends_at : (intervals : List (ℕ × ℕ)) → end_of intervals ≡ pair_end 0 intervals
+pub ends_at : (intervals : List (ℕ × ℕ)) → last_hi intervals ≡ pair_end 0 intervals
 ends_at [] = refl
 ends_at (i ∷ intervals) = end_is i intervals
 
@@ -138,7 +138,7 @@ parts p x =
     append_assoc (p.source ++ little_bytes 8 (length p.intervals)) (flat_map interval_bytes p.intervals) x
     ∙ append_assoc p.source (little_bytes 8 (length p.intervals)) (flat_map interval_bytes p.intervals ++ x)
 
-same_block : (b c : Option (List ℕ)) (p q : SidBlock) (l m : List SidBlock) (x y : List ℕ) → AreBlocks b (p ∷ l) → AreBlocks c (q ∷ m) → block_bytes p ++ x ≡ block_bytes q ++ y → (p ≡ q) × (x ≡ y)
+same_block : (b c : Option (List ℕ)) (p q : SidBlock) (l m : List SidBlock) (x y : List ℕ) → AreSidBlocks b (p ∷ l) → AreSidBlocks c (q ∷ m) → block_bytes p ++ x ≡ block_bytes q ++ y → (p ≡ q) × (x ≡ y)
 same_block b c p q l m x y left right same =
     let s = same_front p.source q.source (after_source p x) (after_source q y) (left.0 ∙ sym right.0) (sym (parts p x) ∙ same ∙ parts q y) in
     let n = same_number (length p.intervals) (length q.intervals) (flat_map interval_bytes p.intervals ++ x) (flat_map interval_bytes q.intervals ++ y) left.3 right.3 s.1 in
@@ -149,10 +149,10 @@ same_block b c p q l m x y left right same =
 pub record NextBlock (before : Option (List ℕ)) (x rest : List ℕ) : Type 0 where
   next : SidBlock
   more : List SidBlock
-  lawful : AreBlocks before (next ∷ more)
+  lawful : AreSidBlocks before (next ∷ more)
   rest_is : rest ≡ block_bytes next ++ (flat_map block_bytes more ++ x)
 
-pub next_block : (b c : Option (List ℕ)) (some all : List SidBlock) (rest x : List ℕ) → AreBlocks b some → AreBlocks c all → length some < length all → flat_map block_bytes some ++ rest ≡ flat_map block_bytes all ++ x →
+pub next_block : (b c : Option (List ℕ)) (some all : List SidBlock) (rest x : List ℕ) → AreSidBlocks b some → AreSidBlocks c all → length some < length all → flat_map block_bytes some ++ rest ≡ flat_map block_bytes all ++ x →
     NextBlock (last_or c (map source_of some)) x rest
 next_block b c [] [] rest x left right short same = absurd (omega (arith, short))
 next_block b c [] (q ∷ all) rest x left right short same =
@@ -173,7 +173,7 @@ no_source_fault before x rest fault n faulty =
 
 pub no_block_fault : (before : Option (List ℕ)) (x source : List ℕ) (size : ℕ) (intervals : List (ℕ × ℕ)) (rest : List ℕ) (fault : GtidFault) →
     NextBlock before x (source ++ (little_bytes 8 size ++ (flat_map interval_bytes intervals ++ rest))) → length source ≡ 16 → size < 2 ^ 64 → length intervals < size → AreIntervals 0 intervals →
-    interval_fault (end_of intervals) rest ≡ Some fault → ⊥
+    interval_fault (last_hi intervals) rest ≡ Some fault → ⊥
 no_block_fault before x source size intervals rest fault n long fits fewer so_far faulty =
     let inner = flat_map interval_bytes intervals ++ rest in
     let y = flat_map block_bytes n.more ++ x in
@@ -182,7 +182,7 @@ no_block_fault before x source size intervals rest fault n long fits fewer so_fa
     no_interval_fault (pair_end 0 intervals) y rest fault (next_interval 0 0 intervals n.next.intervals rest y so_far n.lawful.4 (omega (arith, k.0, fewer)) k.1)
     (ap (λ e. interval_fault e rest) (sym (ends_at intervals)) ∙ faulty)
 
-pub same_blocks : (b c : Option (List ℕ)) (l m : List SidBlock) (x y : List ℕ) → AreBlocks b l → AreBlocks c m → length l ≡ length m → flat_map block_bytes l ++ x ≡ flat_map block_bytes m ++ y → (l ≡ m) × (x ≡ y)
+pub same_blocks : (b c : Option (List ℕ)) (l m : List SidBlock) (x y : List ℕ) → AreSidBlocks b l → AreSidBlocks c m → length l ≡ length m → flat_map block_bytes l ++ x ≡ flat_map block_bytes m ++ y → (l ≡ m) × (x ≡ y)
 same_blocks b c [] [] x y left right long same = (refl, same)
 same_blocks b c [] (q ∷ m) x y left right long same = absurd (omega (arith, long))
 same_blocks b c (p ∷ l) [] x y left right long same = absurd (omega (arith, long))
@@ -194,7 +194,7 @@ same_blocks b c (p ∷ l) (q ∷ m) x y left right long same =
 
 -- ---- Whole encodings.
 
-pub one_encoding : (l m : List SidBlock) (x y : List ℕ) → AreBlocks None l → AreBlocks None m → length l < 2 ^ 64 → length m < 2 ^ 64 → blocks_bytes l ++ x ≡ blocks_bytes m ++ y → (l ≡ m) × (x ≡ y)
+pub one_encoding : (l m : List SidBlock) (x y : List ℕ) → AreSidBlocks None l → AreSidBlocks None m → length l < 2 ^ 64 → length m < 2 ^ 64 → blocks_bytes l ++ x ≡ blocks_bytes m ++ y → (l ≡ m) × (x ≡ y)
 one_encoding l m x y left right fits also same =
     let n = same_number (length l) (length m) (flat_map block_bytes l ++ x) (flat_map block_bytes m ++ y) fits also
     (sym (append_assoc (little_bytes 8 (length l)) (flat_map block_bytes l) x) ∙ same ∙ append_assoc (little_bytes 8 (length m)) (flat_map block_bytes m) y) in
@@ -206,7 +206,7 @@ flatten a b c d e f = simp append_assoc
 from_left : (a b c d e f bytes : List ℕ) → bytes ≡ ((((a ++ b) ++ c) ++ d) ++ e) ++ f → (g h x : List ℕ) → bytes ≡ (g ++ h) ++ x → a ++ (b ++ (c ++ (d ++ (e ++ f)))) ≡ g ++ (h ++ x)
 from_left a b c d e f bytes left g h x right = sym (flatten a b c d e f) ∙ sym left ∙ right ∙ append_assoc g h x
 
-pub no_fault : (l : List SidBlock) (x bytes : List ℕ) (fault : GtidFault) → AreBlocks None l → length l < 2 ^ 64 → bytes ≡ blocks_bytes l ++ x → IsDecodeFault bytes fault → ⊥
+pub no_fault : (l : List SidBlock) (x bytes : List ℕ) (fault : GtidFault) → AreSidBlocks None l → length l < 2 ^ 64 → bytes ≡ blocks_bytes l ++ x → IsDecodeFault bytes fault → ⊥
 no_fault l x bytes _ lawful fits is (no_count short) =
     omega (arith, ap length is, ap length (append_assoc (little_bytes 8 (length l)) (flat_map block_bytes l) x))
 no_fault l x bytes fault lawful fits is (at_source _ f) =

@@ -2,7 +2,7 @@
 use Rattle.std.proofs.Common.{◌≡◌, ℕ, ◌<◌, inl, inr, List, ◌++◌, length, flat_map, append_assoc, None, Some, refl, ap, sym, ◌∙◌, arith}
 use Rattle.std.proofs.lemmas.Bool.{cases_order}
 use Rattle.byteorder.specs.Endian.{little_bytes}
-use Rattle.gtid.specs.Encoding.{interval_bytes, block_bytes, interval_fault, source_fault, end_of, last_source, FaultsAtSource, FaultsAtInterval, IsDecodeFault}
+use Rattle.gtid.specs.Encoding.{interval_bytes, block_bytes, interval_fault, source_fault, last_hi, last_source, FaultsAtSource, FaultsAtInterval, IsDecodeFault}
 use Rattle.gtid.specs.Encoding.IsDecodeFault.{no_count, at_source, at_interval}
 use Rattle.gtid.specs.declared.fault.GtidFault.{GtidFault}
 use Rattle.gtid.proofs.OneEncoding.{same_front, same_number, lawful_source, pair_end, ends_at, next_interval, none_some, no_interval_fault, same_intervals, next_block, no_source_fault, no_block_fault, same_blocks, flatten}
@@ -64,7 +64,7 @@ both_in_one bytes a b f g same_rest =
     elim (cases_order (length f.intervals) (length g.intervals)) [
       | inl same ↦
           let t = same_intervals 0 0 f.intervals g.intervals f.rest g.rest f.so_far g.so_far same n.1 in
-          same_some (sym f.faulty ∙ (λ i. interval_fault (end_of (t.0 i)) (t.1 i)) ∙ g.faulty)
+          same_some (sym f.faulty ∙ (λ i. interval_fault (last_hi (t.0 i)) (t.1 i)) ∙ g.faulty)
       | inr (inl less) ↦
           absurd (no_interval_fault (pair_end 0 f.intervals) g.rest f.rest a (next_interval 0 0 f.intervals g.intervals f.rest g.rest f.so_far g.so_far less n.1)
           (ap (λ e. interval_fault e f.rest) (sym (ends_at f.intervals)) ∙ f.faulty))

@@ -14,7 +14,7 @@ use Rattle.std.proofs.lemmas.List.Folds.{list_any_more, list_any_at}
 use Rattle.std.proofs.lemmas.Slice.Eq.{bytes_eq-Decides}
 use Rattle.gtid.specs.Identifier.{Id}
 use Rattle.gtid.specs.Interval.{has}
-use Rattle.gtid.specs.Group.{Ascend, sources, IsBelow, AreBelow, is_of, is_listed, IsAt, IsGap}
+use Rattle.gtid.specs.Group.{Ascend, sources, IsBelow, AreBelow, is_of, is_listed, IsGroupAt, IsGap}
 use Rattle.gtid.specs.declared.group.Group.{Group}
 use Rattle.gtid.proofs.Merged.{ascend_first}
 
@@ -62,7 +62,7 @@ dropped_above s (g ∷ groups) zero after =
 dropped_above s (g ∷ groups) (suc k) after = dropped_above s groups k (λ i d le lt. after (suc i) d (omega (arith, le)) (omega (arith, lt)))
 
 -- what a binary search answers
-pub found : (s : List ℕ) (groups : List Group) (r : Result ℕ ℕ) → IsSearchInRange r (length groups) → IsBinarySearchResult (compares s) groups r → IfOk r (IsAt s groups)
+pub found : (s : List ℕ) (groups : List Group) (r : Result ℕ ℕ) → IsSearchInRange r (length groups) → IsBinarySearchResult (compares s) groups r → IfOk r (IsGroupAt s groups)
 found s groups (Ok at) bound position = (bound, λ d. set.slice_cmp-IsAntisymmetric set.nat_cmp-IsAntisymmetric (slice_index_or groups at d).source s (position d))
 found s groups (Err at) bound position = tt
 

@@ -4,7 +4,7 @@ use Rattle.std.specs.List.{last_or}
 use Rattle.std.proofs.lemmas.List.{length-append}
 use Rattle.gtid.specs.Interval.{AreLeast}
 use Rattle.byteorder.specs.Endian.{little_bytes}
-use Rattle.gtid.specs.Encoding.{SidBlock, interval_bytes, block_bytes, blocks_bytes, interval_fault, is_above, end_of, last_source, AreIntervals, AreBlocks, IsDecodeFault, HasInterval, HasSource, HasFirst}
+use Rattle.gtid.specs.Encoding.{SidBlock, interval_bytes, block_bytes, blocks_bytes, interval_fault, is_above, last_hi, last_source, AreIntervals, AreSidBlocks, IsDecodeFault, HasInterval, HasSource, HasFirstInterval}
 use Rattle.gtid.specs.Encoding.IsDecodeFault.{no_count, at_source, at_interval}
 use Rattle.gtid.specs.declared.fault.GtidFault.TheVariants.{Truncated, Memory}
 use Rattle.gtid.specs.Blocks.{pair, of_group, blocks}
@@ -28,11 +28,11 @@ one_more items x n is = length-append items (x ∷ []) ∙ ap (λ k. k + 1) is
 
 -- ---- Intervals.
 
-end_is : (i : Interval) (intervals : List Interval) → end_of (map pair (i ∷ intervals)) ≡ last_end i.hi intervals
+end_is : (i : Interval) (intervals : List Interval) → last_hi (map pair (i ∷ intervals)) ≡ last_end i.hi intervals
 end_is i [] = refl
 end_is i (j ∷ intervals) = end_is j intervals
 
-pub ends_at : (intervals : List Interval) → end_of (map pair intervals) ≡ last_end 0 intervals
+pub ends_at : (intervals : List Interval) → last_hi (map pair intervals) ≡ last_end 0 intervals
 ends_at [] = refl
 ends_at (i ∷ intervals) = end_is i intervals
 
@@ -118,7 +118,7 @@ block_first source (i ∷ intervals) rest bytes long some lawful split = record 
 
 -- what `block` says of a block, and of a group
 pub lawful_block : (before : Option (List ℕ)) (source : List ℕ) (intervals : List Interval) (size : ℕ) → length source ≡ 16 → is_above before source ≡ true → 0 < size → size < 2 ^ 64 →
-    length intervals ≡ size → AreLeast 0 intervals → AreBlocks before (record { source = source; intervals = map pair intervals } ∷ [])
+    length intervals ≡ size → AreLeast 0 intervals → AreSidBlocks before (record { source = source; intervals = map pair intervals } ∷ [])
 lawful_block before source intervals size long above some fits count least =
     (long, above, omega (arith, length_map pair intervals, count), omega (arith, length_map pair intervals, count), intervals_of_least 0 intervals least, tt)
 
@@ -135,7 +135,7 @@ faults_within before source size beyond bytes fault long above fits split (inr f
 abbrev source_of : SidBlock → List ℕ
 source_of block = block.source
 
-lawful_push : (before : Option (List ℕ)) (some : List SidBlock) (block : SidBlock) → AreBlocks before some → AreBlocks (last_or before (map source_of some)) (block ∷ []) → AreBlocks before (some ++ block ∷ [])
+lawful_push : (before : Option (List ℕ)) (some : List SidBlock) (block : SidBlock) → AreSidBlocks before some → AreSidBlocks (last_or before (map source_of some)) (block ∷ []) → AreSidBlocks before (some ++ block ∷ [])
 lawful_push before [] block lawful last = last
 lawful_push before (b ∷ some) block lawful last =
     (lawful.0, lawful.1, lawful.2, lawful.3, lawful.4, lawful_push (Some b.source) some block lawful.5 last)
@@ -150,7 +150,7 @@ blocks_push (h ∷ groups) g = ap (λ bs. of_group h ∷ bs) (blocks_push groups
 
 -- The first groups of the bytes are read, and this is left of them.
 pub record ReadGroups (groups : List Group) (count : ℕ) (before : Option (List ℕ)) (rest bytes : List ℕ) : Type 0 where
-  pub lawful : AreBlocks None (blocks groups)
+  pub lawful : AreSidBlocks None (blocks groups)
   pub counted : length groups ≡ count
   pub last : last_source (blocks groups) ≡ before
   pub split : bytes ≡ flat_map block_bytes (blocks groups) ++ rest
@@ -159,9 +159,9 @@ pub no_groups_read : (groups : List Group) (bytes : List ℕ) → groups ≡ [] 
 no_groups_read groups bytes none = rw none (record { lawful = tt; counted = refl; last = refl; split = refl })
 
 pub more_groups : (groups new : List Group) (g : Group) (count : ℕ) (before : Option (List ℕ)) (rest beyond bytes : List ℕ) → ReadGroups groups count before rest bytes →
-    AreBlocks before (of_group g ∷ []) → rest ≡ block_bytes (of_group g) ++ beyond → new ≡ groups ++ g ∷ [] → ReadGroups new (count + 1) (Some g.source) beyond bytes
+    AreSidBlocks before (of_group g ∷ []) → rest ≡ block_bytes (of_group g) ++ beyond → new ≡ groups ++ g ∷ [] → ReadGroups new (count + 1) (Some g.source) beyond bytes
 more_groups groups new g count before rest beyond bytes r lawful split is = rw is (record {
-  lawful = subst (AreBlocks None) (sym (blocks_push groups g)) (lawful_push None (blocks groups) (of_group g) r.lawful (subst (λ b. AreBlocks b (of_group g ∷ [])) (sym r.last) lawful));
+  lawful = subst (AreSidBlocks None) (sym (blocks_push groups g)) (lawful_push None (blocks groups) (of_group g) r.lawful (subst (λ b. AreSidBlocks b (of_group g ∷ [])) (sym r.last) lawful));
   counted = one_more groups g count r.counted;
   last = ap last_source (blocks_push groups g) ∙ last_source_push None (blocks groups) (of_group g);
   split = r.split ∙ ap (λ l. flat_map block_bytes (blocks groups) ++ l) split ∙ sym (more_spelled block_bytes of_group groups g beyond);
@@ -175,11 +175,11 @@ group_first (g ∷ groups) count before rest bytes r next =
     (r.split ∙ append_assoc (block_bytes (of_group g)) (flat_map block_bytes (blocks groups)) rest)
 
 pub group_read : (groups : List Group) (g : Group) (count : ℕ) (before : Option (List ℕ)) (rest beyond bytes : List ℕ) → ReadGroups groups count before rest bytes →
-    AreBlocks before (of_group g ∷ []) → rest ≡ block_bytes (of_group g) ++ beyond → HasSource bytes
+    AreSidBlocks before (of_group g ∷ []) → rest ≡ block_bytes (of_group g) ++ beyond → HasSource bytes
 group_read groups g count before rest beyond bytes r lawful split =
     group_first groups count before rest bytes r (block_first g.source (map pair g.intervals.items) beyond rest lawful.0 lawful.2 lawful.4 split)
 
-pub has_first : (count : ℕ) (rest bytes : List ℕ) → 0 < count → bytes ≡ little_bytes 8 count ++ rest → HasSource rest → HasFirst bytes
+pub has_first : (count : ℕ) (rest bytes : List ℕ) → 0 < count → bytes ≡ little_bytes 8 count ++ rest → HasSource rest → HasFirstInterval bytes
 has_first count rest bytes some split first = record { count = count; rest = rest; some = some; bytes_are = split; first = first }
 
 pub faults_too_short : (bytes : List ℕ) → length bytes < 8 → IsDecodeFault bytes Truncated
@@ -189,7 +189,7 @@ flatten : (a b c d e f : List ℕ) → a ++ (b ++ ((c ++ d) ++ (e ++ f))) ≡ ((
 flatten a b c d e f = simp append_assoc
 
 -- After lawful blocks, fewer than are to be, the next is at fault.
-pub next_faults : (some : List SidBlock) (count : ℕ) (rest bytes : List ℕ) (fault : GtidFault) → AreBlocks None some → length some < count → count < 2 ^ 64 →
+pub next_faults : (some : List SidBlock) (count : ℕ) (rest bytes : List ℕ) (fault : GtidFault) → AreSidBlocks None some → length some < count → count < 2 ^ 64 →
     bytes ≡ little_bytes 8 count ++ (flat_map block_bytes some ++ rest) → IsBlockFault (last_source some) rest fault → IsDecodeFault bytes fault
 next_faults some count rest bytes fault lawful fewer fits split (inl faulty) = at_source fault (record {
   count = count;

@@ -5,7 +5,7 @@ use Rattle.std.specs.Char.{IsAsciiDigit}
 use Rattle.std.proofs.lemmas.Bool.Decides.{nat_tests}
 use Rattle.uuid.specs.Text.{is_hex_digit}
 use Rattle.gtid.specs.Encoding.{SidBlock}
-use Rattle.gtid.specs.Text.{IsBlank, IsIntervalText, AreIntervalTexts, IsItem, IsList, IsInGrammar}
+use Rattle.gtid.specs.Text.{IsBlankByte, IsIntervalText, AreIntervalTexts, IsItem, IsList, IsInGrammar}
 use Rattle.gtid.specs.Scan.{step, ends, stands_at, is_digit, is_blank, end_number}
 use Rattle.gtid.specs.declared.grammar.State.{State}
 use Rattle.gtid.specs.declared.grammar.State.TheVariants.{Start, Item, Source, First, Lo, Second, Hi, After}
@@ -32,7 +32,7 @@ record Trail (text : List ℕ) : Type 0 where
   pub blanks : List ℕ
   pub rest : List ℕ
   pub text_is : text ≡ blanks ++ rest
-  pub are_blank : AllByRecursion IsBlank blanks
+  pub are_blank : AllByRecursion IsBlankByte blanks
   pub next : (rest ≡ []) ⊎ Next rest
 
 -- at least this many intervals, and what follows them
@@ -84,10 +84,10 @@ Completes After text = Trail text
 
 -- ---- Bytes.
 
-blank_is : (b : ℕ) → is_blank b ≡ true → IsBlank b
+blank_is : (b : ℕ) → is_blank b ≡ true → IsBlankByte b
 blank_is b e = by (b == 0x20) refl (b == 0x0A) refl e
   where
-    by : (x : Bool) → (b == 0x20) ≡ x → (y : Bool) → (b == 0x0A) ≡ y → (x || y || (b == 0x0D)) ≡ true → IsBlank b
+    by : (x : Bool) → (b == 0x20) ≡ x → (y : Bool) → (b == 0x0A) ≡ y → (x || y || (b == 0x0D)) ≡ true → IsBlankByte b
     by true is y other e = inl (grind (arith, nat_tests))
     by false first true is e = inr (inl (grind (arith, nat_tests)))
     by false first false second e = inr (inr (grind (arith, nat_tests)))
@@ -100,7 +100,7 @@ same_byte b c e = grind (arith, nat_tests)
 
 -- ---- One byte more in front.
 
-blank_trail : (b : ℕ) (text : List ℕ) → IsBlank b → Trail text → Trail (b ∷ text)
+blank_trail : (b : ℕ) (text : List ℕ) → IsBlankByte b → Trail text → Trail (b ∷ text)
 blank_trail b text blank t = record { blanks = b ∷ t.blanks; rest = t.rest; text_is = ap (λ bs. b ∷ bs) t.text_is; are_blank = (blank, t.are_blank); next = t.next }
 
 comma_trail : (text : List ℕ) → Listed text → Trail (44 ∷ text)
@@ -159,7 +159,7 @@ hyphen_first text d = inr (record { others = text; text_is = refl; second = d })
 
 -- ---- Items.
 
-blank_item : (b : ℕ) (text : List ℕ) (item : SidBlock) → IsBlank b → IsItem text item → IsItem (b ∷ text) item
+blank_item : (b : ℕ) (text : List ℕ) (item : SidBlock) → IsBlankByte b → IsItem text item → IsItem (b ∷ text) item
 blank_item b text item blank h = record {
   before = b ∷ h.before;
   uuid = h.uuid;
@@ -173,17 +173,17 @@ blank_item b text item blank h = record {
   intervals = h.intervals;
 }
 
-blank_list : (b : ℕ) (text : List ℕ) (first : SidBlock) (others : List SidBlock) → IsBlank b → IsList text (first ∷ others) → IsList (b ∷ text) (first ∷ others)
+blank_list : (b : ℕ) (text : List ℕ) (first : SidBlock) (others : List SidBlock) → IsBlankByte b → IsList text (first ∷ others) → IsList (b ∷ text) (first ∷ others)
 blank_list b text first [] blank h = blank_item b text first blank h
 blank_list b text first (next ∷ others) blank (front, back, e, one, rest) = (b ∷ front, back, ap (λ bs. b ∷ bs) e, blank_item b front first blank one, rest)
 
-blank_listed : (b : ℕ) (text : List ℕ) → IsBlank b → Listed text → Listed (b ∷ text)
+blank_listed : (b : ℕ) (text : List ℕ) → IsBlankByte b → Listed text → Listed (b ∷ text)
 blank_listed b text blank l = record { first = l.first; others = l.others; is_list = blank_list b text l.first l.others blank l.is_list }
 
 in_grammar : (text : List ℕ) → Listed text → IsInGrammar text
 in_grammar text l = record { items = l.first ∷ l.others; is_list = l.is_list }
 
-blank_grammar : (b : ℕ) (text : List ℕ) → IsBlank b → IsInGrammar text → IsInGrammar (b ∷ text)
+blank_grammar : (b : ℕ) (text : List ℕ) → IsBlankByte b → IsInGrammar text → IsInGrammar (b ∷ text)
 blank_grammar b text blank g = by g.items g.is_list
   where
     by : (items : List SidBlock) → IsList text items → IsInGrammar (b ∷ text)
@@ -196,7 +196,7 @@ record SomeItem (text : List ℕ) : Type 0 where
   pub is_item : IsItem text item
 
 some_item : (uuid numbers blanks : List ℕ) (intervals : List (ℕ × ℕ)) → length uuid ≡ 36 → StandFrom 0 uuid → 0 < length intervals →
-    AreIntervalTexts numbers intervals → AllByRecursion IsBlank blanks → SomeItem (uuid ++ numbers ++ blanks)
+    AreIntervalTexts numbers intervals → AllByRecursion IsBlankByte blanks → SomeItem (uuid ++ numbers ++ blanks)
 some_item uuid numbers blanks intervals long stand some are_texts are_blank =
     let s = spells uuid long stand in
     record {

@@ -1,10 +1,6 @@
 -- Calls that have room.
-use Rattle.std.proofs.Common.{◌≡◌, Result, Ok, Err, OnOk, IsOk, is_ok, if◌then◌else◌, sym}
+use Rattle.std.proofs.Common.{◌≡◌, Result, Ok, Err, IsOk, is_ok, if◌then◌else◌, sym}
 use Rattle.std.proofs.lemmas.Bool.{true≢false}
-
-pub on_room : {T E P : Type 0} (r : Result T E) → OnOk r P → IsOk r → P
-on_room (Ok x) h is = h
-on_room (Err e) h is = absurd (true≢false (sym is))
 
 pub with_room : {T E X : Type 0} (r : Result T E) (now done kept : X) → now ≡ (if is_ok r then done else kept) → IsOk r → now ≡ done
 with_room (Ok x) now done kept h is = h

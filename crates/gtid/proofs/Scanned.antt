@@ -6,7 +6,7 @@ use Rattle.std.proofs.lemmas.Bool.Decides.{nat_tests}
 use Rattle.std.proofs.lemmas.List.{take_more}
 use Rattle.uuid.specs.Text.{is_hex_digit}
 use Rattle.gtid.specs.Encoding.{SidBlock}
-use Rattle.gtid.specs.Text.{IsBlank, IsNumeral, IsIntervalText, AreIntervalTexts, IsItem, IsList, BeginsText}
+use Rattle.gtid.specs.Text.{IsBlankByte, IsNumeral, IsIntervalText, AreIntervalTexts, IsItem, IsList, BeginsText}
 use Rattle.gtid.specs.Scan.{step, ends, stands_at, is_digit, stepped, run, IsPassed}
 use Rattle.gtid.specs.declared.grammar.State.{State}
 use Rattle.gtid.specs.declared.grammar.State.TheVariants.{Start, Item, Source, First, Lo, Second, Hi, After}
@@ -38,7 +38,7 @@ tested_second false true s o p e f = refl
 tested_second false false s o p e f = Prim.cc
 tested_second true second s o p e f = Prim.cc
 
-blank_step : (s t : State) → step s 0x20 ≡ Some t → step s 0x0A ≡ Some t → step s 0x0D ≡ Some t → (b : ℕ) → IsBlank b → step s b ≡ Some t
+blank_step : (s t : State) → step s 0x20 ≡ Some t → step s 0x0A ≡ Some t → step s 0x0D ≡ Some t → (b : ℕ) → IsBlankByte b → step s b ≡ Some t
 blank_step s t e f g b (inl is) = subst (λ c. step s c ≡ Some t) (sym is) e
 blank_step s t e f g b (inr (inl is)) = subst (λ c. step s c ≡ Some t) (sym is) f
 blank_step s t e f g b (inr (inr is)) = subst (λ c. step s c ≡ Some t) (sym is) g
@@ -75,7 +75,7 @@ record Closed (o : Option State) : Type 0 where
 record Numbered (o : Option State) : Type 0 where
   pub closed : Closed o
   pub colon : step closed.state 58 ≡ Some First
-  pub blank : (b : ℕ) → IsBlank b → step closed.state b ≡ Some After
+  pub blank : (b : ℕ) → IsBlankByte b → step closed.state b ≡ Some After
 
 numbered_lo : (o : Option State) → o ≡ Some Lo → Numbered o
 numbered_lo o is = record { closed = record { state = Lo; is = is; end = refl; comma = refl }; colon = refl; blank = blank_step Lo After refl refl refl }
@@ -110,7 +110,7 @@ some_intervals text (i ∷ is) some (first, others, e, one, rest) =
 
 -- An item may begin in this state of the scan.
 record Opening (s : State) : Type 0 where
-  pub blank : (b : ℕ) → IsBlank b → step s b ≡ Some s
+  pub blank : (b : ℕ) → IsBlankByte b → step s b ≡ Some s
   pub hex : (b : ℕ) → is_hex_digit b ≡ true → step s b ≡ Some (Source 1)
 
 opening_start : Opening Start
@@ -129,14 +129,14 @@ run_uuid : (s : State) → Opening s → (text : List ℕ) → length text ≡ 3
 run_uuid s open_here [] long stand = absurd (omega arith)
 run_uuid s open_here (b ∷ bs) long stand = ap (λ o. run o bs) (open_here.hex b stand.0) ∙ run_source bs 1 stand.1 (omega arith)
 
-run_after : (o : Option State) → Numbered o → (bs : List ℕ) → AllByRecursion IsBlank bs → Closed (run o bs)
+run_after : (o : Option State) → Numbered o → (bs : List ℕ) → AllByRecursion IsBlankByte bs → Closed (run o bs)
 run_after o n [] h = n.closed
 run_after o n (b ∷ bs) h = record {
   state = After;
   is =
       ap (λ p. run (stepped p b) bs) n.closed.is
       ∙ ap (λ p. run p bs) (n.blank b h.0)
-      ∙ run_stays After IsBlank (blank_step After After refl refl refl) bs h.1;
+      ∙ run_stays After IsBlankByte (blank_step After After refl refl refl) bs h.1;
   end = refl;
   comma = refl;
 }
@@ -145,7 +145,7 @@ run_item : (s : State) → Opening s → (text : List ℕ) (item : SidBlock) →
 run_item s open_here text item h =
     let uuid : run (Some s) (h.before ++ h.uuid) ≡ Some (Source 36) =
     run_append (Some s) h.before h.uuid
-    ∙ ap (λ o. run o h.uuid) (run_stays s IsBlank open_here.blank h.before h.blanks.0)
+    ∙ ap (λ o. run o h.uuid) (run_stays s IsBlankByte open_here.blank h.before h.blanks.0)
     ∙ run_uuid s open_here h.uuid (source_length h.uuid item.source h.a_uuid) (source_stands h.uuid item.source h.a_uuid) in
     let numbers : run (Some s) (h.before ++ h.uuid ++ h.numbers) ≡ run (Some (Source 36)) h.numbers =
     run_append (Some s) (h.before ++ h.uuid) h.numbers ∙ ap (λ o. run o h.numbers) uuid in
@@ -177,7 +177,7 @@ run_items s open_here text item (next ∷ items) (first, others, e, one, rest) =
     subst Ended (sym whole) (run_items Item opening_item others next items rest)
 
 pub run_list : (text : List ℕ) (items : List SidBlock) → IsList text items → Ended (run (Some Start) text)
-run_list text [] h = record { state = Start; is = run_stays Start IsBlank (blank_step Start Start refl refl refl) text h; end = refl }
+run_list text [] h = record { state = Start; is = run_stays Start IsBlankByte (blank_step Start Start refl refl refl) text h; end = refl }
 run_list text (item ∷ items) h = run_items Start opening_start text item items h
 
 pub no_state : (o : Option State) (s : State) → o ≡ None → o ≡ Some s → ⊥

@@ -15,7 +15,7 @@ use Rattle.gtid.specs.Interval.{AreLeast}
 use Rattle.gtid.specs.Span.{IsLeast}
 use Rattle.gtid.specs.Spans.{span}
 use Rattle.gtid.specs.Blocks.{pair}
-use Rattle.gtid.specs.Encoding.{SidBlock, grouped, interval_bytes, block_bytes, blocks_bytes, interval_fault, is_above, source_fault, AreIntervals, AreBlocks, IsEncoding, BeginsWithEncoding, HasDecodeFault}
+use Rattle.gtid.specs.Encoding.{SidBlock, grouped, interval_bytes, block_bytes, blocks_bytes, interval_fault, is_above, source_fault, AreIntervals, AreSidBlocks, IsEncoding, BeginsWithEncoding, HasDecodeFault}
 use Rattle.gtid.specs.Encoding.IsDecodeFault.{no_count}
 use Rattle.gtid.specs.Decoding.{IsBlockFault}
 use Rattle.gtid.specs.declared.interval.Interval.{Interval}
@@ -213,7 +213,7 @@ front_source before bytes are = by (nat_lt (length bytes) 16) (not (is_above bef
 record FrontBlock (before : Option (List ℕ)) (bytes : List ℕ) : Type 0 where
   pub first : SidBlock
   pub rest : List ℕ
-  pub lawful : AreBlocks before (first ∷ [])
+  pub lawful : AreSidBlocks before (first ∷ [])
   pub split : bytes ≡ block_bytes first ++ rest
 
 record FaultyBlock (before : Option (List ℕ)) (bytes : List ℕ) : Type 0 where
@@ -263,7 +263,7 @@ front_block before bytes are = elim (front_source before bytes are) [
 record FrontBlocks (count : ℕ) (before : Option (List ℕ)) (bytes : List ℕ) : Type 0 where
   pub blocks : List SidBlock
   pub rest : List ℕ
-  pub lawful : AreBlocks before blocks
+  pub lawful : AreSidBlocks before blocks
   pub counted : length blocks ≡ count
   pub split : bytes ≡ flat_map block_bytes blocks ++ rest
 
@@ -271,7 +271,7 @@ record FaultyBlocks (count : ℕ) (before : Option (List ℕ)) (bytes : List ℕ
   pub blocks : List SidBlock
   pub rest : List ℕ
   pub fault : GtidFault
-  pub lawful : AreBlocks before blocks
+  pub lawful : AreSidBlocks before blocks
   pub fewer : length blocks < count
   pub split : bytes ≡ flat_map block_bytes blocks ++ rest
   pub faulty : IsBlockFault (last_or before (map source_of blocks)) rest fault
@@ -326,37 +326,37 @@ some_of : (is : List (ℕ × ℕ)) → 0 < length is → map unpair is ≢ []
 some_of [] some = λ _. omega arith
 some_of (i ∷ is) some = λ e. omega (arith, ap length e)
 
-under_blocks : (s : List ℕ) (some : List SidBlock) → AreBlocks (Some s) some → IsUnder s (flat_map spans_of_block some)
+under_blocks : (s : List ℕ) (some : List SidBlock) → AreSidBlocks (Some s) some → IsUnder s (flat_map spans_of_block some)
 under_blocks s [] lawful = tt
 under_blocks s (b ∷ some) lawful =
     subst (λ l. IsUnder s (l ++ flat_map spans_of_block some)) (spanned b.source b.intervals)
     (under_first s b.source (map unpair b.intervals) (flat_map spans_of_block some) (less_from (slice_cmp nat_cmp s b.source) lawful.1) (some_of b.intervals lawful.2))
 
-least_blocks : (before : Option (List ℕ)) (some : List SidBlock) → AreBlocks before some → IsLeast (flat_map spans_of_block some)
+least_blocks : (before : Option (List ℕ)) (some : List SidBlock) → AreSidBlocks before some → IsLeast (flat_map spans_of_block some)
 least_blocks before [] lawful = tt
 least_blocks before (b ∷ some) lawful =
     subst (λ l. IsLeast (l ++ flat_map spans_of_block some)) (spanned b.source b.intervals)
     (least_group b.source 0 (map unpair b.intervals) (flat_map spans_of_block some) (least_of 0 b.intervals lawful.4) (under_blocks b.source some lawful.5) (least_blocks (Some b.source) some lawful.5))
 
-other_blocks : (s : List ℕ) (some : List SidBlock) → AreBlocks (Some s) some → IsOther s some
+other_blocks : (s : List ℕ) (some : List SidBlock) → AreSidBlocks (Some s) some → IsOther s some
 other_blocks s [] lawful = tt
 other_blocks s (b ∷ some) lawful = other_below s b.source (bytes_eq s b.source) refl (less_from (slice_cmp nat_cmp s b.source) lawful.1)
 
-regrouped : (before : Option (List ℕ)) (some : List SidBlock) → AreBlocks before some → grouped (flat_map spans_of_block some) ≡ some
+regrouped : (before : Option (List ℕ)) (some : List SidBlock) → AreSidBlocks before some → grouped (flat_map spans_of_block some) ≡ some
 regrouped before [] lawful = refl
 regrouped before (b ∷ some) lawful =
     ap (λ l. grouped (l ++ flat_map spans_of_block some)) (sym (spanned b.source b.intervals))
     ∙ grouped_some b.source (map unpair b.intervals) (flat_map spans_of_block some) some (some_of b.intervals lawful.2) (regrouped (Some b.source) some lawful.5) (other_blocks b.source some lawful.5)
     ∙ ap (λ is. record { source = b.source; intervals = is } ∷ some) (paired b.intervals)
 
-encodes_blocks : (some : List SidBlock) → AreBlocks None some → length some < 2 ^ 64 → IsEncoding (set_of (flat_map spans_of_block some)) (blocks_bytes some)
+encodes_blocks : (some : List SidBlock) → AreSidBlocks None some → length some < 2 ^ 64 → IsEncoding (set_of (flat_map spans_of_block some)) (blocks_bytes some)
 encodes_blocks some lawful fits =
     let spans = flat_map spans_of_block some in
     let same = regrouped None some lawful in
     record {
       spans = spans;
       least = record { least = least_blocks None some lawful; covers = covers_set spans };
-      lawful = subst (AreBlocks None) (sym same) lawful;
+      lawful = subst (AreSidBlocks None) (sym same) lawful;
       counted = omega (arith, fits, ap length same);
       spelled = ap blocks_bytes (sym same);
     }

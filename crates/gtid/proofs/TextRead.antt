@@ -13,7 +13,7 @@ use Rattle.gtid.specs.Identifier.{Id, Ids, IsSource, IsGtid}
 use Rattle.gtid.specs.Span.{is_in, IsLeast}
 use Rattle.gtid.specs.declared.span.Span.{Span}
 use Rattle.gtid.specs.Encoding.{SidBlock, join_block, grouped}
-use Rattle.gtid.specs.Text.{interval_text, block_text, IsText, is_number, IsNumeral, IsIntervalText, AreIntervalTexts, IsItem, IsList, written_fault, first_some, list_fault, written_spans, IsRead}
+use Rattle.gtid.specs.Text.{interval_text, block_text, IsSetText, is_number, IsNumeral, IsIntervalText, AreIntervalTexts, IsItem, IsList, written_fault, first_some, list_fault, written_spans, IsRead}
 use Rattle.gtid.proofs.OneLeastList.{some_first, tail_least, inside}
 use Rattle.gtid.proofs.Decoded.{span_of, spans_of_block, ungrouped}
 
@@ -158,7 +158,7 @@ same_spans : (blocks : List SidBlock) → AllByRecursion IsLawfulBlock blocks �
 same_spans [] all = refl
 same_spans (b ∷ blocks) all = (λ k. same_intervals b.source b.intervals all.0.intervals k ++ same_spans blocks all.1 k)
 
-pub text_is_read : (ids : Ids) (text : List ℕ) → IsText ids text → IsRead text ids
+pub text_is_read : (ids : Ids) (text : List ℕ) → IsSetText ids text → IsRead text ids
 text_is_read ids text t =
     let blocks = grouped t.spans in
     let all = lawful_blocks t.spans (lawful_spans t.spans t.least.least (λ q one. t.lawful q (t.least.covers q ∙ one))) in

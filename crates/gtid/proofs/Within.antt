@@ -3,7 +3,7 @@ use Rattle.std.proofs.Common.{◌≡◌, ℕ, Bool, true, false, ◌+◌, ◌≤
 use Rattle.std.proofs.Math.Bool.{or-false}
 use Rattle.std.proofs.Math.ListN.{drop_of_length-le}
 use Rattle.std.proofs.lemmas.Bool.Decides.{nat_tests, leb_tells}
-use Rattle.std.proofs.lemmas.Bool.{leb-true, leb-false, ltb-true, ltb-false}
+use Rattle.std.proofs.lemmas.Bool.{leb-false, ltb-true, ltb-false}
 use Rattle.std.proofs.lemmas.List.Folds.{list_any_at}
 use Rattle.std.proofs.Math.Nat.{eq-or-lt_of_le}
 use Rattle.std.proofs.Math.Seq.{drop-cons}
@@ -11,7 +11,7 @@ use Rattle.std.proofs.lemmas.List.{take-append-drop, take_all, set_split, get_or
 use Rattle.std.specs.List.Sorted.{IsNonDecreasingBy, IsPartitionPoint}
 use Rattle.std.specs.Option.{option_copied}
 use Rattle.std.specs.List.{AllWithin, HoldsAt, insert, remove}
-use Rattle.gtid.specs.Interval.{is_within, has, AreLeast, IsNear}
+use Rattle.gtid.specs.Interval.{is_within, has, AreLeast, GoesAt, IsNear}
 use Rattle.gtid.specs.declared.interval.Interval.{Interval}
 use Rattle.gtid.proofs.Disjunctions.{or_swap}
 use Rattle.gtid.proofs.Combined.{has-append, last_end}
@@ -90,12 +90,20 @@ has_at intervals at n x least front within is before =
     let after : AreLeast x.hi rest = (least-after 0 (take at intervals) (x ∷ rest) (subst (AreLeast 0) split least)).3 in
     sym (ap (λ l. has l n) split ∙ has-append (take at intervals) (x ∷ rest) n ∙ rw (above_front intervals at n (omega arith) front, below_least x.hi rest n after (omega arith), or-false, within_until n x before))
 
+-- a number at which an interval's hi is
+pub ends_at : (intervals : List Interval) (at n : ℕ) (x : Interval) → AreLeast 0 intervals → AllWithin (λ i. i.hi ≤ n) intervals 0 at → at < length intervals →
+    x ≡ get_or intervals at x → x.hi ≡ n → has intervals n ≡ false
+ends_at intervals at n x least front within is ends =
+    let rest = drop (suc at) intervals in
+    let split = split_at intervals at x within is in
+    let after : AreLeast x.hi rest = (least-after 0 (take at intervals) (x ∷ rest) (subst (AreLeast 0) split least)).3 in
+    ap (λ l. has l n) split ∙ has-append (take at intervals) (x ∷ rest) n ∙ none (above_front intervals at n (omega arith) front) (none (is_above n x (omega arith)) (below_least x.hi rest n after (omega arith)))
+
+pub is_after : (n m : ℕ) → m < n → leb n m ≡ false
+is_after n m h = grind (arith, nat_tests)
+
 pub has_nowhere : (intervals : List Interval) (n : ℕ) → AllWithin (λ i. i.hi ≤ n) intervals 0 (length intervals) → false ≡ has intervals n
 has_nowhere intervals n front = sym (above_front intervals (length intervals) n (omega arith) front) ∙ ap (λ l. has l n) (take_all (length intervals) intervals (omega arith))
-
-pub point_after : (intervals : List Interval) (at n : ℕ) → IsPartitionPoint (λ i. leb i.hi n ≡ true) (λ i. leb i.hi n ≡ false) intervals at →
-    AllWithin (λ i. i.hi ≤ n) intervals 0 at × AllWithin (λ i. n < i.hi) intervals at (length intervals)
-point_after intervals at n point = (λ k d low high. leb-true _ _ (point.0 k d low high), λ k d low high. leb-false _ _ (point.1 k d low high))
 
 pub point_at : (intervals : List Interval) (at n : ℕ) → IsPartitionPoint (λ i. ltb i.hi n ≡ true) (λ i. ltb i.hi n ≡ false) intervals at →
     AllWithin (λ i. i.hi < n) intervals 0 at × AllWithin (λ i. n ≤ i.hi) intervals at (length intervals)
@@ -291,3 +299,11 @@ pub added_last : (intervals new : List Interval) (number : ℕ) → AreLeast 0 i
 added_last intervals new number least low high before is =
     added_alone intervals new (length intervals) number least (omega arith) low high before (λ d h. absurd (omega (arith, h)))
     (is ∙ insert_end intervals (length intervals) (record { lo = number; hi = number + 1 }) (omega arith))
+
+-- where a number goes that touches no interval, what comes after it begins later
+pub goes_before : (intervals : List Interval) (at n : ℕ) (x : Interval) → AreLeast 0 intervals → GoesAt intervals n at → at < length intervals → x ≡ get_or intervals at x → (x.hi ≡ n → ⊥) → (x.lo ≡ n + 1 → ⊥) →
+    (d : Interval) → at < length intervals → n + 1 < (get_or intervals at d).lo
+goes_before intervals at n x least goes within is not_below not_above d _ =
+    let before : n < x.hi = omega (arith, goes.after x within, ap (λ i. i.hi) is, not_below) in
+    let later = leb-false x.lo n (has_at intervals at n x least (weaker intervals at n goes.before) within is before ∙ goes.new) in
+    omega (arith, later, not_above, ap (λ i. i.lo) (is ∙ get_or_default intervals at x d within))

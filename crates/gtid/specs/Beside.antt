@@ -8,6 +8,7 @@ use Rattle.gtid.specs.Span.{IsLeast, IsLeastList}
 use Rattle.gtid.specs.Spans.{span, spans_of}
 use Rattle.gtid.specs.declared.beside.Beside.{Beside}
 use Rattle.gtid.specs.declared.group.Group.{Group}
+use Rattle.gtid.specs.declared.identifier.Gtid.{Gtid}
 use Rattle.gtid.specs.declared.interval.Interval.{Interval}
 use Rattle.gtid.specs.declared.span.Span.{Span}
 
@@ -46,3 +47,10 @@ pub record Among (source : List ℕ) (intervals : List Interval) (groups : List 
   pub after : List Span
   pub spans_are : spans_of groups ≡ front ++ (map (span source) intervals ++ after)
   pub other_least : (others : List Interval) → AreLeast 0 others → others ≢ [] → IsLeast (front ++ (map (span source) others ++ after))
+
+-- These are the neighbours of a GTID's number among the intervals of its source, which has some or none.
+pub record TouchesAmong (gtid : Gtid) (below above : Option Interval) (groups : List Group) : Type 0 where
+  pub intervals : List Interval
+  pub least : AreLeast 0 intervals
+  pub among : Among gtid.source intervals groups
+  pub touches : Touches gtid.number below above intervals

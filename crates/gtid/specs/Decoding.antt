@@ -1,7 +1,7 @@
 -- Private: faults in the bytes of a set's parts.
 use Rattle.std.specs.Prelude.{◌≡◌, ℕ, ◌<◌, ◌^◌, ◌⊎◌, true, List, ◌++◌, length, Option, Some, flat_map}
 use Rattle.byteorder.specs.Endian.{little_bytes}
-use Rattle.gtid.specs.Encoding.{interval_bytes, interval_fault, is_above, source_fault, end_of, AreIntervals}
+use Rattle.gtid.specs.Encoding.{interval_bytes, interval_fault, is_above, source_fault, last_hi, AreIntervals}
 use Rattle.gtid.specs.declared.fault.GtidFault.{GtidFault}
 
 -- After some lawful intervals, fewer than announced, the next one is at fault.
@@ -11,7 +11,7 @@ pub record FaultsInIntervals (size : ℕ) (bytes : List ℕ) (fault : GtidFault)
   pub some : length intervals < size
   pub so_far : AreIntervals 0 intervals
   pub bytes_are : bytes ≡ flat_map interval_bytes intervals ++ rest
-  pub faulty : interval_fault (end_of intervals) rest ≡ Some fault
+  pub faulty : interval_fault (last_hi intervals) rest ≡ Some fault
 
 -- The source is not at fault, but its intervals are.
 pub record FaultsInBlock (before : Option (List ℕ)) (bytes : List ℕ) (fault : GtidFault) : Type 0 where

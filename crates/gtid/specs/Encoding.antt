@@ -73,10 +73,10 @@ source_fault before bytes =
     ∷ [])
 
 -- where the last interval ends
-abbrev pub end_of : List (ℕ × ℕ) → ℕ
-end_of [] = 0
-end_of (i ∷ []) = i.1
-end_of (i ∷ j ∷ intervals) = end_of (j ∷ intervals)
+abbrev pub last_hi : List (ℕ × ℕ) → ℕ
+last_hi [] = 0
+last_hi (i ∷ []) = i.1
+last_hi (i ∷ j ∷ intervals) = last_hi (j ∷ intervals)
 
 abbrev pub last_source : List SidBlock → Option (List ℕ)
 last_source blocks = last_or None (map (λ block. block.source) blocks)
@@ -87,18 +87,18 @@ AreIntervals after [] = Unit {0}
 AreIntervals after (i ∷ intervals) = (after < i.0) × (i.0 < i.1) × (i.1 < 2 ^ 63) × AreIntervals i.1 intervals
 
 -- lawful blocks: ascending sources of 16 bytes, each with at least one interval
-abbrev pub AreBlocks : Option (List ℕ) → List SidBlock → Type 0
-AreBlocks before [] = Unit {0}
-AreBlocks before (block ∷ blocks) =
+abbrev pub AreSidBlocks : Option (List ℕ) → List SidBlock → Type 0
+AreSidBlocks before [] = Unit {0}
+AreSidBlocks before (block ∷ blocks) =
     (length block.source ≡ 16) × (is_above before block.source ≡ true) × (0 < length block.intervals) × (length block.intervals < 2 ^ 64)
-    × AreIntervals 0 block.intervals × AreBlocks (Some block.source) blocks
+    × AreIntervals 0 block.intervals × AreSidBlocks (Some block.source) blocks
 
 -- The bytes encode the set: they are its least intervals, which are lawful, and the number of sources fits in eight
 -- bytes.
 pub record IsEncoding (ids : Ids) (bytes : List ℕ) : Type 0 where
   pub spans : List Span
   pub least : IsLeastList spans ids
-  pub lawful : AreBlocks None (grouped spans)
+  pub lawful : AreSidBlocks None (grouped spans)
   pub counted : length (grouped spans) < 2 ^ 64
   pub spelled : bytes ≡ blocks_bytes (grouped spans)
 
@@ -127,7 +127,7 @@ pub record FaultsAtSource (bytes : List ℕ) (fault : GtidFault) : Type 0 where
   pub count : ℕ
   pub blocks : List SidBlock
   pub rest : List ℕ
-  pub lawful : AreBlocks None blocks
+  pub lawful : AreSidBlocks None blocks
   pub counted : (length blocks < count) × (count < 2 ^ 64)
   pub bytes_are : bytes ≡ little_bytes 8 count ++ flat_map block_bytes blocks ++ rest
   pub faulty : source_fault (last_source blocks) rest ≡ Some fault
@@ -141,13 +141,13 @@ pub record FaultsAtInterval (bytes : List ℕ) (fault : GtidFault) : Type 0 wher
   pub size : ℕ
   pub intervals : List (ℕ × ℕ)
   pub rest : List ℕ
-  pub lawful : AreBlocks None blocks
+  pub lawful : AreSidBlocks None blocks
   pub counted : (length blocks < count) × (count < 2 ^ 64)
   pub above : (length source ≡ 16) × (is_above (last_source blocks) source ≡ true)
   pub some : (length intervals < size) × (size < 2 ^ 64)
   pub so_far : AreIntervals 0 intervals
   pub bytes_are : bytes ≡ little_bytes 8 count ++ flat_map block_bytes blocks ++ source ++ little_bytes 8 size ++ flat_map interval_bytes intervals ++ rest
-  pub faulty : interval_fault (end_of intervals) rest ≡ Some fault
+  pub faulty : interval_fault (last_hi intervals) rest ≡ Some fault
 
 -- the first fault of the bytes
 pub data IsDecodeFault (bytes : List ℕ) : GtidFault → Type 0 where
@@ -174,7 +174,7 @@ pub record HasSource (bytes : List ℕ) : Type 0 where
   pub first : HasInterval rest
 
 -- The bytes begin with the number of sources, which is not 0, and a source whose first interval is lawful.
-pub record HasFirst (bytes : List ℕ) : Type 0 where
+pub record HasFirstInterval (bytes : List ℕ) : Type 0 where
   pub count : ℕ
   pub rest : List ℕ
   pub some : 0 < count

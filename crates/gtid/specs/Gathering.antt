@@ -14,13 +14,13 @@ abbrev pub start : Span → Id
 start s = (s.source, s.lo)
 
 -- The span is of a higher source, or of the same source and begins no earlier.
-abbrev pub Follows : List ℕ → ℕ → Span → Type 0
-Follows source lo s = (slice_cmp nat_cmp source s.source ≡ Less) ⊎ ((s.source ≡ source) × (lo ≤ s.lo))
+abbrev pub ComesAfter : List ℕ → ℕ → Span → Type 0
+ComesAfter source lo s = (slice_cmp nat_cmp source s.source ≡ Less) ⊎ ((s.source ≡ source) × (lo ≤ s.lo))
 
 -- each span follows those before it
-abbrev pub Rise : List Span → Type 0
-Rise [] = Unit {0}
-Rise (s ∷ spans) = AllByRecursion (Follows s.source s.lo) spans × Rise spans
+abbrev pub SpansRise : List Span → Type 0
+SpansRise [] = Unit {0}
+SpansRise (s ∷ spans) = AllByRecursion (ComesAfter s.source s.lo) spans × SpansRise spans
 
 abbrev pub span_sources : List Span → List (List ℕ)
 span_sources = map (λ s. s.source)
@@ -38,6 +38,6 @@ IsFirst source [] interval rest = ⊥
 IsFirst source (s ∷ spans) interval rest = (s.source ≡ source) × (interval ≡ interval_of s) × (rest ≡ spans)
 
 -- the first span, if there is one, is another source's
-abbrev pub IsOther : List ℕ → List Span → Type 0
-IsOther source [] = Unit {0}
-IsOther source (s ∷ spans) = s.source ≡ source → ⊥
+abbrev pub IsOtherSource : List ℕ → List Span → Type 0
+IsOtherSource source [] = Unit {0}
+IsOtherSource source (s ∷ spans) = s.source ≡ source → ⊥

@@ -63,8 +63,8 @@ abbrev pub AreBelow : List (List ℕ) → List (List ℕ) → Type 0
 AreBelow ss ts = AllByRecursion (λ s. IsBelow s ts) ss
 
 -- the source's group is at this index
-abbrev pub IsAt : List ℕ → List Group → ℕ → Type 0
-IsAt source groups at = (at < length groups) × ((d : Group) → (slice_index_or groups at d).source ≡ source)
+abbrev pub IsGroupAt : List ℕ → List Group → ℕ → Type 0
+IsGroupAt source groups at = (at < length groups) × ((d : Group) → (slice_index_or groups at d).source ≡ source)
 
 -- the source has no group, and its group would be inserted at this index
 abbrev pub IsGap : List ℕ → List Group → ℕ → Type 0

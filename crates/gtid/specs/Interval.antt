@@ -1,7 +1,7 @@
 -- The numbers of one source as intervals. MySQL Reference Manual, "GTID Format and Storage" (GTID sets); MySQL Source
 -- Documentation, Replication Protocol, COM_BINLOG_DUMP_GTID, whose intervals end one past their last number.
-use Rattle.std.specs.Prelude.{◌≡◌, ℕ, ◌+◌, ◌-◌, ◌⊎◌, ◌<◌, ◌≤◌, ◌^◌, ◌&&◌, Bool, List, [], ◌∷◌, length, slice_index_or, nat_le, nat_lt}
-use Rattle.std.specs.List.{list_any}
+use Rattle.std.specs.Prelude.{◌≡◌, ℕ, ◌+◌, ◌-◌, ◌⊎◌, ◌<◌, ◌≤◌, ◌^◌, ◌&&◌, Bool, false, List, [], ◌∷◌, length, slice_index_or, nat_le, nat_lt}
+use Rattle.std.specs.List.{list_any, AllWithin}
 use Rattle.std.proofs.Props.{props}
 use Rattle.gtid.specs.declared.interval.Interval.{Interval}
 
@@ -24,8 +24,15 @@ abbrev pub IsNear : ℕ → ℕ → Type 0
 IsNear near number = (near + 1 ≡ number) ⊎ (near ≡ number + 1)
 
 -- The last interval's hi is the number or above.
-abbrev pub Reaches : List Interval → ℕ → Type 0
-Reaches intervals number = (1 ≤ length intervals) × ((d : Interval) → number ≤ (slice_index_or intervals (length intervals - 1) d).hi)
+abbrev pub LastReaches : List Interval → ℕ → Type 0
+LastReaches intervals number = (1 ≤ length intervals) × ((d : Interval) → number ≤ (slice_index_or intervals (length intervals - 1) d).hi)
+
+-- The number is in none of the intervals, and this many, which are those in front, have a hi below it.
+pub record GoesAt (intervals : List Interval) (number at : ℕ) : Type 0 where
+  pub within : at ≤ length intervals
+  pub before : AllWithin (λ i. i.hi < number) intervals 0 at
+  pub after : (d : Interval) → at < length intervals → number ≤ (slice_index_or intervals at d).hi
+  pub new : has intervals number ≡ false
 
 below-prop : {a b : ℕ} → IsProp (a < b)
 below-prop = Prim.hlevel props

@@ -4,6 +4,7 @@ pub mod Combination
 pub mod Merged
 pub mod Group
 pub mod Reserved
+pub mod Entry
 pub mod Span
 pub mod Spans
 pub mod Beside

@@ -1,15 +1,17 @@
 -- Private: room for one more GTID.
 use Rattle.std.specs.Prelude.{◌≡◌, ℕ, ◌<◌, nat_eq, length, List, slice_index_or, vec_len, vec_capacity}
-use Rattle.gtid.specs.Interval.{has}
-use Rattle.gtid.specs.Group.{IsAt, IsGap}
+use Rattle.gtid.specs.Interval.{has, GoesAt}
+use Rattle.gtid.specs.Group.{IsGroupAt, IsGap}
 use Rattle.gtid.specs.declared.identifier.Gtid.{Gtid}
 use Rattle.gtid.specs.declared.group.Group.{Group}
 use Rattle.gtid.specs.declared.groups.Place.{Place}
 use Rattle.gtid.specs.declared.groups.Place.TheVariants.{Within, Before}
 
--- The group of the GTID's source is at this index, and one more interval in it needs no memory.
-pub record FitsWithin (gtid : Gtid) (groups : List Group) (at : ℕ) : Type 0 where
-  pub there : IsAt gtid.source groups at
+-- The group of the GTID's source is at this index, its number goes to this place in it, and one more interval in it
+-- needs no memory.
+pub record FitsWithin (gtid : Gtid) (groups : List Group) (at place : ℕ) : Type 0 where
+  pub there : IsGroupAt gtid.source groups at
+  pub goes : (d : Group) → GoesAt (slice_index_or groups at d).intervals.items gtid.number place
   pub room : (d : Group) → vec_len (slice_index_or groups at d).intervals < vec_capacity (slice_index_or groups at d).intervals
 
 -- The source has no group, `group` is that of the GTID alone, and one more group needs no memory.
@@ -21,5 +23,5 @@ pub record FitsBefore (gtid : Gtid) (groups : List Group) (capacity at : ℕ) (g
 
 -- Adding the GTID there needs no memory.
 abbrev pub HasRoom : Gtid → List Group → ℕ → Place → Type 0
-HasRoom gtid groups capacity (Within at) = FitsWithin gtid groups at
+HasRoom gtid groups capacity (Within at place) = FitsWithin gtid groups at place
 HasRoom gtid groups capacity (Before at group) = FitsBefore gtid groups capacity at group

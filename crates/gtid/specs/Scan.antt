@@ -81,6 +81,6 @@ BeginsWithNoDigit [] = Unit {0}
 BeginsWithNoDigit (b ∷ bs) = is_digit b ≡ false
 
 -- The first byte, if there is one, may not be at this place of a UUID.
-abbrev pub EndsAt : ℕ → List ℕ → Type 0
-EndsAt place [] = Unit {0}
-EndsAt place (b ∷ bs) = place < 36 → stands_at place b ≡ false
+abbrev pub ScanEndsAt : ℕ → List ℕ → Type 0
+ScanEndsAt place [] = Unit {0}
+ScanEndsAt place (b ∷ bs) = place < 36 → stands_at place b ≡ false

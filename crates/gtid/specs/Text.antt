@@ -24,7 +24,7 @@ abbrev pub block_text : SidBlock → List ℕ
 block_text block = hyphenated_text lower block.source ++ flat_map interval_text block.intervals
 
 -- The members of the set are GTIDs of transactions, and the text is its printed form.
-pub record IsText (ids : Ids) (text : List ℕ) : Type 0 where
+pub record IsSetText (ids : Ids) (text : List ℕ) : Type 0 where
   pub lawful : AreGtids ids
   pub spans : List Span
   pub least : IsLeastList spans ids
@@ -33,7 +33,7 @@ pub record IsText (ids : Ids) (text : List ℕ) : Type 0 where
 -- The new text is the old one and then the printed form of the set.
 pub record AppendsText (ids : Ids) (old new : List ℕ) : Type 0 where
   pub text : List ℕ
-  pub is_text : IsText ids text
+  pub is_text : IsSetText ids text
   pub appended : new ≡ old ++ text
 
 -- A text of this length and this capacity lacks the room for the printed form of the set.
@@ -63,8 +63,8 @@ abbrev pub AreIntervalTexts : List ℕ → List (ℕ × ℕ) → Type 0
 AreIntervalTexts text [] = text ≡ []
 AreIntervalTexts text (i ∷ intervals) = (first : List ℕ) × (others : List ℕ) × (text ≡ first ++ others) × IsIntervalText first i × AreIntervalTexts others intervals
 
-abbrev pub IsBlank : ℕ → Type 0
-IsBlank c = (c ≡ 0x20) ⊎ ((c ≡ 0x0A) ⊎ (c ≡ 0x0D))
+abbrev pub IsBlankByte : ℕ → Type 0
+IsBlankByte c = (c ≡ 0x20) ⊎ ((c ≡ 0x0A) ⊎ (c ≡ 0x0D))
 
 -- a hyphenated UUID in either case and at least one interval, with blanks before and after
 pub record IsItem (text : List ℕ) (item : SidBlock) : Type 0 where
@@ -73,7 +73,7 @@ pub record IsItem (text : List ℕ) (item : SidBlock) : Type 0 where
   pub numbers : List ℕ
   pub after : List ℕ
   pub text_is : text ≡ before ++ uuid ++ numbers ++ after
-  pub blanks : AllByRecursion IsBlank before × AllByRecursion IsBlank after
+  pub blanks : AllByRecursion IsBlankByte before × AllByRecursion IsBlankByte after
   pub a_source : IsSource item.source
   pub a_uuid : str_to_ascii_lowercase uuid ≡ hyphenated_text lower item.source
   pub some : 0 < length item.intervals
@@ -81,7 +81,7 @@ pub record IsItem (text : List ℕ) (item : SidBlock) : Type 0 where
 
 -- The text is the items, separated by commas. Without items it is empty or only blanks.
 abbrev pub IsList : List ℕ → List SidBlock → Type 0
-IsList text [] = AllByRecursion IsBlank text
+IsList text [] = AllByRecursion IsBlankByte text
 IsList text (item ∷ []) = IsItem text item
 IsList text (item ∷ next ∷ items) = (first : List ℕ) × (others : List ℕ) × (text ≡ first ++ byte "," ∷ others) × IsItem first item × IsList others (next ∷ items)
 

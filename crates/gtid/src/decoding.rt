@@ -3,7 +3,7 @@
 ghost use Rattle.std.specs.Prelude.{◌≡◌, ◌≢◌, ◌<◌, ◌≤◌, ◌^◌, ◌⊎◌, ◌++◌, true, length, take, drop, map, flat_map, [], ◌∷◌, Some, None, IfSome, IfNone, IfOk, IfErr};
 ghost use Rattle.byteorder.specs.Endian.{little_bytes, little_number};
 ghost use Rattle.gtid.specs.Interval.{AreLeast};
-ghost use Rattle.gtid.specs.Encoding.{interval_bytes, block_bytes, blocks_bytes, interval_fault, is_above, source_fault, AreBlocks, IsDecodeFault, HasInterval, HasSource, HasFirst};
+ghost use Rattle.gtid.specs.Encoding.{interval_bytes, block_bytes, blocks_bytes, interval_fault, is_above, source_fault, AreSidBlocks, IsDecodeFault, HasInterval, HasSource, HasFirstInterval};
 ghost use Rattle.gtid.specs.Blocks.{pair, of_group, blocks};
 ghost use Rattle.gtid.specs.Decoding.{FaultsInIntervals, IsBlockFault};
 
@@ -140,7 +140,7 @@ fn read_group(
     before: Option<[u8; 16]>,
     bytes: &[u8],
 ) -> Result<(Group, &[u8]), GtidFault>
-    ensures lawful { IfOk result (λ read. AreBlocks before (of_group read.0 ∷ [])) }
+    ensures lawful { IfOk result (λ read. AreSidBlocks before (of_group read.0 ∷ [])) }
     ensures split { IfOk result (λ read. bytes.now ≡ block_bytes (of_group read.0) ++ read.1.now) }
     ensures err { IfErr result (λ fault. (fault ≡ GtidFault.Memory) ⊎ IsBlockFault before bytes.now fault) }
     ensures memory { IfErr result (λ fault. fault ≡ GtidFault.Memory → HasSource bytes.now) }
@@ -153,10 +153,10 @@ fn read_group(
 
 /// The groups of the set at the front of the bytes, and the bytes after the set.
 pub(crate) fn read_groups(alloc: Global, bytes: &[u8]) -> Result<(Vec<Group>, &[u8]), GtidFault>
-    ensures lawful { IfOk result (λ read. AreBlocks None (blocks read.0.items)) }
+    ensures lawful { IfOk result (λ read. AreSidBlocks None (blocks read.0.items)) }
     ensures split { IfOk result (λ read. bytes.now ≡ blocks_bytes (blocks read.0.items) ++ read.1.now) }
     ensures err { IfErr result (λ fault. (fault ≡ GtidFault.Memory) ⊎ IsDecodeFault bytes.now fault) }
-    ensures memory { IfErr result (λ fault. fault ≡ GtidFault.Memory → HasFirst bytes.now) }
+    ensures memory { IfErr result (λ fault. fault ≡ GtidFault.Memory → HasFirstInterval bytes.now) }
 {
     let Some((count, beyond)) = read_number(bytes) else {
         return Err(GtidFault::Truncated);

@@ -3,7 +3,7 @@
 ghost use Rattle.std.specs.Prelude.{◌≡◌, ◌+◌, ◌<◌, ◌≤◌, ◌∷◌, length, true, Some, OnOk, IfErr, IfSome, IfNone, IsTrue};
 ghost use Rattle.gtid.specs.Text.{IsInGrammar, IsOutsideFrom};
 ghost use Rattle.gtid.specs.Scan;
-ghost use Rattle.gtid.specs.Scan.{IsPlaced, IsPassed, is_digit, BeginsWithNoDigit, EndsAt};
+ghost use Rattle.gtid.specs.Scan.{IsPlaced, IsPassed, is_digit, BeginsWithNoDigit, ScanEndsAt};
 ghost use Rattle.gtid.specs.declared.grammar.State.TheVariants.{Source, Lo, Hi};
 
 /// What was read last, which decides what may come next.
@@ -92,7 +92,7 @@ fn pass_source(place: u8, text: &[u8]) -> (u8, &[u8])
     requires { place ≤ 36 }
     ensures passed { IsPassed (Source place) text.now (Source result.0) result.1.now }
     ensures placed { result.0 ≤ 36 }
-    ensures end { EndsAt result.0 result.1.now }
+    ensures end { ScanEndsAt result.0 result.1.now }
     ensures shorter { length result.1.now ≤ length text.now }
 {
     let mut place = place;

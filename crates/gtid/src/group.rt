@@ -1,7 +1,7 @@
 //! The GTIDs of one source.
 
 ghost use Rattle.std.specs.Prelude.{◌≡◌, ◌≢◌, ℕ, length, ◌≤◌, ◌<◌, ◌-◌, ◌^◌, ◌||◌, true, false, not, nat_eq, [], vec_len, vec_capacity, IsOk, IfOk, IfErr, OnOk, OnErr, Ok, Err};
-ghost use Rattle.gtid.specs.Interval.{has, AreLeast, AreLeast-prop, IsNear};
+ghost use Rattle.gtid.specs.Interval.{has, AreLeast, AreLeast-prop, GoesAt, IsNear};
 
 use crate::fault::GtidFault;
 use crate::identifier::Gtid;
@@ -27,7 +27,7 @@ impl Group {
         ensures err { IfErr result (λ fault. fault ≡ GtidFault.Memory) }
     {
         let mut intervals = Vec::new(alloc);
-        interval::insert(&mut intervals, gtid.number)?;
+        intervals.push(Interval::of(gtid.number))?;
         let source = gtid.source;
         Ok(Group { source, intervals })
     }
@@ -40,10 +40,20 @@ impl Group {
         ensures ok { OnOk result ((n : ℕ) → has self.new.intervals.items n ≡ (nat_eq n number || has self.old.intervals.items n)) }
         ensures there { has self.old.intervals.items number ≡ true → result ≡ Ok false }
         ensures err { OnErr result ((result ≡ Err GtidFault.Memory) × (self.new.intervals.items ≡ self.old.intervals.items)) }
-        ensures room { vec_len self.old.intervals < vec_capacity self.old.intervals → IsOk result }
         ensures near { (n : ℕ) → IsNear n number → has self.old.intervals.items n ≡ true → IsOk result }
     {
         interval::insert(&mut self.intervals, number)
+    }
+
+    /// Adds a number at the place to which it goes, for which there is room.
+    pub(crate) fn insert_at(&mut self, at: usize, number: u64)
+        requires number { (1 ≤ number) × (number ≤ 2 ^ 63 - 2) }
+        requires goes { GoesAt self.old.intervals.items number at }
+        requires room { vec_len self.old.intervals < vec_capacity self.old.intervals }
+        ensures source { self.new.source ≡ self.old.source }
+        ensures adds { (n : ℕ) → has self.new.intervals.items n ≡ (nat_eq n number || has self.old.intervals.items n) }
+    {
+        let _inserted = interval::insert_at(&mut self.intervals, at, number);
     }
 
     /// Makes room for one more interval. The only error is `Memory`.

@@ -1,17 +1,18 @@
 //! The groups of a set, in the order of the bytes of their sources.
 
-ghost use Rattle.std.specs.Prelude.{◌≡◌, ℕ, ◌⊎◌, ◌↔◌, ◌||◌, [], true, false, not, IsTrue, OnOk, OnErr, Ok, Err, IfOk, IfErr, IfSome, IfNone, IsOk, vec_capacity};
+ghost use Rattle.std.specs.Prelude.{◌≡◌, ℕ, ◌⊎◌, ◌↔◌, ◌||◌, [], None, true, false, not, IsTrue, OnOk, OnErr, Ok, Err, IfOk, IfErr, IfSome, IfNone, IsOk, vec_capacity};
 ghost use Rattle.gtid.specs.Identifier.{Id, id, is_one};
 ghost use Rattle.gtid.specs.Interval.{has, AreLeast, IsNear};
 ghost use Rattle.gtid.specs.Combination.{keeps};
-ghost use Rattle.gtid.specs.Group.{Ascend, sources, is_listed, IsNext, IsNoHigher, Splits, IsAt, IsGap};
-ghost use Rattle.gtid.specs.Beside.{Among};
+ghost use Rattle.gtid.specs.Group.{Ascend, sources, is_listed, IsNext, IsNoHigher, Splits, IsGroupAt, IsGap};
+ghost use Rattle.gtid.specs.Beside.{Among, TouchesAmong};
 ghost use Rattle.gtid.specs.Reserved.{HasRoom};
 
 use crate::combination::{Combination, combine};
 use crate::fault::GtidFault;
 use crate::group::Group;
 use crate::identifier::Gtid;
+use crate::interval;
 use crate::interval::{Interval, is_subset};
 use std::alloc::Global;
 use std::cmp::Ordering;
@@ -45,7 +46,7 @@ fn split<'a>(groups: &'a [Group], source: &[u8; 16]) -> (&'a [Interval], &'a [Gr
 /// most sets have one source.
 fn find(groups: &[Group], source: &[u8; 16]) -> Result<usize, usize>
     requires { Ascend (sources groups.now) }
-    ensures found { IfOk result (IsAt source.now groups.now) }
+    ensures found { IfOk result (IsGroupAt source.now groups.now) }
     ensures absent { IfErr result (IsGap source.now groups.now) }
 {
     match groups {
@@ -58,7 +59,7 @@ fn find(groups: &[Group], source: &[u8; 16]) -> Result<usize, usize>
 #[inline(never)]
 fn search(groups: &[Group], source: &[u8; 16]) -> Result<usize, usize>
     requires { Ascend (sources groups.now) }
-    ensures found { IfOk result (IsAt source.now groups.now) }
+    ensures found { IfOk result (IsGroupAt source.now groups.now) }
     ensures absent { IfErr result (IsGap source.now groups.now) }
 {
     groups.binary_search_by(|group| group.source.cmp(source))
@@ -111,31 +112,53 @@ pub(crate) fn insert(groups: &mut Vec<Group>, gtid: Gtid) -> Result<bool, GtidFa
     }
 }
 
-/// Where a GTID goes: into the group at an index, or as a group of its own before the one at an index.
+/// Where a GTID goes: to a place among the intervals of the group at an index, or as a group of its own before the one
+/// at an index.
 #[derive(Debug, Drop)]
 pub(crate) enum Place {
-    Within(usize),
+    Within(usize, usize),
     Before(usize, Group),
 }
 
-/// Makes room for a GTID. The only error is `Memory`.
-pub(crate) fn reserve(groups: &mut Vec<Group>, gtid: Gtid) -> Result<Place, GtidFault>
+/// Makes room for a GTID, unless it is in one of the groups. The only error is `Memory`, and only for a new GTID.
+pub(crate) fn reserve(groups: &mut Vec<Group>, gtid: Gtid) -> Result<Option<Place>, GtidFault>
     requires ascend { Ascend (sources groups.old.items) }
     ensures ascend { Ascend (sources groups.new.items) }
     ensures same { (q : Id) → is_listed q groups.new.items ≡ is_listed q groups.old.items }
-    ensures room { IfOk result (HasRoom gtid groups.new.items (vec_capacity groups.new)) }
+    ensures room { IfOk result (λ place. IfSome place (HasRoom gtid groups.new.items (vec_capacity groups.new))) }
+    ensures there { IfOk result (λ place. IfNone place (is_listed (id gtid) groups.old.items ≡ true)) }
+    ensures known { is_listed (id gtid) groups.old.items ≡ true → result ≡ Ok None }
     ensures err { IfErr result (λ fault. fault ≡ GtidFault.Memory) }
 {
     match find(groups, &gtid.source) {
         Ok(at) => {
+            let Some(place) = interval::place(&groups[at].intervals, gtid.number) else {
+                return Ok(None);
+            };
             groups[at].reserve()?;
-            Ok(Place::Within(at))
+            Ok(Some(Place::Within(at, place)))
         }
         Err(at) => {
             let group = Group::of(*groups.allocator(), gtid)?;
             groups.reserve(1)?;
-            Ok(Place::Before(at, group))
+            Ok(Some(Place::Before(at, group)))
         }
+    }
+}
+
+/// The neighbours of a GTID for which room was made, as intervals of its source.
+pub(crate) fn beside(
+    groups: &Vec<Group>,
+    gtid: Gtid,
+    place: &Place,
+) -> (Option<Interval>, Option<Interval>)
+    requires ascend { Ascend (sources groups.now.items) }
+    requires room { HasRoom gtid groups.now.items (vec_capacity groups.now) place.now }
+    ensures { TouchesAmong gtid result.0 result.1 groups.now.items }
+{
+    match place {
+        Place::Within(at, place) => interval::beside(&groups[*at].intervals, *place, gtid.number),
+        Place::Before(..) => (None, None),
     }
 }
 
@@ -147,9 +170,7 @@ pub(crate) fn insert_reserved(groups: &mut Vec<Group>, gtid: Gtid, place: Place)
     ensures adds { (q : Id) → is_listed q groups.new.items ≡ (is_one q (id gtid) || is_listed q groups.old.items) }
 {
     match place {
-        Place::Within(at) => {
-            let _new = groups[at].insert(gtid.number);
-        }
+        Place::Within(at, place) => groups[at].insert_at(place, gtid.number),
         Place::Before(at, group) => {
             let _inserted = groups.insert(at, group);
         }

@@ -2,7 +2,7 @@
 
 ghost use Rattle.std.specs.Prelude.{◌≡◌, ◌≢◌, ℕ, ◌≤◌, ◌<◌, ◌-◌, ◌^◌, ◌||◌, ◌↔◌, true, false, not, nat_eq, length, slice_index_or, vec_len, vec_capacity, None, IsTrue, IsOk, IfSome, IfNone, IfOk, OnOk, OnErr, Ok, Err};
 ghost use Rattle.std.specs.List.{AllWithin};
-ghost use Rattle.gtid.specs.Interval.{has, is_within, AreLeast, Reaches, IsNear};
+ghost use Rattle.gtid.specs.Interval.{has, is_within, AreLeast, LastReaches, GoesAt, IsNear};
 ghost use Rattle.gtid.specs.Beside.{Touches};
 ghost use Rattle.gtid.specs.declared.interval.Interval.{Interval};
 
@@ -15,16 +15,27 @@ pub(crate) struct Interval {
     pub(crate) hi: u64,
 }
 
+impl Interval {
+    ghost use Rattle.std.specs.Prelude.{◌≡◌, ◌+◌, ◌-◌, ◌≤◌, ◌^◌};
+
+    /// The interval of one number.
+    pub(crate) fn of(number: u64) -> Interval
+        requires { number ≤ 2 ^ 63 - 2 }
+        ensures { result ≡ record { lo = number; hi = number + 1 } }
+    {
+        Interval {
+            lo: number,
+            hi: number + 1,
+        }
+    }
+}
+
 /// Whether a number is in one of the intervals.
 pub(crate) fn contains(intervals: &[Interval], number: u64) -> bool
     requires { AreLeast 0 intervals.now }
     ensures { result ≡ has intervals.now number }
 {
-    let at = intervals.partition_point(|interval| interval.hi <= number);
-    match intervals.get(at) {
-        Some(next) => next.lo <= number,
-        None => false,
-    }
+    place(intervals, number).is_none()
 }
 
 /// Whether each number of the first is in the second.
@@ -54,15 +65,39 @@ fn lies_in(interval: Interval, of: &[Interval]) -> bool
     }
 }
 
-/// The neighbours of a number that is in none of the intervals: the interval that ends just before it, and the one that
-/// begins just after it. For a number that is in an interval there are none.
-pub(crate) fn beside(intervals: &[Interval], number: u64) -> (Option<Interval>, Option<Interval>)
+/// How many intervals have a `hi` below a number that is in none of them; `None` for a number that is in one. Numbers
+/// mostly come in order, so the last interval is looked at first.
+pub(crate) fn place(intervals: &[Interval], number: u64) -> Option<usize>
+    requires { AreLeast 0 intervals.now }
+    ensures some { IfSome result (GoesAt intervals.now number) }
+    ensures none { IfNone result (has intervals.now number ≡ true) }
+{
+    if !reaches(intervals, number) {
+        return Some(intervals.len());
+    }
+    let at = place_within(intervals, number);
+    let next = intervals[at];
+    if next.hi == number {
+        return Some(at);
+    }
+    if next.lo <= number {
+        return None;
+    }
+    Some(at)
+}
+
+/// The neighbours of a number that goes to this place: the interval that ends just before it, and the one that begins just
+/// after it.
+pub(crate) fn beside(
+    intervals: &[Interval],
+    at: usize,
+    number: u64,
+) -> (Option<Interval>, Option<Interval>)
     requires least { AreLeast 0 intervals.now }
     requires number { (1 ≤ number) × (number ≤ 2 ^ 63 - 2) }
-    ensures touches { has intervals.now number ≡ false → Touches number result.0 result.1 intervals.now }
-    ensures there { has intervals.now number ≡ true → (result.0 ≡ None) × (result.1 ≡ None) }
+    requires goes { GoesAt intervals.now number at }
+    ensures { Touches number result.0 result.1 intervals.now }
 {
-    let at = intervals.partition_point(|interval| interval.hi < number);
     let Some(first) = intervals.get(at).copied() else {
         return (None, None);
     };
@@ -91,8 +126,6 @@ fn begins_at(intervals: &[Interval], at: usize, number: u64) -> Option<Interval>
 
 /// Adds a number, and returns whether it is new. The only error is `Memory`, and only for a new number with
 /// neither neighbour in the intervals.
-///
-/// Numbers mostly come in order, so the last interval is looked at first.
 pub(crate) fn insert(intervals: &mut Vec<Interval>, number: u64) -> Result<bool, GtidFault>
     requires least { AreLeast 0 intervals.old.items }
     requires number { (1 ≤ number) × (number ≤ 2 ^ 63 - 2) }
@@ -101,24 +134,52 @@ pub(crate) fn insert(intervals: &mut Vec<Interval>, number: u64) -> Result<bool,
     ensures ok { OnOk result ((n : ℕ) → has intervals.new.items n ≡ (nat_eq n number || has intervals.old.items n)) }
     ensures there { has intervals.old.items number ≡ true → result ≡ Ok false }
     ensures err { OnErr result ((result ≡ Err GtidFault.Memory) × (intervals.new.items ≡ intervals.old.items)) }
+    ensures near { (n : ℕ) → IsNear n number → has intervals.old.items n ≡ true → IsOk result }
+{
+    let Some(at) = place(intervals, number) else {
+        return Ok(false);
+    };
+    insert_at(intervals, at, number)?;
+    Ok(true)
+}
+
+/// Adds a number at the place to which it goes. The only error is `Memory`, and only for a number with neither neighbour
+/// in the intervals.
+pub(crate) fn insert_at(
+    intervals: &mut Vec<Interval>,
+    at: usize,
+    number: u64,
+) -> Result<(), GtidFault>
+    requires least { AreLeast 0 intervals.old.items }
+    requires number { (1 ≤ number) × (number ≤ 2 ^ 63 - 2) }
+    requires goes { GoesAt intervals.old.items number at }
+    ensures least { AreLeast 0 intervals.new.items }
+    ensures ok { OnOk result ((n : ℕ) → has intervals.new.items n ≡ (nat_eq n number || has intervals.old.items n)) }
+    ensures err { OnErr result ((result ≡ Err GtidFault.Memory) × (intervals.new.items ≡ intervals.old.items)) }
     ensures room { vec_len intervals.old < vec_capacity intervals.old → IsOk result }
     ensures near { (n : ℕ) → IsNear n number → has intervals.old.items n ≡ true → IsOk result }
 {
-    if reaches(intervals, number) {
-        return insert_within(intervals, number);
+    if at == intervals.len() {
+        intervals.push(Interval::of(number))?;
+        return Ok(());
     }
-    let alone = Interval {
-        lo: number,
-        hi: number + 1,
-    };
-    intervals.push(alone)?;
-    Ok(true)
+    let next = intervals[at];
+    if next.hi == number {
+        extend(intervals, at, number);
+        return Ok(());
+    }
+    if next.lo == number + 1 {
+        intervals[at].lo = number;
+        return Ok(());
+    }
+    intervals.insert(at, Interval::of(number))?;
+    Ok(())
 }
 
 /// Whether some interval's `hi` is the number or above.
 fn reaches(intervals: &[Interval], number: u64) -> bool
     requires { AreLeast 0 intervals.now }
-    ensures ends { IsTrue result → Reaches intervals.now number }
+    ensures ends { IsTrue result → LastReaches intervals.now number }
     ensures before { result ≡ false → AllWithin (λ i. i.hi < number) intervals.now 0 (length intervals.now) }
 {
     match intervals {
@@ -127,46 +188,12 @@ fn reaches(intervals: &[Interval], number: u64) -> bool
     }
 }
 
-/// Does the work of `insert` if some interval's `hi` is the number or above. Not inlined, so that the code without it
-/// stays short.
+/// Does the work of `place` if some interval's `hi` is the number or above, whether or not the number is in one. Not
+/// inlined, so that the code without it stays short.
 #[inline(never)]
-fn insert_within(intervals: &mut Vec<Interval>, number: u64) -> Result<bool, GtidFault>
-    requires least { AreLeast 0 intervals.old.items }
-    requires number { (1 ≤ number) × (number ≤ 2 ^ 63 - 2) }
-    requires reaches { Reaches intervals.old.items number }
-    ensures least { AreLeast 0 intervals.new.items }
-    ensures answer { IfOk result (λ new. new ≡ not (has intervals.old.items number)) }
-    ensures ok { OnOk result ((n : ℕ) → has intervals.new.items n ≡ (nat_eq n number || has intervals.old.items n)) }
-    ensures there { has intervals.old.items number ≡ true → result ≡ Ok false }
-    ensures err { OnErr result ((result ≡ Err GtidFault.Memory) × (intervals.new.items ≡ intervals.old.items)) }
-    ensures room { vec_len intervals.old < vec_capacity intervals.old → IsOk result }
-    ensures near { (n : ℕ) → IsNear n number → has intervals.old.items n ≡ true → IsOk result }
-{
-    let at = place(intervals, number);
-    let next = intervals[at];
-    if next.hi == number {
-        extend(intervals, at, number);
-        return Ok(true);
-    }
-    if next.lo <= number {
-        return Ok(false);
-    }
-    if next.lo == number + 1 {
-        intervals[at].lo = number;
-        return Ok(true);
-    }
-    let alone = Interval {
-        lo: number,
-        hi: number + 1,
-    };
-    intervals.insert(at, alone)?;
-    Ok(true)
-}
-
-/// How many intervals have a `hi` below the number, if not all do. The last is looked at first.
-fn place(intervals: &[Interval], number: u64) -> usize
+fn place_within(intervals: &[Interval], number: u64) -> usize
     requires least { AreLeast 0 intervals.now }
-    requires reaches { Reaches intervals.now number }
+    requires reaches { LastReaches intervals.now number }
     ensures within { result < length intervals.now }
     ensures before { AllWithin (λ i. i.hi < number) intervals.now 0 result }
     ensures after { AllWithin (λ i. number ≤ i.hi) intervals.now result (length intervals.now) }

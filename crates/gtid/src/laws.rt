@@ -8,7 +8,7 @@ ghost use Rattle.std.specs.List.{AllByRecursion};
 ghost use Rattle.gtid.specs.Identifier.{Id, Ids, IsGtid};
 ghost use Rattle.gtid.specs.Span.{IsLeastList, HasLeastList};
 ghost use Rattle.gtid.specs.Encoding.{IsEncoding, BeginsWithEncoding, IsDecodeFault, HasDecodeFault};
-ghost use Rattle.gtid.specs.Text.{IsText, IsRead, HasReading, IsParseFault, HasParseFault, IsGtidText, gtid_text};
+ghost use Rattle.gtid.specs.Text.{IsSetText, IsRead, HasReading, IsParseFault, HasParseFault, IsGtidText, gtid_text};
 ghost use Rattle.gtid.specs.declared.fault.GtidFault.{GtidFault};
 ghost use Rattle.gtid.specs.declared.span.Span.{Span};
 
@@ -34,12 +34,12 @@ pub fn one_encoding()
 
 /// No set has two printed texts.
 pub fn one_text()
-    ensures { (ids : Ids) (a b : List ℕ) → IsText ids a → IsText ids b → a ≡ b }
+    ensures { (ids : Ids) (a b : List ℕ) → IsSetText ids a → IsSetText ids b → a ≡ b }
 {}
 
 /// A printed text is read back as the set that was printed.
 pub fn text_is_read()
-    ensures { (ids : Ids) (text : List ℕ) → IsText ids text → IsRead text ids }
+    ensures { (ids : Ids) (text : List ℕ) → IsSetText ids text → IsRead text ids }
 {}
 
 /// The printed text of a GTID is read back as that GTID.

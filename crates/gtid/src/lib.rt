@@ -32,7 +32,7 @@ mod text;
 pub use beside::Beside;
 pub use fault::GtidFault;
 pub use identifier::Gtid;
-pub use reserved::Reserved;
+pub use reserved::{Entry, Reserved};
 pub use set::GtidSet;
 pub use span::Span;
 pub use spans::Spans;

@@ -1,15 +1,31 @@
 //! Room for one more GTID.
 
-ghost use Rattle.std.specs.Prelude.{◌≡◌};
+ghost use Rattle.std.specs.Prelude.{◌≡◌, List, IfSome};
 ghost use Rattle.std.specs.FinSet as set;
+ghost use Rattle.gtid.specs.Span.{IsLeastList, IsLawfulSpan};
+ghost use Rattle.gtid.specs.Beside.{Joins};
+ghost use Rattle.gtid.specs.declared.span.Span.{Span};
 
+use crate::beside::Beside;
 use crate::group::Group;
-use crate::groups::{Place, insert_reserved};
+use crate::groups::{Place, beside, insert_reserved};
 use crate::identifier::Gtid;
 use crate::set::GtidSet;
 use std::marker::Model;
 
-/// A set with room for one more GTID, so that adding it takes no memory and cannot fail. `GtidSet::reserve` makes it.
+/// What a set says of a GTID that is to be added, as `GtidSet::entry` answers it.
+#[derive(Debug, Drop)]
+pub enum Entry {
+    /// The GTID is not in the set, which has room for it now.
+    New(Reserved),
+    /// The GTID is in the set, which is as it was.
+    Known(GtidSet),
+    /// The GTID is not in the set, which is as it was, since an allocation was refused.
+    NoRoom(GtidSet),
+}
+
+/// A set with room for one GTID that is not in it, so that adding it takes no memory and cannot fail. `GtidSet::entry`
+/// makes it.
 ///
 /// In contracts it is the pair of the set and the GTID.
 #[derive(Debug, Drop)]
@@ -36,6 +52,17 @@ impl Model for Reserved {
 }
 
 impl Reserved {
+    /// The neighbours of the GTID: the span of its source that ends just before it, and the one that begins just after
+    /// it. Adding the GTID joins them. Neither is empty or has a number outside 1 to 2^63 - 2. It takes no memory.
+    pub fn beside(&self) -> Beside
+        ensures joins { (spans : List Span) → IsLeastList spans self.now.0 → Joins self.now.0 self.now.1 result spans }
+        ensures below { IfSome result.below IsLawfulSpan }
+        ensures above { IfSome result.above IsLawfulSpan }
+    {
+        let (below, above) = beside(&self.groups, self.gtid, &self.place);
+        Beside::of(self.gtid.source, below, above)
+    }
+
     /// The set with the GTID added.
     pub fn insert(self) -> GtidSet
         ensures { result ≡ set.insert self.0 self.1 }

@@ -6,12 +6,10 @@ ghost use Rattle.gtid.specs.Identifier.{Ids, id};
 ghost use Rattle.std.specs.List.{AllByRecursion};
 ghost use Rattle.gtid.specs.Interval.{IsNear};
 ghost use Rattle.gtid.specs.Span.{Covers, IsLeastList, IsLawfulSpan};
-ghost use Rattle.gtid.specs.Beside.{Joins};
-ghost use Rattle.gtid.specs.declared.span.Span.{Span};
-ghost use Rattle.gtid.specs.Encoding.{IsEncoding, IsDecodeFault, AppendsEncoding, LacksRoom, HasFirst};
+ghost use Rattle.gtid.specs.Entry.{IsLookUp};
+ghost use Rattle.gtid.specs.Encoding.{IsEncoding, IsDecodeFault, AppendsEncoding, LacksRoom, HasFirstInterval};
 ghost use Rattle.gtid.specs.Text.{IsRead, IsParseFault, AppendsText, LacksTextRoom, HasItem};
 
-use crate::beside::Beside;
 use crate::combination::Combination;
 use crate::decoding::read_groups;
 use crate::encoding::write_groups;
@@ -23,7 +21,7 @@ use crate::groups::{are_subset, combine_groups, insert, intervals_of, reserve};
 use crate::identifier::Gtid;
 use crate::interval;
 use crate::reading::read_spans;
-use crate::reserved::Reserved;
+use crate::reserved::{Entry, Reserved};
 use crate::span::Span;
 use crate::spans::Spans;
 use crate::text::print_groups;
@@ -87,20 +85,20 @@ impl GtidSet {
         insert(&mut self.groups, gtid)
     }
 
-    /// Makes room for one more GTID, so that adding it cannot fail. If an allocation is refused it returns the set as
-    /// it was.
-    pub fn reserve(self, gtid: Gtid) -> Result<Reserved, GtidSet>
-        ensures ok { IfOk result (λ reserved. reserved ≡ (self, id gtid)) }
-        ensures err { IfErr result (λ kept. kept ≡ self) }
+    /// Looks a GTID up, and makes room for it if it is not in the set, so that adding it cannot fail. For a GTID in the
+    /// set it takes no memory.
+    pub fn entry(self, gtid: Gtid) -> Entry
+        ensures { IsLookUp self (id gtid) result }
     {
         let GtidSet { mut groups } = self;
         match reserve(&mut groups, gtid) {
-            Ok(place) => Ok(Reserved {
+            Ok(Some(place)) => Entry::New(Reserved {
                 groups,
                 gtid,
                 place,
             }),
-            Err(_) => Err(GtidSet { groups }),
+            Ok(None) => Entry::Known(GtidSet { groups }),
+            Err(_) => Entry::NoRoom(GtidSet { groups }),
         }
     }
 
@@ -158,20 +156,6 @@ impl GtidSet {
         Spans::new(&self.groups)
     }
 
-    /// The neighbours of a GTID that is not in the set: the span of its source that ends just before it, and the one
-    /// that begins just after it. Adding the GTID joins them. For a GTID in the set there are none. Neither is empty or has a
-    /// number outside 1 to 2^63 - 2. It takes no memory.
-    pub fn beside(&self, gtid: Gtid) -> Beside
-        ensures joins { set.contains self.now (id gtid) ≡ false → (spans : List Span) → IsLeastList spans self.now → Joins self.now (id gtid) result spans }
-        ensures there { set.contains self.now (id gtid) ≡ true → (result.below ≡ None) × (result.above ≡ None) }
-        ensures below { IfSome result.below IsLawfulSpan }
-        ensures above { IfSome result.above IsLawfulSpan }
-    {
-        let intervals = intervals_of(&self.groups, &gtid.source);
-        let (below, above) = interval::beside(intervals, gtid.number);
-        Beside::of(gtid.source, below, above)
-    }
-
     /// Appends the set as the data of COM_BINLOG_DUMP_GTID: the number of sources, and for each its 16 bytes, the
     /// number of its intervals, and the intervals. The only error is `Memory`: the vector lacks the room and cannot grow.
     /// It leaves the vector as it was.
@@ -203,7 +187,7 @@ impl GtidSet {
         ensures length { IfOk result (λ found. found.1 ≤ length bytes.now) }
         ensures found { IfOk result (λ found. IsEncoding found.0 (take found.1 bytes.now)) }
         ensures fault { IfErr result (λ fault. (fault ≡ GtidFault.Memory) ⊎ IsDecodeFault bytes.now fault) }
-        ensures memory { IfErr result (λ fault. fault ≡ GtidFault.Memory → HasFirst bytes.now) }
+        ensures memory { IfErr result (λ fault. fault ≡ GtidFault.Memory → HasFirstInterval bytes.now) }
         ensures only { (ids : Ids) (n : ℕ) → n ≤ length bytes.now → IsEncoding ids (take n bytes.now) → MatchResult result (λ found. found ≡ (ids, n)) (λ fault. fault ≡ GtidFault.Memory) }
     {
         let (groups, rest) = read_groups(alloc, bytes)?;

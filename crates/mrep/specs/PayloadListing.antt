@@ -10,11 +10,11 @@ use Rattle.mrep.specs.declared.commands.payload_listing.Listing.{Listing}
 
 -- The bytes are the packings of payloads, one after the other, and then the rest. Each entry has the offset of the
 -- first byte of one of them, the sequence id of its first packet, and the payload's bytes. The first has this offset.
-abbrev pub Lists : ℕ → List ℕ → List Entry → List ℕ → Type 0
-Lists offset bytes [] rest = bytes ≡ rest
-Lists offset bytes (entry ∷ entries) rest =
+abbrev pub ListsPayloads : ℕ → List ℕ → List Entry → List ℕ → Type 0
+ListsPayloads offset bytes [] rest = bytes ≡ rest
+ListsPayloads offset bytes (entry ∷ entries) rest =
     (packing : List ℕ) × (others : List ℕ) × (payload : List ℕ) × (next : ℕ) × (bytes ≡ packing ++ others) × IsWholePayload entry.sequence largest_payload packing payload next
-    × (entry.offset ≡ offset) × (entry.payload.items ≡ payload) × Lists (offset + length packing) others entries rest
+    × (entry.offset ≡ offset) × (entry.payload.items ≡ payload) × ListsPayloads (offset + length packing) others entries rest
 
 -- the entries, and one more if there is one
 abbrev pub with_entry : List Entry → Option Entry → List Entry
@@ -22,8 +22,8 @@ with_entry entries None = entries
 with_entry entries (Some entry) = entries ++ entry ∷ []
 
 -- the bytes of the current payload that have come
-abbrev pub held_of : Listing → List ℕ
-held_of l = l.assembler.held ++ l.header.items
+abbrev pub held_bytes : Listing → List ℕ
+held_bytes l = l.assembler.held ++ l.header.items
 
 -- the sequence id in the header at the front of the bytes
 abbrev pub first_id : List ℕ → ℕ
@@ -35,11 +35,11 @@ IsNoPayload bytes = (length bytes < 4) ⊎ IsUnfinished (first_id bytes) largest
 
 -- The position of a listing: the stream so far is these entries and the bytes held, which are not a payload yet, and
 -- nothing was wrong with it.
-pub record Stands (l : Listing) (stream : List ℕ) (entries : List Entry) : Type 0 where
-  pub lists : Lists 0 stream entries (held_of l)
-  pub begin : l.begin + length (held_of l) ≡ length stream
+pub record ListsSoFar (l : Listing) (stream : List ℕ) (entries : List Entry) : Type 0 where
+  pub lists : ListsPayloads 0 stream entries (held_bytes l)
+  pub begin : l.begin + length (held_bytes l) ≡ length stream
   pub seen : l.seen ≡ length stream
-  pub no_payload : IsNoPayload (held_of l)
+  pub no_payload : IsNoPayload (held_bytes l)
   pub goes_on : l.assembler.ended ≡ false
 
 -- This many of the bytes were taken, and are held now or complete this payload.
@@ -49,25 +49,25 @@ pub record Advances (old new : Listing) (bytes : List ℕ) (step : Step) : Type 
   pub begin : new.begin ≡ old.begin
   pub seen : new.seen ≡ old.seen
   pub goes_on : new.assembler.ended ≡ false
-  pub taken : MatchOption step.payload ((held_of new ≡ held_of old ++ take step.used bytes) × IsNoPayload (held_of new))
-      (λ payload. (next : ℕ) × IsWholePayload new.sequence largest_payload (held_of old ++ take step.used bytes) payload.items next × (held_of new ≡ []))
+  pub taken : MatchOption step.payload ((held_bytes new ≡ held_bytes old ++ take step.used bytes) × IsNoPayload (held_bytes new))
+      (λ payload. (next : ℕ) × IsWholePayload new.sequence largest_payload (held_bytes old ++ take step.used bytes) payload.items next × (held_bytes new ≡ []))
 
 -- what is wrong with the bytes of the current payload; running out of memory says nothing about them
-abbrev pub IsWrong : List ℕ → WireFault → Type 0
-IsWrong bytes (Sequence want got) = IsOutOfSequence (first_id bytes) largest_payload bytes want got
-IsWrong bytes TooLarge = IsTooLarge (first_id bytes) largest_payload bytes
-IsWrong bytes Memory = Unit {0}
-IsWrong bytes Ended = ⊥
+abbrev pub IsWrongPayload : List ℕ → WireFault → Type 0
+IsWrongPayload bytes (Sequence want got) = IsOutOfSequence (first_id bytes) largest_payload bytes want got
+IsWrongPayload bytes TooLarge = IsTooLarge (first_id bytes) largest_payload bytes
+IsWrongPayload bytes Memory = Unit {0}
+IsWrongPayload bytes Ended = ⊥
 
 -- This is wrong with the bytes after those held, unless the reader had ended before.
-pub record Refuses (old new : Listing) (bytes : List ℕ) (fault : WireFault) : Type 0 where
+pub record RefusesPayload (old new : Listing) (bytes : List ℕ) (fault : WireFault) : Type 0 where
   pub begin : new.begin ≡ old.begin
   pub seen : new.seen ≡ old.seen
-  pub wrong : old.assembler.ended ≡ false → IsWrong (held_of old ++ bytes) fault
+  pub wrong : old.assembler.ended ≡ false → IsWrongPayload (held_bytes old ++ bytes) fault
 
 -- The stream is these entries, and what follows them, from the listing's `begin` on, has this fault.
 pub record Faults (l : Listing) (stream : List ℕ) (entries : List Entry) (fault : WireFault) : Type 0 where
   pub rest : List ℕ
-  pub lists : Lists 0 stream entries rest
+  pub lists : ListsPayloads 0 stream entries rest
   pub begin : l.begin + length rest ≡ length stream
-  pub wrong : IsWrong rest fault
+  pub wrong : IsWrongPayload rest fault

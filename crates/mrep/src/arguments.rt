@@ -1,5 +1,53 @@
-//! The command line: its grammar, the values of its words, and mistakes in it.
+//! The values that arguments stand for.
 
-pub mod grammar;
-pub mod mistake;
-pub mod value;
+ghost use Rattle.std.specs.Prelude.{◌≡◌, ◌≤◌, IfOk};
+ghost use Rattle.gtid.specs.Identifier.{Ids};
+ghost use Rattle.gtid.specs.Text.{IsRead};
+
+use crate::report::failure::Failure;
+use binlog::Follow;
+use clap::ArgMatches;
+use formats::read_table;
+use gtid::{GtidFault, GtidSet};
+use std::alloc::Global;
+
+/// The argument of this name, which is required.
+pub fn word<'a>(given: &ArgMatches<'a>, name: &str) -> &'a str {
+    given.get_str(name).unwrap_or("")
+}
+
+/// The set whose text this argument is.
+pub fn gtid_set<'a>(alloc: Global, word: &'a str, text: &str) -> Result<GtidSet, Failure<'a>>
+    ensures { IfOk result (λ read. (ids : Ids) → IsRead text.now ids → read ≡ ids) }
+{
+    match GtidSet::parse(alloc, text) {
+        Ok(set) => Ok(set),
+        Err(GtidFault::Memory) => Err(Failure::Memory),
+        Err(cause) => Err(Failure::Set { word, cause }),
+    }
+}
+
+/// A number from 1 to the largest, in decimal digits.
+pub fn number<'a>(word: &'a str, largest: u32) -> Result<u32, Failure<'a>>
+    ensures { IfOk result (λ n. (1 ≤ n) × (n ≤ largest)) }
+{
+    match word.parse::<u32>() {
+        Ok(number) if number >= 1 && number <= largest && !word.starts_with('+') => Ok(number),
+        _ => Err(Failure::Number { word, largest }),
+    }
+}
+
+/// The filter of the tables that these words name.
+pub fn tables<'a>(alloc: Global, words: &[&'a str]) -> Result<Follow, Failure<'a>> {
+    let mut names = Vec::with_capacity(alloc, words.len())?;
+    for word in words {
+        let Some(name) = read_table(alloc, word)? else {
+            return Err(Failure::Table { word });
+        };
+        names.push(name)?;
+    }
+    match Follow::new(alloc, &names) {
+        Ok(filter) => Ok(filter),
+        Err(_) => Err(Failure::Memory),
+    }
+}

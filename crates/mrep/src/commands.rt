@@ -2,11 +2,8 @@
 
 ghost use Rattle.std.specs.Prelude.{◌≤◌, IfOk, IfSome};
 
-pub mod completions;
 pub mod copy;
-pub mod events;
 pub mod follow;
-pub mod input;
 pub mod jobs;
 pub mod minus;
 pub mod payload_lines;
@@ -14,29 +11,21 @@ pub mod payload_listing;
 pub mod replay;
 pub mod socket;
 
-use crate::arguments::grammar::grammar;
-use crate::arguments::mistake::{escaped, input_again, no_command};
-use crate::arguments::value::word;
-use crate::commands::completions::completions;
+use crate::arguments::word;
 use crate::commands::copy::copy;
 use crate::commands::follow::follow;
-use crate::commands::input::INPUT;
 use crate::commands::jobs::{job_of, run_job};
 use crate::commands::minus::minus;
 use crate::commands::payload_lines::{Lines, list};
 use crate::commands::replay::replay;
 use crate::report::failure::{DONE, Failure, MEMORY};
-use crate::report::notes::note_patterns;
-use clap::error::ErrorKind;
 use clap::{ArgMatches, Command};
-use std::alloc::Global;
+use command_line::{escaped, grammar, input_again, no_command, write_completions, write_help};
+use files::INPUT;
+use formats::note_patterns;
+use std::alloc::{AllocError, Global};
 use std::convert::AsStr;
-use std::io;
 use std::io::Write;
-
-/// What help ends with.
-const STATUSES: &[u8] =
-    b"\nExit status:\n  0  done\n  1  refused by the source, or by what the data says\n  2  a mistake in the arguments\n  3  a file, a host, the database or the output\n  4  out of memory\n";
 
 /// Runs the command that the arguments name; the first argument is the program's own name. Returns the exit status: 0
 /// done, 1 refused by the source or because of what the data says, 2 a mistake in the arguments, 3 a file, a socket,
@@ -92,17 +81,8 @@ fn answer<'a, S: AsStr, O: Write>(
     if error.use_stderr() {
         return Err(Failure::Words(escaped(alloc, words, error)?));
     }
-    print(&error, out)?;
+    write_help(&error, out)?;
     Ok(DONE)
-}
-
-/// Prints help, with the exit statuses, or the version, and flushes it.
-fn print<O: Write>(text: &clap::Error, out: &mut O) -> io::Result<()> {
-    write!(out, "{text}")?;
-    if text.kind() == ErrorKind::DisplayHelp {
-        out.write_all(STATUSES)?;
-    }
-    out.flush()
 }
 
 /// Runs the command of the matches.
@@ -116,15 +96,23 @@ fn run_matches<'a, O: Write, E: Write>(
     ensures { IfOk result (λ status. status ≤ MEMORY) }
 {
     let Some((name, given)) = matches.subcommand() else {
-        return Err(no_command(command));
+        return Err(mistake(no_command(command)));
     };
     if reads_input_again(given) {
-        return Err(input_again(command));
+        return Err(mistake(input_again(command)));
     }
     note_patterns(given.get_strs("only").unwrap_or(&[]), err);
     match run_named(rt, name, given, out, err)? {
         Some(status) => flushed(status, out, err),
-        None => Err(no_command(command)),
+        None => Err(mistake(no_command(command))),
+    }
+}
+
+/// The failure of a mistake in the arguments, whose text takes memory.
+fn mistake<'a>(found: Result<clap::Error, AllocError>) -> Failure<'a> {
+    match found {
+        Ok(error) => Failure::Words(error),
+        Err(_) => Failure::Memory,
     }
 }
 
@@ -151,7 +139,10 @@ fn run_named<'a, W: Write, E: Write>(
         "replay" => replay(rt, given, out, err)?,
         "follow" => follow(rt, given, out, err)?,
         "copy" => copy(rt, given)?,
-        "completions" => completions(word(given, "SHELL"), out)?,
+        "completions" => {
+            write_completions(word(given, "SHELL"), out)?;
+            DONE
+        }
         _ => match job_of(rt.alloc(), name, given)? {
             Some(job) => run_job(rt, word(given, "db"), job, out, err)?,
             None => return Ok(None),

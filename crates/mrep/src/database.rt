@@ -1,9 +1,5 @@
-//! The files of a database: how they are opened, locked, made, copied and closed, and what is wrong with those that are refused.
+//! What a command does with the store in a database file, and how that is opened and closed.
 
-pub mod copy_part;
 pub mod job;
-pub mod name_lock;
-pub mod new_file;
 pub mod open;
-pub mod part_file;
-pub mod unsupported;
+pub mod printer;

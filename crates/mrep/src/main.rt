@@ -8,7 +8,6 @@ mod arguments;
 mod commands;
 mod database;
 mod forge;
-mod print;
 mod report;
 mod stack_room;
 

@@ -3,7 +3,7 @@ use Rattle.std.proofs.Common.{◌≡◌, ℕ, Bool, true, false, List, [], ◌++
 use Rattle.std.proofs.lemmas.Bool.{true≢false}
 use Rattle.wire.specs.declared.fault.WireFault.{WireFault}
 use Rattle.wire.specs.declared.fault.WireFault.TheVariants as wire
-use Rattle.wire.specs.Payload.{ReaderState, IsWholePayload, IsUnfinished, IsOutOfSequence, IsTooLarge}
+use Rattle.wire.specs.Payload.{ReaderState, IsWholePayload, IsUnfinished, IsOutOfSequence, IsTooLarge, Payload}
 use Rattle.binlog.specs.Filter.{Names}
 use Rattle.gather.specs.declared.gatherer.Gatherer.{Gatherer}
 use Rattle.sqlite_trees.specs.declared.store.Store.{Ghosts}
@@ -15,7 +15,6 @@ use Rattle.replica.specs.declared.end.Ended.{Ended}
 use Rattle.replica.specs.declared.phase.Phase.{Phase}
 use Rattle.replica.specs.declared.session.Session.{Session}
 use Rattle.replica.specs.Settings.{Settings}
-use Rattle.replica.specs.Stream.{Payload}
 use Rattle.replica.specs.End.{IsWrong}
 use Rattle.replica.specs.Crash.{IsLeftOfOne}
 use Rattle.replica.specs.PayloadStep.{reason_of}

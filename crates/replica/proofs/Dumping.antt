@@ -7,7 +7,7 @@ use Rattle.sqlite_trees.specs.Tree.{Trees}
 use Rattle.sqlite_schema.specs.declared.schema.Schema.{Schema}
 use Rattle.sqlite.specs.Held.{Held, state}
 use Rattle.wire.specs.Packet.{packing_length}
-use Rattle.wire.specs.Payload.{ReaderState, IsUnfinished}
+use Rattle.wire.specs.Payload.{ReaderState, IsUnfinished, Payload}
 use Rattle.wire.proofs.OneReading.{nothing_yet}
 use Rattle.binlog.specs.Filter.{Names}
 use Rattle.gather.specs.Transaction.{DeliveryValue}
@@ -26,7 +26,7 @@ use Rattle.replica.specs.declared.end.Ended.{Ended}
 use Rattle.replica.specs.declared.phase.Phase.{Phase}
 use Rattle.replica.specs.declared.session.Session.{Session}
 use Rattle.replica.specs.Settings.{Settings}
-use Rattle.replica.specs.Stream.{Payload, Hello, InDump, IsInDump, Answers, next_due, next_id, due_after, due_from}
+use Rattle.replica.specs.Stream.{Hello, InDump, IsInDump, Answers, next_due, next_id, due_after, due_from}
 use Rattle.replica.specs.End.{Denies, EndsLog}
 use Rattle.replica.specs.Conn.{AppliesAll, Why, NextEnds, BreaksStore}
 use Rattle.replica.specs.Sent.{Sent}

@@ -22,7 +22,8 @@ use Rattle.store.specs.declared.store.Store.{Store}
 use Rattle.store.specs.Store.{Holds, HasFailed, HoldsAs, Keeps, IsBroken, Applies, Leaves}
 use Rattle.replica.specs.declared.end.Reason.{Reason}
 use Rattle.replica.specs.declared.end.Reason.TheVariants.{EndOfInput, SourceEof, SourceError, Wire, Greet, Event, Gather, Refused, Database, Memory, ReadFailed, WriteFailed, Halted}
-use Rattle.replica.specs.Stream.{Payload, Carries}
+use Rattle.replica.specs.Stream.{Carries}
+use Rattle.wire.specs.Payload.{Payload}
 use Rattle.replica.specs.PayloadStep.{EndsDump, GathersMore, outcome_of, reason_of_events}
 use Rattle.replica.specs.Event.{GoesFurther, EndsOne, IsAsBefore, EndsSo, TakesEvent}
 

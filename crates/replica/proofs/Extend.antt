@@ -12,7 +12,8 @@ use Rattle.replica.specs.declared.end.Reason.{Reason}
 use Rattle.replica.specs.declared.end.Reason.TheVariants.{EndOfInput, SourceEof, SourceError, Wire, Greet, Event, Gather, Refused, Database, Memory, ReadFailed, WriteFailed, Halted}
 use Rattle.replica.specs.declared.end.Ended.{Ended}
 use Rattle.replica.specs.Settings.{Settings}
-use Rattle.replica.specs.Stream.{Payload, Due, Reading, due_after}
+use Rattle.replica.specs.Stream.{Due, Reading, due_after}
+use Rattle.wire.specs.Payload.{Payload}
 use Rattle.replica.specs.End.{HasNext, StopsAt, PassesEnd, EndsLog, EndsWith, StopsFor, IsWrong}
 use Rattle.replica.specs.Conn.{NextEnds, NextAnswers, Why, Conn}
 use Rattle.replica.specs.Sent.{Taken, SentFor}

@@ -6,7 +6,8 @@ use Rattle.binlog.specs.Filter.{Names}
 use Rattle.replica.specs.declared.end.Reason.{Reason}
 use Rattle.replica.specs.declared.end.Reason.TheVariants.{EndOfInput, SourceEof, SourceError, Wire, Greet, Event, Gather, Refused, Database, Memory, ReadFailed, WriteFailed, Halted}
 use Rattle.replica.specs.Settings.{Settings}
-use Rattle.replica.specs.Stream.{Payload, Due, Reply, SecondReply, next_due}
+use Rattle.replica.specs.Stream.{Due, Reply, SecondReply, next_due}
+use Rattle.wire.specs.Payload.{Payload}
 use Rattle.replica.specs.Message.{refusal_of, IsNoEvent}
 use Rattle.replica.specs.Sent.{auth_bytes}
 use Rattle.replica.specs.PayloadStep.{IsReportOf, EndsAt, EndsDump, IsAnswered, Sends}

@@ -6,7 +6,7 @@ use Rattle.std.specs.List.{AllByRecursion}
 use Rattle.std.proofs.lemmas.Bool.{true≢false}
 use Rattle.wire.specs.declared.fault.WireFault.{WireFault}
 use Rattle.wire.specs.declared.fault.WireFault.TheVariants as wire
-use Rattle.wire.specs.Payload.{IsWholePayload, IsUnfinished, IsOutOfSequence, IsTooLarge}
+use Rattle.wire.specs.Payload.{IsWholePayload, IsUnfinished, IsOutOfSequence, IsTooLarge, Payload}
 use Rattle.wire.proofs.OnePacking.{none_begins}
 use Rattle.wire.proofs.OneReading.{wrong_or_whole, large_or_whole, one_wrong_id, wrong_or_large}
 use Rattle.greet.specs.Message.{IsEofPacket}
@@ -27,7 +27,7 @@ use Rattle.gather.proofs.NextEvents.{not_both, one as one_fault}
 use Rattle.gather.proofs.Shortening.{beginning}
 use Rattle.replica.specs.declared.end.Reason.{Reason}
 use Rattle.replica.specs.declared.end.Reason.TheVariants.{EndOfInput, SourceEof, SourceError, Wire, Greet, Event, Gather, Refused, Database, Memory, ReadFailed, WriteFailed, Halted}
-use Rattle.replica.specs.Stream.{Payload, Due, Hello, Reply, SecondReply, QueryReply, InDump, IsInDump, Carries, Answers, Talks, Reading, next_due, next_id, due_from, due_after}
+use Rattle.replica.specs.Stream.{Due, Hello, Reply, SecondReply, QueryReply, InDump, IsInDump, Carries, Answers, Talks, Reading, next_due, next_id, due_from, due_after}
 use Rattle.replica.specs.Message.{refusal_of, begins_event, IsNoEvent, IsOfMessage}
 use Rattle.replica.specs.Report.{Report, Verdict, report_of, reported_refusal}
 use Rattle.replica.specs.Report as reported

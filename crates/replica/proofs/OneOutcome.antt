@@ -7,7 +7,7 @@ use Rattle.wire.specs.declared.fault.WireFault.TheVariants as wire
 use Rattle.binlog.specs.Filter.{Names}
 use Rattle.binlog.specs.Event.{EventValue}
 use Rattle.gather.specs.Transaction.{ChangeValue, insert, delete, update, DeliveryValue, AreDeliveries}
-use Rattle.gather.specs.Fault.{IsRead}
+use Rattle.gather.specs.Fault.{IsFromBytes}
 use Rattle.gather.proofs.OneList.{one_list_of_deliveries}
 use Rattle.gather.proofs.Shortening as shortening
 use Rattle.store.specs.State.{row_of, Bag, Content}
@@ -19,7 +19,8 @@ use Rattle.replica.specs.declared.end.Refusal.TheVariants.{NoSuchRow, CountFull}
 use Rattle.replica.specs.declared.end.Reason.{Reason}
 use Rattle.replica.specs.declared.end.Reason.TheVariants.{EndOfInput, SourceEof, SourceError, Wire, Greet, Event, Gather, Refused, Database, Memory, ReadFailed, WriteFailed, Halted}
 use Rattle.replica.specs.declared.end.Ended.{Ended}
-use Rattle.replica.specs.Stream.{Payload, Due, Hello, Reply, SecondReply, QueryReply, InDump, IsInDump, Carries, Answers, Talks, Reading, next_due, next_id, due_from, due_after}
+use Rattle.replica.specs.Stream.{Due, Hello, Reply, SecondReply, QueryReply, InDump, IsInDump, Carries, Answers, Talks, Reading, next_due, next_id, due_from, due_after}
+use Rattle.wire.specs.Payload.{Payload}
 use Rattle.replica.specs.End.{StopsFor, End}
 use Rattle.replica.specs.Conn.{AppliesAll, IsRefusedBy, IsDumpTooLong, NextAnswers, IsRefusedNext, Why, Conn, IsOfBytes}
 use Rattle.replica.specs.Report.{report_of}
@@ -32,23 +33,23 @@ use Rattle.replica.proofs.OneEnd.{Ahead, stops_same, Same, Further, both_read, n
 
 -- ---- The events of a conversation are read from bytes.
 
-answered_read : (names : Names) (due : Due) (p : Payload) (es : List EventValue) → AllByRecursion (λ b. b < 256) p → Answers names due p es → AllByRecursion IsRead es
-answered_read names Hello p es fits a = subst (λ l. AllByRecursion IsRead l) (sym a.1) tt
-answered_read names Reply p es fits a = subst (λ l. AllByRecursion IsRead l) (sym a.1) tt
-answered_read names SecondReply p es fits a = subst (λ l. AllByRecursion IsRead l) (sym a.1) tt
-answered_read names QueryReply p es fits a = subst (λ l. AllByRecursion IsRead l) (sym a.1) tt
+answered_read : (names : Names) (due : Due) (p : Payload) (es : List EventValue) → AllByRecursion (λ b. b < 256) p → Answers names due p es → AllByRecursion IsFromBytes es
+answered_read names Hello p es fits a = subst (λ l. AllByRecursion IsFromBytes l) (sym a.1) tt
+answered_read names Reply p es fits a = subst (λ l. AllByRecursion IsFromBytes l) (sym a.1) tt
+answered_read names SecondReply p es fits a = subst (λ l. AllByRecursion IsFromBytes l) (sym a.1) tt
+answered_read names QueryReply p es fits a = subst (λ l. AllByRecursion IsFromBytes l) (sym a.1) tt
 answered_read names InDump p es fits a =
     let body : AllByRecursion (λ b. b < 256) (0x00 ∷ a.1.body) = subst (λ l. AllByRecursion (λ b. b < 256) l) a.1.payload_is fits in
-    subst (λ l. AllByRecursion IsRead l) (sym a.2) (record { names = names; bytes = a.1.body; fits = body.1; is_event = a.1.is_event }, tt)
+    subst (λ l. AllByRecursion IsFromBytes l) (sym a.2) (record { names = names; bytes = a.1.body; fits = body.1; is_event = a.1.is_event }, tt)
 
 pub talked_read : (limit : ℕ) (names : Names) (due : Due) (id : ℕ) (ps : List Payload) (x : List ℕ) (es : List EventValue) (last : ℕ) → AllByRecursion (λ b. b < 256) x → Talks limit names due id ps x es last
-    → AllByRecursion IsRead es
-talked_read limit names due id [] x es last fits t = subst (λ l. AllByRecursion IsRead l) (sym t.1) tt
+    → AllByRecursion IsFromBytes es
+talked_read limit names due id [] x es last fits t = subst (λ l. AllByRecursion IsFromBytes l) (sym t.1) tt
 talked_read limit names due id (p ∷ ps) x es last fits t =
     let both : AllByRecursion (λ b. b < 256) (t.0 ++ t.1) = subst (λ l. AllByRecursion (λ b. b < 256) l) t.5 fits in
     let own : AllByRecursion (λ b. b < 256) p = packed_bytes id p t.0 t.4 t.7.packing (all_front (λ b. b < 256) t.0 t.1 both) in
-    subst (λ l. AllByRecursion IsRead l) (sym t.6)
-    (all_both IsRead t.2 t.3 (answered_read names due p t.2 own t.8) (talked_read limit names (next_due due p) (next_id due p t.4) ps t.1 t.3 last (all_back (λ b. b < 256) t.0 t.1 both) t.9))
+    subst (λ l. AllByRecursion IsFromBytes l) (sym t.6)
+    (all_both IsFromBytes t.2 t.3 (answered_read names due p t.2 own t.8) (talked_read limit names (next_due due p) (next_id due p t.4) ps t.1 t.3 last (all_back (λ b. b < 256) t.0 t.1 both) t.9))
 
 -- ---- The kinds of ends.
 
@@ -223,8 +224,8 @@ module _ (limit : ℕ) (names : Names) (b : List ℕ) (bytes : AllByRecursion (�
       f.events ∙ ap (λ l. x.events ++ (l ++ f.others)) (e.2 ∙ ap (λ v. v ∷ []) one) ∙ sym (append_assoc x.events (ends.event ∷ []) f.others) in
       let h = shortening.beginning (x.events ++ ends.event ∷ []) f.others y.deliveries (subst (λ l. AreDeliveries l y.deliveries) split y.talk.delivers) in
       let front : AllByRecursion (λ v. v < 256) y.front = all_front (λ v. v < 256) y.front y.rest (subst (λ l. AllByRecursion (λ v. v < 256) l) y.bytes bytes) in
-      let all_read : AllByRecursion IsRead y.events = talked_read limit names Hello 0 y.payloads y.front y.events y.id front y.talk.talks in
-      let read : AllByRecursion IsRead (x.events ++ ends.event ∷ []) = all_front IsRead (x.events ++ ends.event ∷ []) f.others (subst (λ l. AllByRecursion IsRead l) split all_read) in
+      let all_read : AllByRecursion IsFromBytes y.events = talked_read limit names Hello 0 y.payloads y.front y.events y.id front y.talk.talks in
+      let read : AllByRecursion IsFromBytes (x.events ++ ends.event ∷ []) = all_front IsFromBytes (x.events ++ ends.event ∷ []) f.others (subst (λ l. AllByRecursion IsFromBytes l) split all_read) in
       let same : h.first ≡ x.deliveries ++ d ∷ [] = one_list_of_deliveries (x.events ++ ends.event ∷ []) h.first (x.deliveries ++ d ∷ []) read h.are ends.delivers in
       let all : AppliesAll names old ((x.deliveries ++ d ∷ []) ++ h.others) n other = subst (λ l. AppliesAll names old l n other) (h.ds_are ∙ ap (λ l. l ++ h.others) same) took_y in
       let a = halves names old (x.deliveries ++ d ∷ []) h.others n other all in
@@ -265,9 +266,9 @@ module _ (limit : ℕ) (names : Names) (b : List ℕ) (bytes : AllByRecursion (�
       let own : AllByRecursion (λ v. v < 256) other.payload = packed_bytes x.id other.payload next.packing next.after next.whole.packing (all_front (λ v. v < 256) next.packing next.more (subst (λ l. AllByRecursion (λ v. v < 256) l) next.bytes rest_bytes)) in
       let body : AllByRecursion (λ v. v < 256) (0x00 ∷ other.carries.body) = subst (λ l. AllByRecursion (λ v. v < 256) l) other.carries.payload_is own in
       let front : AllByRecursion (λ v. v < 256) x.front = all_front (λ v. v < 256) x.front x.rest (subst (λ l. AllByRecursion (λ v. v < 256) l) x.bytes bytes) in
-      let all_read : AllByRecursion IsRead x.events = talked_read limit names Hello 0 x.payloads x.front x.events x.id front x.talk.talks in
-      let last : AllByRecursion IsRead (other.event ∷ []) = (record { names = names; bytes = other.carries.body; fits = body.1; is_event = other.carries.is_event }, tt) in
-      let read : AllByRecursion IsRead (x.events ++ other.event ∷ []) = all_both IsRead x.events (other.event ∷ []) all_read last in
+      let all_read : AllByRecursion IsFromBytes x.events = talked_read limit names Hello 0 x.payloads x.front x.events x.id front x.talk.talks in
+      let last : AllByRecursion IsFromBytes (other.event ∷ []) = (record { names = names; bytes = other.carries.body; fits = body.1; is_event = other.carries.is_event }, tt) in
+      let read : AllByRecursion IsFromBytes (x.events ++ other.event ∷ []) = all_both IsFromBytes x.events (other.event ∷ []) all_read last in
       let lists : x.deliveries ++ r.delivery ∷ [] ≡ x.deliveries ++ m.delivery ∷ [] =
       one_list_of_deliveries (x.events ++ other.event ∷ []) (x.deliveries ++ r.delivery ∷ []) (x.deliveries ++ m.delivery ∷ []) read (subst (λ v. AreDeliveries (x.events ++ v ∷ []) (x.deliveries ++ r.delivery ∷ [])) event ends.delivers) other.delivers in
       let d : r.delivery ≡ m.delivery = last_same x.deliveries r.delivery m.delivery lists in
@@ -338,7 +339,7 @@ module _ (limit : ℕ) (names : Names) (b : List ℕ) (bytes : AllByRecursion (�
     one_list : x.deliveries ≡ y.deliveries
     one_list =
         let front : AllByRecursion (λ v. v < 256) x.front = all_front (λ v. v < 256) x.front x.rest (subst (λ l. AllByRecursion (λ v. v < 256) l) x.bytes bytes) in
-        let read : AllByRecursion IsRead x.events = talked_read limit names Hello 0 x.payloads x.front x.events x.id front x.talk.talks in
+        let read : AllByRecursion IsFromBytes x.events = talked_read limit names Hello 0 x.payloads x.front x.events x.id front x.talk.talks in
         one_list_of_deliveries x.events x.deliveries y.deliveries read x.talk.delivers (subst (λ l. AreDeliveries l y.deliveries) (sym same.events) y.talk.delivers)
 
     same_content : new ≡ other

@@ -2,7 +2,7 @@
 use Rattle.std.proofs.Common.{◌≡◌, ◌≢◌, ℕ, ◌+◌, ◌^◌, ◌<◌, ◌≤◌, Bool, List, [], ◌∷◌, ◌++◌, length, Some, None, MatchOption, inl, inr, refl, sym, ap, subst, ◌∙◌, append_assoc, append-nil, arith}
 use Rattle.std.proofs.lemmas.List.{length-append}
 use Rattle.wire.specs.Packet.{packing_length}
-use Rattle.wire.specs.Payload.{ReaderState, IsUnfinished}
+use Rattle.wire.specs.Payload.{ReaderState, IsUnfinished, Payload}
 use Rattle.wire.specs.declared.fault.WireFault.TheVariants as wire
 use Rattle.wire.proofs.OneReading.{nothing_yet}
 use Rattle.wire.proofs.OnePacking.{length_packing}
@@ -18,7 +18,7 @@ use Rattle.replica.specs.declared.phase.Login.{Login}
 use Rattle.replica.specs.declared.phase.Login.TheVariants as login
 use Rattle.replica.specs.declared.session.Session.{Session}
 use Rattle.replica.specs.Settings.{Settings}
-use Rattle.replica.specs.Stream.{Payload, Hello, IsInDump, next_due, next_id, due_after}
+use Rattle.replica.specs.Stream.{Hello, IsInDump, next_due, next_id, due_after}
 use Rattle.replica.specs.End.{StopsAt}
 use Rattle.replica.specs.Conn.{AppliesAll, Why, BreaksStore}
 use Rattle.replica.specs.Sent.{Sent, SentFor}

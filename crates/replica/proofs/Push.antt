@@ -1,7 +1,7 @@
 -- One payload more.
 use Rattle.std.proofs.Common.{◌≡◌, ℕ, ◌+◌, ◌^◌, ◌<◌, true, false, List, [], ◌∷◌, ◌++◌, length, flat_map, if◌then◌else◌, inl, inr, refl, sym, ap, subst, ◌∙◌, append_assoc, append-nil, arith}
 use Rattle.std.proofs.lemmas.List.{length-append}
-use Rattle.wire.specs.Payload.{IsWholePayload}
+use Rattle.wire.specs.Payload.{IsWholePayload, Payload}
 use Rattle.gtid.specs.Identifier.{Ids}
 use Rattle.binlog.specs.Filter.{Names}
 use Rattle.binlog.specs.Event.{EventValue}
@@ -11,7 +11,7 @@ use Rattle.replica.specs.declared.phase.Phase.{Phase}
 use Rattle.replica.specs.declared.phase.Phase.TheVariants as phases
 use Rattle.replica.specs.declared.phase.Login.TheVariants as login
 use Rattle.replica.specs.Settings.{Settings}
-use Rattle.replica.specs.Stream.{Payload, Due, Hello, Reply, SecondReply, QueryReply, InDump, begins_switch, next_due, next_id, due_from, due_after, IsInDump, Answers, Talks, Reading}
+use Rattle.replica.specs.Stream.{Due, Hello, Reply, SecondReply, QueryReply, InDump, begins_switch, next_due, next_id, due_from, due_after, IsInDump, Answers, Talks, Reading}
 use Rattle.replica.specs.Conn.{AppliesAll, IsDumpTooLong}
 use Rattle.replica.specs.Sent.{Responds, RespondsFrom}
 use Rattle.replica.specs.Standing.{due_of, first_id_of}

@@ -6,7 +6,7 @@ use Rattle.std.proofs.lemmas.Bool.{false≢true}
 use Rattle.std.specs.List.{AllByRecursion}
 use Rattle.wire.proofs.OneReading.{nothing_yet}
 use Rattle.greet.specs.Message.{DumpValue, IsDump, dump_bytes}
-use Rattle.wire.specs.Payload.{IsUnfinished}
+use Rattle.wire.specs.Payload.{IsUnfinished, Payload}
 use Rattle.gtid.specs.Identifier.{Ids}
 use Rattle.gtid.specs.Encoding.{IsEncoding}
 use Rattle.gtid.proofs.Decoded.{one_front}
@@ -14,7 +14,7 @@ use Rattle.byteorder.specs.Endian.{little_bytes}
 use Rattle.binlog.specs.Filter.{Names}
 use Rattle.binlog.specs.Event.{EventValue}
 use Rattle.binlog.specs.Writing.{IsWritable}
-use Rattle.gather.specs.Fault.{IsRead}
+use Rattle.gather.specs.Fault.{IsFromBytes}
 use Rattle.gather.specs.Transaction.{DeliveryValue, AreDeliveries}
 use Rattle.gather.proofs.Shortening as shortening
 use Rattle.gather.proofs.OneList.{one_list_of_deliveries}
@@ -25,7 +25,7 @@ use Rattle.replica.specs.Stream.{Due, Hello, InDump, IsInDump, Talks, Reading, d
 use Rattle.replica.specs.Conn.{AppliesAll, IsDumpTooLong, Why, Conn, AppliesFirst}
 use Rattle.replica.proofs.Push.{applies_push}
 use Rattle.scripted_source.specs.Script.{ScriptValue}
-use Rattle.scripted_source.specs.Source.{Payload, ArePackings, CanSend, due, events_of, payloads_of, end_payloads, eof_payload, sent_payloads, is_once}
+use Rattle.scripted_source.specs.Source.{ArePackings, CanSend, due, events_of, payloads_of, end_payloads, eof_payload, sent_payloads, is_once}
 use Rattle.replica.specs.Resume.{transaction, transactions, Reaches, Resumes, end_reason, Leads}
 use Rattle.replica.proofs.Scripted.{seen, delivers}
 use Rattle.replica.proofs.Bytes.{all_front, all_back}
@@ -225,7 +225,7 @@ module _ (one_dump : (a b : DumpValue) (payload : List ℕ) → IsDump a payload
         let g = beginning limit names Hello 0 payloads (opening ++ c.front) events c.mid c.back q.payloads q.front q.events q.id (q.rest ++ more) talks q.talk.talks both blocked in
         let f = shortening.beginning q.events g.others (transactions names (drop j history)) (subst (λ l. AreDeliveries l (transactions names (drop j history))) g.events_are (delivers names (drop j history) sends.can)) in
         let front : AllByRecursion (λ b. b < 256) c.front = all_front (λ b. b < 256) c.front c.back (subst (λ l. AllByRecursion (λ b. b < 256) l) c.bytes_are plain) in
-        let read : AllByRecursion IsRead q.events = all_front IsRead q.events g.others (subst (λ l. AllByRecursion IsRead l) g.events_are (are_read names 1 (events_of (drop j history)) c.front c.mid writable front c.first)) in
+        let read : AllByRecursion IsFromBytes q.events = all_front IsFromBytes q.events g.others (subst (λ l. AllByRecursion IsFromBytes l) g.events_are (are_read names 1 (events_of (drop j history)) c.front c.mid writable front c.first)) in
         let same : f.first ≡ q.deliveries = one_list_of_deliveries q.events f.first q.deliveries read f.are q.talk.delivers in
         let parts : transactions names (drop j history) ≡ q.deliveries ++ f.others = begun_by (transactions names (drop j history)) f.first f.others q.deliveries f.ds_are same in
         subst (λ k. Reaches names history (j + k) new) b.counted (reaches_on names history j held last q.deliveries f.others applied new r.reached left parts b.has_applied.applies)

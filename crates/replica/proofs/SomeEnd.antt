@@ -5,18 +5,18 @@ use Rattle.std.proofs.lemmas.Bool.{false≢true}
 use Rattle.std.specs.List.{AllByRecursion}
 use Rattle.wire.specs.declared.fault.WireFault.{WireFault}
 use Rattle.wire.specs.declared.fault.WireFault.TheVariants as wire
-use Rattle.wire.specs.Payload.{IsUnfinished}
+use Rattle.wire.specs.Payload.{IsUnfinished, Payload}
 use Rattle.wire.specs.Stream.{Ending, Held, OutOfSequence, TooLarge, IsStream}
 use Rattle.wire.proofs.SomeReading.{some_reading}
 use Rattle.wire.proofs.OnePacking.{length_packing}
 use Rattle.binlog.specs.Filter.{Names}
 use Rattle.binlog.specs.Event.{EventValue}
 use Rattle.gather.specs.Transaction.{DeliveryValue, AreDeliveries}
-use Rattle.gather.specs.Fault.{IsRead}
+use Rattle.gather.specs.Fault.{IsFromBytes}
 use Rattle.store.specs.State.{Content}
 use Rattle.replica.specs.declared.end.Reason.{Reason}
 use Rattle.replica.specs.declared.end.Reason.TheVariants.{EndOfInput, SourceEof, SourceError, Wire, Greet, Event, Gather, Refused, Database, Memory, ReadFailed, WriteFailed, Halted}
-use Rattle.replica.specs.Stream.{Payload, Due, Hello, Reply, SecondReply, QueryReply, InDump, IsInDump, Carries, Answers, Reading, next_due, next_id, due_after}
+use Rattle.replica.specs.Stream.{Due, Hello, Reply, SecondReply, QueryReply, InDump, IsInDump, Carries, Answers, Reading, next_due, next_id, due_after}
 use Rattle.replica.specs.End.{HasNext, StopsAt, IsWrong, Denies}
 use Rattle.replica.specs.Conn.{AppliesAll, IsDumpTooLong, HasApplied, Why}
 use Rattle.replica.specs.Follow.{IsInFull}
@@ -112,7 +112,7 @@ module _ (limit : ℕ) (names : Names) (old : Content) (b : List ℕ) (bytes : I
     rest_bytes : IsBytes r.rest
     rest_bytes = all_back (λ v. v < 256) r.front r.rest (subst (λ l. IsBytes l) r.bytes bytes)
 
-    events_read : AllByRecursion IsRead r.events
+    events_read : AllByRecursion IsFromBytes r.events
     events_read = talked_read limit names Hello 0 r.payloads r.front r.events r.id (all_front (λ v. v < 256) r.front r.rest (subst (λ l. IsBytes l) r.bytes bytes)) r.talk.talks
 
     -- or it goes on

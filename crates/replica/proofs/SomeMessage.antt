@@ -15,13 +15,14 @@ use Rattle.binlog.specs.declared.fault.EventFault.{EventFault}
 use Rattle.binlog.proofs.Events.{has_event}
 use Rattle.wire.proofs.Cuts.{IsBytes-all}
 use Rattle.gather.specs.Transaction.{DeliveryValue, AreDeliveries, IsLawful}
-use Rattle.gather.specs.Fault.{IsRead, HasFault, last_block}
+use Rattle.gather.specs.Fault.{IsFromBytes, HasFault, last_block}
 use Rattle.gather.proofs.NextEvents.{some}
 use Rattle.gather.proofs.OneList.{one_list_of_deliveries}
 use Rattle.gather.proofs.Shortening.{Given, stays, gives, given, back, ended}
 use Rattle.replica.specs.declared.end.Reason.{Reason}
 use Rattle.replica.specs.declared.end.Reason.TheVariants.{SourceError, Greet, Event, Gather}
-use Rattle.replica.specs.Stream.{Payload, Due, Hello, Reply, SecondReply, QueryReply, InDump, IsInDump, Carries, Answers}
+use Rattle.replica.specs.Stream.{Due, Hello, Reply, SecondReply, QueryReply, InDump, IsInDump, Carries, Answers}
+use Rattle.wire.specs.Payload.{Payload}
 use Rattle.replica.specs.Message.{refusal_of, begins_event, IsNoEvent}
 use Rattle.replica.specs.End.{Denies}
 
@@ -91,36 +92,36 @@ module _ (tables : Tables) (names : Names) (es : List EventValue) (ds : List Del
   -- ---- A payload of the dump.
 
   -- a lawful event ends one transaction or none
-  lawful : (p : Payload) (e : EventValue) → Carries names p e → IsRead e → AllByRecursion IsRead es → AreDeliveries es ds → (fs : List DeliveryValue) → Given es e fs → AreDeliveries (es ++ e ∷ []) fs → Meets names InDump es ds p
+  lawful : (p : Payload) (e : EventValue) → Carries names p e → IsFromBytes e → AllByRecursion IsFromBytes es → AreDeliveries es ds → (fs : List DeliveryValue) → Given es e fs → AreDeliveries (es ++ e ∷ []) fs → Meets names InDump es ds p
   lawful p e c read all are fs (stays ends_none are') now =
       goes_on tt e c (subst (λ l. AreDeliveries (es ++ e ∷ []) l) (one_list_of_deliveries es fs ds all are' are) now)
   lawful p e c read all are fs (gives last o before fs_are are') now =
       let same : before ≡ ds = one_list_of_deliveries es before ds all are' are in
       ends_one tt e c (ended (last_block es) o) (subst (λ l. AreDeliveries (es ++ e ∷ []) l) (fs_are ∙ ap (λ l. l ++ ended (last_block es) o ∷ []) same) now)
 
-  carried : (p : Payload) (e : EventValue) → Carries names p e → IsRead e → AllByRecursion IsRead es → AreDeliveries es ds → IsLawful (es ++ e ∷ []) ⊎ HasFault es e → Meets names InDump es ds p
+  carried : (p : Payload) (e : EventValue) → Carries names p e → IsFromBytes e → AllByRecursion IsFromBytes es → AreDeliveries es ds → IsLawful (es ++ e ∷ []) ⊎ HasFault es e → Meets names InDump es ds p
   carried p e c read all are (inl l) = lawful p e c read all are l.deliveries (given es e l.deliveries (back es e l.deliveries l.are)) l.are
   carried p e c read all are (inr f) = is_denied (Gather f.fault) (tt, e, c, f.is_fault)
 
-  by_fault : (p body : List ℕ) (f : Option EventFault) → p ≡ 0x00 ∷ body → IsBytes body → AllByRecursion IsRead es → AreDeliveries es ds → event_fault names body ≡ f → Meets names InDump es ds p
+  by_fault : (p body : List ℕ) (f : Option EventFault) → p ≡ 0x00 ∷ body → IsBytes body → AllByRecursion IsFromBytes es → AreDeliveries es ds → event_fault names body ≡ f → Meets names InDump es ds p
   by_fault p body (Some fault) is bytes all are e = is_denied (Event fault) (tt, body, is, e)
   by_fault p body None is bytes all are e =
       let h = has_event names body (IsBytes-all body bytes) e in
-      let read : IsRead h.event = record { names = names; bytes = body; fits = bytes; is_event = h.is_event } in
+      let read : IsFromBytes h.event = record { names = names; bytes = body; fits = bytes; is_event = h.is_event } in
       carried p h.event (record { body = body; payload_is = is; is_event = h.is_event }) read all are
       (some es h.event read (record { deliveries = ds; are = are }))
 
   no_event : (p : Payload) → IsBytes p → begins_event p ≡ false → Meets names InDump es ds p
   no_event p bytes none = by_table InDump p (eof_refusal p) bytes tables.error_eof none refl (λ e. ends_log tt (tables.eof p e))
 
-  in_dump : (p : Payload) → IsBytes p → AllByRecursion IsRead es → AreDeliveries es ds → Meets names InDump es ds p
+  in_dump : (p : Payload) → IsBytes p → AllByRecursion IsFromBytes es → AreDeliveries es ds → Meets names InDump es ds p
   in_dump [] bytes all are = no_event [] bytes refl
   in_dump (byte ∷ body) bytes all are = elim (cases_eq byte 0x00) [
     | inl is ↦ by_fault (byte ∷ body) body (event_fault names body) (ap (λ b. b ∷ body) is) bytes.1 all are refl
     | inr other ↦ no_event (byte ∷ body) bytes (ne_eqb byte 0x00 other)
   ]
 
-  pub some_meaning : (due : Due) (p : Payload) → IsBytes p → AllByRecursion IsRead es → AreDeliveries es ds → Meets names due es ds p
+  pub some_meaning : (due : Due) (p : Payload) → IsBytes p → AllByRecursion IsFromBytes es → AreDeliveries es ds → Meets names due es ds p
   some_meaning Hello p bytes all are = by_table Hello p (greeting_refusal p) bytes tables.error_greeting tt refl (λ e. is_message (λ i. i) (tables.greeting p bytes e, refl))
   some_meaning Reply p bytes all are = by_table Reply p (reply_refusal p) bytes tables.error_reply tt refl (λ e. is_message (λ i. i) (tables.reply p bytes e, refl))
   some_meaning SecondReply p bytes all are = by_table SecondReply p (ok_refusal p) bytes tables.error_ok tt refl (λ e. is_message (λ i. i) (tables.ok p bytes e, refl))

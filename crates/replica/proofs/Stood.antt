@@ -4,7 +4,7 @@ use Rattle.std.proofs.lemmas.Bool.{false≢true}
 use Rattle.binlog.specs.Filter.{Names}
 use Rattle.wire.specs.Payload.{ReaderState, IsUnfinished}
 use Rattle.wire.proofs.OneReading.{nothing_yet}
-use Rattle.gather.specs.Standing.{Stands as Gathers}
+use Rattle.gather.specs.Standing.{HasGathered as Gathers}
 use Rattle.gather.specs.declared.gatherer.Gatherer.{Gatherer}
 use Rattle.store.specs.State.{Content}
 use Rattle.replica.specs.declared.end.Reason.TheVariants.{EndOfInput}

@@ -3,7 +3,7 @@ use Rattle.std.proofs.Common.{◌≡◌, ℕ, ◌+◌, ◌<◌, ◌≤◌, Bool,
 use Rattle.std.proofs.lemmas.List.{length-append}
 use Rattle.std.specs.List.{AllByRecursion}
 use Rattle.wire.specs.Packet.{IsPacking, packing_length}
-use Rattle.wire.specs.Payload.{IsWholePayload}
+use Rattle.wire.specs.Payload.{IsWholePayload, Payload}
 use Rattle.wire.proofs.OnePacking.{none_begins, length_packing}
 use Rattle.greet.specs.Message.{IsOkPacket}
 use Rattle.binlog.specs.Filter.{Names, admits}
@@ -12,10 +12,10 @@ use Rattle.binlog.specs.Event.{EventValue, format, begin, commit, neutral, stop,
 use Rattle.binlog.specs.Writing.{IsWritable, event_bytes}
 use Rattle.binlog.proofs.Written.{written, writes_format, writes_begin, no_other_map}
 use Rattle.std.specs.FinSet as set
-use Rattle.gather.specs.Fault.{IsRead}
+use Rattle.gather.specs.Fault.{IsFromBytes}
 use Rattle.replica.specs.Stream.{Due, Hello, SecondReply, QueryReply, InDump, begins_switch, next_due, next_id, due_from, due_after, Carries, Answers, Talks}
 use Rattle.scripted_source.specs.Script.{ScriptValue, PartValue, part_events, end_event, script_events}
-use Rattle.scripted_source.specs.Source.{Payload, Opens, payload_of, payloads_of, eof_payload, end_payloads, ArePackings, events_of, CanSend, CanSendPart}
+use Rattle.scripted_source.specs.Source.{OpensWith, payload_of, payloads_of, eof_payload, end_payloads, ArePackings, events_of, CanSend, CanSendPart}
 use Rattle.replica.proofs.Bytes.{all_front, all_back, all_both, packed_bytes}
 use Rattle.replica.proofs.OneEnd.{first_of, one_answer}
 use Rattle.replica.proofs.Scripted.{map_seen, seen}
@@ -114,7 +114,7 @@ pub dump_due : (greeting login query : Payload) (ps : List Payload) → IsOkPack
 dump_due greeting login query ps ok =
     subst (λ (b : Bool). due_from (next_due (if b then SecondReply else QueryReply) query) ps ≡ InDump) (sym (no_switch login ok)) (stays ps)
 
-pub talks_all : (limit : ℕ) (names : Names) (greeting login query : Payload) (opening : List ℕ) (ps : List Payload) (x : List ℕ) (es : List EventValue) (last : ℕ) → (o : Opens greeting login query opening)
+pub talks_all : (limit : ℕ) (names : Names) (greeting login query : Payload) (opening : List ℕ) (ps : List Payload) (x : List ℕ) (es : List EventValue) (last : ℕ) → (o : OpensWith greeting login query opening)
     → AllByRecursion (λ p. length p ≤ limit) (greeting ∷ login ∷ query ∷ []) → Talks limit names InDump 1 ps x es last → Talks limit names Hello 0 (greeting ∷ login ∷ query ∷ ps) (opening ++ x) es last
 talks_all limit names greeting login query opening ps x es last o short t =
     let beyond : Talks limit names QueryReply 1 (query ∷ ps) (o.third ++ x) es last =
@@ -190,7 +190,7 @@ ends_there limit names false id r last a p packing left beyond first is whole an
 -- ---- Their bytes.
 
 pub are_read : (names : Names) (id : ℕ) (events : List EventValue) (x : List ℕ) (last : ℕ) → AllByRecursion IsWritable events → AllByRecursion (λ b. b < 256) x → ArePackings id (payloads_of events) x last
-    → AllByRecursion IsRead (map (seen names) events)
+    → AllByRecursion IsFromBytes (map (seen names) events)
 are_read names id [] x last writable bytes a = tt
 are_read names id (e ∷ events) x last writable bytes a =
     let both : AllByRecursion (λ b. b < 256) (a.0 ++ a.1) = subst (λ l. AllByRecursion (λ b. b < 256) l) a.3 bytes in

@@ -2,7 +2,7 @@
 use Rattle.std.proofs.Common.{◌≡◌, ℕ, ◌+◌, ◌^◌, ◌<◌, ◌⊎◌, List, [], ◌∷◌, length, Option, Some, None, refl, sym, ap, subst, ◌∙◌, inl, inr, arith, true≢false}
 use Rattle.std.proofs.lemmas.Bool.{cases_lt, cases_Bool, cases_eq}
 use Rattle.gtid.specs.Identifier.{Ids}
-use Rattle.gtid.specs.Encoding.{SidBlock, grouped, blocks_bytes, is_above, AreIntervals, AreBlocks, IsEncoding}
+use Rattle.gtid.specs.Encoding.{SidBlock, grouped, blocks_bytes, is_above, AreIntervals, AreSidBlocks, IsEncoding}
 use Rattle.gtid.proofs.OneLeastList.{one_least_list}
 use Rattle.gtid.proofs.SomeLeastList.{some_least_list}
 use Rattle.wire.specs.Packet.{largest_payload}
@@ -27,7 +27,7 @@ intervals after (i ∷ xs) = elim (below after i.0) [
   ]
 ]
 
-blocks : (before : Option (List ℕ)) (xs : List SidBlock) → Decided (AreBlocks before xs)
+blocks : (before : Option (List ℕ)) (xs : List SidBlock) → Decided (AreSidBlocks before xs)
 blocks before [] = inl tt
 blocks before (block ∷ xs) = elim (cases_eq (length block.source) 16) [
   | inr not ↦ inr (λ h. not h.0)
@@ -50,7 +50,7 @@ encoded : (ids : Ids) → ((set : List ℕ) × IsEncoding ids set) ⊎ ((set : L
 encoded ids =
     let l = some_least_list ids in
     elim (blocks None (grouped l.spans)) [
-      | inr not ↦ inr (λ set e. not (subst (λ s. AreBlocks None (grouped s)) (one_least_list ids e.spans l.spans e.least l.is_least) e.lawful))
+      | inr not ↦ inr (λ set e. not (subst (λ s. AreSidBlocks None (grouped s)) (one_least_list ids e.spans l.spans e.least l.is_least) e.lawful))
       | inl lawful ↦ elim (below (length (grouped l.spans)) (2 ^ 64)) [
         | inr not ↦ inr (λ set e. not (subst (λ s. length (grouped s) < 2 ^ 64) (one_least_list ids e.spans l.spans e.least l.is_least) e.counted))
         | inl counted ↦ inl (blocks_bytes (grouped l.spans), record { spans = l.spans; least = l.is_least; lawful = lawful; counted = counted; spelled = refl })

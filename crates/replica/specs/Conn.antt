@@ -19,7 +19,8 @@ use Rattle.replica.specs.declared.end.Refusal.TheVariants.{NoSuchRow, CountFull}
 use Rattle.replica.specs.declared.end.Reason.{Reason}
 use Rattle.replica.specs.declared.end.Reason.TheVariants.{EndOfInput, SourceEof, SourceError, Wire, Greet, Event, Gather, Refused, Database, Memory, ReadFailed, WriteFailed, Halted}
 use Rattle.replica.specs.declared.end.Ended.{Ended}
-use Rattle.replica.specs.Stream.{Payload, Due, QueryReply, IsInDump, Carries, Reading, due_after}
+use Rattle.replica.specs.Stream.{Due, QueryReply, IsInDump, Carries, Reading, due_after}
+use Rattle.wire.specs.Payload.{Payload}
 use Rattle.replica.specs.End.{StopsAt, EndsLog, StopsFor}
 
 -- ---- Transactions in order.

@@ -1,6 +1,6 @@
 -- Where the reading of a connection stops, and for which reason.
 use Rattle.std.specs.Prelude.{◌≡◌, ℕ, ◌+◌, ◌^◌, ◌<◌, ◌≤◌, ◌⊎◌, List, ◌∷◌, ◌++◌, length, Some}
-use Rattle.wire.specs.Payload.{IsWholePayload, IsUnfinished, IsOutOfSequence, IsTooLarge}
+use Rattle.wire.specs.Payload.{IsWholePayload, IsUnfinished, IsOutOfSequence, IsTooLarge, Payload}
 use Rattle.wire.specs.declared.fault.WireFault.{WireFault}
 use Rattle.wire.specs.declared.fault.WireFault.TheVariants as wire
 use Rattle.greet.specs.PacketHeader as packet_header
@@ -12,7 +12,7 @@ use Rattle.binlog.specs.Event.{EventValue, event_fault}
 use Rattle.gather.specs.Fault.{IsFault}
 use Rattle.replica.specs.declared.end.Reason.{Reason}
 use Rattle.replica.specs.declared.end.Reason.TheVariants.{EndOfInput, SourceEof, SourceError, Wire, Greet, Event, Gather, Refused, Database, Memory, ReadFailed, WriteFailed, Halted}
-use Rattle.replica.specs.Stream.{Payload, Due, IsInDump, Carries, Reading, due_after}
+use Rattle.replica.specs.Stream.{Due, IsInDump, Carries, Reading, due_after}
 use Rattle.replica.specs.Message.{refusal_of, IsNoEvent, IsOfMessage}
 
 -- The bytes begin with the packing of a payload within the limit, from this sequence id.

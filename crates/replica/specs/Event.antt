@@ -12,7 +12,8 @@ use Rattle.store.specs.declared.store.Store.{Store}
 use Rattle.store.specs.Store.{HoldsAs, AreOf, database, names_of}
 use Rattle.replica.specs.declared.end.Reason.{Reason}
 use Rattle.replica.specs.declared.end.Reason.TheVariants.{Refused, Database, Memory, Halted}
-use Rattle.replica.specs.Stream.{Payload, Carries}
+use Rattle.replica.specs.Stream.{Carries}
+use Rattle.wire.specs.Payload.{Payload}
 use Rattle.replica.specs.Conn.{AppliesAll, IsRefusedBy, FailsFor}
 use Rattle.replica.specs.PayloadStep.{GathersMore, EndsDump}
 

@@ -25,7 +25,7 @@ use Rattle.store.specs.State.{Content}
 use Rattle.store.specs.Open.{nothing}
 use Rattle.store.specs.declared.store.Store.{Store}
 use Rattle.store.specs.Store.{Opens}
-use Rattle.store.specs.Entering.{IsLeft, IsReady, IsOf, IsWanted, IsRefused, IsTurned, names_for}
+use Rattle.store.specs.Entering.{IsLeft, IsReady, IsOf, IsWanted, IsRefusedOpening, IsTurned, names_for}
 use Rattle.replica.specs.declared.file.Unopened.{Unopened}
 
 -- The database file is empty or not there, and is to be made for these tables; or the file and its log hold a database
@@ -43,7 +43,7 @@ LeavesContent only names content s = HasCleanDisk s → (trees : Trees) → s.ma
 abbrev pub IsUnopened : {D : Type 0} {g : Ghosts D} → Option Names → Names → Content → Unopened D g
     → Type 0
 IsUnopened wanted names content (Unopened.Database cause conn) =
-    (HasCleanDisk (file_state conn) → IsRefused wanted names cause)
+    (HasCleanDisk (file_state conn) → IsRefusedOpening wanted names cause)
     × LeavesContent (names_for wanted) names content (file_state conn)
 IsUnopened wanted names content _ = Unit {0}
 

@@ -4,7 +4,8 @@ use Rattle.greet.specs.PacketHeader as packet_header
 use Rattle.greet.specs.Refusal.{Refusal, greeting_refusal, reply_refusal, ok_refusal, eof_refusal}
 use Rattle.greet.specs.declared.fault.GreetFault.{GreetFault}
 use Rattle.greet.specs.declared.fault.GreetFault.TheVariants as greet
-use Rattle.replica.specs.Stream.{Payload, Due, Hello, Reply, SecondReply, QueryReply, InDump}
+use Rattle.replica.specs.Stream.{Due, Hello, Reply, SecondReply, QueryReply, InDump}
+use Rattle.wire.specs.Payload.{Payload}
 
 -- what is wrong with a payload where this message is expected; in the dump, with one that does not have an event
 abbrev pub refusal_of : Due → Payload → Option Refusal

@@ -14,7 +14,7 @@ use Rattle.binlog.specs.Event.{EventValue}
 use Rattle.replica.specs.declared.end.Reason.{Reason}
 use Rattle.replica.specs.declared.end.Reason.TheVariants.{EndOfInput, SourceEof, SourceError, Wire, Greet, Event, Gather, Refused, Database, Memory, ReadFailed, WriteFailed, Halted}
 use Rattle.gather.specs.Transaction.{DeliveryValue}
-use Rattle.gather.specs.Standing.{Stands as Gathers}
+use Rattle.gather.specs.Standing.{HasGathered as Gathers}
 use Rattle.gather.specs.declared.gatherer.Gatherer.{Gatherer}
 use Rattle.gather.specs.declared.fault.GatherFault.{GatherFault}
 use Rattle.gather.specs.declared.fault.GatherFault.TheVariants as gather
@@ -24,7 +24,8 @@ use Rattle.store.specs.declared.fault.StoreFault.{StoreFault}
 use Rattle.store.specs.declared.fault.StoreFault.TheVariants as fault
 use Rattle.replica.specs.declared.end.Refusal.TheVariants.{NoSuchRow, CountFull}
 use Rattle.replica.specs.Settings.{Settings}
-use Rattle.replica.specs.Stream.{Payload, Due, QueryReply, InDump, Answers, Carries}
+use Rattle.replica.specs.Stream.{Due, QueryReply, InDump, Answers, Carries}
+use Rattle.wire.specs.Payload.{Payload}
 use Rattle.replica.specs.End.{Denies}
 use Rattle.replica.specs.Conn.{IsDumpTooLong}
 use Rattle.replica.specs.Sent.{Responds, IsPacked, flags_of}

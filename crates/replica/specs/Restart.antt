@@ -15,7 +15,7 @@ use Rattle.sqlite.specs.Files.{HoldsDatabase, image_of}
 use Rattle.binlog.specs.Filter.{Names}
 use Rattle.store.specs.State.{Content}
 use Rattle.scripted_source.specs.Script.{ScriptValue}
-use Rattle.scripted_source.specs.Source.{Payload}
+use Rattle.wire.specs.Payload.{Payload}
 use Rattle.replica.specs.declared.counted.Counted.{Counted}
 use Rattle.replica.specs.declared.end.Ended.{Ended}
 use Rattle.replica.specs.declared.followed_file.FollowedFile.{FollowedFile}

@@ -14,7 +14,8 @@ use Rattle.replica.specs.declared.end.Ended.{Ended}
 use Rattle.replica.specs.Conn.{AppliesAll, Conn}
 use Rattle.replica.specs.Crash.{IsLeftOfOne}
 use Rattle.scripted_source.specs.Script.{PartValue, ScriptValue}
-use Rattle.scripted_source.specs.Source.{Payload, Opens, Asks, IsAnswer, is_once, sent_payloads, due}
+use Rattle.scripted_source.specs.Source.{OpensWith, Asks, IsAnswer, is_once, sent_payloads, due}
+use Rattle.wire.specs.Payload.{Payload}
 
 -- ---- What a history means to a replica with this filter.
 
@@ -47,7 +48,7 @@ pub record Resumes (limit : ℕ) (names : Names) (history : List ScriptValue) (j
   pub greeting : Payload
   pub login : Payload
   pub query : Payload
-  pub opens : Opens greeting login query opening
+  pub opens : OpensWith greeting login query opening
   pub answers : IsAnswer history request answer
   pub admits : AllByRecursion (λ p. length p ≤ limit) (greeting ∷ login ∷ query ∷ sent_payloads (is_once dump.flags) (due held.executed history))
 

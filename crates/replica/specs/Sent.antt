@@ -9,7 +9,8 @@ use Rattle.gtid.specs.Identifier.{Ids}
 use Rattle.gtid.specs.Encoding.{IsEncoding}
 use Rattle.binlog.specs.Filter.{Names}
 use Rattle.replica.specs.Settings.{Settings}
-use Rattle.replica.specs.Stream.{Payload, Due, Hello, Reply, SecondReply, QueryReply, InDump, next_due, Reading, due_after}
+use Rattle.replica.specs.Stream.{Due, Hello, Reply, SecondReply, QueryReply, InDump, next_due, Reading, due_after}
+use Rattle.wire.specs.Payload.{Payload}
 use Rattle.replica.specs.End.{EndsLog}
 
 -- the response to a scramble: empty for the empty password

@@ -1,8 +1,8 @@
 -- The position of a session in a connection.
 use Rattle.std.specs.Prelude.{◌≡◌, ◌≢◌, ℕ, ◌+◌, ◌-◌, ◌^◌, Bool, true, false, List, [], ◌++◌, length, Option, Some, None, MatchOption, unwrap_or, take}
-use Rattle.wire.specs.Payload.{ReaderState, IsUnfinished, IsWholePayload}
+use Rattle.wire.specs.Payload.{ReaderState, IsUnfinished, IsWholePayload, Payload}
 use Rattle.binlog.specs.Filter.{Names}
-use Rattle.gather.specs.Standing.{Stands as Gathers}
+use Rattle.gather.specs.Standing.{HasGathered as Gathers}
 use Rattle.gather.specs.declared.gatherer.Gatherer.{Gatherer}
 use Rattle.store.specs.State.{Content}
 use Rattle.replica.specs.declared.end.Reason.{Reason}
@@ -14,7 +14,7 @@ use Rattle.replica.specs.declared.phase.Phase.{Phase}
 use Rattle.replica.specs.declared.phase.Phase.TheVariants as phase
 use Rattle.replica.specs.declared.session.Session.{Session}
 use Rattle.replica.specs.Settings.{Settings}
-use Rattle.replica.specs.Stream.{Payload, Due, Hello, Reply, SecondReply, QueryReply, InDump, Reading, due_after}
+use Rattle.replica.specs.Stream.{Due, Hello, Reply, SecondReply, QueryReply, InDump, Reading, due_after}
 use Rattle.replica.specs.Conn.{HasApplied, Conn, BreaksStore}
 use Rattle.replica.specs.Sent.{Sent, SentFor}
 

@@ -1,16 +1,13 @@
 -- A conversation with a source: its payloads in order, and the bytes that pack them. MySQL Source Documentation,
 -- Client/Server Protocol, "Connection Phase" and "Command Phase"; Replication Protocol: COM_BINLOG_DUMP_GTID.
 use Rattle.std.specs.Prelude.{◌≡◌, ℕ, ◌^◌, ◌<◌, ◌==◌, ◌⊎◌, Bool, false, if◌then◌else◌, List, [], ◌∷◌, ◌++◌, length, ⊤}
-use Rattle.wire.specs.Payload.{IsWholePayload}
+use Rattle.wire.specs.Payload.{IsWholePayload, Payload}
 use Rattle.greet.specs.PacketHeader as packet_header
 use Rattle.greet.specs.Message.{IsOkPacket}
 use Rattle.greet.specs.Complete.{HasGreeting, HasSwitch}
 use Rattle.binlog.specs.Filter.{Names}
 use Rattle.binlog.specs.Event.{EventValue, IsEvent}
 use Rattle.gather.specs.Transaction.{DeliveryValue, AreDeliveries}
-
-abbrev pub Payload : Type 0
-Payload = List ℕ
 
 -- The message that is expected: the greeting, the reply to the login, the reply to the login after a switch, the reply
 -- to the query, or a payload of the dump.

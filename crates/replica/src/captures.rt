@@ -49,7 +49,7 @@ fn read_capture<R: Read + Drop, S: Alter, W: Observer>(
         → HasReadOne S.Store R.Read.remaining config.now.limit store.old store.new was old capture end) }
     ensures failed { IfErr result (λ _. HasCleanDisk (database S.Store store.new) → (was : Bool) (old : Content) → HoldsAs S.Store was old store.old
         → HasBrokenOff S.Store R.Read.remaining config.now.limit store.old store.new was old capture) }
-    ensures neither { IfOk result (λ end. MayEnd end.reason (W.has_stopped observer.new)) }
+    ensures may_end { IfOk result (λ end. MayEnd end.reason (W.has_stopped observer.new)) }
     ensures stays { W.has_stopped observer.old ≡ true → W.has_stopped observer.new ≡ true }
     ensures heeds { (is : Bool) (now : Content) → HoldsAs S.Store is now store.old → W.has_stopped observer.old ≡ true → store.new ≡ store.old }
     ensures following { names_of S.Store store.new ≡ names_of S.Store store.old }
@@ -95,7 +95,7 @@ pub(crate) fn read_captures<R: Read + Drop, S: Alter, W: Observer>(
     // Once it has stopped, no further capture is read.
     ensures heeds { result ≡ Ok tt → ends.new.items ≢ [] → W.has_stopped observer.new ≡ false }
     ensures no_more { W.has_stopped observer.old ≡ true → length ends.new.items ≤ 1 }
-    ensures neither { All (λ end. MayEnd end.reason (W.has_stopped observer.new)) ends.new.items }
+    ensures may_end { All (λ end. MayEnd end.reason (W.has_stopped observer.new)) ends.new.items }
     ensures following { names_of S.Store store.new ≡ names_of S.Store store.old }
     ensures broken { IsBroken S.Store store.old → store.new ≡ store.old }
     ensures clean { HasCleanDisk (database S.Store store.new) → HasCleanDisk (database S.Store store.old) }

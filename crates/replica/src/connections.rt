@@ -26,7 +26,7 @@ fn read_pieces<S: Alter>(config: Config, store: &mut Store<S>, pieces: &[Vec<u8>
     ensures read { HasCleanDisk (database S.Store store.new) → (was : Bool) (old : Content) → HoldsAs S.Store was old store.old → HasRead S.Store config.limit store.old store.new was old (stream_of pieces.now) result }
     ensures following { names_of S.Store store.new ≡ names_of S.Store store.old }
     ensures broken { IsBroken S.Store store.old → store.new ≡ store.old }
-    ensures neither { IsOwn result.reason }
+    ensures may_end { IsOwn result.reason }
     ensures clean { HasCleanDisk (database S.Store store.new) → HasCleanDisk (database S.Store store.old) }
 {
     let mut session = Session::new(config);
@@ -41,7 +41,7 @@ fn read_connection<S: Alter>(config: &Config, store: &mut Store<S>, pieces: &[Ve
     ensures read { HasCleanDisk (database S.Store store.new) → (was : Bool) (old : Content) → HoldsAs S.Store was old store.old → HasRead S.Store config.now.limit store.old store.new was old (stream_of pieces.now) result }
     ensures following { names_of S.Store store.new ≡ names_of S.Store store.old }
     ensures broken { IsBroken S.Store store.old → store.new ≡ store.old }
-    ensures neither { IsOwn result.reason }
+    ensures may_end { IsOwn result.reason }
     ensures clean { HasCleanDisk (database S.Store store.new) → HasCleanDisk (database S.Store store.old) }
 {
     match config.copy() {
@@ -69,7 +69,7 @@ pub fn run<S: Alter>(
     ensures following { names_of S.Store store.new ≡ names_of S.Store store.old }
     // A store that has failed stays as it is.
     ensures broken { IsBroken S.Store store.old → store.new ≡ store.old }
-    ensures neither { IfOk result (λ ends. All (λ end. IsOwn end.reason) ends.items) }
+    ensures may_end { IfOk result (λ ends. All (λ end. IsOwn end.reason) ends.items) }
     ensures untouched { IsErr result → store.new ≡ store.old }
     ensures clean { HasCleanDisk (database S.Store store.new) → HasCleanDisk (database S.Store store.old) }
 {

@@ -5,11 +5,11 @@ ghost use Rattle.sqlite.specs.State.{HasCleanDisk};
 ghost use Rattle.binlog.specs.Filter.{Names};
 ghost use Rattle.binlog.specs.Event.{EventValue};
 ghost use Rattle.gather.specs.Transaction.{DeliveryValue};
-ghost use Rattle.gather.specs.Standing.{Stands as Gathers};
+ghost use Rattle.gather.specs.Standing.{HasGathered as Gathers};
 ghost use Rattle.gather.specs.View.{delivery_value, delivered};
 ghost use Rattle.store.specs.State.{Content};
 ghost use Rattle.store.specs.Store.{HoldsAs, database, names_of, IsBroken};
-ghost use Rattle.replica.specs.Stream.{Payload};
+ghost use Rattle.wire.specs.Payload.{Payload};
 ghost use Rattle.gather.specs.declared.gatherer.Gatherer.{Gatherer};
 ghost use Rattle.replica.specs.PayloadStep.{EndsDump, GathersMore, outcome_of, reason_of_events};
 ghost use Rattle.replica.specs.Message.{begins_event};
@@ -31,7 +31,7 @@ use store::{Applied, Store, StoreFault};
 fn no_event(alloc: Global, payload: &[u8]) -> Reason
     requires { begins_event payload.now ≡ false }
     ensures ends { (names : Names) (es : List EventValue) → EndsDump names es payload.now result }
-    ensures neither { IsOwn result }
+    ensures may_end { IsOwn result }
 {
     match read_eof(alloc, payload) {
         Ok(()) => Reason::SourceEof,
@@ -42,7 +42,7 @@ fn no_event(alloc: Global, payload: &[u8]) -> Reason
 /// Maps a gather fault to a reason.
 fn reason_for(fault: GatherFault) -> Reason
     ensures maps { result ≡ reason_of_events fault }
-    ensures neither { IsOwn result }
+    ensures may_end { IsOwn result }
 {
     match fault {
         GatherFault::Memory => Reason::Memory,
@@ -60,7 +60,7 @@ fn gather<W: Observer>(
 ) -> Result<Option<Delivery>, Reason>
     ensures ok { (es : List EventValue) (ds : List DeliveryValue) → Gathers es ds gatherer.old → IfOk result (λ delivery. GathersMore follow.now es ds payload.now (delivered delivery) gatherer.new) }
     ensures err { (es : List EventValue) (ds : List DeliveryValue) → Gathers es ds gatherer.old → IfErr result (EndsDump follow.now es payload.now) }
-    ensures neither { IfErr result IsOwn }
+    ensures may_end { IfErr result IsOwn }
     ensures stays { W.has_stopped observer.old ≡ true → W.has_stopped observer.new ≡ true }
 {
     let [0, body @ ..] = payload else {
@@ -80,7 +80,7 @@ fn gather<W: Observer>(
 /// Maps the store's answer: whether the transaction was applied, or the reason why the connection ends.
 fn outcome(answer: Result<Applied, StoreFault>) -> Result<bool, Reason>
     ensures maps { result ≡ outcome_of answer }
-    ensures neither { IfErr result IsOwn }
+    ensures may_end { IfErr result IsOwn }
 {
     match answer {
         Ok(Applied::Done) => Ok(true),
@@ -112,7 +112,7 @@ fn apply<S: Alter, W: Observer>(
     observer: &mut W,
 ) -> Result<bool, Reason>
     ensures clean { HasCleanDisk (database S.Store store.new) → HasCleanDisk (database S.Store store.old) }
-    ensures neither { IfErr result (λ reason. MayEnd reason (W.has_stopped observer.new)) }
+    ensures may_end { IfErr result (λ reason. MayEnd reason (W.has_stopped observer.new)) }
     ensures stays { W.has_stopped observer.old ≡ true → W.has_stopped observer.new ≡ true }
     // Once the observer has stopped, the store stays as it is.
     ensures heeds { (is : Bool) (now : Content) → HoldsAs S.Store is now store.old → W.has_stopped observer.old ≡ true → store.new ≡ store.old }
@@ -139,7 +139,7 @@ pub(crate) fn take_event<S: Alter, W: Observer>(
     observer: &mut W,
 ) -> Result<bool, Reason>
     ensures clean { HasCleanDisk (database S.Store store.new) → HasCleanDisk (database S.Store store.old) }
-    ensures neither { IfErr result (λ reason. MayEnd reason (W.has_stopped observer.new)) }
+    ensures may_end { IfErr result (λ reason. MayEnd reason (W.has_stopped observer.new)) }
     ensures stays { W.has_stopped observer.old ≡ true → W.has_stopped observer.new ≡ true }
     // Once the observer has stopped, the store stays as it is.
     ensures heeds { (is : Bool) (now : Content) → HoldsAs S.Store is now store.old → W.has_stopped observer.old ≡ true → store.new ≡ store.old }

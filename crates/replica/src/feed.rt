@@ -76,7 +76,7 @@ impl Session {
         ensures broken { IsBroken S.Store store.old → store.new ≡ store.old }
         ensures clean { HasCleanDisk (database S.Store store.new) → HasCleanDisk (database S.Store store.old) }
         ensures config { self.new.config ≡ self.old.config }
-        ensures neither { IsOwn (end_of self.old).reason → IsOwn (end_of self.new).reason }
+        ensures may_end { IsOwn (end_of self.old).reason → IsOwn (end_of self.new).reason }
         ensures stopped { IsErr result ↔ IsSome self.old.ended }
         ensures after { IsSome self.old.ended → (self.new ≡ self.old) × (store.new ≡ store.old) }
         // Until the connection ends, all bytes are taken in, and there is room for that many fewer.
@@ -99,7 +99,7 @@ impl Session {
         ensures clean { HasCleanDisk (database S.Store store.new) → HasCleanDisk (database S.Store store.old) }
         ensures config { self.new.config ≡ self.old.config }
         // The connection is halted only if the observer has stopped.
-        ensures neither { MayEnd (end_of self.old).reason (W.has_stopped observer.old) → MayEnd (end_of self.new).reason (W.has_stopped observer.new) }
+        ensures may_end { MayEnd (end_of self.old).reason (W.has_stopped observer.old) → MayEnd (end_of self.new).reason (W.has_stopped observer.new) }
         ensures stays { W.has_stopped observer.old ≡ true → W.has_stopped observer.new ≡ true }
         // Once it has stopped, the store stays as it is.
         ensures heeds { (is : Bool) (now : Content) → HoldsAs S.Store is now store.old → W.has_stopped observer.old ≡ true → store.new ≡ store.old }
@@ -132,7 +132,7 @@ impl Session {
         ensures broken { IsBroken S.Store store.old → store.new ≡ store.old }
         ensures clean { HasCleanDisk (database S.Store store.new) → HasCleanDisk (database S.Store store.old) }
         ensures config { self.new.config ≡ self.old.config }
-        ensures neither { MayEnd (end_of self.old).reason (W.has_stopped observer.old) → MayEnd (end_of self.new).reason (W.has_stopped observer.new) }
+        ensures may_end { MayEnd (end_of self.old).reason (W.has_stopped observer.old) → MayEnd (end_of self.new).reason (W.has_stopped observer.new) }
         ensures stays { W.has_stopped observer.old ≡ true → W.has_stopped observer.new ≡ true }
         ensures heeds { (is : Bool) (now : Content) → HoldsAs S.Store is now store.old → W.has_stopped observer.old ≡ true → store.new ≡ store.old }
         ensures room { self.new.ended ≡ None → (self.old.ended ≡ None) × (room_of self.new + length (taken_of result bytes.now) ≤ room_of self.old) }

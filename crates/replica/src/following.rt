@@ -103,7 +103,7 @@ fn read_piece<T: Duplex, S: Alter, W: Observer>(
     ensures broken { IsBroken S.Store store.old → store.new ≡ store.old }
     ensures clean { HasCleanDisk (database S.Store store.new) → HasCleanDisk (database S.Store store.old) }
     ensures config { session.new.config ≡ session.old.config }
-    ensures neither { MayEnd (end_of session.old).reason (W.has_stopped observer.old) → MayEnd (end_of session.new).reason (W.has_stopped observer.new) }
+    ensures may_end { MayEnd (end_of session.old).reason (W.has_stopped observer.old) → MayEnd (end_of session.new).reason (W.has_stopped observer.new) }
     ensures stays { W.has_stopped observer.old ≡ true → W.has_stopped observer.new ≡ true }
     ensures heeds { (is : Bool) (now : Content) → HoldsAs S.Store is now store.old → W.has_stopped observer.old ≡ true → store.new ≡ store.old }
     ensures turns { result ≡ Turn.Read → turns_left session.new < turns_left session.old }
@@ -115,6 +115,7 @@ fn read_piece<T: Duplex, S: Alter, W: Observer>(
         Ok(0) => Turn::AtEnd,
         Ok(n) => {
             observer.received(n);
+            // `Stopped` only if the session had ended; the caller asks for that.
             let _ = session.feed_observed(store, &buffer[..n], observer);
             Turn::Read
         }

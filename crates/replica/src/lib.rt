@@ -7,9 +7,12 @@
 //! caller must send. [`Session::ended`] says whether the connection has ended, and [`Session::finish`] returns how, as
 //! [`Ended`] with its [`Reason`]. A session that has ended reads no more.
 //!
-//! [`run`] reads a list of connections that are in memory, one after the other, and [`read_stream`] one connection from
-//! a reader, such as a file. [`follow`] follows a source over a stream of two directions, such as a socket, wrapped in
-//! [`Counted`]: it sends all pending output before each read, until the connection ends.
+//! Over a database file, [`replay`] opens it, reads a list of [`Capture`]s, each a connection from a reader, and closes
+//! it, and [`follow_file`] does so with a source that is followed over a stream of two directions, such as a socket
+//! ([`Duplex`]); [`open_file`] and [`close_file`] are their first and their last step. An [`Observer`] is called
+//! with what is read and applied, and may stop it. Over a store, [`run`] reads a list of connections that are in memory, one after the
+//! other, [`read_stream`] one connection from a reader, and [`follow`] follows a source: it sends all pending output before
+//! each read, until the connection ends.
 //!
 //! All of them borrow the store, so that it can be used for the next connection. After an end with `Reason::Database`
 //! the store has failed and must be opened again; after `Reason::Memory` it may have. A connection that is cut short

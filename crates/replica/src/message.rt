@@ -20,7 +20,7 @@ use gtid::GtidSet;
 /// Maps a greet fault to a reason.
 pub(crate) fn reported(fault: GreetFault) -> Reason
     ensures reported { (refusal : Option Refusal) → Refuses refusal fault → IsReportOf refusal result }
-    ensures neither { IsOwn result }
+    ensures may_end { IsOwn result }
 {
     match fault {
         GreetFault::ServerError {
@@ -43,7 +43,7 @@ fn take_greeting(config: &Config, payload: &[u8], out: &mut Vec<u8>) -> Result<P
     ensures due { IfOk result (λ phase. due_of phase ≡ Reply) }
     ensures err { (names : Names) (executed : Ids) → IfErr result (EndsAt names executed Hello payload.now) }
     ensures kept { OnErr result (out.new.items ≡ out.old.items) }
-    ensures neither { IfErr result IsOwn }
+    ensures may_end { IfErr result IsOwn }
 {
     match Greeting::read(config.alloc(), payload) {
         Ok(greeting) => {
@@ -60,7 +60,7 @@ fn take_reply(config: &Config, payload: &[u8], out: &mut Vec<u8>) -> Result<Phas
     ensures due { IfOk result (λ phase. due_of phase ≡ next_due Reply payload.now) }
     ensures err { (names : Names) (executed : Ids) → IfErr result (EndsAt names executed Reply payload.now) }
     ensures kept { OnErr result (out.new.items ≡ out.old.items) }
-    ensures neither { IfErr result IsOwn }
+    ensures may_end { IfErr result IsOwn }
 {
     match AuthReply::read(config.alloc(), payload) {
         Ok(AuthReply::Ok) => {
@@ -81,7 +81,7 @@ fn take_second_reply(config: &Config, payload: &[u8], out: &mut Vec<u8>) -> Resu
     ensures due { IfOk result (λ phase. due_of phase ≡ QueryReply) }
     ensures err { (names : Names) (executed : Ids) → IfErr result (EndsAt names executed SecondReply payload.now) }
     ensures kept { OnErr result (out.new.items ≡ out.old.items) }
-    ensures neither { IfErr result IsOwn }
+    ensures may_end { IfErr result IsOwn }
 {
     match read_ok(config.alloc(), payload) {
         Ok(()) => {
@@ -103,7 +103,7 @@ fn take_query_reply(
     ensures due { IfOk result (λ phase. due_of phase ≡ InDump) }
     ensures err { (names : Names) → IfErr result (EndsAt names executed.now QueryReply payload.now) }
     ensures kept { OnErr result (out.new.items ≡ out.old.items) }
-    ensures neither { IfErr result IsOwn }
+    ensures may_end { IfErr result IsOwn }
 {
     match read_ok(config.alloc(), payload) {
         Ok(()) => {
@@ -126,7 +126,7 @@ pub(crate) fn answer(
     ensures due { IfOk result (λ next. due_of next ≡ next_due (due_at login) payload.now) }
     ensures err { (names : Names) → IfErr result (EndsAt names executed.now (due_at login) payload.now) }
     ensures kept { OnErr result (out.new.items ≡ out.old.items) }
-    ensures neither { IfErr result IsOwn }
+    ensures may_end { IfErr result IsOwn }
 {
     match login {
         Login::Greeting => take_greeting(config, payload, out),

@@ -80,7 +80,7 @@ impl Session {
         requires between { (self.old.assembler.held ≡ []) × (self.old.assembler.ended ≡ false) }
         requires after { self.old.at < end }
         ensures config { self.new.config ≡ self.old.config }
-        ensures neither { IsOwn (end_of self.new).reason }
+        ensures may_end { IsOwn (end_of self.new).reason }
         ensures further { self.new.ended ≡ None → (self.new.at ≡ end) × (self.new.assembler.held ≡ []) }
         ensures takes { (names : Names) (was is : Bool) (old now : Content) (b o : List ℕ) → executed.now ≡ now.executed → end ≡ self.old.at + packing_length (length payload.now)
             → Meets self.old names was is old now b o payload.now → Stands self.new names was is old now b o }
@@ -111,7 +111,7 @@ impl Session {
         ensures following { names_of S.Store store.new ≡ names_of S.Store store.old }
         ensures broken { IsBroken S.Store store.old → store.new ≡ store.old }
         ensures config { self.new.config ≡ self.old.config }
-        ensures neither { MayEnd (end_of self.new).reason (W.has_stopped observer.new) }
+        ensures may_end { MayEnd (end_of self.new).reason (W.has_stopped observer.new) }
         ensures stays { W.has_stopped observer.old ≡ true → W.has_stopped observer.new ≡ true }
         ensures heeds { (is : Bool) (now : Content) → HoldsAs S.Store is now store.old → W.has_stopped observer.old ≡ true → store.new ≡ store.old }
         ensures further { self.new.ended ≡ None → (self.new.at ≡ end) × (self.new.assembler.held ≡ []) }
@@ -138,7 +138,7 @@ impl Session {
         ensures following { names_of S.Store store.new ≡ names_of S.Store store.old }
         ensures broken { IsBroken S.Store store.old → store.new ≡ store.old }
         ensures config { self.new.config ≡ self.old.config }
-        ensures neither { MayEnd (end_of self.new).reason (W.has_stopped observer.new) }
+        ensures may_end { MayEnd (end_of self.new).reason (W.has_stopped observer.new) }
         ensures stays { W.has_stopped observer.old ≡ true → W.has_stopped observer.new ≡ true }
         ensures heeds { (is : Bool) (now : Content) → HoldsAs S.Store is now store.old → W.has_stopped observer.old ≡ true → store.new ≡ store.old }
         ensures room { self.new.ended ≡ None → room_of self.new + packing_length (length payload.now) ≤ room_of self.old }

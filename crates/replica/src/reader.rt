@@ -25,6 +25,7 @@ pub fn read_some<R: Read>(reader: &mut R, piece: &mut [u8]) -> io::Result<usize>
     ensures bound { ReadsAtMost result piece.new }
     ensures bytes { ReadConsumes (R.remaining reader.old) (R.remaining reader.new) result piece.new }
 {
+    // A `for`, since the prover asks that each loop ends.
     for _ in 0..u64::MAX {
         match reader.read(piece) {
             Ok(count) => return Ok(count),
@@ -59,7 +60,7 @@ pub fn read_stream<R: Read, S: Alter, W: Observer>(
     ensures failed { IfErr result (λ _. HasCleanDisk (database S.Store store.new) → (was : Bool) (old : Content) → HoldsAs S.Store was old store.old
         → (end : End) × (end.reason ≡ EndOfInput) × HasReadOf S.Store config.limit (length piece.old) store.old store.new was old first.now (R.remaining reader.old) (R.remaining reader.new) end) }
     // The connection is halted only if the observer has stopped.
-    ensures neither { IfOk result (λ end. MayEnd end.reason (W.has_stopped observer.new)) }
+    ensures may_end { IfOk result (λ end. MayEnd end.reason (W.has_stopped observer.new)) }
     ensures stays { W.has_stopped observer.old ≡ true → W.has_stopped observer.new ≡ true }
     // Once it has stopped, the store stays as it is.
     ensures heeds { (is : Bool) (now : Content) → HoldsAs S.Store is now store.old → W.has_stopped observer.old ≡ true → store.new ≡ store.old }

@@ -68,7 +68,7 @@ pub fn replay<P: Start, R: Read + Drop, W: Observer>(
     // Once it has stopped, no further connection is read.
     ensures heeds { IfOk result (λ done. done.read ≡ Ok tt → done.ends.items ≢ [] → W.has_stopped observer.new ≡ false) }
     ensures no_more { IfOk result (λ done. W.has_stopped observer.old ≡ true → length done.ends.items ≤ 1) }
-    ensures neither { IfOk result (λ done. All (λ end. MayEnd end.reason (W.has_stopped observer.new)) done.ends.items) }
+    ensures may_end { IfOk result (λ done. All (λ end. MayEnd end.reason (W.has_stopped observer.new)) done.ends.items) }
     // A database that stands for a content is refused only if it was made for other tables, fails, or memory runs out, and is
     // left with that content. Any other is refused with its reason and left as it is, and so are files that cannot be opened.
     ensures turned { IfErr result (IsTurnedAway (wanted_of only.entry) (image_at P.Start)

@@ -1,4 +1,7 @@
 //! The state of a connection.
+//!
+//! The methods of a session are in `feed.rt` and `payload.rt`: the struct has a fact that definitions are stated over, and
+//! the prover takes no file that both has such a struct and names these definitions.
 
 ghost use Rattle.std.specs.Prelude.{◌≤◌};
 

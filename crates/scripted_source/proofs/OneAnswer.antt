@@ -9,7 +9,8 @@ use Rattle.gtid.proofs.Decoded.{one_front}
 use Rattle.scripted_source.specs.declared.fault.ForgeFault.{ForgeFault}
 use Rattle.scripted_source.specs.declared.fault.ForgeFault.TheVariants.{Request, Unfit, TooLarge, Memory}
 use Rattle.scripted_source.specs.Script.{PartValue, ScriptValue}
-use Rattle.scripted_source.specs.Source.{Payload, ArePackings, Asks, CanSendPart, CanSend, IsAnswer, IsPartFault, IsPartsFault, IsScriptsFault, IsUnsendable, is_in, due, is_once, sent_payloads}
+use Rattle.scripted_source.specs.Source.{ArePackings, Asks, CanSendPart, CanSend, IsAnswer, IsPartFault, IsPartsFault, IsScriptsFault, IsUnsendable, is_known, due, is_once, sent_payloads}
+use Rattle.wire.specs.Payload.{Payload}
 
 -- ---- One list of bytes.
 
@@ -36,7 +37,7 @@ no_parts at (part ∷ parts) f can (inr is) = no_parts at parts f can.1 is.1
 abbrev Faults : Bool → Ids → ℕ → ScriptValue → List ScriptValue → ForgeFault → Type 0
 Faults there executed at script scripts f = MatchBool there (IsScriptsFault executed (suc at) scripts f) (IsPartsFault at script.parts f ⊎ (CanSend script × IsScriptsFault executed (suc at) scripts f))
 
-no_script : (executed : Ids) (at : ℕ) (script : ScriptValue) (scripts : List ScriptValue) (f : ForgeFault) (there : Bool) → is_in executed script ≡ there → AllByRecursion CanSend (due executed (script ∷ scripts))
+no_script : (executed : Ids) (at : ℕ) (script : ScriptValue) (scripts : List ScriptValue) (f : ForgeFault) (there : Bool) → is_known executed script ≡ there → AllByRecursion CanSend (due executed (script ∷ scripts))
     → Faults there executed at script scripts f → (AllByRecursion CanSend (due executed scripts) → IsScriptsFault executed (suc at) scripts f → ⊥) → ⊥
 no_script executed at script scripts f true is can faults rest =
     let left : due executed (script ∷ scripts) ≡ due executed scripts = rw is refl in
@@ -50,7 +51,7 @@ no_script executed at script scripts f false is can (inr faults) rest =
 
 no_scripts : (executed : Ids) (at : ℕ) (scripts : List ScriptValue) (f : ForgeFault) → AllByRecursion CanSend (due executed scripts) → IsScriptsFault executed at scripts f → ⊥
 no_scripts executed at [] f can is = is
-no_scripts executed at (script ∷ scripts) f can is = no_script executed at script scripts f (is_in executed script) refl can is (λ c h. no_scripts executed (suc at) scripts f c h)
+no_scripts executed at (script ∷ scripts) f can is = no_script executed at script scripts f (is_known executed script) refl can is (λ c h. no_scripts executed (suc at) scripts f c h)
 
 -- ---- One fault.
 
@@ -83,7 +84,7 @@ one_by executed at script scripts f g false (inr a) (inr b) rest = rest a.1 b.1
 
 one_of_scripts : (executed : Ids) (at : ℕ) (scripts : List ScriptValue) (f g : ForgeFault) → IsScriptsFault executed at scripts f → IsScriptsFault executed at scripts g → f ≡ g
 one_of_scripts executed at [] f g a b = absurd a
-one_of_scripts executed at (script ∷ scripts) f g a b = one_by executed at script scripts f g (is_in executed script) a b (λ x y. one_of_scripts executed (suc at) scripts f g x y)
+one_of_scripts executed at (script ∷ scripts) f g a b = one_by executed at script scripts f g (is_known executed script) a b (λ x y. one_of_scripts executed (suc at) scripts f g x y)
 
 -- ---- Of a request.
 

@@ -1,7 +1,7 @@
 -- What is sent before the dump opens a connection.
 use Rattle.std.proofs.Common.{◌≡◌, ℕ, ◌^◌, ◌<◌, List, [], ◌∷◌, length, codes, refl, inl, arith}
 use Rattle.greet.specs.Message.{GreetingValue, IsGreeting, FitsGreeting, greeting_bytes, IsText, IsOkPacket}
-use Rattle.scripted_source.specs.Source.{greeting_payload, ok_payload, IsOpening, Opens}
+use Rattle.scripted_source.specs.Source.{greeting_payload, ok_payload, IsOpening, OpensWith}
 
 sent_ok : IsOkPacket ok_payload
 sent_ok = record {
@@ -24,7 +24,7 @@ a_text : IsText (codes "8.0.36")
 a_text = (omega arith, (omega arith, (omega arith, (omega arith, (omega arith, (omega arith, tt))))))
 
 pub opens : ((g : GreetingValue) → FitsGreeting g → length g.scramble ≡ 20 → g.thread < 2 ^ 32 → g.capabilities < 2 ^ 32 → g.status < 2 ^ 16 → IsGreeting g (greeting_bytes g)) → (scramble bytes : List ℕ) → length scramble ≡ 20
-    → IsOpening scramble bytes → Opens (greeting_payload scramble) ok_payload ok_payload bytes
+    → IsOpening scramble bytes → OpensWith (greeting_payload scramble) ok_payload ok_payload bytes
 opens written scramble bytes size is = record {
   first = is.greeting;
   second = is.login;

@@ -26,7 +26,8 @@ use Rattle.scripted_source.specs.declared.script.Script.{Script}
 use Rattle.scripted_source.specs.declared.fault.ForgeFault.{ForgeFault}
 use Rattle.scripted_source.specs.declared.fault.ForgeFault.TheVariants.{Request, Unfit, TooLarge, Memory}
 use Rattle.scripted_source.specs.Script.{PartValue, ScriptValue, part_value, part_values, script_value, script_values, part_events, rows_of, end_event, script_events}
-use Rattle.scripted_source.specs.Source.{Payload, ArePackings, AppendsPackings, AppendsPayload, IsOpening, autocommit, greeting_payload, ok_payload, payload_of, payloads_of, FitsPart, CanSendPart, CanSend, IsPartFault, IsPartsFault, IsScriptsFault, IsAnswer, IsAnswerFault, Asks, AsksFor, is_in, due, events_of, end_payloads, sent_payloads, is_once}
+use Rattle.scripted_source.specs.Source.{ArePackings, AppendsPackings, AppendsPayload, IsOpening, autocommit, greeting_payload, ok_payload, payload_of, payloads_of, FitsPart, CanSendPart, CanSend, IsPartFault, IsPartsFault, IsScriptsFault, IsAnswer, IsAnswerFault, Asks, AsksFor, is_known, due, events_of, end_payloads, sent_payloads, is_once}
+use Rattle.wire.specs.Payload.{Payload}
 
 -- ---- Packings.
 
@@ -204,13 +205,13 @@ pub record Going (executed : Ids) (id now : ℕ) (old out : List ℕ) (all : Lis
 pub going_begins : (executed : Ids) (id : ℕ) (old : List ℕ) (all : List ScriptValue) → Going executed id id old old all 0 all
 going_begins executed id old all = record { sent = λ new last a. a; can = λ c. c; fault = λ f h. h }
 
-passed : (executed : Ids) (script : ScriptValue) (left : List ScriptValue) → is_in executed script ≡ true → due executed (script ∷ left) ≡ due executed left
+passed : (executed : Ids) (script : ScriptValue) (left : List ScriptValue) → is_known executed script ≡ true → due executed (script ∷ left) ≡ due executed left
 passed executed script left is = rw is refl
 
-kept : (executed : Ids) (script : ScriptValue) (left : List ScriptValue) → is_in executed script ≡ false → due executed (script ∷ left) ≡ script ∷ due executed left
+kept : (executed : Ids) (script : ScriptValue) (left : List ScriptValue) → is_known executed script ≡ false → due executed (script ∷ left) ≡ script ∷ due executed left
 kept executed script left is = rw is refl
 
-goes_past : (executed : Ids) (id now : ℕ) (old out : List ℕ) (all : List ScriptValue) (at : ℕ) (script : ScriptValue) (left : List ScriptValue) → is_in executed script ≡ true
+goes_past : (executed : Ids) (id now : ℕ) (old out : List ℕ) (all : List ScriptValue) (at : ℕ) (script : ScriptValue) (left : List ScriptValue) → is_known executed script ≡ true
     → Going executed id now old out all at (script ∷ left) → Going executed id now old out all (at + 1) left
 goes_past executed id now old out all at script left is s = record {
   sent = λ new last a. s.sent new last (subst (λ (l : List ScriptValue). AppendsPackings now (payloads_of (flat_map script_events l)) out new last) (sym (passed executed script left is)) a);
@@ -220,7 +221,7 @@ goes_past executed id now old out all at script left is s = record {
       s.fault f (rw is (subst (λ k. IsScriptsFault executed k left f) next h));
 }
 
-goes_on : (executed : Ids) (id now next : ℕ) (old out mid : List ℕ) (all : List ScriptValue) (at : ℕ) (script : ScriptValue) (left : List ScriptValue) → is_in executed script ≡ false
+goes_on : (executed : Ids) (id now next : ℕ) (old out mid : List ℕ) (all : List ScriptValue) (at : ℕ) (script : ScriptValue) (left : List ScriptValue) → is_known executed script ≡ false
     → AppendsPackings now (payloads_of (script_events script)) out mid next → CanSend script
     → Going executed id now old out all at (script ∷ left) → Going executed id next old mid all (at + 1) left
 goes_on executed id now next old out mid all at script left is a can s = record {
@@ -244,14 +245,14 @@ module _ (executed : Ids) (id now : ℕ) (old out : List ℕ) (all : List Script
   at_hand : Going executed id now old out all i (script_value script ∷ script_values (drop (i + 1) scripts))
   at_hand = subst (λ l. Going executed id now old out all i l) (scripts_from scripts i script within is) s
 
-  pub going_past : is_in executed (script_value script) ≡ true → Going executed id now old out all (i + 1) (script_values (drop (i + 1) scripts))
+  pub going_past : is_known executed (script_value script) ≡ true → Going executed id now old out all (i + 1) (script_values (drop (i + 1) scripts))
   going_past there = goes_past executed id now old out all i (script_value script) (script_values (drop (i + 1) scripts)) there at_hand
 
-  pub going_on : (mid : List ℕ) (next : ℕ) → is_in executed (script_value script) ≡ false → AppendsPackings now (payloads_of (script_events (script_value script))) out mid next → CanSend (script_value script)
+  pub going_on : (mid : List ℕ) (next : ℕ) → is_known executed (script_value script) ≡ false → AppendsPackings now (payloads_of (script_events (script_value script))) out mid next → CanSend (script_value script)
       → Going executed id next old mid all (i + 1) (script_values (drop (i + 1) scripts))
   going_on mid next new a can = goes_on executed id now next old out mid all i (script_value script) (script_values (drop (i + 1) scripts)) new a can at_hand
 
-  pub going_fault : (f : ForgeFault) → is_in executed (script_value script) ≡ false → IsPartsFault i (part_values script.parts.items) f ⊎ (f ≡ Memory) → IsScriptsFault executed 0 all f ⊎ (f ≡ Memory)
+  pub going_fault : (f : ForgeFault) → is_known executed (script_value script) ≡ false → IsPartsFault i (part_values script.parts.items) f ⊎ (f ≡ Memory) → IsScriptsFault executed 0 all f ⊎ (f ≡ Memory)
   going_fault f new (inl h) = inl (at_hand.fault f (rw new (inl h)))
   going_fault f new (inr h) = inr h
 
@@ -306,7 +307,7 @@ no_part_request at (part ∷ parts) (inr h) = no_part_request at parts h.1
 no_request : (executed : Ids) (at : ℕ) (scripts : List ScriptValue) → IsScriptsFault executed at scripts Request → ⊥
 no_request executed at [] h = h
 no_request executed at (script ∷ scripts) h =
-    elim (is_in executed script) as (λ b. MatchBool b (IsScriptsFault executed (suc at) scripts Request) (IsPartsFault at script.parts Request ⊎ (CanSend script × IsScriptsFault executed (suc at) scripts Request)) → ⊥) [
+    elim (is_known executed script) as (λ b. MatchBool b (IsScriptsFault executed (suc at) scripts Request) (IsPartsFault at script.parts Request ⊎ (CanSend script × IsScriptsFault executed (suc at) scripts Request)) → ⊥) [
       | true ↦ λ k. no_request executed (suc at) scripts k
       | false ↦ λ k. elim k [ inl p ↦ no_part_request at script.parts p | inr o ↦ no_request executed (suc at) scripts o.1 ]
     ] h

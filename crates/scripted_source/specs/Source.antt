@@ -4,7 +4,7 @@ use Rattle.std.specs.Prelude.{◌≡◌, ℕ, suc, ◌%◌, ◌≤◌, ◌⊎◌
 use Rattle.std.specs.List.{AllByRecursion}
 use Rattle.std.specs.FinSet as set
 use Rattle.wire.specs.Packet.{IsPacking, largest_payload}
-use Rattle.wire.specs.Payload.{IsWholePayload}
+use Rattle.wire.specs.Payload.{IsWholePayload, Payload}
 use Rattle.greet.specs.PacketHeader as packet_header
 use Rattle.greet.specs.Message.{greeting_bytes, replica_capabilities, utf8mb3, checksum_query, IsOkPacket, DumpValue, IsDump}
 use Rattle.greet.specs.Complete.{HasGreeting, HasResponse}
@@ -22,9 +22,6 @@ use Rattle.scripted_source.specs.declared.fault.ForgeFault.TheVariants.{Request,
 use Rattle.scripted_source.specs.Script.{PartValue, ScriptValue, part_events, script_events, end_event}
 
 -- ---- Payloads.
-
-abbrev pub Payload : Type 0
-Payload = List ℕ
 
 -- an event in a dump: the byte of an OK and the event
 abbrev pub payload_of : EventValue → Payload
@@ -86,7 +83,7 @@ pub record IsOpening (scramble : List ℕ) (bytes : List ℕ) : Type 0 where
 
 -- The bytes are a greeting with the needed capabilities, packed from 0, an OK to the login, packed from 2, and an OK to
 -- the query, packed from 1.
-pub record Opens (greeting login query : Payload) (bytes : List ℕ) : Type 0 where
+pub record OpensWith (greeting login query : Payload) (bytes : List ℕ) : Type 0 where
   pub first : List ℕ
   pub second : List ℕ
   pub third : List ℕ
@@ -127,12 +124,12 @@ pub record AsksFor (request : Payload) (once : Bool) (executed : Ids) : Type 0 w
 -- ---- The history.
 
 -- whether the transaction is in the set
-abbrev pub is_in : Ids → ScriptValue → Bool
-is_in executed script = set.contains executed (script.source, script.number)
+abbrev pub is_known : Ids → ScriptValue → Bool
+is_known executed script = set.contains executed (script.source, script.number)
 
 -- the scripts that are not in the set
 abbrev pub due : Ids → List ScriptValue → List ScriptValue
-due executed history = filter (λ script. not (is_in executed script)) history
+due executed history = filter (λ script. not (is_known executed script)) history
 
 -- the events of scripts, after a format description
 abbrev pub events_of : List ScriptValue → List EventValue
@@ -194,7 +191,7 @@ IsPartsFault at (part ∷ parts) fault = IsPartFault at part fault ⊎ (CanSendP
 abbrev pub IsScriptsFault : Ids → ℕ → List ScriptValue → ForgeFault → Type 0
 IsScriptsFault executed at [] fault = ⊥
 IsScriptsFault executed at (script ∷ scripts) fault =
-    MatchBool (is_in executed script)
+    MatchBool (is_known executed script)
     (IsScriptsFault executed (suc at) scripts fault)
     (IsPartsFault at script.parts fault ⊎ (CanSend script × IsScriptsFault executed (suc at) scripts fault))
 

@@ -4,12 +4,12 @@
 
 ghost use Rattle.std.specs.Prelude.{◌≡◌, ℕ, List};
 ghost use Rattle.scripted_source.specs.Script.{ScriptValue};
-ghost use Rattle.scripted_source.specs.Source.{greeting_payload, ok_payload, Opens, IsOpening, IsAnswer, IsUnsendable};
+ghost use Rattle.scripted_source.specs.Source.{greeting_payload, ok_payload, OpensWith, IsOpening, IsAnswer, IsUnsendable};
 ghost use Rattle.scripted_source.specs.declared.fault.ForgeFault.{ForgeFault};
 
 /// What [`crate::opening`] returns opens a connection.
 pub fn opens(_scramble: &[u8; 20])
-    ensures { (bytes : List ℕ) → IsOpening _scramble.now bytes → Opens (greeting_payload _scramble.now) ok_payload ok_payload bytes }
+    ensures { (bytes : List ℕ) → IsOpening _scramble.now bytes → OpensWith (greeting_payload _scramble.now) ok_payload ok_payload bytes }
 {
     greet::laws::greetings();
 }

@@ -28,7 +28,6 @@ use Rattle.sqlite_ast.specs.declared.Conflict.TheVariants.{Abort}
 use Rattle.sqlite_resolve.specs.declared.write.NewRows.TheVariants as new
 use Rattle.sqlite_resolve.specs.Write.{inserted}
 use Rattle.sqlite.specs.State.{State, ExecutesIn, Executes}
-use Rattle.sqlite.proofs.Callers.{IsPlain, command_of}
 use Rattle.store.specs.Migrating.{drop_executed_text}
 use Rattle.store.specs.Making.{layout_text, layout_terms, add_name_text, add_name_terms}
 use Rattle.store.proofs.Compiling.{compiled_insert}
@@ -136,69 +135,45 @@ module _ (schema : Schema) (at : ℕ) (there : table_named schema (codes "execut
 
 -- ---- The tables of the store.
 
+-- What is asked of a text is asked of its parse.
+module _ (text : List ℕ) (table : Table) where
+  abbrev p : Parsed
+  p = parsed_in (first text)
+
+  abbrev def : Definition
+  def = definition_in p.statement
+
+  by_parse : first text ≡ Ok p → p.statement ≡ written.CreateTable def → p.formats ≡ [] → slice_range text p.start p.end ≡ text → is_reserved def.name ≡ false → def.if_missing ≡ false
+      → (length table.computed == length table.stamps.places && not def.resolves) ≡ true → define.table [] def ≡ Ok table → table_defined_by text ≡ Ok table → MakesTable text table
+  by_parse parses is untimed whole named plain fits defined makes = record {
+    p = p;
+    def = def;
+    parses = parses;
+    is = is;
+    untimed = untimed;
+    whole = whole;
+    named = named;
+    plain = plain;
+    fits = fits;
+    defined = defined;
+    makes = makes;
+  }
+
 pub meta_makes : MakesTable meta_text meta
 unfolding everything
-meta_makes = record {
-  p = parsed_in (first meta_text);
-  def = definition_in (parsed_in (first meta_text)).statement;
-  parses = refl;
-  is = refl;
-  untimed = refl;
-  whole = refl;
-  named = refl;
-  plain = refl;
-  fits = refl;
-  defined = refl;
-  makes = refl;
-}
+meta_makes = by_parse meta_text meta refl refl refl refl refl refl refl refl refl
 
 pub held_makes : MakesTable held_text held
 unfolding everything
-held_makes = record {
-  p = parsed_in (first held_text);
-  def = definition_in (parsed_in (first held_text)).statement;
-  parses = refl;
-  is = refl;
-  untimed = refl;
-  whole = refl;
-  named = refl;
-  plain = refl;
-  fits = refl;
-  defined = refl;
-  makes = refl;
-}
+held_makes = by_parse held_text held refl refl refl refl refl refl refl refl refl
 
 pub spans_makes : MakesTable spans_text spans
 unfolding everything
-spans_makes = record {
-  p = parsed_in (first spans_text);
-  def = definition_in (parsed_in (first spans_text)).statement;
-  parses = refl;
-  is = refl;
-  untimed = refl;
-  whole = refl;
-  named = refl;
-  plain = refl;
-  fits = refl;
-  defined = refl;
-  makes = refl;
-}
+spans_makes = by_parse spans_text spans refl refl refl refl refl refl refl refl refl
 
 pub follow_makes : MakesTable follow_text follow
 unfolding everything
-follow_makes = record {
-  p = parsed_in (first follow_text);
-  def = definition_in (parsed_in (first follow_text)).statement;
-  parses = refl;
-  is = refl;
-  untimed = refl;
-  whole = refl;
-  named = refl;
-  plain = refl;
-  fits = refl;
-  defined = refl;
-  makes = refl;
-}
+follow_makes = by_parse follow_text follow refl refl refl refl refl refl refl refl refl
 
 -- ---- Their first rows.
 
@@ -227,29 +202,17 @@ module _ (schema : Schema) (at tree : ℕ) (f : IsFound schema at (record meta {
   unfolding everything
   layout_inserted = refl
 
-  layout_means : Means schema layout_text (with_command layout_parsed ([], (Insert at (Values layout_terms 3), None)))
+  pub layout_means : Means schema layout_text (Insert at (Values layout_terms 3))
   layout_means =
-      means schema layout_text _
+      means schema layout_text layout_parsed _
       (compiled_insert schema (codes "meta") at (record meta { tree = tree }) f.by_name f.by_index layout_values layout_text layout_parsed 0 layout_terms layout_parses refl refl refl refl layout_inserted refl)
-
-  pub layout_is : command_of (understood schema layout_text) ≡ Insert at (Values layout_terms 3)
-  layout_is = ap command_of layout_means.is
-
-  pub layout_plain : IsPlain (understood schema layout_text)
-  layout_plain = rw (layout_means.is) (refl, refl)
 
 module _ (schema : Schema) (at tree : ℕ) (f : IsFound schema at (record follow { tree = tree })) where
   name_inserted : inserted schema (record follow { tree = tree }) 2 [] (rows.Values name_values) ≡ Ok (new.Values add_name_terms)
   unfolding everything
   name_inserted = refl
 
-  name_means : Means schema add_name_text (with_command name_parsed ([], (Insert at (Values add_name_terms 3), None)))
-  name_means =
-      means schema add_name_text _
+  pub add_name_means : Means schema add_name_text (Insert at (Values add_name_terms 3))
+  add_name_means =
+      means schema add_name_text name_parsed _
       (compiled_insert schema (codes "follow") at (record follow { tree = tree }) f.by_name f.by_index name_values add_name_text name_parsed 2 add_name_terms name_parses refl refl refl refl name_inserted refl)
-
-  pub add_name_is : command_of (understood schema add_name_text) ≡ Insert at (Values add_name_terms 3)
-  add_name_is = ap command_of name_means.is
-
-  pub add_name_plain : IsPlain (understood schema add_name_text)
-  add_name_plain = rw (name_means.is) (refl, refl)

@@ -23,7 +23,7 @@ use Rattle.sqlite_syntax.specs.declared.statement.Parsed.{Parsed}
 use Rattle.sqlite_resolve.specs.declared.state.Carried.{Carried}
 use Rattle.sqlite_resolve.specs.declared.scope.Output.{Output}
 use Rattle.sqlite_resolve.specs.declared.write.NewRows.TheVariants as new
-use Rattle.sqlite_resolve.specs.declared.compiled.Compiled.{Compiled}
+use Rattle.sqlite_schema.specs.declared.command.Command.{Command}
 use Rattle.sqlite_resolve.specs.Lowering.{nothing, max_budget}
 use Rattle.sqlite_resolve.specs.Scope.{Name, Context, declared}
 use Rattle.sqlite_resolve.specs.Compare.{converted, may_be_text, is_parameter}
@@ -40,13 +40,14 @@ use Rattle.store.specs.Layout.{required, held, spans, read_text, insert_text, in
 use Rattle.store.specs.Layout.{IsFound}
 use Rattle.store.proofs.Compiling.{written_trees, only_over, only_bound, after_reading, less, stands_for_column, Compares, compares, is_given, Field, IsField, written_columns, with_outputs, outputs_are, tests_are, lowered_both, lowered_all, lowered_four, from_table, IsOver, IsOrdered, drafted, program_is, query_is, compiled_select, compiled_insert, compiled_update, compiled_delete, understood_as}
 
--- What a text means under the schema: what it is compiled to, and that it is no query on sqlite_schema.
-pub record Means (schema : Schema) (text : List ℕ) (c : Compiled) : Type 0 where
-  pub is : understood schema text ≡ Ok c
+-- What a text means under the schema: this command, whose rows are no answer, and no query on sqlite_schema.
+pub record Means (schema : Schema) (text : List ℕ) (c : Command) : Type 0 where
+  pub is : command_of (understood schema text) ≡ c
+  pub plain : IsPlain (understood schema text)
   pub elsewhere : reads_listing schema text ≡ false
 
-pub means : (schema : Schema) (text : List ℕ) (c : Compiled) → compiled schema text ≡ Ok c → Means schema text c
-means schema text c is = let it = understood_as schema text c is in record { is = it.0; elsewhere = it.1 }
+pub means : (schema : Schema) (text : List ℕ) (p : Parsed) (c : Command) → compiled schema text ≡ Ok (with_command p ([], (c, None))) → Means schema text c
+means schema text p c is = let it = understood_as schema text (with_command p ([], (c, None))) is in record { is = ap command_of it.0; plain = rw it.0 (refl, refl); elsewhere = it.1 }
 
 -- ---- The texts as they are written.
 
@@ -202,59 +203,35 @@ module _ (schema : Schema) (at tree : ℕ) (f : IsFound schema at (record held {
       (outputs_are (only_over schema (codes "held") at [] true) (only_bound (codes "held") at ∷ []) (count_field ∷ []) (count_stands, tt) 2 max_budget nothing (omega arith))
       (key_tests (with_outputs [] (count_field ∷ [])) false 2 99999 (count_field.carried) (omega arith)) refl read_select read_ordered
 
-  read_means : Means schema read_text (with_command read_parsed ([], (Select (record { lets = []; body = read_query tree }) (codes "n" ∷ []), None)))
+  pub read_means : Means schema read_text (Select (record { lets = []; body = read_query tree }) (codes "n" ∷ []))
   read_means =
-      means schema read_text _
+      means schema read_text read_parsed _
       (compiled_select schema read_text read_parsed read_parses refl read_select _ (codes "n" ∷ []) (Some Binary ∷ []) (read_query tree) refl read_query_is
       (program_is schema at held_table f has_key (col 1 4 ∷ []) [] refl refl refl))
-
-  pub read_is : (command_of (understood schema read_text) ≡ Select (record { lets = []; body = read_query tree }) (codes "n" ∷ [])) × (reads_listing schema read_text ≡ false)
-  read_is = (ap command_of read_means.is, read_means.elsewhere)
-
-  pub read_plain : IsPlain (understood schema read_text)
-  read_plain = rw (read_means.is) (refl, refl)
 
   insert_row : inserted schema held_table 3 [] (rows.Values (inserted_row 3 ∷ [])) ≡ Ok (new.Values insert_terms)
   unfolding everything
   insert_row = refl
 
-  insert_means : Means schema insert_text (with_command insert_parsed ([], (Insert at (Values insert_terms 5), None)))
+  pub insert_means : Means schema insert_text (Insert at (Values insert_terms 5))
   insert_means =
-      means schema insert_text _
+      means schema insert_text insert_parsed _
       (compiled_insert schema (codes "held") at held_table f.by_name f.by_index (inserted_row 3 ∷ []) insert_text insert_parsed 3 insert_terms insert_parses refl refl refl refl insert_row refl)
-
-  pub insert_is : command_of (understood schema insert_text) ≡ Insert at (Values insert_terms 5)
-  insert_is = ap command_of insert_means.is
-
-  pub insert_plain : IsPlain (understood schema insert_text)
-  insert_plain = rw (insert_means.is) (refl, refl)
 
   insert_eight_rows : inserted schema held_table 10 [] (rows.Values eight_rows) ≡ Ok (new.Values insert_eight_terms)
   unfolding everything
   insert_eight_rows = refl
 
-  insert_eight_means : Means schema insert_eight_text (with_command insert_eight_parsed ([], (Insert at (Values insert_eight_terms 5), None)))
+  pub insert_eight_means : Means schema insert_eight_text (Insert at (Values insert_eight_terms 5))
   insert_eight_means =
-      means schema insert_eight_text _
+      means schema insert_eight_text insert_eight_parsed _
       (compiled_insert schema (codes "held") at held_table f.by_name f.by_index eight_rows insert_eight_text insert_eight_parsed 10 insert_eight_terms insert_eight_parses refl refl refl refl insert_eight_rows refl)
 
-  pub insert_eight_is : command_of (understood schema insert_eight_text) ≡ Insert at (Values insert_eight_terms 5)
-  insert_eight_is = ap command_of insert_eight_means.is
-
-  pub insert_eight_plain : IsPlain (understood schema insert_eight_text)
-  insert_eight_plain = rw (insert_eight_means.is) (refl, refl)
-
-  delete_means : Means schema delete_text (with_command delete_parsed ([], (Delete at (record { lets = []; body = delete_query tree }), None)))
+  pub delete_means : Means schema delete_text (Delete at (record { lets = []; body = delete_query tree }))
   delete_means =
-      means schema delete_text _
+      means schema delete_text delete_parsed _
       (compiled_delete schema (codes "held") at held_table f.by_name f.by_index (Some count_test) has_count 100000 99985 nothing nothing delete_text delete_parsed (delete_query tree) delete_parses refl refl refl refl
       (count_tests [] false 2 100000 nothing (omega arith)) (program_is schema at held_table f has_count (col 1 0 ∷ []) [] refl refl refl))
-
-  pub delete_is : command_of (understood schema delete_text) ≡ Delete at (record { lets = []; body = delete_query tree })
-  delete_is = ap command_of delete_means.is
-
-  pub delete_plain : IsPlain (understood schema delete_text)
-  delete_plain = rw (delete_means.is) (refl, refl)
 
   -- the old rowid, and then the new row
   abbrev updated_row : List Term
@@ -268,17 +245,11 @@ module _ (schema : Schema) (at tree : ℕ) (f : IsFound schema at (record held {
   unfolding everything
   update_row = refl
 
-  update_means : Means schema update_text (with_command update_parsed ([], (Update at (record { lets = []; body = update_query tree }), None)))
+  pub update_means : Means schema update_text (Update at (record { lets = []; body = update_query tree }))
   update_means =
-      means schema update_text _
+      means schema update_text update_parsed _
       (compiled_update schema (codes "held") at held_table f.by_name f.by_index (Some key_test) has_key 99999 99988 nothing nothing set_count (4 ∷ []) (col 0 3 ∷ []) updated_row (update_query tree) update_assigns update_row
       (key_tests [] false 2 99999 nothing (omega arith)) update_text update_parsed update_parses refl refl (program_is schema at held_table f has_key updated_row [] refl refl refl))
-
-  pub update_is : command_of (understood schema update_text) ≡ Update at (record { lets = []; body = update_query tree })
-  update_is = ap command_of update_means.is
-
-  pub update_plain : IsPlain (understood schema update_text)
-  update_plain = rw (update_means.is) (refl, refl)
 
 -- ---- Statements on one row of spans.
 
@@ -306,28 +277,16 @@ module _ (schema : Schema) (at tree : ℕ) (f : IsFound schema at (record spans 
   unfolding everything
   add_span_row = refl
 
-  add_span_means : Means schema add_span_text (with_command add_span_parsed ([], (Insert at (Values add_span_terms 4), None)))
+  pub add_span_means : Means schema add_span_text (Insert at (Values add_span_terms 4))
   add_span_means =
-      means schema add_span_text _
+      means schema add_span_text add_span_parsed _
       (compiled_insert schema (codes "spans") at spans_table f.by_name f.by_index added_row add_span_text add_span_parsed 3 add_span_terms add_span_parses refl refl refl refl add_span_row refl)
 
-  pub add_span_is : command_of (understood schema add_span_text) ≡ Insert at (Values add_span_terms 4)
-  add_span_is = ap command_of add_span_means.is
-
-  pub add_span_plain : IsPlain (understood schema add_span_text)
-  add_span_plain = rw (add_span_means.is) (refl, refl)
-
-  drop_span_means : Means schema drop_span_text (with_command drop_span_parsed ([], (Delete at (record { lets = []; body = drop_span_query tree }), None)))
+  pub drop_span_means : Means schema drop_span_text (Delete at (record { lets = []; body = drop_span_query tree }))
   drop_span_means =
-      means schema drop_span_text _
+      means schema drop_span_text drop_span_parsed _
       (compiled_delete schema (codes "spans") at spans_table f.by_name f.by_index (Some start_test) has_start 100000 99993 nothing nothing drop_span_text drop_span_parsed (drop_span_query tree) drop_span_parses refl refl refl refl
       (start_tests 100000 (omega arith)) (program_is schema at spans_table f has_start (col 1 0 ∷ []) [] refl refl refl))
-
-  pub drop_span_is : command_of (understood schema drop_span_text) ≡ Delete at (record { lets = []; body = drop_span_query tree })
-  drop_span_is = ap command_of drop_span_means.is
-
-  pub drop_span_plain : IsPlain (understood schema drop_span_text)
-  drop_span_plain = rw (drop_span_means.is) (refl, refl)
 
   -- the old rowid, and then the new row
   abbrev longer_row : List Term
@@ -341,14 +300,8 @@ module _ (schema : Schema) (at tree : ℕ) (f : IsFound schema at (record spans 
   unfolding everything
   set_end_row = refl
 
-  set_end_means : Means schema set_end_text (with_command set_end_parsed ([], (Update at (record { lets = []; body = set_end_query tree }), None)))
+  pub set_end_means : Means schema set_end_text (Update at (record { lets = []; body = set_end_query tree }))
   set_end_means =
-      means schema set_end_text _
+      means schema set_end_text set_end_parsed _
       (compiled_update schema (codes "spans") at spans_table f.by_name f.by_index (Some start_test) has_start 99999 99992 nothing nothing set_hi (3 ∷ []) (col 0 2 ∷ []) longer_row (set_end_query tree) set_end_assigns set_end_row
       (start_tests 99999 (omega arith)) set_end_text set_end_parsed set_end_parses refl refl (program_is schema at spans_table f has_start longer_row [] refl refl refl))
-
-  pub set_end_is : command_of (understood schema set_end_text) ≡ Update at (record { lets = []; body = set_end_query tree })
-  set_end_is = ap command_of set_end_means.is
-
-  pub set_end_plain : IsPlain (understood schema set_end_text)
-  set_end_plain = rw (set_end_means.is) (refl, refl)

@@ -11,7 +11,7 @@ use Rattle.sqlite_schema.specs.declared.schema.Schema.{Schema}
 use Rattle.sqlite_schema.specs.declared.schema.Kind.TheVariants.{Any}
 use Rattle.sqlite_schema.specs.declared.command.Command.TheVariants.{Select}
 use Rattle.sqlite_schema.specs.Names.{same_name}
-use Rattle.sqlite_ast.specs.declared.Core.{Core, roll-Core}
+use Rattle.sqlite_ast.specs.declared.Core.{Core, roll-Core, out-Core}
 use Rattle.sqlite_ast.specs.declared.Select as select
 use Rattle.sqlite_ast.specs.declared.Statement.TheVariants as written
 use Rattle.sqlite_syntax.specs.declared.statement.Parsed.{Parsed}
@@ -25,9 +25,8 @@ use Rattle.sqlite_value.specs.declared.keys.Key.{Key}
 use Rattle.sqlite_resolve.specs.declared.state.State.{State}
 use Rattle.sqlite_resolve.specs.Scope.{Name, Context, is_rowid, alias_of, declared}
 use Rattle.sqlite_resolve.specs.Program.{query}
-use Rattle.sqlite_resolve.specs.Compile.{first, with_command}
+use Rattle.sqlite_resolve.specs.Compile.{first}
 use Rattle.sqlite_tied.specs.Compute.{everything}
-use Rattle.sqlite.proofs.Callers.{command_of}
 use Rattle.store.specs.Layout.{required, meta, executed, held, spans, follow}
 use Rattle.store.specs.Load.{AsksAll, IsFilled, columns_from, whole, all_meta_text, all_held_text, all_spans_text, all_follow_text, all_executed_text}
 use Rattle.store.specs.Listing.{listed_text}
@@ -74,53 +73,40 @@ record Reads (text : List ℕ) (table : Name) (columns by : List Name) (len : �
   over : IsOver (core_of table columns) table (written_columns columns) None
   ordered : IsOrdered (select_of table columns by) (core_of table columns) (written_order by)
 
+-- It is, if it is parsed so: the parts of the statement compute where it is written out.
+module _ (text : List ℕ) (table : Name) (columns by : List Name) (len : ℕ) where
+  read_as : first text ≡ Ok (parsed_of table columns by len)
+      → out-Core (core_of table columns) ≡ record { distinct = false; shown = written_columns columns; from = from_table table ∷ []; filter = None; group = []; having = None }
+      → select.out-Select (select_of table columns by) ≡ record { with = []; first = core_of table columns; others = []; order = written_order by; limit = None; offset = None } → Reads text table columns by len
+  read_as parses core parts = record {
+    parses = parses;
+    over = record { shown = rw core refl; from = rw core refl; filter = rw core refl; distinct = rw core refl; group = rw core refl; having = rw core refl };
+    ordered = record { with = rw parts refl; first = rw parts refl; others = rw parts refl; order = rw parts refl; limit = rw parts refl; offset = rw parts refl };
+  }
+
 reads_meta : Reads all_meta_text (codes "meta") meta_columns by_rowid 43
 unfolding everything
-reads_meta = record {
-  parses = refl;
-  over = record { shown = refl; from = refl; filter = refl; distinct = refl; group = refl; having = refl };
-  ordered = record { with = refl; first = refl; others = refl; order = refl; limit = refl; offset = refl };
-}
+reads_meta = read_as all_meta_text (codes "meta") meta_columns by_rowid 43 refl refl refl
 
 reads_executed : Reads all_executed_text (codes "executed") executed_columns by_rowid 57
 unfolding everything
-reads_executed = record {
-  parses = refl;
-  over = record { shown = refl; from = refl; filter = refl; distinct = refl; group = refl; having = refl };
-  ordered = record { with = refl; first = refl; others = refl; order = refl; limit = refl; offset = refl };
-}
+reads_executed = read_as all_executed_text (codes "executed") executed_columns by_rowid 57 refl refl refl
 
 reads_held : Reads all_held_text (codes "held") held_columns by_rowid 72
 unfolding everything
-reads_held = record {
-  parses = refl;
-  over = record { shown = refl; from = refl; filter = refl; distinct = refl; group = refl; having = refl };
-  ordered = record { with = refl; first = refl; others = refl; order = refl; limit = refl; offset = refl };
-}
+reads_held = read_as all_held_text (codes "held") held_columns by_rowid 72 refl refl refl
 
 reads_spans : Reads all_spans_text (codes "spans") spans_columns by_rowid 54
 unfolding everything
-reads_spans = record {
-  parses = refl;
-  over = record { shown = refl; from = refl; filter = refl; distinct = refl; group = refl; having = refl };
-  ordered = record { with = refl; first = refl; others = refl; order = refl; limit = refl; offset = refl };
-}
+reads_spans = read_as all_spans_text (codes "spans") spans_columns by_rowid 54 refl refl refl
 
 reads_follow : Reads all_follow_text (codes "follow") follow_columns by_rowid 64
 unfolding everything
-reads_follow = record {
-  parses = refl;
-  over = record { shown = refl; from = refl; filter = refl; distinct = refl; group = refl; having = refl };
-  ordered = record { with = refl; first = refl; others = refl; order = refl; limit = refl; offset = refl };
-}
+reads_follow = read_as all_follow_text (codes "follow") follow_columns by_rowid 64 refl refl refl
 
 reads_listed : Reads listed_text (codes "held") held_columns by_key 97
 unfolding everything
-reads_listed = record {
-  parses = refl;
-  over = record { shown = refl; from = refl; filter = refl; distinct = refl; group = refl; having = refl };
-  ordered = record { with = refl; first = refl; others = refl; order = refl; limit = refl; offset = refl };
-}
+reads_listed = read_as listed_text (codes "held") held_columns by_key 97 refl refl refl
 
 -- ---- A table and its columns.
 
@@ -220,8 +206,8 @@ module _ (schema : Schema) (at : ℕ) (table : Table) (f : IsFound schema at tab
         (keys_are (over_table shown_all false) shown_all by by_stand by_inside 2 rest carried left ∙ ap (λ s. Ok (with_keys [] by, s)) last_is) _ reads.ordered
         ∙ ap (λ ts. Ok ((drafted table.tree [] ts (with_keys [] by), labels, map (λ o. o.carried.collation) shown_all), [])) terms_are
 
-    whole_means : Means schema text (with_command (parsed_of table.name (map (λ (x : Field). x.name) (fields_of table)) (map (λ (x : Field). x.name) by) len) ([], (Select (record { lets = []; body = whole table.tree (suc (length table.columns)) (with_keys [] by) }) labels, None)))
-    whole_means = means schema text _ (compiled_select schema text _ reads.parses refl _ _ labels (map (λ o. o.carried.collation) shown_all) (whole table.tree (suc (length table.columns)) (with_keys [] by)) refl whole_query
+    whole_means : Means schema text (Select (record { lets = []; body = whole table.tree (suc (length table.columns)) (with_keys [] by) }) labels)
+    whole_means = means schema text (parsed_of table.name (map (λ (x : Field). x.name) (fields_of table)) (map (λ (x : Field). x.name) by) len) _ (compiled_select schema text _ reads.parses refl _ _ labels (map (λ o. o.carried.collation) shown_all) (whole table.tree (suc (length table.columns)) (with_keys [] by)) refl whole_query
         (program_is schema at table f [] (columns_from 0 (suc (length table.columns))) (with_keys [] by) refl project_fits order_fits))
 
     whole_asks : AsksAll schema text table.tree
@@ -233,8 +219,8 @@ module _ (schema : Schema) (at : ℕ) (table : Table) (f : IsFound schema at tab
       filled = filled;
       order = with_keys [] by;
       names = labels;
-      is = ap command_of whole_means.is;
-      plain = rw (whole_means.is) (refl, refl);
+      is = whole_means.is;
+      plain = whole_means.plain;
       elsewhere = whole_means.elsewhere;
     }
 

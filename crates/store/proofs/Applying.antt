@@ -1,6 +1,7 @@
 -- The executed set in memory during a transaction.
-use Rattle.std.proofs.Common.{◌≡◌, ◌⊎◌, inl, inr, ℕ, List, false, IsErr, IsTrue, Ok, Err, Result, refl, sym, ap, subst, subst₂, ◌∙◌}
+use Rattle.std.proofs.Common.{◌≡◌, ◌⊎◌, inl, inr, ℕ, List, Bool, false, IsErr, IsTrue, Ok, Err, Result, refl, sym, ap, subst, subst₂, ◌∙◌}
 use Rattle.std.specs.FinSet as set
+use Rattle.std.proofs.Props.{props}
 use Rattle.std.proofs.lemmas.Bool.{false≢true, cases_Bool, true≢false}
 use Rattle.sqlite_trees.specs.Tree.{Trees}
 use Rattle.sqlite.specs.Effect.{Database as Stored, IsDatabase}
@@ -8,7 +9,7 @@ use Rattle.sqlite_trees.specs.declared.store.Store.{Ghosts}
 use Rattle.sqlite.specs.Held.{Held, state}
 use Rattle.sqlite.specs.State.{State, HasCleanDisk, Survives}
 use Rattle.sqlite.proofs.StateLemmas.{survives_then}
-use Rattle.gtid.specs.Identifier.{Id, Ids}
+use Rattle.gtid.specs.Identifier.{Ids}
 use Rattle.gtid.specs.Span.{IsLeastList}
 use Rattle.gtid.specs.Beside.{Joins}
 use Rattle.gtid.specs.declared.beside.Beside.{Beside}
@@ -29,7 +30,7 @@ use Rattle.store.specs.Changes.{HasOutcome, is_executed, refused}
 use Rattle.store.specs.Rows.{StandsFor, HasRowids, held_rows, span_rows}
 use Rattle.store.specs.Beside.{LiesBeside}
 use Rattle.store.proofs.Spared.{beside_same, beside_unchanged}
-use Rattle.store.specs.Apply.{SparesBeside, IsAtRest, Rests, IsAtRestAfter, HasMoved, Comes, MayMove, IsReported, FailsShut}
+use Rattle.store.specs.Apply.{SparesBeside, IsAtRest, IsNew, Rests, IsAtRestAfter, HasMoved, Comes, MayMove, IsReported, FailsShut}
 
 -- ---- the connection as it was
 pub rest_same : (a b : State) (names : Names) (content : Content) → IsTrue b.is_open → b.now ≡ a.now → b.committed ≡ a.committed → IsAtRest a names content → IsAtRest b names content
@@ -55,10 +56,14 @@ refused_shut at reason old mid new was now (CountFull n) opened shut reported sa
 refused_shut at reason old mid new was now (Database e) opened shut reported same = (shut_after old new (λ is_open. opened (reported is_open).0) shut, same)
 refused_shut at reason old mid new was now _ opened shut reported same = absurd reported
 
--- ---- the spans next to the number
-pub beside_known : (spans : List Span) (executed ids : Ids) (q : Id) (beside : Beside) → executed ≡ ids → IsLeastList spans ids
-    → ((sorted : List Span) → IsLeastList sorted executed → Joins executed q beside sorted) → Joins ids q beside spans
-beside_known spans executed ids q beside same least joins = subst (λ s. Joins s q beside spans) same (joins spans (subst (IsLeastList spans) (sym same) least))
+-- ---- what is known of the transaction
+pub is_new : (db : Stored) (names : Names) (content : Content) (d : DeliveryValue) (executed : Ids) (beside : Beside) → StandsFor db names content → executed ≡ content.executed → set.contains executed (d.source, d.number) ≡ false
+    → ((sorted : List Span) → IsLeastList sorted executed → Joins executed (d.source, d.number) beside sorted) → IsNew db names content d beside
+is_new db names content d executed beside stands same out joins = record {
+  stands = stands;
+  out = subst (λ ids. set.contains ids (d.source, d.number) ≡ false) same out;
+  joins = subst (λ ids. Joins ids (d.source, d.number) beside stands.executed.spans) same (joins stands.executed.spans (subst (IsLeastList stands.executed.spans) (sym same) stands.executed.least));
+}
 
 -- ---- what it comes to
 module _ (names : Names) (content : Content) (d : DeliveryValue) where
@@ -88,8 +93,8 @@ module _ (names : Names) (content : Content) (d : DeliveryValue) where
   )
   came old mid new executed at reason _ same rest h reported = absurd reported
 
-  pub given_up : (old mid new : State) (r : Result Applied StoreFault) → Survives old mid (λ _. ⊥) → Survives mid new (λ _. ⊥) → Survives old new (MayMove names content d old r)
-  given_up old mid new r one two = survives_then old mid new (λ _. ⊥) (λ _. ⊥) (MayMove names content d old r) (λ _ db none. absurd none) (λ _ db none. absurd none) one two
+  pub given_up : (old mid new : State) (r : Result Applied StoreFault) → Survives old mid (λ _. ⊥) → Survives mid new (λ _. ⊥) → Survives old new (MayMove names content d old.now r)
+  given_up old mid new r one two = survives_then old mid new (λ _. ⊥) (λ _. ⊥) (MayMove names content d old.now r) (λ _ db none. absurd none) (λ _ db none. absurd none) one two
 
 -- the fault of an answer
 abbrev pub fault_in : Result Applied StoreFault → StoreFault
@@ -97,6 +102,13 @@ fault_in (Ok a) = Broken
 fault_in (Err fault) = fault
 
 -- ---- the store
+false-prop : {b : Bool} → IsProp (b ≡ false)
+false-prop = Prim.hlevel props
+
+-- a store whose set is taken out and put back is as it was
+pub same_store : {S : Type 0} (g : Ghosts S) (store : Store S g) (ids : Ids) (autocommit : store.conn.in_transaction ≡ false) → ids ≡ store.executed → record store { executed = ids; autocommit = autocommit } ≡ store
+same_store g store ids autocommit same = λ i. record store { executed = same i; autocommit = false-prop autocommit store.autocommit i }
+
 module _ {S : Type 0} (g : Ghosts S) (content : Content) (d : DeliveryValue) (old new : Store S g) where
   pub applied : (r : Result Applied StoreFault) → Holds g old content → is_executed content d ≡ false → new.following ≡ old.following → new.broken ≡ breaks r → (r ≡ Err Memory → new.conn ≡ old.conn)
       → Comes old.following content d (state g old.conn) (state g new.conn) new.executed r → Applies g content d old new r
@@ -179,7 +191,7 @@ module _ {S : Type 0} (g : Ghosts S) (names : Names) (content : Content)
   pub spares_kept : (old new : Held S) (trees : Trees) → IsAtRest (state g old) names content → Survives (state g old) (state g new) (λ _. ⊥) → HasCleanDisk (state g new) → (state g new).may_leave trees → SparesBeside (state g old).now trees
   spares_kept old new trees rest survives clean left = elim (survives.crash clean trees left) [ inl was ↦ spares old trees rest was | inr none ↦ absurd none ]
 
-  pub spares_moved : (d : DeliveryValue) (old : Held S) (r : Result Applied StoreFault) (trees : Trees) → IsAtRest (state g old) names content → (state g old).may_leave trees ⊎ MayMove names content d (state g old) r trees → SparesBeside (state g old).now trees
+  pub spares_moved : (d : DeliveryValue) (old : Held S) (r : Result Applied StoreFault) (trees : Trees) → IsAtRest (state g old) names content → (state g old).may_leave trees ⊎ MayMove names content d (state g old).now r trees → SparesBeside (state g old).now trees
   spares_moved d old r trees rest (inl was) = spares old trees rest was
   spares_moved d old (Ok Done) trees rest (inr may) = may.1
   spares_moved d old (Err (Database e)) trees rest (inr may) = may.1
@@ -191,7 +203,7 @@ module _ {S : Type 0} (g : Ghosts S) (names : Names) (content : Content)
       subst (λ t. AreOf h.schema names content t) (sym trees) (record { stands = r.stands; sound = r.sound; spans_apart = r.spans_apart })
 
   pub left_whole : (d : DeliveryValue) (old new : Held S) (r : Result Applied StoreFault) (executed : Ids) (trees : Trees) → IsAtRest (state g old) names content → Comes names content d (state g old) (state g new) executed r
-      → (state g old).may_leave trees ⊎ MayMove names content d (state g old) r trees → (state g new).may_leave trees → Leaves old.schema names content d r trees
+      → (state g old).may_leave trees ⊎ MayMove names content d (state g old).now r trees → (state g new).may_leave trees → Leaves old.schema names content d r trees
   left_whole d old new (Ok Done) executed trees rest it (inl was) left =
       let rest_new = it.applied.rest in
       let trees_are : trees ≡ (state g new).now.trees = settled new trees rest_new.is_open left ∙ sym (ap (λ (b : Stored). b.trees) rest_new.settled) in

@@ -1,7 +1,6 @@
 -- The end of a transaction that makes a database.
 use Rattle.std.proofs.Common.{◌≡◌, true, false, refl, sym, subst, subst₂, ◌∙◌, Ok, Err, Result, OnOk, OnErr, IfErr, IsTrue, [], arith}
 use Rattle.sqlite.specs.declared.error.Error.{Error}
-use Rattle.sqlite.specs.Effect.{Database as Stored, IsDatabase}
 use Rattle.sqlite.specs.State.{State, HasCleanDisk, IsLive, KeepsCommit, Survives, KeepsCounts, Shows}
 use Rattle.sqlite.specs.Steps.{FailsToCommit}
 use Rattle.sqlite_trees.specs.declared.store.Store as store
@@ -9,12 +8,11 @@ use Rattle.sqlite.specs.Held.{Held, state}
 use Rattle.sqlite_trees.specs.Tree.{Trees}
 use Rattle.store.specs.State.{Content}
 use Rattle.store.specs.Beside.{LiesBeside}
-use Rattle.store.specs.Rows.{StandsFor, HasRowids, held_rows, span_rows}
 use Rattle.store.specs.Apply.{IsAtRest, Rests}
 use Rattle.store.specs.Open.{IsBlank, IsFirstAtRest, MayStandFor}
 use Rattle.store.specs.Making.{IsMaking, HasMade}
 use Rattle.store.specs.Migrating.{IsFirstInside}
-use Rattle.store.proofs.Ran.{rests_failed}
+use Rattle.store.proofs.Ran.{rests_failed, at_rest}
 use Rattle.store.proofs.Spared.{beside_unchanged}
 use Rattle.binlog.specs.Filter.{Names}
 
@@ -51,14 +49,7 @@ HasEnded m n = IsTrue m.in_transaction × Shows m n m.now m.now false × KeepsCo
 
 pub made_rest : {E : Type 0} (names : Names) (content : Content) (t m n : State) (r : Result (Unit {0}) E) → t.now ≡ t.committed → KeepsCommit t m → HasMade m names content → OnOk r (HasEnded m n) → OnOk r (IsAtRest n names content × LiesBeside t.now n.now)
 made_rest names content t m n (Ok u) settled kept made (_, h, _, _) = (
-  record {
-    is_open = h.is_open;
-    settled = h.now_is ∙ sym h.committed_is;
-    held_apart = subst (λ (db : Stored). HasRowids (held_rows db)) (sym h.now_is) made.working.held_apart;
-    spans_apart = subst (λ (db : Stored). HasRowids (span_rows db)) (sym h.now_is) made.working.spans_apart;
-    stands = subst (λ (db : Stored). StandsFor db names content) (sym h.now_is) made.stands;
-    sound = subst IsDatabase (sym h.now_is) made.working.sound;
-  },
+  at_rest names content m n made h,
   subst₂ LiesBeside (kept.committed made.working.is_open ∙ sym settled) (sym h.now_is) made.working.beside,
 )
 made_rest names content t m n (Err e) settled kept made h = tt

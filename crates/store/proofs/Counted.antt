@@ -12,7 +12,7 @@ use Rattle.store.specs.State.{Content, row_of}
 use Rattle.store.specs.Layout.{IsLaidOut, held_tree, read_text}
 use Rattle.store.specs.Rows.{Key, key_of, Finds, is_at, held_rows, count}
 use Rattle.store.specs.Apply.{IsAtRest, Rests}
-use Rattle.store.proofs.AnySchema.{read_plain}
+use Rattle.store.proofs.AnySchema.{read_means}
 use Rattle.store.proofs.Selects.{key_params}
 use Rattle.store.proofs.Statements.{shown_reads, shown_same}
 use Rattle.store.proofs.Keeps.{query_survives}
@@ -54,7 +54,7 @@ module _ (old new : State) (key : Key) (l : IsLaidOut old.now.schema) where
   find_same items r h = shown_same old.now.schema l items r old new key refl h
 
   pub find_survives : Survives old new (CommitsShowing read_text (key_params key []) old) → Survives old new (λ _. ⊥)
-  find_survives s = query_survives read_text (key_params key []) old new (read_plain old.now.schema l.held.at (held_tree old.now.schema) l.held.found) s
+  find_survives s = query_survives read_text (key_params key []) old new (read_means old.now.schema l.held.at (held_tree old.now.schema) l.held.found).plain s
 
 pub found_count : (key : Key) (rows : List Row) (found : Option ℕ) → Finds key rows found → unwrap_or found 0 ≡ count rows key
 found_count key rows None f = sym (counted_none key rows f)

@@ -31,7 +31,7 @@ use Rattle.store.specs.Layout.{IsLaidOut, IsFound, tree_named, meta_tree, held_t
 use Rattle.store.specs.Changes.{most}
 use Rattle.gather.specs.Image.{IsSomeImage}
 use Rattle.store.specs.Rows.{Key, IsHeldRow, HasRowids, is_at, has_n, count, with_one, without_one, meta_rows, held_rows, span_rows}
-use Rattle.store.specs.Inside.{IsWorking, GoesOn, HasCounts, Appear, AddsNew, Deletes}
+use Rattle.store.specs.Inside.{IsWorking, StaysOpen, HasCounts, Appear, AddsNew, Deletes}
 use Rattle.store.specs.Beside.{LiesBeside, own_names, other_keys}
 use Rattle.store.proofs.Keys.{keys_same}
 use Rattle.store.proofs.Spared.{beside_written, own_found, own_held}
@@ -126,7 +126,7 @@ module _ (old new : State) (was : IsWorking old) where
   meta_stays : (edit : Edit) → Applied schema old new edit → edit.table ≡ held_at schema → meta_rows new.now ≡ meta_rows old.now
   meta_stays edit h at = same_rows old new (codes "meta") h.schema_is (stays schema l.meta.at (meta_at schema) old.now.trees new.now.trees edit l.meta.found h.step (rw at (meta_held schema l)))
 
-  goes_on : (edit : Edit) → Applied schema old new edit → edit.table ≡ held_at schema → HasRowids (new.now.trees (held_tree schema)) → AllByRecursion IsHeldRow (new.now.trees (held_tree schema)) → GoesOn old new
+  goes_on : (edit : Edit) → Applied schema old new edit → edit.table ≡ held_at schema → HasRowids (new.now.trees (held_tree schema)) → AllByRecursion IsHeldRow (new.now.trees (held_tree schema)) → StaysOpen old new
   goes_on edit h at shaped lawful = record {
     working = record {
       is_open = h.shown.is_open;
@@ -217,7 +217,7 @@ module _ (old new : State) (was : IsWorking old) where
         let is = lawful_row.3 in (id_in (rowid r), lawful_row.1, m, rw (ap (λ x. column x 1) is, ap (λ x. column x 2) is, ap (λ x. column x 3) is) refl, low, high, lawful_row.6)
 
     goes_updated : (n : ℤ) (answer : List Row) (h : Applied schema old new (edit_of old.now.trees (held_at schema) (ids_of answer) Given 1 answer))
-        → new.now.trees (held_tree schema) ≡ put_row (new_row n) (without_rowid (id_in (rowid r)) rows) → is_taken (without_rowid (id_in (rowid r)) rows) (new_row n) ≡ false → IsHeldRow (new_row n) → GoesOn old new
+        → new.now.trees (held_tree schema) ≡ put_row (new_row n) (without_rowid (id_in (rowid r)) rows) → is_taken (without_rowid (id_in (rowid r)) rows) (new_row n) ≡ false → IsHeldRow (new_row n) → StaysOpen old new
     goes_updated n answer h is free lawful = goes_on _ h refl (rw is (rowids_put (new_row n) _ refl free (rowids_without (id_in (rowid r)) rows shaped_old)))
         (rw is (all-put_row IsHeldRow (new_row n) _ lawful (all_filtered IsHeldRow _ rows lawful_old)))
 

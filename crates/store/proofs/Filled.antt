@@ -1,6 +1,6 @@
 -- The changes and then the record of a transaction.
 use Rattle.std.specs.List.{AllByRecursion}
-use Rattle.std.proofs.Common.{inl, inr, pos, ◌≡◌, true, false, ◌&&◌, ◌||◌, nat_eq, bytes_eq, None, refl, sym, ap, subst, subst₂, ◌∙◌}
+use Rattle.std.proofs.Common.{inl, inr, pos, ◌≡◌, ℕ, Bool, true, false, Some, ◌&&◌, ◌||◌, nat_eq, bytes_eq, None, refl, sym, ap, subst, subst₂, ◌∙◌}
 use Rattle.std.specs.FinSet as set
 use Rattle.std.proofs.lemmas.Bool.{cases_Bool, and_parts, eqb-true}
 use Rattle.std.proofs.lemmas.Slice.Eq.{bytes_eq-Decides}
@@ -9,11 +9,12 @@ use Rattle.gtid.specs.Identifier.{Id, Ids, IsGtid, AreGtids}
 use Rattle.gtid.proofs.Sets.{id_cmp_total, tied}
 use Rattle.binlog.specs.Filter.{Names}
 use Rattle.gather.specs.Transaction.{DeliveryValue}
+use Rattle.store.specs.declared.row_change.Refusal.{Refusal}
 use Rattle.store.specs.State.{Content}
-use Rattle.store.specs.Changes.{is_executed, AreDone}
+use Rattle.store.specs.Changes.{is_executed, AreDone, IsRefusedAt}
 use Rattle.store.specs.Rows.{StandsFor, SaysLayout, IsMetaRow, AreNames, bag_of, count, held_rows, span_rows}
-use Rattle.store.specs.Inside.{GoesOn, Goes, DoesAll, Shows, Records}
-use Rattle.store.specs.Apply.{Fills}
+use Rattle.store.specs.Inside.{StaysOpen, Goes, DoesAll, DoesIn, Shows, Records}
+use Rattle.store.specs.Apply.{IsApplied, IsRefusedIn}
 use Rattle.store.proofs.Made.{goes_then}
 
 -- one more GTID
@@ -33,9 +34,9 @@ module _ (old mid new : State) (names : Names) (d : DeliveryValue) (content : Co
   pub shows_mid : Goes old mid → Shows (span_rows mid.now) stands.executed.spans content.executed
   shows_mid goes = subst (λ rows. Shows rows stands.executed.spans content.executed) (sym goes.spans) (record { least = stands.executed.least; rows_are = stands.executed.rows_are })
 
-  pub filled : IsGtid (d.source, d.number) → DoesAll names d.changes old mid None → Records mid new (set.insert content.executed (d.source, d.number)) → Fills names content d old new None
+  pub filled : IsGtid (d.source, d.number) → DoesAll names d.changes old mid None → Records mid new (set.insert content.executed (d.source, d.number)) → StaysOpen old new × IsApplied names content d new.now.schema new.now.trees
   filled is does done =
-      let on : GoesOn old new = goes_then old mid new does.0.on done.on in (
+      let on : StaysOpen old new = goes_then old mid new does.0.on done.on in (
         on,
         record {
           after = record { executed = set.insert content.executed (d.source, d.number); rows = bag_of (count (held_rows new.now)) };
@@ -64,3 +65,7 @@ module _ (old mid new : State) (names : Names) (d : DeliveryValue) (content : Co
           };
         },
       )
+
+  pub refused_in : (in_order : Bool) (why : ℕ × Refusal) → DoesIn in_order names d.changes old mid (Some why) → IsRefusedIn in_order names content d why
+  refused_in true why does = (out, subst (λ rows. IsRefusedAt names d.changes rows why.0 why.1) (sym stands.rows) does)
+  refused_in false why does = tt

@@ -9,7 +9,7 @@ use Rattle.std.proofs.lemmas.List.Sorted.{IsPermutation-refl}
 use Rattle.sqlite.specs.State.{State}
 use Rattle.gtid.specs.Identifier.{id_cmp}
 use Rattle.binlog.specs.Filter.{Name, Names, name_cmp}
-use Rattle.binlog.specs.FilterView.{names_of}
+use Rattle.binlog.specs.FilterView.{name_list}
 use Rattle.binlog.proofs.Admitted.{name_cmp_total, name_cmp-same}
 use Rattle.gtid.specs.Span.{IsLeastList}
 use Rattle.store.specs.Rows.{AreSpans, HasRowids, bag_of, count}
@@ -24,17 +24,17 @@ abbrev name_of : {A : Type 0} → Vec ℕ A × Vec ℕ A → Name
 name_of p = (p.0.items, p.1.items)
 
 module _ {A : Type 0} (names : List (Vec ℕ A × Vec ℕ A)) (at : ℕ) (name : Vec ℕ A × Vec ℕ A) (low : at < length names) (is : name ≡ get_or names at name) where
-  value_is : name_of name ≡ get_or (names_of names) at (name_of name)
+  value_is : name_of name ≡ get_or (name_list names) at (name_of name)
   value_is = ap name_of is ∙ sym (get_or-map name_of names at name)
 
-  within : at < length (names_of names)
+  within : at < length (name_list names)
   within = rw (length-map names name_of) low
 
-  one_more : take (at + 1) (names_of names) ≡ take at (names_of names) ++ name_of name ∷ []
-  one_more = rw add-one (take-suc (names_of names) at (name_of name) within ∙ ap (λ v. take at (names_of names) ++ v ∷ []) (sym value_is))
+  one_more : take (at + 1) (name_list names) ≡ take at (name_list names) ++ name_of name ∷ []
+  one_more = rw add-one (take-suc (name_list names) at (name_of name) within ∙ ap (λ v. take at (name_list names) ++ v ∷ []) (sym value_is))
 
-  pub one_name : set.from_list {R = name_cmp} (take (at + 1) (names_of names)) ≡ set.insert (set.from_list (take at (names_of names))) (name_of name)
-  one_name = ap (λ l. set.from_list {R = name_cmp} l) one_more ∙ set.from_list_push name_cmp_total name_cmp-same (take at (names_of names)) (name_of name)
+  pub one_name : set.from_list {R = name_cmp} (take (at + 1) (name_list names)) ≡ set.insert (set.from_list (take at (name_list names))) (name_of name)
+  one_name = ap (λ l. set.from_list {R = name_cmp} l) one_more ∙ set.from_list_push name_cmp_total name_cmp-same (take at (name_list names)) (name_of name)
 
 -- ---- a database with no rows
 

@@ -22,9 +22,9 @@ use Rattle.store.specs.Layout.{held_tree}
 use Rattle.store.specs.Rows.{held_rows, key_for}
 use Rattle.store.specs.Apply.{IsAtRest}
 use Rattle.store.specs.Load.{Ascends, by_order, Rested}
-use Rattle.store.specs.Listing.{Entry, AreRows, shown_entry, without_rowids, listed_text, Accepts, Handed, Hands, HasAccepted, KeepsListed, HoldsListed, IsListing}
+use Rattle.store.specs.Listing.{Entry, ListsBag, shown_entry, without_rowids, listed_text, Accepts, Handed, Hands, HasAccepted, KeepsListed, HoldsListed, IsListing}
 use Rattle.store.specs.declared.store.Store.{Store}
-use Rattle.store.specs.Store.{Holds, IsWhole, database}
+use Rattle.store.specs.Store.{Holds, IsUnbroken, database}
 use Rattle.store.specs.declared.listing.ListError.{ListError}
 use Rattle.store.specs.declared.listing.ListError.TheVariants.{Store as StoreError, Visitor as VisitorError}
 use Rattle.store.specs.declared.fault.StoreFault.TheVariants.{Database}
@@ -100,7 +100,7 @@ module _ {S : Type 0} (g : Ghosts S) (names : Names) (content : Content) where
       left_accepted =
           let all = given_entries mid here it.rows it.given in
           let c = cut it.rows it.first all.1.entries all.0 it.shown it.lawful all.1.shown all.1.images in
-          (c.left, record { first = it.first; are = subst (AreRows content.rows) c.is all.1.are; accepted = it.accepted })
+          (c.left, record { first = it.first; are = subst (ListsBag content.rows) c.is all.1.are; accepted = it.accepted })
 
       -- reading on has failed
       pub left_rested : (new : Held S) (error : Error) → FailsToAdvance g mid new error → Rested (state g old) (state g new)
@@ -114,7 +114,7 @@ module _ {S : Type 0} (g : Ghosts S) (names : Names) (content : Content) where
           let all = whole_entries (state g mid) (state g new) names content here same it.rows (shown listed_text [] it.rows it.given) in
           let c = cut it.rows it.first all.entries [] it.shown it.lawful (all.shown ∙ ap without_rowids (sym (append-nil it.rows))) all.images in
           let none : c.left ≡ [] = no_entry c.left c.shown in
-          record { first = it.first; are = subst (λ l. AreRows content.rows (it.first ++ l)) none (subst (AreRows content.rows) c.is all.are); accepted = it.accepted }
+          record { first = it.first; are = subst (λ l. ListsBag content.rows (it.first ++ l)) none (subst (ListsBag content.rows) c.is all.are); accepted = it.accepted }
         where
           no_entry : (entries : List Entry) → map shown_entry entries ≡ [] → entries ≡ []
           no_entry [] none = refl
@@ -134,9 +134,9 @@ module _ {S : Type 0} (g : Ghosts S) (names : Names) (content : Content) where
           let given = shown listed_text [] it.rows it.given in
           let all = given_entries new (rest_unchanged (state g mid) (state g new) names content same here) (it.rows ++ row ∷ []) given in
           let c = cut it.rows it.first all.1.entries (row ∷ all.0) it.shown it.lawful (all.1.shown ∙ ap without_rowids (append_assoc it.rows (row ∷ []) all.0)) all.1.images in
-          go all.0 c.left c.shown c.lawful (subst (AreRows content.rows) c.is all.1.are) given
+          go all.0 c.left c.shown c.lawful (subst (ListsBag content.rows) c.is all.1.are) given
         where
-          go : (tail : List Row) (left : List Entry) → map shown_entry left ≡ without_rowids (row ∷ tail) → AllByRecursion (λ (e : Entry). HasImage e.0.cells) left → AreRows content.rows (it.first ++ left)
+          go : (tail : List Row) (left : List Entry) → map shown_entry left ≡ without_rowids (row ∷ tail) → AllByRecursion (λ (e : Entry). HasImage e.0.cells) left → ListsBag content.rows (it.first ++ left)
               → HasGiven g listed_text [] new (it.rows ++ row ∷ []) → IsNext new row
           go tail [] none lawful are given = absurd (Prim.cc)
           go tail (e ∷ left) is lawful are given = record {
@@ -186,7 +186,7 @@ begun_open g sql old mid (inr made) = open_shown sql [] (state g old) (state g m
 
 -- ---- The store.
 
-pub held_listed : {S E : Type 0} (g : Ghosts S) (old new : Store S g) (content : Content) (r : Result (Unit {0}) (ListError E)) → Holds g old content → IsWhole g new → new.executed ≡ old.executed → new.following ≡ old.following
+pub held_listed : {S E : Type 0} (g : Ghosts S) (old new : Store S g) (content : Content) (r : Result (Unit {0}) (ListError E)) → Holds g old content → IsUnbroken g new → new.executed ≡ old.executed → new.following ≡ old.following
     → KeepsListed (database g old) (database g new) r → HoldsListed g content new r
 held_listed g old new content r was whole set names kept = go r kept
   where

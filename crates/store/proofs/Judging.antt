@@ -14,11 +14,11 @@ use Rattle.sqlite_trees.specs.View.{is_int}
 use Rattle.gtid.specs.Identifier.{IsSource}
 use Rattle.gtid.specs.declared.span.Span.{Span}
 use Rattle.gather.specs.Image.{IsSomeImage}
-use Rattle.store.specs.Rows.{alike, HasRowids, IsFollowRow, IsExecutedRow, IsSpanRow, IsHeldRow, name_in, id_in, span_in, span, key_of}
+use Rattle.store.specs.Rows.{alike, HasRowids, IsFollowRow, IsExecutedRow, IsSpanRow, IsHeldRow, name_in, id_in, span_in, span_from, key_of}
 use Rattle.store.specs.Changes.{most}
-use Rattle.store.specs.Judge.{Rise, span_of_id}
+use Rattle.store.specs.Judge.{RowidsRise, span_of_id}
 
-pub rise_end : (last : Option ℤ) (rows : List Row) (n : ℕ) → length rows ≤ n → Rise last (drop n rows)
+pub rise_end : (last : Option ℤ) (rows : List Row) (n : ℕ) → length rows ≤ n → RowidsRise last (drop n rows)
 rise_end last [] zero long = tt
 rise_end last [] (suc n) long = tt
 rise_end last (row ∷ rows) zero long = absurd (omega arith)
@@ -28,13 +28,13 @@ rise_end last (row ∷ rows) (suc n) long = rise_end last rows n (omega arith)
 apart : (a b : ℤ) → a <ℤ b → is_eq (value_cmp (Int a) (Int b)) ≡ false
 apart a b less = ap is_eq (value_cmp-Int a b ∙ sym (int_cmp_is a b Less less))
 
-all_above : (a : ℤ) (last : ℤ) (row : Row) (rows : List Row) → rowid row ≡ Int a → (a ≡ last) ⊎ (a <ℤ last) → Rise (Some last) rows → AllByRecursion (λ y. alike row y ≡ false) rows
+all_above : (a : ℤ) (last : ℤ) (row : Row) (rows : List Row) → rowid row ≡ Int a → (a ≡ last) ⊎ (a <ℤ last) → RowidsRise (Some last) rows → AllByRecursion (λ y. alike row y ≡ false) rows
 all_above a last row [] is low rise = tt
 all_above a last row (y ∷ rows) is low rise =
     let less : a <ℤ rise.0 = elim low [ inl same ↦ subst (λ z. z <ℤ rise.0) (sym same) rise.2 | inr below ↦ int_chain a last rise.0 below rise.2 ] in
     (rw (is, rise.1) (apart a rise.0 less), all_above a rise.0 row rows is (inr less) rise.3)
 
-distinct_rising : (last : Option ℤ) (rows : List Row) → Rise last rows → IsDistinct alike rows
+distinct_rising : (last : Option ℤ) (rows : List Row) → RowidsRise last rows → IsDistinct alike rows
 unfolding IsDistinct
 distinct_rising last [] rise = tt
 distinct_rising last (row ∷ rows) rise = (all_above rise.0 rise.0 row rows rise.1 (inl refl) rise.3, distinct_rising (Some rise.0) rows rise.3)
@@ -42,11 +42,11 @@ distinct_rising last (row ∷ rows) rise = (all_above rise.0 rise.0 row rows ris
 int_is : (v : Value) (n : ℤ) → v ≡ Int n → IsTrue (is_int v)
 int_is v n is = rw is refl
 
-keyed_rising : (last : Option ℤ) (rows : List Row) → Rise last rows → AllByRecursion (λ r. IsTrue (is_int (rowid r))) rows
+keyed_rising : (last : Option ℤ) (rows : List Row) → RowidsRise last rows → AllByRecursion (λ r. IsTrue (is_int (rowid r))) rows
 keyed_rising last [] rise = tt
 keyed_rising last (row ∷ rows) rise = (int_is (rowid row) rise.0 rise.1, keyed_rising (Some rise.0) rows rise.3)
 
-pub rise_rowids : (last : Option ℤ) (rows : List Row) → Rise last rows → HasRowids rows
+pub rise_rowids : (last : Option ℤ) (rows : List Row) → RowidsRise last rows → HasRowids rows
 rise_rowids last rows rise = record { apart = distinct_rising last rows rise; keyed = keyed_rising last rows rise }
 
 -- ---- A row by its columns.
@@ -71,14 +71,14 @@ row_of_five (x ∷ row) a b c d e long is0 is1 is2 is3 is4 = let rest = row_of_f
 pub lawful_name : (row : Row) (id : ℤ) (a b x y : List ℕ) → row ≡ Int id ∷ Blob a ∷ Blob b ∷ [] → x ≡ a → y ≡ b → IsFollowRow row × ((x, y) ≡ name_in row)
 lawful_name row id a b x y is first second = ((id, (a, b), is), rw (is, first, second) refl)
 
-pub lawful_id : (row : Row) (id : ℤ) (source : List ℕ) (n : ℕ) (s : Span) → row ≡ Int id ∷ Blob source ∷ Int (pos n) ∷ [] → IsSource source → 1 ≤ n → n < 9223372036854775807 → s ≡ span source n (n + 1)
+pub lawful_id : (row : Row) (id : ℤ) (source : List ℕ) (n : ℕ) (s : Span) → row ≡ Int id ∷ Blob source ∷ Int (pos n) ∷ [] → IsSource source → 1 ≤ n → n < 9223372036854775807 → s ≡ span_from source n (n + 1)
     → IsExecutedRow row × (s ≡ span_of_id (id_in row))
 lawful_id row id source n s is lawful low high s_is =
     ((id, (source, n), is, (lawful, low, omega (arith, high))), s_is ∙ ap (λ r. span_of_id (id_in r)) (sym is))
 
 pub lawful_span : (row : Row) (id : ℤ) (source : List ℕ) (lo hi : ℕ) (s : Span) → row ≡ Int id ∷ Blob source ∷ Int (pos lo) ∷ Int (pos hi) ∷ [] → IsSource source
-    → 1 ≤ lo → lo < hi → hi ≤ most → s ≡ span source lo hi → IsSpanRow row × (s ≡ span_in row)
-lawful_span row id source lo hi s is lawful low some high s_is = ((id, span source lo hi, is, lawful, low, some, omega (arith, high)), s_is ∙ ap span_in (sym is))
+    → 1 ≤ lo → lo < hi → hi ≤ most → s ≡ span_from source lo hi → IsSpanRow row × (s ≡ span_in row)
+lawful_span row id source lo hi s is lawful low some high s_is = ((id, span_from source lo hi, is, lawful, low, some, omega (arith, high)), s_is ∙ ap span_in (sym is))
 
 unstored : (row : Row) (id : ℤ) (a b image : List ℕ) (z : ℤ) → row ≡ Int id ∷ Blob a ∷ Blob b ∷ Blob image ∷ Int z ∷ [] → ¬ IsSomeImage image → ¬ IsHeldRow row
 unstored row id a b image z is none held =

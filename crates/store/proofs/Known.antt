@@ -1,5 +1,6 @@
 -- Which tables a known schema has, and one reading after another.
-use Rattle.std.proofs.Common.{◌≡◌, ℤ, pos, Bool, true, false, is_some, not, MatchBool, Option, Some, List, ◌||◌, ◌&&◌, arith, refl, sym, ap, subst, ◌∙◌}
+use Rattle.std.proofs.Common.{◌≡◌, ℤ, pos, Bool, true, false, is_some, not, MatchBool, Option, Some, List, Result, IfOk, IfErr, ◌||◌, ◌&&◌, arith, refl, sym, ap, subst, ◌∙◌}
+use Rattle.std.proofs.lemmas.Result.{IfOk-weaker, IfErr-weaker}
 use Rattle.std.proofs.lemmas.Bool.{false≢true, true≢false, and_parts, not-false, not-true}
 use Rattle.sqlite_trees.specs.Tree.{Trees}
 use Rattle.sqlite_schema.specs.declared.schema.Schema.{Schema}
@@ -18,7 +19,8 @@ use Rattle.sqlite_value.specs.Order.{Row}
 use Rattle.store.specs.declared.table.meta.Meta.{Meta}
 use Rattle.store.specs.Judge.{IsMeta, IsOnly, layouts}
 use Rattle.store.specs.Rows.{SaysLayout, meta_rows, IsMetaRow}
-use Rattle.store.specs.Load.{StatesLayout, HasLayout}
+use Rattle.store.specs.Load.{StatesLayout, HasLayout, Enters}
+use Rattle.store.specs.declared.load.Loaded.{Loaded}
 use Rattle.store.specs.Beside.{LiesBeside}
 use Rattle.store.specs.Open.{MayStandFor}
 use Rattle.store.specs.Entering.{IsReady, IsKnown, IsDamaged, lacks_first, lacks_second, breaks_first, breaks_second, blank, first, second, lacking, IsOf, IsWhy, IsEntered, IsTurned, MayEnter, names_for, tables_of, has_any, has_first, has_second}
@@ -73,7 +75,7 @@ ready_after old mid same ready = record {
 }
 
 module _ (only : Option Names) (old mid new : State) (same : IsUnchanged old mid) where
-  pub entered_after : (executed : Ids) (names : Names) → IsEntered only mid new executed names → IsEntered only old new executed names
+  entered_after : (executed : Ids) (names : Names) → IsEntered only mid new executed names → IsEntered only old new executed names
   entered_after executed names e = record {
     content = e.content;
     of = subst (λ (db : Stored). IsOf (names_for only) names db e.content) same.0.now_is e.of;
@@ -84,10 +86,10 @@ module _ (only : Option Names) (old mid new : State) (same : IsUnchanged old mid
     same = λ laid. e.same (subst (λ (db : Stored). IsLaidOut db.schema) (sym same.0.now_is) laid) ∙ same.0.now_is;
   }
 
-  pub turned_after : (fault : StoreFault) → IsTurned only mid new fault → IsTurned only old new fault
+  turned_after : (fault : StoreFault) → IsTurned only mid new fault → IsTurned only old new fault
   turned_after fault t = (subst (λ (db : Stored). IsWhy only db fault) same.0.now_is t.0, rests_after old mid new same t.1)
 
-pub may_after : (only : Names) (old mid : State) (db : Trees) → IsUnchanged old mid → MayEnter only mid db → MayEnter only old db
+may_after : (only : Names) (old mid : State) (db : Trees) → IsUnchanged old mid → MayEnter only mid db → MayEnter only old db
 may_after only old mid db same m = record {
   names = m.names;
   content = m.content;
@@ -95,23 +97,40 @@ may_after only old mid db same m = record {
   may = subst (λ (d : Stored). MayStandFor d m.names m.content db) same.0.now_is m.may;
 }
 
-pub may_then : (only : Names) (old mid new : State) → Survives old mid (λ _. ⊥) → Survives mid new (λ _. Unit {0}) → (HasCleanDisk mid → IsUnchanged old mid) → (HasCleanDisk mid → Survives mid new (MayEnter only mid)) → Survives old new (MayEnter only old)
+may_then : (only : Names) (old mid new : State) → Survives old mid (λ _. ⊥) → Survives mid new (λ _. Unit {0}) → (HasCleanDisk mid → IsUnchanged old mid) → (HasCleanDisk mid → Survives mid new (MayEnter only mid)) → Survives old new (MayEnter only old)
 may_then only old mid new one lives same may =
     let two : Survives mid new (MayEnter only mid) = narrowed mid new (MayEnter only mid) (λ _. Unit {0}) lives (λ clean. may (omega (arith, lives.clean, clean))) in
     survives_then old mid new (λ _. ⊥) (MayEnter only mid) (MayEnter only old) (λ _ db none. absurd none) (λ clean db m. may_after only old mid db (same (omega (arith, lives.clean, clean))) m) one two
-
-pub none_then : (only : Names) (old mid new : State) → Survives old mid (λ _. ⊥) → Survives mid new (λ _. Unit {0}) → (HasCleanDisk mid → Survives mid new (λ _. ⊥)) → Survives old new (MayEnter only old)
-none_then only old mid new one lives may =
-    let two : Survives mid new (λ _. ⊥) = narrowed mid new (λ _. ⊥) (λ _. Unit {0}) lives (λ clean. may (omega (arith, lives.clean, clean))) in
-    survives_then old mid new (λ _. ⊥) (λ _. ⊥) (MayEnter only old) (λ _ db none. absurd none) (λ _ db none. absurd none) one two
 
 -- a database of this layout that was read, and is ready as before
 pub record IsFound (mid : State) (layout : KnownLayout) : Type 0 where
   pub ready : IsReady mid
   pub has : HasLayout mid.now layout
 
-pub found : (old mid : State) (layout : KnownLayout) → IsReady old → IsUnchanged old mid → HasLayout old.now layout → IsFound mid layout
+found : (old mid : State) (layout : KnownLayout) → IsReady old → IsUnchanged old mid → HasLayout old.now layout → IsFound mid layout
 found old mid layout ready same has = record { ready = ready_after old mid same ready; has = subst (λ (db : Stored). HasLayout db layout) (sym same.0.now_is) has }
+
+-- It is entered then.
+module _ (only : Option Names) (old mid new : State) (layout : KnownLayout) (r : Result Loaded StoreFault) (enters : Enters only layout mid new r) (ready : IsReady old)
+    (same : HasCleanDisk mid → IsUnchanged old mid) (has : HasCleanDisk mid → HasLayout old.now layout) where
+  early : HasCleanDisk new → HasCleanDisk mid
+  early clean = omega (arith, enters.lives.clean, clean)
+
+  reached : HasCleanDisk mid → IsFound mid layout
+  reached clean = found old mid layout ready (same clean) (has clean)
+
+  pub entered_then : HasCleanDisk new → IfOk r (λ l. IsEntered only old new l.executed l.following)
+  entered_then clean =
+      let it = reached (early clean) in
+      IfOk-weaker r _ _ (λ l e. entered_after only old mid new (same (early clean)) l.executed l.following e) (enters.entered clean it.ready it.has)
+
+  pub turned_then : (tables_of old.now.schema).meta ≡ true → HasCleanDisk new → IfErr r (IsTurned only old new)
+  turned_then meta clean =
+      let it = reached (early clean) in
+      IfErr-weaker r _ _ (λ fault t. turned_after only old mid new (same (early clean)) fault t) (enters.turned clean it.ready it.has (ap (λ (db : Stored). (tables_of db.schema).meta) (same (early clean)).0.now_is ∙ meta))
+
+  pub crash_then : Survives old mid (λ _. ⊥) → Survives old new (MayEnter (names_for only) old)
+  crash_then one = may_then (names_for only) old mid new one enters.lives same (λ clean. let it = reached clean in enters.crash it.ready it.has)
 
 pub meta_there : (schema : Schema) → HasMeta schema → (tables_of schema).meta ≡ true
 meta_there schema m = ap is_some m.found.by_name
@@ -127,9 +146,6 @@ known_none db (blank is) none = is
 known_none db (first is) none = absurd (none_without_meta db.schema none is.meta)
 known_none db (second laid other) none = absurd (none_without_meta db.schema none (laid.meta))
 known_none db (lacking meta one two) none = absurd (none_without_meta db.schema none meta)
-
-pub meta_after : (old mid : State) → IsUnchanged old mid → (tables_of old.now.schema).meta ≡ true → (tables_of mid.now.schema).meta ≡ true
-meta_after old mid same there = ap (λ (db : Stored). (tables_of db.schema).meta) same.0.now_is ∙ there
 
 -- ---- what the rows of meta say
 

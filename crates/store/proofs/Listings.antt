@@ -22,7 +22,7 @@ use Rattle.store.specs.Layout.{IsLaidOut, held_tree}
 use Rattle.store.specs.Load.{AsksAll}
 use Rattle.store.specs.Changes.{most}
 use Rattle.store.specs.Rows.{Key, key_for, IsHeldRow, is_at, share, count, bag_of, blob_in, number_in}
-use Rattle.store.specs.Listing.{Entry, key_cmp, row_cmp, entry_rows, AreRows, shown_entry, without_rowids, listed_text, HasKey, KeysRise}
+use Rattle.store.specs.Listing.{Entry, key_cmp, row_cmp, entry_rows, ListsBag, shown_entry, without_rowids, listed_text, HasKey, KeysRise}
 use Rattle.store.proofs.AnyWhole.{listed_by_key, listed_asks as any_listed}
 use Rattle.store.proofs.Bags.{image_has, has_its_image}
 use Rattle.store.proofs.Keyed.{key_total}
@@ -217,7 +217,7 @@ same_count key held rows same = count_is key rows ∙ sum_by-IsPermutation (shar
 -- The entries of the rows, whose bag this is.
 pub record AreEntries (bag : Bag) (rows : List Row) : Type 0 where
   pub entries : List Entry
-  pub are : AreRows bag entries
+  pub are : ListsBag bag entries
   pub shown : map shown_entry entries ≡ without_rowids rows
   pub images : AllByRecursion (λ (e : Entry). HasImage e.0.cells) entries
 

@@ -12,7 +12,7 @@ use Rattle.store.specs.Layout.{IsLaidOut}
 use Rattle.store.specs.Beside.{LiesBeside}
 use Rattle.store.specs.Changes.{most}
 use Rattle.store.specs.Rows.{Key, IsHeldRow, HasRowids, Finds, meta_rows, held_rows, span_rows, follow_rows, count, KeyCounts, with_one, without_one}
-use Rattle.store.specs.Inside.{IsWorking, GoesOn, HasCounts, Raises, Appear, Adds, AddsNew, added, removed, Counted}
+use Rattle.store.specs.Inside.{IsWorking, StaysOpen, HasCounts, Raises, Appear, Adds, AddsNew, added, removed, Counted}
 use Rattle.store.proofs.RowLemmas.{count_found, count_none}
 
 pub working_same : (old mid : State) → IsUnchanged old mid → IsWorking old → IsWorking mid
@@ -27,7 +27,7 @@ working_same old mid h was = record {
   beside = subst₂ LiesBeside (sym h.0.committed_is) (sym h.0.now_is) was.beside;
 }
 
-pub goes_since : (old mid new : State) → IsUnchanged old mid → GoesOn mid new → GoesOn old new
+pub goes_since : (old mid new : State) → IsUnchanged old mid → StaysOpen mid new → StaysOpen old new
 goes_since old mid new h next = record {
   working = next.working;
   schema = next.schema ∙ ap (λ (d : Database). d.schema) h.0.now_is;
@@ -75,7 +75,7 @@ pub counted_missing : (old new : State) (key : Key) → count (held_rows old.now
 counted_missing old new key is = let test : nat_lt 0 (count (held_rows old.now) key) ≡ false = rw is refl in rw test refl
 
 -- ---- one call after another
-pub goes_then : (old mid new : State) → GoesOn old mid → GoesOn mid new → GoesOn old new
+pub goes_then : (old mid new : State) → StaysOpen old mid → StaysOpen mid new → StaysOpen old new
 goes_then old mid new one two = record {
   working = two.working;
   schema = two.schema ∙ one.schema;

@@ -30,7 +30,7 @@ use Rattle.store.specs.Layout.{meta, meta_text, held, held_text, spans, spans_te
 use Rattle.store.specs.Rows.{AreNames, IsFollowRow, name_in, meta_rows, held_rows, span_rows, follow_rows}
 use Rattle.store.specs.Making.{IsMaking, IsNaming, layout_row, with_tables, trees_of, with_meta, with_held, with_spans, new_layout, layout_text, layout_terms, add_name_text, add_name_terms}
 use Rattle.store.proofs.Beside.{made, laid_out, meta_at_one, meta_at_two, meta_at_three, meta_at_base, held_at_one, spans_at_two, follow_at_three, counted_base, counted_one, counted_two, counted_three}
-use Rattle.store.proofs.AnyMaking.{MakesTable, runs_made, meta_makes, held_makes, spans_makes, follow_makes, layout_is, layout_plain, add_name_is, add_name_plain}
+use Rattle.store.proofs.AnyMaking.{MakesTable, runs_made, meta_makes, held_makes, spans_makes, follow_makes, layout_means, add_name_means}
 use Rattle.store.proofs.Statements.{puts, Applied, went, same_value, cast_null, cast_int}
 use Rattle.store.proofs.RowLemmas.{put_among}
 use Rattle.store.specs.Beside.{LiesBeside, own_names, has_other_key, other_keys}
@@ -184,12 +184,12 @@ module _ (old new : State) (l : IsLaidOut old.now.schema) where
   db = old.now.trees
 
   marked : (count : ℕ) → Executes layout_text [] old new (Ok count) → Applied schema old new (edit_of db (meta_at schema) [] Chosen 0 ((Null ∷ Text (codes "layout") ∷ Int (pos 2) ∷ []) ∷ []))
-  marked count h = puts schema l.meta.at (meta_tree schema) _ _ _ _ l.meta.found layout_text [] (layout_plain schema l.meta.at (meta_tree schema) l.meta.found) old new refl count h layout_terms 3 (layout_is schema l.meta.at (meta_tree schema) l.meta.found)
+  marked count h = puts schema l.meta.at (meta_tree schema) _ _ _ _ l.meta.found layout_text [] old new refl count h layout_terms 3 (layout_means schema l.meta.at (meta_tree schema) l.meta.found)
 
   named : (name : Name) (count : ℕ) → Executes add_name_text (Blob name.0 ∷ Blob name.1 ∷ []) old new (Ok count) → Applied schema old new (edit_of db (follow_at schema) [] Chosen 0 ((Null ∷ Blob name.0 ∷ Blob name.1 ∷ []) ∷ []))
   named name count h =
-      puts schema l.follow.at (follow_tree schema) _ _ _ _ l.follow.found add_name_text (Blob name.0 ∷ Blob name.1 ∷ []) (add_name_plain schema l.follow.at (follow_tree schema) l.follow.found) old new refl count h
-      add_name_terms 3 (add_name_is schema l.follow.at (follow_tree schema) l.follow.found)
+      puts schema l.follow.at (follow_tree schema) _ _ _ _ l.follow.found add_name_text (Blob name.0 ∷ Blob name.1 ∷ []) old new refl count h
+      add_name_terms 3 (add_name_means schema l.follow.at (follow_tree schema) l.follow.found)
 
 marks : (old new : State) (count : ℕ) → IsMaking new_layout old → Executes layout_text [] old new (Ok count) → IsNaming set.empty new
 marks old new count was h =

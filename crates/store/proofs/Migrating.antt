@@ -50,7 +50,7 @@ use Rattle.store.proofs.Beside.{has_still, tree_still}
 use Rattle.store.proofs.Keys.{keys_there}
 use Rattle.store.proofs.Cut.{base_has, one_has, counted_base, counted_one, bare}
 use Rattle.store.proofs.Left.{cut, not_acted, meta_left, held_left, meta_off, held_off, rows_left, beside_dropped}
-use Rattle.store.proofs.MigratingTexts.{raise_is, raise_plain}
+use Rattle.store.proofs.MigratingTexts.{raise_means}
 use Rattle.store.proofs.Making.{creates, still_made, still_empty, made_trees}
 use Rattle.store.proofs.Selects.{shown_bool}
 use Rattle.store.proofs.Spared.{beside_unchanged, own_found, own_executed, own_meta, own_spans, own_follow}
@@ -226,8 +226,8 @@ raises content old new count was h =
     let tree = meta_tree schema in
     let db = old.now.trees in
     let rows = meta_rows old.now in
-    let answer = changes schema l.meta.at tree _ _ _ _ l.meta.found raise_text [] (raise_plain schema l.meta.at tree l.meta.found) old new refl count h
-    was.tables.meta_free says_layout (col 1 0 ∷ col 1 0 ∷ col 1 1 ∷ lit (Int (pos 2)) ∷ []) is_layout layout_holds (raise_is schema l.meta.at tree l.meta.found) in
+    let answer = changes schema l.meta.at tree _ _ _ _ l.meta.found raise_text [] old new refl count h
+    was.tables.meta_free says_layout (col 1 0 ∷ col 1 0 ∷ col 1 1 ∷ lit (Int (pos 2)) ∷ []) is_layout layout_holds (raise_means schema l.meta.at tree l.meta.found) in
     let a = answer.2 in
     let edit = edit_of db (meta_at schema) (ids_of answer.0) Given 1 answer.0 in
     let it = found rows was.meta_apart was.meta was.says in

@@ -1,5 +1,5 @@
 -- What the text of the migration that writes a row means.
-use Rattle.std.proofs.Common.{◌≡◌, ◌<◌, ◌-◌, ℕ, suc, true, false, nat_lt, List, [], ◌∷◌, codes, pos, Ok, Some, None, refl, ap, arith}
+use Rattle.std.proofs.Common.{◌≡◌, ◌<◌, ◌-◌, ℕ, suc, true, false, nat_lt, List, [], ◌∷◌, codes, pos, Ok, Some, None, refl, arith}
 use Rattle.std.proofs.lemmas.Bool.{lt-ltb}
 use Rattle.sqlite_value.specs.declared.keys.Collation.TheVariants.{Binary}
 use Rattle.sqlite_value.specs.declared.value.Value.TheVariants.{Null, Int, Text as Bytes}
@@ -24,10 +24,8 @@ use Rattle.sqlite_resolve.specs.Compare.{compared, converted, affinity_of, spell
 use Rattle.sqlite_resolve.specs.Body.{tests}
 use Rattle.sqlite_resolve.specs.Expr.{lower, lower_to, node, opened, passes, operation, both, combine, wanted_truth, tests_truth, tests_alias}
 use Rattle.sqlite_resolve.specs.Write.{assigned, row}
-use Rattle.sqlite_resolve.specs.Compile.{first, with_command}
+use Rattle.sqlite_resolve.specs.Compile.{first}
 use Rattle.sqlite_tied.specs.Compute.{everything}
-use Rattle.sqlite.specs.Listing.{understood}
-use Rattle.sqlite.proofs.Callers.{IsPlain, command_of}
 use Rattle.store.specs.Layout.{IsFound, meta}
 use Rattle.store.specs.Migrating.{raise_text, says_layout, raise_query}
 use Rattle.store.proofs.AnySchema.{Means, means}
@@ -89,14 +87,8 @@ module _ (schema : Schema) (at tree : ℕ) (f : IsFound schema at (record meta {
   unfolding everything
   raise_row = refl
 
-  raise_means : Means schema raise_text (with_command raise_parsed ([], (Update at (record { lets = []; body = raise_query tree }), None)))
+  pub raise_means : Means schema raise_text (Update at (record { lets = []; body = raise_query tree }))
   raise_means =
-      means schema raise_text _
+      means schema raise_text raise_parsed _
       (compiled_update schema (codes "meta") at meta_table f.by_name f.by_index (Some layout_test) says_layout 99999 99996 nothing nothing set_layout (2 ∷ []) (lit (Int (pos 2)) ∷ []) raised_row (raise_query tree) raise_assigns raise_row
       layout_tests raise_text raise_parsed raise_parses refl refl (program_is schema at meta_table f says_layout raised_row [] refl refl refl))
-
-  pub raise_is : command_of (understood schema raise_text) ≡ Update at (record { lets = []; body = raise_query tree })
-  raise_is = ap command_of raise_means.is
-
-  pub raise_plain : IsPlain (understood schema raise_text)
-  raise_plain = rw (raise_means.is) (refl, refl)

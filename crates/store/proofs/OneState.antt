@@ -26,8 +26,8 @@ use Rattle.gtid.proofs.Sets.{id_cmp_total, id_cmp-same, listed_in_interval}
 use Rattle.binlog.specs.Filter.{Names}
 use Rattle.store.specs.State.{Content}
 use Rattle.store.specs.Layout.{spans_at, IsFirstLaidOut, IsLaidOut, IsVacant}
-use Rattle.store.specs.Rows.{SaysLayout, StandsFor, StandsForFirst, KeepsRules, AreSpans, HasRowids, IsSpanRow, meta_rows, executed_rows, follow_rows, held_rows, span_rows, bag_of, count, id_in as id_at, name_in, span, span_in, stored_span, shown_span, shown_spans, touches, blob_in, number_in}
-use Rattle.store.specs.Entering.{IsStored, IsOf, IsDamaged, no_meta, no_layout, lacks_first, lacks_second, breaks_first, breaks_second, IsOther, IsKnown, blank, first, second, tables_of, has_any, has_first, has_second}
+use Rattle.store.specs.Rows.{SaysLayout, StandsFor, StandsForFirst, KeepsRules, AreSpans, HasRowids, IsSpanRow, meta_rows, executed_rows, follow_rows, held_rows, span_rows, bag_of, count, id_in as id_at, name_in, span_from, span_in, stored_span, shown_span, shown_spans, touches, blob_in, number_in}
+use Rattle.store.specs.Entering.{IsStored, IsOf, IsDamaged, no_meta, no_layout, lacks_first, lacks_second, breaks_first, breaks_second, IsOtherLayout, IsKnown, blank, first, second, tables_of, has_any, has_first, has_second}
 use Rattle.store.proofs.AnyWhole.{has_index}
 use Rattle.store.proofs.Known.{meta_there, none_meta, none_any, known_first, known_second}
 use Rattle.store.proofs.Readings.{row_lengths}
@@ -52,7 +52,7 @@ says_second db names content h = h.says
 -- ---- One set of the rows of spans.
 
 abbrev span_shown : Row → Span
-span_shown r = span (blob_in (column r 0)) (number_in (column r 1)) (number_in (column r 2))
+span_shown r = span_from (blob_in (column r 0)) (number_in (column r 1)) (number_in (column r 2))
 
 shown_back : (spans : List Span) → map span_shown (map stored_span spans) ≡ spans
 shown_back [] = refl
@@ -174,12 +174,12 @@ not_damaged only db n a sound rowids (inr (inr p)) (lacks_second there says lack
 not_damaged only db n a sound rowids (inr (inr p)) (breaks_first there says off) = off p.1.rules
 not_damaged only db n a sound rowids (inr (inr p)) (breaks_second there says off) = two_layouts (meta_rows db) p.1.says says
 
-pub not_other : (only : Names) (db : Database) (n : Names) (a : Content) (k : ℤ) → IsOf only n db a → IsOther db k → ⊥
+pub not_other : (only : Names) (db : Database) (n : Names) (a : Content) (k : ℤ) → IsOf only n db a → IsOtherLayout db k → ⊥
 not_other only db n a k (inl p) o = blank_meta db.schema p.0.0 o.0
 not_other only db n a k (inr (inl p)) o = o.3 (one_number (meta_rows db) k (pos 2) o.1 (says_second db n a p))
 not_other only db n a k (inr (inr p)) o = o.2 (one_number (meta_rows db) k (pos 1) o.1 p.1.says)
 
-pub never_two : (db : Database) (k : ℤ) → IsDamaged db → IsOther db k → ⊥
+pub never_two : (db : Database) (k : ℤ) → IsDamaged db → IsOtherLayout db k → ⊥
 never_two db k (no_meta none any) o = false≢true (sym none ∙ o.0)
 never_two db k (no_layout there off) o = off k o.1
 never_two db k (lacks_first there says lacks) o = o.2 (one_number (meta_rows db) k (pos 1) o.1 says)
@@ -201,7 +201,7 @@ in_spans q (s ∷ spans) =
 covered : (spans : List Span) → Covers spans (set.from_list (ids_of_spans spans))
 covered spans q = set.contains-from_list id_cmp_total (ids_of_spans spans) q ∙ in_spans q spans
 
-pub some_state : (db : Database) → IsKnown db → has_any (tables_of db.schema) ≡ true → ((n : Names) (a : Content) → ¬ IsStored n db a) → ¬ IsDamaged db → ((k : ℤ) → ¬ IsOther db k) → ⊥
+pub some_state : (db : Database) → IsKnown db → has_any (tables_of db.schema) ≡ true → ((n : Names) (a : Content) → ¬ IsStored n db a) → ¬ IsDamaged db → ((k : ℤ) → ¬ IsOtherLayout db k) → ⊥
 some_state db known any none sound alike = elim (cases_Bool (tables_of db.schema).meta) [
   | inl there ↦ sound (no_layout there (λ n says. one_of_all there n says))
   | inr off ↦ sound (no_meta off any)

@@ -1,5 +1,5 @@
 -- A transaction from its begin to its end.
-use Rattle.std.proofs.Common.{◌≡◌, inl, inr, ℕ, true, false, Option, Ok, Err, Result, refl, sym, ap, subst, subst₂, ◌∙◌, arith}
+use Rattle.std.proofs.Common.{◌≡◌, inl, inr, ℕ, Bool, true, false, Option, Ok, Err, Result, refl, sym, ap, subst, subst₂, ◌∙◌, arith}
 use Rattle.std.specs.Result.{IsErr}
 use Rattle.sqlite_trees.specs.declared.store.Store as store
 use Rattle.sqlite_trees.specs.Tree.{Trees}
@@ -15,10 +15,11 @@ use Rattle.gather.specs.Transaction.{DeliveryValue}
 use Rattle.store.specs.declared.row_change.Refusal.{Refusal}
 use Rattle.store.specs.State.{Content}
 use Rattle.store.specs.Rows.{StandsFor, HasRowids, held_rows, span_rows}
-use Rattle.store.specs.Inside.{IsWorking, GoesOn}
+use Rattle.store.specs.Inside.{IsWorking, StaysOpen}
+use Rattle.store.specs.Making.{HasMade}
 use Rattle.store.proofs.Spared.{beside_unchanged}
 use Rattle.store.specs.Beside.{LiesBeside}
-use Rattle.store.specs.Apply.{IsApplied, IsAppliedAlone, IsAtRest, Rests, IsAtRestAfter, Runs, MayCommit}
+use Rattle.store.specs.Apply.{IsApplied, IsAppliedAlone, IsAtRest, Rests, IsAtRestAfter, RunsTransaction, MayCommit}
 
 pub begun_working : {S : Type 0} (g : store.Ghosts S) (h : Held S) (names : Names) (content : Content) → IsAtRest (state g h) names content → IsWorking (state g (record h { in_transaction = true }))
 begun_working g h names content rest = record {
@@ -54,39 +55,59 @@ pub rests_failed : (t m n : State) (e : Error) → t.now ≡ t.committed → Kee
 rests_failed t m n e settled kept inside (inl fails) = rests_rolled t m n settled kept fails.3
 rests_failed t m n e settled kept inside (inr late) = absurd (let no = late.1 in cc)
 
+-- ---- committed
+
+-- the tables that were made in the transaction
+pub at_rest : (names : Names) (content : Content) (m n : State) → HasMade m names content → Shows m n m.now m.now false → IsAtRest n names content
+at_rest names content m n made h = record {
+  is_open = h.is_open;
+  settled = h.now_is ∙ sym h.committed_is;
+  held_apart = subst (λ (db : Database). HasRowids (held_rows db)) (sym h.now_is) made.working.held_apart;
+  spans_apart = subst (λ (db : Database). HasRowids (span_rows db)) (sym h.now_is) made.working.spans_apart;
+  stands = subst (λ (db : Database). StandsFor db names content) (sym h.now_is) made.stands;
+  sound = subst IsDatabase (sym h.now_is) made.working.sound;
+}
+
 module _ (names : Names) (content : Content) (d : DeliveryValue) where
-  pub runs_err : {E : Type 0} (a n : State) (r : Result (Option (ℕ × Refusal)) E) → IsErr r → Rests a n → Runs names content d a n r
-  runs_err a n (Ok o) is rests = absurd (cc)
-  runs_err a n (Err e) is rests = rests
+  pub runs_err : {E : Type 0} (in_order : Bool) (a n : State) (r : Result (Option (ℕ × Refusal)) E) → IsErr r → Rests a n → RunsTransaction in_order names content d a n r
+  runs_err in_order a n (Ok o) is rests = absurd (cc)
+  runs_err in_order a n (Err e) is rests = rests
 
-  -- ---- applied
-
-  pub has_taken : (t m n : State) → GoesOn t m × IsApplied names content d m.now.schema m.now.trees → Shows m n m.now m.now false → t.now ≡ t.committed → IsAtRestAfter names content d n × (n.now.schema ≡ t.now.schema) × LiesBeside t.now n.now
-  has_taken t m n it h settled = (
-    record {
-      after = it.1.after;
-      outcome = it.1.outcome;
-      rest = record {
-        is_open = h.is_open;
-        settled = h.now_is ∙ sym h.committed_is;
-        held_apart = subst (λ (db : Database). HasRowids (held_rows db)) (sym h.now_is) it.0.working.held_apart;
-        spans_apart = subst (λ (db : Database). HasRowids (span_rows db)) (sym h.now_is) it.0.working.spans_apart;
-        stands = subst (λ (db : Database). StandsFor db names it.1.after) (sym h.now_is) it.1.stands.stands;
-        sound = subst IsDatabase (sym h.now_is) it.0.working.sound;
-      };
-    },
-    ap (λ (db : Database). db.schema) h.now_is ∙ it.0.schema,
-    subst₂ LiesBeside (it.0.committed ∙ sym settled) (sym h.now_is) it.0.working.beside,
-  )
-
-  -- ---- what a crash leaves
-
-  pub leaves : (t m : State) → GoesOn t m × IsApplied names content d m.now.schema m.now.trees → (db : Trees) → db ≡ m.now.trees → t.now ≡ t.committed → IsAppliedAlone names content d t db
-  leaves t m it db is settled = (
-    subst₂ (λ s trees. IsApplied names content d s trees) it.0.schema (sym is) it.1,
-    subst₂ (λ s trees. LiesBeside t.now (record { schema = s; trees = trees })) it.0.schema (sym is) (subst (λ c. LiesBeside c m.now) (it.0.committed ∙ sym settled) it.0.working.beside),
-  )
-
-  pub may_commit_err : {E : Type 0} (a : State) (r : Result (Option (ℕ × Refusal)) E) (db : Trees) → IsErr r → IsAppliedAlone names content d a db → MayCommit names content d a r db
+  pub may_commit_err : {E : Type 0} (a : Database) (r : Result (Option (ℕ × Refusal)) E) (db : Trees) → IsErr r → IsAppliedAlone names content d a db → MayCommit names content d a r db
   may_commit_err a (Ok o) db is applied = absurd (cc)
   may_commit_err a (Err e) db is applied = applied
+
+-- The transaction was filled, and its commit was tried.
+module _ {S : Type 0} (g : store.Ghosts S) (h : Held S) (names : Names) (content : Content) (d : DeliveryValue) (m n : State) (rest : IsAtRest (state g h) names content)
+    (fills : HasCleanDisk m → StaysOpen (state g (record h { in_transaction = true })) m × IsApplied names content d m.now.schema m.now.trees) (survives : Survives m n (λ db. db ≡ m.now.trees)) where
+  abbrev t : State
+  t = state g (record h { in_transaction = true })
+
+  early : HasCleanDisk n → HasCleanDisk m
+  early late = omega (arith, survives.clean, late)
+
+  pub taken : (HasCleanDisk n → Shows m n m.now m.now false) → HasCleanDisk n → IsAtRestAfter names content d n × (n.now.schema ≡ (state g h).now.schema) × LiesBeside (state g h).now n.now
+  taken shows late =
+      let it = fills (early late) in
+      let made : HasMade m names it.1.after = record { working = it.0.working; stands = it.1.stands.stands } in
+      let shown = shows late in (
+        record { after = it.1.after; outcome = it.1.outcome; rest = at_rest names it.1.after m n made shown },
+        ap (λ (db : Database). db.schema) shown.now_is ∙ it.0.schema,
+        subst₂ LiesBeside (it.0.committed ∙ sym rest.settled) (sym shown.now_is) it.0.working.beside,
+      )
+
+  pub untaken : (e : Error) → (HasCleanDisk n → FailsToCommit m n e) → HasCleanDisk n → Rests (state g h) n
+  untaken e fails late =
+      let it = fills (early late) in
+      rests_failed t m n e rest.settled (record { was_open = λ _. rest.is_open; committed = λ _. it.0.committed }) it.0.working.inside (fails late)
+
+  -- what a crash leaves
+  leaves : HasCleanDisk n → (db : Trees) → db ≡ m.now.trees → IsAppliedAlone names content d (state g h).now db
+  leaves late db is =
+      let it = fills (early late) in (
+        subst₂ (λ s trees. IsApplied names content d s trees) it.0.schema (sym is) it.1,
+        subst₂ (λ s trees. LiesBeside t.now (record { schema = s; trees = trees })) it.0.schema (sym is) (subst (λ c. LiesBeside c m.now) (it.0.committed ∙ sym rest.settled) it.0.working.beside),
+      )
+
+  pub may_take : Survives t m (λ _. ⊥) → Survives (state g h) n (λ db. IsAppliedAlone names content d (state g h).now db)
+  may_take inside = survives_begin g h n _ (survives_then t m n (λ _. ⊥) (λ db. db ≡ m.now.trees) _ (λ _ db none. absurd none) leaves inside survives)

@@ -21,7 +21,7 @@ use Rattle.store.specs.State.{Content}
 use Rattle.store.specs.Layout.{IsLaidOut, IsFirstLaidOut, IsFound, HasTable, IsApart, IsNoParent, tree_named, meta, executed, held, spans, follow, meta_tree, executed_tree, held_tree, spans_tree, follow_tree}
 use Rattle.store.specs.Rows.{StandsFor, SaysLayout, HasRowids, IsMetaRow, IsHeldRow, IsExecutedRow, id_in, AreNames, AreSpans, span_rows, bag_of, count}
 use Rattle.store.specs.Apply.{AreOf, IsAtRest}
-use Rattle.store.specs.Entering.{IsOf, IsReady, IsWanted, IsRefused, IsTurned, IsLeft, MayEnter, names_for}
+use Rattle.store.specs.Entering.{IsOf, IsReady, IsWanted, IsRefusedOpening, IsTurned, IsLeft, MayEnter, names_for}
 use Rattle.store.proofs.SameSchema.{tables_again, next_again, vacant_again}
 use Rattle.store.proofs.OneState.{one_of, known_of, not_damaged, not_other}
 use Rattle.store.proofs.Entered.{weaken}
@@ -170,7 +170,7 @@ module _ (only names : Names) (content : Content) (s : State) (is_open : IsTrue 
   survives_again new h = weaken s new (MayEnter only s) (IsLeft only names content) left_again h
 
 pub refused_for : (wanted : Option Names) (names : Names) (content : Content) (s : State) → IsDatabase s.now → IsLeft (names_for wanted) names content s.now.trees
-    → (fault : StoreFault) (new : State) → IsTurned wanted s new fault → IsRefused wanted names fault
+    → (fault : StoreFault) (new : State) → IsTurned wanted s new fault → IsRefusedOpening wanted names fault
 refused_for wanted names content s sound left (NoSuchRow at) new t = inl t.0
 refused_for wanted names content s sound left (CountFull at) new t = inl t.0
 refused_for wanted names content s sound left (Database e) new t = inl tt

@@ -18,7 +18,7 @@ use Rattle.sqlite.specs.State.{State, ExecutesInside}
 use Rattle.sqlite.proofs.Callers.{one_permutation}
 use Rattle.store.specs.Layout.{IsLaidOut, meta_at, held_at, spans_at, follow_at, spans_tree, add_span_text, drop_span_text, set_end_text}
 use Rattle.store.specs.Rows.{IsHeldRow, HasRowids, meta_rows, held_rows, span_rows, shown_span, shown_spans, begins_at}
-use Rattle.store.specs.Inside.{IsWorking, GoesOn, Moves, Begins}
+use Rattle.store.specs.Inside.{IsWorking, StaysOpen, Moves, Begins}
 use Rattle.store.proofs.Statements.{Applied, cast_null, cast_int, adds_span, drops_span, sets_end}
 use Rattle.store.proofs.RowLemmas.{rowids_put, rowids_without, left_is, put_among}
 use Rattle.store.proofs.Effects.{fresh_alone, keyed_row, own_id, same_rows, stays, still_beside, meta_spans, held_spans, follow_spans}
@@ -91,7 +91,7 @@ module _ (old new : State) (was : IsWorking old) where
   meta_stays : (edit : Edit) → Applied schema old new edit → edit.table ≡ spans_at schema → meta_rows new.now ≡ meta_rows old.now
   meta_stays edit h at = same_rows old new (codes "meta") h.schema_is (stays schema l.meta.at (meta_at schema) old.now.trees new.now.trees edit l.meta.found h.step (rw at (meta_spans schema l)))
 
-  goes_on : (edit : Edit) → Applied schema old new edit → edit.table ≡ spans_at schema → HasRowids (new.now.trees (spans_tree schema)) → GoesOn old new
+  goes_on : (edit : Edit) → Applied schema old new edit → edit.table ≡ spans_at schema → HasRowids (new.now.trees (spans_tree schema)) → StaysOpen old new
   goes_on edit h at shaped = record {
     working = record {
       is_open = h.shown.is_open;
@@ -212,7 +212,7 @@ module _ (old new : State) (was : IsWorking old) where
   done_set source lo end hi others (Err e) begins h = tt
 
   -- whichever rows there were
-  pub drop_goes : (source : List ℕ) (lo : ℤ) (r : Result ℕ Error) → ExecutesInside 0 drop_span_text (Blob source ∷ Int lo ∷ []) old new r → OnOk r (GoesOn old new)
+  pub drop_goes : (source : List ℕ) (lo : ℤ) (r : Result ℕ Error) → ExecutesInside 0 drop_span_text (Blob source ∷ Int lo ∷ []) old new r → OnOk r (StaysOpen old new)
   drop_goes source lo (Ok n) h =
       let it = drops_span schema l old new refl l.spans_free source lo n h.0 in
       goes_on _ it.2 refl (rw it.2.step.rows (rowids_without_all (ids_of it.0) rows shaped_old))

@@ -11,7 +11,7 @@ use Rattle.std.proofs.lemmas.Slice.Eq.{bytes_eq-Decides}
 use Rattle.sqlite_value.specs.Order.{Row}
 use Rattle.gtid.specs.Identifier.{Id, Ids, IsSource, IsGtid, id_cmp}
 use Rattle.gtid.specs.Span.{is_in, Covers, IsBefore, IsLeast, IsLawfulSpan}
-use Rattle.gtid.specs.Gathering.{Rise, Follows}
+use Rattle.gtid.specs.Gathering.{SpansRise, ComesAfter}
 use Rattle.gtid.specs.declared.span.Span.{Span}
 use Rattle.gtid.proofs.Sets.{id_cmp_total, id_cmp-same, tied}
 use Rattle.gtid.proofs.SomeLeastList.{one_number}
@@ -29,20 +29,20 @@ and_false : (b c : Bool) → b ≡ true → (b && c) ≡ false → c ≡ false
 and_false true c is h = h
 and_false false c is h = absurd (cc)
 
-before_from : (a b : Span) → b.lo < b.hi → Follows a.source a.lo b → touches a b ≡ false → IsBefore a b
+before_from : (a b : Span) → b.lo < b.hi → ComesAfter a.source a.lo b → touches a b ≡ false → IsBefore a b
 before_from a b some (inl less) off = inl less
 before_from a b some (inr at) off =
     let one = (bytes_eq-Decides a.source b.source).1 (sym at.0) in
     let low = le-leb a.lo b.hi (omega (arith, at.1, some)) in
     inr (sym at.0, leb-false b.lo a.hi (and_false (nat_le a.lo b.hi) (nat_le b.lo a.hi) low (and_false (bytes_eq a.source b.source) _ one off)))
 
-least_from : (a : Span) (spans : List Span) → AllByRecursion IsLawfulSpan (a ∷ spans) → Rise (a ∷ spans) → apart_from (Some a) spans ≡ true → IsLeast (a ∷ spans)
+least_from : (a : Span) (spans : List Span) → AllByRecursion IsLawfulSpan (a ∷ spans) → SpansRise (a ∷ spans) → apart_from (Some a) spans ≡ true → IsLeast (a ∷ spans)
 least_from a [] lawful rise off = lawful.0.1
 least_from a (b ∷ spans) lawful rise off =
     let parts = and_parts (not (touches a b)) (apart_from (Some b) spans) off in
     (lawful.0.1, before_from a b lawful.1.0.1 rise.0.0 (not-true (touches a b) parts.0), least_from b spans lawful.1 rise.1 parts.1)
 
-apart_distinct : (spans : List Span) → AllByRecursion IsLawfulSpan spans → Rise spans → apart_from None spans ≡ true → IsDistinct touches spans
+apart_distinct : (spans : List Span) → AllByRecursion IsLawfulSpan spans → SpansRise spans → apart_from None spans ≡ true → IsDistinct touches spans
 unfolding IsDistinct
 apart_distinct [] lawful rise off = tt
 apart_distinct (a ∷ spans) lawful rise off = all_distinct (a ∷ spans) (least_from a spans lawful rise off)
@@ -68,7 +68,7 @@ and_flip false false = refl
 pub flips : (a b : Span) → touches a b ≡ touches b a
 flips a b = rw (bytes_eq-sym a.source b.source, and_flip (nat_le a.lo b.hi) (nat_le b.lo a.hi)) refl
 
-module _ (spans sorted : List Span) (same : IsPermutation spans sorted) (rise : Rise sorted) (lawful : AllByRecursion IsLawfulSpan sorted) where
+module _ (spans sorted : List Span) (same : IsPermutation spans sorted) (rise : SpansRise sorted) (lawful : AllByRecursion IsLawfulSpan sorted) where
   pub set_damaged : apart_from None sorted ≡ false → IsDistinct touches spans → ⊥
   set_damaged off up = not_apart sorted off (IsDistinct-IsPermutation touches flips spans sorted same up)
 

@@ -29,10 +29,10 @@ use Rattle.sqlite.specs.declared.run.Mode.{Mode}
 use Rattle.sqlite.specs.Does.{Tally, Does, OnTable, OnRows, WritesRows, AtPlace}
 use Rattle.sqlite.specs.Listing.{understood}
 use Rattle.sqlite.specs.State.{State, Writes, mode_of, Executes, Shown, IsUnchanged, Shows as Sees}
-use Rattle.sqlite.proofs.Callers.{command_of, statement_of, runs_as, reads_as, one_step, IsPlain}
+use Rattle.sqlite.proofs.Callers.{statement_of, runs_as, reads_as, one_step, IsPlain}
 use Rattle.store.specs.Layout.{IsLaidOut, IsFound, IsApart, keyed, among, held_at, held_tree, read_text, insert_text, insert_eight_text, update_text, delete_text, has_key, has_count, read_query, insert_terms, insert_eight_terms, spans_at, spans_tree, add_span_text, drop_span_text, set_end_text, has_start, add_span_terms}
 use Rattle.store.specs.Rows.{Key, key_of, is_at, has_n, begins_at, shown_span}
-use Rattle.store.proofs.AnySchema.{read_is, read_plain, insert_is, insert_plain, insert_eight_is, insert_eight_plain, update_is, update_plain, delete_is, delete_plain, add_span_is, add_span_plain, drop_span_is, drop_span_plain, set_end_is, set_end_plain}
+use Rattle.store.proofs.AnySchema.{Means, read_means, insert_means, insert_eight_means, update_means, delete_means, add_span_means, drop_span_means, set_end_means}
 use Rattle.store.proofs.Selects.{key_params, key_holds, count_holds, start_holds, answers, stored_read}
 use Rattle.store.proofs.Works.{no_works}
 
@@ -88,7 +88,7 @@ on_table limit mode params db at table P out there h =
 -- ---- A statement that writes the rows of one table of the store.
 
 module _ (schema : Schema) (at tree : ℕ) (name : List ℕ) (columns : List Column) (key_columns : List ℕ) (checks : List Term) (found : IsFound schema at (record (keyed name columns key_columns checks) { tree = tree }))
-    (sql : List ℕ) (params : Row) (plain : IsPlain (understood schema sql)) (old new : State) (has : old.now.schema ≡ schema) (count : ℕ) (h : Executes sql params old new (Ok count)) where
+    (sql : List ℕ) (params : Row) (old new : State) (has : old.now.schema ≡ schema) (count : ℕ) (h : Executes sql params old new (Ok count)) where
   abbrev table : Table
   table = record (keyed name columns key_columns checks) { tree = tree }
 
@@ -120,10 +120,10 @@ module _ (schema : Schema) (at tree : ℕ) (name : List ℕ) (columns : List Col
   }
 
   -- INSERT of rows that the text has
-  pub puts : (terms : List Term) (width : ℕ) → command_of (understood schema sql) ≡ Insert at (Values terms width) → Applied schema old new (edit_of db table [] Chosen 0 (value_rows (params ++ []) width (length terms / width) terms))
-  puts terms width is =
+  pub puts : (terms : List Term) (width : ℕ) → Means schema sql (Insert at (Values terms width)) → Applied schema old new (edit_of db table [] Chosen 0 (value_rows (params ++ []) width (length terms / width) terms))
+  puts terms width m =
       let command = Insert at (Values terms width) in
-      let w = runs_as sql params old new schema has command is plain count h in
+      let w = runs_as sql params old new schema has command m.is m.plain count h in
       let done = on_rows command w (changed_by command w) in
       let given = went done.1 in
       let put = went (went given.2).2 in
@@ -143,10 +143,10 @@ module _ (schema : Schema) (at tree : ℕ) (name : List ℕ) (columns : List Col
     of_answer : (rows : List Row) → Answers (record { schema = schema; trees = db }) program params rows → Shows rows
     of_answer rows a = answers tests params p says tree shown (overlay db []) Null rows (db tree) (stored_read db tree found.stored) (a.answer Null)
 
-    pub removes : command_of (understood schema sql) ≡ Delete at program → (rows : List Row) × Shows rows × Applied schema old new (edit_of db table (ids_of rows) Given 0 []) × (count ≡ length rows)
-    removes is =
+    pub removes : Means schema sql (Delete at program) → (rows : List Row) × Shows rows × Applied schema old new (edit_of db table (ids_of rows) Given 0 []) × (count ≡ length rows)
+    removes m =
         let command = Delete at program in
-        let w = runs_as sql params old new schema has command is plain count h in
+        let w = runs_as sql params old new schema has command m.is m.plain count h in
         let done = on_rows command w (changed_by command w) in
         let queried = went done.1 in
         let put = went queried.2 in
@@ -161,10 +161,10 @@ module _ (schema : Schema) (at tree : ℕ) (name : List ℕ) (columns : List Col
         as_many [] = refl
         as_many (r ∷ rows) = ap suc (as_many rows)
 
-    pub changes : command_of (understood schema sql) ≡ Update at program → (rows : List Row) × Shows rows × Applied schema old new (edit_of db table (ids_of rows) Given 1 rows)
-    changes is =
+    pub changes : Means schema sql (Update at program) → (rows : List Row) × Shows rows × Applied schema old new (edit_of db table (ids_of rows) Given 1 rows)
+    changes m =
         let command = Update at program in
-        let w = runs_as sql params old new schema has command is plain count h in
+        let w = runs_as sql params old new schema has command m.is m.plain count h in
         let done = on_rows command w (changed_by command w) in
         let queried = went done.1 in
         let put = went queried.2 in
@@ -184,8 +184,8 @@ module _ (schema : Schema) (l : IsLaidOut schema) where
   pub reads : (old new : State) (key : Key) (rows : List Row) → old.now.schema ≡ schema → Shown read_text (key_params key []) old new rows
       → IsPermutation (map (λ r. column r 4 ∷ []) (filter (is_at key) (old.now.trees (held_tree schema)))) rows
   reads old new key rows has h =
-      let it = read_is schema l.held.at (held_tree schema) held_found in
-      let got = reads_as read_text (key_params key []) old new schema has (Select (record { lets = []; body = read_query (held_tree schema) }) _) it.0 (read_plain schema l.held.at (held_tree schema) held_found) it.1 rows h in
+      let it = read_means schema l.held.at (held_tree schema) held_found in
+      let got = reads_as read_text (key_params key []) old new schema has (Select (record { lets = []; body = read_query (held_tree schema) }) _) it.is it.plain it.elsewhere rows h in
       answers has_key (key_params key []) (is_at key) (key_holds key []) (held_tree schema) (col 1 4 ∷ []) (overlay old.now.trees []) Null rows (old.now.trees (held_tree schema)) (stored_read old.now.trees (held_tree schema) held_found.stored) (got.answer Null)
 
   pub shown_reads : {X : Type 0} (items : X → List Row) (r : Result X Error) (old new : State) (key : Key) → old.now.schema ≡ schema → IfOk r (λ x. Shown read_text (key_params key []) old new (items x))
@@ -195,54 +195,54 @@ module _ (schema : Schema) (l : IsLaidOut schema) where
 
   pub shown_same : {X : Type 0} (items : X → List Row) (r : Result X Error) (old new : State) (key : Key) → old.now.schema ≡ schema → IfOk r (λ x. Shown read_text (key_params key []) old new (items x))
       → OnOk r (IsUnchanged old new)
-  shown_same items (Ok x) old new key has h = unchanged read_text (key_params key []) old new (items x) schema has (read_plain schema l.held.at (held_tree schema) held_found) h
+  shown_same items (Ok x) old new key has h = unchanged read_text (key_params key []) old new (items x) schema has (read_means schema l.held.at (held_tree schema) held_found).plain h
   shown_same items (Err e) old new key has h = h
 
   module _ (old new : State) (has : old.now.schema ≡ schema) where
     pub inserts : (key : Key) (count : ℕ) → Executes insert_text (key_params key []) old new (Ok count) → Applied schema old new (edit_of old.now.trees (held_at schema) [] Chosen 0 (map given_row (key ∷ [])))
     inserts key count h =
-        puts schema l.held.at (held_tree schema) _ _ _ _ held_found insert_text (key_params key []) (insert_plain schema l.held.at (held_tree schema) held_found) old new has count h insert_terms 5
-        (insert_is schema l.held.at (held_tree schema) held_found)
+        puts schema l.held.at (held_tree schema) _ _ _ _ held_found insert_text (key_params key []) old new has count h insert_terms 5
+        (insert_means schema l.held.at (held_tree schema) held_found)
 
     pub inserts_eight : (s t b c d e f g i j : List ℕ) (count : ℕ) → Executes insert_eight_text (eight_params s t (b ∷ c ∷ d ∷ e ∷ f ∷ g ∷ i ∷ j ∷ [])) old new (Ok count)
         → Applied schema old new (edit_of old.now.trees (held_at schema) [] Chosen 0 (map given_row (map (key_of s t) (b ∷ c ∷ d ∷ e ∷ f ∷ g ∷ i ∷ j ∷ []))))
     inserts_eight s t b c d e f g i j count h =
-        puts schema l.held.at (held_tree schema) _ _ _ _ held_found insert_eight_text (eight_params s t (b ∷ c ∷ d ∷ e ∷ f ∷ g ∷ i ∷ j ∷ [])) (insert_eight_plain schema l.held.at (held_tree schema) held_found) old new has count h insert_eight_terms 5
-        (insert_eight_is schema l.held.at (held_tree schema) held_found)
+        puts schema l.held.at (held_tree schema) _ _ _ _ held_found insert_eight_text (eight_params s t (b ∷ c ∷ d ∷ e ∷ f ∷ g ∷ i ∷ j ∷ [])) old new has count h insert_eight_terms 5
+        (insert_eight_means schema l.held.at (held_tree schema) held_found)
 
     pub adds_span : (source : List ℕ) (lo hi : ℤ) (count : ℕ) → Executes add_span_text (Blob source ∷ Int lo ∷ Int hi ∷ []) old new (Ok count)
         → Applied schema old new (edit_of old.now.trees (spans_at schema) [] Chosen 0 ((Null ∷ Blob source ∷ Int lo ∷ Int hi ∷ []) ∷ []))
     adds_span source lo hi count h =
-        puts schema l.spans.at (spans_tree schema) _ _ _ _ spans_found add_span_text (Blob source ∷ Int lo ∷ Int hi ∷ []) (add_span_plain schema l.spans.at (spans_tree schema) spans_found) old new has count h
-        add_span_terms 4 (add_span_is schema l.spans.at (spans_tree schema) spans_found)
+        puts schema l.spans.at (spans_tree schema) _ _ _ _ spans_found add_span_text (Blob source ∷ Int lo ∷ Int hi ∷ []) old new has count h
+        add_span_terms 4 (add_span_means schema l.spans.at (spans_tree schema) spans_found)
 
     module _ (free : AllByRecursion (IsApart schema (spans_tree schema)) schema.tables) where
       pub drops_span : (source : List ℕ) (lo : ℤ) (count : ℕ) → Executes drop_span_text (Blob source ∷ Int lo ∷ []) old new (Ok count)
           → (rows : List Row) × IsPermutation (map (λ r. column r 0 ∷ []) (filter (λ r. begins_at source lo (shown_span r)) (old.now.trees (spans_tree schema)))) rows
           × Applied schema old new (edit_of old.now.trees (spans_at schema) (ids_of rows) Given 0 [])
       drops_span source lo count h =
-          let it = removes schema l.spans.at (spans_tree schema) _ _ _ _ spans_found drop_span_text (Blob source ∷ Int lo ∷ []) (drop_span_plain schema l.spans.at (spans_tree schema) spans_found) old new has count h
-          free has_start (col 1 0 ∷ []) (λ r. begins_at source lo (shown_span r)) (start_holds source lo []) (drop_span_is schema l.spans.at (spans_tree schema) spans_found) in
+          let it = removes schema l.spans.at (spans_tree schema) _ _ _ _ spans_found drop_span_text (Blob source ∷ Int lo ∷ []) old new has count h
+          free has_start (col 1 0 ∷ []) (λ r. begins_at source lo (shown_span r)) (start_holds source lo []) (drop_span_means schema l.spans.at (spans_tree schema) spans_found) in
           (it.0, it.1, it.2)
 
       pub sets_end : (source : List ℕ) (lo hi : ℤ) (count : ℕ) → Executes set_end_text (Blob source ∷ Int lo ∷ Int hi ∷ []) old new (Ok count)
           → (rows : List Row) × IsPermutation (map (λ r. column r 0 ∷ column r 0 ∷ column r 1 ∷ column r 2 ∷ Int hi ∷ []) (filter (λ r. begins_at source lo (shown_span r)) (old.now.trees (spans_tree schema)))) rows
           × Applied schema old new (edit_of old.now.trees (spans_at schema) (ids_of rows) Given 1 rows)
       sets_end source lo hi count h =
-          changes schema l.spans.at (spans_tree schema) _ _ _ _ spans_found set_end_text (Blob source ∷ Int lo ∷ Int hi ∷ []) (set_end_plain schema l.spans.at (spans_tree schema) spans_found) old new has count h
-          free has_start (col 1 0 ∷ col 1 0 ∷ col 1 1 ∷ col 1 2 ∷ col 0 2 ∷ []) (λ r. begins_at source lo (shown_span r)) (start_holds source lo (Int hi ∷ [])) (set_end_is schema l.spans.at (spans_tree schema) spans_found)
+          changes schema l.spans.at (spans_tree schema) _ _ _ _ spans_found set_end_text (Blob source ∷ Int lo ∷ Int hi ∷ []) old new has count h
+          free has_start (col 1 0 ∷ col 1 0 ∷ col 1 1 ∷ col 1 2 ∷ col 0 2 ∷ []) (λ r. begins_at source lo (shown_span r)) (start_holds source lo (Int hi ∷ [])) (set_end_means schema l.spans.at (spans_tree schema) spans_found)
 
     module _ (free : AllByRecursion (IsApart schema (held_tree schema)) schema.tables) where
       pub deletes : (key : Key) (n : ℤ) (count : ℕ) → Executes delete_text (key_params key (Int n ∷ [])) old new (Ok count)
           → (rows : List Row) × IsPermutation (map (λ r. column r 0 ∷ []) (filter (has_n key n) (old.now.trees (held_tree schema)))) rows
           × Applied schema old new (edit_of old.now.trees (held_at schema) (ids_of rows) Given 0 []) × (count ≡ length rows)
       deletes key n count h =
-          removes schema l.held.at (held_tree schema) _ _ _ _ held_found delete_text (key_params key (Int n ∷ [])) (delete_plain schema l.held.at (held_tree schema) held_found) old new has count h
-          free has_count (col 1 0 ∷ []) (has_n key n) (count_holds key n) (delete_is schema l.held.at (held_tree schema) held_found)
+          removes schema l.held.at (held_tree schema) _ _ _ _ held_found delete_text (key_params key (Int n ∷ [])) old new has count h
+          free has_count (col 1 0 ∷ []) (has_n key n) (count_holds key n) (delete_means schema l.held.at (held_tree schema) held_found)
 
       pub updates : (key : Key) (n : ℤ) (count : ℕ) → Executes update_text (key_params key (Int n ∷ [])) old new (Ok count)
           → (rows : List Row) × IsPermutation (map (λ r. column r 0 ∷ column r 0 ∷ column r 1 ∷ column r 2 ∷ column r 3 ∷ Int n ∷ []) (filter (is_at key) (old.now.trees (held_tree schema)))) rows
           × Applied schema old new (edit_of old.now.trees (held_at schema) (ids_of rows) Given 1 rows)
       updates key n count h =
-          changes schema l.held.at (held_tree schema) _ _ _ _ held_found update_text (key_params key (Int n ∷ [])) (update_plain schema l.held.at (held_tree schema) held_found) old new has count h
-          free has_key (col 1 0 ∷ col 1 0 ∷ col 1 1 ∷ col 1 2 ∷ col 1 3 ∷ col 0 3 ∷ []) (is_at key) (key_holds key (Int n ∷ [])) (update_is schema l.held.at (held_tree schema) held_found)
+          changes schema l.held.at (held_tree schema) _ _ _ _ held_found update_text (key_params key (Int n ∷ [])) old new has count h
+          free has_key (col 1 0 ∷ col 1 0 ∷ col 1 1 ∷ col 1 2 ∷ col 1 3 ∷ col 0 3 ∷ []) (is_at key) (key_holds key (Int n ∷ [])) (update_means schema l.held.at (held_tree schema) held_found)

@@ -1,82 +1,77 @@
 -- A transaction that is tried before another one.
-use Rattle.std.proofs.Common.{◌≡◌, ℕ, Bool, Option, Some, None, Ok, Err, Result, IsTrue, sym, ap, subst, ◌∙◌, arith}
-use Rattle.std.specs.Result.{IsErr}
-use Rattle.sqlite_trees.specs.Tree.{Trees}
-use Rattle.sqlite.specs.Effect.{Database as Stored, IsDatabase}
-use Rattle.sqlite.specs.State.{State, HasCleanDisk, Survives}
+use Rattle.std.proofs.Common.{◌≡◌, ℕ, true, false, is_none, Option, Some, None, Ok, Err, Result, IsTrue, sym, ap, subst, ◌∙◌, arith}
+use Rattle.sqlite.specs.Effect.{Database as Stored}
+use Rattle.sqlite.specs.State.{State, HasCleanDisk, IsUnchanged, Survives}
 use Rattle.sqlite.proofs.StateLemmas.{survives_then}
-use Rattle.gtid.specs.Identifier.{Id}
-use Rattle.gtid.specs.Beside.{Joins}
 use Rattle.gtid.specs.declared.beside.Beside.{Beside}
 use Rattle.binlog.specs.Filter.{Names}
 use Rattle.gather.specs.Transaction.{DeliveryValue}
 use Rattle.store.specs.declared.row_change.Refusal.{Refusal}
 use Rattle.store.specs.State.{Content}
 use Rattle.store.specs.Beside.{LiesBeside}
-use Rattle.store.specs.Rows.{StandsFor, HasRowids, held_rows, span_rows}
-use Rattle.store.specs.Apply.{IsApplied, IsAppliedAlone, SparesBeside, IsAtRest, Rests, Runs, MayCommit}
+use Rattle.store.specs.Apply.{IsAtRest, IsNew, Rests, RunsTransaction, MayCommit}
 use Rattle.store.specs.Inside.{WasOpen}
-use Rattle.store.specs.AnyOrder.{Tries, MayTry}
+use Rattle.store.proofs.Applying.{rest_same}
 use Rattle.store.proofs.Lives.{narrowed}
 
-module _ (names : Names) (content : Content) (d : DeliveryValue) where
-  pub tries_err : {E : Type 0} (a n : State) (r : Result Bool E) → IsErr r → Rests a n → Tries names content d a n r
-  tries_err a n (Ok o) is rests = absurd (cc)
-  tries_err a n (Err e) is rests = rests
+-- ---- the first one
 
-  pub may_try_err : {E : Type 0} (a : State) (r : Result Bool E) (db : Trees) → IsErr r → IsAppliedAlone names content d a db → MayTry names content d a r db
-  may_try_err a (Ok o) db is applied = absurd (cc)
-  may_try_err a (Err e) db is applied = applied
+module _ (E : Type 0) (names : Names) (content : Content) (d : DeliveryValue) (a b : State) where
+  pub committed : (r : Option (ℕ × Refusal)) → IsTrue (is_none r) → RunsTransaction {E = E} false names content d a b (Ok r) → RunsTransaction {E = E} true names content d a b (Ok None)
+  committed None done ran = ran
+  committed (Some why) done ran = absurd (cc)
 
-  -- ---- where the first one changed nothing
+  pub may_be_committed : (r : Option (ℕ × Refusal)) → IsTrue (is_none r) → Survives a b (MayCommit {E = E} names content d a.now (Ok r)) → Survives a b (MayCommit {E = E} names content d a.now (Ok None))
+  may_be_committed None done survives = survives
+  may_be_committed (Some why) done survives = absurd (cc)
 
-  -- The connection is at rest with the content still, and the spans next to the number are known still.
-  pub record IsStill (b : State) (q : Id) (beside : Beside) : Type 0 where
-    pub rest : IsAtRest b names content
-    pub joins : Joins content.executed q beside rest.stands.executed.spans
+  pub rolled_back : (r : Option (ℕ × Refusal)) → is_none r ≡ false → RunsTransaction {E = E} false names content d a b (Ok r) → Rests a b
+  rolled_back None refused ran = absurd (cc)
+  rolled_back (Some why) refused ran = ran.1
 
-  pub still : (a b : State) (q : Id) (beside : Beside) → IsTrue b.is_open → Rests a b → (rest : IsAtRest a names content) → Joins content.executed q beside rest.stands.executed.spans → IsStill b q beside
-  still a b q beside is_open rests rest joins =
-      let now = (rests is_open).0 in
-      let committed = (rests is_open).1 in
-      let both : (s : StandsFor b.now names content) × Joins content.executed q beside s.executed.spans =
-      subst (λ (db : Stored). (s : StandsFor db names content) × Joins content.executed q beside s.executed.spans) (sym now) (rest.stands, joins) in
-      record {
-        rest = record {
-          is_open = is_open;
-          settled = now ∙ rest.settled ∙ sym committed;
-          held_apart = subst (λ (db : Stored). HasRowids (held_rows db)) (sym now) rest.held_apart;
-          spans_apart = subst (λ (db : Stored). HasRowids (span_rows db)) (sym now) rest.spans_apart;
-          stands = both.0;
-          sound = subst IsDatabase (sym now) rest.sound;
-        };
-        joins = both.1;
-      }
+  pub commits_none : (r : Option (ℕ × Refusal)) → is_none r ≡ false → Survives a b (MayCommit {E = E} names content d a.now (Ok r)) → Survives a b (λ _. ⊥)
+  commits_none None refused survives = absurd (cc)
+  commits_none (Some why) refused survives = survives
 
-  applied_then : (a b : State) → b.now ≡ a.now → (db : Trees) → IsAppliedAlone names content d b db → IsAppliedAlone names content d a db
-  applied_then a b now db may = subst (λ (was : Stored). IsApplied names content d was.schema db × SparesBeside was db) now may
+-- ---- where the first one changed nothing
 
-  module _ {E : Type 0} (a b c : State) (now : b.now ≡ a.now) where
-    pub runs_then : (r : Result (Option (ℕ × Refusal)) E) → b.committed ≡ a.committed → Runs names content d b c r → Runs names content d a c r
-    runs_then (Ok None) committed ran = (ran.0, ran.1 ∙ ap (λ (db : Stored). db.schema) now, subst (λ (db : Stored). LiesBeside db c.now) now ran.2)
-    runs_then (Ok (Some why)) committed ran = (ran.0, λ is_open. let r = ran.1 is_open in (r.0 ∙ now, r.1 ∙ committed))
-    runs_then (Err e) committed ran = λ is_open. let r = ran is_open in (r.0 ∙ now, r.1 ∙ committed)
+-- The connection is open, and the database as it was.
+pub record IsStill (a b : State) : Type 0 where
+  pub is_open : IsTrue b.is_open
+  pub now : b.now ≡ a.now
+  pub committed : b.committed ≡ a.committed
 
-    pub commits_then : (r : Result (Option (ℕ × Refusal)) E) (db : Trees) → MayCommit names content d b r db → MayCommit names content d a r db
-    commits_then (Ok None) db may = applied_then a b now db may
-    commits_then (Ok (Some why)) db may = may
-    commits_then (Err e) db may = applied_then a b now db may
+pub still : (a b c : State) → Rests a b → IsUnchanged b c → IsStill a c
+still a b c rests same =
+    let r = rests same.0.was_open in
+    record { is_open = same.0.is_open; now = same.0.now_is ∙ r.0; committed = same.0.committed_is ∙ r.1 }
+
+module _ {E : Type 0} (names : Names) (content : Content) (d : DeliveryValue) (beside : Beside) (a b c : State) (r : Result (Option (ℕ × Refusal)) E) (rest : IsAtRest a names content) (new : IsNew a.now names content d beside) where
+  -- what is known of the second one is known
+  module _ (same : IsStill a b) where
+    since : {P : Type 0} → (IsAtRest b names content → IsNew b.now names content d beside → P) → P
+    since known = known (rest_same a b names content same.is_open same.now same.committed rest) (subst (λ (db : Stored). IsNew db names content d beside) (sym same.now) new)
+
+    rests_then : Rests b c → Rests a c
+    rests_then rests is_open = let r = rests is_open in (r.0 ∙ same.now, r.1 ∙ same.committed)
+
+    pub runs_then : (IsAtRest b names content → IsNew b.now names content d beside → RunsTransaction true names content d b c r) → RunsTransaction true names content d a c r
+    runs_then ran = go r (since ran)
+      where
+        go : (r : Result (Option (ℕ × Refusal)) E) → RunsTransaction true names content d b c r → RunsTransaction true names content d a c r
+        go (Ok None) ran = (ran.0, ran.1 ∙ ap (λ (db : Stored). db.schema) same.now, subst (λ (db : Stored). LiesBeside db c.now) same.now ran.2)
+        go (Ok (Some why)) ran = (ran.0, rests_then ran.1)
+        go (Err e) ran = rests_then ran
 
   -- what a crash after both leaves
-  pub crash_then : {E : Type 0} (a b c : State) (q : Id) (beside : Beside) (r : Result (Option (ℕ × Refusal)) E) → (HasCleanDisk b → IsTrue b.is_open) → (HasCleanDisk b → Rests a b)
-      → (rest : IsAtRest a names content) → Joins content.executed q beside rest.stands.executed.spans → Survives a b (λ _. ⊥) → Survives b c (λ _. Unit {0})
-      → ((rest : IsAtRest b names content) → Joins content.executed q beside rest.stands.executed.spans → Survives b c (MayCommit names content d b r)) → Survives a c (MayCommit names content d a r)
-  crash_then a b c q beside r is_open rests rest joins one lives two =
+  pub crash_then : (HasCleanDisk b → IsStill a b) → Survives a b (λ _. ⊥) → Survives b c (λ _. Unit {0})
+      → (IsAtRest b names content → IsNew b.now names content d beside → Survives b c (MayCommit names content d b.now r)) → Survives a c (MayCommit names content d a.now r)
+  crash_then same one lives two =
       let early : HasCleanDisk c → HasCleanDisk b = λ clean. omega (arith, lives.clean, clean) in
-      survives_then a b c (λ _. ⊥) (MayCommit names content d b r) (MayCommit names content d a r) (λ _ db none. absurd none)
-      (λ clean db may. let mid = early clean in commits_then a b c (rests mid (is_open mid)).0 r db may)
+      survives_then a b c (λ _. ⊥) (MayCommit names content d b.now r) (MayCommit names content d a.now r) (λ _ db none. absurd none)
+      (λ clean db may. subst (λ (was : Stored). MayCommit names content d was r db) (same (early clean)).now may)
       one
-      (narrowed b c (MayCommit names content d b r) (λ _. Unit {0}) lives (λ clean. let mid = early clean in let s = still a b q beside (is_open mid) (rests mid) rest joins in two s.rest s.joins))
+      (narrowed b c (MayCommit names content d b.now r) (λ _. Unit {0}) lives (λ clean. since (same (early clean)) two))
 
 -- ---- a call after it
 

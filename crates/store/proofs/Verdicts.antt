@@ -14,7 +14,7 @@ use Rattle.sqlite_trees.proofs.ListLemmas.{all-append}
 use Rattle.store.specs.declared.table.held.Verdict.{Verdict}
 use Rattle.store.specs.declared.table.held.Verdict.TheVariants.{Lawful, Unordered, Unlawful}
 use Rattle.store.specs.Rows.{IsHeldRow, HasRowids}
-use Rattle.store.specs.Judge.{Rise, HasVerdict, HasOrder}
+use Rattle.store.specs.Judge.{RowidsRise, HasVerdict, HasOrder}
 use Rattle.store.specs.declared.fault.StoreFault.{StoreFault}
 use Rattle.store.specs.Load.{AsksAll, Judges, OnSeen, Rested, HasJudged, IsJudging, all_held_text}
 use Rattle.store.proofs.Judging.{rise_rowids}
@@ -34,7 +34,7 @@ one_more : (last : Option ℤ) (rows : List Row) (row : Row) (after : Verdict) �
 one_more last rows row (Lawful None) so held order = absurd order
 one_more last rows row (Lawful (Some id)) so held order = (
   all-append IsHeldRow rows (row ∷ []) so.0 (held, tt),
-  λ more rise. subst (Rise None) (sym (append_assoc rows (row ∷ []) more)) (so.1 (row ∷ more) (id, order.0, order.1, rise)),
+  λ more rise. subst (RowidsRise None) (sym (append_assoc rows (row ∷ []) more)) (so.1 (row ∷ more) (id, order.0, order.1, rise)),
 )
 one_more last rows row Unordered so held order = tt
 one_more last rows row Unlawful so held order = absurd order
@@ -44,7 +44,7 @@ then_ordered last rows row (Ok after) so held order = one_more last rows row aft
 then_ordered last rows row (Err e) so held order = order
 
 pub verdict_rowids : (last : Option ℤ) (rows : List Row) → HasVerdict (Lawful last) rows → HasRowids rows
-verdict_rowids last rows so = rise_rowids None rows (subst (Rise None) (append-nil rows) (so.1 [] tt))
+verdict_rowids last rows so = rise_rowids None rows (subst (RowidsRise None) (append-nil rows) (so.1 [] tt))
 
 -- ---- What reading leaves.
 

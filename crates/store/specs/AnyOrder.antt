@@ -1,17 +1,12 @@
 -- Private: rows that are added to one table, which may be done in any order.
-use Rattle.std.specs.Prelude.{◌≡◌, ℕ, Bool, true, false, List, [], ◌++◌, map, Result, Ok, Err, IsPermutation}
+use Rattle.std.specs.Prelude.{◌≡◌, ℕ, true, List, [], ◌++◌, map, IsPermutation}
 use Rattle.std.specs.List.{AllByRecursion}
-use Rattle.sqlite_trees.specs.Tree.{Trees}
-use Rattle.sqlite.specs.State.{State}
 use Rattle.binlog.specs.Cell.{CellValue}
 use Rattle.binlog.specs.Filter.{Names, admits}
 use Rattle.gather.specs.Image.{image, IsImage, HasImage}
-use Rattle.gather.specs.Transaction.{ChangeValue, insert, DeliveryValue}
+use Rattle.gather.specs.Transaction.{ChangeValue, insert}
 use Rattle.store.specs.declared.inserts.SortedInserts.{SortedInserts}
-use Rattle.store.specs.State.{Content}
-use Rattle.store.specs.Beside.{LiesBeside}
 use Rattle.store.specs.Rows.{Key, key_of}
-use Rattle.store.specs.Apply.{Rests, IsAtRestAfter, IsAppliedAlone}
 
 -- The change adds a row with this image to the table.
 pub record AddsRow (schema table bytes : List ℕ) (change : ChangeValue) : Type 0 where
@@ -40,15 +35,3 @@ pub record AreInserts (names : Names) (changes : List ChangeValue) (sorted : Sor
   pub images : List (List ℕ)
   pub adds : AddsRows sorted.schema.now sorted.table.now changes [] images
   pub same : IsPermutation images (images_in sorted)
-
--- Whether the transaction was committed. If it was not, nothing has changed, if the connection is still open.
-abbrev pub Tries : {E : Type 0} → Names → Content → DeliveryValue → State → State → Result Bool E → Type 0
-Tries names content d old new (Ok true) = IsAtRestAfter names content d new × (new.now.schema ≡ old.now.schema) × LiesBeside old.now new.now
-Tries names content d old new (Ok false) = Rests old new
-Tries names content d old new (Err e) = Rests old new
-
--- what this may commit
-abbrev pub MayTry : {E : Type 0} → Names → Content → DeliveryValue → State → Result Bool E → Trees → Type 0
-MayTry names content d old (Ok true) trees = IsAppliedAlone names content d old trees
-MayTry names content d old (Ok false) trees = ⊥
-MayTry names content d old (Err e) trees = IsAppliedAlone names content d old trees

@@ -1,11 +1,13 @@
 -- A transaction of the source as one transaction of the database.
-use Rattle.std.specs.Prelude.{false, ◌≡◌, ℕ, IsTrue, Option, Some, None, Result, Ok, Err}
+use Rattle.std.specs.Prelude.{Bool, false, ◌≡◌, ℕ, IsTrue, MatchBool, Option, Some, None, Result, Ok, Err}
 use Rattle.sqlite_schema.specs.declared.schema.Schema.{Schema}
 use Rattle.sqlite_trees.specs.Tree.{Trees}
 use Rattle.sqlite_catalog.specs.Listing.{IsSound}
 use Rattle.sqlite.specs.Effect.{Database as Stored, IsDatabase}
-use Rattle.sqlite.specs.State.{State, IsUnchanged}
+use Rattle.sqlite.specs.State.{State, HasCleanDisk, IsUnchanged, Survives}
 use Rattle.gtid.specs.Identifier.{Ids}
+use Rattle.gtid.specs.Beside.{Joins}
+use Rattle.gtid.specs.declared.beside.Beside.{Beside}
 use Rattle.binlog.specs.Filter.{Names}
 use Rattle.gather.specs.Transaction.{DeliveryValue}
 use Rattle.store.specs.declared.row_change.Refusal.{Refusal}
@@ -15,9 +17,9 @@ use Rattle.store.specs.declared.fault.Applied.TheVariants.{Done, Repeat}
 use Rattle.store.specs.declared.fault.StoreFault.{StoreFault}
 use Rattle.store.specs.declared.fault.StoreFault.TheVariants.{NoSuchRow, CountFull, Database, Memory}
 use Rattle.store.specs.State.{Content}
-use Rattle.store.specs.Changes.{HasOutcome, done, refused}
+use Rattle.store.specs.Changes.{is_executed, HasOutcome, done, refused}
 use Rattle.store.specs.Rows.{StandsFor, HasRowids, held_rows, span_rows}
-use Rattle.store.specs.Inside.{GoesOn}
+use Rattle.store.specs.Inside.{StaysOpen, WasOpen}
 use Rattle.store.specs.Beside.{LiesBeside}
 
 -- The trees list this schema and obey it, and under it they stand for the content.
@@ -36,10 +38,21 @@ pub record IsApplied (names : Names) (content : Content) (d : DeliveryValue) (sc
 abbrev pub SparesBeside : Stored → Trees → Type 0
 SparesBeside old trees = LiesBeside old (record { schema = old.schema; trees = trees })
 
+-- The transaction is not in the set of the content, and these are the spans of the set next to its number.
+pub record IsNew (db : Stored) (names : Names) (content : Content) (d : DeliveryValue) (beside : Beside) : Type 0 where
+  pub stands : StandsFor db names content
+  pub out : is_executed content d ≡ false
+  pub joins : Joins content.executed (d.source, d.number) beside stands.executed.spans
+
+-- The change with this index is refused for this reason, if the changes are made in order; in another order neither says
+-- anything.
+abbrev pub IsRefusedIn : Bool → Names → Content → DeliveryValue → ℕ × Refusal → Type 0
+IsRefusedIn in_order names content d why = MatchBool in_order (HasOutcome names content d (refused why.0 why.1)) (Unit {0})
+
 -- what making the changes and recording the GTID does inside the database's transaction
-abbrev pub Fills : Names → Content → DeliveryValue → State → State → Option (ℕ × Refusal) → Type 0
-Fills names content d old new None = GoesOn old new × IsApplied names content d new.now.schema new.now.trees
-Fills names content d old new (Some why) = HasOutcome names content d (refused why.0 why.1)
+abbrev pub Fills : Bool → Names → Content → DeliveryValue → State → State → Option (ℕ × Refusal) → Type 0
+Fills in_order names content d old new None = StaysOpen old new × IsApplied names content d new.now.schema new.now.trees
+Fills in_order names content d old new (Some why) = IsRefusedIn in_order names content d why
 
 -- The connection is open, in no transaction that has changed anything, and this is what its database stands for.
 pub record IsAtRest (s : State) (names : Names) (content : Content) : Type 0 where
@@ -60,20 +73,29 @@ pub record IsAtRestAfter (names : Names) (content : Content) (d : DeliveryValue)
   pub outcome : HasOutcome names content d (done after)
   pub rest : IsAtRest new names after
 
-abbrev pub Runs : {E : Type 0} → Names → Content → DeliveryValue → State → State → Result (Option (ℕ × Refusal)) E → Type 0
-Runs names content d old new (Ok None) = IsAtRestAfter names content d new × (new.now.schema ≡ old.now.schema) × LiesBeside old.now new.now
-Runs names content d old new (Ok (Some why)) = HasOutcome names content d (refused why.0 why.1) × Rests old new
-Runs names content d old new (Err e) = Rests old new
+abbrev pub RunsTransaction : {E : Type 0} → Bool → Names → Content → DeliveryValue → State → State → Result (Option (ℕ × Refusal)) E → Type 0
+RunsTransaction in_order names content d old new (Ok None) = IsAtRestAfter names content d new × (new.now.schema ≡ old.now.schema) × LiesBeside old.now new.now
+RunsTransaction in_order names content d old new (Ok (Some why)) = IsRefusedIn in_order names content d why × Rests old new
+RunsTransaction in_order names content d old new (Err e) = Rests old new
 
 -- The database stands for what the transaction makes of the content, and what lies beside is as it was.
-abbrev pub IsAppliedAlone : Names → Content → DeliveryValue → State → Trees → Type 0
-IsAppliedAlone names content d old trees = IsApplied names content d old.now.schema trees × SparesBeside old.now trees
+abbrev pub IsAppliedAlone : Names → Content → DeliveryValue → Stored → Trees → Type 0
+IsAppliedAlone names content d old trees = IsApplied names content d old.schema trees × SparesBeside old trees
 
 -- What may be committed: what the transaction makes of the content, or nothing if it is refused.
-abbrev pub MayCommit : {E : Type 0} → Names → Content → DeliveryValue → State → Result (Option (ℕ × Refusal)) E → Trees → Type 0
+abbrev pub MayCommit : {E : Type 0} → Names → Content → DeliveryValue → Stored → Result (Option (ℕ × Refusal)) E → Trees → Type 0
 MayCommit names content d old (Ok None) trees = IsAppliedAlone names content d old trees
 MayCommit names content d old (Ok (Some why)) trees = ⊥
 MayCommit names content d old (Err e) trees = IsAppliedAlone names content d old trees
+
+-- What a call comes to that runs the transaction, whose changes may be made in another order. A connection that is open then was open before,
+-- and after a commit it is open.
+pub record IsRun {E : Type 0} (in_order : Bool) (names : Names) (d : DeliveryValue) (beside : Beside) (old new : State) (r : Result (Option (ℕ × Refusal)) E) : Type 0 where
+  pub runs : HasCleanDisk new → (content : Content) → IsAtRest old names content → IsNew old.now names content d beside → RunsTransaction in_order names content d old new r
+  pub opened : HasCleanDisk new → WasOpen old new
+  pub done : HasCleanDisk new → r ≡ Ok None → IsTrue new.is_open
+  pub lives : Survives old new (λ _. Unit {0})
+  pub crash : (content : Content) → IsAtRest old names content → IsNew old.now names content d beside → Survives old new (MayCommit names content d old.now r)
 
 -- ---- The executed set in memory, besides the connection.
 
@@ -100,7 +122,7 @@ Comes names content d old new executed (Err Memory) = Rests old new × (executed
 Comes names content d old new executed (Err _) = ⊥
 
 -- What such a transaction may commit.
-abbrev pub MayMove : Names → Content → DeliveryValue → State → Result Applied StoreFault → Trees → Type 0
+abbrev pub MayMove : Names → Content → DeliveryValue → Stored → Result Applied StoreFault → Trees → Type 0
 MayMove names content d old (Ok Done) trees = IsAppliedAlone names content d old trees
 MayMove names content d old (Err (Database e)) trees = IsAppliedAlone names content d old trees
 MayMove names content d old _ trees = ⊥

@@ -3,7 +3,7 @@ use Rattle.std.specs.Prelude.{◌≡◌, ◌≢◌, ◌⊎◌, ◌<◌, ◌≤�
 use Rattle.std.specs.FinSet as set
 use Rattle.gtid.specs.Identifier.{Ids}
 use Rattle.binlog.specs.Filter.{Names, admits}
-use Rattle.gather.specs.Transaction.{ChangeValue, insert, delete, update, DeliveryValue}
+use Rattle.gather.specs.Transaction.{ChangeValue, changed_schema, changed_table, insert, delete, update, DeliveryValue}
 use Rattle.store.specs.declared.row_change.Refusal.{Refusal}
 use Rattle.store.specs.declared.row_change.Refusal.TheVariants.{NoSuchRow, CountFull}
 use Rattle.store.specs.State.{TableRow, row_of, Bag, Content}
@@ -49,9 +49,7 @@ IsRefused (update schema table before after) bag why =
 
 -- whether the filter admits the table of the change
 abbrev pub is_admitted : Names → ChangeValue → Bool
-is_admitted names (insert schema table after) = admits names schema table
-is_admitted names (delete schema table before) = admits names schema table
-is_admitted names (update schema table before after) = admits names schema table
+is_admitted names change = admits names (changed_schema change) (changed_table change)
 
 -- A change of a table that the filter leaves out is skipped.
 abbrev pub IsDone : Names → ChangeValue → Bag → Bag → Type 0

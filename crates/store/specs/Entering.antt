@@ -94,22 +94,22 @@ pub data IsDamaged (db : Database) : Type 0 where
   breaks_second : (tables_of db.schema).meta ≡ true → SaysLayout (pos 2) (meta_rows db) → ¬ KeepsRules db → IsDamaged db
 
 -- The database has this layout, which is none of the two.
-abbrev pub IsOther : Database → ℤ → Type 0
-IsOther db n = ((tables_of db.schema).meta ≡ true) × SaysLayout n (meta_rows db) × (n ≢ pos 1) × (n ≢ pos 2)
+abbrev pub IsOtherLayout : Database → ℤ → Type 0
+IsOtherLayout db n = ((tables_of db.schema).meta ≡ true) × SaysLayout n (meta_rows db) × (n ≢ pos 1) × (n ≢ pos 2)
 
 -- The database has another layout, is damaged, or was made for other names. A failure of the database and running out
 -- of memory have no cause in what the database stands for.
 abbrev pub IsWhy : Option Names → Database → StoreFault → Type 0
 IsWhy wanted db Damaged = IsDamaged db
-IsWhy wanted db (Layout n) = IsOther db n
+IsWhy wanted db (Layout n) = IsOtherLayout db n
 IsWhy wanted db Follows = (names : Names) × (content : Content) × IsStored names db content × (¬ IsWanted wanted names)
 IsWhy wanted db (Db e) = Unit {0}
 IsWhy wanted db Memory = Unit {0}
 IsWhy wanted db _ = ⊥
 
 -- A database that stands for a content is refused where it failed, memory ran out, or it was made for other names.
-abbrev pub IsRefused : Option Names → Names → StoreFault → Type 0
-IsRefused wanted names fault = IsFailure fault ⊎ ((fault ≡ Follows) × (¬ IsWanted wanted names))
+abbrev pub IsRefusedOpening : Option Names → Names → StoreFault → Type 0
+IsRefusedOpening wanted names fault = IsFailure fault ⊎ ((fault ≡ Follows) × (¬ IsWanted wanted names))
 
 -- ---- The outcome.
 

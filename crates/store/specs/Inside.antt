@@ -1,5 +1,5 @@
 -- Private: the effect of a call inside a transaction of the database.
-use Rattle.std.specs.Prelude.{◌≡◌, ◌≢◌, ◌<◌, [], nat_lt, ℕ, Bool, true, false, IsTrue, if◌then◌else◌, List, ◌∷◌, ◌++◌, Option, Some, None, Result, Ok, Err, IsPermutation, ℤ, map}
+use Rattle.std.specs.Prelude.{◌≡◌, ◌≢◌, ◌<◌, [], nat_lt, ℕ, Bool, true, false, IsTrue, if◌then◌else◌, List, ◌∷◌, ◌++◌, MatchBool, Option, Some, None, Result, Ok, Err, IsPermutation, ℤ, map}
 use Rattle.std.specs.List.{AllByRecursion}
 use Rattle.sqlite_value.specs.Order.{Row}
 use Rattle.gtid.specs.Identifier.{Ids}
@@ -40,7 +40,7 @@ pub record Stays (old new : State) : Type 0 where
   pub opened : HasCleanDisk new → WasOpen old new
 
 -- The transaction goes on, and nothing is committed.
-pub record GoesOn (old new : State) : Type 0 where
+pub record StaysOpen (old new : State) : Type 0 where
   pub working : IsWorking new
   pub schema : new.now.schema ≡ old.now.schema
   pub committed : new.committed ≡ old.committed
@@ -49,13 +49,13 @@ pub record GoesOn (old new : State) : Type 0 where
 
 -- Only the counts of held have changed, to these.
 pub record HasCounts (old new : State) (counts : KeyCounts) : Type 0 where
-  pub on : GoesOn old new
+  pub on : StaysOpen old new
   pub spans : span_rows new.now ≡ span_rows old.now
   pub counts_are : count (held_rows new.now) ≡ counts
 
 -- Only the spans have changed: these rows are stored now, in some order.
 pub record Moves (old new : State) (after : List Row) : Type 0 where
-  pub on : GoesOn old new
+  pub on : StaysOpen old new
   pub held : held_rows new.now ≡ held_rows old.now
   pub stored : IsPermutation after (shown_spans (span_rows new.now))
 
@@ -72,7 +72,7 @@ pub record AreRowsOf (rows : List Row) (spans : List Span) : Type 0 where
 
 -- Some of these spans are stored in addition to the earlier rows, and the rest are left.
 pub record HasLeft (old new : State) (spans rest : List Span) : Type 0 where
-  pub on : GoesOn old new
+  pub on : StaysOpen old new
   pub held : held_rows new.now ≡ held_rows old.now
   pub stored : IsPermutation (shown_spans (span_rows old.now) ++ map stored_span spans) (shown_spans (span_rows new.now) ++ map stored_span rest)
 
@@ -85,7 +85,7 @@ pub record Shows (rows : List Row) (spans : List Span) (ids : Ids) : Type 0 wher
 
 -- Only the spans have changed, and they are the least intervals of this set.
 pub record Records (old new : State) (ids : Ids) : Type 0 where
-  pub on : GoesOn old new
+  pub on : StaysOpen old new
   pub held : held_rows new.now ≡ held_rows old.now
   pub spans : List Span
   pub shows : Shows (span_rows new.now) spans ids
@@ -115,7 +115,7 @@ Deletes key old new false = (count (held_rows old.now) key ≢ 1) × HasCounts o
 
 -- Only rows of held have changed.
 pub record Goes (old new : State) : Type 0 where
-  pub on : GoesOn old new
+  pub on : StaysOpen old new
   pub spans : span_rows new.now ≡ span_rows old.now
 
 -- The count of each key in turn is below the greatest, and one is added to it.
@@ -155,3 +155,8 @@ Does names change old new (Some why) = (is_admitted names change ≡ true) × Is
 abbrev pub DoesAll : Names → List ChangeValue → State → State → Option (ℕ × Refusal) → Type 0
 DoesAll names changes old new None = Goes old new × AreDone names changes (bag_of (count (held_rows old.now))) (bag_of (count (held_rows new.now)))
 DoesAll names changes old new (Some refused) = IsRefusedAt names changes (bag_of (count (held_rows old.now))) refused.0 refused.1
+
+-- The same, if they are done in order; in another order a refusal says nothing.
+abbrev pub DoesIn : Bool → Names → List ChangeValue → State → State → Option (ℕ × Refusal) → Type 0
+DoesIn in_order names changes old new None = DoesAll names changes old new None
+DoesIn in_order names changes old new (Some refused) = MatchBool in_order (DoesAll names changes old new (Some refused)) (Unit {0})

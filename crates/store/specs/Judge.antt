@@ -10,11 +10,11 @@ use Rattle.gtid.specs.declared.span.Span.{Span}
 use Rattle.store.specs.declared.table.meta.Meta.{Meta}
 use Rattle.store.specs.declared.table.held.Verdict.{Verdict}
 use Rattle.store.specs.declared.table.held.Verdict.TheVariants.{Lawful, Unordered, Unlawful}
-use Rattle.store.specs.Rows.{span, is_text, touches, IsMetaRow, IsHeldRow, HasRowids}
+use Rattle.store.specs.Rows.{span_from, is_text, touches, IsMetaRow, IsHeldRow, HasRowids}
 
 -- the span of one GTID
 abbrev pub span_of_id : Id → Span
-span_of_id q = span q.0 q.1 (q.1 + 1)
+span_of_id q = span_from q.0 q.1 (q.1 + 1)
 
 -- The rowid is above the last one, if there is one.
 abbrev pub IsAfter : Option ℤ → ℤ → Type 0
@@ -22,14 +22,14 @@ IsAfter None id = Unit {0}
 IsAfter (Some last) id = last <ℤ id
 
 -- the rowids are integers and ascend
-abbrev pub Rise : Option ℤ → List Row → Type 0
-Rise last [] = Unit {0}
-Rise last (row ∷ rows) = (id : ℤ) × (rowid row ≡ Int id) × IsAfter last id × Rise (Some id) rows
+abbrev pub RowidsRise : Option ℤ → List Row → Type 0
+RowidsRise last [] = Unit {0}
+RowidsRise last (row ∷ rows) = (id : ℤ) × (rowid row ≡ Int id) × IsAfter last id × RowidsRise (Some id) rows
 
 -- What the verdict says of rows of held: all are lawful, and their rowids ascend up to the last one; or one is not lawful. Of rows that
 -- are not in order it says nothing.
 abbrev pub HasVerdict : Verdict → List Row → Type 0
-HasVerdict (Lawful last) rows = AllByRecursion IsHeldRow rows × ((more : List Row) → Rise last more → Rise None (rows ++ more))
+HasVerdict (Lawful last) rows = AllByRecursion IsHeldRow rows × ((more : List Row) → RowidsRise last more → RowidsRise None (rows ++ more))
 HasVerdict Unordered rows = Unit {0}
 HasVerdict Unlawful rows = ¬ AllByRecursion IsHeldRow rows
 

@@ -41,7 +41,7 @@ abbrev pub entry_rows : List Entry → List TableRow
 entry_rows entries = map (λ (e : Entry). e.0) entries
 
 -- The list has each row of the bag once, with the number of its copies, in ascending order.
-pub record AreRows (bag : Bag) (entries : List Entry) : Type 0 where
+pub record ListsBag (bag : Bag) (entries : List Entry) : Type 0 where
   pub ascend : IsStrictlySortedBy row_cmp (entry_rows entries)
   pub counted : AllByRecursion (λ (e : Entry). (e.1 ≡ bag e.0) × (1 ≤ e.1) × (e.1 ≤ most)) entries
   pub all : (r : TableRow) → 1 ≤ bag r → (before : List Entry) × (after : List Entry) × (entries ≡ before ++ (r, bag r) ∷ after)
@@ -84,7 +84,7 @@ module _ {V E : Type 0} (gives : V → Entry → Result (Unit {0}) E → V → T
   -- The visitor has accepted the first rows of the bag in order, one after the other; these are left.
   pub record HasAccepted (bag : Bag) (v w : V) (left : List Entry) : Type 0 where
     pub first : List Entry
-    pub are : AreRows bag (first ++ left)
+    pub are : ListsBag bag (first ++ left)
     pub accepted : FoldsTo Accepts v first w
 
   -- The visitor has accepted all rows; or the first of them, and answered an error to the next; or none or the first of them,

@@ -1,5 +1,5 @@
 -- Private: reading whole tables when a database is opened, and what the rows stand for.
-use Rattle.std.specs.Prelude.{◌≡◌, ℕ, ℤ, suc, zero, pos, negsuc, true, false, List, [], ◌∷◌, codes, length, None, Result, Ok, Err, IsPermutation}
+use Rattle.std.specs.Prelude.{◌≡◌, ℕ, ℤ, suc, zero, pos, negsuc, true, false, List, [], ◌∷◌, codes, length, Option, None, Result, Ok, Err, IfOk, IfErr, IsPermutation}
 use Rattle.sqlite_value.specs.declared.value.Value.TheVariants.{Int}
 use Rattle.sqlite_value.specs.declared.keys.Key.{Key}
 use Rattle.sqlite_sql.specs.Term.{Term, lit, col}
@@ -13,7 +13,7 @@ use Rattle.sqlite_schema.specs.declared.schema.Column.{Column}
 use Rattle.sqlite_schema.specs.declared.command.Command.TheVariants.{Select}
 use Rattle.sqlite_rules.specs.Lists.{Has}
 use Rattle.sqlite.specs.Effect.{Database as Stored}
-use Rattle.sqlite.specs.State.{State, KeepsCommit, IsUnchanged}
+use Rattle.sqlite.specs.State.{State, HasCleanDisk, Survives, KeepsCommit, IsUnchanged}
 use Rattle.sqlite.specs.Held.{Held, state}
 use Rattle.sqlite_trees.specs.declared.store.Store.{Ghosts}
 use Rattle.sqlite.specs.Listing.{understood, reads_listing}
@@ -33,6 +33,8 @@ use Rattle.store.specs.Rows.{SaysLayout, IsMetaRow, HasRowids, meta_rows}
 use Rattle.std.specs.List.{AllByRecursion}
 use Rattle.store.specs.Apply.{IsAtRest, Rests}
 use Rattle.store.specs.Open.{IsFirstAtRest}
+use Rattle.store.specs.Entering.{IsReady, IsEntered, IsTurned, MayEnter, names_for, tables_of}
+use Rattle.store.specs.declared.load.Loaded.{Loaded}
 
 -- ---- The texts.
 
@@ -142,6 +144,22 @@ pub record Rested (old new : State) : Type 0 where
   pub commit : KeepsCommit old new
   pub rests : old.now ≡ old.committed → Rests old new
 
+-- What a call comes to that reads all rows of the table that the text asks for: its answer is judged by these rules. Nothing is committed.
+pub record ReadsAll {X : Type 0} (text : List ℕ) (old new : State) (r : Result X StoreFault) (Lawful : List Row → X → Type 0) (rules : List Row → Type 0) : Type 0 where
+  pub judged : HasCleanDisk new → (tree : ℕ) → AsksAll old.now.schema text tree → Judges r (Lawful (old.now.trees tree)) (rules (old.now.trees tree))
+  pub same : HasCleanDisk new → (tree : ℕ) → AsksAll old.now.schema text tree → OnSeen r (IsUnchanged old new)
+  pub rested : HasCleanDisk new → (tree : ℕ) → AsksAll old.now.schema text tree → Rested old new
+  pub crash : Survives old new (λ _. (tree : ℕ) → ¬ AsksAll old.now.schema text tree)
+
+-- What a call comes to that reads all tables, where they are laid out so and `meta` says so: its answer is judged by these rules. Nothing is
+-- committed.
+pub record LoadsAll {X : Type 0} (laid says : Type 0) (old new : State) (r : Result X StoreFault) (Lawful : X → Type 0) (rules : Type 0) : Type 0 where
+  pub loads : HasCleanDisk new → laid → old.now ≡ old.committed → says → Judges r Lawful rules
+  pub same : HasCleanDisk new → laid → OnSeen r (IsUnchanged old new)
+  pub rested : HasCleanDisk new → laid → Rested old new
+  pub lives : Survives old new (λ _. Unit {0})
+  pub crash : laid → Survives old new (λ _. ⊥)
+
 -- ---- Rows of held that are read one at a time.
 
 -- The query has given all its rows, and this is the verdict on them. Nothing has changed.
@@ -171,3 +189,12 @@ pub record IsFirstLoaded (s : State) (executed : Ids) : Type 0 where
   pub content : Content
   pub rest : IsFirstAtRest s content
   pub executed_is : executed ≡ content.executed
+
+-- ---- Entering a database whose `meta` was read.
+
+-- What a call comes to that enters a database of this layout, if it is made for these names.
+pub record Enters (only : Option Names) (layout : KnownLayout) (old new : State) (r : Result Loaded StoreFault) : Type 0 where
+  pub entered : HasCleanDisk new → IsReady old → HasLayout old.now layout → IfOk r (λ l. IsEntered only old new l.executed l.following)
+  pub turned : HasCleanDisk new → IsReady old → HasLayout old.now layout → (tables_of old.now.schema).meta ≡ true → IfErr r (IsTurned only old new)
+  pub lives : Survives old new (λ _. Unit {0})
+  pub crash : IsReady old → HasLayout old.now layout → Survives old new (MayEnter (names_for only) old)

@@ -11,7 +11,7 @@ use Rattle.store.specs.State.{Content}
 use Rattle.store.specs.Layout.{IsLaidOut}
 use Rattle.store.specs.Beside.{LiesBeside}
 use Rattle.store.specs.Faults.{IsOpenFault}
-use Rattle.store.specs.Entering.{IsReady, IsTurned, IsWanted, IsRefused, IsLeft, ReadsLeft, MayEnter, tables_of, has_any, names_for}
+use Rattle.store.specs.Entering.{IsReady, IsTurned, IsWanted, IsRefusedOpening, IsLeft, ReadsLeft, MayEnter, tables_of, has_any, names_for}
 use Rattle.store.specs.Store.{Holds, Opens, database, names_of}
 
 -- The database of the connection was opened for these names, or for its own if none are wanted, or
@@ -47,7 +47,7 @@ pub record IsOpenedFor {S : Type 0} (g : Ghosts S) (wanted : Option Names) (conn
       → MatchResult result
       (λ store. HasCleanDisk (database g store)
       → Holds g store content × (names_of g store ≡ names) × IsWanted wanted names)
-      (λ e. HasCleanDisk (state g e.1) → IsRefused wanted names e.0)
+      (λ e. HasCleanDisk (state g e.1) → IsRefusedOpening wanted names e.0)
   -- A crash then leaves what it could before, or that content again.
   pub leaves : (names : Names) (content : Content)
       → ReadsLeft (names_for wanted) names content (state g conn)

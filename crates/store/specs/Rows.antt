@@ -149,8 +149,8 @@ shown_spans rows = map shown_span rows
 abbrev pub begins_at : List ℕ → ℤ → Row → Bool
 begins_at source lo shown = is_blob source (column shown 0) && is_eq (value_cmp (column shown 1) (Int lo))
 
-abbrev pub span : List ℕ → ℕ → ℕ → Span
-span source lo hi = record { source = source; lo = lo; hi = hi }
+abbrev pub span_from : List ℕ → ℕ → ℕ → Span
+span_from source lo hi = record { source = source; lo = lo; hi = hi }
 
 -- whether two spans of one source overlap or touch
 abbrev pub touches : Span → Span → Bool
@@ -200,7 +200,7 @@ abbrev pub IsSpanRow : Row → Type 0
 IsSpanRow row = (id : ℤ) × (s : Span) × (row ≡ Int id ∷ stored_span s) × IsSource s.source × (1 ≤ s.lo) × (s.lo < s.hi) × (s.hi ≤ 2 ^ 63 - 1)
 
 abbrev pub span_in : Row → Span
-span_in row = span (blob_in (column row 1)) (number_in (column row 2)) (number_in (column row 3))
+span_in row = span_from (blob_in (column row 1)) (number_in (column row 2)) (number_in (column row 3))
 
 -- Each value is of its column's type and in its range, and no two spans of a source overlap or touch.
 pub record KeepsRules (db : Database) : Type 0 where

@@ -36,19 +36,19 @@ module _ {S : Type 0} (g : Ghosts S) where
   abbrev pub IsBroken : Store S g → Type 0
   IsBroken store = store.broken ≡ true
 
-  abbrev pub IsWhole : Store S g → Type 0
-  IsWhole store = store.broken ≡ false
+  abbrev pub IsUnbroken : Store S g → Type 0
+  IsUnbroken store = store.broken ≡ false
 
   -- The store is whole: its tables, its connection and its set in memory stand for this content.
   pub record Holds (store : Store S g) (content : Content) : Type 0 where
-    pub whole : IsWhole store
+    pub whole : IsUnbroken store
     pub executed : store.executed ≡ content.executed
     pub rest : IsAtRest (database store) store.following content
 
   -- The store is whole and its set in memory stands for this content, and so do its tables if the connection is still
   -- open. A fault of the disk shuts it.
   pub record Keeps (store : Store S g) (content : Content) : Type 0 where
-    pub whole : IsWhole store
+    pub whole : IsUnbroken store
     pub executed : store.executed ≡ content.executed
     pub rest : IsTrue (database store).is_open → IsAtRest (database store) store.following content
 

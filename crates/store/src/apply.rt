@@ -11,18 +11,17 @@ ghost use Rattle.store.specs.Changes.{is_executed};
 ghost use Rattle.store.specs.Beside.{LiesBeside};
 ghost use Rattle.store.specs.Apply.{SparesBeside, IsAtRest, Comes, MayMove, IsReported, FailsShut};
 ghost use Rattle.store.specs.Faults.{IsApplyFault};
-ghost use Rattle.store.specs.Store.{Holds, Keeps, Applies, AppliesShut, Leaves, breaks, database, names_of, IsBroken, IsWhole};
+ghost use Rattle.store.specs.Store.{Holds, Keeps, Applies, AppliesShut, Leaves, breaks, database, names_of, IsBroken, IsUnbroken};
 ghost use Rattle.store.specs.declared.fault.Applied.TheVariants.{Repeat};
 ghost use Rattle.store.specs.declared.fault.StoreFault.TheVariants.{Broken, Memory};
 
-use crate::changes::run;
+use crate::changes::{check_open, run};
 use crate::fault::{Applied, StoreFault};
-use crate::inserts::check_open;
 use crate::row_change::Refusal;
 use crate::store::Store;
 use binlog::Follow;
 use gather::Delivery;
-use gtid::GtidSet;
+use gtid::{Entry, GtidSet, Reserved};
 use sqlite::{Alter, Connection};
 use std::alloc::Global;
 use std::mem;
@@ -31,7 +30,8 @@ use std::mem;
 fn refuse<S: Alter>(conn: &mut Connection<S>, at: usize, why: Refusal) -> StoreFault
     requires { conn.old.in_transaction ≡ false }
     ensures autocommit { conn.new.in_transaction ≡ false }
-    ensures reported { HasCleanDisk (state S.Store conn.new) → IsReported at why (state S.Store conn.old) (state S.Store conn.new) result }
+    ensures reported { HasCleanDisk (state S.Store conn.new)
+        → IsReported at why (state S.Store conn.old) (state S.Store conn.new) result }
     ensures survives { Survives (state S.Store conn.old) (state S.Store conn.new) (λ _. ⊥) }
     ensures other { result ≢ Memory }
     ensures fault { IsApplyFault result }
@@ -45,30 +45,34 @@ fn refuse<S: Alter>(conn: &mut Connection<S>, at: usize, why: Refusal) -> StoreF
     }
 }
 
-/// Applies a transaction that is not in the executed set, and returns the set as it is then.
+/// Applies a transaction that is not in the executed set, which has room for its GTID, and returns the set as it is then.
 fn apply_new<S: Alter>(
     alloc: Global,
     conn: &mut Connection<S>,
     filter: &Follow,
-    executed: GtidSet,
+    reserved: Reserved,
     delivery: &Delivery,
 ) -> (GtidSet, Result<Applied, StoreFault>)
     requires autocommit { conn.old.in_transaction ≡ false }
-    requires new { set.contains executed (id delivery.now.gtid) ≡ false }
+    requires of { reserved.1 ≡ id delivery.now.gtid }
+    requires new { set.contains reserved.0 reserved.1 ≡ false }
     ensures autocommit { conn.new.in_transaction ≡ false }
-    ensures comes { HasCleanDisk (state S.Store conn.new) → (content : Content) → IsAtRest (state S.Store conn.old) filter.now content → executed ≡ content.executed → Comes filter.now content (delivery_value delivery.now) (state S.Store conn.old) (state S.Store conn.new) result.0 result.1 }
-    ensures crash { (content : Content) → IsAtRest (state S.Store conn.old) filter.now content → executed ≡ content.executed → Survives (state S.Store conn.old) (state S.Store conn.new) (MayMove filter.now content (delivery_value delivery.now) (state S.Store conn.old) result.1) }
+    ensures comes { HasCleanDisk (state S.Store conn.new) → (content : Content)
+        → IsAtRest (state S.Store conn.old) filter.now content → reserved.0 ≡ content.executed
+        → Comes filter.now content (delivery_value delivery.now) (state S.Store conn.old)
+        (state S.Store conn.new) result.0 result.1 }
+    ensures crash { (content : Content) → IsAtRest (state S.Store conn.old) filter.now content
+        → reserved.0 ≡ content.executed → Survives (state S.Store conn.old) (state S.Store conn.new)
+        (MayMove filter.now content (delivery_value delivery.now) (state S.Store conn.old).now
+        result.1) }
     ensures lives { Survives (state S.Store conn.old) (state S.Store conn.new) (λ _. Unit {0}) }
-    ensures shut { HasCleanDisk (state S.Store conn.new) → (state S.Store conn.old).is_open ≡ false → FailsShut (state S.Store conn.new) executed result.0 result.1 }
-    ensures memory { result.1 ≡ Err Memory → conn.new ≡ conn.old }
+    ensures shut { HasCleanDisk (state S.Store conn.new)
+        → (state S.Store conn.old).is_open ≡ false
+        → FailsShut (state S.Store conn.new) reserved.0 result.0 result.1 }
+    ensures other { result.1 ≢ Err Memory }
     ensures fault { IfErr result.1 IsApplyFault }
 {
-    let beside = executed.beside(delivery.gtid);
-    let reserved = match executed.reserve(delivery.gtid) {
-        Ok(reserved) => reserved,
-        Err(executed) => return (executed, Err(StoreFault::Memory)),
-    };
-    match run(alloc, conn, filter, delivery, &beside) {
+    match run(alloc, conn, filter, delivery, &reserved.beside()) {
         Ok(None) => (reserved.insert(), Ok(Applied::Done)),
         Ok(Some((at, why))) => (reserved.release(), Err(refuse(conn, at, why))),
         Err(error) => (reserved.release(), Err(StoreFault::Database(error))),
@@ -105,7 +109,7 @@ impl<S: Alter> Store<S> {
         ensures known { (content : Content) → Keeps S.Store self.old content → is_executed content (delivery_value delivery.now) ≡ true → (result ≡ Ok Repeat) × (self.new ≡ self.old) }
         ensures broken { IsBroken S.Store self.old → (result ≡ Err Broken) × (self.new ≡ self.old) }
         ensures following { names_of S.Store self.new ≡ names_of S.Store self.old }
-        ensures schema { HasCleanDisk (database S.Store self.new) → (content : Content) → Holds S.Store self.old content → IsWhole S.Store self.new → (database S.Store self.new).now.schema ≡ (database S.Store self.old).now.schema }
+        ensures schema { HasCleanDisk (database S.Store self.new) → (content : Content) → Holds S.Store self.old content → IsUnbroken S.Store self.new → (database S.Store self.new).now.schema ≡ (database S.Store self.old).now.schema }
         ensures beside { HasCleanDisk (database S.Store self.new) → (content : Content) → Holds S.Store self.old content → IsTrue (database S.Store self.new).is_open → LiesBeside (database S.Store self.old).now (database S.Store self.new).now }
         ensures crash_beside { HasCleanDisk (database S.Store self.new) → (content : Content) → Holds S.Store self.old content → (trees : _) → (database S.Store self.new).may_leave trees → SparesBeside (database S.Store self.old).now trees }
         ensures unchanged { HasCleanDisk (database S.Store self.new) → (content : Content) → Holds S.Store self.old content → IsErr result → IsTrue (database S.Store self.new).is_open → (database S.Store self.new).now ≡ (database S.Store self.old).now }
@@ -117,15 +121,24 @@ impl<S: Alter> Store<S> {
         if self.broken {
             return Err(StoreFault::Broken);
         }
-        if self.executed.contains(delivery.gtid) {
-            return Ok(Applied::Repeat);
-        }
         let executed = mem::replace(&mut self.executed, GtidSet::new(self.alloc));
+        let reserved = match executed.entry(delivery.gtid) {
+            Entry::New(reserved) => reserved,
+            Entry::Known(executed) => {
+                self.executed = executed;
+                return Ok(Applied::Repeat);
+            }
+            Entry::NoRoom(executed) => {
+                self.executed = executed;
+                self.broken = true;
+                return Err(StoreFault::Memory);
+            }
+        };
         let (executed, answer) = apply_new(
             self.alloc,
             &mut self.conn,
             &self.following,
-            executed,
+            reserved,
             delivery,
         );
         self.executed = executed;

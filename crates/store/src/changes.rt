@@ -1,42 +1,71 @@
 //! The changes of a transaction of the source, as one transaction of the database.
 
-ghost use Rattle.std.specs.Prelude.{◌≡◌, false, IfOk, IfSome, IsTrue, Ok, None};
-ghost use Rattle.sqlite.specs.State.{HasCleanDisk, Survives};
+ghost use Rattle.std.specs.Prelude.{◌≡◌, true, false, is_none, IfOk, IfSome, IsTrue, OnOk, Ok, None};
+ghost use Rattle.sqlite.specs.State.{HasCleanDisk, IsUnchanged, Survives};
 ghost use Rattle.sqlite.specs.Held.{state};
 ghost use Rattle.gather.specs.View.{delivery_value};
-ghost use Rattle.gtid.specs.Identifier.{id};
 ghost use Rattle.gtid.specs.Span.{IsLawfulSpan};
-ghost use Rattle.gtid.specs.Beside.{Joins};
 ghost use Rattle.store.specs.State.{Content};
-ghost use Rattle.store.specs.Changes.{is_executed};
-ghost use Rattle.store.specs.Rows.{StandsFor};
-ghost use Rattle.store.specs.Inside.{IsWorking, WasOpen, Stays};
-ghost use Rattle.store.specs.Apply.{Fills, IsAtRest, Runs, MayCommit};
+ghost use Rattle.store.specs.Inside.{IsWorking, DoesIn, WasOpen, Stays};
+ghost use Rattle.store.specs.Apply.{Fills, IsNew, IsRun, Rests};
+ghost use Rattle.store.specs.AnyOrder.{AreInserts};
 
-use crate::inserts::try_sorted;
+use crate::inserts::{SortedInserts, insert_all, sorted_inserts};
 use crate::row_change::{Refusal, make_all};
 use crate::table::spans::record;
 use binlog::Follow;
-use gather::Delivery;
+use gather::{Changes, Delivery};
 use gtid::Beside;
 use sqlite::{Alter, Connection, Error, Transaction};
 use std::alloc::Global;
 
-/// Makes the changes and records the GTID, or returns which change is refused and why.
+/// Makes the changes in order, or adds the sorted rows, which comes to the same where none is refused. Returns which change
+/// is refused and why; of sorted rows only that one is, and nothing of which and why.
+fn make_changes<S: Alter>(
+    tx: &mut Transaction<'_, S>,
+    filter: &Follow,
+    changes: &Changes,
+    sorted: Option<&SortedInserts<'_>>,
+) -> Result<Option<(usize, Refusal)>, Error>
+    requires { IfSome sorted (λ s. AreInserts filter.now changes.now s.now) }
+    ensures same_reference { tx.new.conn.ghost_name ≡ tx.old.conn.ghost_name }
+    ensures does { HasCleanDisk (state S.Store tx.new.conn.now)
+        → IsWorking (state S.Store tx.old.conn.now)
+        → IfOk result (DoesIn (is_none sorted.entry) filter.now changes.now
+        (state S.Store tx.old.conn.now) (state S.Store tx.new.conn.now)) }
+    ensures stays { Stays (state S.Store tx.old.conn.now) (state S.Store tx.new.conn.now) }
+{
+    let Some(sorted) = sorted else {
+        return make_all(tx, filter, changes);
+    };
+    if !insert_all(tx, sorted.schema, sorted.table, sorted.images.as_slice())? {
+        return Ok(Some((0, Refusal::CountFull)));
+    }
+    Ok(None)
+}
+
+/// Makes the changes and records the GTID, or returns which change is refused and why, as `make_changes` does.
 fn fill<S: Alter>(
     tx: &mut Transaction<'_, S>,
     filter: &Follow,
     delivery: &Delivery,
     beside: &Beside,
+    sorted: Option<&SortedInserts<'_>>,
 ) -> Result<Option<(usize, Refusal)>, Error>
+    requires sorted { IfSome sorted (λ s. AreInserts filter.now delivery.now.changes s.now) }
     requires below { IfSome beside.now.below IsLawfulSpan }
     requires above { IfSome beside.now.above IsLawfulSpan }
     ensures same_reference { tx.new.conn.ghost_name ≡ tx.old.conn.ghost_name }
-    ensures fills { HasCleanDisk (state S.Store tx.new.conn.now) → IsWorking (state S.Store tx.old.conn.now) → (content : Content) → (stands : StandsFor (state S.Store tx.old.conn.now).now filter.now content) → is_executed content (delivery_value delivery.now) ≡ false
-        → Joins content.executed (id delivery.now.gtid) beside.now stands.executed.spans → IfOk result (Fills filter.now content (delivery_value delivery.now) (state S.Store tx.old.conn.now) (state S.Store tx.new.conn.now)) }
+    ensures fills { HasCleanDisk (state S.Store tx.new.conn.now)
+        → IsWorking (state S.Store tx.old.conn.now)
+        → (content : Content)
+        → IsNew (state S.Store tx.old.conn.now).now filter.now content
+        (delivery_value delivery.now) beside.now
+        → IfOk result (Fills (is_none sorted.entry) filter.now content (delivery_value delivery.now)
+        (state S.Store tx.old.conn.now) (state S.Store tx.new.conn.now)) }
     ensures stays { Stays (state S.Store tx.old.conn.now) (state S.Store tx.new.conn.now) }
 {
-    if let Some(refused) = make_all(tx, filter, &delivery.changes)? {
+    if let Some(refused) = make_changes(tx, filter, &delivery.changes, sorted)? {
         return Ok(Some(refused));
     }
     record(tx, delivery.gtid, beside)?;
@@ -44,30 +73,46 @@ fn fill<S: Alter>(
 }
 
 /// Runs `fill` in a transaction of its own, which is rolled back if a change is refused or a statement fails.
-fn in_order<S: Alter>(
+fn run_once<S: Alter>(
     conn: &mut Connection<S>,
     filter: &Follow,
     delivery: &Delivery,
     beside: &Beside,
+    sorted: Option<&SortedInserts<'_>>,
 ) -> Result<Option<(usize, Refusal)>, Error>
     requires autocommit { conn.old.in_transaction ≡ false }
+    requires sorted { IfSome sorted (λ s. AreInserts filter.now delivery.now.changes s.now) }
     requires below { IfSome beside.now.below IsLawfulSpan }
     requires above { IfSome beside.now.above IsLawfulSpan }
     ensures autocommit { conn.new.in_transaction ≡ false }
-    ensures runs { HasCleanDisk (state S.Store conn.new) → (content : Content) → (rest : IsAtRest (state S.Store conn.old) filter.now content) → is_executed content (delivery_value delivery.now) ≡ false
-        → Joins content.executed (id delivery.now.gtid) beside.now rest.stands.executed.spans → Runs filter.now content (delivery_value delivery.now) (state S.Store conn.old) (state S.Store conn.new) result }
-    ensures opened { HasCleanDisk (state S.Store conn.new) → WasOpen (state S.Store conn.old) (state S.Store conn.new) }
-    ensures done { HasCleanDisk (state S.Store conn.new) → result ≡ Ok None → IsTrue (state S.Store conn.new).is_open }
-    ensures lives { Survives (state S.Store conn.old) (state S.Store conn.new) (λ _. Unit {0}) }
-    ensures crash { (content : Content) → (rest : IsAtRest (state S.Store conn.old) filter.now content) → is_executed content (delivery_value delivery.now) ≡ false
-        → Joins content.executed (id delivery.now.gtid) beside.now rest.stands.executed.spans → Survives (state S.Store conn.old) (state S.Store conn.new) (MayCommit filter.now content (delivery_value delivery.now) (state S.Store conn.old) result) }
+    ensures ran { IsRun (is_none sorted.entry) filter.now (delivery_value delivery.now) beside.now
+        (state S.Store conn.old) (state S.Store conn.new) result }
 {
     let mut tx = conn.transaction();
-    if let Some(refused) = fill(&mut tx, filter, delivery, beside)? {
+    if let Some(refused) = fill(&mut tx, filter, delivery, beside, sorted)? {
         return Ok(Some(refused));
     }
     tx.commit()?;
     Ok(None)
+}
+
+/// Fails if the connection is not open, as it may be after a roll back.
+pub(crate) fn check_open<S: Alter>(conn: &mut Connection<S>) -> Result<(), Error>
+    requires { conn.old.in_transaction ≡ false }
+    ensures autocommit { conn.new.in_transaction ≡ false }
+    ensures same { HasCleanDisk (state S.Store conn.new)
+        → OnOk result (IsUnchanged (state S.Store conn.old) (state S.Store conn.new)) }
+    ensures rests { HasCleanDisk (state S.Store conn.new)
+        → (state S.Store conn.old).now ≡ (state S.Store conn.old).committed
+        → Rests (state S.Store conn.old) (state S.Store conn.new) }
+    ensures opened { HasCleanDisk (state S.Store conn.new)
+        → WasOpen (state S.Store conn.old) (state S.Store conn.new) }
+    ensures survives { Survives (state S.Store conn.old) (state S.Store conn.new) (λ _. ⊥) }
+{
+    if let Err(error) = conn.prepare("SELECT n FROM held") {
+        return Err(error);
+    }
+    Ok(())
 }
 
 /// Makes the changes and records the GTID in one transaction, or changes nothing and returns which change is refused and
@@ -85,16 +130,16 @@ pub(crate) fn run<S: Alter>(
     requires below { IfSome beside.now.below IsLawfulSpan }
     requires above { IfSome beside.now.above IsLawfulSpan }
     ensures autocommit { conn.new.in_transaction ≡ false }
-    ensures runs { HasCleanDisk (state S.Store conn.new) → (content : Content) → (rest : IsAtRest (state S.Store conn.old) filter.now content) → is_executed content (delivery_value delivery.now) ≡ false
-        → Joins content.executed (id delivery.now.gtid) beside.now rest.stands.executed.spans → Runs filter.now content (delivery_value delivery.now) (state S.Store conn.old) (state S.Store conn.new) result }
-    ensures opened { HasCleanDisk (state S.Store conn.new) → WasOpen (state S.Store conn.old) (state S.Store conn.new) }
-    ensures done { HasCleanDisk (state S.Store conn.new) → result ≡ Ok None → IsTrue (state S.Store conn.new).is_open }
-    ensures lives { Survives (state S.Store conn.old) (state S.Store conn.new) (λ _. Unit {0}) }
-    ensures crash { (content : Content) → (rest : IsAtRest (state S.Store conn.old) filter.now content) → is_executed content (delivery_value delivery.now) ≡ false
-        → Joins content.executed (id delivery.now.gtid) beside.now rest.stands.executed.spans → Survives (state S.Store conn.old) (state S.Store conn.new) (MayCommit filter.now content (delivery_value delivery.now) (state S.Store conn.old) result) }
+    ensures ran { IsRun true filter.now (delivery_value delivery.now) beside.now
+        (state S.Store conn.old) (state S.Store conn.new) result }
 {
-    if try_sorted(alloc, conn, filter, delivery, beside)? {
+    let Some(sorted) = sorted_inserts(alloc, filter, &delivery.changes) else {
+        return run_once(conn, filter, delivery, beside, None);
+    };
+    if run_once(conn, filter, delivery, beside, Some(&sorted))?.is_none() {
         return Ok(None);
     }
-    in_order(conn, filter, delivery, beside)
+    drop(sorted); // its memory may be needed now
+    check_open(conn)?;
+    run_once(conn, filter, delivery, beside, None)
 }

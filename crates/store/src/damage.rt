@@ -1,4 +1,6 @@
 //! What is wrong with the tables of a database that an opening reports as damaged.
+//!
+//! Loops over rows are `for`s up to a number that is never reached, since the prover asks that each loop ends.
 
 use crate::table::spans::{span_of, touches_last};
 use crate::table::{executed, follow, held, meta, spans};

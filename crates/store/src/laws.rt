@@ -9,7 +9,7 @@ ghost use Rattle.sqlite.specs.Effect.{IsDatabase};
 ghost use Rattle.binlog.specs.Filter.{Names};
 ghost use Rattle.store.specs.Layout.{IsLaidOut};
 ghost use Rattle.store.specs.Rows.{HasRowids, span_rows};
-ghost use Rattle.store.specs.Entering.{IsKnown, IsReady, IsStored, IsOf, IsDamaged, IsOther, IsLeft, ReadsLeft, tables_of, has_any};
+ghost use Rattle.store.specs.Entering.{IsKnown, IsReady, IsStored, IsOf, IsDamaged, IsOtherLayout, IsLeft, ReadsLeft, tables_of, has_any};
 ghost use Rattle.store.specs.Store.{Holds, AreOf, database, names_of};
 
 use crate::store::Store;
@@ -52,7 +52,7 @@ pub fn left_is_ready<S: Alter>(conn: &Connection<S>)
 pub fn one_state<S: Alter>(_conn: &Connection<S>)
     ensures one { (only : Names) → (n : Names) → (m : Names) → (a : Content) → (b : Content) → IsOf only n (state S.Store _conn.now).now a → IsOf only m (state S.Store _conn.now).now b → (n ≡ m) × (a ≡ b) }
     ensures sound { (only : Names) → (n : Names) → (a : Content) → IsDatabase (state S.Store _conn.now).now → (IsLaidOut (state S.Store _conn.now).now.schema → HasRowids (span_rows (state S.Store _conn.now).now)) → IsOf only n (state S.Store _conn.now).now a → ¬ IsDamaged (state S.Store _conn.now).now }
-    ensures known { (only : Names) → (n : Names) → (a : Content) → (k : ℤ) → IsOf only n (state S.Store _conn.now).now a → ¬ IsOther (state S.Store _conn.now).now k }
-    ensures some { IsKnown (state S.Store _conn.now).now → has_any (tables_of (state S.Store _conn.now).now.schema) ≡ true → ((n : Names) → (a : Content) → ¬ IsStored n (state S.Store _conn.now).now a) → ¬ IsDamaged (state S.Store _conn.now).now → ((k : ℤ) → ¬ IsOther (state S.Store _conn.now).now k) → ⊥ }
-    ensures other { (k : ℤ) → IsDamaged (state S.Store _conn.now).now → ¬ IsOther (state S.Store _conn.now).now k }
+    ensures known { (only : Names) → (n : Names) → (a : Content) → (k : ℤ) → IsOf only n (state S.Store _conn.now).now a → ¬ IsOtherLayout (state S.Store _conn.now).now k }
+    ensures some { IsKnown (state S.Store _conn.now).now → has_any (tables_of (state S.Store _conn.now).now.schema) ≡ true → ((n : Names) → (a : Content) → ¬ IsStored n (state S.Store _conn.now).now a) → ¬ IsDamaged (state S.Store _conn.now).now → ((k : ℤ) → ¬ IsOtherLayout (state S.Store _conn.now).now k) → ⊥ }
+    ensures other { (k : ℤ) → IsDamaged (state S.Store _conn.now).now → ¬ IsOtherLayout (state S.Store _conn.now).now k }
 {}

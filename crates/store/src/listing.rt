@@ -131,6 +131,7 @@ fn hand_all<S: Alter, V: Visitor>(
     ensures survives { Survives (state S.Store rows.old.conn.now) (state S.Store rows.new.conn.now) (λ _. ⊥) }
     ensures fault { IfErr result IsListFault }
 {
+    // A `for`, since the prover asks that each loop ends.
     'rows: for _ in 0..u64::MAX {
         match rows.advance() {
             Ok(()) => {}

@@ -1,11 +1,10 @@
 //! Reading the tables of a database that is opened.
 
 ghost use Rattle.std.specs.Prelude.{◌≡◌, false, pos, IfErr};
-ghost use Rattle.sqlite.specs.State.{HasCleanDisk, IsUnchanged, Survives};
 ghost use Rattle.sqlite.specs.Held.{state};
 ghost use Rattle.store.specs.Layout.{IsLaidOut, IsFirstLaidOut};
 ghost use Rattle.store.specs.Rows.{meta_rows, KeepsRules, KeepsFirstRules};
-ghost use Rattle.store.specs.Load.{StatesLayout, Rested, OnSeen, Judges, IsLoadFault, IsLoaded, IsFirstLoaded};
+ghost use Rattle.store.specs.Load.{StatesLayout, LoadsAll, IsLoadFault, IsLoaded, IsFirstLoaded};
 
 use crate::fault::StoreFault;
 use crate::table::executed::load_executed;
@@ -29,11 +28,11 @@ pub(crate) struct Loaded {
 pub(crate) fn load<S: Alter>(alloc: Global, conn: &mut Connection<S>) -> Result<Loaded, StoreFault>
     requires { conn.old.in_transaction ≡ false }
     ensures autocommit { conn.new.in_transaction ≡ false }
-    ensures loads { HasCleanDisk (state S.Store conn.new) → IsLaidOut (state S.Store conn.old).now.schema → (state S.Store conn.old).now ≡ (state S.Store conn.old).committed → StatesLayout (pos 2) (meta_rows (state S.Store conn.old).now) → Judges result (λ l. IsLoaded (state S.Store conn.new) l.executed l.following) (KeepsRules (state S.Store conn.old).now) }
-    ensures same { HasCleanDisk (state S.Store conn.new) → IsLaidOut (state S.Store conn.old).now.schema → OnSeen result (IsUnchanged (state S.Store conn.old) (state S.Store conn.new)) }
-    ensures rested { HasCleanDisk (state S.Store conn.new) → IsLaidOut (state S.Store conn.old).now.schema → Rested (state S.Store conn.old) (state S.Store conn.new) }
-    ensures lives { Survives (state S.Store conn.old) (state S.Store conn.new) (λ _. Unit {0}) }
-    ensures crash { IsLaidOut (state S.Store conn.old).now.schema → Survives (state S.Store conn.old) (state S.Store conn.new) (λ _. ⊥) }
+    ensures reads { LoadsAll (IsLaidOut (state S.Store conn.old).now.schema)
+        (StatesLayout (pos 2) (meta_rows (state S.Store conn.old).now))
+        (state S.Store conn.old) (state S.Store conn.new) result
+        (λ l. IsLoaded (state S.Store conn.new) l.executed l.following)
+        (KeepsRules (state S.Store conn.old).now) }
     ensures fault { IfErr result IsLoadFault }
 {
     // For the prover: what the connection shows is a database. The call does nothing at run time.
@@ -54,11 +53,11 @@ pub(crate) fn load_first<S: Alter>(
 ) -> Result<GtidSet, StoreFault>
     requires { conn.old.in_transaction ≡ false }
     ensures autocommit { conn.new.in_transaction ≡ false }
-    ensures loads { HasCleanDisk (state S.Store conn.new) → IsFirstLaidOut (state S.Store conn.old).now.schema → (state S.Store conn.old).now ≡ (state S.Store conn.old).committed → StatesLayout (pos 1) (meta_rows (state S.Store conn.old).now) → Judges result (IsFirstLoaded (state S.Store conn.new)) (KeepsFirstRules (state S.Store conn.old).now) }
-    ensures same { HasCleanDisk (state S.Store conn.new) → IsFirstLaidOut (state S.Store conn.old).now.schema → OnSeen result (IsUnchanged (state S.Store conn.old) (state S.Store conn.new)) }
-    ensures rested { HasCleanDisk (state S.Store conn.new) → IsFirstLaidOut (state S.Store conn.old).now.schema → Rested (state S.Store conn.old) (state S.Store conn.new) }
-    ensures lives { Survives (state S.Store conn.old) (state S.Store conn.new) (λ _. Unit {0}) }
-    ensures crash { IsFirstLaidOut (state S.Store conn.old).now.schema → Survives (state S.Store conn.old) (state S.Store conn.new) (λ _. ⊥) }
+    ensures reads { LoadsAll (IsFirstLaidOut (state S.Store conn.old).now.schema)
+        (StatesLayout (pos 1) (meta_rows (state S.Store conn.old).now))
+        (state S.Store conn.old) (state S.Store conn.new) result
+        (IsFirstLoaded (state S.Store conn.new))
+        (KeepsFirstRules (state S.Store conn.old).now) }
     ensures fault { IfErr result IsLoadFault }
 {
     // For the prover: what the connection shows is a database. The call does nothing at run time.

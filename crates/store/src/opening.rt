@@ -8,7 +8,8 @@ ghost use Rattle.store.specs.Layout.{IsVacant, IsFirstLaidOut, IsLaidOut};
 ghost use Rattle.sqlite.specs.Effect.{Database as Stored};
 ghost use Rattle.store.specs.Judge.{IsMeta};
 ghost use Rattle.store.specs.Rows.{meta_rows};
-ghost use Rattle.store.specs.Load.{StatesLayout, HasLayout};
+ghost use Rattle.store.specs.declared.layout.KnownLayout.TheVariants.{First, Second};
+ghost use Rattle.store.specs.Load.{HasLayout, Enters};
 ghost use Rattle.binlog.specs.Filter.{Names};
 ghost use Rattle.store.specs.Faults.{IsOpenFault};
 ghost use Rattle.store.specs.Entering.{IsReady, IsKnown, IsWhy, IsEntered, IsTurned, IsWanted, MayEnter, wanted_of, names_for, tables_of, has_any, has_first, has_second};
@@ -104,23 +105,8 @@ fn enter_first<S: Alter>(
 ) -> Result<Loaded, StoreFault>
     requires { conn.old.in_transaction ≡ false }
     ensures autocommit { conn.new.in_transaction ≡ false }
-    ensures entered { HasCleanDisk (state S.Store conn.new) → IsReady (state S.Store conn.old)
-        → IsFirstLaidOut (state S.Store conn.old).now.schema
-        → StatesLayout (pos 1) (meta_rows (state S.Store conn.old).now)
-        → IfOk result (λ l. IsEntered (wanted_of only.entry) (state S.Store conn.old)
-        (state S.Store conn.new) l.executed l.following) }
-    ensures turned { HasCleanDisk (state S.Store conn.new) → IsReady (state S.Store conn.old)
-        → IsFirstLaidOut (state S.Store conn.old).now.schema
-        → StatesLayout (pos 1) (meta_rows (state S.Store conn.old).now)
-        → (tables_of (state S.Store conn.old).now.schema).meta ≡ true
-        → IfErr result (IsTurned (wanted_of only.entry) (state S.Store conn.old)
-        (state S.Store conn.new)) }
-    ensures lives { Survives (state S.Store conn.old) (state S.Store conn.new) (λ _. Unit {0}) }
-    ensures crash { IsReady (state S.Store conn.old)
-        → IsFirstLaidOut (state S.Store conn.old).now.schema
-        → StatesLayout (pos 1) (meta_rows (state S.Store conn.old).now)
-        → Survives (state S.Store conn.old) (state S.Store conn.new)
-        (MayEnter (names_for (wanted_of only.entry)) (state S.Store conn.old)) }
+    ensures enters { Enters (wanted_of only.entry) First (state S.Store conn.old)
+        (state S.Store conn.new) result }
     ensures fault { IfErr result (IsOpenFault (wanted_of only.entry)) }
 {
     let executed = load_first(alloc, conn)?;
@@ -145,20 +131,8 @@ fn enter_second<S: Alter>(
 ) -> Result<Loaded, StoreFault>
     requires { conn.old.in_transaction ≡ false }
     ensures autocommit { conn.new.in_transaction ≡ false }
-    ensures entered { HasCleanDisk (state S.Store conn.new) → IsReady (state S.Store conn.old)
-        → IsLaidOut (state S.Store conn.old).now.schema
-        → StatesLayout (pos 2) (meta_rows (state S.Store conn.old).now)
-        → IfOk result (λ l. IsEntered (wanted_of only.entry) (state S.Store conn.old)
-        (state S.Store conn.new) l.executed l.following) }
-    ensures turned { HasCleanDisk (state S.Store conn.new) → IsReady (state S.Store conn.old)
-        → IsLaidOut (state S.Store conn.old).now.schema
-        → StatesLayout (pos 2) (meta_rows (state S.Store conn.old).now)
-        → (tables_of (state S.Store conn.old).now.schema).meta ≡ true
-        → IfErr result (IsTurned (wanted_of only.entry) (state S.Store conn.old)
-        (state S.Store conn.new)) }
-    ensures lives { Survives (state S.Store conn.old) (state S.Store conn.new) (λ _. Unit {0}) }
-    ensures crash { IsLaidOut (state S.Store conn.old).now.schema
-        → Survives (state S.Store conn.old) (state S.Store conn.new) (λ _. ⊥) }
+    ensures enters { Enters (wanted_of only.entry) Second (state S.Store conn.old)
+        (state S.Store conn.new) result }
     ensures fault { IfErr result (IsOpenFault (wanted_of only.entry)) }
 {
     let loaded = load(alloc, conn)?;

@@ -97,12 +97,7 @@ fn add_row<S: Alter>(
     ensures makes { HasCleanDisk (state S.Store tx.new.conn.now) → IsWorking (state S.Store tx.old.conn.now) → IfOk result (Makes (insert table.now.schema.items table.now.table.items image.now) (state S.Store tx.old.conn.now) (state S.Store tx.new.conn.now)) }
     ensures stays { Stays (state S.Store tx.old.conn.now) (state S.Store tx.new.conn.now) }
 {
-    let row = RowKey {
-        schema: table.schema.as_slice(),
-        table: table.table.as_slice(),
-        image: image.bytes(),
-    };
-    add(tx, &row)
+    add(tx, &RowKey::of(table, image))
 }
 
 /// Removes one copy of a row of a table.
@@ -115,12 +110,7 @@ fn remove_row<S: Alter>(
     ensures makes { HasCleanDisk (state S.Store tx.new.conn.now) → IsWorking (state S.Store tx.old.conn.now) → IfOk result (Makes (delete table.now.schema.items table.now.table.items image.now) (state S.Store tx.old.conn.now) (state S.Store tx.new.conn.now)) }
     ensures stays { Stays (state S.Store tx.old.conn.now) (state S.Store tx.new.conn.now) }
 {
-    let row = RowKey {
-        schema: table.schema.as_slice(),
-        table: table.table.as_slice(),
-        image: image.bytes(),
-    };
-    remove(tx, &row)
+    remove(tx, &RowKey::of(table, image))
 }
 
 /// Makes one change, or returns why it is refused.
@@ -152,11 +142,8 @@ fn make<S: Alter>(
 fn is_admitted(filter: &Follow, change: &Change<'_>) -> bool
     ensures { result ≡ is_admitted filter.now (change_value change.now) }
 {
-    match change {
-        Change::Insert { table, .. } => filter.follows(&table.schema, &table.table),
-        Change::Delete { table, .. } => filter.follows(&table.schema, &table.table),
-        Change::Update { table, .. } => filter.follows(&table.schema, &table.table),
-    }
+    let table = change.table();
+    filter.follows(&table.schema, &table.table)
 }
 
 /// Makes one change of a table that the filter admits, and skips any other.

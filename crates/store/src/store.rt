@@ -1,4 +1,8 @@
 //! The store.
+//!
+//! Its methods are in `opening.rt`, `contents.rt`, `apply.rt`, `adopt.rt`, `counting.rt` and `listing.rt`: the struct has
+//! facts that definitions are stated over, and the prover takes no file that both has such a struct and names these
+//! definitions.
 
 ghost use Rattle.std.specs.Prelude.{◌≡◌, false};
 

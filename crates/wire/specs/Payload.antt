@@ -4,6 +4,10 @@ use Rattle.std.specs.List.{AllByRecursion}
 use Rattle.wire.specs.Packet.{full_chunk, packets, IsFullChunk, IsPacking}
 use Rattle.wire.specs.Header.{IsHeader}
 
+-- the bytes of a payload
+abbrev pub Payload : Type 0
+Payload = List ℕ
+
 -- The state of a reader of packets: the longest payload that it takes; the sequence id that the first packet of the
 -- current payload must have; the bytes of this payload that have come, headers included; and whether a fault has ended
 -- the reader.

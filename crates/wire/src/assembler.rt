@@ -74,10 +74,10 @@ impl Assembler {
 
     /// Consumes bytes up to the end of the current payload, or all of them.
     ///
-    /// `Sequence` and `TooLarge` are reported as soon as the four bytes of the wrong header have come,
-    /// `Sequence` if the header is wrong in both ways. `Memory` is reported if a right header
-    /// that announces bytes is complete with these bytes, and the room for them cannot be allocated. After any of them every later step answers
-    /// `Ended`, and nothing more is promised of the reader.
+    /// `Sequence` and `TooLarge` are reported as soon as the four bytes of the wrong header have come, `Sequence` if the
+    /// header is wrong in both ways. `Memory` is reported if a right header that announces bytes is complete with these
+    /// bytes, and the room for them cannot be allocated. After any of them every later step answers `Ended`, and nothing
+    /// more is promised of the reader.
     pub fn step(&mut self, bytes: &[u8]) -> Result<Step, WireFault>
         // A payload: the bytes held and those used are its packets, and the reader holds nothing.
         ensures used { IfOk result (λ step. step.used ≤ length bytes.now) }

@@ -11,11 +11,13 @@
 - In a crate's page: the first column of a table `Function` or `Law` names functions of the crate, and its second
   column clauses of theirs.
 - A table `File` | `Lines`: the file has about so many lines.
+
+And that a word of `specs/` is defined in one file alone, so that it means one thing.
 """
 import glob, os, re, sys
 
 root = os.path.abspath(sys.argv[1])
-CRATES = ['wire', 'greet', 'gtid', 'binlog', 'gather', 'store', 'scripted_source', 'replica', 'mrep']
+CRATES = ['wire', 'greet', 'gtid', 'binlog', 'gather', 'store', 'scripted_source', 'replica', 'files', 'formats', 'command_line', 'mrep']
 TOP = ('crates/', 'docs/', 'tests/', 'bench/', 'samples/', 'specs/', 'src/', 'proofs/', 'must-fail/', '.ci/')
 bad = []
 
@@ -158,7 +160,7 @@ def tables(page, crate, text):
         cells = [cell.strip() for cell in line.strip('|').split(' | ')] if line.startswith('|') else []
         if not cells: kind = None; continue
         if cells[0] in ('Function', 'Law', 'File', 'Promise'): kind = cells[0]; continue
-        if kind in ('Function', 'Law') and crate and not set(cells[0]) <= set('|- '):
+        if kind in ('Function', 'Law') and crate and not re.fullmatch(r'[|\- ]+', cells[0]):
             named = re.findall(r'`([\w:]+)`', cells[0])
             if named: functions = named
             for name in named:
@@ -172,6 +174,19 @@ def tables(page, crate, text):
             if abs(lines - int(cells[1])) > max(10, lines // 5): yield f'{path} has {lines} lines'
 
 
+def twice():
+    """Words that two files of `specs/` define."""
+    files = {}
+    for path in glob.glob(f'{root}/crates/*/specs/*.antt'):
+        for line in read(path).split('\n'):
+            found = re.match(r' *(?:abbrev pub|unfoldable pub|pub (?:record|data)|pub) (?!record|data|mod)(\w+)', line)
+            is_field = re.match(r' +pub \w+ :', line)
+            if found and not is_field: files.setdefault(found.group(1), set()).add(os.path.relpath(path, root))
+    for word, places in sorted(files.items()):
+        if len(places) > 1: yield f'{word} is defined in ' + ' and in '.join(sorted(places))
+
+
+bad += twice()
 pages = [path for pattern in ('*.md', 'docs/*.md', 'crates/*/README.md', 'samples/*.md', 'bench/*.md')
          for path in sorted(glob.glob(f'{root}/{pattern}'))]
 for page in pages:

@@ -3,7 +3,7 @@
 
 ghost use Rattle.std.specs.Prelude.{◌≡◌, ℕ, List, drop, IfOk, IfErr, Ok, Some, None, ◌↔◌, IsTrue, ◌++◌, length, take, OnOk, OnErr, Err, ◌<◌, ◌+◌, vec_len, vec_capacity, ◌≤◌};
 ghost use Rattle.binlog.specs.Header.{header_length};
-ghost use Rattle.binlog.specs.Body.{IsGtid, gtid_fault};
+ghost use Rattle.binlog.specs.Body.{IsGtidBody, gtid_fault};
 ghost use Rattle.binlog.specs.Event.{gtid};
 ghost use Rattle.binlog.specs.Writing.{IsWritable};
 ghost use Rattle.binlog.specs.Writing.{gtid_body};
@@ -16,8 +16,8 @@ use gtid::Gtid;
 /// Reads the GTID of a GTID event.
 #[tactic(auto, unfolding(crate::specs::Body::gtid_fault))]
 pub(crate) fn read_gtid(bytes: &[u8]) -> Result<Gtid, EventFault>
-    ensures found { IfOk result (λ gtid. IsGtid gtid.source gtid.number (drop header_length bytes.now)) }
-    ensures only { (source : List ℕ) (number : ℕ) → IsGtid source number (drop header_length bytes.now) → IfOk result (λ gtid. (gtid.source ≡ source) × (gtid.number ≡ number)) }
+    ensures found { IfOk result (λ gtid. IsGtidBody gtid.source gtid.number (drop header_length bytes.now)) }
+    ensures only { (source : List ℕ) (number : ℕ) → IsGtidBody source number (drop header_length bytes.now) → IfOk result (λ gtid. (gtid.source ≡ source) × (gtid.number ≡ number)) }
     ensures fault { IfErr result (λ fault. gtid_fault bytes.now ≡ Some fault) }
 {
     match bytes.len() {

@@ -182,6 +182,22 @@ pub(crate) fn rows_event_fits(rows: &RowsEvent<'_>) -> bool
     }
 }
 
+impl RowsKind {
+    ghost use Rattle.std.specs.Prelude.{◌≡◌};
+    ghost use Rattle.binlog.specs.Rows.{rows_code};
+
+    /// The type of an event of this kind.
+    pub fn code(self) -> u8
+        ensures { result ≡ rows_code self }
+    {
+        match self {
+            RowsKind::Write => event_type::WRITE_ROWS,
+            RowsKind::Update => event_type::UPDATE_ROWS,
+            RowsKind::Delete => event_type::DELETE_ROWS,
+        }
+    }
+}
+
 /// Appends the body of a rows event that ends its statement, or a part of it, and returns the event's type.
 pub(crate) fn write_rows_event(rows: &RowsEvent<'_>, out: &mut Vec<u8>) -> Result<u8, EventFault>
     requires { HasRowsBody (rows_value rows.now) }
@@ -197,11 +213,7 @@ pub(crate) fn write_rows_event(rows: &RowsEvent<'_>, out: &mut Vec<u8>) -> Resul
     write_padded_count(width, rows.columns, out)?;
     write_presents(rows.kind, rows.columns, out)?;
     out.extend_from_slice(rows.bytes)?;
-    match rows.kind {
-        RowsKind::Write => Ok(event_type::WRITE_ROWS),
-        RowsKind::Update => Ok(event_type::UPDATE_ROWS),
-        RowsKind::Delete => Ok(event_type::DELETE_ROWS),
-    }
+    Ok(rows.kind.code())
 }
 
 /// Appends what comes before the number of columns, or a part of it. The extra data is zeros.

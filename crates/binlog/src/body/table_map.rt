@@ -1,12 +1,12 @@
 //! TABLE_MAP: which table the following rows events mean by a number. MySQL Source Documentation, "Binlog Event", the
 //! page `binary_log::Table_map_event`.
 
-ghost use Rattle.std.specs.Prelude.{◌≡◌, IfOk, OnErr, Err, ℕ, ◌+◌, ◌≤◌, List, length, drop, IfErr, MatchResult, Some, None, ◌++◌, ◌↔◌, take, map, OnOk, IsTrue, ◌<◌, vec_len, vec_capacity};
+ghost use Rattle.std.specs.Prelude.{◌≡◌, IfOk, OnErr, Err, ℕ, ◌+◌, ◌≤◌, List, length, drop, IfErr, MatchResult, Some, None, ◌++◌, ◌↔◌, take, map, OnOk, IsTrue, ◌<◌, vec_len, vec_capacity, IfSome, IfNone};
 ghost use Rattle.binlog.specs.Header.{header_length};
 ghost use Rattle.binlog.specs.Row.{kinds};
 ghost use Rattle.binlog.specs.declared.fault.EventFaultKind.TheVariants.{Memory};
 ghost use Rattle.binlog.specs.Fault.{number_at};
-ghost use Rattle.binlog.specs.Table.{IsNamed, terminator_place, schema_of, table_of, names_fault};
+ghost use Rattle.binlog.specs.Table.{IsNamed, terminator_place, named_schema, named_table, names_fault, IsCodeOf, HasNoColumns};
 ghost use Rattle.binlog.specs.TableView.{table_value};
 ghost use Rattle.binlog.specs.Writing.{HasMap, names_bytes, table_map_body};
 
@@ -14,8 +14,8 @@ use crate::bitmap::write_full_bitmap;
 use crate::column::kind::ColumnType;
 use crate::column::list::{MOST_COLUMNS, metadata_length, write_all_metadata, write_codes};
 use crate::column::types::ColumnTypes;
-use crate::count::write_count;
-use crate::fault::EventFault;
+use crate::count::{read_count, write_count};
+use crate::fault::{EventFault, EventFaultKind};
 use byteorder::{ByteOrder, LittleEndian};
 use std::alloc::Global;
 
@@ -98,7 +98,7 @@ pub(crate) fn read_names(bytes: &[u8]) -> Result<Names<'_>, EventFault>
     ensures found { IfOk result (λ names. IsNamed names.id names.schema.now names.table.now (drop names.end bytes.now) (drop header_length bytes.now)) }
     ensures within { IfOk result (λ names. names.end ≤ length bytes.now) }
     ensures place { IfOk result (λ names. names.end ≡ terminator_place bytes.now + 1) }
-    ensures values { IfOk result (λ names. (names.id ≡ number_at 6 bytes.now 19) × (names.schema.now ≡ schema_of bytes.now) × (names.table.now ≡ table_of bytes.now)) }
+    ensures values { IfOk result (λ names. (names.id ≡ number_at 6 bytes.now 19) × (names.schema.now ≡ named_schema bytes.now) × (names.table.now ≡ named_table bytes.now)) }
     ensures only { (id : ℕ) (schema table rest : List ℕ) → IsNamed id schema table rest (drop header_length bytes.now) → MatchResult result (λ names. (names.id ≡ id) × (names.schema.now ≡ schema) × (names.table.now ≡ table) × (drop names.end bytes.now ≡ rest)) (λ _. ⊥) }
     ensures fault { IfErr result (λ fault. names_fault bytes.now ≡ Some fault) }
     ensures none { IfOk result (λ _. names_fault bytes.now ≡ None) }
@@ -133,6 +133,51 @@ pub(crate) fn read_names(bytes: &[u8]) -> Result<Names<'_>, EventFault>
         table: &bytes[table..end],
         end: end + 1,
     })
+}
+
+/// Where in a table map an offset lies, as that of a fault.
+#[derive(Clone, Copy, Debug, PartialEq, Eq)]
+pub struct ColumnPlace<'a> {
+    pub schema: &'a [u8],
+    pub table: &'a [u8],
+    /// The column whose type code is at the offset, counted from 0. If none is there, `None`.
+    pub column: Option<usize>,
+}
+
+impl<'a> ColumnPlace<'a> {
+    /// Reads the names in a table map and the number of its columns, and finds the column whose type code is at the
+    /// offset `at` in the event. `None` if the names or the number of columns cannot be read. Nothing after that number is read.
+    pub fn find(event: &'a [u8], at: usize) -> Option<ColumnPlace<'a>>
+        ensures names { IfSome result (λ place. (place.schema.now ≡ named_schema event.now) × (place.table.now ≡ named_table event.now)) }
+        ensures column { IfSome result (λ place. IfSome place.column (IsCodeOf event.now at)) }
+        ensures other { IfSome result (λ place. IfNone place.column ((column : ℕ) → IsCodeOf event.now at column → ⊥)) }
+        ensures none { IfNone result (HasNoColumns event.now) }
+    {
+        let Ok(names) = read_names(event) else {
+            return None;
+        };
+        let Ok((columns, width)) = read_count(event, names.end, EventFaultKind::Columns) else {
+            return None;
+        };
+        let column = place_among(names.end + width, columns, at);
+        Some(ColumnPlace {
+            schema: names.schema,
+            table: names.table,
+            column,
+        })
+    }
+}
+
+/// The place of `at` among this many places from the first on, if it is one of them.
+fn place_among(first: usize, count: u64, at: usize) -> Option<usize>
+    ensures some { IfSome result (λ place. (at ≡ first + place) × (place < count)) }
+    ensures none { IfNone result ((place : ℕ) → at ≡ first + place → place < count → ⊥) }
+{
+    let place = at.checked_sub(first)?;
+    if place as u64 >= count {
+        return None;
+    }
+    Some(place)
 }
 
 /// Whether a table map can be written: its number is below 2^48, its names have at most 255 bytes, and it has 1 to

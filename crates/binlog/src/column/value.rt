@@ -1,6 +1,6 @@
 //! How values are stored in a row. MySQL Source Documentation, "Binlog Event", the page `binary_log::Rows_event`.
 
-ghost use Rattle.std.specs.Prelude.{◌≡◌, ◌≤◌, length, IfOk, IfErr, Ok, Err, IsTrue, ◌<◌, ◌^◌, nat_lt, ◌*◌, ◌++◌, take, OnOk, OnErr, ◌+◌, vec_len, vec_capacity};
+ghost use Rattle.std.specs.Prelude.{◌≡◌, ◌≤◌, length, IfOk, IfErr, Ok, Err, IsTrue, ◌<◌, ◌^◌, nat_lt, nat_le, ◌&&◌, ◌*◌, ◌++◌, take, OnOk, OnErr, ◌+◌, vec_len, vec_capacity};
 ghost use Rattle.byteorder.specs.Endian.{little_number};
 ghost use Rattle.binlog.specs.Cell.{cell_value, owned_value};
 ghost use Rattle.binlog.specs.Column.{is_lawful};
@@ -208,25 +208,23 @@ pub(crate) fn value_fits(shape: Shape, cell: &OwnedCell) -> bool
                 if *width != size {
                     return false;
                 }
-                is_below(*value, size as usize)
+                number_fits(*value, size)
             }
             _ => false,
         },
         OwnedCell::Bytes(bytes) => match shape {
             Shape::Number { .. } => false,
             Shape::Fixed { size } => bytes.len() == size as usize,
-            Shape::Prefixed { size } => is_below(bytes.len() as u64, size as usize),
+            Shape::Prefixed { size } => number_fits(bytes.len() as u64, size),
         },
     }
 }
 
-/// Whether a number can be written in `size` bytes.
-fn is_below(value: u64, size: usize) -> bool
-    requires low { 1 ≤ size }
-    requires high { size ≤ 8 }
-    ensures { result ≡ nat_lt value (256 ^ size) }
+/// Whether a number can be written in this many bytes, 1 to 8.
+pub fn number_fits(value: u64, width: u8) -> bool
+    ensures { result ≡ (nat_le 1 width && nat_le width 8 && nat_lt value (256 ^ width)) }
 {
-    match size {
+    match width {
         1 => value < 0x100,
         2 => value < 0x1_0000,
         3 => value < 0x100_0000,
@@ -234,7 +232,8 @@ fn is_below(value: u64, size: usize) -> bool
         5 => value < 0x100_0000_0000,
         6 => value < 0x1_0000_0000_0000,
         7 => value < 0x100_0000_0000_0000,
-        _ => true,
+        8 => true,
+        _ => false,
     }
 }
 

@@ -2,33 +2,24 @@
 
 ghost use Rattle.std.specs.Prelude.{◌≤◌, IfOk};
 
-use crate::arguments::value::{number, word};
+use crate::arguments::{number, word};
 use crate::commands::socket::Socket;
 use crate::database::open::{closed, follow_into};
-use crate::print::name::Shown;
-use crate::report::failure::{Failure, MEMORY, write_failure};
-use crate::report::progress::Progress;
+use crate::report::failure::{Failure, MEMORY, over_file, write_failure};
 use crate::report::status::status_after;
 use crate::report::wanted::Wanted;
 use crate::report::watch::{Source, Watch};
 use binlog::Follow;
 use clap::ArgMatches;
+use files::{others_may_read, read_password};
+use formats::{Progress, Shown};
 use replica::{Config, ConfigFault, Ended, FollowedFile, Observer};
 use std::alloc::AllocError;
-use std::io::{ErrorKind, Read, Write};
+use std::io;
+use std::io::{ErrorKind, Write};
 use std::net::TcpStream;
-use std::os::unix::fs::MetadataExt;
 use std::rc::Rc;
-use std::{fs, io};
 use wire::LARGEST_PAYLOAD;
-
-/// How long a password may be, in bytes.
-const LONGEST_PASSWORD: u64 = 65_536;
-
-const NO_PASSWORD: &str = "a password has at most 65,536 bytes";
-
-/// The bits of a file's mode by which its group and others may read it.
-const OTHERS_READ: u32 = 0o044;
 
 /// Follows a source into a database until the connection ends, prints how it ended, and returns the exit status. With a
 /// filter the database keeps only the rows of the tables that it admits.
@@ -45,9 +36,7 @@ pub fn follow<'a, W: Write, E: Write>(
 {
     let wanted = Wanted::of(given)?;
     let port = number(word(given, "port"), 65_535)? as u16;
-    let server_id = number(word(given, "server-id"), u32::MAX)?;
-    let filter = wanted.filter(rt.alloc())?;
-    let config = settings(rt, given, server_id)?;
+    let following = Following::of(rt, given, &wanted)?;
     let (name, password_file) = (word(given, "host"), word(given, "password-file"));
     warn(rt, password_file, err);
     let progress = wanted.progress(rt, None)?;
@@ -56,7 +45,7 @@ pub fn follow<'a, W: Write, E: Write>(
     let streams = [name];
     let source = Source::of(rt, &streams, port, &wanted);
     let mut watch = Watch::new(source, reports, out, err);
-    let followed = follow_over(host, wanted.db, filter.as_ref(), config, &mut watch);
+    let followed = follow_over(host, wanted.db, following, &mut watch);
     let Followed { connection, closed } = match followed {
         Ok(followed) => followed,
         Err(failure) => {
@@ -74,36 +63,49 @@ pub fn follow<'a, W: Write, E: Write>(
     let printed = watch.report(1, &end, failure);
     watch.note_missing();
     let stopped = wanted.stopped(watch.stop());
-    let written = match printed {
-        Ok(()) => stopped.and(closed),
-        Err(cause) => Err(Failure::Output(cause)),
-    };
-    status_after(&[end], written, err)
+    status_after(&[end], first_failure(printed, stopped, closed), err)
 }
 
-/// The bytes of the password file. `None` if they are more than a password and a line feed may have.
-fn read_password(rt: &HostRuntime, name: &str) -> io::Result<Option<Vec<u8>>> {
-    let mut bytes = Vec::new(rt.alloc());
-    let most = LONGEST_PASSWORD + 1;
-    fs::open(rt, name)?.take(most + 1).read_to_end(&mut bytes)?;
-    Ok(if bytes.len() as u64 > most {
-        None
-    } else {
-        Some(bytes)
-    })
+/// The first failure of what was done at the end of a connection: its line, the feed, and the closing of the database.
+fn first_failure<'a>(
+    printed: io::Result<()>,
+    stopped: Result<(), Failure<'a>>,
+    closed: Result<(), Failure<'a>>,
+) -> Result<(), Failure<'a>> {
+    match printed {
+        Ok(()) => stopped.and(closed),
+        Err(cause) => Err(Failure::Output(cause)),
+    }
 }
 
 /// Says on standard error if others may read the password file.
 fn warn<E: Write>(rt: &HostRuntime, name: &str, err: &mut E) {
-    if let Ok(metadata) = fs::metadata(rt, name)
-        && metadata.is_file()
-        && metadata.mode() & OTHERS_READ != 0
-    {
+    if others_may_read(rt, name) {
         let _ = writeln!(
             err,
             "mrep: {}: others may read the password: chmod 600 keeps them out",
             Shown(name)
         );
+    }
+}
+
+/// What is followed: the tables whose rows are kept, and the settings.
+#[derive(Drop)]
+struct Following {
+    only: Option<Follow>,
+    config: Config,
+}
+
+impl Following {
+    fn of<'a>(
+        rt: &HostRuntime,
+        given: &ArgMatches<'a>,
+        wanted: &Wanted<'_, 'a>,
+    ) -> Result<Following, Failure<'a>> {
+        let server_id = number(word(given, "server-id"), u32::MAX)?;
+        let only = wanted.filter(rt.alloc())?;
+        let config = settings(rt, given, server_id)?;
+        Ok(Following { only, config })
     }
 }
 
@@ -114,16 +116,7 @@ fn settings<'a>(
     server_id: u32,
 ) -> Result<Config, Failure<'a>> {
     let (user, name) = (word(given, "user"), word(given, "password-file"));
-    let bytes = match read_password(rt, name) {
-        Ok(Some(bytes)) => bytes,
-        Ok(None) => {
-            return Err(Failure::Unusable {
-                name,
-                why: NO_PASSWORD,
-            });
-        }
-        Err(cause) => return Err(Failure::File { name, cause }),
-    };
+    let bytes = over_file(name, read_password(rt, name))?;
     let password = match bytes.as_slice() {
         [line @ .., b'\n'] => line,
         all => all,
@@ -203,15 +196,22 @@ impl<'r> Host<'r> {
 fn follow_over<'a, W: Observer>(
     host: Host<'_>,
     db: &'a str,
-    only: Option<&Follow>,
-    config: Config,
+    following: Following,
     observer: &mut W,
 ) -> Result<Followed<'a>, Failure<'a>> {
     let rt = host.rt;
+    let Following { only, config } = following;
     let FollowedFile {
         connection,
         closed: files,
-    } = follow_into(rt, db, only, config, move || host.connect(), observer)?;
+    } = follow_into(
+        rt,
+        db,
+        only.as_ref(),
+        config,
+        move || host.connect(),
+        observer,
+    )?;
     let connection = match connection {
         Ok((end, stream)) => Ok((end, stream.failure())),
         Err(cause) => Err(cause),

@@ -2,14 +2,14 @@
 
 ghost use Rattle.std.specs.Prelude.{◌≡◌, IfOk};
 
-use crate::arguments::value::{gtid_set, tables, word};
+use crate::arguments::{gtid_set, tables, word};
 use crate::database::job::Job;
 use crate::database::open::work_on;
-use crate::print::output_format::{encoding_of, format_of};
-use crate::print::printer::Selection;
+use crate::database::printer::Selection;
 use crate::report::failure::{DONE, Failure};
-use crate::report::notes::{Chosen, has_database, note_made};
 use clap::ArgMatches;
+use files::has_bytes;
+use formats::{Chosen, encoding_of, format_of, note_made};
 use gtid::Gtid;
 use std::alloc::Global;
 use std::io::Write;
@@ -38,7 +38,9 @@ pub fn job_of<'a>(
 /// Which rows `mrep show` prints, and how.
 fn selection<'a>(alloc: Global, given: &ArgMatches<'a>) -> Result<Selection, Failure<'a>> {
     let format = format_of(given.get_str("format"));
-    let encoding = encoding_of(given.get_str("bytes"), format)?;
+    let Some(encoding) = encoding_of(given.get_str("bytes"), format) else {
+        return Err(Failure::Bytes);
+    };
     let only = tables(alloc, given.get_strs("only").unwrap_or(&[]))?;
     Ok(Selection {
         chosen: Chosen::new(alloc, only)?,
@@ -58,9 +60,9 @@ pub fn run_job<'a, W: Write, E: Write>(
 ) -> Result<u8, Failure<'a>>
     ensures { IfOk result (λ status. status ≡ DONE) }
 {
-    let may_make = job.only_reads() && !has_database(rt, file);
+    let may_make = job.only_reads() && !has_bytes(rt, file);
     let done = run_and_print(rt, file, job, out, err);
-    if may_make && has_database(rt, file) {
+    if may_make && has_bytes(rt, file) {
         let _ = out.flush();
         note_made(file, err);
     }

@@ -5,10 +5,10 @@ ghost use Rattle.std.specs.FinSet as set;
 ghost use Rattle.gtid.specs.Identifier.{Ids};
 ghost use Rattle.gtid.specs.Text.{IsRead, AppendsText};
 
-use crate::arguments::value::{gtid_set, word};
-use crate::print::set_text::text_of;
+use crate::arguments::{gtid_set, word};
 use crate::report::failure::{DONE, Failure};
 use clap::ArgMatches;
+use formats::text_of;
 use std::alloc::Global;
 use std::io::Write;
 

@@ -2,11 +2,10 @@
 
 ghost use Rattle.std.specs.Prelude.{◌≤◌, IfOk};
 
-use crate::commands::events::write_event;
-use crate::commands::input::Input;
 use crate::commands::payload_listing::{Entry, Listing};
 use crate::report::failure::{DONE, Failure, REFUSED};
-use crate::report::reason::wire_reason;
+use files::Input;
+use formats::{wire_reason, write_event};
 use replica::{PIECE, read_some};
 use std::alloc::Global;
 use std::io;
@@ -49,6 +48,7 @@ fn list_all<'a, F: Read, W: Write>(
     ensures { IfOk result (λ status. status ≤ REFUSED) }
 {
     let mut listing = Listing::new(alloc);
+    // A `for`, since the prover asks that each loop ends.
     for _ in 0..u64::MAX {
         let count = match read_some(file, piece) {
             Ok(0) => break,

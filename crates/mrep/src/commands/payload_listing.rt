@@ -34,13 +34,13 @@ pub struct Listing {
 }
 
 impl Listing {
-    ghost use Rattle.mrep.specs.PayloadListing.{held_of, with_entry, Advances, Refuses, Stands, Faults};
+    ghost use Rattle.mrep.specs.PayloadListing.{held_bytes, with_entry, Advances, RefusesPayload, ListsSoFar, Faults};
     ghost use Rattle.std.specs.Prelude.{◌≡◌, ◌≢◌, ℕ, ◌+◌, ◌^◌, ◌≤◌, ◌<◌, ◌++◌, [], List, false, length, take, IfOk, IfErr, IfNone, MatchResult};
     ghost use Rattle.mrep.specs.declared.commands.payload_listing.Entry.{Entry};
 
     /// A reader at the beginning of a stream.
     pub fn new(alloc: Global) -> Listing
-        ensures { Stands result [] [] }
+        ensures { ListsSoFar result [] [] }
     {
         Listing {
             assembler: Assembler::new(alloc, LARGEST_PAYLOAD),
@@ -56,7 +56,7 @@ impl Listing {
         requires between { (self.old.assembler.held ≡ []) × (self.old.assembler.ended ≡ false) }
         requires some { 0 < length bytes.now }
         ensures takes { IfOk result (λ step. Advances self.old self.new bytes.now step) }
-        ensures refuses { IfErr result (λ fault. Refuses self.old self.new bytes.now fault) }
+        ensures refuses { IfErr result (λ fault. RefusesPayload self.old self.new bytes.now fault) }
     {
         let used = bytes.len().min(HEADER_LENGTH - self.header.len());
         self.header.try_extend_from_slice(&bytes[..used]).unwrap();
@@ -80,7 +80,7 @@ impl Listing {
         requires fresh { self.old.header.items ≡ [] }
         requires whole { 4 ≤ length bytes.now }
         ensures takes { IfOk result (λ step. Advances self.old self.new bytes.now step) }
-        ensures refuses { IfErr result (λ fault. Refuses self.old self.new bytes.now fault) }
+        ensures refuses { IfErr result (λ fault. RefusesPayload self.old self.new bytes.now fault) }
     {
         self.sequence = bytes[HEADER_LENGTH - 1];
         self.assembler.expect(self.sequence);
@@ -92,7 +92,7 @@ impl Listing {
     fn take(&mut self, bytes: &[u8]) -> Result<Step, WireFault>
         requires { 0 < length bytes.now }
         ensures takes { IfOk result (λ step. Advances self.old self.new bytes.now step) }
-        ensures refuses { IfErr result (λ fault. Refuses self.old self.new bytes.now fault) }
+        ensures refuses { IfErr result (λ fault. RefusesPayload self.old self.new bytes.now fault) }
     {
         if !self.assembler.between() {
             let step = self.assembler.step(bytes)?;
@@ -112,9 +112,9 @@ impl Listing {
         ensures within { IfOk result (λ fed. fed.0 ≤ length piece.now) }
         ensures progress { 0 < length piece.now → IfOk result (λ fed. 0 < fed.0) }
         ensures all { IfOk result (λ fed. IfNone fed.1 (fed.0 ≡ length piece.now)) }
-        ensures stands { (stream : List ℕ) (entries : List Entry) → length stream + length piece.now < 2 ^ 64 → Stands self.old stream entries →
+        ensures stands { (stream : List ℕ) (entries : List Entry) → length stream + length piece.now < 2 ^ 64 → ListsSoFar self.old stream entries →
             MatchResult result
-            (λ fed. Stands self.new (stream ++ take fed.0 piece.now) (with_entry entries fed.1))
+            (λ fed. ListsSoFar self.new (stream ++ take fed.0 piece.now) (with_entry entries fed.1))
             (λ fault. Faults self.new (stream ++ piece.now) entries fault) }
     {
         let mut rest = piece;
@@ -137,7 +137,7 @@ impl Listing {
 
     /// How many bytes of the current payload have come.
     pub fn rest(&self) -> u64
-        ensures { (stream : List ℕ) (entries : List Entry) → Stands self.now stream entries → result ≡ length (held_of self.now) }
+        ensures { (stream : List ℕ) (entries : List Entry) → ListsSoFar self.now stream entries → result ≡ length (held_bytes self.now) }
     {
         self.seen.saturating_sub(self.begin)
     }

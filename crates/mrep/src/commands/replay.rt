@@ -2,14 +2,16 @@
 
 ghost use Rattle.std.specs.Prelude.{◌≤◌, IfOk};
 
-use crate::commands::input::Input;
 use crate::database::open::{closed, replay_into};
 use crate::report::failure::{Failure, MEMORY, write_failure};
 use crate::report::status::status_after;
 use crate::report::wanted::Wanted;
 use crate::report::watch::{Source, Watch};
+use binlog::Follow;
 use clap::ArgMatches;
-use replica::{Capture, Config, Halt, Replayed, read_some};
+use files::Input;
+use replica::{Capture, Config, Halt, Observer, Replayed, read_some};
+use sqlite::File;
 use std::io;
 use std::io::Write;
 use wire::LARGEST_PAYLOAD;
@@ -41,22 +43,11 @@ fn replay_streams<'a, W: Write, E: Write>(
 ) -> Result<u8, Failure<'a>>
     ensures { IfOk result (λ status. status ≤ MEMORY) }
 {
-    let filter = wanted.filter(rt.alloc())?;
-    let (captures, total) = open_streams(rt, names)?;
-    let Ok(config) = Config::new(rt.alloc(), b"", b"", SERVER_ID, false, LARGEST_PAYLOAD) else {
-        return Err(Failure::Memory);
-    };
-    let reports = wanted.reports(rt, wanted.progress(rt, total)?, names)?;
+    let reading = Reading::of(rt, &wanted, names)?;
+    let reports = wanted.reports(rt, wanted.progress(rt, reading.total)?, names)?;
     let source = Source::of(rt, names, 0, &wanted);
     let mut watch = Watch::new(source, reports, out, err);
-    let done = replay_into(
-        rt,
-        wanted.db,
-        filter.as_ref(),
-        &config,
-        captures,
-        &mut watch,
-    );
+    let done = reading.replay(rt, wanted.db, &mut watch);
     let done = match done {
         Ok(done) => done,
         Err(failure) => {
@@ -79,6 +70,53 @@ fn replay_streams<'a, W: Write, E: Write>(
         Ok(()) | Err(Halt::Observer) => stopped,
     };
     status_after(&ends, read.and(closed(wanted.db, files)), err)
+}
+
+/// What is read: the tables whose rows are kept, the settings, and the streams.
+#[derive(Drop)]
+struct Reading {
+    only: Option<Follow>,
+    config: Config,
+    captures: Vec<Capture<Input>>,
+    /// How many bytes the streams have, if that is known.
+    total: Option<u64>,
+}
+
+impl Reading {
+    /// Opens the streams, and reads a byte of each.
+    fn of<'a>(
+        rt: &HostRuntime,
+        wanted: &Wanted<'_, 'a>,
+        names: &[&'a str],
+    ) -> Result<Reading, Failure<'a>> {
+        let only = wanted.filter(rt.alloc())?;
+        let (captures, total) = open_streams(rt, names)?;
+        let Ok(config) = Config::new(rt.alloc(), b"", b"", SERVER_ID, false, LARGEST_PAYLOAD) else {
+            return Err(Failure::Memory);
+        };
+        Ok(Reading {
+            only,
+            config,
+            captures,
+            total,
+        })
+    }
+
+    /// Reads the streams into the database in a file.
+    fn replay<'a, W: Observer>(
+        self,
+        rt: &HostRuntime,
+        db: &'a str,
+        observer: &mut W,
+    ) -> Result<Replayed<File>, Failure<'a>> {
+        let Reading {
+            only,
+            config,
+            captures,
+            ..
+        } = self;
+        replay_into(rt, db, only.as_ref(), &config, captures, observer)
+    }
 }
 
 /// The failure of the reading of a stream, the one after this many.

@@ -3,7 +3,7 @@
 ghost use Rattle.std.specs.Prelude.{None, IfSome};
 ghost use Rattle.std.specs.Io.{ReadsAtMost};
 
-use crate::report::progress::{Progress, pause};
+use formats::{Progress, pause};
 use replica::Duplex;
 use std::io;
 use std::io::{ErrorKind, Read, Write};

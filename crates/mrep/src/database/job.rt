@@ -8,11 +8,9 @@ ghost use Rattle.store.specs.State.{Content};
 ghost use Rattle.store.specs.Changes.{with_executed};
 ghost use Rattle.store.specs.Store.{Holds, HoldsAs, database};
 
-use crate::print::printer::{Selection, print_rows};
-use crate::print::set_text::text_of;
-use crate::print::tallies::print_tallies;
+use crate::database::printer::{Selection, print_rows, print_tallies};
 use crate::report::failure::Failure;
-use crate::report::notes::Chosen;
+use formats::{Chosen, text_of};
 use gather::{Changes, Delivery};
 use gtid::{Gtid, GtidSet};
 use sqlite::Alter;
@@ -72,18 +70,27 @@ impl Job {
     ) -> Result<Done, Failure<'a>> {
         match self {
             Job::Nothing => Ok(Done::Nothing),
-            Job::Executed => Ok(Done::Set(executed_text(alloc, store)?)),
-            Job::Missing(asked) => Ok(Done::Set(missing_text(alloc, asked, store)?)),
-            Job::Adopt(asked) => Ok(Done::Set(adopt(alloc, name, store, &asked)?)),
-            Job::Skip(gtid) => Ok(Done::Applied(skip(alloc, name, store, gtid)?)),
-            Job::Tables => {
-                print_tallies(alloc, name, store, out)?;
-                Ok(Done::Nothing)
-            }
-            Job::Show(selection) => Ok(Done::Shown(print_rows(
-                alloc, name, store, selection, out,
-            )?)),
+            Job::Executed => set_of(executed_text(alloc, store)),
+            Job::Missing(asked) => set_of(missing_text(alloc, asked, store)),
+            Job::Adopt(asked) => set_of(adopt(alloc, name, store, &asked)),
+            Job::Skip(gtid) => skip(alloc, name, store, gtid),
+            Job::Tables => match print_tallies(alloc, name, store, out) {
+                Ok(()) => Ok(Done::Nothing),
+                Err(failure) => Err(failure),
+            },
+            Job::Show(selection) => match print_rows(alloc, name, store, selection, out) {
+                Ok(chosen) => Ok(Done::Shown(chosen)),
+                Err(failure) => Err(failure),
+            },
         }
+    }
+}
+
+/// What comes of a job whose result is a set.
+fn set_of<'a>(text: Result<String, Failure<'a>>) -> Result<Done, Failure<'a>> {
+    match text {
+        Ok(text) => Ok(Done::Set(text)),
+        Err(failure) => Err(failure),
     }
 }
 
@@ -154,13 +161,13 @@ fn skip<'a, S: Alter>(
     name: &'a str,
     store: &mut Store<S>,
     gtid: Gtid,
-) -> Result<Applied, Failure<'a>> {
+) -> Result<Done, Failure<'a>> {
     let delivery = Delivery {
         gtid,
         changes: Changes::new(alloc),
     };
     match store.apply(&delivery) {
-        Ok(applied) => Ok(applied),
+        Ok(applied) => Ok(Done::Applied(applied)),
         Err(cause) => Err(Failure::Database { name, cause }),
     }
 }

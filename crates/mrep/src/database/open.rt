@@ -3,10 +3,9 @@
 ghost use Rattle.std.specs.Prelude.{◌≡◌, Ok, IfOk};
 
 use crate::database::job::{Done, Job};
-use crate::database::name_lock::{LOCKED, NameLock, is_file, is_special, lock_shared};
-use crate::database::unsupported::unsupported_in;
-use crate::report::failure::Failure;
+use crate::report::failure::{Failure, of_file, over_file};
 use binlog::Follow;
+use files::{LOCKED, Opening, is_file, missing_wal, opening_fault, reading_fault, remove_unused};
 use replica::{
     Capture, Config, Duplex, FollowedFile, Observer, Replayed, Unopened, close_file, follow_file,
     open_file,
@@ -14,38 +13,15 @@ use replica::{
 use sqlite::{Alter, Connection, Error, ErrorCode, File, FileStore, Files};
 use sqlite_disk::Unknown;
 use sqlite_std_file::OpenError;
-use std::alloc::{AllocError, Global};
-use std::fs::OpenOptions;
-use std::io::{ErrorKind, Read, Write};
-use std::{fs, io};
+use std::alloc::Global;
+use std::io;
+use std::io::{Read, Write};
 use store::{Damage, Store, StoreFault};
 
 /// A store in a database file.
 pub type FileOf = FileStore<File>;
 
-/// How an SQLite file begins (SQLite, "Database File Format", section 1.3).
-pub const MAGIC: [u8; 16] = *b"SQLite format 3\0";
-
-/// Where the page number of the first frame stands in a WAL file, after that file's header (section 4.1), and where it
-/// ends.
-const FIRST_PAGE: usize = 32;
-
-const FIRST_PAGE_END: usize = FIRST_PAGE + 4;
-
 const JOURNAL: &str = "sqlite3 has left a journal beside it: open it once with sqlite3";
-
-const NO_DATABASE: &str = "not an SQLite database";
-
-const DAMAGED: &str =
-    "the database is damaged: its pages or its schema cannot be read, or a row does not obey it";
-
-const READ_ONLY: &str =
-    "the file may only be read, and each command locks it for writing and keeps a WAL file beside it";
-
-const NO_FILE: &str = "not the name of a file to SQLite: put ./ before it";
-
-const NOT_USABLE: &str =
-    "unable to open database file: it has several names or is no file, sqlite3 has left a journal, or its WAL file or folder cannot be written";
 
 /// A database file: its path, and its names in failures.
 #[derive(Clone, Copy)]
@@ -76,7 +52,7 @@ pub fn work_on<'a, W: Write>(
     job: Job,
     out: &mut W,
 ) -> Result<Done, Failure<'a>> {
-    let opening = begin(rt, name)?;
+    let opening = over_file(name, Opening::begin(rt, name))?;
     match work_in(rt, Place::named(name), opening.wal, job, out) {
         Ok(done) => Ok(done),
         Err(failure) => {
@@ -96,25 +72,6 @@ pub fn test<'a>(rt: &HostRuntime, copy: &str, to: &'a str, db: &'a str) -> Resul
     };
     work_in(rt, place, None, Job::Nothing, &mut Vec::new(rt.alloc()))?;
     Ok(())
-}
-
-/// What an opening begins with: the lock of the name, and the name of the WAL file if there is none yet.
-#[derive(Drop)]
-struct Opening {
-    lock: NameLock,
-    wal: Option<String>,
-}
-
-/// Locks the name of a database that is to be opened.
-fn begin<'a>(rt: &HostRuntime, name: &'a str) -> Result<Opening, Failure<'a>> {
-    let lock = lock_shared(rt, name)?;
-    match missing_wal(rt, name) {
-        Ok(wal) => Ok(Opening { lock, wal }),
-        Err(_) => {
-            lock.discard(rt, name);
-            Err(Failure::Memory)
-        }
-    }
 }
 
 /// Opens the database at a place, whose WAL file is the one given if that was missing before, does a job with its store, and
@@ -159,7 +116,7 @@ pub fn replay_into<'a, R: Read + Drop, W: Observer>(
     captures: Vec<Capture<R>>,
     observer: &mut W,
 ) -> Result<Replayed<File>, Failure<'a>> {
-    let opening = begin(rt, name)?;
+    let opening = over_file(name, Opening::begin(rt, name))?;
     match replica::replay(rt, name, Unknown, only, config, captures, observer) {
         Ok(done) => Ok(done),
         Err(unopened) => Err(give_up(rt, name, opening, unopened)),
@@ -178,7 +135,7 @@ pub fn follow_into<'a, T: Duplex + Drop, F: FnOnce() -> io::Result<T> + Drop, W:
 ) -> Result<FollowedFile<T, io::Error, File>, Failure<'a>>
     requires { F.IsAlwaysCallable connect }
 {
-    let opening = begin(rt, name)?;
+    let opening = over_file(name, Opening::begin(rt, name))?;
     match follow_file(rt, name, Unknown, only, config, connect, observer) {
         Ok(done) => Ok(done),
         Err(unopened) => Err(give_up(rt, name, opening, unopened)),
@@ -249,47 +206,6 @@ fn cause_in<S: Alter>(alloc: Global, fault: StoreFault, conn: &mut Connection<S>
     }
 }
 
-/// The name of the WAL file of a database file that is there, if it has none yet.
-fn missing_wal(rt: &HostRuntime, name: &str) -> Result<Option<String>, AllocError> {
-    let Ok(real) = fs::canonicalize(rt, name) else {
-        return Ok(None);
-    };
-    let wal = format!(in rt.alloc(); "{}-wal", real.as_str())?;
-    Ok(match fs::exists(rt, wal.as_str()) {
-        Ok(false) => Some(wal),
-        _ => None,
-    })
-}
-
-/// Removes a WAL file that was missing before the database was opened, if nothing was written to it. The database must
-/// still be locked, so that no other process has it open.
-fn remove_unused(rt: &HostRuntime, wal: Option<String>) {
-    if let Some(wal) = wal
-        && let Ok(false) = has_frames(rt, wal.as_str())
-    {
-        let _ = fs::remove_file(rt, wal.as_str());
-    }
-}
-
-/// Whether a WAL file has a first frame: its page number is there and is not 0.
-pub fn has_frames(rt: &HostRuntime, wal: &str) -> io::Result<bool> {
-    let Some(head) = read_head::<FIRST_PAGE_END>(rt, wal)? else {
-        return Ok(false);
-    };
-    Ok(head[FIRST_PAGE..] != [0; 4])
-}
-
-/// The first bytes of a file, if it has that many.
-pub fn read_head<const N: usize>(rt: &HostRuntime, name: &str) -> io::Result<Option<[u8; N]>> {
-    let mut file = fs::open(rt, name)?;
-    if file.metadata()?.len() < N as u64 {
-        return Ok(None);
-    }
-    let mut head = [0; N];
-    file.read_exact(&mut head)?;
-    Ok(Some(head))
-}
-
 /// The failure of a database file that could not be opened.
 fn refusal<'a>(rt: &HostRuntime, place: Place<'_, 'a>, cause: Cause) -> Failure<'a> {
     let Place {
@@ -308,14 +224,14 @@ fn refusal<'a>(rt: &HostRuntime, place: Place<'_, 'a>, cause: Cause) -> Failure<
     };
     match cause {
         StoreFault::Database(Error::SqliteFailure(code)) => match code {
-            ErrorCode::CannotOpen => cannot_open(rt, path, file),
+            ErrorCode::CannotOpen => of_file(file, opening_fault(rt, path)),
             ErrorCode::DatabaseBusy => Failure::Unusable {
                 name: file,
                 why: LOCKED,
             },
             ErrorCode::NotADatabase | ErrorCode::DatabaseCorrupt => Failure::Unusable {
                 name: content,
-                why: fault_in(rt, path),
+                why: reading_fault(rt, path),
             },
             _ => Failure::Database { name: file, cause },
         },
@@ -325,58 +241,6 @@ fn refusal<'a>(rt: &HostRuntime, place: Place<'_, 'a>, cause: Cause) -> Failure<
             cause,
         },
     }
-}
-
-/// Why a file is not taken for a database.
-fn fault_in(rt: &HostRuntime, path: &str) -> &'static str {
-    match is_database(rt, path) {
-        Ok(false) => NO_DATABASE,
-        _ => unsupported_in(rt, path).unwrap_or(DAMAGED),
-    }
-}
-
-/// Whether a file begins as an SQLite file.
-pub fn is_database(rt: &HostRuntime, name: &str) -> io::Result<bool> {
-    Ok(read_head::<16>(rt, name)? == Some(MAGIC))
-}
-
-/// The failure of a database file that is not opened: its name, if SQLite has another meaning for that; or the system's
-/// cause, if the system refuses the file itself.
-fn cannot_open<'a>(rt: &HostRuntime, path: &str, name: &'a str) -> Failure<'a> {
-    if is_special(path) {
-        return Failure::Unusable { name, why: NO_FILE };
-    }
-    match try_open(rt, path) {
-        Ok(()) => Failure::Unusable {
-            name,
-            why: NOT_USABLE,
-        },
-        Err(cause) if is_protected(cause.kind()) && fs::open(rt, path).is_ok() => {
-            Failure::Unusable {
-                name,
-                why: READ_ONLY,
-            }
-        }
-        Err(cause) => Failure::File { name, cause },
-    }
-}
-
-fn is_protected(kind: ErrorKind) -> bool {
-    matches!(
-        kind,
-        ErrorKind::PermissionDenied | ErrorKind::ReadOnlyFilesystem
-    )
-}
-
-/// Opens a file as a database is opened, makes it if it is missing, and closes it.
-fn try_open(rt: &HostRuntime, name: &str) -> io::Result<()> {
-    let mut options = OpenOptions::new();
-    options.read(true).write(true);
-    if !fs::exists(rt, name)? {
-        options.create_new(true);
-    }
-    options.open(rt, name)?;
-    Ok(())
 }
 
 /// Closes the file after what was done over it. A failure of that comes before one of the closing.

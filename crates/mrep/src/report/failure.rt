@@ -4,12 +4,12 @@ ghost use Rattle.std.specs.Prelude.{◌≡◌, ◌≤◌};
 ghost use Rattle.mrep.specs.Failure.{IsFileStatus, IsStatus, database_status};
 ghost use Rattle.mrep.specs.declared.report.failure.Failure.TheVariants as variants;
 
-use crate::print::name::Shown;
 use clap::error::ErrorKind;
+use files::FileFault;
+use formats::{Shown, write_named};
 use gtid::GtidFault;
 use replica::ConfigFault;
 use std::alloc::{AllocError, AllocFailed};
-use std::fmt::Display;
 use std::io;
 use std::io::Write;
 use store::{Damage, StoreFault};
@@ -149,16 +149,28 @@ impl Failure<'_> {
     }
 }
 
+/// The failure of the file of this name.
+pub fn of_file<'a>(name: &'a str, fault: FileFault) -> Failure<'a> {
+    match fault {
+        FileFault::Unusable(why) => Failure::Unusable { name, why },
+        FileFault::System(cause) => Failure::File { name, cause },
+        FileFault::Memory => Failure::Memory,
+    }
+}
+
+/// What was done with the file of this name, whose failure names it.
+pub fn over_file<'a, T: Drop>(name: &'a str, done: Result<T, FileFault>) -> Result<T, Failure<'a>> {
+    match done {
+        Ok(value) => Ok(value),
+        Err(fault) => Err(of_file(name, fault)),
+    }
+}
+
 /// Writes the message of a failure, if there is one.
 pub fn write_failure<E: Write>(done: Result<(), Failure<'_>>, err: &mut E) {
     if let Err(failure) = done {
         let _ = failure.write(err);
     }
-}
-
-/// Writes a line with a cause, after the name of what it is the cause of.
-pub fn write_named<C: Display, E: Write>(name: &str, cause: &C, err: &mut E) -> io::Result<()> {
-    writeln!(err, "mrep: {}: {cause}", Shown(name))
 }
 
 impl From<clap::Error> for Failure<'_> {

@@ -1,73 +1,13 @@
 //! The printed names of the reasons for which a stream or a connection ends.
 
-use crate::print::hex::digits_of;
-use crate::print::name::Shown;
-use crate::report::change_feed::OUTPUT;
-use crate::report::failure;
-use binlog::EventFaultKind;
+use formats::{
+    OUTPUT, Shown, event_advice, event_reason, gather_reason, greet_advice, greet_reason,
+    wire_reason, write_escaped, write_named,
+};
 use gather::GatherFault;
-use greet::GreetFault;
 use replica::{Ended, Reason, Refusal};
 use std::io;
 use std::io::Write;
-use wire::WireFault;
-
-/// The name of a packet fault.
-pub fn wire_reason(fault: WireFault) -> &'static str {
-    match fault {
-        WireFault::Sequence { .. } => "Wire.Sequence",
-        WireFault::TooLarge => "Wire.TooLarge",
-        WireFault::Memory => "Memory",
-        WireFault::Ended => "Wire.Ended",
-    }
-}
-
-/// The name of an event fault.
-pub fn event_reason(fault: EventFaultKind) -> &'static str {
-    match fault {
-        EventFaultKind::Truncated => "Event.Truncated",
-        EventFaultKind::Size => "Event.Size",
-        EventFaultKind::FormatVersion => "Event.FormatVersion",
-        EventFaultKind::Checksum(_) => "Event.Checksum",
-        EventFaultKind::HeaderLengths => "Event.HeaderLengths",
-        EventFaultKind::TypeCode(_) => "Event.TypeCode",
-        EventFaultKind::Statement => "Event.Statement",
-        EventFaultKind::ColumnType(_) => "Event.ColumnType",
-        EventFaultKind::Metadata => "Event.Metadata",
-        EventFaultKind::Columns => "Event.Columns",
-        EventFaultKind::Partial => "Event.Partial",
-        EventFaultKind::Number => "Event.Number",
-        EventFaultKind::Trailing => "Event.Trailing",
-        EventFaultKind::Memory => "Memory",
-        EventFaultKind::Anonymous => "Event.Anonymous",
-    }
-}
-
-/// The name of a message fault.
-fn greet_reason(fault: &GreetFault) -> &'static str {
-    match fault {
-        GreetFault::ServerError { .. } => "Greet.ServerError",
-        GreetFault::Protocol(_) => "Greet.Protocol",
-        GreetFault::Truncated => "Greet.Truncated",
-        GreetFault::Capabilities(_) => "Greet.Capabilities",
-        GreetFault::Plugin => "Greet.Plugin",
-        GreetFault::OldAuth => "Greet.OldAuth",
-        GreetFault::Unexpected(_) => "Greet.Unexpected",
-        GreetFault::Memory => "Memory",
-    }
-}
-
-/// The name of a fault of the order of events. That of an event in it is printed by `write_reason`.
-fn gather_reason(fault: &GatherFault) -> &'static str {
-    match fault {
-        GatherFault::NoFormat => "Gather.NoFormat",
-        GatherFault::Misplaced(_) => "Gather.Misplaced",
-        GatherFault::UnknownTable(_) => "Gather.UnknownTable",
-        GatherFault::Event(_) => "Gather.Event",
-        GatherFault::Memory => "Memory",
-        GatherFault::Ended => "Gather.Ended",
-    }
-}
 
 /// The name of a reason without a number in it.
 fn plain_reason(reason: &Reason) -> &'static str {
@@ -118,13 +58,13 @@ pub fn write_cause<W: Write>(
 ) -> io::Result<()> {
     match reason {
         Reason::SourceError { message, .. } => write_message(Shown(stream), message, out),
-        Reason::Wire(fault) => failure::write_named(stream, fault, out),
-        Reason::Greet(fault) => failure::write_named(stream, fault, out),
-        Reason::Event(fault) => failure::write_named(stream, fault, out),
-        Reason::Gather(fault) => failure::write_named(stream, fault, out),
+        Reason::Wire(fault) => write_named(stream, fault, out),
+        Reason::Greet(fault) => write_named(stream, fault, out),
+        Reason::Event(fault) => write_named(stream, fault, out),
+        Reason::Gather(fault) => write_named(stream, fault, out),
         Reason::Refused(refusal) => write_refusal(Shown(stream), *refusal, out),
-        Reason::Database(fault) => failure::write_named(file, fault, out),
-        Reason::Memory => failure::write_named(stream, &"out of memory", out),
+        Reason::Database(fault) => write_named(file, fault, out),
+        Reason::Memory => write_named(stream, &"out of memory", out),
         Reason::Halted => write_halted(Shown(stream), changes, out),
         Reason::EndOfInput | Reason::SourceEof | Reason::ReadFailed | Reason::WriteFailed => Ok(()),
     }
@@ -160,17 +100,27 @@ fn write_message<W: Write>(stream: Shown<'_>, message: &[u8], out: &mut W) -> io
     writeln!(out)
 }
 
-/// Writes a text of the source. Printable ASCII except the backslash is written as it is, any other byte as `\x` and two
-/// hexadecimal digits.
-pub fn write_escaped<W: Write>(text: &[u8], out: &mut W) -> io::Result<()> {
-    for byte in text {
-        match *byte {
-            plain @ (b' '..=b'[' | b']'..=b'~') => out.write_all(&[plain])?,
-            other => {
-                let [high, low] = digits_of(other);
-                out.write_all(&[b'\\', b'x', high, low])?;
-            }
-        }
+/// Writes what to do about an end, if there is something besides what the message says.
+pub fn write_advice<E: Write>(stream: &str, reason: &Reason, err: &mut E) -> io::Result<()> {
+    let advice = match reason {
+        Reason::Event(fault) => event_advice(fault.kind),
+        Reason::Greet(fault) => greet_advice(fault),
+        _ => None,
+    };
+    match advice {
+        Some(advice) => writeln!(err, "mrep: {}: {advice}", Shown(stream)),
+        None => Ok(()),
     }
-    Ok(())
+}
+
+/// Whether the transaction in which a connection has ended can be left out, if a transaction is the cause: a source that is
+/// followed does not send it again, and a stream does, whose events are read all the same.
+pub fn can_skip(reason: &Reason, is_live: bool) -> Option<bool> {
+    match reason {
+        Reason::Gather(GatherFault::NoFormat) => Some(false),
+        Reason::Event(_) | Reason::Gather(_) => Some(is_live),
+        Reason::Refused(_) => Some(true),
+        Reason::Database(_) | Reason::Memory | Reason::Halted => Some(false),
+        _ => None,
+    }
 }

@@ -1,14 +1,11 @@
 //! What `mrep replay` and `mrep follow` are asked for beside what they read.
 
-use crate::arguments::value::{tables, word};
-use crate::print::output_format::{Format, encoding_of};
-use crate::report::change_feed::{Feed, OUTPUT};
-use crate::report::failure::Failure;
-use crate::report::notes::Chosen;
-use crate::report::progress::Progress;
+use crate::arguments::{tables, word};
+use crate::report::failure::{Failure, of_file};
 use crate::report::watch::{Reports, Stop};
 use binlog::Follow;
 use clap::ArgMatches;
+use formats::{Chosen, Feed, Format, OUTPUT, Progress, encoding_of};
 use std::alloc::{AllocFailed, Global};
 use std::io::IsTerminal;
 use std::rc::Rc;
@@ -94,13 +91,15 @@ impl<'g, 'a> Wanted<'g, 'a> {
         let Some(name) = self.changes else {
             return Ok(None);
         };
-        let encoding = encoding_of(self.bytes, Format::Json)?;
+        let Some(encoding) = encoding_of(self.bytes, Format::Json) else {
+            return Err(Failure::Bytes);
+        };
         if name == OUTPUT {
             return Ok(Some(Feed::to_output(rt.alloc(), encoding)));
         }
         match Feed::to_file(rt, name, self.db, read, encoding) {
             Ok(feed) => Ok(Some(feed)),
-            Err(failure) => Err(failure),
+            Err(fault) => Err(of_file(name, fault)),
         }
     }
 

@@ -2,19 +2,13 @@
 
 ghost use Rattle.std.specs.Prelude.{◌≡◌, true, is_some};
 
-use crate::print::name::Shown;
-use crate::print::set_text::text_of;
-use crate::report::advice::write_advice;
-use crate::report::change_feed::{Feed, FeedEntry};
-use crate::report::details::Details;
-use crate::report::notes::Chosen;
-use crate::report::progress::Progress;
-use crate::report::reason::{write_cause, write_end};
+use crate::report::reason::{can_skip, write_advice, write_cause, write_end};
 use crate::report::wanted::Wanted;
 use binlog::Event;
+use formats::{Chosen, Details, Feed, FeedEntry, Progress, Shown, text_of};
 use gather::Delivery;
 use gtid::GtidSet;
-use replica::{Ended, Observer, Reason};
+use replica::{Ended, Observer, Reason, Refusal};
 use std::io;
 use std::io::Write;
 use std::rc::Rc;
@@ -168,10 +162,9 @@ impl<'a, O: Write, E: Write> Watch<'a, O, E> {
         let Source { db, changes, .. } = self.source;
         let _ = write_cause(stream, db, changes, reason, self.err);
         let _ = write_advice(stream, reason, self.err);
-        let is_live = self.source.port != 0;
-        let _ = self
-            .details
-            .write(stream, self.source.db, is_live, reason, self.err);
+        if let Some(can_skip) = can_skip(reason, self.source.port != 0) {
+            let _ = self.details.write(stream, db, can_skip, self.err);
+        }
         self.details.clear();
     }
 
@@ -295,7 +288,16 @@ impl<'a, O: Write, E: Write> Observer for Watch<'a, O, E> {
                 }
             }
             Err(reason) => {
-                self.details.refuse_change(delivery, reason);
+                self.details.gtid = Some(delivery.gtid);
+                match reason {
+                    Reason::Refused(Refusal::NoSuchRow(at)) => {
+                        self.details.refuse_change(delivery, *at, false);
+                    }
+                    Reason::Refused(Refusal::CountFull(at)) => {
+                        self.details.refuse_change(delivery, *at, true);
+                    }
+                    _ => {}
+                }
                 // After a failure of the database the transaction may have been committed.
                 if !matches!(reason, Reason::Database(_)) {
                     self.put(FeedEntry::RolledBack(delivery.gtid));
@@ -308,7 +310,9 @@ impl<'a, O: Write, E: Write> Observer for Watch<'a, O, E> {
     }
 
     fn refused(&mut self, payload: &[u8], reason: &Reason) {
-        self.details.refuse(payload, reason);
+        if let ([0, event @ ..], Reason::Event(fault)) = (payload, reason) {
+            self.details.refuse_event(event, *fault);
+        }
     }
 
     fn ended(&mut self, end: &Ended) -> bool {

@@ -2,10 +2,10 @@
 
 ghost use Rattle.std.specs.Prelude.{◌≡◌, ℕ, false, pos, map, IfOk, IfErr, OnOk, None, ◌<◌, MatchOption, MatchResult, []};
 ghost use Rattle.std.specs.List.{AllByRecursion};
-ghost use Rattle.sqlite.specs.State.{HasCleanDisk, IsUnchanged, Survives, KeepsCommit};
+ghost use Rattle.sqlite.specs.State.{HasCleanDisk, Survives, KeepsCommit};
 ghost use Rattle.sqlite.specs.Held.{state};
 ghost use Rattle.store.specs.Rows.{IsExecutedRow, id_in};
-ghost use Rattle.store.specs.Load.{AsksAll, Rested, OnSeen, Judges, IsLoadFault, all_executed_text};
+ghost use Rattle.store.specs.Load.{ReadsAll, Judges, IsLoadFault, all_executed_text};
 ghost use Rattle.gtid.specs.declared.span.Span.{Span};
 ghost use Rattle.sqlite_value.specs.declared.value.Value.TheVariants.{Int};
 ghost use Rattle.store.specs.Faults.{IsFailure};
@@ -34,10 +34,9 @@ pub(crate) fn load_executed<S: Alter>(
 ) -> Result<GtidSet, StoreFault>
     requires { conn.old.in_transaction ≡ false }
     ensures autocommit { conn.new.in_transaction ≡ false }
-    ensures judged { HasCleanDisk (state S.Store conn.new) → (tree : ℕ) → AsksAll (state S.Store conn.old).now.schema all_executed_text tree → Judges result (λ ids. AllByRecursion IsExecutedRow ((state S.Store conn.old).now.trees tree) × (ids ≡ set.from_list (map id_in ((state S.Store conn.old).now.trees tree)))) (AllByRecursion IsExecutedRow ((state S.Store conn.old).now.trees tree)) }
-    ensures same { HasCleanDisk (state S.Store conn.new) → (tree : ℕ) → AsksAll (state S.Store conn.old).now.schema all_executed_text tree → OnSeen result (IsUnchanged (state S.Store conn.old) (state S.Store conn.new)) }
-    ensures rested { HasCleanDisk (state S.Store conn.new) → (tree : ℕ) → AsksAll (state S.Store conn.old).now.schema all_executed_text tree → Rested (state S.Store conn.old) (state S.Store conn.new) }
-    ensures crash { Survives (state S.Store conn.old) (state S.Store conn.new) (λ _. (tree : ℕ) → ¬ AsksAll (state S.Store conn.old).now.schema all_executed_text tree) }
+    ensures reads { ReadsAll all_executed_text (state S.Store conn.old) (state S.Store conn.new) result
+        (λ rows ids. AllByRecursion IsExecutedRow rows × (ids ≡ set.from_list (map id_in rows)))
+        (AllByRecursion IsExecutedRow) }
     ensures fault { IfErr result IsLoadFault }
 {
     let rows = read_all(conn, ALL)?;

@@ -1,16 +1,16 @@
 //! The table `follow`: the tables whose rows are kept.
 
 ghost use Rattle.std.specs.Prelude.{◌≡◌, [], pos, true, false, OnOk, ℕ, map, IfOk, IfErr, None, ◌<◌, MatchOption, MatchResult};
-ghost use Rattle.sqlite.specs.State.{HasCleanDisk, Survives, KeepsCommit, IsUnchanged};
+ghost use Rattle.sqlite.specs.State.{HasCleanDisk, Survives, KeepsCommit};
 ghost use Rattle.sqlite.specs.Held.{state};
 ghost use Rattle.binlog.specs.Filter.{Names};
-ghost use Rattle.binlog.specs.FilterView.{names_of};
+ghost use Rattle.binlog.specs.FilterView.{name_list};
 ghost use Rattle.store.specs.State.{Content};
 ghost use Rattle.store.specs.Making.{with_spans, new_layout, IsMaking, IsNaming};
 ghost use Rattle.store.specs.Migrating.{made_spans, HasTables, HasBare, IsMigrating};
 ghost use Rattle.std.specs.List.{AllByRecursion};
 ghost use Rattle.store.specs.Rows.{IsFollowRow, AreNames, name_in};
-ghost use Rattle.store.specs.Load.{AsksAll, Rested, OnSeen, Judges, IsLoadFault, all_follow_text};
+ghost use Rattle.store.specs.Load.{ReadsAll, Judges, IsLoadFault, all_follow_text};
 ghost use Rattle.store.specs.declared.fault.StoreFault.TheVariants.{Memory};
 ghost use Rattle.sqlite_value.specs.declared.value.Value.TheVariants.{Int};
 ghost use Rattle.store.specs.Faults.{IsFailure};
@@ -45,7 +45,7 @@ pub(crate) fn add_names<S: Alter>(
     names: &[(Vec<u8>, Vec<u8>)],
 ) -> Result<(), Error>
     ensures same_reference { tx.new.conn.ghost_name ≡ tx.old.conn.ghost_name }
-    ensures named { HasCleanDisk (state S.Store tx.new.conn.now) → IsNaming set.empty (state S.Store tx.old.conn.now) → OnOk result (IsNaming (set.from_list (names_of names.now)) (state S.Store tx.new.conn.now)) }
+    ensures named { HasCleanDisk (state S.Store tx.new.conn.now) → IsNaming set.empty (state S.Store tx.old.conn.now) → OnOk result (IsNaming (set.from_list (name_list names.now)) (state S.Store tx.new.conn.now)) }
     ensures kept { HasCleanDisk (state S.Store tx.new.conn.now) → IsNaming set.empty (state S.Store tx.old.conn.now) → KeepsCommit (state S.Store tx.old.conn.now) (state S.Store tx.new.conn.now) }
     ensures survives { Survives (state S.Store tx.old.conn.now) (state S.Store tx.new.conn.now) (λ _. ⊥) }
 {
@@ -79,10 +79,8 @@ pub(crate) fn load_follow<S: Alter>(
 ) -> Result<Follow, StoreFault>
     requires { conn.old.in_transaction ≡ false }
     ensures autocommit { conn.new.in_transaction ≡ false }
-    ensures judged { HasCleanDisk (state S.Store conn.new) → (tree : ℕ) → AsksAll (state S.Store conn.old).now.schema all_follow_text tree → Judges result (AreNames ((state S.Store conn.old).now.trees tree)) (AllByRecursion IsFollowRow ((state S.Store conn.old).now.trees tree)) }
-    ensures same { HasCleanDisk (state S.Store conn.new) → (tree : ℕ) → AsksAll (state S.Store conn.old).now.schema all_follow_text tree → OnSeen result (IsUnchanged (state S.Store conn.old) (state S.Store conn.new)) }
-    ensures rested { HasCleanDisk (state S.Store conn.new) → (tree : ℕ) → AsksAll (state S.Store conn.old).now.schema all_follow_text tree → Rested (state S.Store conn.old) (state S.Store conn.new) }
-    ensures crash { Survives (state S.Store conn.old) (state S.Store conn.new) (λ _. (tree : ℕ) → ¬ AsksAll (state S.Store conn.old).now.schema all_follow_text tree) }
+    ensures reads { ReadsAll all_follow_text (state S.Store conn.old) (state S.Store conn.new) result
+        AreNames (AllByRecursion IsFollowRow) }
     ensures fault { IfErr result IsLoadFault }
 {
     let rows = read_all(conn, ALL)?;
@@ -108,7 +106,7 @@ pub(crate) fn names_in(
     alloc: Global,
     rows: &[Row],
 ) -> Result<Option<Vec<(Vec<u8>, Vec<u8>)>>, StoreFault>
-    ensures judged { IfOk result (λ o. MatchOption o (¬ AllByRecursion IsFollowRow rows.now) (λ names. AllByRecursion IsFollowRow rows.now × (names_of names.items ≡ map name_in rows.now))) }
+    ensures judged { IfOk result (λ o. MatchOption o (¬ AllByRecursion IsFollowRow rows.now) (λ names. AllByRecursion IsFollowRow rows.now × (name_list names.items ≡ map name_in rows.now))) }
     ensures fault { IfErr result IsFailure }
 {
     let mut names = Vec::new(alloc);

@@ -11,7 +11,7 @@ ghost use Rattle.store.specs.Apply.{Rests};
 ghost use Rattle.store.specs.Making.{with_meta, with_held, IsMaking};
 ghost use Rattle.std.specs.List.{AllByRecursion};
 ghost use Rattle.store.specs.Layout.{IsLaidOut};
-ghost use Rattle.store.specs.Load.{AsksAll, Rested, OnSeen, Judges, IsLoadFault, all_held_text, HasJudged};
+ghost use Rattle.store.specs.Load.{ReadsAll, Rested, Judges, IsLoadFault, all_held_text, HasJudged};
 ghost use Rattle.sqlite.specs.Given.{HasGiven};
 ghost use Rattle.store.specs.Faults.{IsFailure};
 ghost use Rattle.store.specs.Judge.{HasVerdict, HasOrder};
@@ -20,6 +20,7 @@ ghost use Rattle.sqlite_value.specs.declared.value.Value.TheVariants.{Int};
 
 use crate::fault::StoreFault;
 use crate::table::row::{FORM, is_after, number_at};
+use binlog::TableDef;
 use gather::ImageRef;
 use sqlite::types::ValueRef;
 use sqlite::{Alter, Connection, Error, ErrorCode, Row, Rows, Transaction};
@@ -29,12 +30,34 @@ use sqlite_schema::schema::Constraint;
 pub(crate) const ALL: &str =
     "SELECT rowid, schema_name, table_name, image, n FROM held ORDER BY rowid";
 
+/// The count of the row with a key.
+const COUNT_OF: &str =
+    "SELECT n FROM held WHERE schema_name = ?1 AND table_name = ?2 AND image = ?3";
+
 /// The key of a row of `held`: the names of schema and table, and the stored image.
 #[derive(Clone, Copy)]
 pub(crate) struct RowKey<'a> {
     pub(crate) schema: &'a [u8],
     pub(crate) table: &'a [u8],
     pub(crate) image: &'a [u8],
+}
+
+impl<'a> RowKey<'a> {
+    ghost use Rattle.std.specs.Prelude.{◌≡◌};
+    ghost use Rattle.gather.specs.Image.{IsImage};
+
+    /// The key of a row of a table.
+    pub(crate) fn of(table: &'a TableDef, image: &ImageRef<'a>) -> RowKey<'a>
+        ensures schema { result.schema.now ≡ table.now.schema.items }
+        ensures table { result.table.now ≡ table.now.table.items }
+        ensures image { IsImage image.now result.image.now }
+    {
+        RowKey {
+            schema: table.schema.as_slice(),
+            table: table.table.as_slice(),
+            image: image.bytes(),
+        }
+    }
 }
 
 pub(crate) fn make_held<S: Alter>(tx: &mut Transaction<'_, S>) -> Result<usize, Error>
@@ -53,10 +76,9 @@ pub(crate) fn make_held<S: Alter>(tx: &mut Transaction<'_, S>) -> Result<usize, 
 pub(crate) fn load_held<S: Alter>(conn: &mut Connection<S>) -> Result<(), StoreFault>
     requires { conn.old.in_transaction ≡ false }
     ensures autocommit { conn.new.in_transaction ≡ false }
-    ensures judged { HasCleanDisk (state S.Store conn.new) → (tree : ℕ) → AsksAll (state S.Store conn.old).now.schema all_held_text tree → Judges result (λ _. AllByRecursion IsHeldRow ((state S.Store conn.old).now.trees tree) × HasRowids ((state S.Store conn.old).now.trees tree)) (AllByRecursion IsHeldRow ((state S.Store conn.old).now.trees tree)) }
-    ensures same { HasCleanDisk (state S.Store conn.new) → (tree : ℕ) → AsksAll (state S.Store conn.old).now.schema all_held_text tree → OnSeen result (IsUnchanged (state S.Store conn.old) (state S.Store conn.new)) }
-    ensures rested { HasCleanDisk (state S.Store conn.new) → (tree : ℕ) → AsksAll (state S.Store conn.old).now.schema all_held_text tree → Rested (state S.Store conn.old) (state S.Store conn.new) }
-    ensures crash { Survives (state S.Store conn.old) (state S.Store conn.new) (λ _. (tree : ℕ) → ¬ AsksAll (state S.Store conn.old).now.schema all_held_text tree) }
+    ensures reads { ReadsAll all_held_text (state S.Store conn.old) (state S.Store conn.new) result
+        (λ rows _. AllByRecursion IsHeldRow rows × HasRowids rows)
+        (AllByRecursion IsHeldRow) }
     ensures fault { IfErr result IsLoadFault }
 {
     // For the prover: what the connection shows is a database. The call does nothing at run time.
@@ -87,6 +109,7 @@ pub(crate) fn judge_rows<S: Alter>(rows: &mut Rows<'_, S>) -> Result<Verdict, St
     ensures fault { IfErr result IsFailure }
 {
     let mut verdict = Verdict::Lawful(None);
+    // A `for`, since the prover asks that each loop ends.
     'rows: for _ in 0..u64::MAX {
         rows.advance()?;
         let Some(row) = rows.get() else {
@@ -193,7 +216,7 @@ fn look_up<S: Alter>(tx: &mut Transaction<'_, S>, row: &RowKey<'_>) -> Result<Ve
     ensures stays { Stays (state S.Store tx.old.conn.now) (state S.Store tx.new.conn.now) }
 {
     tx.query_all(
-        "SELECT n FROM held WHERE schema_name = ?1 AND table_name = ?2 AND image = ?3",
+        COUNT_OF,
         &[
             ValueRef::Blob(row.schema),
             ValueRef::Blob(row.table),
@@ -215,7 +238,7 @@ fn find<S: Alter>(conn: &mut Connection<S>, row: &RowKey<'_>) -> Result<Vec<Row>
     ensures clean { HasCleanDisk (state S.Store conn.new) → HasCleanDisk (state S.Store conn.old) }
 {
     conn.query_all(
-        "SELECT n FROM held WHERE schema_name = ?1 AND table_name = ?2 AND image = ?3",
+        COUNT_OF,
         &[
             ValueRef::Blob(row.schema),
             ValueRef::Blob(row.table),

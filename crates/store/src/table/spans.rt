@@ -1,16 +1,16 @@
 //! The table `spans`: the executed set.
 
 ghost use Rattle.std.specs.Prelude.{◌≡◌, [], pos, true, false, OnOk, ℕ, map, IfOk, IfErr, IsPermutation, None, ◌<◌, IfSome, MatchOption, MatchResult, ℤ, List, ◌∷◌, ◌++◌};
-ghost use Rattle.sqlite.specs.State.{HasCleanDisk, Survives, KeepsCommit, IsUnchanged};
+ghost use Rattle.sqlite.specs.State.{HasCleanDisk, Survives, KeepsCommit};
 ghost use Rattle.sqlite.specs.Held.{state};
 ghost use Rattle.store.specs.State.{Content};
 ghost use Rattle.store.specs.Making.{with_held, with_spans, IsMaking};
 ghost use Rattle.store.specs.Migrating.{made_spans, HasTables, IsMigrating};
 ghost use Rattle.std.specs.List.{AllByRecursion, IsDistinct};
 ghost use Rattle.store.specs.Rows.{HasRowids, IsSpanRow, AreSpans, touches, span_in, span_rows, shown_spans, stored_span};
-ghost use Rattle.store.specs.Load.{AsksAll, Rested, OnSeen, Judges, IsLoadFault, all_spans_text};
+ghost use Rattle.store.specs.Load.{ReadsAll, Judges, IsLoadFault, all_spans_text};
 ghost use Rattle.gtid.specs.Identifier.{id_cmp, IsSource, Ids, id, IsGtid, AreGtids};
-ghost use Rattle.gtid.specs.Gathering.{start, Rise};
+ghost use Rattle.gtid.specs.Gathering.{start, SpansRise};
 ghost use Rattle.gtid.specs.declared.span.Span.{Span};
 ghost use Rattle.store.specs.Judge.{apart_from, touches_last};
 ghost use Rattle.gtid.specs.Span.{Covers, IsLawfulSpan};
@@ -18,7 +18,7 @@ ghost use Rattle.store.specs.declared.fault.StoreFault.TheVariants.{Memory};
 ghost use Rattle.sqlite_value.specs.declared.value.Value.TheVariants.{Int, Blob};
 ghost use Rattle.store.specs.Faults.{IsFailure};
 ghost use Rattle.sqlite_value.specs.Order.{Row as Stored};
-ghost use Rattle.store.specs.Inside.{IsWorking, GoesOn, Moves, Begins, AreRowsOf, Shows, Records, Stays, HasLeft};
+ghost use Rattle.store.specs.Inside.{IsWorking, StaysOpen, Moves, Begins, AreRowsOf, Shows, Records, Stays, HasLeft};
 ghost use Rattle.gtid.specs.Beside.{one_or_none, Joins};
 ghost use Rattle.std.specs.FinSet as set;
 
@@ -60,10 +60,9 @@ pub(crate) fn load_spans<S: Alter>(
 ) -> Result<GtidSet, StoreFault>
     requires { conn.old.in_transaction ≡ false }
     ensures autocommit { conn.new.in_transaction ≡ false }
-    ensures judged { HasCleanDisk (state S.Store conn.new) → (tree : ℕ) → AsksAll (state S.Store conn.old).now.schema all_spans_text tree → Judges result (λ ids. AreSpans ((state S.Store conn.old).now.trees tree) ids × HasRowids ((state S.Store conn.old).now.trees tree)) (AllByRecursion IsSpanRow ((state S.Store conn.old).now.trees tree) × IsDistinct touches (map span_in ((state S.Store conn.old).now.trees tree))) }
-    ensures same { HasCleanDisk (state S.Store conn.new) → (tree : ℕ) → AsksAll (state S.Store conn.old).now.schema all_spans_text tree → OnSeen result (IsUnchanged (state S.Store conn.old) (state S.Store conn.new)) }
-    ensures rested { HasCleanDisk (state S.Store conn.new) → (tree : ℕ) → AsksAll (state S.Store conn.old).now.schema all_spans_text tree → Rested (state S.Store conn.old) (state S.Store conn.new) }
-    ensures crash { Survives (state S.Store conn.old) (state S.Store conn.new) (λ _. (tree : ℕ) → ¬ AsksAll (state S.Store conn.old).now.schema all_spans_text tree) }
+    ensures reads { ReadsAll all_spans_text (state S.Store conn.old) (state S.Store conn.new) result
+        (λ rows ids. AreSpans rows ids × HasRowids rows)
+        (λ rows. AllByRecursion IsSpanRow rows × IsDistinct touches (map span_in rows)) }
     ensures fault { IfErr result IsLoadFault }
 {
     let rows = read_all(conn, ALL)?;
@@ -145,7 +144,7 @@ fn set_of(alloc: Global, spans: Vec<Span>) -> Result<GtidSet, StoreFault>
 /// Sorts the spans by where they begin.
 fn in_order(spans: Vec<Span>) -> Vec<Span>
     ensures same { IsPermutation spans.items result.items }
-    ensures rise { Rise result.items }
+    ensures rise { SpansRise result.items }
 {
     let mut spans = spans;
     spans.sort_unstable_by(|a, b| order(a, b));
@@ -223,7 +222,7 @@ pub(crate) fn drop_span<S: Alter>(
 ) -> Result<usize, Error>
     ensures same_reference { tx.new.conn.ghost_name ≡ tx.old.conn.ghost_name }
     ensures moves { HasCleanDisk (state S.Store tx.new.conn.now) → IsWorking (state S.Store tx.old.conn.now) → (span : Stored) → (others : List Stored) → Begins source.now lo (shown_spans (span_rows (state S.Store tx.old.conn.now).now)) span others → OnOk result (Moves (state S.Store tx.old.conn.now) (state S.Store tx.new.conn.now) others) }
-    ensures goes { HasCleanDisk (state S.Store tx.new.conn.now) → IsWorking (state S.Store tx.old.conn.now) → OnOk result (GoesOn (state S.Store tx.old.conn.now) (state S.Store tx.new.conn.now)) }
+    ensures goes { HasCleanDisk (state S.Store tx.new.conn.now) → IsWorking (state S.Store tx.old.conn.now) → OnOk result (StaysOpen (state S.Store tx.old.conn.now) (state S.Store tx.new.conn.now)) }
     ensures stays { Stays (state S.Store tx.old.conn.now) (state S.Store tx.new.conn.now) }
 {
     tx.execute(
@@ -257,7 +256,7 @@ fn drop_neighbour<S: Alter>(
     requires { IfSome neighbour IsLawfulSpan }
     ensures same_reference { tx.new.conn.ghost_name ≡ tx.old.conn.ghost_name }
     ensures moves { HasCleanDisk (state S.Store tx.new.conn.now) → IsWorking (state S.Store tx.old.conn.now) → (front : List Span) → (rest : List Span) → AreRowsOf (span_rows (state S.Store tx.old.conn.now).now) (front ++ (one_or_none neighbour ++ rest)) → OnOk result (Moves (state S.Store tx.old.conn.now) (state S.Store tx.new.conn.now) (map stored_span (front ++ rest))) }
-    ensures goes { HasCleanDisk (state S.Store tx.new.conn.now) → IsWorking (state S.Store tx.old.conn.now) → OnOk result (GoesOn (state S.Store tx.old.conn.now) (state S.Store tx.new.conn.now)) }
+    ensures goes { HasCleanDisk (state S.Store tx.new.conn.now) → IsWorking (state S.Store tx.old.conn.now) → OnOk result (StaysOpen (state S.Store tx.old.conn.now) (state S.Store tx.new.conn.now)) }
     ensures stays { Stays (state S.Store tx.old.conn.now) (state S.Store tx.new.conn.now) }
 {
     let Some(span) = neighbour else {
@@ -325,7 +324,7 @@ pub(crate) fn add_all<S: Alter>(tx: &mut Transaction<'_, S>, spans: Spans<'_>) -
 fn remove<S: Alter>(tx: &mut Transaction<'_, S>, span: Span) -> Result<usize, Error>
     ensures same_reference { tx.new.conn.ghost_name ≡ tx.old.conn.ghost_name }
     ensures moves { HasCleanDisk (state S.Store tx.new.conn.now) → IsWorking (state S.Store tx.old.conn.now) → (rest : List Span) → AreRowsOf (span_rows (state S.Store tx.old.conn.now).now) (span ∷ rest) → OnOk result (Moves (state S.Store tx.old.conn.now) (state S.Store tx.new.conn.now) (map stored_span rest)) }
-    ensures goes { HasCleanDisk (state S.Store tx.new.conn.now) → IsWorking (state S.Store tx.old.conn.now) → OnOk result (GoesOn (state S.Store tx.old.conn.now) (state S.Store tx.new.conn.now)) }
+    ensures goes { HasCleanDisk (state S.Store tx.new.conn.now) → IsWorking (state S.Store tx.old.conn.now) → OnOk result (StaysOpen (state S.Store tx.old.conn.now) (state S.Store tx.new.conn.now)) }
     ensures stays { Stays (state S.Store tx.old.conn.now) (state S.Store tx.new.conn.now) }
 {
     if span.lo > MOST {
@@ -338,7 +337,7 @@ fn remove<S: Alter>(tx: &mut Transaction<'_, S>, span: Span) -> Result<usize, Er
 fn remove_all<S: Alter>(tx: &mut Transaction<'_, S>, spans: Spans<'_>) -> Result<(), Error>
     ensures same_reference { tx.new.conn.ghost_name ≡ tx.old.conn.ghost_name }
     ensures moves { HasCleanDisk (state S.Store tx.new.conn.now) → IsWorking (state S.Store tx.old.conn.now) → AreRowsOf (span_rows (state S.Store tx.old.conn.now).now) spans.entry → OnOk result (Moves (state S.Store tx.old.conn.now) (state S.Store tx.new.conn.now) []) }
-    ensures goes { HasCleanDisk (state S.Store tx.new.conn.now) → IsWorking (state S.Store tx.old.conn.now) → OnOk result (GoesOn (state S.Store tx.old.conn.now) (state S.Store tx.new.conn.now)) }
+    ensures goes { HasCleanDisk (state S.Store tx.new.conn.now) → IsWorking (state S.Store tx.old.conn.now) → OnOk result (StaysOpen (state S.Store tx.old.conn.now) (state S.Store tx.new.conn.now)) }
     ensures stays { Stays (state S.Store tx.old.conn.now) (state S.Store tx.new.conn.now) }
 {
     for span in spans {

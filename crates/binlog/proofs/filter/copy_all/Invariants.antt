@@ -1,6 +1,6 @@
 use Rattle.std.proofs.Common.{◌≡◌, ◌++◌, drop}
-use Rattle.binlog.specs.FilterView.{names_of}
+use Rattle.binlog.specs.FilterView.{name_list}
 use Rattle.binlog.proofs.filter.copy_all.Given as goal
 
 abbrev pub invariant-loop-name : goal.invariant-loop-name
-invariant-loop-name l = names_of l.copied.items ++ names_of (drop l.name-index l.names) ≡ names_of l.names
+invariant-loop-name l = name_list l.copied.items ++ name_list (drop l.name-index l.names) ≡ name_list l.names

@@ -1,13 +1,13 @@
 use Rattle.std.proofs.Common.{◌∙◌, nat_eq, ap, sym, subst, arith}
 use Rattle.gtid.specs.Group.{Ascend, sources}
 use Rattle.gtid.proofs.Found.{ascend_set, listed_set, listed_insert, ascend_insert, any_default}
-use Rattle.gtid.proofs.Roomy.{on_room, with_room}
+use Rattle.gtid.proofs.Roomy.{with_room}
 use Rattle.gtid.proofs.groups.insert_reserved.Goals as goal
 
 pub returns-in-Within-clause-ascend : goal.returns-in-Within-clause-ascend
 returns-in-Within-clause-ascend c =
     let fits = rw c.in-Within.is at c.requires.room in
-    ascend_set c.args.groups.now.items c.in-Within.at c.index_mut.result.now c.insert-new.new.self fits.there.0 c.index_mut.ensures.value c.insert-new.ensures.source c.requires.ascend
+    ascend_set c.args.groups.now.items c.in-Within.at c.index_mut.result.now c.insert_at.new.self fits.there.0 c.index_mut.ensures.value c.insert_at.ensures.source c.requires.ascend
 
 pub returns-in-Within-clause-adds : goal.returns-in-Within-clause-adds
 returns-in-Within-clause-adds c =
@@ -15,8 +15,8 @@ returns-in-Within-clause-adds c =
     let old = c.index_mut.result.now in
     let at = any_default c.args.groups.now.items c.in-Within.at old fits.there.0 c.index_mut.ensures.value in
     let same = ap (λ g. g.source) (sym (at old)) ∙ fits.there.1 old in
-    listed_set c.args.groups.now.items c.in-Within.at old c.insert-new.new.self c.args.gtid.source (λ n. nat_eq n c.args.gtid.number) fits.there.0 at same (c.insert-new.ensures.source ∙ same)
-    (on_room c.insert-new.result c.insert-new.ensures.ok (c.insert-new.ensures.room (rw (at old) at (fits.room old))))
+    listed_set c.args.groups.now.items c.in-Within.at old c.insert_at.new.self c.args.gtid.source (λ n. nat_eq n c.args.gtid.number) fits.there.0 at same (c.insert_at.ensures.source ∙ same)
+    c.insert_at.ensures.adds
 
 pub returns-in-Before-clause-ascend : goal.returns-in-Before-clause-ascend
 returns-in-Before-clause-ascend c =

@@ -1,40 +1,42 @@
-use Rattle.std.proofs.Common.{◌-◌, ltb, rules, arith, length, ap, inl, inr}
-use Rattle.std.proofs.lemmas.Bool.{cases_lt}
+use Rattle.std.proofs.Common.{◌∙◌, get_or, length, sym, arith}
 use Rattle.std.proofs.lemmas.List.{get_or_default}
-use Rattle.std.proofs.lemmas.List.Sorted.{IsPartitionPoint-from_clause, IsPartitionedBy-ltb}
 use Rattle.gtid.specs.declared.interval.Interval.{Interval}
-use Rattle.gtid.proofs.Within.{ends_ascend, apart, point_at}
+use Rattle.gtid.proofs.Within.{has_at, has_nowhere, ends_at, is_after, weaker}
 use Rattle.gtid.proofs.interval.place.Goals as goal
 
-pub returns-then-intervals-last-clause-before : goal.returns-then-intervals-last-clause-before
-returns-then-intervals-last-clause-before c k d low high =
+pub returns-then-not-reaches-clause-some : goal.returns-then-not-reaches-clause-some
+returns-then-not-reaches-clause-some c =
     let l = c.args.intervals.now in
-    let same = ap (λ i. i.lo) (get_or_default l (length l - 1) d (record { lo = 0; hi = 0 }) (omega arith)) in
-    let gap = apart 0 l k (length l - 1) d c.requires.least high (omega arith) in
-    omega (arith, same, gap)
+    let front = c.reaches.ensures.before c.if-not-reaches.true in
+    record { within = omega arith; before = front; after = λ d h. absurd (omega arith); new = sym (has_nowhere l c.args.number (weaker l (length l) c.args.number front)) }
 
-pub returns-clause-within : goal.returns-clause-within
-returns-clause-within c =
+pub returns-then-next-number-clause-some : goal.returns-then-next-number-clause-some
+returns-then-next-number-clause-some c =
     let l = c.args.intervals.now in
     let n = c.args.number in
-    let i = c.partition_point.result in
-    let p = point_at l i n (IsPartitionPoint-from_clause (λ i. ltb i.hi n) l i c.partition_point.ensures.partitioned (IsPartitionedBy-ltb (λ i. i.hi) l n (ends_ascend l c.requires.least)) (λ a r f k. search rules)) in
-    elim (cases_lt i (length l)) [
-      | inl within ↦ within
-      | inr past ↦ (
-          let d : Interval = record { lo = 0; hi = 0 } in
-          let early = p.0 (length l - 1) d (omega arith) (omega arith) in
-          absurd (omega (arith, early, c.requires.reaches.1 d)))
-    ]
+    let p = c.place_within-at in
+    let x : Interval = get_or l p.result (record { lo = 0; hi = 0 }) in
+    let front = p.ensures.before in
+    let within = p.ensures.within in
+    record {
+      within = omega arith;
+      before = front;
+      after = λ d h. p.ensures.after p.result d (omega arith) h;
+      new = ends_at l p.result n x c.requires (weaker l p.result n front) within (get_or_default l p.result (record { lo = 0; hi = 0 }) x within) c.if-next-number.true;
+    }
 
-pub returns-clause-before : goal.returns-clause-before
-returns-clause-before c =
+pub returns-clause-some : goal.returns-clause-some
+returns-clause-some c =
     let l = c.args.intervals.now in
     let n = c.args.number in
-    (point_at l c.partition_point.result n (IsPartitionPoint-from_clause (λ i. ltb i.hi n) l c.partition_point.result c.partition_point.ensures.partitioned (IsPartitionedBy-ltb (λ i. i.hi) l n (ends_ascend l c.requires.least)) (λ a r f k. search rules))).0
-
-pub returns-clause-after : goal.returns-clause-after
-returns-clause-after c =
-    let l = c.args.intervals.now in
-    let n = c.args.number in
-    (point_at l c.partition_point.result n (IsPartitionPoint-from_clause (λ i. ltb i.hi n) l c.partition_point.result c.partition_point.ensures.partitioned (IsPartitionedBy-ltb (λ i. i.hi) l n (ends_ascend l c.requires.least)) (λ a r f k. search rules))).1
+    let p = c.place_within-at in
+    let x : Interval = get_or l p.result (record { lo = 0; hi = 0 }) in
+    let front = p.ensures.before in
+    let within = p.ensures.within in
+    let after = p.ensures.after p.result (record { lo = 0; hi = 0 }) (omega arith) within in
+    record {
+      within = omega arith;
+      before = front;
+      after = λ d h. p.ensures.after p.result d (omega arith) h;
+      new = sym (has_at l p.result n x c.requires (weaker l p.result n front) within (get_or_default l p.result (record { lo = 0; hi = 0 }) x within) (omega (arith, after, c.if-next-number.false))) ∙ is_after x.lo n c.if-next-number-2.false;
+    }

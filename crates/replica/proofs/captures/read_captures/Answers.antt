@@ -71,7 +71,7 @@ loop-capture-preserved g c =
     record {
       piece = search rules;
       may = more_ends c.loop-capture.ends.items c.in-Ok.end (g.W.Observer.has_stopped c.loop-capture.observer) (g.W.Observer.has_stopped c.read_capture.new.observer) (g.W.Observer.has_stopped c.ended-goes_on.new.self) c.push_reserved.new.self.items
-          (search rules) c.ended-goes_on.ensures.stays c.push_reserved.ensures.items inv.may c.in-Ok.ensures.neither;
+          (search rules) c.ended-goes_on.ensures.stays c.push_reserved.ensures.items inv.may c.in-Ok.ensures.may_end;
       heeds = λ some. not-true _ (sym c.ended-goes_on.ensures.goes_on ∙ c.if-not-goes_on.false);
       stays = λ h. c.ended-goes_on.ensures.stays (c.read_capture.ensures.stays (inv.stays h));
       count = ap length ends ∙ length_push c.loop-capture.ends.items c.in-Ok.end ∙ ap (λ n. n + 1) inv.count ∙ sym next;
@@ -94,16 +94,16 @@ returns-clause-reads g c clean was old holds =
     subst (λ (l : List (Capture g.row.R.Denot)). AreRead g.R.Read.remaining (HasReadAll g.S.Store c.args.config.now.limit c.loop-capture.store (state g.S.Store c.args.store.now.conn).now.schema was old) l c.loop-capture.ends.items)
     (ap (λ n. take n all) end.1 ∙ take-length all) (inv.taken clean was old holds)
 
-pub returns-in-Err-clause-neither : goal.returns-in-Err-clause-neither
-returns-in-Err-clause-neither g c = ends_later c.loop-capture.ends.items (g.W.Observer.has_stopped c.loop-capture.observer) (g.W.Observer.has_stopped c.read_capture.new.observer) (search rules) c.loop-capture.invariant.may
+pub returns-in-Err-clause-may_end : goal.returns-in-Err-clause-may_end
+returns-in-Err-clause-may_end g c = ends_later c.loop-capture.ends.items (g.W.Observer.has_stopped c.loop-capture.observer) (g.W.Observer.has_stopped c.read_capture.new.observer) (search rules) c.loop-capture.invariant.may
 
-pub returns-then-not-goes_on-clause-neither : goal.returns-then-not-goes_on-clause-neither
-returns-then-not-goes_on-clause-neither g c =
+pub returns-then-not-goes_on-clause-may_end : goal.returns-then-not-goes_on-clause-may_end
+returns-then-not-goes_on-clause-may_end g c =
     more_ends c.loop-capture.ends.items c.in-Ok.end (g.W.Observer.has_stopped c.loop-capture.observer) (g.W.Observer.has_stopped c.read_capture.new.observer) (g.W.Observer.has_stopped c.ended-goes_on.new.self) c.push_reserved.new.self.items
-    (search rules) c.ended-goes_on.ensures.stays c.push_reserved.ensures.items c.loop-capture.invariant.may c.in-Ok.ensures.neither
+    (search rules) c.ended-goes_on.ensures.stays c.push_reserved.ensures.items c.loop-capture.invariant.may c.in-Ok.ensures.may_end
 
-pub returns-clause-neither : goal.returns-clause-neither
-returns-clause-neither g c = c.loop-capture.invariant.may
+pub returns-clause-may_end : goal.returns-clause-may_end
+returns-clause-may_end g c = c.loop-capture.invariant.may
 
 pub returns-then-not-goes_on-clause-asked : goal.returns-then-not-goes_on-clause-asked
 returns-then-not-goes_on-clause-asked g c is = not-false _ (sym c.ended-goes_on.ensures.goes_on ∙ c.if-not-goes_on.true)

@@ -15,7 +15,7 @@ loop-piece-init g c = record {
   following = refl;
   clean = λ h. h;
   stands = λ h was old holds. begins g.S.Store (λ h db is_open may. g.met.S.Store.settled h.store db is_open may) c.new-session.result c.args.store.now was old holds (c.new-session.ensures.stands c.args.store.now.following was old);
-  neither = rw c.new-session.ensures.ended tt;
+  may_end = rw c.new-session.ensures.ended tt;
   broken = λ h. refl;
 }
 
@@ -35,7 +35,7 @@ loop-piece-preserved g c =
       clean = λ h. inv.clean (c.feed.ensures.clean h);
       stands = λ h was old holds. subst (λ (l : List ℕ). StandsOver g.S.Store c.feed.new.self c.feed.new.store (state g.S.Store c.args.store.now.conn).now.schema was old l []) grown
           (c.feed.ensures.stands h (state g.S.Store c.args.store.now.conn).now.schema was old (stream_of (take i all)) [] (inv.stands (c.feed.ensures.clean h) was old holds));
-      neither = c.feed.ensures.neither inv.neither;
+      may_end = c.feed.ensures.may_end inv.may_end;
       broken = search rules;
     }
 
@@ -46,5 +46,5 @@ returns-clause-read g c clean was old holds =
     (read_all g.S.Store c.loop-piece.session c.args.store.now c.loop-piece.store c.args.config.limit was old (stream_of (take c.loop-piece.piece-index c.args.pieces.now)) [] c.finish.result (ap (λ s. s.limit) inv.config) inv.following c.finish.ensures.end
     (inv.stands clean was old holds))
 
-pub returns-clause-neither : goal.returns-clause-neither
-returns-clause-neither g c = subst (λ (e : Ended). IsOwn e.reason) (sym c.finish.ensures.end) c.loop-piece.invariant.neither
+pub returns-clause-may_end : goal.returns-clause-may_end
+returns-clause-may_end g c = subst (λ (e : Ended). IsOwn e.reason) (sym c.finish.ensures.end) c.loop-piece.invariant.may_end

@@ -16,6 +16,6 @@ invariant-loop-piece g l = record {
   clean : HasCleanDisk (state g.S.Store l.store.conn) → HasCleanDisk (state g.S.Store l.fn.store.conn);
   stands : HasCleanDisk (state g.S.Store l.store.conn) → (was : Bool) (old : Content) → HoldsAs g.S.Store was old l.fn.store
       → StandsOver g.S.Store l.session l.store (state g.S.Store l.fn.store.conn).now.schema was old (stream_of (take l.piece-index l.pieces)) [];
-  neither : IsOwn (end_of l.session).reason;
+  may_end : IsOwn (end_of l.session).reason;
   broken : l.fn.store.broken ≡ true → l.store ≡ l.fn.store;
 }

@@ -19,7 +19,7 @@ loop-pieces-init g c = record {
       (none_read g.S.Store (λ h db is_open may. g.met.S.Store.settled h.store db is_open may) c.args.config.now.limit c.args.store.now was old holds);
   following = refl;
   broken = λ h. refl;
-  neither = subst (λ (l : List Ended). All (λ (e : Ended). IsOwn e.reason) l) (sym c.in-Ok.ensures.items) (search rules);
+  may_end = subst (λ (l : List Ended). All (λ (e : Ended). IsOwn e.reason) l) (sym c.in-Ok.ensures.items) (search rules);
 }
 
 pub loop-pieces-preserved : goal.loop-pieces-preserved
@@ -45,6 +45,6 @@ loop-pieces-preserved g c =
           (subst (λ (l : List (Vec ℕ Global)). HasRead g.S.Store limit c.loop-pieces.store c.read_connection-end.new.store t.is t.new (stream_of l) end) c.as_slice.ensures.value r));
       following = c.read_connection-end.ensures.following ∙ c.loop-pieces.invariant.following;
       broken = search rules;
-      neither = subst (λ (l : List Ended). All (λ (e : Ended). IsOwn e.reason) l) (sym c.push_reserved.ensures.items)
-          (All-push (λ (e : Ended). IsOwn e.reason) ends end c.loop-pieces.invariant.neither c.read_connection-end.ensures.neither);
+      may_end = subst (λ (l : List Ended). All (λ (e : Ended). IsOwn e.reason) l) (sym c.push_reserved.ensures.items)
+          (All-push (λ (e : Ended). IsOwn e.reason) ends end c.loop-pieces.invariant.may_end c.read_connection-end.ensures.may_end);
     }

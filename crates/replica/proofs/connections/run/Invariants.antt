@@ -17,5 +17,5 @@ invariant-loop-pieces g l = record {
       → HasReadAll g.S.Store l.config.limit l.store (state g.S.Store l.fn.store.conn).now.schema was old (streams_of (take l.pieces-index l.connections)) l.ends.items;
   following : l.store.following ≡ l.fn.store.following;
   broken : l.fn.store.broken ≡ true → l.store ≡ l.fn.store;
-  neither : All (λ end. IsOwn end.reason) l.ends.items;
+  may_end : All (λ end. IsOwn end.reason) l.ends.items;
 }

@@ -36,7 +36,7 @@ turns-init g c = record {
   names = refl;
   broken = λ h. refl;
   clean = λ h. h;
-  neither = rw c.new-session.ensures.ended tt;
+  may_end = rw c.new-session.ensures.ended tt;
   stays = λ h. h;
   heeds = λ is now holds on. refl;
   may = rw c.new-session.ensures.ended tt;
@@ -49,7 +49,7 @@ returns-then-sends_no_more-clause-follows g c clean was old holds =
     let session = c.turns.session in
     let inv = c.turns.invariant in
     follows-same g.S.Store session.config c.args.config c.args.store.now c.turns.store was old (g.T.Read.remaining c.args.stream.now.stream) (g.T.Read.remaining c.turns.stream.stream) (g.T.Write.contents c.args.stream.now.stream) (g.T.Write.contents c.turns.stream.stream) (end_of session) c.finish.result inv.config (sym c.finish.ensures.end)
-    (follows-sends_no_more g.S.Store session c.args.store.now c.turns.store was old (g.T.Read.remaining c.args.stream.now.stream) (g.T.Read.remaining c.turns.stream.stream) (g.T.Write.contents c.args.stream.now.stream) (g.T.Write.contents c.turns.stream.stream) inv.names (inv.following clean was old holds) (sym c.sends_no_more.ensures ∙ c.if-sends_no_more.true) inv.neither)
+    (follows-sends_no_more g.S.Store session c.args.store.now c.turns.store was old (g.T.Read.remaining c.args.stream.now.stream) (g.T.Read.remaining c.turns.stream.stream) (g.T.Write.contents c.args.stream.now.stream) (g.T.Write.contents c.turns.stream.stream) inv.names (inv.following clean was old holds) (sym c.sends_no_more.ensures ∙ c.if-sends_no_more.true) inv.may_end)
 
 pub returns-then-not-send_pending-clause-follows : goal.returns-then-not-send_pending-clause-follows
 returns-then-not-send_pending-clause-follows g c clean was old holds =
@@ -59,7 +59,7 @@ returns-then-not-send_pending-clause-follows g c clean was old holds =
     follows-same g.S.Store session.config c.args.config c.args.store.now c.turns.store was old (g.T.Read.remaining c.args.stream.now.stream) (g.T.Read.remaining c.send_pending.new.stream.stream) (g.T.Write.contents c.args.stream.now.stream) (g.T.Write.contents c.send_pending.new.stream.stream) (reported_as WriteFailed (end_of session)) c.ended_with-then-not-send_pending.result inv.config
     (sym (c.ended_with-then-not-send_pending.ensures ∙ ap (λ (e : Ended). reported_as WriteFailed e) sent.4.end))
     (follows-write_failed g.S.Store session c.args.store.now c.turns.store was old (g.T.Read.remaining c.args.stream.now.stream) (g.T.Read.remaining c.turns.stream.stream) (g.T.Write.contents c.args.stream.now.stream) (g.T.Write.contents c.turns.stream.stream) inv.names (inv.following clean was old holds)
-    c.send_pending.new.session (g.T.Read.remaining c.send_pending.new.stream.stream) (g.T.Write.contents c.send_pending.new.stream.stream) sent.0 sent.1 c.send_pending.ensures.apart sent.2 sent.4 (sym c.sends_no_more.ensures ∙ c.if-sends_no_more.false) inv.neither)
+    c.send_pending.new.session (g.T.Read.remaining c.send_pending.new.stream.stream) (g.T.Write.contents c.send_pending.new.stream.stream) sent.0 sent.1 c.send_pending.ensures.apart sent.2 sent.4 (sym c.sends_no_more.ensures ∙ c.if-sends_no_more.false) inv.may_end)
 
 pub returns-then-is_some-clause-follows : goal.returns-then-is_some-clause-follows
 returns-then-is_some-clause-follows g c clean was old holds =
@@ -73,7 +73,7 @@ returns-then-is_some-clause-follows g c clean was old holds =
     let early : (end_of session).reason ≢ EndOfInput = λ h. ended_early after c.turns.store.following was s.is old s.now f.read (f.sent ++ (sent.0 ++ sent.1)) some s.stands (ap (λ (e : Ended). e.reason) sent.4.end ∙ h) in
     follows-same g.S.Store session.config c.args.config c.args.store.now c.turns.store was old (g.T.Read.remaining c.args.stream.now.stream) (g.T.Read.remaining c.send_pending.new.stream.stream) (g.T.Write.contents c.args.stream.now.stream) (g.T.Write.contents c.send_pending.new.stream.stream) (end_of session) c.finish-then-is_some.result inv.config (sym (c.finish-then-is_some.ensures.end ∙ sent.4.end))
     (follows-ended g.S.Store session c.args.store.now c.turns.store was old (g.T.Read.remaining c.args.stream.now.stream) (g.T.Read.remaining c.turns.stream.stream) (g.T.Write.contents c.args.stream.now.stream) (g.T.Write.contents c.turns.stream.stream) inv.names f
-    after (g.T.Read.remaining c.send_pending.new.stream.stream) (g.T.Write.contents c.send_pending.new.stream.stream) sent.0 sent.1 c.send_pending.ensures.apart sent.2 sent.4 (sent.3 c.if-not-send_pending.false) inv.neither (λ h. absurd (early h)))
+    after (g.T.Read.remaining c.send_pending.new.stream.stream) (g.T.Write.contents c.send_pending.new.stream.stream) sent.0 sent.1 c.send_pending.ensures.apart sent.2 sent.4 (sent.3 c.if-not-send_pending.false) inv.may_end (λ h. absurd (early h)))
 
 pub read_piece-requires-clause-going : goal.read_piece-requires-clause-going
 read_piece-requires-clause-going g c =
@@ -88,7 +88,7 @@ turns-preserved g c =
     let read = c.read_piece.ensures.read c.in-Read.is in
     let going : after.ended ≡ None = none_after after.ended (some_after c.ended.result after.ended c.ended.ensures ∙ sym c.is_some.ensures ∙ c.if-is_some.false) in
     let long : length c.deref_mut.result.now ≡ 65536 = search (rules, inv.piece) in
-    let may = c.read_piece.ensures.neither (subst (λ (e : Ended). MayEnd e.reason (g.W.Observer.has_stopped c.turns.observer)) (sym sent.4.end) inv.may) in
+    let may = c.read_piece.ensures.may_end (subst (λ (e : Ended). MayEnd e.reason (g.W.Observer.has_stopped c.turns.observer)) (sym sent.4.end) inv.may) in
     record {
       config = c.read_piece.ensures.config ∙ sent.4.config ∙ inv.config;
       piece = length_kept c.turns.buffer.len c.read_piece.new.buffer c.turns.buffer.items (search rules) (search rules) ∙ inv.piece;
@@ -99,7 +99,7 @@ turns-preserved g c =
       names = c.read_piece.ensures.following ∙ inv.names;
       broken = search rules;
       clean = λ h. inv.clean (c.read_piece.ensures.clean h);
-      neither = not_of_stream (end_of c.read_piece.new.session).reason (g.W.Observer.has_stopped c.read_piece.new.observer) may;
+      may_end = not_of_stream (end_of c.read_piece.new.session).reason (g.W.Observer.has_stopped c.read_piece.new.observer) may;
       stays = λ h. c.read_piece.ensures.stays (inv.stays h);
       heeds = λ is now holds on. still (HoldsAs g.S.Store is now) c.args.store.now c.turns.store c.read_piece.new.store (inv.heeds is now holds on) holds (λ h. c.read_piece.ensures.heeds is now h (inv.stays on));
       may = may;
@@ -125,7 +125,7 @@ returns-in-AtEnd-clause-follows g c clean was old holds =
     (sym (c.finish-in-AtEnd.ensures.end ∙ ap (λ (s : Session). end_of s) still.0 ∙ sent.4.end))
     (follows-ended g.S.Store session c.args.store.now c.turns.store was old (g.T.Read.remaining c.args.stream.now.stream) (g.T.Read.remaining c.turns.stream.stream) (g.T.Write.contents c.args.stream.now.stream) (g.T.Write.contents c.turns.stream.stream) inv.names f
     after (g.T.Read.remaining c.read_piece.new.stream.stream) (g.T.Write.contents c.read_piece.new.stream.stream) sent.0 sent.1 (Keeps-trans (g.T.Read.remaining c.turns.stream.stream) (g.T.Read.remaining c.send_pending.new.stream.stream) (g.T.Read.remaining c.read_piece.new.stream.stream) c.send_pending.ensures.apart still.2) (Appends-kept (g.T.Write.contents c.turns.stream.stream) (g.T.Write.contents c.send_pending.new.stream.stream) (g.T.Write.contents c.read_piece.new.stream.stream) sent.0 sent.2 c.read_piece.ensures.apart)
-    sent.4 (sent.3 c.if-not-send_pending.false) inv.neither (λ h. c.read_piece.ensures.at_end c.in-AtEnd.is)))
+    sent.4 (sent.3 c.if-not-send_pending.false) inv.may_end (λ h. c.read_piece.ensures.at_end c.in-AtEnd.is)))
 
 pub returns-in-Failed-clause-follows : goal.returns-in-Failed-clause-follows
 returns-in-Failed-clause-follows g c clean was old holds =
@@ -149,12 +149,12 @@ returns-in-Failed-clause-follows g c clean was old holds =
 pub returns-then-sends_no_more-clause-counted : goal.returns-then-sends_no_more-clause-counted
 returns-then-sends_no_more-clause-counted g c =
     let inv = c.turns.invariant in
-    counted_none c.finish.result.reason (subst (λ (e : Ended). IsNoStreamFailure e.reason) (sym c.finish.ensures.end) inv.neither) c.args.stream.now.failed_reads c.turns.stream.failed_reads c.args.stream.now.failed_writes c.turns.stream.failed_writes inv.reads inv.writes
+    counted_none c.finish.result.reason (subst (λ (e : Ended). IsNoStreamFailure e.reason) (sym c.finish.ensures.end) inv.may_end) c.args.stream.now.failed_reads c.turns.stream.failed_reads c.args.stream.now.failed_writes c.turns.stream.failed_writes inv.reads inv.writes
 
 pub returns-then-sends_no_more-clause-reported : goal.returns-then-sends_no_more-clause-reported
 returns-then-sends_no_more-clause-reported g c =
     let inv = c.turns.invariant in
-    failed_none c.finish.result.reason (subst (λ (e : Ended). IsNoStreamFailure e.reason) (sym c.finish.ensures.end) inv.neither) (g.T.Duplex.failures c.args.stream.now.stream) (g.T.Duplex.failures c.turns.stream.stream) inv.reported
+    failed_none c.finish.result.reason (subst (λ (e : Ended). IsNoStreamFailure e.reason) (sym c.finish.ensures.end) inv.may_end) (g.T.Duplex.failures c.args.stream.now.stream) (g.T.Duplex.failures c.turns.stream.stream) inv.reported
 
 pub returns-then-not-send_pending-clause-reported : goal.returns-then-not-send_pending-clause-reported
 returns-then-not-send_pending-clause-reported g c =
@@ -172,8 +172,8 @@ returns-then-is_some-clause-reported g c =
     let before = g.T.Duplex.failures c.turns.stream.stream in
     let after = g.T.Duplex.failures c.send_pending.new.stream.stream in
     let reported : HaveFailed before after 0 0 = subst (λ (b : Bool). HaveFailed before after 0 (if b then 0 else 1)) c.if-not-send_pending.false c.send_pending.ensures.reported in
-    let neither = subst (λ (e : Ended). IsNoStreamFailure e.reason) (sym (c.finish-then-is_some.ensures.end ∙ c.send_pending.ensures.sent.4.end)) inv.neither in
-    failed_none c.finish-then-is_some.result.reason neither start after (failed_later start before after 0 0 inv.reported reported)
+    let may_end = subst (λ (e : Ended). IsNoStreamFailure e.reason) (sym (c.finish-then-is_some.ensures.end ∙ c.send_pending.ensures.sent.4.end)) inv.may_end in
+    failed_none c.finish-then-is_some.result.reason may_end start after (failed_later start before after 0 0 inv.reported reported)
 
 pub returns-in-AtEnd-clause-reported : goal.returns-in-AtEnd-clause-reported
 returns-in-AtEnd-clause-reported g c =
@@ -186,8 +186,8 @@ returns-in-AtEnd-clause-reported g c =
     let still = c.read_piece.ensures.still not_read in
     let sent : HaveFailed before mid 0 0 = subst (λ (b : Bool). HaveFailed before mid 0 (if b then 0 else 1)) c.if-not-send_pending.false c.send_pending.ensures.reported in
     let reported : HaveFailed mid after 0 0 = subst (λ (t : Turn). HaveFailed mid after (reads_failed t) 0) c.in-AtEnd.is c.read_piece.ensures.reported in
-    let neither = subst (λ (e : Ended). IsNoStreamFailure e.reason) (sym (c.finish-in-AtEnd.ensures.end ∙ ap (λ (s : Session). end_of s) still.0 ∙ c.send_pending.ensures.sent.4.end)) inv.neither in
-    failed_none c.finish-in-AtEnd.result.reason neither start after (failed_later start before after 0 0 inv.reported (failed_later before mid after 0 0 sent reported))
+    let may_end = subst (λ (e : Ended). IsNoStreamFailure e.reason) (sym (c.finish-in-AtEnd.ensures.end ∙ ap (λ (s : Session). end_of s) still.0 ∙ c.send_pending.ensures.sent.4.end)) inv.may_end in
+    failed_none c.finish-in-AtEnd.result.reason may_end start after (failed_later start before after 0 0 inv.reported (failed_later before mid after 0 0 sent reported))
 
 pub returns-in-Failed-clause-reported : goal.returns-in-Failed-clause-reported
 returns-in-Failed-clause-reported g c =

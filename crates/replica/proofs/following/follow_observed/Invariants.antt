@@ -18,7 +18,7 @@ invariant-turns g l = record {
   names : names_of g.S.Store l.store ≡ names_of g.S.Store l.fn.store;
   broken : IsBroken g.S.Store l.fn.store → l.store ≡ l.fn.store;
   clean : HasCleanDisk (database g.S.Store l.store) → HasCleanDisk (database g.S.Store l.fn.store);
-  neither : IsNoStreamFailure (end_of l.session).reason;
+  may_end : IsNoStreamFailure (end_of l.session).reason;
   stays : g.W.Observer.has_stopped l.fn.observer ≡ true → g.W.Observer.has_stopped l.observer ≡ true;
   heeds : (is : Bool) (now : Content) → HoldsAs g.S.Store is now l.fn.store → g.W.Observer.has_stopped l.fn.observer ≡ true → l.store ≡ l.fn.store;
   may : MayEnd (end_of l.session).reason (g.W.Observer.has_stopped l.observer);

@@ -17,7 +17,7 @@ use Rattle.replica.proofs.reader.read_stream.Goals as goal
 pub loop-reader-init : goal.loop-reader-init
 loop-reader-init g c = record {
   some = search rules;
-  may = c.feed_observed.ensures.neither (rw c.new-session.ensures.ended tt);
+  may = c.feed_observed.ensures.may_end (rw c.new-session.ensures.ended tt);
   stays = λ h. c.feed_observed.ensures.stays (c.received.ensures h);
   heeds = λ is now holds on. c.feed_observed.ensures.heeds is now holds (c.received.ensures on);
   taking = record {
@@ -37,7 +37,7 @@ loop-reader-init g c = record {
 pub loop-reader-preserved : goal.loop-reader-preserved
 loop-reader-preserved g c = record {
   some = search rules;
-  may = c.feed_observed-in-Ok.ensures.neither
+  may = c.feed_observed-in-Ok.ensures.may_end
       (may_later (end_of c.loop-reader.session).reason (g.W.Observer.has_stopped c.loop-reader.observer) (g.W.Observer.has_stopped c.received-in-Ok.new.self) c.received-in-Ok.ensures c.loop-reader.invariant.may);
   stays = λ h. c.feed_observed-in-Ok.ensures.stays (c.received-in-Ok.ensures (c.loop-reader.invariant.stays h));
   heeds = λ is now holds on.
@@ -94,5 +94,5 @@ returns-in-Err-clause-heeds g c = c.loop-reader.invariant.heeds
 pub returns-clause-heeds : goal.returns-clause-heeds
 returns-clause-heeds g c = c.loop-reader.invariant.heeds
 
-pub returns-clause-neither : goal.returns-clause-neither
-returns-clause-neither g c = subst (λ (e : Ended). MayEnd e.reason (g.W.Observer.has_stopped c.loop-reader.observer)) (sym c.finish-2.ensures.end) c.loop-reader.invariant.may
+pub returns-clause-may_end : goal.returns-clause-may_end
+returns-clause-may_end g c = subst (λ (e : Ended). MayEnd e.reason (g.W.Observer.has_stopped c.loop-reader.observer)) (sym c.finish-2.ensures.end) c.loop-reader.invariant.may

@@ -1,54 +1,88 @@
-use Rattle.std.proofs.Common.{Ok, IsTrue, ap, arith}
-use Rattle.sqlite.specs.State.{HasCleanDisk, Survives}
+use Rattle.std.proofs.Common.{◌≡◌, true, false, is_none, rules, arith}
+use Rattle.sqlite.specs.State.{HasCleanDisk}
+use Rattle.sqlite.specs.declared.error.Error.{Error}
 use Rattle.sqlite.specs.Held.{state}
-use Rattle.sqlite.proofs.StateLemmas.{survives_weaker}
-use Rattle.gtid.specs.Identifier.{id}
+use Rattle.sqlite.proofs.StateLemmas.{survives_then, survives_weaker}
 use Rattle.gather.specs.View.{delivery_value}
-use Rattle.store.specs.Apply.{Rests, MayCommit}
+use Rattle.store.specs.State.{Content}
+use Rattle.store.specs.Apply.{IsAtRest, IsNew, MayCommit}
 use Rattle.store.proofs.Ran.{runs_err, may_commit_err}
-use Rattle.store.proofs.Tried.{still, runs_then, crash_then}
+use Rattle.store.proofs.Tried.{IsStill, committed, may_be_committed, rolled_back, commits_none, still, runs_then, crash_then, rests_after}
 use Rattle.store.proofs.changes.run.Goals as goal
 
-pub returns-in_err-try_sorted-clause-runs : goal.returns-in_err-try_sorted-clause-runs
-returns-in_err-try_sorted-clause-runs g c clean content rest out beside =
-    runs_err c.args.filter.now content (delivery_value c.args.delivery.now) (state g.S.Store c.args.conn.now) (state g.S.Store c.try_sorted.new.conn) c.from_residual.result c.from_residual.ensures.0 (c.in_err-try_sorted.ensures.tries clean content rest out beside)
-
-pub returns-in_err-try_sorted-clause-crash : goal.returns-in_err-try_sorted-clause-crash
-returns-in_err-try_sorted-clause-crash g c content rest out beside =
+pub returns-in_err-run_once-clause-ran : goal.returns-in_err-run_once-clause-ran
+returns-in_err-run_once-clause-ran g c =
     let names = c.args.filter.now in
     let d = delivery_value c.args.delivery.now in
     let old = state g.S.Store c.args.conn.now in
+    let new = state g.S.Store c.run_once-2.new.conn in
     let r = c.from_residual.result in
-    survives_weaker old (state g.S.Store c.try_sorted.new.conn) _ (MayCommit names content d old r) (λ _ db may. may_commit_err names content d old r db c.from_residual.ensures.0 may) (c.in_err-try_sorted.ensures.crash content rest out beside)
+    record {
+      runs = λ clean content rest it. runs_err names content d true old new r c.from_residual.ensures.0 (c.in_err-run_once.ensures.ran.runs clean content rest it);
+      opened = search rules;
+      done = search rules;
+      lives = search rules;
+      crash = λ content rest it. survives_weaker old new _ (MayCommit names content d old.now r) (λ _ db may. may_commit_err names content d old.now r db c.from_residual.ensures.0 may) (c.in_err-run_once.ensures.ran.crash content rest it);
+    }
 
-pub returns-then-branch-clause-runs : goal.returns-then-branch-clause-runs
-returns-then-branch-clause-runs g c clean content rest out beside = rw c.if-branch.true at (c.in_ok-try_sorted.ensures.tries clean content rest out beside)
-
-pub returns-then-branch-clause-crash : goal.returns-then-branch-clause-crash
-returns-then-branch-clause-crash g c content rest out beside = rw c.if-branch.true at (c.in_ok-try_sorted.ensures.crash content rest out beside)
-
-pub returns-clause-runs : goal.returns-clause-runs
-returns-clause-runs g c clean content rest out beside =
+pub returns-then-is_none-clause-ran : goal.returns-then-is_none-clause-ran
+returns-then-is_none-clause-ran g c =
     let names = c.args.filter.now in
     let d = delivery_value c.args.delivery.now in
     let old = state g.S.Store c.args.conn.now in
-    let mid = state g.S.Store c.try_sorted.new.conn in
-    let new = state g.S.Store c.in_order.new.conn in
-    let early : HasCleanDisk mid = omega (arith, c.in_order.ensures.lives.clean, clean) in
-    let rests : Rests old mid = rw c.if-branch.false at (c.in_ok-try_sorted.ensures.tries early content rest out beside) in
-    let is_open : IsTrue mid.is_open = c.in_ok-try_sorted.ensures.still early rest.is_open (ap Ok c.if-branch.false) in
-    let at = still names content d old mid (id c.args.delivery.now.gtid) c.args.beside.now is_open rests rest beside in
-    runs_then names content d old mid new (rests is_open).0 c.in_order.result (rests is_open).1 (c.in_order.ensures.runs clean content at.rest out at.joins)
+    let new = state g.S.Store c.run_once-2.new.conn in
+    let first = c.in_ok-run_once.field-0 in
+    record {
+      runs = λ clean content rest it. committed Error names content d old new first (search rules) (c.in_ok-run_once.ensures.ran.runs clean content rest it);
+      opened = search rules;
+      done = search rules;
+      lives = search rules;
+      crash = λ content rest it. may_be_committed Error names content d old new first (search rules) (c.in_ok-run_once.ensures.ran.crash content rest it);
+    }
 
-pub returns-clause-crash : goal.returns-clause-crash
-returns-clause-crash g c content rest out beside =
+pub returns-in_err-check_open-clause-ran : goal.returns-in_err-check_open-clause-ran
+returns-in_err-check_open-clause-ran g c =
     let names = c.args.filter.now in
     let d = delivery_value c.args.delivery.now in
     let old = state g.S.Store c.args.conn.now in
-    let mid = state g.S.Store c.try_sorted.new.conn in
-    let new = state g.S.Store c.in_order.new.conn in
-    let one : Survives old mid (λ _. ⊥) = rw c.if-branch.false at (c.in_ok-try_sorted.ensures.crash content rest out beside) in
-    crash_then names content d old mid new (id c.args.delivery.now.gtid) c.args.beside.now c.in_order.result
-    (λ early. c.in_ok-try_sorted.ensures.still early rest.is_open (ap Ok c.if-branch.false))
-    (λ early. rw c.if-branch.false at (c.in_ok-try_sorted.ensures.tries early content rest out beside))
-    rest beside one c.in_order.ensures.lives (λ r joins. c.in_order.ensures.crash content r out joins)
+    let mid = state g.S.Store c.run_once-2.new.conn in
+    let new = state g.S.Store c.check_open.new.conn in
+    let first = c.in_ok-run_once.field-0 in
+    let refused : is_none first ≡ false = search rules in
+    let r = c.from_residual-in_err-check_open.result in
+    record {
+      runs = λ clean content rest it.
+          let early : HasCleanDisk mid = omega (arith, c.check_open.ensures.survives.clean, clean) in
+          runs_err names content d true old new r c.from_residual-in_err-check_open.ensures.0
+          (rests_after old mid new rest.settled (c.check_open.ensures.opened clean) (rolled_back Error names content d old mid first refused (c.in_ok-run_once.ensures.ran.runs early content rest it)) (c.check_open.ensures.rests clean));
+      opened = search rules;
+      done = search rules;
+      lives = search rules;
+      crash = λ content rest it.
+          survives_then old mid new (λ _. ⊥) (λ _. ⊥) (MayCommit names content d old.now r) (λ _ db none. absurd none) (λ _ db none. absurd none)
+          (commits_none Error names content d old mid first refused (c.in_ok-run_once.ensures.ran.crash content rest it)) c.check_open.ensures.survives;
+    }
+
+pub returns-clause-ran : goal.returns-clause-ran
+returns-clause-ran g c =
+    let names = c.args.filter.now in
+    let d = delivery_value c.args.delivery.now in
+    let old = state g.S.Store c.args.conn.now in
+    let mid = state g.S.Store c.run_once-2.new.conn in
+    let two = state g.S.Store c.check_open.new.conn in
+    let new = state g.S.Store c.run_once-3.new.conn in
+    let first = c.in_ok-run_once.field-0 in
+    let refused : is_none first ≡ false = search rules in
+    let same : (content : Content) → IsAtRest old names content → IsNew old.now names content d c.args.beside.now → HasCleanDisk two → IsStill old two =
+    λ content rest it late. still old mid two (rolled_back Error names content d old mid first refused (c.in_ok-run_once.ensures.ran.runs (omega (arith, c.check_open.ensures.survives.clean, late)) content rest it)) (c.in_ok-check_open.ensures.same late) in
+    record {
+      runs = λ clean content rest it.
+          runs_then names content d c.args.beside.now old two new c.run_once-3.result rest it (same content rest it (omega (arith, c.run_once-3.ensures.ran.lives.clean, clean))) (c.run_once-3.ensures.ran.runs clean content);
+      opened = search rules;
+      done = search rules;
+      lives = search rules;
+      crash = λ content rest it.
+          crash_then names content d c.args.beside.now old two new c.run_once-3.result rest it (same content rest it)
+          (survives_then old mid two (λ _. ⊥) (λ _. ⊥) (λ _. ⊥) (λ _ db none. none) (λ _ db none. none) (commits_none Error names content d old mid first refused (c.in_ok-run_once.ensures.ran.crash content rest it)) c.check_open.ensures.survives)
+          c.run_once-3.ensures.ran.lives (c.run_once-3.ensures.ran.crash content);
+    }

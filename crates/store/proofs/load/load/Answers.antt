@@ -1,117 +1,34 @@
-use Rattle.std.proofs.Common.{map}
-use Rattle.std.specs.List.{AllByRecursion, IsDistinct}
 use Rattle.std.proofs.lemmas.Result.{err_from_is_err_and}
 use Rattle.sqlite.specs.Held.{state}
-use Rattle.store.specs.Rows.{IsSpanRow, IsHeldRow, IsFollowRow, AreNames, AreSpans, HasRowids, touches, span_in}
 use Rattle.store.proofs.Steps.{loaded, clean_before}
-use Rattle.store.proofs.InTurn.{at_start, leads_on, read_same, read_rested, read_crash, read_says, fault_same, fault_says}
-use Rattle.store.proofs.Lives.{over_any, any_then}
+use Rattle.store.proofs.InTurn.{at_start, leads_on, says_on, all_read, not_read}
 use Rattle.store.proofs.Wholes.{follow_asks, spans_asks, held_asks}
 use Rattle.store.proofs.load.load.Goals as goal
 
-pub returns-in_err-following-clause-loads : goal.returns-in_err-following-clause-loads
-returns-in_err-following-clause-loads g c clean laid settled says =
-    let p = err_from_is_err_and c.from_residual.result c.from_residual.ensures.1 in
-    rw (p.1, p.2) (fault_says (at_start (state g.S.Store c.args.conn.now)) (follow_asks _ laid) c.load_follow.ensures.crash c.in_err-following.field-0.0 (AllByRecursion IsFollowRow) (λ rules. rules.follow) c.in_err-following.ensures.judged clean)
+pub returns-in_err-following-clause-reads : goal.returns-in_err-following-clause-reads
+returns-in_err-following-clause-reads g c =
+    not_read (at_start _ (state g.S.Store c.args.conn.now)) (follow_asks _) c.in_err-following.ensures.reads c.from_residual.result (err_from_is_err_and c.from_residual.result c.from_residual.ensures.1) (λ rules. rules.follow)
 
-pub returns-in_err-following-clause-same : goal.returns-in_err-following-clause-same
-returns-in_err-following-clause-same g c clean laid =
-    let p = err_from_is_err_and c.from_residual.result c.from_residual.ensures.1 in
-    rw (p.1, p.2) (fault_same (at_start (state g.S.Store c.args.conn.now)) (follow_asks _ laid) c.load_follow.ensures.crash c.in_err-following.field-0.0 c.in_err-following.ensures.same clean)
+pub returns-in_err-executed-clause-reads : goal.returns-in_err-executed-clause-reads
+returns-in_err-executed-clause-reads g c =
+    let k1 = leads_on (at_start _ (state g.S.Store c.args.conn.now)) (follow_asks _) c.in_ok-following.ensures.reads in
+    let r = c.from_residual-in_err-executed.result in
+    not_read k1 (spans_asks _) c.in_err-executed.ensures.reads r (err_from_is_err_and r c.from_residual-in_err-executed.ensures.1) (λ rules. (rules.spans, rules.apart))
 
-pub returns-in_err-following-clause-rested : goal.returns-in_err-following-clause-rested
-returns-in_err-following-clause-rested g c clean laid =
-    read_rested (at_start (state g.S.Store c.args.conn.now)) (follow_asks _ laid) c.load_follow.ensures.crash c.load_follow.ensures.rested clean
+pub returns-in_err-load_held-clause-reads : goal.returns-in_err-load_held-clause-reads
+returns-in_err-load_held-clause-reads g c =
+    let k1 = leads_on (at_start _ (state g.S.Store c.args.conn.now)) (follow_asks _) c.in_ok-following.ensures.reads in
+    let k2 = leads_on k1 (spans_asks _) c.in_ok-executed.ensures.reads in
+    let r = c.from_residual-in_err-load_held.result in
+    not_read k2 (held_asks _) c.in_err-load_held.ensures.reads r (err_from_is_err_and r c.from_residual-in_err-load_held.ensures.1) (λ rules. rules.held)
 
-pub returns-in_err-following-clause-crash : goal.returns-in_err-following-clause-crash
-returns-in_err-following-clause-crash g c laid =
-    read_crash (at_start (state g.S.Store c.args.conn.now)) (follow_asks _ laid) c.load_follow.ensures.crash
-
-pub returns-in_err-following-clause-lives : goal.returns-in_err-following-clause-lives
-returns-in_err-following-clause-lives g c = over_any _ _ _ c.load_follow.ensures.crash
-
-pub returns-in_err-executed-clause-loads : goal.returns-in_err-executed-clause-loads
-returns-in_err-executed-clause-loads g c clean laid settled says =
-    let k1 = leads_on (at_start (state g.S.Store c.args.conn.now)) (follow_asks _ laid) c.load_follow.ensures.crash c.in_ok-following.ensures.same in
-    let p = err_from_is_err_and c.from_residual-in_err-executed.result c.from_residual-in_err-executed.ensures.1 in
-    rw (p.1, p.2) (fault_says k1 (spans_asks _ laid) c.load_spans.ensures.crash c.in_err-executed.field-0.0 (λ rows. AllByRecursion IsSpanRow rows × IsDistinct touches (map span_in rows)) (λ rules. (rules.spans, rules.apart)) c.in_err-executed.ensures.judged clean)
-
-pub returns-in_err-executed-clause-same : goal.returns-in_err-executed-clause-same
-returns-in_err-executed-clause-same g c clean laid =
-    let k1 = leads_on (at_start (state g.S.Store c.args.conn.now)) (follow_asks _ laid) c.load_follow.ensures.crash c.in_ok-following.ensures.same in
-    let p = err_from_is_err_and c.from_residual-in_err-executed.result c.from_residual-in_err-executed.ensures.1 in
-    rw (p.1, p.2) (fault_same k1 (spans_asks _ laid) c.load_spans.ensures.crash c.in_err-executed.field-0.0 c.in_err-executed.ensures.same clean)
-
-pub returns-in_err-executed-clause-rested : goal.returns-in_err-executed-clause-rested
-returns-in_err-executed-clause-rested g c clean laid =
-    let k1 = leads_on (at_start (state g.S.Store c.args.conn.now)) (follow_asks _ laid) c.load_follow.ensures.crash c.in_ok-following.ensures.same in
-    read_rested k1 (spans_asks _ laid) c.load_spans.ensures.crash c.load_spans.ensures.rested clean
-
-pub returns-in_err-executed-clause-crash : goal.returns-in_err-executed-clause-crash
-returns-in_err-executed-clause-crash g c laid =
-    let k1 = leads_on (at_start (state g.S.Store c.args.conn.now)) (follow_asks _ laid) c.load_follow.ensures.crash c.in_ok-following.ensures.same in
-    read_crash k1 (spans_asks _ laid) c.load_spans.ensures.crash
-
-pub returns-in_err-executed-clause-lives : goal.returns-in_err-executed-clause-lives
-returns-in_err-executed-clause-lives g c = any_then _ _ _ _ (over_any _ _ _ c.load_follow.ensures.crash) c.load_spans.ensures.crash
-
-pub returns-in_err-load_held-clause-loads : goal.returns-in_err-load_held-clause-loads
-returns-in_err-load_held-clause-loads g c clean laid settled says =
-    let k1 = leads_on (at_start (state g.S.Store c.args.conn.now)) (follow_asks _ laid) c.load_follow.ensures.crash c.in_ok-following.ensures.same in
-    let k2 = leads_on k1 (spans_asks _ laid) c.load_spans.ensures.crash c.in_ok-executed.ensures.same in
-    let p = err_from_is_err_and c.from_residual-in_err-load_held.result c.from_residual-in_err-load_held.ensures.1 in
-    rw (p.1, p.2) (fault_says k2 (held_asks _ laid) c.load_held.ensures.crash c.in_err-load_held.field-0.0 (AllByRecursion IsHeldRow) (λ rules. rules.held) c.in_err-load_held.ensures.judged clean)
-
-pub returns-in_err-load_held-clause-same : goal.returns-in_err-load_held-clause-same
-returns-in_err-load_held-clause-same g c clean laid =
-    let k1 = leads_on (at_start (state g.S.Store c.args.conn.now)) (follow_asks _ laid) c.load_follow.ensures.crash c.in_ok-following.ensures.same in
-    let k2 = leads_on k1 (spans_asks _ laid) c.load_spans.ensures.crash c.in_ok-executed.ensures.same in
-    let p = err_from_is_err_and c.from_residual-in_err-load_held.result c.from_residual-in_err-load_held.ensures.1 in
-    rw (p.1, p.2) (fault_same k2 (held_asks _ laid) c.load_held.ensures.crash c.in_err-load_held.field-0.0 c.in_err-load_held.ensures.same clean)
-
-pub returns-in_err-load_held-clause-rested : goal.returns-in_err-load_held-clause-rested
-returns-in_err-load_held-clause-rested g c clean laid =
-    let k1 = leads_on (at_start (state g.S.Store c.args.conn.now)) (follow_asks _ laid) c.load_follow.ensures.crash c.in_ok-following.ensures.same in
-    let k2 = leads_on k1 (spans_asks _ laid) c.load_spans.ensures.crash c.in_ok-executed.ensures.same in
-    read_rested k2 (held_asks _ laid) c.load_held.ensures.crash c.load_held.ensures.rested clean
-
-pub returns-in_err-load_held-clause-crash : goal.returns-in_err-load_held-clause-crash
-returns-in_err-load_held-clause-crash g c laid =
-    let k1 = leads_on (at_start (state g.S.Store c.args.conn.now)) (follow_asks _ laid) c.load_follow.ensures.crash c.in_ok-following.ensures.same in
-    let k2 = leads_on k1 (spans_asks _ laid) c.load_spans.ensures.crash c.in_ok-executed.ensures.same in
-    read_crash k2 (held_asks _ laid) c.load_held.ensures.crash
-
-pub returns-in_err-load_held-clause-lives : goal.returns-in_err-load_held-clause-lives
-returns-in_err-load_held-clause-lives g c = any_then _ _ _ _ (any_then _ _ _ _ (over_any _ _ _ c.load_follow.ensures.crash) c.load_spans.ensures.crash) c.load_held.ensures.crash
-
-pub returns-clause-loads : goal.returns-clause-loads
-returns-clause-loads g c clean laid settled says =
-    let k1 = leads_on (at_start (state g.S.Store c.args.conn.now)) (follow_asks _ laid) c.load_follow.ensures.crash c.in_ok-following.ensures.same in
-    let k2 = leads_on k1 (spans_asks _ laid) c.load_spans.ensures.crash c.in_ok-executed.ensures.same in
-    let clean2 = clean_before _ _ _ c.load_held.ensures.crash clean in
-    let clean1 = clean_before _ _ _ c.load_spans.ensures.crash clean2 in
-    loaded (state g.S.Store c.args.conn.now) (state g.S.Store c.load_held.new.conn) c.in_ok-executed.executed c.in_ok-following.following c.schema.ensures.live laid settled says (read_same k2 (held_asks _ laid) c.load_held.ensures.crash c.in_ok-load_held.ensures.same clean)
-    (read_says (at_start (state g.S.Store c.args.conn.now)) (follow_asks _ laid) c.load_follow.ensures.crash (λ rows. AreNames rows c.in_ok-following.following) c.in_ok-following.ensures.judged clean1)
-    (read_says k1 (spans_asks _ laid) c.load_spans.ensures.crash (λ rows. AreSpans rows c.in_ok-executed.executed × HasRowids rows) c.in_ok-executed.ensures.judged clean2)
-    (read_says k2 (held_asks _ laid) c.load_held.ensures.crash (λ rows. AllByRecursion IsHeldRow rows × HasRowids rows) c.in_ok-load_held.ensures.judged clean)
-
-pub returns-clause-same : goal.returns-clause-same
-returns-clause-same g c clean laid =
-    let k1 = leads_on (at_start (state g.S.Store c.args.conn.now)) (follow_asks _ laid) c.load_follow.ensures.crash c.in_ok-following.ensures.same in
-    let k2 = leads_on k1 (spans_asks _ laid) c.load_spans.ensures.crash c.in_ok-executed.ensures.same in
-    read_same k2 (held_asks _ laid) c.load_held.ensures.crash c.in_ok-load_held.ensures.same clean
-
-pub returns-clause-rested : goal.returns-clause-rested
-returns-clause-rested g c clean laid =
-    let k1 = leads_on (at_start (state g.S.Store c.args.conn.now)) (follow_asks _ laid) c.load_follow.ensures.crash c.in_ok-following.ensures.same in
-    let k2 = leads_on k1 (spans_asks _ laid) c.load_spans.ensures.crash c.in_ok-executed.ensures.same in
-    read_rested k2 (held_asks _ laid) c.load_held.ensures.crash c.load_held.ensures.rested clean
-
-pub returns-clause-crash : goal.returns-clause-crash
-returns-clause-crash g c laid =
-    let k1 = leads_on (at_start (state g.S.Store c.args.conn.now)) (follow_asks _ laid) c.load_follow.ensures.crash c.in_ok-following.ensures.same in
-    let k2 = leads_on k1 (spans_asks _ laid) c.load_spans.ensures.crash c.in_ok-executed.ensures.same in
-    read_crash k2 (held_asks _ laid) c.load_held.ensures.crash
-
-pub returns-clause-lives : goal.returns-clause-lives
-returns-clause-lives g c = any_then _ _ _ _ (any_then _ _ _ _ (over_any _ _ _ c.load_follow.ensures.crash) c.load_spans.ensures.crash) c.load_held.ensures.crash
+pub returns-clause-reads : goal.returns-clause-reads
+returns-clause-reads g c =
+    let k0 = at_start _ (state g.S.Store c.args.conn.now) in
+    let k1 = leads_on k0 (follow_asks _) c.in_ok-following.ensures.reads in
+    let k2 = leads_on k1 (spans_asks _) c.in_ok-executed.ensures.reads in
+    all_read k2 (held_asks _) c.in_ok-load_held.ensures.reads _ (λ clean laid settled says same.
+    let clean2 = clean_before _ _ _ c.load_held.ensures.reads.crash clean in
+    let clean1 = clean_before _ _ _ c.load_spans.ensures.reads.crash clean2 in
+    loaded (state g.S.Store c.args.conn.now) (state g.S.Store c.load_held.new.conn) c.in_ok-executed.executed c.in_ok-following.following c.schema.ensures.live laid settled says same
+    (says_on k0 (follow_asks _) c.in_ok-following.ensures.reads clean1 laid) (says_on k1 (spans_asks _) c.in_ok-executed.ensures.reads clean2 laid) (says_on k2 (held_asks _) c.in_ok-load_held.ensures.reads clean laid))

@@ -1,7 +1,7 @@
 use Rattle.std.proofs.Common.{arith, refl, ap}
 use Rattle.std.proofs.lemmas.Bool.{ne_eqb}
 use Rattle.std.specs.Prelude.{nat_le}
-use Rattle.binlog.specs.Column.{metadata_fault, is_within}
+use Rattle.binlog.specs.Column.{metadata_fault, is_between}
 use Rattle.binlog.proofs.Columns.{known, no_more_1, each_second}
 use Rattle.binlog.proofs.column.metadata.by_byte.Goals as goal
 
@@ -22,7 +22,7 @@ returns-in-19-clause-fault c = each_second c.in_range-in-19.result (nat_le c.arg
 
 pub returns-in-252-clause-fault : goal.returns-in-252-clause-fault
 unfolding metadata_fault
-returns-in-252-clause-fault c = each_second c.in_range-in-252.result (is_within 1 4 c.args.first) c.args.code c.args.first (λ second. ap (λ k. metadata_fault k c.args.first second) c.in-252.is) c.in_range-in-252.ensures.err
+returns-in-252-clause-fault c = each_second c.in_range-in-252.result (is_between 1 4 c.args.first) c.args.code c.args.first (λ second. ap (λ k. metadata_fault k c.args.first second) c.in-252.is) c.in_range-in-252.ensures.err
 
 pub returns-in-4-2-clause-fault : goal.returns-in-4-2-clause-fault
 unfolding metadata_fault

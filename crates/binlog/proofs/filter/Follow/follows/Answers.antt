@@ -2,20 +2,20 @@ use Rattle.std.proofs.Common.{◌≡◌, ◌∙◌, length, sym, ap}
 use Rattle.std.proofs.lemmas.List.{length-map}
 use Rattle.std.specs.FinSet as set
 use Rattle.binlog.specs.Filter.{name_cmp, admits}
-use Rattle.binlog.specs.FilterView.{names_of}
+use Rattle.binlog.specs.FilterView.{name_list}
 use Rattle.binlog.proofs.Admitted.{follow_by}
 use Rattle.binlog.proofs.filter.Follow.follows.Goals as goal
 
 pub returns-then-is_empty : goal.returns-then-is_empty
 returns-then-is_empty c =
     let names = c.as_slice-names.result.now in
-    let view : set.from_list {R = name_cmp} (names_of names) ≡ c.args.self.now = ap (λ l. set.from_list (names_of l)) c.as_slice-names.ensures.value ∙ c.self.view_is in
-    let by = follow_by (length names) (names_of names) c.args.schema.now c.args.table.now c.is_empty.result c.is_empty.ensures (sym (length-map names _)) in
+    let view : set.from_list {R = name_cmp} (name_list names) ≡ c.args.self.now = ap (λ l. set.from_list (name_list l)) c.as_slice-names.ensures.value ∙ c.self.view_is in
+    let by = follow_by (length names) (name_list names) c.args.schema.now c.args.table.now c.is_empty.result c.is_empty.ensures (sym (length-map names _)) in
     c.if-is_empty.true ∙ sym (by.0 c.if-is_empty.true) ∙ ap (λ n. admits n c.args.schema.now c.args.table.now) view
 
 pub returns-else-is_empty : goal.returns-else-is_empty
 returns-else-is_empty c =
     let names = c.as_slice-names.result.now in
-    let view : set.from_list {R = name_cmp} (names_of names) ≡ c.args.self.now = ap (λ l. set.from_list (names_of l)) c.as_slice-names.ensures.value ∙ c.self.view_is in
-    let by = follow_by (length names) (names_of names) c.args.schema.now c.args.table.now c.is_empty.result c.is_empty.ensures (sym (length-map names _)) in
+    let view : set.from_list {R = name_cmp} (name_list names) ≡ c.args.self.now = ap (λ l. set.from_list (name_list l)) c.as_slice-names.ensures.value ∙ c.self.view_is in
+    let by = follow_by (length names) (name_list names) c.args.schema.now c.args.table.now c.is_empty.result c.is_empty.ensures (sym (length-map names _)) in
     c.is_listed.ensures ∙ sym (by.1 c.if-is_empty.false) ∙ ap (λ n. admits n c.args.schema.now c.args.table.now) view

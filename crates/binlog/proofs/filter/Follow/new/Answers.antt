@@ -1,4 +1,4 @@
-use Rattle.binlog.specs.FilterView.{names_of}
+use Rattle.binlog.specs.FilterView.{name_list}
 use Rattle.binlog.proofs.NamesOnce.{once_rise, once_same}
 use Rattle.binlog.proofs.filter.Follow.new.Goals as goal
 
@@ -7,4 +7,4 @@ invariant_of-result c = once_rise c.sort_unstable.new.self.items c.dedup.new.sel
 
 pub returns-clause-ok : goal.returns-clause-ok
 returns-clause-ok c =
-    once_same c.in_ok-names.names.items c.sort_unstable.new.self.items c.dedup.new.self.items (names_of c.args.names.now) c.in_ok-names.ensures.ok c.sort_unstable.ensures.permutation c.dedup.ensures.filtered
+    once_same c.in_ok-names.names.items c.sort_unstable.new.self.items c.dedup.new.self.items (name_list c.args.names.now) c.in_ok-names.ensures.ok c.sort_unstable.ensures.permutation c.dedup.ensures.filtered

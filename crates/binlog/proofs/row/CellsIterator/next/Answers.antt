@@ -2,7 +2,7 @@ use Rattle.std.proofs.Common.{◌≡◌, ◌+◌, ◌∷◌, Ok, Err, drop, sym,
 use Rattle.std.proofs.lemmas.Bool.{ltb-true}
 use Rattle.std.proofs.lemmas.List.{take_rest}
 use Rattle.binlog.specs.Shape.{shape, value_end, cell_of}
-use Rattle.binlog.specs.Row.{kinds, cells_of}
+use Rattle.binlog.specs.Row.{kinds, cells_from}
 use Rattle.binlog.proofs.RowCells.{null_first, value_first, none_first, fewer}
 use Rattle.binlog.proofs.row.CellsIterator.next.Goals as goal
 
@@ -32,7 +32,7 @@ returns-clause-steps c =
     sym c.self.view_is
     ∙ value_first c.self.inside.bitmap.now values c.self.inside.types.now c.self.inside.index c.in-Ok.size c.in_ok-column.field-0.now
     (ltb-true _ _ (sym c.in_ok-column.ensures.lookup.0)) c.in_ok-column.ensures.lookup.1 (sym c.is_null.ensures ∙ c.if-is_null.false) end
-    ∙ (λ i. cell i ∷ cells_of c.self.inside.bitmap.now (c.self.inside.index + 1) (drop (c.self.inside.index + 1) (kinds c.self.inside.types.now)) (rest i))
+    ∙ (λ i. cell i ∷ cells_from c.self.inside.bitmap.now (c.self.inside.index + 1) (drop (c.self.inside.index + 1) (kinds c.self.inside.types.now)) (rest i))
 
 pub returns-clause-goes : goal.returns-clause-goes
 returns-clause-goes c = record { on = λ _. (tt, tt, fewer _ _ _ (returns-clause-steps c)); keeps = tt; rests = λ _. tt }

@@ -12,7 +12,7 @@ invariant-loop-used g l = record {
   following : l.store.following ≡ l.fn.store.following;
   broken : l.fn.store.broken ≡ true → l.store ≡ l.fn.store;
   config : l.self.config ≡ l.fn.self.config;
-  neither : MayEnd (end_of l.fn.self).reason (g.W.Observer.has_stopped l.fn.observer) → MayEnd (end_of l.self).reason (g.W.Observer.has_stopped l.observer);
+  may_end : MayEnd (end_of l.fn.self).reason (g.W.Observer.has_stopped l.fn.observer) → MayEnd (end_of l.self).reason (g.W.Observer.has_stopped l.observer);
   stays : g.W.Observer.has_stopped l.fn.observer ≡ true → g.W.Observer.has_stopped l.observer ≡ true;
   heeds : (is : Bool) (now : Content) → HoldsAs g.S.Store is now l.fn.store → g.W.Observer.has_stopped l.fn.observer ≡ true → l.store ≡ l.fn.store;
   room : l.self.ended ≡ None → room_of l.self + length l.bytes ≤ room_of l.fn.self + length l.rest;

@@ -32,7 +32,7 @@ returns-in-Login g c =
       following = refl;
       broken = λ _. refl;
       config = c.take_message.ensures.config;
-      neither = own_may (end_of c.take_message.new.self).reason (g.W.Observer.has_stopped c.args.observer.now) c.take_message.ensures.neither;
+      may_end = own_may (end_of c.take_message.new.self).reason (g.W.Observer.has_stopped c.args.observer.now) c.take_message.ensures.may_end;
       stays = λ h. h;
       heeds = λ is now holds on. refl;
       room = λ none. let f = c.take_message.ensures.further none in room_left s c.take_message.new.self c.in-Some.end n f.0 f.1 c.requires.between.0 ends (omega (arith, c.in-Some.ensures));

@@ -11,7 +11,7 @@ use Rattle.replica.proofs.session.Session.take_message.Goals as goal
 pub returns-in-Ok : goal.returns-in-Ok
 returns-in-Ok c = record {
   config = refl;
-  neither = subst (λ v. IsOwn (unwrap_or {T = Ended} v (record { reason = EndOfInput; at = c.args.end; applied = c.args.self.now.applied })).reason) (sym c.requires.going) tt;
+  may_end = subst (λ v. IsOwn (unwrap_or {T = Ended} v (record { reason = EndOfInput; at = c.args.end; applied = c.args.self.now.applied })).reason) (sym c.requires.going) tt;
   further = λ _. (refl, ap (λ a. a.held) c.expect.ensures ∙ c.requires.between.0);
   takes = λ names was is old now b o executed ends meets.
       let s = c.args.self.now in
@@ -30,7 +30,7 @@ returns-in-Ok c = record {
 pub returns-in-Err : goal.returns-in-Err
 returns-in-Err c = record {
   config = ap (λ x. x.config) c.end.ensures;
-  neither = subst (λ x. IsOwn (end_of x).reason) (sym c.end.ensures) c.in-Err.ensures.neither;
+  may_end = subst (λ x. IsOwn (end_of x).reason) (sym c.end.ensures) c.in-Err.ensures.may_end;
   further = λ none. absurd (some-none _ (sym (ap (λ x. x.ended) c.end.ensures) ∙ none));
   takes = λ names was is old now b o executed ends meets.
       let s = c.args.self.now in

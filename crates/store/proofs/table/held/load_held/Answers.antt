@@ -7,75 +7,49 @@ use Rattle.store.proofs.Steps.{clean_before}
 use Rattle.store.proofs.Verdicts.{begun_survives, begun_rested, begun_same, begun_judged}
 use Rattle.store.proofs.table.held.load_held.Goals as goal
 
-pub returns-in_err-rows-clause-rested : goal.returns-in_err-rows-clause-rested
-returns-in_err-rows-clause-rested g c clean tree asks =
+pub returns-in_err-rows-clause-reads : goal.returns-in_err-rows-clause-reads
+returns-in_err-rows-clause-reads g c =
+    let old = state g.S.Store c.args.conn.now in
+    let new = state g.S.Store c.query.follows.lender-at-none in
     let refused = rw c.in_err-rows.was at c.query.follows.holds-at-none in
-    all_rests all_held_text tree (state g.S.Store c.args.conn.now) (state g.S.Store c.query.follows.lender-at-none) asks {X = Unit {0}} (Err c.in_err-rows.field-0.0) tt (refused.err clean)
+    record {
+      judged = search rules;
+      same = search rules;
+      rested = λ clean tree asks. all_rests all_held_text tree old new asks {X = Unit {0}} (Err c.in_err-rows.field-0.0) tt (refused.err clean);
+      crash = all_survives all_held_text old new refused.survives;
+    }
 
-pub returns-in_err-rows-clause-crash : goal.returns-in_err-rows-clause-crash
-returns-in_err-rows-clause-crash g c =
-    let refused = rw c.in_err-rows.was at c.query.follows.holds-at-none in
-    all_survives all_held_text (state g.S.Store c.args.conn.now) (state g.S.Store c.query.follows.lender-at-none) refused.survives
-
-pub returns-in_err-verdict-clause-rested : goal.returns-in_err-verdict-clause-rested
-returns-in_err-verdict-clause-rested g c clean tree asks =
+pub returns-in_err-verdict-clause-reads : goal.returns-in_err-verdict-clause-reads
+returns-in_err-verdict-clause-reads g c =
     let s = state g.S.Store in
     let old = c.args.conn.now in
     let mid = c.in_ok-rows.rows.conn.now in
     let new = c.judge_rows.new.rows.conn.now in
     let same : new ≡ c.conn-in_err-verdict-1.given.0 = search rules in
-    let late : HasCleanDisk (s new) = subst (λ k. HasCleanDisk (s k)) (sym same) clean in
-    let begun = c.in_ok-rows.ensures.begun (clean_before (s mid) (s new) _ c.judge_rows.ensures.survives late) in
-    subst (λ k. Rested (s old) (s k)) same (begun_rested g.S.Store old mid tree asks begun (s new) (c.judge_rows.ensures.rested late))
+    let survives = c.judge_rows.ensures.survives in
+    record {
+      judged = search rules;
+      same = search rules;
+      rested = λ clean tree asks.
+          let late : HasCleanDisk (s new) = subst (λ k. HasCleanDisk (s k)) (sym same) clean in
+          subst (λ k. Rested (s old) (s k)) same (begun_rested g.S.Store old mid tree asks (c.in_ok-rows.ensures.begun (clean_before (s mid) (s new) _ survives late)) (s new) (c.judge_rows.ensures.rested late));
+      crash = subst (λ k. Survives (s old) (s k) (λ _. (tree : _) → ¬ AsksAll (s old).now.schema all_held_text tree)) same (begun_survives (s old) (s mid) (s new) c.in_ok-rows.ensures.survives survives);
+    }
 
-pub returns-in_err-verdict-clause-crash : goal.returns-in_err-verdict-clause-crash
-returns-in_err-verdict-clause-crash g c =
-    let s = state g.S.Store in
-    let old = c.args.conn.now in
-    let mid = c.in_ok-rows.rows.conn.now in
-    let new = c.judge_rows.new.rows.conn.now in
-    let same : new ≡ c.conn-in_err-verdict-1.given.0 = search rules in
-    subst (λ k. Survives (s old) (s k) (λ _. (tree : _) → ¬ AsksAll (s old).now.schema all_held_text tree)) same (begun_survives (s old) (s mid) (s new) c.in_ok-rows.ensures.survives c.judge_rows.ensures.survives)
-
-pub returns-clause-judged : goal.returns-clause-judged
-returns-clause-judged g c clean tree asks =
-    let s = state g.S.Store in
-    let old = c.args.conn.now in
-    let mid = c.in_ok-rows.rows.conn.now in
-    let new = c.judge_rows.new.rows.conn.now in
-    let same : new ≡ c.conn-2-1.given.0 = search rules in
-    let late : HasCleanDisk (s new) = subst (λ k. HasCleanDisk (s k)) (sym same) clean in
-    let begun = c.in_ok-rows.ensures.begun (clean_before (s mid) (s new) _ c.judge_rows.ensures.survives late) in
-    begun_judged g.S.Store old mid tree asks begun (s new) c.in_ok-verdict.verdict c.schema.ensures.live (c.in_ok-verdict.ensures.judged late all_held_text) c.answer.result c.answer.ensures.judged
-
-pub returns-clause-same : goal.returns-clause-same
-returns-clause-same g c clean tree asks =
+pub returns-clause-reads : goal.returns-clause-reads
+returns-clause-reads g c =
     let s = state g.S.Store in
     let old = c.args.conn.now in
     let mid = c.in_ok-rows.rows.conn.now in
     let new = c.judge_rows.new.rows.conn.now in
     let same : new ≡ c.conn-2-1.given.0 = search rules in
-    let late : HasCleanDisk (s new) = subst (λ k. HasCleanDisk (s k)) (sym same) clean in
-    let begun = c.in_ok-rows.ensures.begun (clean_before (s mid) (s new) _ c.judge_rows.ensures.survives late) in
-    subst (λ k. OnSeen c.answer.result (IsUnchanged (s old) (s k))) same
-    (begun_same g.S.Store old mid tree asks begun (s new) c.in_ok-verdict.verdict c.schema.ensures.live (c.in_ok-verdict.ensures.judged late all_held_text) c.answer.result)
-
-pub returns-clause-rested : goal.returns-clause-rested
-returns-clause-rested g c clean tree asks =
-    let s = state g.S.Store in
-    let old = c.args.conn.now in
-    let mid = c.in_ok-rows.rows.conn.now in
-    let new = c.judge_rows.new.rows.conn.now in
-    let same : new ≡ c.conn-2-1.given.0 = search rules in
-    let late : HasCleanDisk (s new) = subst (λ k. HasCleanDisk (s k)) (sym same) clean in
-    let begun = c.in_ok-rows.ensures.begun (clean_before (s mid) (s new) _ c.judge_rows.ensures.survives late) in
-    subst (λ k. Rested (s old) (s k)) same (begun_rested g.S.Store old mid tree asks begun (s new) (c.judge_rows.ensures.rested late))
-
-pub returns-clause-crash : goal.returns-clause-crash
-returns-clause-crash g c =
-    let s = state g.S.Store in
-    let old = c.args.conn.now in
-    let mid = c.in_ok-rows.rows.conn.now in
-    let new = c.judge_rows.new.rows.conn.now in
-    let same : new ≡ c.conn-2-1.given.0 = search rules in
-    subst (λ k. Survives (s old) (s k) (λ _. (tree : _) → ¬ AsksAll (s old).now.schema all_held_text tree)) same (begun_survives (s old) (s mid) (s new) c.in_ok-rows.ensures.survives c.judge_rows.ensures.survives)
+    let late : HasCleanDisk (s c.conn-2-1.given.0) → HasCleanDisk (s new) = λ clean. subst (λ k. HasCleanDisk (s k)) (sym same) clean in
+    let survives = c.judge_rows.ensures.survives in
+    let begun = λ (clean : HasCleanDisk (s c.conn-2-1.given.0)). c.in_ok-rows.ensures.begun (clean_before (s mid) (s new) _ survives (late clean)) in
+    record {
+      judged = λ clean tree asks. begun_judged g.S.Store old mid tree asks (begun clean) (s new) c.in_ok-verdict.verdict c.schema.ensures.live (c.in_ok-verdict.ensures.judged (late clean) all_held_text) c.answer.result c.answer.ensures.judged;
+      same = λ clean tree asks. subst (λ k. OnSeen c.answer.result (IsUnchanged (s old) (s k))) same
+          (begun_same g.S.Store old mid tree asks (begun clean) (s new) c.in_ok-verdict.verdict c.schema.ensures.live (c.in_ok-verdict.ensures.judged (late clean) all_held_text) c.answer.result);
+      rested = λ clean tree asks. subst (λ k. Rested (s old) (s k)) same (begun_rested g.S.Store old mid tree asks (begun clean) (s new) (c.judge_rows.ensures.rested (late clean)));
+      crash = subst (λ k. Survives (s old) (s k) (λ _. (tree : _) → ¬ AsksAll (s old).now.schema all_held_text tree)) same (begun_survives (s old) (s mid) (s new) c.in_ok-rows.ensures.survives survives);
+    }

@@ -1,10 +1,15 @@
+use Rattle.std.proofs.Common.{rules}
 use Rattle.sqlite.specs.Held.{state}
 use Rattle.store.proofs.Loading.{spans_table, on_seen}
 use Rattle.store.proofs.table.spans.load_spans.Goals as goal
 
-pub returns-clause-judged : goal.returns-clause-judged
-returns-clause-judged g c clean tree asks =
-    spans_table ((state g.S.Store c.args.conn.now).now.trees tree) _ (c.in_ok-rows.ensures.rows clean tree asks) c.spans_from.result (rw c.deref.ensures.value at c.spans_from.ensures.judged)
+pub returns-in_err-rows-clause-reads : goal.returns-in_err-rows-clause-reads
+returns-in_err-rows-clause-reads g c = record { judged = search rules; same = search rules; rested = search rules; crash = search rules }
 
-pub returns-clause-same : goal.returns-clause-same
-returns-clause-same g c clean tree asks = on_seen c.spans_from.result (c.in_ok-rows.ensures.same clean tree asks)
+pub returns-clause-reads : goal.returns-clause-reads
+returns-clause-reads g c = record {
+  judged = λ clean tree asks. spans_table ((state g.S.Store c.args.conn.now).now.trees tree) _ (c.in_ok-rows.ensures.rows clean tree asks) c.spans_from.result (rw c.deref.ensures.value at c.spans_from.ensures.judged);
+  same = λ clean tree asks. on_seen c.spans_from.result (c.in_ok-rows.ensures.same clean tree asks);
+  rested = search rules;
+  crash = search rules;
+}

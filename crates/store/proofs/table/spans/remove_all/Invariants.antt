@@ -2,7 +2,7 @@ use Rattle.std.proofs.Common.{◌≡◌}
 use Rattle.sqlite.specs.State.{HasCleanDisk}
 use Rattle.sqlite.specs.Held.{state}
 use Rattle.store.specs.Rows.{span_rows, held_rows}
-use Rattle.store.specs.Inside.{IsWorking, GoesOn, AreRowsOf, Stays}
+use Rattle.store.specs.Inside.{IsWorking, StaysOpen, AreRowsOf, Stays}
 use Rattle.store.proofs.table.spans.remove_all.Given as goal
 
 abbrev pub invariant-loop-span : goal.invariant-loop-span
@@ -11,7 +11,7 @@ invariant-loop-span g l =
     let new = state g.S.Store l.tx.conn.now in
     record {
       same_reference : l.tx.conn.ghost_name ≡ l.fn.tx.conn.ghost_name;
-      goes : HasCleanDisk new → IsWorking old → GoesOn old new;
+      goes : HasCleanDisk new → IsWorking old → StaysOpen old new;
       left : HasCleanDisk new → IsWorking old → AreRowsOf (span_rows old.now) l.fn.spans → AreRowsOf (span_rows new.now) l.span-iterator × (held_rows new.now ≡ held_rows old.now);
       stays : Stays old new;
     }

@@ -2,7 +2,7 @@ use Rattle.std.proofs.Common.{◌≡◌, ◌++◌, [], take, drop, length, ◌�
 use Rattle.std.proofs.lemmas.Grind.{common_steps}
 use Rattle.std.proofs.lemmas.Result.{err_from_is_err_and}
 use Rattle.std.proofs.lemmas.List.{take-append-drop, take_all}
-use Rattle.mrep.specs.PayloadListing.{IsWrong, held_of, first_id}
+use Rattle.mrep.specs.PayloadListing.{IsWrongPayload, held_bytes, first_id}
 use Rattle.wire.specs.Packet.{largest_payload}
 use Rattle.mrep.proofs.Entries.{wrong_from, IsWrong-more, by_payload, whole_from, unfinished_from}
 use Rattle.mrep.proofs.commands.payload_listing.Listing.gather.Goals as goal
@@ -23,16 +23,16 @@ returns-in_err-payload-clause-refuses c =
     let long : 3 < length header = grind (arith, common_steps, c.requires) in
     let first : reader.due ≡ first_id (reader.held ++ header) =
     ap (λ state. state.due) c.expect.ensures ∙ ap (λ items. slice_index_or items 3 0) (c.as_slice.ensures.value ∙ sym c.as_slice-2.ensures.value) ∙ ap (λ h. first_id (h ++ header)) (sym nil) in
-    let all : reader.held ++ header ++ drop used bytes ≡ held_of old ++ bytes =
+    let all : reader.held ++ header ++ drop used bytes ≡ held_bytes old ++ bytes =
     (λ i. held i ++ is i ++ drop used bytes)
     ∙ ap (λ front. front ++ drop used bytes) (sym (append_assoc old.assembler.held old.header.items (take used bytes)))
-    ∙ append_assoc (held_of old) (take used bytes) (drop used bytes)
-    ∙ ap (λ more. held_of old ++ more) (take-append-drop used bytes) in
+    ∙ append_assoc (held_bytes old) (take used bytes) (drop used bytes)
+    ∙ ap (λ more. held_bytes old ++ more) (take-append-drop used bytes) in
     rw (p.1, p.2)
     (record {
       begin = refl;
       seen = refl;
-      wrong = λ goes_on. subst (λ b. IsWrong b fault) all
+      wrong = λ goes_on. subst (λ b. IsWrongPayload b fault) all
           (IsWrong-more (reader.held ++ header) (drop used bytes) fault (subst (λ h. 3 < length (h ++ header)) (sym nil) long)
           (wrong_from (reader.held ++ header) fault first
           (ap (λ state. state.limit) c.expect.ensures ∙ old.limit goes_on)
@@ -56,7 +56,7 @@ returns-clause-takes c =
     let nil : reader.held ≡ [] = held ∙ c.requires.between.0 in
     let first : reader.due ≡ first_id (reader.held ++ header) =
     ap (λ state. state.due) c.expect.ensures ∙ ap (λ items. slice_index_or items 3 0) (c.as_slice.ensures.value ∙ sym c.as_slice-2.ensures.value) ∙ ap (λ h. first_id (h ++ header)) (sym nil) in
-    let all : reader.held ++ header ≡ held_of old ++ take used bytes =
+    let all : reader.held ++ header ≡ held_bytes old ++ take used bytes =
     (λ i. held i ++ is i) ∙ sym (append_assoc old.assembler.held old.header.items (take used bytes)) in
     let limit : reader.limit ≡ largest_payload = ap (λ state. state.limit) c.expect.ensures ∙ old.limit c.requires.between.1 in
     let due : reader.due ≡ slice_index_or c.as_slice.result.now 3 0 = ap (λ state. state.due) c.expect.ensures in
@@ -68,7 +68,7 @@ returns-clause-takes c =
       seen = refl;
       goes_on = c.in_ok-payload.ensures.ok;
       taken = by_payload step.payload c.in_ok-payload.ensures.unfinished c.in_ok-payload.ensures.payload c.in_ok-payload.ensures.length
-          (λ none. let now : new.held ++ c.clear.new.self.items ≡ held_of old ++ take used bytes = cleared ∙ ap (λ state. state.held) none.2 ∙ all in
+          (λ none. let now : new.held ++ c.clear.new.self.items ≡ held_bytes old ++ take used bytes = cleared ∙ ap (λ state. state.held) none.2 ∙ all in
           (now, inr (unfinished_from none.1 (first ∙ ap first_id (all ∙ sym now)) limit (all ∙ sym now))))
           (λ payload whole long.
           let all_used : length header ≤ step.used = grind (arith, common_steps, whole, long, held, c.requires.between.0) in

@@ -1,0 +1,382 @@
+//! The commands and their arguments, as a table.
+
+use clap::{Arg, ArgAction, Command};
+use formats::{ENCODINGS, FORMATS};
+use std::alloc::{AllocError, Global};
+
+/// The version that `mrep -V` prints.
+const VERSION: &str = "0.1.0";
+
+/// What `mrep --version` prints: the version, the revision, the layouts of databases, and the identity of the toolchain, as
+/// `rt version` prints it. The words after `revision` stand in the program as they do here, and `make` puts the revision in
+/// their place, since a program whose text changed with each revision would be proved with each.
+const LONG_VERSION: &str =
+    "0.1.0\nrevision unknown: it is stated by `make` in a git clone.\nlayout 2; a database of layout 1 is migrated\nproved with rattle-kit-13f logic dac8208d650f15bf";
+
+/// The shells that `mrep completions` knows.
+const SHELLS: [&str; 3] = ["bash", "zsh", "fish"];
+
+/// How an argument is given.
+#[derive(Clone, Copy)]
+pub enum Kind {
+    /// A word.
+    Word,
+    /// A word that is one of these.
+    WordOf(&'static [&'static str]),
+    /// One word or more.
+    Words,
+    /// A required option with a value of this name.
+    Needed(&'static str),
+    /// An option with a value of this name, and what it is without the option.
+    Usual(&'static str, &'static str),
+    /// A required option with a value of this name, which may begin with a hyphen.
+    NeededText(&'static str),
+    /// An option with a value of this name, which may begin with a hyphen.
+    Text(&'static str),
+    /// An option with a value of this name, which may be repeated.
+    Repeated(&'static str),
+    /// An option with a value of this name, which is one of these words.
+    OneOf(&'static str, &'static [&'static str]),
+    /// A flag.
+    Flag,
+}
+
+impl Kind {
+    /// Whether the argument has to be there.
+    fn is_required(self) -> bool {
+        matches!(
+            self,
+            Kind::Word | Kind::WordOf(_) | Kind::Words | Kind::Needed(_) | Kind::NeededText(_)
+        )
+    }
+
+    /// Whether its value may begin with a hyphen.
+    fn may_be_hyphenated(self) -> bool {
+        matches!(self, Kind::NeededText(_) | Kind::Text(_))
+    }
+
+    /// The name of the value, of an option that has one.
+    pub fn value(self) -> Option<&'static str> {
+        match self {
+            Kind::Needed(value)
+            | Kind::Usual(value, _)
+            | Kind::NeededText(value)
+            | Kind::Text(value)
+            | Kind::Repeated(value)
+            | Kind::OneOf(value, _) => Some(value),
+            Kind::Word | Kind::WordOf(_) | Kind::Words | Kind::Flag => None,
+        }
+    }
+
+    /// The words of which it is one, and none where it may be any.
+    pub fn words(self) -> &'static [&'static str] {
+        match self {
+            Kind::WordOf(words) | Kind::OneOf(_, words) => words,
+            _ => &[],
+        }
+    }
+
+    /// Whether it is given after its name.
+    pub fn is_option(self) -> bool {
+        !matches!(self, Kind::Word | Kind::WordOf(_) | Kind::Words)
+    }
+
+    /// Whether it may be given more than once.
+    pub fn is_repeated(self) -> bool {
+        matches!(self, Kind::Words | Kind::Repeated(_))
+    }
+
+    /// What is done with its values.
+    fn action(self) -> ArgAction {
+        match self {
+            Kind::Words | Kind::Repeated(_) => ArgAction::Append,
+            Kind::Flag => ArgAction::SetTrue,
+            _ => ArgAction::Set,
+        }
+    }
+}
+
+/// An argument: its name, how it is given, and its help.
+#[derive(Clone, Copy)]
+pub struct Argument(pub &'static str, pub Kind, pub &'static str);
+
+/// A command: its name, its help, its arguments in the order of the help, and examples.
+pub struct CommandRow(
+    pub &'static str,
+    pub &'static str,
+    pub &'static [Argument],
+    pub &'static str,
+);
+
+const FILE: Argument = Argument(
+    "FILE",
+    Kind::Word,
+    "A file with a stream of packets, or `-` for standard input",
+);
+
+const SET: Argument = Argument("SET", Kind::Word, "A GTID set");
+
+/// The database of the commands that make it.
+const DB: Argument = Argument(
+    "db",
+    Kind::NeededText("F"),
+    "The database file; a new one is made if it does not exist",
+);
+
+const PROGRESS: Argument = Argument(
+    "progress",
+    Kind::Flag,
+    "Report on standard error how many bytes have been read and how many transactions applied, at most once a second",
+);
+
+const CHANGES: Argument = Argument(
+    "changes",
+    Kind::Text("FILE"),
+    "Write each transaction as JSON lines to the end of this file, or to standard output for `-`",
+);
+
+/// The form of bytes in the lines of changes.
+const BYTES: Argument = Argument(
+    "bytes",
+    Kind::OneOf("FORM", &ENCODINGS),
+    "Write bytes in JSON lines as text where they are UTF-8, as hexadecimal digits or as base64. Without it: hex",
+);
+
+/// The tables whose rows are kept.
+const ONLY: Argument = Argument(
+    "only",
+    Kind::Repeated("SCHEMA.TABLE"),
+    "Keep only the rows of this table; may be repeated. Without it: of the tables that the database was made for, or of all tables for a new database",
+);
+
+/// All commands, in the order of the help.
+static COMMANDS: [CommandRow; 13] = [
+    CommandRow(
+        "packets",
+        "List the payloads of a stream of packets: offset, sequence id, length",
+        &[FILE],
+        "Examples:\n  mrep packets capture.bin\n  zcat capture.bin.gz | mrep packets -",
+    ),
+    CommandRow(
+        "events",
+        "List the events of a stream of packets: offset, sequence id, type, size, kind",
+        &[FILE],
+        "Example, of what follows the opening of a capture:\n  tail -c +101 capture.bin | mrep events -",
+    ),
+    CommandRow(
+        "minus",
+        "Print a GTID set without the members of another",
+        &[
+            Argument("X", Kind::Word, "A GTID set"),
+            Argument("Y", Kind::Word, "The GTID set to subtract"),
+        ],
+        "Example:\n  mrep minus 3e11fa47-71ca-11e1-9e33-c80aa9429562:1-5 3e11fa47-71ca-11e1-9e33-c80aa9429562:2:4",
+    ),
+    CommandRow(
+        "replay",
+        "Read streams, each as one connection, apply their transactions to a database, and print how each ended",
+        &[
+            DB,
+            PROGRESS,
+            CHANGES,
+            BYTES,
+            ONLY,
+            Argument(
+                "STREAM",
+                Kind::Words,
+                "A file with the bytes that a source sent on one connection, or `-` for standard input",
+            ),
+        ],
+        "Examples:\n  mrep replay --db F.db --only shop.items capture.bin\n  zcat capture.bin.gz | mrep replay --db F.db --changes feed.json --bytes utf8 -",
+    ),
+    CommandRow(
+        "follow",
+        "Follow a source over a socket, apply its transactions to a database, and print how the connection ended",
+        &[
+            DB,
+            Argument(
+                "host",
+                Kind::Needed("H"),
+                "The source's host name or address; an IPv6 address may stand in brackets",
+            ),
+            Argument(
+                "port",
+                Kind::Usual("P", "3306"),
+                "The source's port, from 1 to 65535",
+            ),
+            Argument(
+                "user",
+                Kind::NeededText("U"),
+                "The name of the replication account",
+            ),
+            Argument(
+                "password-file",
+                Kind::NeededText("W"),
+                "The file with the password; one line feed at its end is ignored",
+            ),
+            Argument(
+                "server-id",
+                Kind::Needed("I"),
+                "The server id of the replica, from 1 to 4294967295",
+            ),
+            Argument(
+                "once",
+                Kind::Flag,
+                "End at the end of the source's log instead of waiting for more events",
+            ),
+            PROGRESS,
+            CHANGES,
+            BYTES,
+            ONLY,
+        ],
+        "Example:\n  mrep follow --db F.db --host db1 --user repl --password-file W --server-id 7 --only shop.items",
+    ),
+    CommandRow(
+        "show",
+        "Print the rows of a database: table, count, cells",
+        &[
+            DB,
+            Argument(
+                "only",
+                Kind::Repeated("SCHEMA.TABLE"),
+                "Print only the rows of this table; may be repeated",
+            ),
+            Argument(
+                "format",
+                Kind::OneOf("FORMAT", &FORMATS),
+                "Print lines of text, CSV records or JSON objects. Without it: text",
+            ),
+            Argument(
+                "bytes",
+                Kind::OneOf("FORM", &ENCODINGS),
+                "Print bytes in CSV and JSON as text where they are UTF-8, as hexadecimal digits or as base64. Without it: hex",
+            ),
+        ],
+        "Example:\n  mrep show --db F.db --only shop.items --format json --bytes utf8",
+    ),
+    CommandRow(
+        "tables",
+        "Print the tables that a database was made for, and how many rows of each it has",
+        &[DB],
+        "Example:\n  mrep tables --db F.db",
+    ),
+    CommandRow(
+        "gtids",
+        "Print the executed GTID set of a database",
+        &[DB],
+        "Example:\n  mrep gtids --db F.db",
+    ),
+    CommandRow(
+        "missing",
+        "Print the part of a GTID set that is not in the executed set of a database",
+        &[DB, SET],
+        "Example:\n  mrep missing --db F.db 3e11fa47-71ca-11e1-9e33-c80aa9429562:1-1000",
+    ),
+    CommandRow(
+        "copy",
+        "Copy a database as it is after some transaction, also while another process writes it",
+        &[
+            Argument("db", Kind::NeededText("F"), "The database file"),
+            Argument("TO", Kind::Word, "The file to make"),
+            Argument("force", Kind::Flag, "Replace the file if it exists"),
+        ],
+        "Example:\n  mrep copy --db F.db copy.db && mrep tables --db copy.db",
+    ),
+    CommandRow(
+        "adopt",
+        "Record a GTID set as executed without changes, and print what was new of it",
+        &[DB, SET],
+        "Example:\n  mrep adopt --db F.db 3e11fa47-71ca-11e1-9e33-c80aa9429562:1-1000",
+    ),
+    CommandRow(
+        "skip",
+        "Record a GTID as executed without changes, and print Done, or Repeat if it was executed already",
+        &[
+            DB,
+            Argument(
+                "G",
+                Kind::Word,
+                "A GTID: a hyphenated UUID, `:` and a number",
+            ),
+        ],
+        "Example:\n  mrep skip --db F.db 3e11fa47-71ca-11e1-9e33-c80aa9429562:7",
+    ),
+    CommandRow(
+        "completions",
+        "Print what a shell completes of a command line of mrep, for this shell to read",
+        &[Argument("SHELL", Kind::WordOf(&SHELLS), "The shell")],
+        "Example:\n  mrep completions bash > ~/.local/share/bash-completion/completions/mrep",
+    ),
+];
+
+/// All commands. The table stands in the proof of each function that names it, and so one alone does.
+pub fn commands() -> &'static [CommandRow] {
+    &COMMANDS
+}
+
+/// The argument of a row.
+fn arg_of<'a>(alloc: Global, row: &Argument) -> Arg<'a> {
+    let Argument(name, kind, help) = *row;
+    let arg = Arg::new(alloc, name)
+        .help(help)
+        .required(kind.is_required())
+        .action(kind.action())
+        .allow_hyphen_values(kind.may_be_hyphenated());
+    match kind {
+        Kind::Word => arg,
+        Kind::WordOf(words) => arg.value_parser(words),
+        Kind::Words => arg.num_args(1..),
+        Kind::Flag => arg.long(name),
+        Kind::OneOf(value, words) => arg.long(name).value_name(value).value_parser(words),
+        Kind::Usual(value, usual) => arg.long(name).value_name(value).default_value(usual),
+        Kind::Needed(value) | Kind::NeededText(value) | Kind::Text(value) | Kind::Repeated(value) =>
+            arg.long(name).value_name(value),
+    }
+}
+
+/// A command with these arguments.
+fn with_arguments<'a>(
+    alloc: Global,
+    command: Command<'a>,
+    rows: &[Argument],
+) -> Result<Command<'a>, AllocError> {
+    let mut command = command;
+    for row in rows {
+        command = command.arg(arg_of(alloc, row))?;
+    }
+    Ok(command)
+}
+
+/// The command of a row.
+fn command_of<'a>(alloc: Global, row: &CommandRow) -> Result<Command<'a>, AllocError> {
+    let CommandRow(name, about, rows, examples) = *row;
+    let command = Command::new(alloc, name).about(about).after_help(examples);
+    with_arguments(alloc, command, rows)
+}
+
+/// The command without those below it.
+fn program<'a>(alloc: Global) -> Command<'a> {
+    Command::new(alloc, "mrep")
+        .version(VERSION)
+        .long_version(LONG_VERSION)
+        .about("A MySQL replication follower")
+        .subcommand_required(true)
+}
+
+/// A command with those of the rows below it.
+fn with_commands<'a>(
+    alloc: Global,
+    command: Command<'a>,
+    rows: &[CommandRow],
+) -> Result<Command<'a>, AllocError> {
+    let mut command = command;
+    for row in rows {
+        command = command.subcommand(command_of(alloc, row)?)?;
+    }
+    Ok(command)
+}
+
+/// All commands and their arguments.
+pub fn grammar<'a>(alloc: Global) -> Result<Command<'a>, AllocError> {
+    with_commands(alloc, program(alloc), commands())
+}

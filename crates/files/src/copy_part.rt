@@ -1,0 +1,92 @@
+//! The files in which `mrep copy` makes a copy, TO.part and TO.part-wal, until it has its name.
+
+use crate::fault::FileFault;
+use crate::names::{EXISTS, Names};
+use crate::part_file::{Claim, Leftover, begin, give_name, remove};
+use crate::sqlite_file::is_database;
+use crate::what_is_named::private;
+use std::fs::File;
+use std::{fs, io};
+
+const IN_USE: &str =
+    "another copy to this name is being made: the file with .part after it is locked";
+
+const NO_COPY: &str = "the file with .part after this name exists and is no copy: remove it";
+
+/// A copy that a killed process has left: it is empty, or begins as an SQLite file.
+struct LeftCopy;
+
+impl Leftover for LeftCopy {
+    fn is_left(rt: &HostRuntime, name: &str) -> io::Result<bool> {
+        Ok(fs::metadata(rt, name)?.len() == 0 || is_database(rt, name)?)
+    }
+}
+
+/// The files of a copy that is being made, which no other process has then.
+#[derive(Drop)]
+pub struct Part {
+    pub names: Names,
+    /// The database file, which is open and locked.
+    pub file: File,
+}
+
+/// Makes TO.part, empty, for a copy of a database to the name TO, and removes a TO.part-wal. A TO.part that is there is made
+/// anew if it is what a killed process has left of a copy. Neither name may lead to the database.
+pub fn make_part(rt: &HostRuntime, from: &Names, to: &str) -> Result<Part, FileFault> {
+    let names = Names::beside(rt.alloc(), format!(in rt.alloc(); "{to}.part")?)?;
+    from.check_part(rt, names.file.as_str())?;
+    from.check_part(rt, names.wal.as_str())?;
+    match begin::<LeftCopy>(rt, names.file.as_str())? {
+        Claim::Made(file) => {
+            let part = Part { names, file };
+            part.remove_wal(rt)?;
+            Ok(part)
+        }
+        Claim::InUse => Err(FileFault::Unusable(IN_USE)),
+        Claim::Foreign => Err(FileFault::Unusable(NO_COPY)),
+    }
+}
+
+impl Part {
+    /// Removes TO.part-wal, whatever has that name.
+    pub fn remove_wal(&self, rt: &HostRuntime) -> io::Result<()> {
+        remove(rt, self.names.wal.as_str())
+    }
+
+    /// Makes TO.part-wal, which nothing has the name of.
+    pub fn make_wal(&self, rt: &HostRuntime) -> io::Result<File> {
+        private().create_new(true).open(rt, self.names.wal.as_str())
+    }
+
+    /// Gives a copy that is whole its name, once it is on the disk, and syncs the folder. It is refused if it is not to
+    /// replace a file, and one has the name now.
+    pub fn put(&self, rt: &HostRuntime, to: &str, replaces: bool) -> Result<(), FileFault> {
+        self.file.sync_all()?;
+        let mut folder = fs::canonicalize(rt, self.names.file.as_str())?;
+        folder.pop();
+        let folder = fs::open(rt, folder.as_str())?;
+        if !self.name(rt, to, replaces)? {
+            return Err(FileFault::Unusable(EXISTS));
+        }
+        folder.sync_all()?;
+        Ok(())
+    }
+
+    /// Gives the copy its name. On a file system without second names it is renamed also where it is not to replace a file.
+    fn name(&self, rt: &HostRuntime, to: &str, replaces: bool) -> io::Result<bool> {
+        let part = self.names.file.as_str();
+        if !replaces && let Ok(is_named) = give_name(rt, part, to) {
+            return Ok(is_named);
+        }
+        fs::rename(rt, part, to)?;
+        Ok(true)
+    }
+
+    /// Removes what is left of the files, once the copy has its name or is given up.
+    pub fn remove(&self, rt: &HostRuntime, is_named: bool) {
+        if !is_named {
+            let _ = fs::remove_file(rt, self.names.file.as_str());
+        }
+        let _ = self.remove_wal(rt);
+    }
+}

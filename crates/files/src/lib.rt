@@ -1,0 +1,36 @@
+//! The files of a follower, by the names that a command is given: of a database in SQLite's format, of its copy, of a change
+//! feed, of streams and of a password.
+//!
+//! [`Opening`] is what stands before a database file is opened: the lock of its name, and the file itself, made with its
+//! first page where there was none. [`Names`] and [`Part`] copy a database that others may be writing, [`FeedFile`] is
+//! a file to whose end the lines of a change feed are written, and [`Input`] is what a stream is read from.
+//!
+//! Nothing is specified about what a file has, so no function has a contract but [`FileFault`]'s conversions; each says why
+//! it refuses a file, and never by stopping the process.
+#![tactic(auto)]
+
+mod copy_part;
+mod copying;
+mod fault;
+mod feed_file;
+mod input;
+mod name_lock;
+mod names;
+mod new_file;
+mod opening;
+mod part_file;
+mod password_file;
+mod sqlite_file;
+mod unsupported;
+mod what_is_named;
+
+pub use copy_part::{Part, make_part};
+pub use fault::FileFault;
+pub use feed_file::FeedFile;
+pub use input::{INPUT, Input};
+pub use name_lock::{LOCKED, NameLock, keep_one_name, lock_alone};
+pub use names::Names;
+pub use opening::{Opening, missing_wal, opening_fault, remove_unused};
+pub use password_file::{others_may_read, read_password};
+pub use sqlite_file::reading_fault;
+pub use what_is_named::{has_bytes, is_file, is_there};

@@ -1,0 +1,83 @@
+//! What a name leads to, and the first bytes of a file.
+
+use std::fs::{File, OpenOptions};
+use std::io::{ErrorKind, Read};
+use std::os::unix::fs::{MetadataExt, OpenOptionsExt};
+use std::{fs, io};
+
+/// The mode of a file that is made for the rows of others: its owner alone may read and write it.
+pub const PRIVATE: u32 = 0o600;
+
+/// How a file for the rows of others is opened to be read and written, and made if it is asked for.
+pub fn private() -> OpenOptions {
+    let mut options = OpenOptions::new();
+    options.read(true).write(true).mode(PRIVATE);
+    options
+}
+
+/// Whether a name leads to a regular file.
+pub fn is_file(rt: &HostRuntime, name: &str) -> bool {
+    match fs::metadata(rt, name) {
+        Ok(metadata) => metadata.is_file(),
+        Err(_) => false,
+    }
+}
+
+/// Whether a name leads to a file that has bytes.
+pub fn has_bytes(rt: &HostRuntime, name: &str) -> bool {
+    match fs::metadata(rt, name) {
+        Ok(metadata) => metadata.len() > 0,
+        Err(_) => false,
+    }
+}
+
+/// Whether a name leads to the file that is open.
+pub fn is_named(rt: &HostRuntime, file: &File, name: &str) -> bool {
+    match is_same(rt, file, name) {
+        Ok(same) => same,
+        Err(_) => false,
+    }
+}
+
+/// Whether a name leads to the file that is open: it is the same inode of the same device.
+fn is_same(rt: &HostRuntime, file: &File, name: &str) -> io::Result<bool> {
+    let (open, named) = (file.metadata()?, fs::metadata(rt, name)?);
+    Ok(open.dev() == named.dev() && open.ino() == named.ino())
+}
+
+/// Whether an open file has no bytes.
+pub fn is_empty(file: &File) -> bool {
+    match file.metadata() {
+        Ok(metadata) => metadata.len() == 0,
+        Err(_) => false,
+    }
+}
+
+/// Whether something has a name, be it a link that leads nowhere.
+pub fn is_there(rt: &HostRuntime, name: &str) -> io::Result<bool> {
+    match fs::symlink_metadata(rt, name) {
+        Ok(_) => Ok(true),
+        Err(cause) if cause.kind() == ErrorKind::NotFound => Ok(false),
+        Err(cause) => Err(cause),
+    }
+}
+
+/// Whether a name leads to something that is no regular file.
+pub fn is_no_file(rt: &HostRuntime, name: &str) -> io::Result<bool> {
+    match fs::metadata(rt, name) {
+        Ok(metadata) => Ok(!metadata.is_file()),
+        Err(cause) if cause.kind() == ErrorKind::NotFound => Ok(false),
+        Err(cause) => Err(cause),
+    }
+}
+
+/// The first bytes of a file, if it has that many.
+pub fn read_head<const N: usize>(rt: &HostRuntime, name: &str) -> io::Result<Option<[u8; N]>> {
+    let mut file = fs::open(rt, name)?;
+    if file.metadata()?.len() < N as u64 {
+        return Ok(None);
+    }
+    let mut head = [0; N];
+    file.read_exact(&mut head)?;
+    Ok(Some(head))
+}

@@ -1,0 +1,198 @@
+//! What is known of the transaction in which a connection ended.
+
+use crate::cells::write_first_cells;
+use crate::name::{Shown, write_escaped, write_table};
+use crate::quoted::Quoted;
+use binlog::{ColumnPlace, EventFault, EventFaultKind};
+use gather::{Change, Delivery, ImageRef};
+use gtid::Gtid;
+use std::alloc::Global;
+use std::io;
+use std::io::Write;
+
+/// How much of a statement or a row is printed, in bytes.
+const SHOWN: usize = 512;
+
+/// The words of SQL before a password or its hash (MySQL Reference Manual, "CREATE USER Statement", "SET PASSWORD
+/// Statement").
+const SECRETS: [&[u8]; 2] = [b"IDENTIFIED", b"PASSWORD"];
+
+/// The transaction at hand, and lines of text that say where in it the connection has ended.
+#[derive(Drop)]
+pub struct Details {
+    /// The transaction that has begun and not ended.
+    pub gtid: Option<Gtid>,
+    lines: Vec<u8>,
+}
+
+impl Details {
+    /// Nothing is known.
+    pub fn new(alloc: Global) -> Details {
+        Details {
+            gtid: None,
+            lines: Vec::new(alloc),
+        }
+    }
+
+    /// Notes the event that ends a connection, and its fault. What does not fit into memory is left out.
+    pub fn refuse_event(&mut self, event: &[u8], fault: EventFault) {
+        let _ = write_fault(fault, event, &mut self.lines);
+    }
+
+    /// Notes the change of a transaction that ends a connection: its row before it is not there, or the count of the row
+    /// after it is full.
+    pub fn refuse_change(&mut self, delivery: &Delivery, at: usize, is_full: bool) {
+        if let Some(change) = delivery.changes.iter().nth(at) {
+            let _ = write_change(&change, is_full, &mut self.lines);
+        }
+    }
+
+    /// Writes the lines, each after the name of the stream, and how the transaction can be left out, if it can be.
+    pub fn write<E: Write>(
+        &self,
+        stream: &str,
+        db: &str,
+        can_skip: bool,
+        err: &mut E,
+    ) -> io::Result<()> {
+        for line in self.lines.split(|byte| *byte == b'\n') {
+            write_noted(stream, line, err)?;
+        }
+        match self.gtid {
+            Some(gtid) => write_transaction(stream, db, gtid, can_skip, err),
+            None => Ok(()),
+        }
+    }
+
+    /// Forgets all.
+    pub fn clear(&mut self) {
+        self.gtid = None;
+        self.lines.clear();
+    }
+}
+
+/// Writes what a message about a stream begins with.
+fn write_begin<E: Write>(stream: &str, err: &mut E) -> io::Result<()> {
+    write!(err, "mrep: {}: ", Shown(stream))
+}
+
+/// Writes a line that was noted, unless there is nothing in it.
+fn write_noted<E: Write>(stream: &str, line: &[u8], err: &mut E) -> io::Result<()> {
+    if line.is_empty() {
+        return Ok(());
+    }
+    write_begin(stream, err)?;
+    err.write_all(line)?;
+    err.write_all(b"\n")
+}
+
+/// Writes the transaction at hand, and how it can be left out, if it can be.
+fn write_transaction<E: Write>(
+    stream: &str,
+    db: &str,
+    gtid: Gtid,
+    can_skip: bool,
+    err: &mut E,
+) -> io::Result<()> {
+    write_begin(stream, err)?;
+    writeln!(err, "in transaction {gtid}")?;
+    if !can_skip {
+        return Ok(());
+    }
+    write_begin(stream, err)?;
+    writeln!(
+        err,
+        "to leave it out, and lose the rows it has: mrep skip --db {} {gtid}",
+        Quoted(db)
+    )
+}
+
+/// Writes the statement of a QUERY event that is not supported, or the table and the column of a table map that is not.
+fn write_fault(fault: EventFault, event: &[u8], out: &mut Vec<u8>) -> io::Result<()> {
+    match fault.kind {
+        EventFaultKind::Statement => write_statement(event.get(fault.at..).unwrap_or(&[]), out),
+        EventFaultKind::ColumnType(_) | EventFaultKind::Metadata => {
+            match ColumnPlace::find(event, fault.at) {
+                Some(place) => write_column(&place, out),
+                None => Ok(()),
+            }
+        }
+        _ => Ok(()),
+    }
+}
+
+/// Writes the table and the column of a fault; one in the metadata, after the types of the columns, has its table alone.
+fn write_column(place: &ColumnPlace<'_>, out: &mut Vec<u8>) -> io::Result<()> {
+    write_place(place.schema, place.table, out)?;
+    match place.column {
+        Some(column) => writeln!(out, ", column {}", column.saturating_add(1)),
+        None => writeln!(out),
+    }
+}
+
+/// Writes the first bytes of a statement, of one with a password up to the word before it.
+fn write_statement(text: &[u8], out: &mut Vec<u8>) -> io::Result<()> {
+    out.write_all(b"the statement is: ")?;
+    let shown = match secret_in(text) {
+        Some(at) => at.min(SHOWN),
+        None => SHOWN,
+    };
+    match text.split_at_checked(shown) {
+        Some((head, [_, ..])) => {
+            write_escaped(head, out)?;
+            out.write_all(b"...\n")
+        }
+        _ => {
+            write_escaped(text, out)?;
+            writeln!(out)
+        }
+    }
+}
+
+/// Where a statement may have a password: after the first word that comes before one.
+fn secret_in(text: &[u8]) -> Option<usize> {
+    let mut found = None;
+    for word in SECRETS {
+        let at = text
+            .windows(word.len())
+            .position(|part| part.eq_ignore_ascii_case(word));
+        if let Some(at) = at {
+            let end = at.saturating_add(word.len());
+            found = Some(found.map_or(end, |other: usize| other.min(end)));
+        }
+    }
+    found
+}
+
+fn write_place(schema: &[u8], table: &[u8], out: &mut Vec<u8>) -> io::Result<()> {
+    out.write_all(b"table ")?;
+    write_table(schema, table, out)
+}
+
+/// Writes the table and the row of a change that is refused.
+fn write_change(change: &Change<'_>, is_full: bool, out: &mut Vec<u8>) -> io::Result<()> {
+    let (table, row) = match change {
+        Change::Insert { table, after } => (table, after),
+        Change::Delete { table, before } => (table, before),
+        Change::Update {
+            table,
+            before,
+            after,
+        } => {
+            if is_full {
+                (table, after)
+            } else {
+                (table, before)
+            }
+        }
+    };
+    write_place(&table.schema, &table.table, out)?;
+    write_line(row, out)
+}
+
+/// Writes the cells of a row, or the first of them.
+fn write_line(row: &ImageRef<'_>, out: &mut Vec<u8>) -> io::Result<()> {
+    out.write_all(b", row ")?;
+    write_first_cells(row, SHOWN, out)?;
+    writeln!(out)
+}
