@@ -1,0 +1,9 @@
+pub mod Numerals
+pub mod Words
+pub mod Types
+pub mod Bytes
+pub mod Padded
+pub mod Fractions
+pub mod MomentRange
+pub mod SpanNumbers
+pub mod CalendarSteps

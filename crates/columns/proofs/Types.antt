@@ -1,0 +1,208 @@
+-- What the texts of types begin with, and the range of their numbers.
+use Rattle.std.proofs.Common.{◌≡◌, ℕ, ◌<◌, ◌≤◌, inl, inr, Bool, true, false, ◌&&◌, nat_le, List, [], ◌∷◌, ◌++◌, Option, Some, None, is_some, unwrap_or, refl, ap, sym, subst, ◌∙◌, arith}
+use Rattle.std.specs.Prelude.{IsTrue, IsSome, IfSome, IsSomeAnd, IsOkAnd, Result, Ok, Err, cond}
+use Rattle.std.proofs.lemmas.Bool.{lt-leb, cases_lt}
+use Rattle.columns.specs.TypeName.{name_text}
+use Rattle.columns.specs.Word.{Are, Ends, is_letter, is_opening}
+use Rattle.columns.specs.DataType.{is_type, takes, signs}
+use Rattle.columns.specs.TypeText.{arguments_text, sign_text, AreSmall}
+use Rattle.columns.specs.declared.type_name.TypeName.{TypeName}
+use Rattle.columns.specs.declared.type_name.TypeName.TheVariants.{Tinyint, Smallint, Mediumint, Int, Bigint, Decimal, Float, Double, Bit, Year, Date, Time, Datetime, Timestamp, Char, Varchar, Binary, Varbinary, Tinytext, Text, Mediumtext, Longtext, Tinyblob, Blob, Mediumblob, Longblob, Json, Geometry, Point, Linestring, Polygon, Multipoint, Multilinestring, Multipolygon, Geomcollection, Geometrycollection, Vector}
+use Rattle.columns.specs.declared.arguments.Arguments.{Arguments}
+use Rattle.columns.specs.declared.arguments.Arguments.TheVariants.{NoNumber, OneNumber, TwoNumbers}
+use Rattle.columns.specs.declared.sign.Sign.{Sign}
+use Rattle.columns.specs.declared.sign.Sign.TheVariants.{Signed, Unsigned, Zerofill}
+use Rattle.columns.proofs.Words.{one_cut}
+
+pub never : false ≡ true → ⊥
+never h = subst (λ (b : Bool). cond b ⊥ (Unit {0})) h tt
+
+-- a test of each byte that computes
+abbrev all_are : (ℕ → Bool) → List ℕ → Bool
+all_are kind [] = true
+all_are kind (b ∷ bytes) = kind b && all_are kind bytes
+
+pub and_parts : (a b : Bool) → (a && b) ≡ true → (a ≡ true) × (b ≡ true)
+and_parts true b h = (refl, h)
+and_parts false b h = absurd (never h)
+
+are_of : (kind : ℕ → Bool) (bytes : List ℕ) → all_are kind bytes ≡ true → Are kind bytes
+are_of kind [] all = tt
+are_of kind (b ∷ bytes) all = let parts = and_parts (kind b) (all_are kind bytes) all in (parts.0, are_of kind bytes parts.1)
+
+-- a name is of letters
+pub letters : (name : TypeName) → Are is_letter (name_text name)
+letters Tinyint = are_of is_letter (name_text Tinyint) refl
+letters Smallint = are_of is_letter (name_text Smallint) refl
+letters Mediumint = are_of is_letter (name_text Mediumint) refl
+letters Int = are_of is_letter (name_text Int) refl
+letters Bigint = are_of is_letter (name_text Bigint) refl
+letters Decimal = are_of is_letter (name_text Decimal) refl
+letters Float = are_of is_letter (name_text Float) refl
+letters Double = are_of is_letter (name_text Double) refl
+letters Bit = are_of is_letter (name_text Bit) refl
+letters Year = are_of is_letter (name_text Year) refl
+letters Date = are_of is_letter (name_text Date) refl
+letters Time = are_of is_letter (name_text Time) refl
+letters Datetime = are_of is_letter (name_text Datetime) refl
+letters Timestamp = are_of is_letter (name_text Timestamp) refl
+letters Char = are_of is_letter (name_text Char) refl
+letters Varchar = are_of is_letter (name_text Varchar) refl
+letters Binary = are_of is_letter (name_text Binary) refl
+letters Varbinary = are_of is_letter (name_text Varbinary) refl
+letters Tinytext = are_of is_letter (name_text Tinytext) refl
+letters Text = are_of is_letter (name_text Text) refl
+letters Mediumtext = are_of is_letter (name_text Mediumtext) refl
+letters Longtext = are_of is_letter (name_text Longtext) refl
+letters Tinyblob = are_of is_letter (name_text Tinyblob) refl
+letters Blob = are_of is_letter (name_text Blob) refl
+letters Mediumblob = are_of is_letter (name_text Mediumblob) refl
+letters Longblob = are_of is_letter (name_text Longblob) refl
+letters Json = are_of is_letter (name_text Json) refl
+letters Geometry = are_of is_letter (name_text Geometry) refl
+letters Point = are_of is_letter (name_text Point) refl
+letters Linestring = are_of is_letter (name_text Linestring) refl
+letters Polygon = are_of is_letter (name_text Polygon) refl
+letters Multipoint = are_of is_letter (name_text Multipoint) refl
+letters Multilinestring = are_of is_letter (name_text Multilinestring) refl
+letters Multipolygon = are_of is_letter (name_text Multipolygon) refl
+letters Geomcollection = are_of is_letter (name_text Geomcollection) refl
+letters Geometrycollection = are_of is_letter (name_text Geometrycollection) refl
+letters Vector = are_of is_letter (name_text Vector) refl
+
+pub no_letter : (numbers : Arguments) (sign : Sign) → Ends is_letter (arguments_text numbers ++ sign_text sign)
+no_letter NoNumber Signed = tt
+no_letter NoNumber Unsigned = refl
+no_letter NoNumber Zerofill = refl
+no_letter (OneNumber n) sign = refl
+no_letter (TwoNumbers n m) sign = refl
+
+pub no_opening : (sign : Sign) → Ends is_opening (sign_text sign)
+no_opening Signed = tt
+no_opening Unsigned = refl
+no_opening Zerofill = refl
+
+pub le_of : (a b : ℕ) → nat_le a b ≡ true → a ≤ b
+le_of a b h = elim (cases_lt b a) [ inl above ↦ absurd (never (sym (lt-leb a b above) ∙ h)) | inr within ↦ within ]
+
+between : (low high n : ℕ) → IsTrue (nat_le low n && nat_le n high) → n ≤ high
+between low high n h = le_of n high (and_parts (nat_le low n) (nat_le n high) h).1
+
+small_one : (name : TypeName) (n : ℕ) → IsTrue (takes name (OneNumber n)) → n < 100000
+small_one Tinyint n h = omega (arith, between 1 255 n h)
+small_one Smallint n h = omega (arith, between 1 255 n h)
+small_one Mediumint n h = omega (arith, between 1 255 n h)
+small_one Int n h = omega (arith, between 1 255 n h)
+small_one Bigint n h = omega (arith, between 1 255 n h)
+small_one Decimal n h = absurd (never h)
+small_one Float n h = absurd (never h)
+small_one Double n h = absurd (never h)
+small_one Bit n h = omega (arith, between 1 64 n h)
+small_one Year n h = omega (arith, between 4 4 n h)
+small_one Date n h = absurd (never h)
+small_one Time n h = omega (arith, between 1 6 n h)
+small_one Datetime n h = omega (arith, between 1 6 n h)
+small_one Timestamp n h = omega (arith, between 1 6 n h)
+small_one Char n h = omega (arith, between 0 255 n h)
+small_one Varchar n h = omega (arith, between 0 65535 n h)
+small_one Binary n h = omega (arith, between 0 255 n h)
+small_one Varbinary n h = omega (arith, between 0 65535 n h)
+small_one Tinytext n h = absurd (never h)
+small_one Text n h = absurd (never h)
+small_one Mediumtext n h = absurd (never h)
+small_one Longtext n h = absurd (never h)
+small_one Tinyblob n h = absurd (never h)
+small_one Blob n h = absurd (never h)
+small_one Mediumblob n h = absurd (never h)
+small_one Longblob n h = absurd (never h)
+small_one Json n h = absurd (never h)
+small_one Geometry n h = absurd (never h)
+small_one Point n h = absurd (never h)
+small_one Linestring n h = absurd (never h)
+small_one Polygon n h = absurd (never h)
+small_one Multipoint n h = absurd (never h)
+small_one Multilinestring n h = absurd (never h)
+small_one Multipolygon n h = absurd (never h)
+small_one Geomcollection n h = absurd (never h)
+small_one Geometrycollection n h = absurd (never h)
+small_one Vector n h = omega (arith, between 1 16383 n h)
+
+digits : (most n m : ℕ) → IsTrue (nat_le 1 n && nat_le n most && nat_le m n && nat_le m 30) → (n ≤ most) × (m ≤ 30)
+digits most n m h =
+    let first = and_parts (nat_le 1 n && nat_le n most && nat_le m n) (nat_le m 30) h in
+    let second = and_parts (nat_le 1 n && nat_le n most) (nat_le m n) first.0 in
+    (le_of n most (and_parts (nat_le 1 n) (nat_le n most) second.0).1, le_of m 30 first.1)
+
+small_two : (name : TypeName) (n m : ℕ) → IsTrue (takes name (TwoNumbers n m)) → (n < 100000) × (m < 100000)
+small_two Tinyint n m h = absurd (never h)
+small_two Smallint n m h = absurd (never h)
+small_two Mediumint n m h = absurd (never h)
+small_two Int n m h = absurd (never h)
+small_two Bigint n m h = absurd (never h)
+small_two Decimal n m h = let found = digits 65 n m h in (omega (arith, found.0), omega (arith, found.1))
+small_two Float n m h = let found = digits 255 n m h in (omega (arith, found.0), omega (arith, found.1))
+small_two Double n m h = let found = digits 255 n m h in (omega (arith, found.0), omega (arith, found.1))
+small_two Bit n m h = absurd (never h)
+small_two Year n m h = absurd (never h)
+small_two Date n m h = absurd (never h)
+small_two Time n m h = absurd (never h)
+small_two Datetime n m h = absurd (never h)
+small_two Timestamp n m h = absurd (never h)
+small_two Char n m h = absurd (never h)
+small_two Varchar n m h = absurd (never h)
+small_two Binary n m h = absurd (never h)
+small_two Varbinary n m h = absurd (never h)
+small_two Tinytext n m h = absurd (never h)
+small_two Text n m h = absurd (never h)
+small_two Mediumtext n m h = absurd (never h)
+small_two Longtext n m h = absurd (never h)
+small_two Tinyblob n m h = absurd (never h)
+small_two Blob n m h = absurd (never h)
+small_two Mediumblob n m h = absurd (never h)
+small_two Longblob n m h = absurd (never h)
+small_two Json n m h = absurd (never h)
+small_two Geometry n m h = absurd (never h)
+small_two Point n m h = absurd (never h)
+small_two Linestring n m h = absurd (never h)
+small_two Polygon n m h = absurd (never h)
+small_two Multipoint n m h = absurd (never h)
+small_two Multilinestring n m h = absurd (never h)
+small_two Multipolygon n m h = absurd (never h)
+small_two Geomcollection n m h = absurd (never h)
+small_two Geometrycollection n m h = absurd (never h)
+small_two Vector n m h = absurd (never h)
+
+pub small : (name : TypeName) (numbers : Arguments) (sign : Sign) → IsTrue (is_type name numbers sign) → AreSmall numbers
+small name NoNumber sign h = tt
+small name (OneNumber n) sign h = small_one name n ((and_parts (takes name (OneNumber n)) (signs name (OneNumber n) sign) h).0)
+small name (TwoNumbers n m) sign h = small_two name n m ((and_parts (takes name (TwoNumbers n m)) (signs name (TwoNumbers n m) sign) h).0)
+
+pub some_is : (a b : TypeName) → Some a ≡ Some b → a ≡ b
+some_is a b same = ap (λ (o : Option TypeName). unwrap_or o a) same
+
+-- a text that is cut behind its letters, and is a type's, is cut behind the type's name
+pub same_head : (word rest text : List ℕ) (name : TypeName) (tail : List ℕ) → text ≡ word ++ rest → Are is_letter word → Ends is_letter rest →
+    Ends is_letter tail → text ≡ name_text name ++ tail → (name_text name ≡ word) × (rest ≡ tail)
+same_head word rest text name tail whole run end stop is =
+    let cut = one_cut is_letter word (name_text name) rest tail run (letters name) end stop (sym whole ∙ is) in
+    (sym cut.0, cut.1)
+
+pub none_some : {A : Type 0} (a : A) → None ≡ Some a → ⊥
+none_some a same = never (ap is_some same)
+
+pub some_and : {A : Type 0} (P Q : A → Type 0) (r : Option A) → IsSome r → IfSome r P → ((a : A) → P a → Q a) → IsSomeAnd r Q
+some_and P Q None some holds leads = absurd (never some)
+some_and P Q (Some a) some holds leads = leads a holds
+
+-- Two facts of the value in an `Ok` are of the same value.
+pub both_hold : {A E : Type 0} (P Q : A → Type 0) (C : Type 0) (r : Result A E) → IsOkAnd r P → IsOkAnd r Q → ((a : A) → P a → Q a → C) → C
+both_hold P Q C (Ok a) p q leads = leads a p q
+both_hold P Q C (Err e) p q leads = absurd p
+
+pub and_then : {A : Type 0} (P Q R : A → Type 0) (r : Option A) → IsSomeAnd r P → IfSome r Q → ((a : A) → P a → Q a → R a) → IsSomeAnd r R
+and_then P Q R None p q leads = absurd p
+and_then P Q R (Some a) p q leads = leads a p q
+
+pub and_two : {A : Type 0} (P Q R S : A → Type 0) (r : Option A) → IsSomeAnd r P → IfSome r Q → IfSome r R → ((a : A) → P a → Q a → R a → S a) → IsSomeAnd r S
+and_two P Q R S None p q t leads = absurd p
+and_two P Q R S (Some a) p q t leads = leads a p q t

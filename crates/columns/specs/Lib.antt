@@ -1,0 +1,16 @@
+pub mod TypeName
+pub mod Word
+pub mod DataType
+pub mod TypeText
+pub mod Cells
+pub mod Integers
+pub mod Text
+pub mod Dates
+pub mod Times
+pub mod Moments
+pub mod TimeRange
+pub mod Spans
+pub mod Bits
+pub mod StampRange
+pub mod Calendar
+pub mod Stamps

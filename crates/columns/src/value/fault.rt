@@ -1,0 +1,33 @@
+//! Why a cell is not one of a type.
+
+ghost use Rattle.std.specs.Prelude.{◌≡◌, ◌==◌, if◌then◌else◌};
+ghost use Rattle.columns.specs.declared.value.fault.CellFault.TheVariants.{Size, Range};
+
+use thiserror::Error;
+
+/// Why a cell is not one of a type.
+#[derive(Clone, Copy, Debug, PartialEq, Eq, Error)]
+pub enum CellFault {
+    /// It is bytes where the type has a number, or a number where it has bytes, or null.
+    #[error("a cell of another kind")]
+    Kind,
+    /// It takes this many bytes, and the type's cells another number.
+    #[error("a cell of {0} bytes")]
+    Size(usize),
+    /// Its kind and size are right, and the type has no value for it.
+    #[error("no value of this type")]
+    Range,
+}
+
+impl CellFault {
+    /// What is wrong with so many bytes that are no value of a type whose cells have `due`.
+    pub(crate) fn of_bytes(found: usize, due: usize) -> CellFault
+        ensures { result ≡ (if found == due then Range else Size found) }
+    {
+        if found == due {
+            CellFault::Range
+        } else {
+            CellFault::Size(found)
+        }
+    }
+}
