@@ -7,7 +7,8 @@
 #             DESTDIR before it; and removes them
 # make test   runs the whole gate, tests/run: every proof, the tests and the program, a program that must not compile, the
 #             libraries out of memory, beside all this the wrong bodies, and then, with the program that was built, what else
-#             tests/ has: the tests of the libraries, which are run and not proved, the commands, messages, rows as
+#             tests/ has: the tests of the libraries, which are run and not proved, rows with names and types beside those of
+#             a server's own client, the commands, messages, rows as
 #             CSV and JSON, the change feed, files read by sqlite3, damaged databases, streams and their faults, captured
 #             streams, a source over loopback, the manual page and the completions, `make install`, streams compared with
 #             an independent reading, changed bytes, running out of memory, kills, copies beside a writer, and the
@@ -24,8 +25,8 @@ PROGRAM = bin/mrep
 
 all: build
 	rm -f bin/sample.db bin/sample.db-wal
-	bin/mrep replay --db bin/sample.db samples/real-commit.bin
-	bin/mrep show --db bin/sample.db
+	bin/mrep replay --db bin/sample.db samples/shop.bin
+	bin/mrep show --db bin/sample.db --columns samples/shop.columns --only shop.items --format tsv
 	bin/mrep gtids --db bin/sample.db
 
 build:

@@ -13,7 +13,7 @@ little_all k xs long fits =
     let all : take k xs ≡ xs = take_all k xs (omega arith) in
     sym all ∙ take_is_number k xs (omega arith) fits
 
-byte_at-pow : (j n : ℕ) → byte_at j n ≡ n / 256 ^ j % 256
+pub byte_at-pow : (j n : ℕ) → byte_at j n ≡ n / 256 ^ j % 256
 byte_at-pow zero n = ap (λ (y : ℕ). y % 256) (sym (div-one n))
 byte_at-pow (suc j) n = refl
 

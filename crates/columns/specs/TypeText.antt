@@ -17,6 +17,12 @@ arguments_text NoNumber = []
 arguments_text (OneNumber n) = byte "(" ∷ (decimal n ++ byte ")" ∷ [])
 arguments_text (TwoNumbers n m) = byte "(" ∷ (decimal n ++ byte "," ∷ (decimal m ++ byte ")" ∷ []))
 
+-- the first number, and 0 where there is none
+abbrev pub first_number : Arguments → ℕ
+first_number NoNumber = 0
+first_number (OneNumber n) = n
+first_number (TwoNumbers n m) = n
+
 abbrev pub sign_text : Sign → List ℕ
 sign_text Signed = []
 sign_text Unsigned = codes " unsigned"

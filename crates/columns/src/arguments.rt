@@ -2,7 +2,7 @@
 
 ghost use Rattle.std.specs.Prelude.{◌≡◌, ◌++◌, List, ℕ, Some, IfSome, IsSomeAnd};
 ghost use Rattle.columns.specs.Word.{Ends, is_opening};
-ghost use Rattle.columns.specs.TypeText.{arguments_text, AreSmall};
+ghost use Rattle.columns.specs.TypeText.{arguments_text, AreSmall, first_number};
 
 use crate::numeral::{read_last_number, read_number};
 use std::fmt;
@@ -16,6 +16,18 @@ pub enum Arguments {
     OneNumber(u32),
     /// Two, as of `decimal(10,2)`.
     TwoNumbers(u32, u32),
+}
+
+impl Arguments {
+    /// The first number, and 0 where there is none.
+    pub fn first(self) -> u32
+        ensures { result ≡ first_number self }
+    {
+        match self {
+            Arguments::NoNumber => 0,
+            Arguments::OneNumber(first) | Arguments::TwoNumbers(first, _) => first,
+        }
+    }
 }
 
 /// Reads the numbers in parentheses that the text begins with, and what follows them.

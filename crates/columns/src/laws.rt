@@ -1,8 +1,10 @@
 //! Laws about the texts of types and the cells of values, for readers of this crate's definitions.
 
 ghost use Rattle.std.specs.Prelude.{◌≡◌, ◌≤◌, IsTrue, IsOkAnd, Ok};
+ghost use Rattle.std.specs.Float.{float_is_finite};
 ghost use Rattle.columns.specs.DataType.{is_type};
 ghost use Rattle.columns.specs.TypeText.{type_text};
+ghost use Rattle.columns.specs.ColumnTypes.{TypeValue, column_type_text, IsType};
 ghost use Rattle.columns.specs.declared.type_name.TypeName.{TypeName};
 ghost use Rattle.columns.specs.declared.arguments.Arguments.{Arguments};
 ghost use Rattle.columns.specs.declared.sign.Sign.{Sign};
@@ -11,11 +13,14 @@ ghost use Rattle.columns.specs.Moments.{moment_bytes, IsSameMoment};
 ghost use Rattle.columns.specs.Spans.{span_bytes, IsSameSpan};
 ghost use Rattle.columns.specs.Stamps.{stamp_bytes, IsSameStamp};
 ghost use Rattle.columns.specs.Times.{fraction_size};
+ghost use Rattle.columns.specs.Decimals.{decimal_bytes};
 
 use crate::data_type::DataType;
 use crate::sign::Sign as TypeSign;
 use crate::value::date::Date;
+use crate::value::decimal::Decimal;
 use crate::value::fault::CellFault;
+use crate::value::float::{double_bytes, float_bytes, read_double, read_float};
 use crate::value::integer::{Integer, IntegerWidth};
 use crate::value::moment::Datetime;
 use crate::value::span::Time;
@@ -29,6 +34,13 @@ pub fn one_type(text: &[u8])
         IsTrue (is_type name numbers sign) → IsTrue (is_type other others that) →
         text.now ≡ type_text name numbers sign → text.now ≡ type_text other others that →
         (name ≡ other) × (numbers ≡ others) × (sign ≡ that) }
+{
+    let _found = DataType::read(text);
+}
+
+/// A text is that of one type of a column at most.
+pub fn one_column_type(text: &[u8])
+    ensures { (value other : TypeValue) → IsType value → IsType other → text.now ≡ column_type_text value → text.now ≡ column_type_text other → value ≡ other }
 {
     let _found = DataType::read(text);
 }
@@ -95,4 +107,36 @@ pub fn one_timestamp(digits: u8, bytes: &[u8])
         bytes.now ≡ stamp_bytes a → bytes.now ≡ stamp_bytes b → IsSameStamp a b }
 {
     let _found = Timestamp::read(digits, Cell::Bytes(bytes));
+}
+
+/// Bytes are a DECIMAL with so many digits, and so many of them behind the point, in one way at most, so what is read of
+/// what was written is the value.
+pub fn one_decimal(precision: u8, scale: u8, bytes: &[u8])
+    requires some { 1 ≤ precision }
+    requires few { precision ≤ 65 }
+    requires within { scale ≤ precision }
+    requires short { scale ≤ 30 }
+    ensures { (a b : Decimal) → a.precision ≡ precision → b.precision ≡ precision → a.scale ≡ scale → b.scale ≡ scale →
+        bytes.now ≡ decimal_bytes a.negative precision scale a.digits → bytes.now ≡ decimal_bytes b.negative precision scale b.digits →
+        (a.negative ≡ b.negative) × (a.digits ≡ b.digits) }
+{
+    let _found = Decimal::read(precision, scale, Cell::Bytes(bytes));
+}
+
+/// What is read of the cell of a FLOAT is that number.
+pub fn float_reads_back(value: f32) -> Result<f32, CellFault>
+    requires { IsTrue (float_is_finite value) }
+    ensures { result ≡ Ok value }
+{
+    let bytes = float_bytes(value);
+    read_float(Cell::Bytes(&bytes))
+}
+
+/// What is read of the cell of a DOUBLE is that number.
+pub fn double_reads_back(value: f64) -> Result<f64, CellFault>
+    requires { IsTrue (float_is_finite value) }
+    ensures { result ≡ Ok value }
+{
+    let bytes = double_bytes(value);
+    read_double(Cell::Bytes(&bytes))
 }

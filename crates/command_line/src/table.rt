@@ -142,6 +142,13 @@ const BYTES: Argument = Argument(
     "Write bytes in JSON lines as text where they are UTF-8, as hexadecimal digits or as base64. Without it: hex",
 );
 
+/// The description of the columns.
+const COLUMNS: Argument = Argument(
+    "columns",
+    Kind::Text("FILE"),
+    "The description of the columns, as the query of `mrep columns` gives it: rows have names and MySQL's types",
+);
+
 /// The tables whose rows are kept.
 const ONLY: Argument = Argument(
     "only",
@@ -150,7 +157,7 @@ const ONLY: Argument = Argument(
 );
 
 /// All commands, in the order of the help.
-static COMMANDS: [CommandRow; 13] = [
+static COMMANDS: [CommandRow; 14] = [
     CommandRow(
         "packets",
         "List the payloads of a stream of packets: offset, sequence id, length",
@@ -244,15 +251,26 @@ static COMMANDS: [CommandRow; 13] = [
             Argument(
                 "format",
                 Kind::OneOf("FORMAT", &FORMATS),
-                "Print lines of text, CSV records or JSON objects. Without it: text",
+                "Print lines of text, CSV records or JSON objects; with --columns also lines as the `mysql` client prints them (tsv) or INSERT statements (sql). Without it: text",
             ),
+            COLUMNS,
             Argument(
                 "bytes",
                 Kind::OneOf("FORM", &ENCODINGS),
-                "Print bytes in CSV and JSON as text where they are UTF-8, as hexadecimal digits or as base64. Without it: hex",
+                "Print bytes in CSV and JSON as text where they are UTF-8, as hexadecimal digits or as base64. Without it: hex. With --columns in JSON alone, and without it: base64",
             ),
         ],
-        "Example:\n  mrep show --db F.db --only shop.items --format json --bytes utf8",
+        "Examples:\n  mrep show --db F.db --only shop.items --format json --bytes utf8\n  mrep show --db F.db --only shop.items --columns shop.columns --format tsv",
+    ),
+    CommandRow(
+        "columns",
+        "Print the query that describes the columns of tables, for the `mysql` client",
+        &[Argument(
+            "only",
+            Kind::Repeated("SCHEMA.TABLE"),
+            "Describe this table; may be repeated. Without it: all tables but the server's own",
+        )],
+        "Example:\n  mysql -h db1 -u me -p -BN -e \"$(mrep columns --only shop.items)\" > shop.columns",
     ),
     CommandRow(
         "tables",

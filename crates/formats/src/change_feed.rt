@@ -4,7 +4,7 @@
 //! that the database has. After the commit a line says so. A feed begins with the executed set of the database, which says
 //! of the last transaction of an earlier run whether it was committed.
 
-use crate::json_lines::{write_image, write_label};
+use crate::json_lines::{write_image, write_json_name};
 use crate::output_format::Encoding;
 use files::{FeedFile, FileFault};
 use gather::{Change, Delivery, ImageRef};
@@ -188,9 +188,9 @@ fn write_head<W: Write>(
     out: &mut W,
 ) -> io::Result<()> {
     write!(out, "{{\"type\":\"{kind}\",\"gtid\":\"{gtid}\",\"schema\":")?;
-    write_label(alloc, schema, out)?;
+    write_json_name(alloc, schema, out)?;
     out.write_all(b",\"table\":")?;
-    write_label(alloc, table, out)
+    write_json_name(alloc, table, out)
 }
 
 /// Writes the row before or after a change, if there is one.

@@ -11,7 +11,7 @@ use std::io::{ErrorKind, Write};
 use std::{io, str};
 
 /// Writes a text as a JSON string.
-fn write_text<W: Write>(alloc: Global, text: &str, out: &mut W) -> io::Result<()> {
+pub fn write_json_text<W: Write>(alloc: Global, text: &str, out: &mut W) -> io::Result<()> {
     match serde_json::to_vec(alloc, &text) {
         Ok(json) => out.write_all(&json),
         Err(_) => Err(ErrorKind::OutOfMemory.into()),
@@ -19,9 +19,9 @@ fn write_text<W: Write>(alloc: Global, text: &str, out: &mut W) -> io::Result<()
 }
 
 /// Writes a name as a JSON string; one that is not UTF-8 as the text format has it.
-pub fn write_label<W: Write>(alloc: Global, name: &[u8], out: &mut W) -> io::Result<()> {
+pub fn write_json_name<W: Write>(alloc: Global, name: &[u8], out: &mut W) -> io::Result<()> {
     if let Ok(text) = str::from_utf8(name) {
-        return write_text(alloc, text, out);
+        return write_json_text(alloc, text, out);
     }
     out.write_all(b"\"")?;
     write_name(name, out)?;
@@ -36,7 +36,7 @@ fn write_digits<W: Write>(bytes: &[u8], out: &mut W) -> io::Result<()> {
 }
 
 /// Writes bytes as a JSON string; those that are to be text and are not UTF-8 as an object with their digits.
-fn write_bytes<W: Write>(
+pub fn write_json_bytes<W: Write>(
     alloc: Global,
     bytes: &[u8],
     encoding: Encoding,
@@ -50,7 +50,7 @@ fn write_bytes<W: Write>(
         }
         Encoding::Utf8 => {
             if let Ok(text) = str::from_utf8(bytes) {
-                return write_text(alloc, text, out);
+                return write_json_text(alloc, text, out);
             }
             out.write_all(b"{\"hex\":")?;
             write_digits(bytes, out)?;
@@ -77,7 +77,7 @@ fn write_cell<W: Write>(
     match cell {
         Cell::Null => out.write_all(b"null"),
         Cell::Number { value, .. } => write!(out, "{value}"),
-        Cell::Bytes(bytes) => write_bytes(alloc, bytes, encoding, out),
+        Cell::Bytes(bytes) => write_json_bytes(alloc, bytes, encoding, out),
     }
 }
 
@@ -148,9 +148,9 @@ pub fn write_object<W: Write>(
     out: &mut W,
 ) -> io::Result<()> {
     out.write_all(b"{\"schema\":")?;
-    write_label(alloc, schema, out)?;
+    write_json_name(alloc, schema, out)?;
     out.write_all(b",\"table\":")?;
-    write_label(alloc, table, out)?;
+    write_json_name(alloc, table, out)?;
     write!(out, ",\"count\":{count},")?;
     write_row(alloc, image, encoding, out)?;
     out.write_all(b"}\n")

@@ -33,7 +33,7 @@ pub use csv_lines::Records;
 pub use details::Details;
 pub use event_line::write_event;
 pub use fault_name::{event_reason, gather_reason, greet_reason, wire_reason};
-pub use json_lines::write_object;
+pub use json_lines::{write_json_bytes, write_json_name, write_json_text, write_object};
 pub use message::write_named;
 pub use name::{Shown, read_table, write_escaped, write_table};
 pub use notes::{Chosen, note_made, note_patterns};

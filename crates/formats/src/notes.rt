@@ -44,6 +44,14 @@ impl Chosen {
         Ok(Chosen { tables, seen })
     }
 
+    /// The one table that is named, if it is one.
+    pub fn single(&self) -> Option<(&[u8], &[u8])> {
+        match self.tables.names() {
+            [name] => Some((&name.0, &name.1)),
+            _ => None,
+        }
+    }
+
     /// Whether a row is of one of these tables, which then had one.
     pub fn takes(&mut self, schema: &[u8], table: &[u8]) -> bool {
         let names = self.tables.names();

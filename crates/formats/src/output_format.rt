@@ -9,6 +9,17 @@ pub enum Format {
     Csv,
     /// A JSON object a row, on a line of its own.
     Json,
+    /// A line a copy of a row, as the `mysql` client prints it. The columns have to be described.
+    Tsv,
+    /// An INSERT statement a copy of a row. The columns have to be described.
+    Sql,
+}
+
+impl Format {
+    /// Whether it is there only for rows whose columns are described.
+    pub fn needs_columns(self) -> bool {
+        matches!(self, Format::Tsv | Format::Sql)
+    }
 }
 
 /// How bytes are printed in CSV and JSON.
@@ -23,7 +34,7 @@ pub enum Encoding {
 }
 
 /// The words of `--format`.
-pub const FORMATS: [&str; 3] = ["text", "csv", "json"];
+pub const FORMATS: [&str; 5] = ["text", "csv", "json", "tsv", "sql"];
 
 /// The words of `--bytes`.
 pub const ENCODINGS: [&str; 3] = ["utf8", "hex", "base64"];
@@ -33,17 +44,19 @@ pub fn format_of(word: Option<&str>) -> Format {
     match word {
         Some("csv") => Format::Csv,
         Some("json") => Format::Json,
+        Some("tsv") => Format::Tsv,
+        Some("sql") => Format::Sql,
         _ => Format::Text,
     }
 }
 
-/// The form of bytes of a word, which the command line has tested. The text format has one form alone: `None` if another is
-/// asked for.
+/// The form of bytes of a word, which the command line has tested. Formats other than CSV and JSON have one form alone:
+/// `None` if another is asked for.
 pub fn encoding_of(word: Option<&str>, format: Format) -> Option<Encoding> {
     let Some(word) = word else {
         return Some(Encoding::Hex);
     };
-    if format == Format::Text {
+    if !matches!(format, Format::Csv | Format::Json) {
         return None;
     }
     Some(match word {

@@ -6,9 +6,11 @@ use Rattle.std.specs.declared.io.ErrorKind.TheVariants as io_kind
 use Rattle.clap.specs.Words.{kind_of}
 use Rattle.clap.specs.declared.error.ErrorKind.TheVariants as clap_kind
 use Rattle.mrep.specs.declared.report.failure.Failure.{Failure}
+use Rattle.columns.specs.declared.fields.LineFault.{LineFault}
+use Rattle.columns.specs.declared.fields.LineFault.TheVariants.{Memory as OutOfMemory}
 use Rattle.store.specs.declared.fault.StoreFault.{StoreFault}
 use Rattle.store.specs.declared.fault.StoreFault.TheVariants as store
-use Rattle.mrep.specs.declared.report.failure.Failure.TheVariants.{Words, Set, Gtid, Table, Number, Bytes, User, File, Host, Database, Damaged, Unusable, Output, Memory}
+use Rattle.mrep.specs.declared.report.failure.Failure.TheVariants.{Words, Set, Gtid, Table, Number, Bytes, Columns, Description, Misfit, User, File, Host, Database, Damaged, Unusable, Output, Memory}
 
 -- 4 if memory ran out, otherwise 3
 abbrev pub IsFileStatus : Error → ℕ → Type 0
@@ -25,8 +27,13 @@ database_status (store.Layout n) = 3
 database_status store.Broken = 3
 database_status store.Follows = 3
 
--- 2 for a mistake in the arguments, such as a text that is not a set, a GTID, a table, a number or a user name; 3 for a
--- file, a host, a database or the output; 4 if memory ran out
+-- 4 if memory ran out, otherwise 2
+abbrev pub description_status : LineFault → ℕ
+description_status OutOfMemory = 4
+description_status _ = 2
+
+-- 1 for a row that does not fit the description; 2 for a mistake in the arguments, such as a text that is not a set, a
+-- GTID, a table, a number or a user name, and for a file that is no description; 3 for a file, a host, a database or the output; 4 if memory ran out
 abbrev pub IsStatus : Failure → ℕ → Type 0
 IsStatus (Words error) status = (kind_of error ≡ clap_kind.OutOfMemory → status ≡ 4) × (kind_of error ≢ clap_kind.OutOfMemory → status ≡ 2)
 IsStatus (Set word cause) status = status ≡ 2
@@ -34,6 +41,9 @@ IsStatus (Gtid word) status = status ≡ 2
 IsStatus (Table word) status = status ≡ 2
 IsStatus (Number word largest) status = status ≡ 2
 IsStatus Bytes status = status ≡ 2
+IsStatus Columns status = status ≡ 2
+IsStatus (Description name fault) status = status ≡ description_status fault.fault
+IsStatus (Misfit name misfit) status = status ≡ 1
 IsStatus (User word cause) status = status ≡ 2
 IsStatus (Database name cause) status = status ≡ database_status cause
 IsStatus (Damaged name damage) status = status ≡ 3

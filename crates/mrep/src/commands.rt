@@ -11,7 +11,7 @@ pub mod payload_listing;
 pub mod replay;
 pub mod socket;
 
-use crate::arguments::word;
+use crate::arguments::{tables, word};
 use crate::commands::copy::copy;
 use crate::commands::follow::follow;
 use crate::commands::jobs::{job_of, run_job};
@@ -26,6 +26,7 @@ use formats::note_patterns;
 use std::alloc::{AllocError, Global};
 use std::convert::AsStr;
 use std::io::Write;
+use typed_rows::write_query;
 
 /// Runs the command that the arguments name; the first argument is the program's own name. Returns the exit status: 0
 /// done, 1 refused by the source or because of what the data says, 2 a mistake in the arguments, 3 a file, a socket,
@@ -143,7 +144,12 @@ fn run_named<'a, W: Write, E: Write>(
             write_completions(word(given, "SHELL"), out)?;
             DONE
         }
-        _ => match job_of(rt.alloc(), name, given)? {
+        "columns" => {
+            let only = tables(rt.alloc(), given.get_strs("only").unwrap_or(&[]))?;
+            write_query(&only, out)?;
+            DONE
+        }
+        _ => match job_of(rt, name, given)? {
             Some(job) => run_job(rt, word(given, "db"), job, out, err)?,
             None => return Ok(None),
         },

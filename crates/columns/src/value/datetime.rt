@@ -1,6 +1,6 @@
 //! DATETIME.
 
-ghost use Rattle.std.specs.Prelude.{◌≡◌, ◌↔◌, ◌≤◌, ◌+◌, ◌*◌, ◌^◌, ◌<◌, ◌++◌, ℕ, Some, IfOk, IfErr, IfSome, IsOkAnd, IsSome, IsSomeAnd, IsTrue, OnOk, OnErr};
+ghost use Rattle.std.specs.Prelude.{◌≡◌, ◌↔◌, ◌≤◌, ◌+◌, ◌*◌, ◌^◌, ◌<◌, ◌++◌, ℕ, Some, IfOk, IfErr, IfSome, IsOkAnd, IsSome, IsSomeAnd, IsTrue, OnOk, OnErr, length, vec_len, vec_capacity};
 ghost use Rattle.binlog.specs.Cell.{cell_value, bytes_cell};
 ghost use Rattle.columns.specs.Cells.{bytes_fault};
 ghost use Rattle.columns.specs.Dates.{is_date};
@@ -59,6 +59,7 @@ impl Datetime {
     pub fn write(self, out: &mut Vec<u8>) -> Result<(), AllocError>
         ensures ok { OnOk result (out.new.items ≡ out.old.items ++ moment_bytes self) }
         ensures err { OnErr result (out.new.items ≡ out.old.items) }
+        ensures full { OnErr result (vec_capacity out.old < vec_len out.old + length (moment_bytes self)) }
     {
         let date = (u64::from(self.date.year) * 13 + u64::from(self.date.month)) * 32
             + u64::from(self.date.day);

@@ -1,6 +1,6 @@
 //! TIME.
 
-ghost use Rattle.std.specs.Prelude.{◌≡◌, ◌≢◌, ◌↔◌, ◌≤◌, ◌+◌, ◌*◌, ◌^◌, ◌<◌, ◌++◌, ℕ, [], ◌∷◌, if◌then◌else◌, true, Some, IfOk, IfErr, IfSome, IsOkAnd, IsSome, IsSomeAnd, IsTrue, OnOk, OnErr};
+ghost use Rattle.std.specs.Prelude.{◌≡◌, ◌≢◌, ◌↔◌, ◌≤◌, ◌+◌, ◌*◌, ◌^◌, ◌<◌, ◌++◌, ℕ, [], ◌∷◌, if◌then◌else◌, true, Some, IfOk, IfErr, IfSome, IsOkAnd, IsSome, IsSomeAnd, IsTrue, OnOk, OnErr, length, vec_len, vec_capacity};
 ghost use Rattle.std.specs.Str.{byte};
 ghost use Rattle.binlog.specs.Cell.{cell_value, bytes_cell};
 ghost use Rattle.columns.specs.Cells.{bytes_fault};
@@ -70,6 +70,7 @@ impl Time {
     pub fn write(self, out: &mut Vec<u8>) -> Result<(), AllocError>
         ensures ok { OnOk result (out.new.items ≡ out.old.items ++ span_bytes (fraction_size self.fraction.digits) self) }
         ensures err { OnErr result (out.new.items ≡ out.old.items) }
+        ensures full { OnErr result (vec_capacity out.old < vec_len out.old + length (span_bytes (fraction_size self.fraction.digits) self)) }
     {
         let size = self.fraction.byte_count();
         let [_, _, a, b, c, d, e, f] = number_of(self, size).to_be_bytes();

@@ -1,6 +1,6 @@
 //! TIMESTAMP.
 
-ghost use Rattle.std.specs.Prelude.{◌≡◌, ◌↔◌, ◌≤◌, ◌+◌, ◌/◌, ◌<◌, ◌++◌, ℕ, Some, IfOk, IfErr, IfSome, IsOkAnd, IsSome, IsSomeAnd, IsTrue, OnOk, OnErr};
+ghost use Rattle.std.specs.Prelude.{◌≡◌, ◌↔◌, ◌≤◌, ◌+◌, ◌/◌, ◌<◌, ◌++◌, ℕ, Some, IfOk, IfErr, IfSome, IsOkAnd, IsSome, IsSomeAnd, IsTrue, OnOk, OnErr, length, vec_len, vec_capacity};
 ghost use Rattle.binlog.specs.Cell.{cell_value, bytes_cell};
 ghost use Rattle.columns.specs.Cells.{bytes_fault};
 ghost use Rattle.columns.specs.Times.{fraction_size};
@@ -55,6 +55,7 @@ impl Timestamp {
     pub fn write(self, out: &mut Vec<u8>) -> Result<(), AllocError>
         ensures ok { OnOk result (out.new.items ≡ out.old.items ++ stamp_bytes self) }
         ensures err { OnErr result (out.new.items ≡ out.old.items) }
+        ensures full { OnErr result (vec_capacity out.old < vec_len out.old + length (stamp_bytes self)) }
     {
         let [a, b, c, d] = self.seconds.to_be_bytes();
         let [_, x, y, z] = self.fraction.stored().to_be_bytes();

@@ -8,20 +8,22 @@ use crate::database::open::work_on;
 use crate::database::printer::Selection;
 use crate::report::failure::{DONE, Failure};
 use clap::ArgMatches;
+use columns::Description;
 use files::has_bytes;
-use formats::{Chosen, encoding_of, format_of, note_made};
+use formats::{Chosen, Encoding, Format, encoding_of, format_of, note_made};
 use gtid::Gtid;
-use std::alloc::Global;
+use std::fs;
 use std::io::Write;
 
 /// The job of the command of this name, if it is one over a store.
 pub fn job_of<'a>(
-    alloc: Global,
+    rt: &HostRuntime,
     name: &str,
     given: &ArgMatches<'a>,
 ) -> Result<Option<Job>, Failure<'a>> {
+    let alloc = rt.alloc();
     let job = match name {
-        "show" => Job::Show(selection(alloc, given)?),
+        "show" => Job::Show(selection(rt, given)?),
         "tables" => Job::Tables,
         "gtids" => Job::Executed,
         "missing" => Job::Missing(gtid_set(alloc, "SET", word(given, "SET"))?),
@@ -36,17 +38,53 @@ pub fn job_of<'a>(
 }
 
 /// Which rows `mrep show` prints, and how.
-fn selection<'a>(alloc: Global, given: &ArgMatches<'a>) -> Result<Selection, Failure<'a>> {
+fn selection<'a>(rt: &HostRuntime, given: &ArgMatches<'a>) -> Result<Selection, Failure<'a>> {
     let format = format_of(given.get_str("format"));
-    let Some(encoding) = encoding_of(given.get_str("bytes"), format) else {
-        return Err(Failure::Bytes);
+    let described = given.get_str("columns");
+    if described.is_none() && format.needs_columns() {
+        return Err(Failure::Columns);
+    }
+    let encoding = encoding(given.get_str("bytes"), format, described.is_some())?;
+    let only = tables(rt.alloc(), given.get_strs("only").unwrap_or(&[]))?;
+    let columns = match described {
+        Some(name) => Some(description(rt, name)?),
+        None => None,
     };
-    let only = tables(alloc, given.get_strs("only").unwrap_or(&[]))?;
     Ok(Selection {
-        chosen: Chosen::new(alloc, only)?,
+        chosen: Chosen::new(rt.alloc(), only)?,
         format,
         encoding,
+        columns,
     })
+}
+
+/// The form of bytes of a word: where columns are described, JSON alone has several, and base64 without a word.
+fn encoding<'a>(
+    word: Option<&str>,
+    format: Format,
+    is_described: bool,
+) -> Result<Encoding, Failure<'a>> {
+    let found = match (is_described, format, word) {
+        (true, Format::Json, None) => Some(Encoding::Base64),
+        (true, Format::Csv, Some(_)) => None,
+        _ => encoding_of(word, format),
+    };
+    match found {
+        Some(encoding) => Ok(encoding),
+        None => Err(Failure::Bytes),
+    }
+}
+
+/// The description of columns in a file.
+fn description<'a>(rt: &HostRuntime, name: &'a str) -> Result<Description, Failure<'a>> {
+    let text = match fs::read(rt, name) {
+        Ok(text) => text,
+        Err(cause) => return Err(Failure::File { name, cause }),
+    };
+    match Description::read(rt.alloc(), &text) {
+        Ok(description) => Ok(description),
+        Err(fault) => Err(Failure::Description { name, fault }),
+    }
 }
 
 /// Does a job with the store in a database file, and prints what comes of it. Reports if a job that only reads has made the

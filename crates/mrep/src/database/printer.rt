@@ -1,12 +1,14 @@
 //! The rows of a database, in one of the formats, and how many there are of each table.
 
 use crate::report::failure::Failure;
+use columns::Description;
 use formats::{Chosen, Encoding, Format, Records, Tallies, write_filter, write_object, write_row};
 use sqlite::Alter;
 use std::alloc::Global;
 use std::io;
 use std::io::Write;
 use store::{ListError, Listed, Store, Visitor};
+use typed_rows::{Layout, RowError, TypedRows};
 
 /// Which rows are printed, and how.
 #[derive(Drop)]
@@ -15,9 +17,11 @@ pub struct Selection {
     pub chosen: Chosen,
     pub format: Format,
     pub encoding: Encoding,
+    /// The description of the columns, with which rows have names and types.
+    pub columns: Option<Description>,
 }
 
-/// Prints rows, each once, with the number of its copies. Returns of which of the tables there was a row.
+/// Prints rows, with the number of copies or as often as there are. Returns of which of the tables there was a row.
 pub fn print_rows<'a, S: Alter, W: Write>(
     alloc: Global,
     name: &'a str,
@@ -25,9 +29,67 @@ pub fn print_rows<'a, S: Alter, W: Write>(
     selection: Selection,
     out: &mut W,
 ) -> Result<Chosen, Failure<'a>> {
-    match selection.format {
-        Format::Csv => print_records(alloc, name, store, selection, out),
-        Format::Text | Format::Json => print_lines(alloc, name, store, selection, out),
+    let mut selection = selection;
+    if let Some(columns) = selection.columns.take() {
+        return print_typed(alloc, name, store, &columns, selection, out);
+    }
+    if selection.format == Format::Csv {
+        return print_records(alloc, name, store, selection, out);
+    }
+    print_lines(alloc, name, store, selection, out)
+}
+
+/// Prints rows whose columns are described.
+fn print_typed<'a, S: Alter, W: Write>(
+    alloc: Global,
+    name: &'a str,
+    store: &mut Store<S>,
+    columns: &Description,
+    selection: Selection,
+    out: &mut W,
+) -> Result<Chosen, Failure<'a>> {
+    let single = selection.chosen.single();
+    let layout = Layout {
+        format: selection.format,
+        encoding: selection.encoding,
+        is_one: single.is_some(),
+    };
+    let mut rows = TypedRows::new(alloc, columns, layout, out);
+    rows.begin(single)?;
+    let mut all = Typed {
+        chosen: selection.chosen,
+        rows,
+    };
+    match store.list(&mut all) {
+        Ok(()) => {}
+        Err(ListError::Store(cause)) => return Err(Failure::Database { name, cause }),
+        Err(ListError::Visitor(RowError::Output(cause))) => return Err(Failure::Output(cause)),
+        Err(ListError::Visitor(RowError::Misfit(misfit))) => {
+            return Err(Failure::Misfit { name, misfit });
+        }
+    }
+    let Typed { chosen, .. } = all;
+    Ok(chosen)
+}
+
+/// Writes the lines of rows whose columns are described.
+#[derive(Drop)]
+struct Typed<'d, 'o, W> {
+    chosen: Chosen,
+    rows: TypedRows<'d, 'o, W>,
+}
+
+impl<W: Write> Visitor for Typed<'_, '_, W> {
+    type Error = RowError;
+
+    ghost row_gives = { λ _ _ _ _. Unit {0} };
+
+    fn row(&mut self, row: &Listed<'_>) -> Result<(), RowError> {
+        if !self.chosen.takes(row.schema, row.table) {
+            return Ok(());
+        }
+        self.rows
+            .write(row.schema, row.table, row.count, &row.image)
     }
 }
 

@@ -1,18 +1,20 @@
 //! Why a command failed, apart from what its data says.
 
 ghost use Rattle.std.specs.Prelude.{◌≡◌, ◌≤◌};
-ghost use Rattle.mrep.specs.Failure.{IsFileStatus, IsStatus, database_status};
+ghost use Rattle.mrep.specs.Failure.{IsFileStatus, IsStatus, database_status, description_status};
 ghost use Rattle.mrep.specs.declared.report.failure.Failure.TheVariants as variants;
 
 use clap::error::ErrorKind;
+use columns::{DescriptionFault, LineFault};
 use files::FileFault;
-use formats::{Shown, write_named};
+use formats::{Shown, write_named, write_table};
 use gtid::GtidFault;
 use replica::ConfigFault;
 use std::alloc::{AllocError, AllocFailed};
 use std::io;
 use std::io::Write;
 use store::{Damage, StoreFault};
+use typed_rows::Misfit;
 
 /// Done.
 pub const DONE: u8 = 0;
@@ -31,7 +33,10 @@ const NO_GTID: &str =
 const NO_TABLE: &str =
     "not a table: expected SCHEMA.TABLE, with `%` only before two hexadecimal digits";
 
-const NO_BYTES: &[u8] = b"mrep: --bytes needs --format csv or json, or --changes\n";
+const NO_BYTES: &[u8] =
+    b"mrep: --bytes needs --format json, or csv without --columns, or --changes\n";
+
+const NO_COLUMNS: &[u8] = b"mrep: --format tsv and sql need --columns\n";
 
 /// Why a command failed.
 #[derive(Drop)]
@@ -39,27 +44,67 @@ pub enum Failure<'a> {
     /// The arguments are not those of a command.
     Words(clap::Error),
     /// The argument with this name is not the text of a GTID set.
-    Set { word: &'a str, cause: GtidFault },
+    Set {
+        word: &'a str,
+        cause: GtidFault,
+    },
     /// The argument with this name is not a GTID.
-    Gtid { word: &'a str },
+    Gtid {
+        word: &'a str,
+    },
     /// This argument is not the name of a table.
-    Table { word: &'a str },
+    Table {
+        word: &'a str,
+    },
     /// This argument is not a number from 1 to the largest.
-    Number { word: &'a str, largest: u32 },
-    /// A form of bytes is asked for, and the text format has one form alone.
+    Number {
+        word: &'a str,
+        largest: u32,
+    },
+    /// A form of bytes is asked for, and the format has one form alone.
     Bytes,
+    /// A format is asked for whose rows need names and types, and no description is given.
+    Columns,
+    /// The file of this name is no description of columns.
+    Description {
+        name: &'a str,
+        fault: DescriptionFault,
+    },
     /// This argument is not a user name.
-    User { word: &'a str, cause: ConfigFault },
+    User {
+        word: &'a str,
+        cause: ConfigFault,
+    },
     /// The file of this name could not be opened or read.
-    File { name: &'a str, cause: io::Error },
+    File {
+        name: &'a str,
+        cause: io::Error,
+    },
     /// The host of this name was not found or could not be reached.
-    Host { name: &'a str, cause: io::Error },
+    Host {
+        name: &'a str,
+        cause: io::Error,
+    },
     /// The database file of this name could not be opened, or the database failed.
-    Database { name: &'a str, cause: StoreFault },
+    Database {
+        name: &'a str,
+        cause: StoreFault,
+    },
     /// The tables of the database file of this name are damaged.
-    Damaged { name: &'a str, damage: Damage },
+    Damaged {
+        name: &'a str,
+        damage: Damage,
+    },
     /// The database file of this name cannot be used, for this reason.
-    Unusable { name: &'a str, why: &'static str },
+    Unusable {
+        name: &'a str,
+        why: &'static str,
+    },
+    /// A row of the database of this name does not fit the description of its columns.
+    Misfit {
+        name: &'a str,
+        misfit: Misfit,
+    },
     /// The output could not be written.
     Output(io::Error),
     /// An allocation was refused.
@@ -94,6 +139,17 @@ fn database_status(cause: StoreFault) -> u8
     }
 }
 
+/// The status of a file that is no description of columns.
+fn description_status(fault: DescriptionFault) -> u8
+    ensures status { result ≡ description_status fault.fault }
+    ensures range { result ≤ MEMORY }
+{
+    match fault.fault {
+        LineFault::Memory => MEMORY,
+        _ => USAGE,
+    }
+}
+
 impl Failure<'_> {
     /// The exit status.
     pub fn status(&self) -> u8
@@ -108,7 +164,10 @@ impl Failure<'_> {
             | Failure::Table { .. }
             | Failure::Number { .. }
             | Failure::Bytes
+            | Failure::Columns
             | Failure::User { .. } => USAGE,
+            Failure::Description { fault, .. } => description_status(*fault),
+            Failure::Misfit { .. } => REFUSED,
             Failure::Database { cause, .. } => database_status(*cause),
             Failure::File { cause, .. } | Failure::Host { cause, .. } | Failure::Output(cause) =>
                 status_of(cause),
@@ -132,6 +191,17 @@ impl Failure<'_> {
                 )
             }
             Failure::Bytes => err.write_all(NO_BYTES),
+            Failure::Columns => err.write_all(NO_COLUMNS),
+            Failure::Description { name, fault } => {
+                writeln!(
+                    err,
+                    "mrep: {}: line {}: {}",
+                    Shown(name),
+                    fault.line,
+                    fault.fault
+                )
+            }
+            Failure::Misfit { name, misfit } => write_misfit(name, misfit, err),
             Failure::User { word, cause } => write_named(word, cause, err),
             Failure::File { name, cause } | Failure::Host { name, cause } => {
                 write_named(name, cause, err)
@@ -147,6 +217,20 @@ impl Failure<'_> {
             Failure::Memory => err.write_all(b"mrep: out of memory\n"),
         }
     }
+}
+
+/// Writes the message of a row that does not fit the description.
+fn write_misfit<E: Write>(name: &str, misfit: &Misfit, err: &mut E) -> io::Result<()> {
+    write!(err, "mrep: {}: ", Shown(name))?;
+    write_table(&misfit.schema, &misfit.table, err)?;
+    if let Some((column, kind)) = &misfit.column {
+        write!(err, ", column {} {}", Shown(column), Shown(kind))?;
+    }
+    writeln!(
+        err,
+        ": {}: fetch the description of the columns again",
+        misfit.fault
+    )
 }
 
 /// The failure of the file of this name.

@@ -1,0 +1,18 @@
+use Rattle.std.proofs.Common.{◌≡◌, ◌<◌, ◌≤◌, ◌++◌, length, vec_len}
+use Rattle.std.specs.List.{AllByRecursion}
+use Rattle.columns.specs.Word.{Ends}
+use Rattle.columns.specs.Escapes.{AreBytes}
+use Rattle.columns.specs.Members.{is_quote, members_front, member_bytes}
+use Rattle.columns.proofs.members.read_members.Given as goal
+
+abbrev pub invariant-loop-more : goal.invariant-loop-more
+invariant-loop-more l = record {
+  some : 0 < vec_len l.members;
+  few : vec_len l.members ≤ l.most;
+  text : l.text ≡ members_front (member_bytes l.members.items) ++ l.left;
+  bytes : AllByRecursion AreBytes (member_bytes l.members.items);
+  end : Ends is_quote l.left;
+}
+
+abbrev pub decreases-loop-more : goal.decreases-loop-more
+decreases-loop-more l = length l.left

@@ -1,0 +1,17 @@
+use Rattle.std.proofs.Common.{◌≡◌, sym, ◌∙◌, ap, refl, arith, take, get_or, [], ◌∷◌}
+use Rattle.columns.specs.CharacterSets.{latin1_character}
+use Rattle.std.specs.Char.{encode_utf8}
+use Rattle.std.proofs.lemmas.List.{take_more, append-nil}
+use Rattle.columns.proofs.Characters.{ascii_latin1, written-append}
+use Rattle.columns.proofs.text.read_latin1.Goals as goal
+
+pub returns-in-Some : goal.returns-in-Some
+returns-in-Some c =
+    let found = c.in-Some.ensures.found in
+    found.0 ∙ ascii_latin1 c.args.bytes.now (sym c.is_ascii.ensures ∙ found.2)
+
+pub loop-byte-preserved : goal.loop-byte-preserved
+loop-byte-preserved c =
+    let more = take_more c.args.bytes.now c.loop-byte.byte-index 0 (omega (arith, c.loop-byte-test.true)) in
+    let grown = written-append (λ byte. encode_utf8 (latin1_character byte)) (take c.loop-byte.byte-index c.args.bytes.now) (get_or c.args.bytes.now c.loop-byte.byte-index 0 ∷ []) in
+    grind (arith, c.loop-byte.invariant, c.in_ok-push.ensures.bytes, c.character_of.ensures, more, grown, append-nil)

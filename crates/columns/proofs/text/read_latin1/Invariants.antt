@@ -1,0 +1,7 @@
+use Rattle.std.proofs.Common.{◌≡◌, take, string_bytes}
+use Rattle.columns.specs.CharacterSets.{latin1_character, written}
+use Rattle.std.specs.Char.{encode_utf8}
+use Rattle.columns.proofs.text.read_latin1.Given as goal
+
+abbrev pub invariant-loop-byte : goal.invariant-loop-byte
+invariant-loop-byte l = string_bytes l.text ≡ written (λ byte. encode_utf8 (latin1_character byte)) (take l.byte-index l.bytes)

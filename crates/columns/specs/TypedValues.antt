@@ -1,0 +1,119 @@
+-- Which value the cell of a column stands for, by the column's type. MySQL Reference Manual, "Data Types" and "Data Type
+-- Storage Requirements".
+use Rattle.std.specs.Prelude.{◌≡◌, ℕ, ◌*◌, ◌-◌, ◌^◌, ◌<◌, ◌≤◌, List, length, Some, IsTrue, from_bits}
+use Rattle.binlog.specs.Cell.{CellValue}
+use Rattle.binlog.specs.Cell.CellValue.{null_cell, number_cell, bytes_cell}
+use Rattle.columns.specs.Integers.{IsIntegerCell}
+use Rattle.std.specs.Float.{binary32, binary64}
+use Rattle.byteorder.specs.Endian.{little_bytes}
+use Rattle.columns.specs.RealCells.{is_float, is_double, IsFloatCell, IsDoubleCell}
+use Rattle.columns.specs.Decimals.{decimal_bytes}
+use Rattle.columns.specs.TypeText.{first_number}
+use Rattle.columns.specs.Bits.{bit_bytes}
+use Rattle.columns.specs.Dates.{year_bytes, date_bytes}
+use Rattle.columns.specs.Moments.{moment_bytes}
+use Rattle.columns.specs.Spans.{span_bytes}
+use Rattle.columns.specs.Stamps.{stamp_bytes}
+use Rattle.columns.specs.Times.{fraction_size}
+use Rattle.columns.specs.declared.arguments.Arguments.{Arguments}
+use Rattle.columns.specs.declared.arguments.Arguments.TheVariants.{NoNumber, OneNumber, TwoNumbers}
+use Rattle.columns.specs.declared.sign.Sign.{Sign}
+use Rattle.columns.specs.declared.type_name.TypeName.{TypeName}
+use Rattle.columns.specs.declared.type_name.TypeName.TheVariants as name
+use Rattle.columns.specs.declared.value.integer.IntegerWidth.{IntegerWidth}
+use Rattle.columns.specs.declared.value.integer.IntegerWidth.TheVariants.{One, Two, Three, Four, Eight}
+use Rattle.columns.specs.declared.typed_value.TypedValue.{TypedValue}
+use Rattle.columns.specs.declared.typed_value.TypedValue.TheVariants.{Integer, Decimal, Float, Double, Bits, Year, Date, Time, Datetime, Timestamp, Text, Bytes}
+
+-- the second number of a type, and 0 where it has none
+abbrev pub second_number : Arguments → ℕ
+second_number (TwoNumbers n m) = m
+second_number _ = 0
+
+abbrev pub IsIntegerOf : IntegerWidth → Sign → TypedValue → CellValue → Type 0
+IsIntegerOf width sign (Integer integer) cell = IsIntegerCell width sign integer cell
+IsIntegerOf width sign _ cell = ⊥
+
+abbrev pub IsDecimalOf : ℕ → ℕ → TypedValue → CellValue → Type 0
+IsDecimalOf precision scale (Decimal value) cell =
+    (value.precision ≡ precision) × (value.scale ≡ scale) × (cell ≡ bytes_cell (decimal_bytes value.negative precision scale value.digits))
+IsDecimalOf precision scale _ cell = ⊥
+
+-- the number whose bits the cell has
+abbrev pub IsFloatOf : TypedValue → CellValue → Type 0
+IsFloatOf (Float real) cell =
+    IsFloatCell cell × ((bits : ℕ) → bits < 2 ^ 32 → IsTrue (is_float bits) → cell ≡ bytes_cell (little_bytes 4 bits) → real.value ≡ from_bits binary32 bits)
+IsFloatOf _ cell = ⊥
+
+abbrev pub IsDoubleOf : TypedValue → CellValue → Type 0
+IsDoubleOf (Double real) cell =
+    IsDoubleCell cell × ((bits : ℕ) → bits < 2 ^ 64 → IsTrue (is_double bits) → cell ≡ bytes_cell (little_bytes 8 bits) → real.value ≡ from_bits binary64 bits)
+IsDoubleOf _ cell = ⊥
+
+abbrev pub IsBitsOf : ℕ → TypedValue → CellValue → Type 0
+IsBitsOf bits (Bits number) cell = (number < 2 ^ bits) × (cell ≡ bytes_cell (bit_bytes bits number))
+IsBitsOf bits _ cell = ⊥
+
+abbrev pub IsYearOf : TypedValue → CellValue → Type 0
+IsYearOf (Year at) cell = cell ≡ bytes_cell (year_bytes at.year)
+IsYearOf _ cell = ⊥
+
+abbrev pub IsDateOf : TypedValue → CellValue → Type 0
+IsDateOf (Date at) cell = cell ≡ bytes_cell (date_bytes at.year at.month at.day)
+IsDateOf _ cell = ⊥
+
+abbrev pub IsTimeOf : ℕ → TypedValue → CellValue → Type 0
+IsTimeOf digits (Time at) cell = (at.fraction.digits ≡ digits) × (cell ≡ bytes_cell (span_bytes (fraction_size digits) at))
+IsTimeOf digits _ cell = ⊥
+
+abbrev pub IsDatetimeOf : ℕ → TypedValue → CellValue → Type 0
+IsDatetimeOf digits (Datetime at) cell = (at.fraction.digits ≡ digits) × (cell ≡ bytes_cell (moment_bytes at))
+IsDatetimeOf digits _ cell = ⊥
+
+abbrev pub IsTimestampOf : ℕ → TypedValue → CellValue → Type 0
+IsTimestampOf digits (Timestamp at) cell = (at.fraction.digits ≡ digits) × (cell ≡ bytes_cell (stamp_bytes at))
+IsTimestampOf digits _ cell = ⊥
+
+-- at most so many bytes
+abbrev pub IsTextWithin : ℕ → TypedValue → CellValue → Type 0
+IsTextWithin most (Text bytes) cell = (length bytes.now ≤ most) × (cell ≡ bytes_cell bytes.now)
+IsTextWithin most _ cell = ⊥
+
+abbrev pub AreBytesWithin : ℕ → TypedValue → CellValue → Type 0
+AreBytesWithin most (Bytes bytes) cell = (length bytes.now ≤ most) × (cell ≡ bytes_cell bytes.now)
+AreBytesWithin most _ cell = ⊥
+
+-- how many zeros stand after so many bytes: a BINARY has all bytes of its type
+abbrev pub zeros_after : TypeName → Arguments → ℕ → ℕ
+zeros_after name.Binary numbers length = first_number numbers - length
+zeros_after _ numbers length = 0
+
+-- The cell is that of the value in a column of this type. A character takes at most four bytes in each character set.
+abbrev pub IsValueOf : TypeName → Arguments → Sign → TypedValue → CellValue → Type 0
+IsValueOf name.Tinyint numbers sign value cell = IsIntegerOf One sign value cell
+IsValueOf name.Smallint numbers sign value cell = IsIntegerOf Two sign value cell
+IsValueOf name.Mediumint numbers sign value cell = IsIntegerOf Three sign value cell
+IsValueOf name.Int numbers sign value cell = IsIntegerOf Four sign value cell
+IsValueOf name.Bigint numbers sign value cell = IsIntegerOf Eight sign value cell
+IsValueOf name.Decimal numbers sign value cell = IsDecimalOf (first_number numbers) (second_number numbers) value cell
+IsValueOf name.Float numbers sign value cell = IsFloatOf value cell
+IsValueOf name.Double numbers sign value cell = IsDoubleOf value cell
+IsValueOf name.Bit numbers sign value cell = IsBitsOf (first_number numbers) value cell
+IsValueOf name.Year numbers sign value cell = IsYearOf value cell
+IsValueOf name.Date numbers sign value cell = IsDateOf value cell
+IsValueOf name.Time numbers sign value cell = IsTimeOf (first_number numbers) value cell
+IsValueOf name.Datetime numbers sign value cell = IsDatetimeOf (first_number numbers) value cell
+IsValueOf name.Timestamp numbers sign value cell = IsTimestampOf (first_number numbers) value cell
+IsValueOf name.Char numbers sign value cell = IsTextWithin (4 * first_number numbers) value cell
+IsValueOf name.Varchar numbers sign value cell = IsTextWithin (4 * first_number numbers) value cell
+IsValueOf name.Tinytext numbers sign value cell = IsTextWithin (2 ^ 8 - 1) value cell
+IsValueOf name.Text numbers sign value cell = IsTextWithin (2 ^ 16 - 1) value cell
+IsValueOf name.Mediumtext numbers sign value cell = IsTextWithin (2 ^ 24 - 1) value cell
+IsValueOf name.Longtext numbers sign value cell = IsTextWithin (2 ^ 32 - 1) value cell
+IsValueOf name.Binary numbers sign value cell = AreBytesWithin (first_number numbers) value cell
+IsValueOf name.Varbinary numbers sign value cell = AreBytesWithin (first_number numbers) value cell
+IsValueOf name.Tinyblob numbers sign value cell = AreBytesWithin (2 ^ 8 - 1) value cell
+IsValueOf name.Blob numbers sign value cell = AreBytesWithin (2 ^ 16 - 1) value cell
+IsValueOf name.Mediumblob numbers sign value cell = AreBytesWithin (2 ^ 24 - 1) value cell
+IsValueOf name.Longblob numbers sign value cell = AreBytesWithin (2 ^ 32 - 1) value cell
+IsValueOf _ numbers sign value cell = ⊥

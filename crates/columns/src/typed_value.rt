@@ -1,0 +1,204 @@
+//! The value of a cell, of any type.
+
+ghost use Rattle.std.specs.Prelude.{◌≡◌, ◌≤◌, ◌||◌, ℕ, List, length, IfOk, IsOk, IsTrue};
+ghost use Rattle.binlog.specs.Cell.{cell_value, bytes_cell};
+ghost use Rattle.columns.specs.DataType.{is_none, is_one_between, is_digits};
+ghost use Rattle.columns.specs.TypeText.{first_number};
+ghost use Rattle.columns.specs.TypedValues.{second_number, IsValueOf, IsIntegerOf, IsDecimalOf, IsFloatOf, IsDoubleOf, IsTextWithin, AreBytesWithin};
+
+use crate::arguments::Arguments;
+use crate::data_type::DataType;
+use crate::sign::Sign;
+use crate::type_name::TypeName;
+use crate::value::bit::read_bits;
+use crate::value::date::Date;
+use crate::value::decimal::Decimal;
+use crate::value::fault::CellFault;
+use crate::value::finite::Real;
+use crate::value::float::{read_double, read_float};
+use crate::value::integer::{Integer, IntegerWidth};
+use crate::value::moment::Datetime;
+use crate::value::span::Time;
+use crate::value::stamp::Timestamp;
+use crate::value::year::Year;
+use binlog::Cell;
+
+/// The value of a cell that is not NULL. It borrows from the bytes of the row.
+#[derive(Clone, Copy, Debug)]
+pub enum TypedValue<'a> {
+    Integer(Integer),
+    Decimal(Decimal),
+    Float(Real),
+    Double(Real),
+    /// The number of a BIT.
+    Bits(u64),
+    Year(Year),
+    Date(Date),
+    Time(Time),
+    Datetime(Datetime),
+    Timestamp(Timestamp),
+    /// A text in the column's character set.
+    Text(&'a [u8]),
+    Bytes(&'a [u8]),
+}
+
+impl<'a> TypedValue<'a> {
+    /// The value that a cell stands for in a column of this type, which is none of ENUM and SET. NULL
+    /// is no value.
+    pub fn read(kind: DataType, cell: Cell<'a>) -> Result<TypedValue<'a>, CellFault>
+        ensures found { IfOk result (λ value. IsValueOf kind.name kind.numbers kind.sign value (cell_value cell.entry)) }
+        ensures only { (value : TypedValue) → IsValueOf kind.name kind.numbers kind.sign value (cell_value cell.entry) → IsOk result }
+    {
+        match kind.name {
+            TypeName::Tinyint => read_integer(IntegerWidth::One, kind.sign, cell),
+            TypeName::Smallint => read_integer(IntegerWidth::Two, kind.sign, cell),
+            TypeName::Mediumint => read_integer(IntegerWidth::Three, kind.sign, cell),
+            TypeName::Int => read_integer(IntegerWidth::Four, kind.sign, cell),
+            TypeName::Bigint => read_integer(IntegerWidth::Eight, kind.sign, cell),
+            TypeName::Decimal => read_decimal(kind.numbers, cell),
+            TypeName::Float => read_float_cell(cell),
+            TypeName::Double => read_double_cell(cell),
+            TypeName::Bit => Ok(TypedValue::Bits(read_bits(bits_of(kind.numbers), cell)?)),
+            TypeName::Year => Ok(TypedValue::Year(Year::read(cell)?)),
+            TypeName::Date => Ok(TypedValue::Date(Date::read(cell)?)),
+            TypeName::Time => Ok(TypedValue::Time(Time::read(digits_of(kind.numbers), cell)?)),
+            TypeName::Datetime => Ok(TypedValue::Datetime(Datetime::read(
+                digits_of(kind.numbers),
+                cell,
+            )?)),
+            TypeName::Timestamp => Ok(TypedValue::Timestamp(Timestamp::read(
+                digits_of(kind.numbers),
+                cell,
+            )?)),
+            TypeName::Char | TypeName::Varchar => read_text(
+                4 * kind.numbers.first() as usize,
+                cell,
+            ),
+            TypeName::Tinytext => read_text(0xff, cell),
+            TypeName::Text => read_text(0xffff, cell),
+            TypeName::Mediumtext => read_text(0xff_ffff, cell),
+            TypeName::Longtext => read_text(0xffff_ffff, cell),
+            TypeName::Binary | TypeName::Varbinary => read_bytes(
+                kind.numbers.first() as usize,
+                cell,
+            ),
+            TypeName::Tinyblob => read_bytes(0xff, cell),
+            TypeName::Blob => read_bytes(0xffff, cell),
+            TypeName::Mediumblob => read_bytes(0xff_ffff, cell),
+            TypeName::Longblob => read_bytes(0xffff_ffff, cell),
+            _ => Err(CellFault::Kind),
+        }
+    }
+}
+
+impl DataType {
+    ghost use Rattle.columns.specs.TypedValues.{zeros_after};
+
+    /// How many zeros follow bytes of this number in a column of this type: a BINARY is as long as its type says, and the
+    /// log leaves out the zeros at its end.
+    pub fn padding(self, length: usize) -> usize
+        ensures { result ≡ zeros_after self.name self.numbers length }
+    {
+        match self.name {
+            TypeName::Binary => (self.numbers.first() as usize).saturating_sub(length),
+            _ => 0,
+        }
+    }
+}
+
+/// The first number of a type with digits behind the point of a second, and 0 where it has none.
+fn digits_of(numbers: Arguments) -> u8
+    requires { IsTrue (is_none numbers || is_one_between 1 6 numbers) }
+    ensures number { result ≡ first_number numbers }
+    ensures few { result ≤ 6 }
+{
+    match numbers {
+        Arguments::OneNumber(digits) => digits as u8,
+        _ => 0,
+    }
+}
+
+/// The number of bits of a BIT.
+fn bits_of(numbers: Arguments) -> u8
+    requires { IsTrue (is_one_between 1 64 numbers) }
+    ensures number { result ≡ first_number numbers }
+    ensures some { 1 ≤ result }
+    ensures few { result ≤ 64 }
+{
+    match numbers {
+        Arguments::OneNumber(bits) => bits as u8,
+        _ => unreachable!(),
+    }
+}
+
+/// The value of an integer's cell.
+fn read_integer<'a>(
+    width: IntegerWidth,
+    sign: Sign,
+    cell: Cell<'a>,
+) -> Result<TypedValue<'a>, CellFault>
+    ensures found { IfOk result (λ value. IsIntegerOf width sign value (cell_value cell.entry)) }
+    ensures only { (value : TypedValue) → IsIntegerOf width sign value (cell_value cell.entry) → IsOk result }
+{
+    Ok(TypedValue::Integer(Integer::read(width, sign, cell)?))
+}
+
+/// The value of a decimal's cell.
+fn read_decimal<'a>(numbers: Arguments, cell: Cell<'a>) -> Result<TypedValue<'a>, CellFault>
+    requires { IsTrue (is_digits 65 numbers) }
+    ensures found { IfOk result (λ value. IsDecimalOf (first_number numbers) (second_number numbers) value (cell_value cell.entry)) }
+    ensures only { (value : TypedValue) → IsDecimalOf (first_number numbers) (second_number numbers) value (cell_value cell.entry) → IsOk result }
+{
+    let Arguments::TwoNumbers(precision, scale) = numbers else {
+        unreachable!();
+    };
+    Ok(TypedValue::Decimal(Decimal::read(precision as u8, scale as u8, cell)?))
+}
+
+/// The value of a FLOAT's cell.
+fn read_float_cell<'a>(cell: Cell<'a>) -> Result<TypedValue<'a>, CellFault>
+    ensures found { IfOk result (λ value. IsFloatOf value (cell_value cell.entry)) }
+    ensures only { (value : TypedValue) → IsFloatOf value (cell_value cell.entry) → IsOk result }
+{
+    let value = f64::from(read_float(cell)?);
+    Ok(TypedValue::Float(Real { value }))
+}
+
+/// The value of a DOUBLE's cell.
+fn read_double_cell<'a>(cell: Cell<'a>) -> Result<TypedValue<'a>, CellFault>
+    ensures found { IfOk result (λ value. IsDoubleOf value (cell_value cell.entry)) }
+    ensures only { (value : TypedValue) → IsDoubleOf value (cell_value cell.entry) → IsOk result }
+{
+    let value = read_double(cell)?;
+    Ok(TypedValue::Double(Real { value }))
+}
+
+/// The text of a cell, if it has at most so many bytes.
+fn read_text<'a>(most: usize, cell: Cell<'a>) -> Result<TypedValue<'a>, CellFault>
+    ensures found { IfOk result (λ value. IsTextWithin most value (cell_value cell.entry)) }
+    ensures only { (value : TypedValue) → IsTextWithin most value (cell_value cell.entry) → IsOk result }
+{
+    Ok(TypedValue::Text(bytes_within(most, cell)?))
+}
+
+/// The bytes of a cell, if there are at most so many.
+fn read_bytes<'a>(most: usize, cell: Cell<'a>) -> Result<TypedValue<'a>, CellFault>
+    ensures found { IfOk result (λ value. AreBytesWithin most value (cell_value cell.entry)) }
+    ensures only { (value : TypedValue) → AreBytesWithin most value (cell_value cell.entry) → IsOk result }
+{
+    Ok(TypedValue::Bytes(bytes_within(most, cell)?))
+}
+
+/// The bytes of a cell, if there are at most so many.
+fn bytes_within<'a>(most: usize, cell: Cell<'a>) -> Result<&'a [u8], CellFault>
+    ensures found { IfOk result (λ bytes. (length bytes.now ≤ most) × (cell_value cell.entry ≡ bytes_cell bytes.now)) }
+    ensures only { (bytes : List ℕ) → length bytes ≤ most → cell_value cell.entry ≡ bytes_cell bytes → IsOk result }
+{
+    let Cell::Bytes(bytes) = cell else {
+        return Err(CellFault::Kind);
+    };
+    if bytes.len() > most {
+        return Err(CellFault::Size(bytes.len()));
+    }
+    Ok(bytes)
+}

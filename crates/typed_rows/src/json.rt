@@ -1,0 +1,55 @@
+//! Rows as JSON objects (RFC 8259).
+
+use crate::shown::Shown;
+use crate::sql::shortest;
+use columns::{Plain, TypedValue};
+use formats::{Encoding, write_json_bytes, write_json_text};
+use std::alloc::Global;
+use std::io;
+use std::io::Write;
+
+/// Writes a cell as a value: integers, YEAR, BIT, FLOAT and DOUBLE as numbers, DECIMAL, dates, times and texts as strings,
+/// bytes in this form.
+pub fn write_value<W: Write>(
+    alloc: Global,
+    shown: &Shown<'_>,
+    encoding: Encoding,
+    out: &mut W,
+) -> io::Result<()> {
+    match shown {
+        Shown::Null => out.write_all(b"null"),
+        Shown::Plain(plain) => write_plain(plain, out),
+        Shown::Bits { number, .. } => write!(out, "{number}"),
+        Shown::Text(text) => write_json_text(alloc, text.as_str(), out),
+        Shown::Bytes { bytes, zeros } => write_padded(alloc, bytes, *zeros, encoding, out),
+        Shown::Joined(bytes) => write_json_bytes(alloc, bytes, encoding, out),
+    }
+}
+
+/// Writes a number, a date or a time.
+fn write_plain<W: Write>(plain: &Plain<'_>, out: &mut W) -> io::Result<()> {
+    match plain.value {
+        TypedValue::Integer(integer) => write!(out, "{integer}"),
+        TypedValue::Float(real) | TypedValue::Double(real) => write!(out, "{}", shortest(real)),
+        TypedValue::Year(year) => write!(out, "{}", year.year),
+        _ => write!(out, "\"{plain}\""),
+    }
+}
+
+/// Writes bytes with so many zeros after them.
+fn write_padded<W: Write>(
+    alloc: Global,
+    bytes: &[u8],
+    zeros: usize,
+    encoding: Encoding,
+    out: &mut W,
+) -> io::Result<()> {
+    if zeros == 0 {
+        return write_json_bytes(alloc, bytes, encoding, out);
+    }
+    let mut padded = Vec::from_slice(alloc, bytes)?;
+    for _ in 0..zeros {
+        padded.extend_from_slice(&[0])?;
+    }
+    write_json_bytes(alloc, &padded, encoding, out)
+}

@@ -1,0 +1,320 @@
+//! Rows in one of the formats.
+
+use crate::misfit::{CellError, Fault, Misfit, RowError};
+use crate::shown::show;
+use crate::{csv, json, sql, tsv};
+use binlog::Cell;
+use columns::{Column, DescribedTable, Description, Escaped};
+use formats::{Encoding, Format, write_json_name, write_table};
+use gather::ImageRef;
+use std::alloc::{AllocError, Global};
+use std::io;
+use std::io::Write;
+
+/// How rows are printed.
+#[derive(Clone, Copy)]
+pub struct Layout {
+    pub format: Format,
+    /// The form of bytes in JSON.
+    pub encoding: Encoding,
+    /// Whether rows of one table alone are asked for: no line of TSV and CSV begins with its name then.
+    pub is_one: bool,
+}
+
+/// Prints rows. Each is made whole before any of it is printed.
+#[derive(Drop)]
+pub struct TypedRows<'d, 'o, W> {
+    alloc: Global,
+    description: &'d Description,
+    layout: Layout,
+    /// The table of the last row.
+    last: Option<&'d DescribedTable>,
+    /// A row as it is printed.
+    line: Vec<u8>,
+    out: &'o mut W,
+}
+
+impl<'d, 'o, W: Write> TypedRows<'d, 'o, W> {
+    /// Nothing is printed yet.
+    pub fn new(
+        alloc: Global,
+        description: &'d Description,
+        layout: Layout,
+        out: &'o mut W,
+    ) -> TypedRows<'d, 'o, W> {
+        TypedRows {
+            alloc,
+            description,
+            layout,
+            last: None,
+            line: Vec::new(alloc),
+            out,
+        }
+    }
+
+    /// Prints what comes before the rows: the settings of SQL, or the names of the columns where CSV of one table is asked
+    /// for.
+    pub fn begin(&mut self, only: Option<(&[u8], &[u8])>) -> io::Result<()> {
+        match (self.layout.format, only) {
+            (Format::Sql, _) => self.out.write_all(sql::SETTINGS),
+            (Format::Csv, Some((schema, table))) => match self.description.table(schema, table) {
+                Some(described) => write_header(described, self.out),
+                None => Ok(()),
+            },
+            _ => Ok(()),
+        }
+    }
+
+    /// Prints a row of which there are so many copies.
+    pub fn write(
+        &mut self,
+        schema: &[u8],
+        table: &[u8],
+        count: u64,
+        image: &ImageRef<'_>,
+    ) -> Result<(), RowError> {
+        let Some(described) = self.described(schema, table) else {
+            return Err(misfit(self.alloc, schema, table, None, Fault::Table));
+        };
+        self.line.clear();
+        match write_row(
+            self.alloc,
+            self.layout,
+            described,
+            count,
+            image,
+            &mut self.line,
+        ) {
+            Ok(()) => {}
+            Err(Stop::Output(error)) => return Err(RowError::Output(error)),
+            Err(Stop::Fault(column, fault)) => {
+                return Err(misfit(self.alloc, schema, table, column, fault));
+            }
+        }
+        self.print(count)?;
+        Ok(())
+    }
+
+    /// The description of a table. Rows of a table come one after the other.
+    fn described(&mut self, schema: &[u8], table: &[u8]) -> Option<&'d DescribedTable> {
+        if let Some(last) = self.last
+            && last.name.as_bytes() == table
+            && last.schema.as_bytes() == schema
+        {
+            return Some(last);
+        }
+        let found = self.description.table(schema, table)?;
+        self.last = Some(found);
+        Some(found)
+    }
+
+    /// Prints the line of a row: as often as there are copies, or once where the line has their number.
+    fn print(&mut self, count: u64) -> io::Result<()> {
+        let times = match self.layout.format {
+            Format::Text | Format::Json => 1,
+            Format::Csv | Format::Tsv | Format::Sql => count,
+        };
+        for _ in 0..times {
+            self.out.write_all(&self.line)?;
+        }
+        Ok(())
+    }
+}
+
+/// Why the line of a row is not there.
+enum Stop<'d> {
+    /// The row, or the cell of this column, does not fit.
+    Fault(Option<&'d Column>, Fault),
+    Output(io::Error),
+}
+
+impl From<io::Error> for Stop<'_> {
+    fn from(error: io::Error) -> Self {
+        Stop::Output(error)
+    }
+}
+
+/// The error of a row that does not fit the description of its table.
+fn misfit(
+    alloc: Global,
+    schema: &[u8],
+    table: &[u8],
+    column: Option<&Column>,
+    fault: Fault,
+) -> RowError {
+    match copied(alloc, schema, table, column, fault) {
+        Ok(misfit) => RowError::Misfit(misfit),
+        Err(error) => error.into(),
+    }
+}
+
+/// The row that does not fit, with names of its own.
+fn copied(
+    alloc: Global,
+    schema: &[u8],
+    table: &[u8],
+    column: Option<&Column>,
+    fault: Fault,
+) -> Result<Misfit, AllocError> {
+    let column = match column {
+        Some(column) => Some((
+            String::from_str(alloc, column.name.as_str())?,
+            type_of(alloc, column)?,
+        )),
+        None => None,
+    };
+    Ok(Misfit {
+        schema: Vec::from_slice(alloc, schema)?,
+        table: Vec::from_slice(alloc, table)?,
+        column,
+        fault,
+    })
+}
+
+/// The type of a column, and its character set if it has one.
+fn type_of(alloc: Global, column: &Column) -> Result<String, AllocError> {
+    match &column.character_set {
+        Some(set) => format!(in alloc; "{} {}", column.kind, set.as_str()),
+        None => format!(in alloc; "{}", column.kind),
+    }
+}
+
+/// Writes the line of a row.
+fn write_row<'d>(
+    alloc: Global,
+    layout: Layout,
+    table: &'d DescribedTable,
+    count: u64,
+    image: &ImageRef<'_>,
+    line: &mut Vec<u8>,
+) -> Result<(), Stop<'d>> {
+    // An image has at most 65,535 cells.
+    let cells = image.cells().take(65_536).count();
+    if cells != table.columns.len() {
+        return Err(Stop::Fault(None, Fault::Cells(cells, table.columns.len())));
+    }
+    write_front(alloc, layout, table, count, line)?;
+    let mut is_first = true;
+    for (cell, column) in image.cells().zip(table.columns.iter()) {
+        if !is_first {
+            line.write_all(separator(layout.format))?;
+        }
+        write_cell(alloc, layout, column, cell, line)?;
+        is_first = false;
+    }
+    line.write_all(end(layout.format))?;
+    Ok(())
+}
+
+/// What stands between the cells of a row.
+fn separator(format: Format) -> &'static [u8] {
+    match format {
+        Format::Tsv => b"\t",
+        Format::Sql => b", ",
+        Format::Text | Format::Csv | Format::Json => b",",
+    }
+}
+
+/// What stands after the cells of a row.
+fn end(format: Format) -> &'static [u8] {
+    match format {
+        Format::Json => b"}}\n",
+        Format::Sql => b");\n",
+        Format::Text | Format::Csv | Format::Tsv => b"\n",
+    }
+}
+
+/// Writes what stands before the cells of a row.
+fn write_front(
+    alloc: Global,
+    layout: Layout,
+    table: &DescribedTable,
+    count: u64,
+    line: &mut Vec<u8>,
+) -> io::Result<()> {
+    let schema = table.schema.as_str();
+    let name = table.name.as_str();
+    match layout.format {
+        Format::Text => {
+            write_table(schema.as_bytes(), name.as_bytes(), line)?;
+            write!(line, " {count} ")
+        }
+        Format::Tsv if !layout.is_one => write!(line, "{}\t{}\t", Escaped(schema), Escaped(name)),
+        Format::Csv if !layout.is_one => {
+            csv::write_text(schema, line)?;
+            line.write_all(b",")?;
+            csv::write_text(name, line)?;
+            line.write_all(b",")
+        }
+        Format::Tsv | Format::Csv => Ok(()),
+        Format::Json => {
+            line.write_all(b"{\"schema\":")?;
+            write_json_name(alloc, schema.as_bytes(), line)?;
+            line.write_all(b",\"table\":")?;
+            write_json_name(alloc, name.as_bytes(), line)?;
+            write!(line, ",\"count\":{count},\"row\":{{")
+        }
+        Format::Sql => write_insert(table, line),
+    }
+}
+
+/// Writes an INSERT statement up to its values.
+fn write_insert(table: &DescribedTable, line: &mut Vec<u8>) -> io::Result<()> {
+    line.write_all(b"INSERT INTO ")?;
+    sql::write_name(table.schema.as_bytes(), line)?;
+    line.write_all(b".")?;
+    sql::write_name(table.name.as_bytes(), line)?;
+    line.write_all(b" (")?;
+    let mut is_first = true;
+    for column in &table.columns {
+        if !is_first {
+            line.write_all(b", ")?;
+        }
+        sql::write_name(column.name.as_bytes(), line)?;
+        is_first = false;
+    }
+    line.write_all(b") VALUES (")
+}
+
+/// Writes the names of a table's columns as a record of CSV.
+fn write_header<W: Write>(table: &DescribedTable, out: &mut W) -> io::Result<()> {
+    let mut is_first = true;
+    for column in &table.columns {
+        if !is_first {
+            out.write_all(b",")?;
+        }
+        csv::write_text(column.name.as_str(), out)?;
+        is_first = false;
+    }
+    out.write_all(b"\n")
+}
+
+/// Writes a cell of a row.
+fn write_cell<'d>(
+    alloc: Global,
+    layout: Layout,
+    column: &'d Column,
+    cell: Cell<'_>,
+    line: &mut Vec<u8>,
+) -> Result<(), Stop<'d>> {
+    let shown = match show(alloc, column, cell) {
+        Ok(shown) => shown,
+        Err(CellError::Fault(fault)) => return Err(Stop::Fault(Some(column), fault)),
+        Err(CellError::Memory) => return Err(Stop::Output(io::ErrorKind::OutOfMemory.into())),
+    };
+    match layout.format {
+        Format::Tsv => tsv::write_field(&shown, line)?,
+        Format::Csv => csv::write_field(&shown, line)?,
+        Format::Sql => sql::write_value(cell, &shown, line)?,
+        Format::Text => {
+            write!(line, "{}=", Escaped(column.name.as_str()))?;
+            tsv::write_field(&shown, line)?;
+        }
+        Format::Json => {
+            write_json_name(alloc, column.name.as_bytes(), line)?;
+            line.write_all(b":")?;
+            json::write_value(alloc, &shown, layout.encoding, line)?;
+        }
+    }
+    Ok(())
+}

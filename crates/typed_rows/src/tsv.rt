@@ -1,0 +1,57 @@
+//! Rows as the `mysql` client prints them with `--batch --binary-as-hex`.
+
+use crate::shown::Shown;
+use columns::Escaped;
+use std::io;
+use std::io::Write;
+
+/// The digits by their value.
+const DIGITS: [u8; 16] = *b"0123456789ABCDEF";
+
+/// Writes bytes in hexadecimal digits, as the client does.
+pub fn write_digits<W: Write>(bytes: &[u8], out: &mut W) -> io::Result<()> {
+    for byte in bytes {
+        out.write_all(&[
+            DIGITS[usize::from(*byte / 16)],
+            DIGITS[usize::from(*byte % 16)],
+        ])?;
+    }
+    Ok(())
+}
+
+/// Writes `0x`, the digits of bytes, and those of zeros after them.
+pub fn write_hex<W: Write>(bytes: &[u8], zeros: usize, out: &mut W) -> io::Result<()> {
+    out.write_all(b"0x")?;
+    write_digits(bytes, out)?;
+    for _ in 0..zeros {
+        out.write_all(b"00")?;
+    }
+    Ok(())
+}
+
+/// Writes `0x` and the digits of a number in so many bytes, at most eight, the highest first.
+fn write_bits<W: Write>(number: u64, bytes: usize, out: &mut W) -> io::Result<()> {
+    let all = number.to_be_bytes();
+    let (_, low) = all.split_at(8usize.saturating_sub(bytes));
+    write_hex(low, 0, out)
+}
+
+/// Writes a cell as a field of a line, without the tab or the line feed after it.
+pub fn write_field<W: Write>(shown: &Shown<'_>, out: &mut W) -> io::Result<()> {
+    match shown {
+        Shown::Null => out.write_all(b"NULL"),
+        Shown::Text(text) => write!(out, "{}", Escaped(text.as_str())),
+        other => write_bare(other, out),
+    }
+}
+
+/// Writes a cell that needs no escapes; NULL and a text are none, and nothing is written of them.
+pub fn write_bare<W: Write>(shown: &Shown<'_>, out: &mut W) -> io::Result<()> {
+    match shown {
+        Shown::Null | Shown::Text(_) => Ok(()),
+        Shown::Plain(plain) => write!(out, "{plain}"),
+        Shown::Bits { number, bytes } => write_bits(*number, *bytes, out),
+        Shown::Bytes { bytes, zeros } => write_hex(bytes, *zeros, out),
+        Shown::Joined(bytes) => write_hex(bytes, 0, out),
+    }
+}
