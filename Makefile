@@ -9,7 +9,7 @@
 #             libraries out of memory, beside all this the wrong bodies, and then, with the program that was built, what else
 #             tests/ has: the tests of the libraries, which are run and not proved, rows with names and types beside those of
 #             a server's own client, the commands, messages, rows as
-#             CSV and JSON, the change feed, files read by sqlite3, damaged databases, streams and their faults, captured
+#             CSV and JSON, the change feed and the consumers of it in samples/, files read by sqlite3, damaged databases, streams and their faults, captured
 #             streams, a source over loopback, the manual page and the completions, `make install`, streams compared with
 #             an independent reading, changed bytes, running out of memory, kills, copies beside a writer, and the
 #             commands, examples and names of the pages

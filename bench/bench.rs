@@ -1,9 +1,9 @@
-//! Times `mrep packets` and `mrep events`, and the jobs of `ours` over the crates, against `packets.rs`, `events.rs` and
-//! `gtid.rs`, plain Rust programs that do the same; stores against `store.py`, which gives the same statements to the C
+//! Times `mrep packets` and `mrep events`, and the jobs of `ours` over the crates, against `packets.rs`, `events.rs`,
+//! `gtid.rs` and `typed.rs`, plain Rust programs that do the same; stores against `store.py`, which gives the same statements to the C
 //! library of SQLite; `mrep replay` and `mrep follow` against a store and one another; `mrep replay` against
 //! `replay.c`, which does the whole job in C; and `mrep` over inputs of which each has twice as much as the one before.
 //!
-//!     bench MREP JOBS PACKETS GTID EVENTS STORE FOLDER
+//!     bench MREP JOBS PACKETS GTID EVENTS TYPED STORE FOLDER
 //!     bench growth MREP FOLDER
 //!
 //! It makes each input from files in the folder. Both programs of a job run in turn, five times each (for stores three
@@ -44,6 +44,9 @@ const ROWS_TIMES: f64 = 1.1;
 
 /// The goal of gathering transactions.
 const GATHER_TIMES: f64 = 1.2;
+
+/// The goal of printing rows with names and types.
+const TYPED_TIMES: f64 = 3.0;
 
 /// The goal of each operation on sets.
 const GTID_TIMES: f64 = 1.5;
@@ -190,6 +193,70 @@ fn make_small(path: &Path) -> io::Result<()> {
         event(&mut out, &mut sequence, 16, &u64::to_le_bytes(number))?;
     }
     event(&mut out, &mut sequence, 27, &[])?;
+    out.flush()
+}
+
+/// The columns of the rows of `make_images`.
+const COLUMNS: [&str; 10] = [
+    "id\tbigint\tNULL\tPRI",
+    "qty\tint unsigned\tNULL\t",
+    "price\tdecimal(12,2)\tNULL\t",
+    "name\tvarchar(30)\tutf8mb4\t",
+    "at\tdatetime(3)\tNULL\t",
+    "day\tdate\tNULL\t",
+    "ratio\tdouble\tNULL\t",
+    "state\tenum('new','paid','sent')\tutf8mb4\t",
+    "stamp\ttimestamp\tNULL\t",
+    "code\tvarbinary(8)\tNULL\t",
+];
+
+/// A number as a cell of an image.
+fn number_cell(out: &mut Vec<u8>, value: u64, width: usize) {
+    out.extend_from_slice(&[1, width as u8]);
+    out.extend_from_slice(&value.to_le_bytes()[..width]);
+}
+
+/// Bytes as a cell of an image.
+fn bytes_cell(out: &mut Vec<u8>, bytes: &[u8]) {
+    out.push(2);
+    out.extend_from_slice(&(bytes.len() as u32).to_le_bytes());
+    out.extend_from_slice(bytes);
+}
+
+/// Images of rows of ten columns, each with its length before it, and the description of the columns.
+fn make_images(path: &Path, description: &Path, rows: u64) -> io::Result<()> {
+    let lines = COLUMNS.map(|column| format!("shop\torders\t{column}\n"));
+    fs::write(description, lines.concat())?;
+    let mut out = BufWriter::new(File::create(path)?);
+    let mut image = Vec::new();
+    for n in 0..rows {
+        image.clear();
+        image.extend_from_slice(&10u16.to_le_bytes());
+        number_cell(&mut image, if n % 7 == 0 { n.wrapping_neg() } else { n }, 8);
+        number_cell(&mut image, n * 7919 % (1 << 32), 4);
+        let mut price = [&[(n % 10) as u8 | 0x80][..], &((n * 31) as u32 % 1_000_000_000).to_be_bytes(), &[(n % 100) as u8]].concat();
+        if n % 5 == 0 && n > 0 {
+            price.iter_mut().for_each(|byte| *byte = !*byte);
+        }
+        bytes_cell(&mut image, &price);
+        match n % 9 {
+            0 => image.push(0),
+            1 => bytes_cell(&mut image, format!("tab\there {n}").as_bytes()),
+            _ => bytes_cell(&mut image, format!("n\u{e4}me of {n}").as_bytes()),
+        }
+        let day = 1 + n % 28;
+        let month = 1 + n % 12;
+        let date = (((2024 * 13 + month) << 5) + day) << 17;
+        let moment = (1 << 39) + date + ((n % 24) << 12) + ((n % 60) << 6) + n % 59;
+        bytes_cell(&mut image, &[&moment.to_be_bytes()[3..], &((n % 1000 * 10) as u16).to_be_bytes()].concat());
+        bytes_cell(&mut image, &(2024 * 512 + month * 32 + day).to_le_bytes()[..3]);
+        bytes_cell(&mut image, &(n as f64 / 8.0 + 0.1).to_le_bytes());
+        number_cell(&mut image, 1 + n % 3, 1);
+        bytes_cell(&mut image, &(1_700_000_000 + n as u32 * 61 % 100_000_000).to_be_bytes());
+        bytes_cell(&mut image, &n.to_be_bytes());
+        out.write_all(&(image.len() as u32).to_le_bytes())?;
+        out.write_all(&image)?;
+    }
     out.flush()
 }
 
@@ -368,7 +435,7 @@ fn compare_stores(jobs: &str, store: &str, folder: &Path) -> io::Result<bool> {
 }
 
 fn usage() -> ExitCode {
-    eprintln!("usage: bench MREP JOBS PACKETS GTID EVENTS STORE FOLDER, or bench growth|whole MREP FOLDER");
+    eprintln!("usage: bench MREP JOBS PACKETS GTID EVENTS TYPED STORE FOLDER, or bench growth|whole MREP FOLDER");
     ExitCode::from(2)
 }
 
@@ -383,7 +450,7 @@ fn main() -> io::Result<ExitCode> {
         };
         return Ok(if met { ExitCode::SUCCESS } else { ExitCode::FAILURE });
     }
-    let [_, mrep, jobs, packets, gtid, events, store, folder] = words.as_slice() else {
+    let [_, mrep, jobs, packets, gtid, events, typed, store, folder] = words.as_slice() else {
         return Ok(usage());
     };
     let folder = Path::new(folder);
@@ -404,6 +471,12 @@ fn main() -> io::Result<ExitCode> {
         let job = format!("a transaction of {count} rows, gathered");
         met &= compare(&job, &[jobs, "gather", name], &[events, "gather", name], folder, GATHER_TIMES, usize::MAX)?;
     }
+    let described = folder.join("description");
+    let description = described.to_str().ok_or(io::ErrorKind::InvalidInput)?;
+    make_images(&path, &described, 1_000_000)?;
+    let job = "1,000,000 rows of ten columns, printed as the client prints them";
+    met &= compare(job, &[jobs, "typed", name, description], &[typed, name], folder, TYPED_TIMES, usize::MAX)?;
+    fs::remove_file(&described)?;
     make_small(&path)?;
     let small = "a list of a million small events";
     met &= compare(small, &[mrep, "events", name], &[events, "list", name], folder, EVENTS_TIMES, MORE)?;

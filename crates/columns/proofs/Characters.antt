@@ -2,8 +2,10 @@
 use Rattle.std.proofs.lemmas.List.{append-nil}
 use Rattle.std.specs.Bool.{IsTrue}
 use Rattle.std.specs.Char.{encode_utf8}
-use Rattle.std.proofs.Common.{◌≡◌, ℕ, ◌+◌, ◌<◌, ◌≤◌, Bool, true, false, List, [], ◌∷◌, ◌++◌, take, get_or, length, length-append, nat_lt, ◌&&◌, refl, sym, ◌∙◌, ap, subst, append_assoc, arith}
+use Rattle.std.proofs.Common.{◌≡◌, ℕ, zero, suc, ◌+◌, ◌<◌, Bool, true, false, List, [], ◌∷◌, ◌++◌, length, length-append, nat_lt, refl, sym, ◌∙◌, ap, subst, append_assoc, arith}
 use Rattle.std.specs.List.{list_all}
+use Rattle.std.specs.Str.{IsAscii, IsUtf8}
+use Rattle.std.proofs.lemmas.Str.{IsUtf8-from_ascii}
 use Rattle.columns.specs.CharacterSets.{written, latin1_character, wide_bytes, has_character, IsSpelled}
 use Rattle.columns.specs.declared.wide.Wide.{Wide}
 use Rattle.columns.specs.declared.wide.Wide.TheVariants.{TwoBytes, Units, LittleUnits, FourBytes}
@@ -28,17 +30,17 @@ spelled-cons form c rest end has spelled = record {
 }
 
 -- nothing, or a character in front of a text
-pub data Begins (form : Wide) (bytes whole : List ℕ) : Type 0 where
-  ends : bytes ≡ [] → whole ≡ [] → Begins form bytes whole
-  begins : (c : ℕ) (rest end : List ℕ) → has_character form c ≡ true → bytes ≡ wide_bytes form c ++ rest → IsSpelled form rest end → whole ≡ encode_utf8 c ++ end → Begins form bytes whole
+pub data BeginsWithCode (form : Wide) (bytes whole : List ℕ) : Type 0 where
+  ends : bytes ≡ [] → whole ≡ [] → BeginsWithCode form bytes whole
+  begins : (c : ℕ) (rest end : List ℕ) → has_character form c ≡ true → bytes ≡ wide_bytes form c ++ rest → IsSpelled form rest end → whole ≡ encode_utf8 c ++ end → BeginsWithCode form bytes whole
 
-spelled_by : (form : Wide) (cs bytes whole : List ℕ) → list_all (has_character form) cs ≡ true → bytes ≡ written (wide_bytes form) cs → whole ≡ written encode_utf8 cs → Begins form bytes whole
+spelled_by : (form : Wide) (cs bytes whole : List ℕ) → list_all (has_character form) cs ≡ true → bytes ≡ written (wide_bytes form) cs → whole ≡ written encode_utf8 cs → BeginsWithCode form bytes whole
 spelled_by form [] bytes whole all is text = ends is text
 spelled_by form (c ∷ cs) bytes whole all is text =
     begins c (written (wide_bytes form) cs) (written encode_utf8 cs) (grind (arith, all)) is
     record { characters = cs; are = grind (arith, all); bytes_are = refl; text_is = refl } text
 
-pub spelled_begins : (form : Wide) (bytes whole : List ℕ) → IsSpelled form bytes whole → Begins form bytes whole
+pub spelled_begins : (form : Wide) (bytes whole : List ℕ) → IsSpelled form bytes whole → BeginsWithCode form bytes whole
 spelled_begins form bytes whole spelled = spelled_by form spelled.characters bytes whole spelled.are spelled.bytes_are spelled.text_is
 
 -- a character takes a byte at least
@@ -49,7 +51,7 @@ wide_long LittleUnits c = grind arith
 wide_long FourBytes c = omega arith
 
 -- no bytes are no text
-ends_empty : (form : Wide) (bytes whole : List ℕ) → bytes ≡ [] → Begins form bytes whole → whole ≡ []
+ends_empty : (form : Wide) (bytes whole : List ℕ) → bytes ≡ [] → BeginsWithCode form bytes whole → whole ≡ []
 ends_empty form bytes whole none (ends _ empty) = empty
 ends_empty form bytes whole none (begins c rest end has is spelled text) =
     let long = wide_long form c in
@@ -70,7 +72,7 @@ starts_at form bytes text none = record {
 
 goes_from : (form : Wide) (rest after text new whole end : List ℕ) (c : ℕ) → (length rest ≡ 0 → ⊥) → new ≡ text ++ encode_utf8 c →
     ((other : ℕ) (tail : List ℕ) → IsTrue (has_character form other) → rest ≡ wide_bytes form other ++ tail → (c ≡ other) × (after ≡ tail)) →
-    whole ≡ text ++ end → Begins form rest end → (tail : List ℕ) × IsSpelled form after tail × (whole ≡ new ++ tail)
+    whole ≡ text ++ end → BeginsWithCode form rest end → (tail : List ℕ) × IsSpelled form after tail × (whole ≡ new ++ tail)
 goes_from form rest after text new whole end c some is next whole_is (ends none _) = absurd (some (ap length none))
 goes_from form rest after text new whole end c some is next whole_is (begins other tail tail_text has bytes_are spelled text_is) =
     let found = next other tail has bytes_are in
@@ -102,7 +104,7 @@ ends_with form bytes rest text whole none upto spelled =
     sym (end.2 ∙ ap (λ t. text ++ t) empty ∙ append-nil text)
 
 stops_from : (form : Wide) (rest end : List ℕ) → (length rest ≡ 0 → ⊥) →
-    ((other : ℕ) (tail : List ℕ) → IsTrue (has_character form other) → rest ≡ wide_bytes form other ++ tail → ⊥) → Begins form rest end → ⊥
+    ((other : ℕ) (tail : List ℕ) → IsTrue (has_character form other) → rest ≡ wide_bytes form other ++ tail → ⊥) → BeginsWithCode form rest end → ⊥
 stops_from form rest end some none (ends empty _) = some (ap length empty)
 stops_from form rest end some none (begins other tail tail_text has bytes_are spelled text_is) = none other tail has bytes_are
 
@@ -111,3 +113,16 @@ pub stops_at : (form : Wide) (bytes rest text whole : List ℕ) → (length rest
     IsUpTo form bytes rest text → IsSpelled form bytes whole → ⊥
 stops_at form bytes rest text whole some none upto spelled =
     let end = upto.only whole spelled in stops_from form rest end.0 some none (spelled_begins form rest end.0 end.1)
+
+ascii_each : (bytes : List ℕ) → list_all (λ byte. nat_lt byte 128) bytes ≡ true → IsAscii bytes
+ascii_each [] all i = grind arith
+ascii_each (byte ∷ bytes) all zero = grind (arith, all)
+ascii_each (byte ∷ bytes) all (suc i) = ascii_each bytes (grind (arith, all)) i
+
+-- bytes that are not UTF-8 and ASCII are not ASCII
+pub not_ascii : (bytes : List ℕ) → (IsUtf8 bytes → list_all (λ byte. nat_lt byte 128) bytes ≡ true → ⊥) → list_all (λ byte. nat_lt byte 128) bytes ≡ false
+not_ascii bytes none = by (list_all (λ byte. nat_lt byte 128) bytes) refl
+  where
+    by : (all : Bool) → list_all (λ byte. nat_lt byte 128) bytes ≡ all → list_all (λ byte. nat_lt byte 128) bytes ≡ false
+    by true all = absurd (none (IsUtf8-from_ascii bytes (ascii_each bytes all)) all)
+    by false all = all

@@ -2,7 +2,7 @@
 use Rattle.std.proofs.Common.{◌≡◌, ℕ, List, [], ◌∷◌, ◌++◌, refl, sym, subst, ◌∙◌, append_assoc}
 use Rattle.std.specs.List.{flat_map, AllByRecursion}
 
--- A text that begins with the code of one and goes on well is cut behind that code in one way.
+-- A text that begins with the code of one and goes on well is cut after that code in one way.
 pub record IsCode (A : Type 0) (IsOne : A → Type 0) (GoesOn : List ℕ → Type 0) (code : A → List ℕ) : Type 0 where
   pub starts : (a : A) (x : List ℕ) → GoesOn (code a ++ x)
   pub cut : (a b : A) (x y : List ℕ) → IsOne a → IsOne b → GoesOn x → GoesOn y → code a ++ x ≡ code b ++ y → (a ≡ b) × (x ≡ y)

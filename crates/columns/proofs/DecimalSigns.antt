@@ -159,7 +159,7 @@ pub plain_back : (negative : Bool) (bytes plain : List ℕ) → IsBytes bytes �
 plain_back negative bytes plain fits is =
     sym (ap (λ (xs : List ℕ). top_flipped (inverted negative xs)) is ∙ ap top_flipped (invert_back negative (top_flipped bytes) (flipped_fits bytes fits)) ∙ flip_back bytes fits)
 
--- zeros behind the digits
+-- zeros after the digits
 pub same_rest : (n count : ℕ) (digits : List ℕ) → length digits ≡ count → IsTrue (are_zeros (drop n digits)) → drop n digits ≡ drop n (replicate count 0)
 same_rest n count digits long zeros =
     same_zeros (drop n digits) (drop n (replicate count 0))

@@ -16,13 +16,13 @@ whole_of (x ∷ xs) some =
     let one : length (x ∷ xs) - 1 ≡ length xs = omega arith in
     ap (λ (ys : List ℕ). x ∷ ys) (sym (ap (λ (n : ℕ). take n xs) one ∙ take_all (length xs) xs (omega arith)))
 
--- what is behind the end stays
+-- what is after the end stays
 pub end_stays : (s n : ℕ) (front back digits : List ℕ) → length front ≡ s → drop n back ≡ drop n (drop s digits) → drop (s + n) (front ++ back) ≡ drop (s + n) digits
 end_stays s n front back digits long same =
     let behind : drop s (front ++ back) ≡ back = ap (λ (k : ℕ). drop k (front ++ back)) (sym long) ∙ drop-append_seam front back in
     sym (drop-drop n s (front ++ back)) ∙ ap (drop n) behind ∙ same ∙ drop-drop n s digits
 
--- the bytes of a number and those behind it
+-- the bytes of a number and those after it
 pub front_is : (k n : ℕ) (rest bytes : List ℕ) → bytes ≡ big_bytes k n ++ rest → (take k bytes ≡ big_bytes k n) × (drop k bytes ≡ rest)
 front_is k n rest bytes is =
     let long : k ≡ length (big_bytes k n) = sym (length-bytes_high_first k n) in (

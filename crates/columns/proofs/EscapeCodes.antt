@@ -1,5 +1,5 @@
 -- What stands for a byte is cut off in one way.
-use Rattle.std.proofs.Common.{◌≡◌, ℕ, suc, ◌<◌, ◌/◌, ◌%◌, ◌⊎◌, inl, inr, Bool, true, false, if◌then◌else◌, List, [], ◌∷◌, ◌++◌, length, drop, get_or, refl, ap, sym, ◌∙◌, Option, Some, None, arith, length-append, append-nil, ◌+◌, ◌-◌, ◌≤◌, take, add-one}
+use Rattle.std.proofs.Common.{◌≡◌, ℕ, suc, ◌<◌, ◌/◌, ◌%◌, ◌⊎◌, inl, inr, Bool, true, false, if◌then◌else◌, List, [], ◌∷◌, ◌++◌, length, drop, get_or, refl, ap, sym, ◌∙◌, Option, Some, None, arith, length-append, append-nil, append_assoc, ◌+◌, ◌-◌, ◌≤◌, take, add-one}
 use Rattle.std.specs.Prelude.{◌==◌, IfNone}
 use Rattle.std.specs.Char.{digit_char}
 use Rattle.std.specs.List.{AllByRecursion}
@@ -7,7 +7,7 @@ use Rattle.std.proofs.lemmas.Bool.{eqb-true}
 use Rattle.std.proofs.lemmas.List.{take_rest, take-append-drop, get_or-take, get_or-drop, length-take, length-drop}
 use Rattle.std.proofs.Math.Seq.{take-add, take-suc}
 use Rattle.std.proofs.lemmas.Grind.{flat_map-append}
-use Rattle.columns.specs.Escapes.{escape, escaped, hex_pair, BeginsWithNone}
+use Rattle.columns.specs.Escapes.{escape, escaped, hex_pair, BeginsWithCode, BeginsWithNone}
 use Rattle.columns.specs.declared.escape.Layer.{Layer}
 use Rattle.columns.specs.declared.escape.Layer.TheVariants.{Client, Quoted}
 use Rattle.columns.proofs.Codes.{IsCode, one_way}
@@ -198,7 +198,7 @@ rest_written layer text from within plain =
     (λ i. escaped layer (take from text) ++ sym run i) ∙ sym (flat_map-append (escape layer) (take from text) (drop from text)) ∙
     ap (escaped layer) (take-append-drop from text)
 
--- a run, and what stands for the byte behind it
+-- a run, and what stands for the byte after it
 pub pair_written : (layer : Layer) (text : List ℕ) (from at : ℕ) (run pair : List ℕ) → from ≤ at → at < length text → ArePlain layer text from at →
     run ≡ take (at - from) (drop from text) → escape layer (get_or text at 0) ≡ pair →
     (escaped layer (take from text) ++ run) ++ pair ≡ escaped layer (take (at + 1) text)
@@ -227,3 +227,8 @@ hex_cut a b x y e =
     let high : a / 16 ≡ b / 16 = digit_same (a / 16) (b / 16) (ap (λ text. get_or text 0 0) e) in
     let low : a % 16 ≡ b % 16 = digit_same (a % 16) (b % 16) (ap (λ text. get_or text 1 0) e) in
     (omega (arith, high, low), ap (λ text. drop 2 text) e)
+
+-- a text of bytes in front of one more begins with a byte
+pub begins_there : (layer : Layer) (bytes left text : List ℕ) → text ≡ escaped layer bytes ++ left → BeginsWithCode layer left → BeginsWithCode layer text
+begins_there layer [] left text is begins = (begins.0, begins.1, is ∙ begins.2)
+begins_there layer (b ∷ bytes) left text is begins = (b, escaped layer bytes ++ left, is ∙ append_assoc (escape layer b) (escaped layer bytes) left)

@@ -23,3 +23,7 @@ pub mod FieldCuts
 pub mod Ahead
 pub mod TablesAhead
 pub mod WrongLines
+pub mod Refusals
+pub mod Narrow
+pub mod WrittenCells
+pub mod LineFaults

@@ -20,7 +20,7 @@ use Rattle.columns.proofs.EscapeCodes.{same_bytes, hex_cut, one_or_two, two_ahea
 same_end : (kind : ℕ → Bool) (b c : ℕ) → kind b ≡ false → b ≡ c → kind c ≡ true → ⊥
 same_end kind b c other same is = never (sym other ∙ ap kind same ∙ is)
 
--- a quote behind which no other stands
+-- a quote after which no other stands
 pub lone_quote : (rest : List ℕ) → Ends is_quote rest → BeginsWithNone Quoted (39 ∷ rest)
 lone_quote rest end b tail e = by rest end e (one_or_two Quoted b)
   where
@@ -102,7 +102,7 @@ members_begin (a ∷ done) (b ∷ whole) left y some any these those end stop go
     no_comma [] stop tail is = omega (arith, ap length is)
     no_comma (c ∷ y) stop tail is = same_end is_comma c 44 stop (ap (λ text. get_or text 0 0) is) refl
 
--- the text behind an opening quote: the bytes up to the quote that closes it
+-- the text after an opening quote: the bytes up to the quote that closes it
 pub quoted_only : (text bytes rest done left : List ℕ) → AreBytes bytes → Ends is_quote rest → 39 ∷ text ≡ member_text bytes ++ rest →
     text ≡ escaped Quoted done ++ left → BeginsWithNone Quoted left → (done ≡ bytes) × (left ≡ 39 ∷ rest) × (is_utf8 bytes ≡ true)
 quoted_only text bytes rest done left small end e read stops = by (is_utf8 bytes) refl
@@ -113,7 +113,7 @@ quoted_only text bytes rest done left small end e read stops = by (is_utf8 bytes
         (both.0, both.1, h)
     by false h = absurd (omega (arith, ap (λ text. get_or text 0 0) (e ∙ in_digits bytes h rest)))
 
--- the text behind `x`
+-- the text after `x`
 pub digits_first : (text bytes rest : List ℕ) → 120 ∷ text ≡ member_text bytes ++ rest → (text ≡ 39 ∷ (hex_text bytes ++ 39 ∷ rest)) × (is_utf8 bytes ≡ false)
 digits_first text bytes rest e = by (is_utf8 bytes) refl
   where
@@ -132,7 +132,7 @@ no_utf8 bytes never = by (is_utf8 bytes) refl
     by true h = absurd (never (IsUtf8-from_is_utf8 bytes h))
     by false h = h
 
--- what stands behind the first byte
+-- what stands after the first byte
 pub tail_of : (text : List ℕ) (a : ℕ) (rest : List ℕ) → text ≡ a ∷ rest → take (length text - 1) (drop 1 text) ≡ rest
 tail_of text a rest e = take_rest text 1 ∙ ap (λ xs. drop 1 xs) e
 

@@ -68,7 +68,7 @@ leading_zero text no_digit d left more none is left_is small n rest few end e = 
         let ends : Ends is_decimal_digit ((48 + d) ∷ more) = subst (Ends is_decimal_digit) (sym same ∙ left_is) end in
         grind (arith, ends, digit_is d small)
 
--- another digit behind five of them
+-- another digit after five of them
 pub too_great : (text : List ℕ) (so_far d : ℕ) (left more : List ℕ) → 10000 ≤ so_far → front 0 text ≡ front so_far left → left ≡ (48 + d) ∷ more → d < 10 →
     (n : ℕ) (rest : List ℕ) → n < 100000 → Ends is_decimal_digit rest → text ≡ decimal n ++ rest → ⊥
 too_great text so_far d left more great same left_is small n rest few end e =

@@ -51,7 +51,7 @@ zero_off number left zeros is end =
     let more : 10 ^ (zeros + 1) ≡ 10 * 10 ^ zeros = ap (λ (k : ℕ). 10 ^ k) (omega arith) ∙ pow-suc 10 zeros ∙ omega arith in
     is ∙ ap (λ (n : ℕ). n * 10 ^ zeros) tens ∙ mul_assoc (left / 10) 10 (10 ^ zeros) ∙ ap (λ (u : ℕ). left / 10 * u) (sym more)
 
--- a number all of whose digits stand behind the point
+-- a number all of whose digits stand after the point
 pub far_point : (k number : ℕ) → 17 < k → number < 10 ^ 17 → point_text k number ≡ byte "0" ∷ byte "." ∷ zero_padded k number
 far_point k number many small =
     let unit : 10 ^ 18 ≤ 10 ^ k = pow-le-pow_right (omega arith) many in

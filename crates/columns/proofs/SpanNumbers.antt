@@ -49,7 +49,7 @@ even_zero digits number = by (digits % 2 == 0)
 some_unit : (size : ℕ) → 0 < 256 ^ size
 some_unit size = let h = one-le-pow size 256 (omega arith) in omega (arith, h)
 
--- the number behind seconds is less than one of them
+-- the number after seconds is less than one of them
 pub record Amount (size : ℕ) (at : Time) : Type 0 where
   pub below : span_number size at < 2 ^ 23 * 256 ^ size
   pub some : at.negative ≡ true → span_number size at ≢ 0

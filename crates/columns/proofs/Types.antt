@@ -180,7 +180,7 @@ small name (TwoNumbers n m) sign h = small_two name n m ((and_parts (takes name 
 pub some_is : (a b : TypeName) → Some a ≡ Some b → a ≡ b
 some_is a b same = ap (λ (o : Option TypeName). unwrap_or o a) same
 
--- a text that is cut behind its letters, and is a type's, is cut behind the type's name
+-- a text that is cut after its letters, and is a type's, is cut after the type's name
 pub same_head : (word rest text : List ℕ) (name : TypeName) (tail : List ℕ) → text ≡ word ++ rest → Are is_letter word → Ends is_letter rest →
     Ends is_letter tail → text ≡ name_text name ++ tail → (name_text name ≡ word) × (rest ≡ tail)
 same_head word rest text name tail whole run end stop is =
@@ -206,3 +206,11 @@ and_then P Q R (Some a) p q leads = leads a p q
 pub and_two : {A : Type 0} (P Q R S : A → Type 0) (r : Option A) → IsSomeAnd r P → IfSome r Q → IfSome r R → ((a : A) → P a → Q a → R a → S a) → IsSomeAnd r S
 and_two P Q R S None p q t leads = absurd p
 and_two P Q R S (Some a) p q t leads = leads a p q t
+
+-- a result has one value at most
+pub same_ok : {T E : Type 0} (result : Result T E) (a b : T) → result ≡ Ok a → result ≡ Ok b → a ≡ b
+same_ok result a b first second = ap (λ r. value_or r a) (sym first ∙ second)
+  where
+    value_or : {T E : Type 0} → Result T E → T → T
+    value_or (Ok value) other = value
+    value_or (Err error) other = other

@@ -15,3 +15,8 @@ number_fault size _ = Some Kind
 abbrev pub bytes_fault : ℕ → CellValue → CellFault
 bytes_fault size (bytes_cell bytes) = if length bytes == size then Range else Size (length bytes)
 bytes_fault size _ = Kind
+
+-- the same where there are bytes of any number up to a greatest one
+abbrev pub within_fault : CellValue → CellFault
+within_fault (bytes_cell bytes) = Size (length bytes)
+within_fault _ = Kind

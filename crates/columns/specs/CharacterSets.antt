@@ -1,6 +1,6 @@
 -- The characters of texts. MySQL Reference Manual, "Unicode Support" and "West European Character Sets"; RFC 3629 (UTF-8)
 -- and RFC 2781 (UTF-16).
-use Rattle.std.specs.Prelude.{◌≡◌, ℕ, ◌+◌, ◌-◌, ◌/◌, ◌%◌, Bool, true, false, ◌&&◌, ◌||◌, nat_lt, nat_le, if◌then◌else◌, List, [], ◌∷◌, ◌++◌, codes, slice_index, IsTrue}
+use Rattle.std.specs.Prelude.{◌≡◌, ℕ, ◌<◌, ◌+◌, ◌-◌, ◌/◌, ◌%◌, Bool, true, false, ◌&&◌, ◌||◌, nat_lt, nat_le, if◌then◌else◌, List, [], ◌∷◌, ◌++◌, length, codes, slice_index, IsTrue}
 use Rattle.std.specs.List.{list_all}
 use Rattle.std.specs.Char.{encode_utf8}
 use Rattle.std.specs.Str.{bytes_eq, IsUtf8}
@@ -73,6 +73,15 @@ pub record IsSpelled (form : Wide) (bytes text : List ℕ) : Type 0 where
   pub are : list_all (has_character form) characters ≡ true
   pub bytes_are : bytes ≡ written (wide_bytes form) characters
   pub text_is : text ≡ written encode_utf8 characters
+
+-- The text of the bytes is made of others, in memory of its own.
+abbrev pub IsConverted : CharacterSet → List ℕ → Type 0
+IsConverted Latin1 bytes = list_all (λ byte. nat_lt byte 128) bytes ≡ false
+IsConverted Ucs2 bytes = 0 < length bytes
+IsConverted Utf16 bytes = 0 < length bytes
+IsConverted Utf16le bytes = 0 < length bytes
+IsConverted Utf32 bytes = 0 < length bytes
+IsConverted _ bytes = ⊥
 
 -- The bytes of a column are this text in UTF-8.
 abbrev pub IsTextOf : CharacterSet → List ℕ → List ℕ → Type 0

@@ -1,6 +1,7 @@
 -- The text of the type of a column. MySQL Reference Manual, "Data Types", "The ENUM Type", "The SET Type" and "The
 -- INFORMATION_SCHEMA COLUMNS Table" (COLUMN_TYPE).
-use Rattle.std.specs.Prelude.{◌≡◌, ℕ, ◌+◌, ◌⊎◌, List, ◌++◌, length, codes, IsTrue}
+use Rattle.std.specs.Prelude.{◌≡◌, ℕ, ◌+◌, ◌⊎◌, List, ◌∷◌, ◌++◌, length, codes, IsTrue}
+use Rattle.std.specs.Str.{byte}
 use Rattle.columns.specs.DataType.{is_type}
 use Rattle.columns.specs.TypeText.{type_text, IsTypeFault}
 use Rattle.columns.specs.Members.{members_text, member_bytes, AreMembers, IsMembersFault}
@@ -35,12 +36,12 @@ column_type_text (scalar name numbers sign) = type_text name numbers sign
 column_type_text (enumeration members) = codes "enum" ++ members_text members
 column_type_text (choices members) = codes "set" ++ members_text members
 
--- What is wrong with the members behind the name of a type, in a text of so many bytes: a list of members that is none,
--- from this offset on.
+-- What is wrong with the members after the name of a type, in a text of so many bytes: a list of members that is none,
+-- from this offset on; or memory is refused, which members alone take.
 abbrev pub IsMemberListFault : ℕ → ℕ → List ℕ → ColumnTypeFault → Type 0
 IsMemberListFault most size list (DataType fault) = ⊥
 IsMemberListFault most size list (Members at) = (left : ℕ) × (at + left ≡ size) × IsMembersFault most list (Text left)
-IsMemberListFault most size list Memory = Unit {0}
+IsMemberListFault most size list Memory = (rest : List ℕ) × (list ≡ byte "(" ∷ rest)
 
 -- What is wrong with a text that is no type's.
 abbrev pub IsColumnTypeFault : List ℕ → ColumnTypeFault → Type 0
@@ -48,4 +49,6 @@ IsColumnTypeFault text (DataType fault) = IsTypeFault text fault
 IsColumnTypeFault text (Members at) =
     ((list : List ℕ) × (text ≡ codes "enum" ++ list) × IsMemberListFault 65535 (length text) list (Members at))
     ⊎ ((list : List ℕ) × (text ≡ codes "set" ++ list) × IsMemberListFault 64 (length text) list (Members at))
-IsColumnTypeFault text Memory = Unit {0}
+IsColumnTypeFault text Memory =
+    ((list : List ℕ) × (text ≡ codes "enum" ++ list) × IsMemberListFault 65535 (length text) list Memory)
+    ⊎ ((list : List ℕ) × (text ≡ codes "set" ++ list) × IsMemberListFault 64 (length text) list Memory)

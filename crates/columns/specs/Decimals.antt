@@ -77,7 +77,7 @@ abbrev pub fraction_part : List ℕ → List ℕ
 fraction_part [] = []
 fraction_part (d ∷ digits) = byte "." ∷ digits_text (d ∷ digits)
 
--- the text of so many digits in front of the point, and of those behind it
+-- the text of so many digits in front of the point, and of those after it
 abbrev pub decimal_text : Bool → ℕ → ℕ → List ℕ → List ℕ
 decimal_text negative precision scale digits =
     sign_part negative (take precision digits)
@@ -87,6 +87,6 @@ decimal_text negative precision scale digits =
 abbrev pub zero_filled : ℕ → List ℕ → List ℕ
 zero_filled width text = replicate (width - length text) 48 ++ text
 
--- how wide a value of a type with ZEROFILL is: all its digits, and a point if some stand behind it
+-- how wide a value of a type with ZEROFILL is: all its digits, and a point if some stand after it
 abbrev pub filled_width : ℕ → ℕ → ℕ
 filled_width precision scale = if scale == 0 then precision else precision + 1

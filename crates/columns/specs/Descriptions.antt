@@ -1,15 +1,16 @@
 -- The description of tables: one line a column, the lines of a table together. MySQL Reference Manual, "mysql Client
 -- Options" (--batch) and "The INFORMATION_SCHEMA COLUMNS Table".
-use Rattle.std.specs.Prelude.{◌≡◌, ℕ, ◌<◌, ◌+◌, ◌==◌, true, List, [], ◌++◌, length, map, count_by}
+use Rattle.std.specs.Prelude.{◌≡◌, ℕ, ◌<◌, ◌+◌, ◌==◌, true, false, List, [], ◌++◌, length, map, count_by}
 use Rattle.std.specs.List.{flat_map, AllByRecursion, IsDistinct, list_any}
 use Rattle.std.specs.Str.{bytes_eq}
 use Rattle.std.specs.String.{string_bytes}
 use Rattle.columns.specs.Escapes.{escaped}
 use Rattle.columns.specs.Lines.{field, ColumnValue, column_value, column_text, IsDescribedColumn, IsName}
+use Rattle.columns.specs.LineFaults.{IsFaultAmong, line_fields, IsColumnFault}
 use Rattle.columns.specs.declared.escape.Layer.TheVariants.{Client}
 use Rattle.columns.specs.declared.column.Column.{Column}
 use Rattle.columns.specs.declared.fields.LineFault.{LineFault}
-use Rattle.columns.specs.declared.fields.LineFault.TheVariants.{ColumnTwice, TableApart, Memory}
+use Rattle.columns.specs.declared.fields.LineFault.TheVariants.{CharacterSet, ColumnTwice, TableApart, NoLine, Memory}
 use Rattle.columns.specs.declared.table.DescribedTable.{DescribedTable}
 
 -- A table: the name of its schema, its name, its columns.
@@ -86,21 +87,30 @@ pub record IsFront (front : List ℕ) : Type 0 where
 abbrev pub BeginsWithNoLine : List ℕ → Type 0
 BeginsWithNoLine text = (front : List ℕ) (column : ColumnValue) (tail : List ℕ) → IsFront front → IsDescribedColumn column → text ≡ front ++ (column_text column ++ tail) → ⊥
 
--- What is wrong with a text behind the lines of tables, whose names are these, and behind lines of one more table that
+-- What is wrong with a line by itself: one of its fields, or the character set does not fit the type.
+abbrev pub IsLineFault : List ℕ → LineFault → Type 0
+IsLineFault text CharacterSet =
+    (front : List ℕ) × (line : List ℕ) × IsFront front × (text ≡ front ++ line) × IsColumnFault line CharacterSet
+IsLineFault text fault = IsFaultAmong line_fields text fault
+
+-- What is wrong with a text after the lines of tables, whose names are these, and after lines of one more table that
 -- begin so and have these columns: a line with the name of one of these columns, a line with the names of one of these
--- tables, or none.
+-- tables, or no line of a column, with a fault that it has. There is no line at all where nothing stands, neither before
+-- nor here. Memory is refused only where something stands.
 abbrev pub IsWrongLine : List (List ℕ) → List ℕ → List ColumnValue → List ℕ → LineFault → Type 0
-IsWrongLine names front columns text Memory = Unit {0}
+IsWrongLine names front columns text Memory = 0 < length text
 IsWrongLine names front columns text ColumnTwice =
     (column : ColumnValue) × (tail : List ℕ) × (text ≡ front ++ (column_text column ++ tail)) × (list_any (bytes_eq (escaped Client column.name)) (column_names columns) ≡ true)
 IsWrongLine names front columns text TableApart = (again : List ℕ) × (tail : List ℕ) × (text ≡ again ++ tail) × (list_any (bytes_eq again) names ≡ true)
-IsWrongLine names front columns text _ = BeginsWithNoLine text
+IsWrongLine names front columns text NoLine = (names ≡ []) × (columns ≡ []) × (text ≡ [])
+IsWrongLine names front columns text fault = BeginsWithNoLine text × IsLineFault text fault
 
 -- A reader of lines that begin so stopped at one that is wrong, from which on so many bytes stand.
 pub record IsStopped (front text : List ℕ) (left : ℕ) (fault : LineFault) : Type 0 where
   pub columns : List ColumnValue
   pub rest : List ℕ
   pub lawful : AreDescribedColumns columns
+  pub begins : 0 < length columns → IsFront front
   pub text_is : text ≡ lines_text front columns ++ rest
   pub left_is : length rest ≡ left
   pub wrong : IsWrongLine [] front columns rest fault
@@ -113,11 +123,15 @@ pub record IsTableStopped (text : List ℕ) (left : ℕ) (fault : LineFault) : T
   pub rest : List ℕ
   pub tables_are : AreTables tables
   pub lawful : AreDescribedColumns columns
+  pub begins : 0 < length columns → IsFront front
+  pub fresh : 0 < length columns → list_any (bytes_eq front) (table_names tables) ≡ false
   pub text_is : text ≡ (description_text tables ++ lines_text front columns) ++ rest
   pub left_is : length rest ≡ left
   pub wrong : IsWrongLine (table_names tables) front columns rest fault
 
--- A text that is no description: the line of this number, from 1, is wrong behind those before it, which are not.
+-- A text that is no description: the line of this number, from 1, is wrong after those before it, which are not: the lines
+-- of tables, and lines of one more table, which begin with its names, and those are the names of no
+-- table before.
 pub record IsDescriptionFault (text : List ℕ) (number : ℕ) (fault : LineFault) : Type 0 where
   pub tables : List DescribedTableValue
   pub front : List ℕ
@@ -125,6 +139,8 @@ pub record IsDescriptionFault (text : List ℕ) (number : ℕ) (fault : LineFaul
   pub rest : List ℕ
   pub tables_are : AreTables tables
   pub lawful : AreDescribedColumns columns
+  pub begins : 0 < length columns → IsFront front
+  pub fresh : 0 < length columns → list_any (bytes_eq front) (table_names tables) ≡ false
   pub text_is : text ≡ (description_text tables ++ lines_text front columns) ++ rest
   pub number_is : number ≡ count_by (λ b. b == 10) (description_text tables ++ lines_text front columns) + 1
   pub wrong : IsWrongLine (table_names tables) front columns rest fault

@@ -48,10 +48,15 @@ hex_text bytes = flat_map hex_pair bytes
 abbrev pub BeginsWithNone : Layer → List ℕ → Type 0
 BeginsWithNone layer text = (b : ℕ) (rest : List ℕ) → text ≡ escape layer b ++ rest → ⊥
 
+-- The text begins with what stands for a byte.
+abbrev pub BeginsWithCode : Layer → List ℕ → Type 0
+BeginsWithCode layer text = (b : ℕ) × (rest : List ℕ) × (text ≡ escape layer b ++ rest)
+
 -- What is wrong with a field: what stands in front of this offset are bytes, and what stands there is none.
+-- Memory is refused only where there is a byte to read.
 abbrev pub IsEscapeFault : List ℕ → EscapeFault → Type 0
 IsEscapeFault text (Escape at) = (bytes : List ℕ) × (take at text ≡ escaped Client bytes) × (at < length text) × BeginsWithNone Client (drop at text)
-IsEscapeFault text Memory = Unit {0}
+IsEscapeFault text Memory = BeginsWithCode Client text
 
 -- The text does not begin with the digits of a byte.
 abbrev pub BeginsWithNoPair : List ℕ → Type 0

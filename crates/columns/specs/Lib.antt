@@ -18,6 +18,8 @@ pub mod CharacterSets
 pub mod TextBytes
 pub mod Choices
 pub mod TypedValues
+pub mod WrittenCells
+pub mod Writes
 pub mod PlainTexts
 pub mod Decimals
 pub mod Escapes
@@ -30,4 +32,5 @@ pub mod RealCells
 pub mod Keys
 pub mod Seen
 pub mod Lines
+pub mod LineFaults
 pub mod Descriptions

@@ -15,8 +15,6 @@ use Rattle.columns.specs.declared.type_name.TypeName.TheVariants.{Char, Varchar,
 use Rattle.columns.specs.declared.column.Key.{Key}
 use Rattle.columns.specs.Keys.{key_text}
 use Rattle.columns.specs.declared.column.Column.{Column}
-use Rattle.columns.specs.declared.fields.LineFault.{LineFault}
-use Rattle.columns.specs.declared.fields.LineFault.TheVariants.{ColumnTwice, TableApart, NoLine}
 
 -- a byte within a field
 abbrev pub is_inner : ℕ → Bool
@@ -81,10 +79,3 @@ pub record IsDescribedColumn (column : ColumnValue) : Type 0 where
   pub kind : IsType column.kind
   pub set : IsSet column.set
   pub fits : FitsSet column.kind (is_some column.set)
-
--- What may be wrong with a line by itself.
-abbrev pub IsOfLine : LineFault → Type 0
-IsOfLine ColumnTwice = ⊥
-IsOfLine TableApart = ⊥
-IsOfLine NoLine = ⊥
-IsOfLine _ = Unit {0}

@@ -1,7 +1,7 @@
 -- The texts of values of ENUM and SET. MySQL Reference Manual, "The ENUM Type" and "The SET Type".
 use Rattle.std.specs.Prelude.{ℕ, ◌-◌, ◌/◌, ◌%◌, ◌==◌, Bool, true, false, if◌then◌else◌, List, [], ◌∷◌, ◌++◌, codes, unwrap_or, slice_get}
 
--- the member with this ordinal, from 1 on; nothing of 0, and behind the last one
+-- the member with this ordinal, from 1 on; nothing of 0, and after the last one
 abbrev pub member_of : ℕ → List (List ℕ) → List ℕ
 member_of ordinal members = if ordinal == 0 then [] else unwrap_or (slice_get members (ordinal - 1)) []
 

@@ -47,7 +47,7 @@ abbrev pub members_before : List (List ℕ) → List ℕ
 members_before [] = byte "(" ∷ []
 members_before (member ∷ members) = members_front (member ∷ members) ++ byte "," ∷ []
 
--- What is wrong behind these members: in front of the first no parenthesis, where one is due no member, or behind one
+-- What is wrong after these members: in front of the first no parenthesis, where one is due no member, or after one
 -- neither the closing parenthesis at the end nor a comma, which no member too many follows.
 abbrev pub IsWrongBehind : ℕ → List ℕ → List (List ℕ) → List ℕ → Type 0
 IsWrongBehind most text members rest =
@@ -55,7 +55,8 @@ IsWrongBehind most text members rest =
     ⊎ (((text ≡ members_before members ++ rest) × (length members < most) × BeginsWithNoMember rest)
     ⊎ ((text ≡ members_front members ++ rest) × (0 < length members) × (rest ≢ byte ")" ∷ []) × (length members < most → Ends is_comma rest)))
 
--- The fault of a list that is none: how many bytes stand from there on.
+-- The fault of a list that is none: how many bytes stand from there on. Memory is refused only after
+-- the opening parenthesis.
 abbrev pub IsMembersFault : ℕ → List ℕ → MembersFault → Type 0
 IsMembersFault most text (Text left) = (members : List (List ℕ)) × (rest : List ℕ) × AllByRecursion AreBytes members × (length rest ≡ left) × IsWrongBehind most text members rest
-IsMembersFault most text Memory = Unit {0}
+IsMembersFault most text Memory = (rest : List ℕ) × (text ≡ byte "(" ∷ rest)

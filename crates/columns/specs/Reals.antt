@@ -18,12 +18,12 @@ abbrev pub exponent_text : ℕ → Tens → List ℕ
 exponent_text count (Up tens) = decimal (tens + count - 1)
 exponent_text count (Down tens) = if nat_lt tens count then decimal (count - 1 - tens) else byte "-" ∷ decimal (tens + 1 - count)
 
--- one digit in front of the point, the others behind it, and the exponent
+-- one digit in front of the point, the others after it, and the exponent
 abbrev pub scientific_text : ℕ → Tens → List ℕ
 scientific_text number tens =
     point_text (length (decimal number) - 1) number ++ byte "e" ∷ exponent_text (length (decimal number)) tens
 
--- The point would stand behind more than 15 digits and zeros, with no digit behind it, or more than 14 zeros would stand
+-- The point would stand after more than 15 digits and zeros, with no digit after it, or more than 14 zeros would stand
 -- between it and the first digit.
 abbrev pub is_far : ℕ → Tens → Bool
 is_far count (Up tens) = nat_lt 15 (count + tens)

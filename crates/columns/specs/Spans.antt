@@ -9,7 +9,7 @@ use Rattle.columns.specs.declared.value.span.Time.{Time}
 abbrev pub around : ℕ → Bool → ℕ → ℕ
 around middle negative amount = if negative then middle - amount else middle + amount
 
--- hours, minutes and seconds, and behind them the fraction in so many bytes, as one number
+-- hours, minutes and seconds, and after them the fraction in so many bytes, as one number
 abbrev pub span_number : ℕ → Time → ℕ
 span_number size at = clock_number at.hour at.minute at.second * 256 ^ size + even_digits at.fraction.digits at.fraction.number
 

@@ -6,7 +6,7 @@ use Rattle.std.specs.Str.{byte}
 use Rattle.byteorder.specs.Endian.{big_bytes}
 use Rattle.columns.specs.Text.{zero_padded}
 
--- A fraction of a second: how many digits stand behind the point, up to six, and the number that they are.
+-- A fraction of a second: how many digits stand after the point, up to six, and the number that they are.
 abbrev pub is_fraction : ℕ → ℕ → Bool
 is_fraction digits number = nat_le digits 6 && nat_lt number (10 ^ digits)
 

@@ -1,22 +1,23 @@
 -- Which value the cell of a column stands for, by the column's type. MySQL Reference Manual, "Data Types" and "Data Type
 -- Storage Requirements".
-use Rattle.std.specs.Prelude.{◌≡◌, ℕ, ◌*◌, ◌-◌, ◌^◌, ◌<◌, ◌≤◌, List, length, Some, IsTrue, from_bits}
+use Rattle.std.specs.Prelude.{Some, ◌≡◌, ℕ, ◌+◌, ◌*◌, ◌-◌, ◌^◌, ◌<◌, ◌≤◌, length}
 use Rattle.binlog.specs.Cell.{CellValue}
-use Rattle.binlog.specs.Cell.CellValue.{null_cell, number_cell, bytes_cell}
+use Rattle.binlog.specs.Cell.CellValue.{bytes_cell}
 use Rattle.columns.specs.Integers.{IsIntegerCell}
-use Rattle.std.specs.Float.{binary32, binary64}
-use Rattle.byteorder.specs.Endian.{little_bytes}
-use Rattle.columns.specs.RealCells.{is_float, is_double, IsFloatCell, IsDoubleCell}
-use Rattle.columns.specs.Decimals.{decimal_bytes}
+use Rattle.columns.specs.RealCells.{IsFloatValue, IsDoubleValue}
+use Rattle.columns.specs.Cells.{number_fault, bytes_fault, within_fault}
+use Rattle.columns.specs.declared.value.fault.CellFault.{CellFault}
+use Rattle.columns.specs.declared.value.fault.CellFault.TheVariants.{Kind}
+use Rattle.columns.specs.Decimals.{decimal_bytes, decimal_size}
 use Rattle.columns.specs.TypeText.{first_number}
-use Rattle.columns.specs.Bits.{bit_bytes}
+use Rattle.columns.specs.Bits.{bit_bytes, bit_size}
 use Rattle.columns.specs.Dates.{year_bytes, date_bytes}
-use Rattle.columns.specs.Moments.{moment_bytes}
-use Rattle.columns.specs.Spans.{span_bytes}
-use Rattle.columns.specs.Stamps.{stamp_bytes}
+use Rattle.columns.specs.Moments.{moment_bytes, IsSameMoment}
+use Rattle.columns.specs.Spans.{span_bytes, IsSameSpan}
+use Rattle.columns.specs.Stamps.{stamp_bytes, IsSameStamp}
 use Rattle.columns.specs.Times.{fraction_size}
 use Rattle.columns.specs.declared.arguments.Arguments.{Arguments}
-use Rattle.columns.specs.declared.arguments.Arguments.TheVariants.{NoNumber, OneNumber, TwoNumbers}
+use Rattle.columns.specs.declared.arguments.Arguments.TheVariants.{TwoNumbers}
 use Rattle.columns.specs.declared.sign.Sign.{Sign}
 use Rattle.columns.specs.declared.type_name.TypeName.{TypeName}
 use Rattle.columns.specs.declared.type_name.TypeName.TheVariants as name
@@ -41,13 +42,11 @@ IsDecimalOf precision scale _ cell = ⊥
 
 -- the number whose bits the cell has
 abbrev pub IsFloatOf : TypedValue → CellValue → Type 0
-IsFloatOf (Float real) cell =
-    IsFloatCell cell × ((bits : ℕ) → bits < 2 ^ 32 → IsTrue (is_float bits) → cell ≡ bytes_cell (little_bytes 4 bits) → real.value ≡ from_bits binary32 bits)
+IsFloatOf (Float real) cell = IsFloatValue real.value cell
 IsFloatOf _ cell = ⊥
 
 abbrev pub IsDoubleOf : TypedValue → CellValue → Type 0
-IsDoubleOf (Double real) cell =
-    IsDoubleCell cell × ((bits : ℕ) → bits < 2 ^ 64 → IsTrue (is_double bits) → cell ≡ bytes_cell (little_bytes 8 bits) → real.value ≡ from_bits binary64 bits)
+IsDoubleOf (Double real) cell = IsDoubleValue real.value cell
 IsDoubleOf _ cell = ⊥
 
 abbrev pub IsBitsOf : ℕ → TypedValue → CellValue → Type 0
@@ -117,3 +116,49 @@ IsValueOf name.Blob numbers sign value cell = AreBytesWithin (2 ^ 16 - 1) value 
 IsValueOf name.Mediumblob numbers sign value cell = AreBytesWithin (2 ^ 24 - 1) value cell
 IsValueOf name.Longblob numbers sign value cell = AreBytesWithin (2 ^ 32 - 1) value cell
 IsValueOf _ numbers sign value cell = ⊥
+
+-- Two values are of one kind, and the same in each part; FLOAT and DOUBLE are the same numbers with the same sign.
+abbrev pub IsSameValue : TypedValue → TypedValue → Type 0
+IsSameValue (Integer a) (Integer b) = a ≡ b
+IsSameValue (Decimal a) (Decimal b) = (a.precision ≡ b.precision) × (a.scale ≡ b.scale) × (a.negative ≡ b.negative) × (a.digits ≡ b.digits)
+IsSameValue (Float a) (Float b) = a.value ≡ b.value
+IsSameValue (Double a) (Double b) = a.value ≡ b.value
+IsSameValue (Bits a) (Bits b) = a ≡ b
+IsSameValue (Year a) (Year b) = a.year ≡ b.year
+IsSameValue (Date a) (Date b) = (a.year ≡ b.year) × (a.month ≡ b.month) × (a.day ≡ b.day)
+IsSameValue (Time a) (Time b) = IsSameSpan a b
+IsSameValue (Datetime a) (Datetime b) = IsSameMoment a b
+IsSameValue (Timestamp a) (Timestamp b) = IsSameStamp a b
+IsSameValue (Text a) (Text b) = a.now ≡ b.now
+IsSameValue (Bytes a) (Bytes b) = a.now ≡ b.now
+IsSameValue _ _ = ⊥
+
+-- What is wrong with a cell that stands for no value in a column of this type.
+abbrev pub IsCellFault : TypeName → Arguments → CellValue → CellFault → Type 0
+IsCellFault name.Tinyint numbers cell fault = number_fault 1 cell ≡ Some fault
+IsCellFault name.Smallint numbers cell fault = number_fault 2 cell ≡ Some fault
+IsCellFault name.Mediumint numbers cell fault = number_fault 3 cell ≡ Some fault
+IsCellFault name.Int numbers cell fault = number_fault 4 cell ≡ Some fault
+IsCellFault name.Bigint numbers cell fault = number_fault 8 cell ≡ Some fault
+IsCellFault name.Decimal numbers cell fault = fault ≡ bytes_fault (decimal_size (first_number numbers) (second_number numbers)) cell
+IsCellFault name.Float numbers cell fault = fault ≡ bytes_fault 4 cell
+IsCellFault name.Double numbers cell fault = fault ≡ bytes_fault 8 cell
+IsCellFault name.Bit numbers cell fault = fault ≡ bytes_fault (bit_size (first_number numbers)) cell
+IsCellFault name.Year numbers cell fault = fault ≡ bytes_fault 1 cell
+IsCellFault name.Date numbers cell fault = fault ≡ bytes_fault 3 cell
+IsCellFault name.Time numbers cell fault = fault ≡ bytes_fault (3 + fraction_size (first_number numbers)) cell
+IsCellFault name.Datetime numbers cell fault = fault ≡ bytes_fault (5 + fraction_size (first_number numbers)) cell
+IsCellFault name.Timestamp numbers cell fault = fault ≡ bytes_fault (4 + fraction_size (first_number numbers)) cell
+IsCellFault name.Char numbers cell fault = fault ≡ within_fault cell
+IsCellFault name.Varchar numbers cell fault = fault ≡ within_fault cell
+IsCellFault name.Tinytext numbers cell fault = fault ≡ within_fault cell
+IsCellFault name.Text numbers cell fault = fault ≡ within_fault cell
+IsCellFault name.Mediumtext numbers cell fault = fault ≡ within_fault cell
+IsCellFault name.Longtext numbers cell fault = fault ≡ within_fault cell
+IsCellFault name.Binary numbers cell fault = fault ≡ within_fault cell
+IsCellFault name.Varbinary numbers cell fault = fault ≡ within_fault cell
+IsCellFault name.Tinyblob numbers cell fault = fault ≡ within_fault cell
+IsCellFault name.Blob numbers cell fault = fault ≡ within_fault cell
+IsCellFault name.Mediumblob numbers cell fault = fault ≡ within_fault cell
+IsCellFault name.Longblob numbers cell fault = fault ≡ within_fault cell
+IsCellFault _ numbers cell fault = fault ≡ Kind

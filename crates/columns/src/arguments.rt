@@ -7,7 +7,7 @@ ghost use Rattle.columns.specs.TypeText.{arguments_text, AreSmall, first_number}
 use crate::numeral::{read_last_number, read_number};
 use std::fmt;
 
-/// The numbers in parentheses behind the name of a type.
+/// The numbers in parentheses after the name of a type.
 #[derive(Clone, Copy, Debug, PartialEq, Eq)]
 pub enum Arguments {
     /// None.

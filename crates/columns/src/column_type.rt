@@ -42,7 +42,7 @@ pub enum ColumnTypeFault {
     #[error("{0}")]
     DataType(TypeFault),
     /// From this offset on it is not the rest of an ENUM or a SET: a member is due where none stands, or something else
-    /// than a comma and the closing parenthesis at the end stands behind one, or there are too many.
+    /// than a comma and the closing parenthesis at the end stands after one, or there are too many.
     #[error("not a list of members, at byte {0}")]
     Members(usize),
     /// An allocation was refused.
@@ -52,7 +52,7 @@ pub enum ColumnTypeFault {
 
 impl ColumnType {
     /// Reads the text of a type, as the column `COLUMN_TYPE` of `INFORMATION_SCHEMA.COLUMNS` has it. The whole text is
-    /// read.
+    /// read. `Memory` is answered only of a text that begins with `enum(` or `set(`.
     pub fn read(alloc: Global, text: &[u8]) -> Result<ColumnType, ColumnTypeFault>
         ensures found { IfOk result (λ made. text.now ≡ column_type_text (type_value made)) }
         ensures lawful { IfOk result (λ made. IsType (type_value made)) }
@@ -76,7 +76,7 @@ impl ColumnType {
     }
 }
 
-/// Reads the members that stand behind the name, in a text of so many bytes.
+/// Reads the members that stand after the name, in a text of so many bytes.
 fn read_behind_name(
     alloc: Global,
     most: usize,

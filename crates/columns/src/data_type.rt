@@ -122,7 +122,7 @@ fn is_one_between(low: u32, high: u32, numbers: Arguments) -> bool
     }
 }
 
-/// Whether it is a number of digits up to `most`, and how many of them stand behind the point.
+/// Whether it is a number of digits up to `most`, and how many of them stand after the point.
 fn is_digits(most: u32, numbers: Arguments) -> bool
     ensures { result ≡ spec.is_digits most numbers }
 {

@@ -1,13 +1,13 @@
 //! The description of tables.
 
-ghost use Rattle.std.specs.Prelude.{◌≡◌, ◌++◌, ◌+◌, ◌-◌, ◌==◌, ◌&&◌, List, ℕ, IfOk, IfErr, MatchResult, length, take, count_by, find, string_bytes};
+ghost use Rattle.std.specs.Prelude.{◌≡◌, ◌+◌, ◌-◌, ◌==◌, ◌&&◌, [], List, IfOk, IfErr, IsErrAnd, MatchResult, length, take, count_by, find, string_bytes};
 ghost use Rattle.std.specs.Option.{option_copied};
 ghost use Rattle.std.specs.Str.{bytes_eq};
 ghost use Rattle.columns.specs.Descriptions.{DescribedTableValue, described_tables, description_text, AreTables, IsDescription, IsTableStopped, IsDescriptionFault};
 ghost use Rattle.columns.specs.declared.fields.LineFault.TheVariants.{Memory};
 
 use crate::fields::LineFault;
-use crate::lines::{Stop, read_table};
+use crate::lines::{Stop, read_front, read_table};
 use crate::seen::see;
 use crate::table::DescribedTable;
 use std::alloc::Global;
@@ -32,12 +32,17 @@ pub struct DescriptionFault {
 impl Description {
     /// Reads the lines of a description: for each column the names of its schema, its table and itself, its type, its
     /// character set or `NULL`, and its key, with tabs between and a newline at the end, as `mysql --batch` writes
-    /// them. The lines of a table stand together, and no name stands twice in it.
+    /// them. The lines of a table stand together, and no table has two columns of one name.
+    ///
+    /// The fault of the empty text is `NoLine` in line 1. Of another text it is that of the first line which is wrong after
+    /// those before it; `Memory` is answered only where there is something to read.
     pub fn read(alloc: Global, text: &[u8]) -> Result<Description, DescriptionFault>
         ensures found { IfOk result (λ made. text.now ≡ description_text (described_tables made.tables.items)) }
         ensures lawful { IfOk result (λ made. IsDescription (described_tables made.tables.items)) }
         ensures only { (tables : List DescribedTableValue) → IsDescription tables → text.now ≡ description_text tables →
             MatchResult result (λ made. described_tables made.tables.items ≡ tables) (λ fault. fault.fault ≡ LineFault.Memory) }
+        ensures empty { text.now ≡ [] →
+            IsErrAnd result (λ fault. (fault.line ≡ 1) × (fault.fault ≡ LineFault.NoLine)) }
         ensures fault { IfErr result (λ fault. IsDescriptionFault text.now fault.line fault.fault) }
     {
         if text.is_empty() {
@@ -84,33 +89,34 @@ fn read_tables(alloc: Global, text: &[u8]) -> Result<Vec<DescribedTable>, Stop>
     let mut seen = BTreeSet::new(alloc);
     let mut left = text;
     while left.len() > 0 {
-        let (table, front, rest) = match read_table(alloc, left) {
+        let (schema, name, front) = match read_front(alloc, left) {
             Ok(read) => read,
-            Err(stop) => return Err(stop),
+            Err(fault) => return Err(Stop {
+                fault,
+                left: left.len(),
+            }),
         };
         match see(&mut seen, front) {
             Ok(true) => {}
-            Ok(false) => {
-                return Err(Stop {
-                    fault: LineFault::TableApart,
-                    left: left.len(),
-                });
-            }
-            Err(_) => {
-                return Err(Stop {
-                    fault: LineFault::Memory,
-                    left: left.len(),
-                });
-            }
+            Ok(false) => return Err(Stop {
+                fault: LineFault::TableApart,
+                left: left.len(),
+            }),
+            Err(_) => return Err(Stop {
+                fault: LineFault::Memory,
+                left: left.len(),
+            }),
         }
+        let (table, rest) = match read_table(alloc, schema, name, front, left) {
+            Ok(read) => read,
+            Err(stop) => return Err(stop),
+        };
         match tables.push(table) {
             Ok(()) => {}
-            Err(_) => {
-                return Err(Stop {
-                    fault: LineFault::Memory,
-                    left: left.len(),
-                });
-            }
+            Err(_) => return Err(Stop {
+                fault: LineFault::Memory,
+                left: left.len(),
+            }),
         }
         left = rest;
     }

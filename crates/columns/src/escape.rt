@@ -1,7 +1,7 @@
 //! Bytes that stand for one byte, and texts made of them.
 
 ghost use Rattle.std.specs.Prelude.{◌≡◌, ◌++◌, ◌∷◌, [], List, ℕ, length, Some, IfSome, IfNone, IfOk, IfErr, MatchOption, MatchResult};
-ghost use Rattle.columns.specs.Escapes.{escape, escaped, BeginsWithNone, IsEscapeFault, AreBytes};
+ghost use Rattle.columns.specs.Escapes.{escape, escaped, BeginsWithCode, BeginsWithNone, IsEscapeFault, AreBytes};
 ghost use Rattle.columns.specs.declared.escape.EscapeFault.TheVariants.{Memory};
 
 use std::alloc::{AllocError, AllocFailed, Global};
@@ -37,7 +37,8 @@ impl From<AllocError> for EscapeFault {
 }
 
 /// Reads a field of a line of the `mysql` client (`--batch`): `\t`, `\n`, `\\` and `\0` are a tab, a newline, a
-/// backslash and a NUL, and each other byte is itself. The whole field is read.
+/// backslash and a NUL, and each other byte is itself. The whole field is read. `Memory` is answered only where it begins
+/// with a byte.
 pub fn unescape(alloc: Global, field: &[u8]) -> Result<Vec<u8>, EscapeFault>
     ensures found { IfOk result (λ bytes. field.now ≡ escaped Layer.Client bytes.items) }
     ensures only { (bytes : List ℕ) → field.now ≡ escaped Layer.Client bytes →
@@ -60,6 +61,7 @@ pub(crate) fn unescape_front(
     ensures found { IfOk result (λ read. text.now ≡ escaped layer read.0.items ++ read.1.now) }
     ensures bytes { IfOk result (λ read. AreBytes read.0.items) }
     ensures end { IfOk result (λ read. BeginsWithNone layer read.1.now) }
+    ensures full { IfErr result (λ _. BeginsWithCode layer text.now) }
 {
     let mut bytes = Vec::new(alloc);
     let mut left = text;

@@ -5,7 +5,8 @@ ghost use Rattle.std.specs.Str.{is_utf8};
 ghost use Rattle.columns.specs.Word.{Are, Ends};
 ghost use Rattle.columns.specs.Escapes.{escaped};
 ghost use Rattle.columns.specs.ColumnTypes.{TypeValue, type_value, column_type_text, IsType};
-ghost use Rattle.columns.specs.Lines.{is_inner, is_separator, field, set_text, option_bytes, ColumnValue, column_text, column_value, IsName, FitsSet, IsSet, IsDescribedColumn, IsOfLine};
+ghost use Rattle.columns.specs.Lines.{is_inner, is_separator, field, set_text, option_bytes, ColumnValue, column_text, column_value, IsName, FitsSet, IsSet, IsDescribedColumn};
+ghost use Rattle.columns.specs.LineFaults.{IsFieldFault, IsFaultOf, IsColumnFault, a_name, a_type, a_key};
 ghost use Rattle.columns.specs.Lines as spec;
 ghost use Rattle.columns.specs.Keys.{key_text};
 ghost use Rattle.columns.specs.declared.column.Key.{Key as KeyValue};
@@ -38,7 +39,7 @@ pub enum LineFault {
     #[error("the last line has no newline at its end")]
     Unended,
     /// A field has a NUL, or a backslash that no `t`, `n`, `0` or backslash follows.
-    #[error("a field with a NUL, or a backslash without t, n, 0 or a backslash behind it")]
+    #[error("a field with a NUL, or a backslash without t, n, 0 or a backslash after it")]
     Escape,
     /// The name of the schema, the table, the column or the character set is empty or not UTF-8.
     #[error("a name that is empty or not UTF-8")]
@@ -49,8 +50,8 @@ pub enum LineFault {
     /// A CHAR, VARCHAR or TEXT has no character set, or another type than these, ENUM and SET has one.
     #[error("a character set is missing, or given for a type that has none")]
     CharacterSet,
-    /// The key is not empty, `PRI`, `UNI` or `MUL`.
-    #[error("the key is not empty, PRI, UNI or MUL")]
+    /// The key is not empty, `PRI`, `UNI` or `MUL`. Where the lines end with CR LF, the carriage return is part of the key.
+    #[error("the key is not empty, PRI, UNI or MUL, or the line ends with a carriage return")]
     Key,
     /// The table has a column of this name already.
     #[error("a second column of this name in its table")]
@@ -105,7 +106,7 @@ fn stands_within(byte: u8) -> bool
 /// Reads the field that the text begins with, and the byte that ends it: the field's bytes, and what follows.
 pub(crate) fn read_field(alloc: Global, end: u8, text: &[u8]) -> Result<(Vec<u8>, &[u8]), LineFault>
     ensures found { IfOk result (λ read. text.now ≡ field read.0.items end ++ read.1.now) }
-    ensures kind { IfErr result IsOfLine }
+    ensures fault { IfErr result (IsFieldFault end text.now) }
     ensures only { (bytes rest : List ℕ) → IsTrue (is_separator end) → text.now ≡ field bytes end ++ rest →
         MatchResult result (λ read. (read.0.items ≡ bytes) × (read.1.now ≡ rest)) (λ fault. fault ≡ LineFault.Memory) }
 {
@@ -123,10 +124,11 @@ pub(crate) fn read_field(alloc: Global, end: u8, text: &[u8]) -> Result<(Vec<u8>
     }
 }
 
-/// Reads a field that is a name, and the tab behind it.
+/// Reads a field that is a name, and the tab after it.
+#[tactic(auto, using(crate::proofs::LineFaults::of_name))]
 pub(crate) fn read_name(alloc: Global, text: &[u8]) -> Result<(String, &[u8]), LineFault>
     ensures found { IfOk result (λ read. text.now ≡ field (string_bytes read.0) 9 ++ read.1.now) }
-    ensures kind { IfErr result IsOfLine }
+    ensures fault { IfErr result (IsFaultOf a_name text.now) }
     ensures name { IfOk result (λ read. IsName (string_bytes read.0)) }
     ensures only { (name rest : List ℕ) → IsName name → text.now ≡ field name 9 ++ rest →
         MatchResult result (λ read. (string_bytes read.0 ≡ name) × (read.1.now ≡ rest)) (λ fault. fault ≡ LineFault.Memory) }
@@ -156,10 +158,11 @@ fn name_of(bytes: Vec<u8>) -> Option<String>
     }
 }
 
-/// Reads the field of a type, and the tab behind it.
+/// Reads the field of a type, and the tab after it.
+#[tactic(auto, using(crate::proofs::LineFaults::of_type))]
 fn read_kind(alloc: Global, text: &[u8]) -> Result<(ColumnType, &[u8]), LineFault>
     ensures found { IfOk result (λ read. text.now ≡ field (column_type_text (type_value read.0)) 9 ++ read.1.now) }
-    ensures kind { IfErr result IsOfLine }
+    ensures fault { IfErr result (IsFaultOf a_type text.now) }
     ensures lawful { IfOk result (λ read. IsType (type_value read.0)) }
     ensures only { (value : TypeValue) (rest : List ℕ) → IsType value → text.now ≡ field (column_type_text value) 9 ++ rest →
         MatchResult result (λ read. (type_value read.0 ≡ value) × (read.1.now ≡ rest)) (λ fault. fault ≡ LineFault.Memory) }
@@ -172,10 +175,10 @@ fn read_kind(alloc: Global, text: &[u8]) -> Result<(ColumnType, &[u8]), LineFaul
     }
 }
 
-/// Reads the field of a character set, or the word for none, and the tab behind it.
+/// Reads the field of a character set, or the word for none, and the tab after it.
 fn read_set(alloc: Global, text: &[u8]) -> Result<(Option<String>, &[u8]), LineFault>
     ensures found { IfOk result (λ read. text.now ≡ field (set_text (option_bytes read.0)) 9 ++ read.1.now) }
-    ensures kind { IfErr result IsOfLine }
+    ensures fault { IfErr result (IsFaultOf a_name text.now) }
     ensures lawful { IfOk result (λ read. IsSet (option_bytes read.0)) }
     ensures only { (set : Option (List ℕ)) (rest : List ℕ) → IsSet set → text.now ≡ field (set_text set) 9 ++ rest →
         MatchResult result (λ read. (option_bytes read.0 ≡ set) × (read.1.now ≡ rest)) (λ fault. fault ≡ LineFault.Memory) }
@@ -191,10 +194,11 @@ fn read_set(alloc: Global, text: &[u8]) -> Result<(Option<String>, &[u8]), LineF
     }
 }
 
-/// Reads the field of a key, and the newline behind it.
+/// Reads the field of a key, and the newline after it.
+#[tactic(auto, using(crate::proofs::LineFaults::of_key))]
 fn read_key(alloc: Global, text: &[u8]) -> Result<(Key, &[u8]), LineFault>
     ensures found { IfOk result (λ read. text.now ≡ field (key_text read.0) 10 ++ read.1.now) }
-    ensures kind { IfErr result IsOfLine }
+    ensures fault { IfErr result (IsFaultOf a_key text.now) }
     ensures only { (key : KeyValue) (rest : List ℕ) → text.now ≡ field (key_text key) 10 ++ rest →
         MatchResult result (λ read. (read.0 ≡ key) × (read.1.now ≡ rest)) (λ fault. fault ≡ LineFault.Memory) }
 {
@@ -206,9 +210,10 @@ fn read_key(alloc: Global, text: &[u8]) -> Result<(Key, &[u8]), LineFault>
 }
 
 /// Reads the last four fields of a line: the column, and what follows the line.
+#[tactic(auto, using(crate::proofs::LineFaults::at_name, crate::proofs::LineFaults::at_type, crate::proofs::LineFaults::at_set, crate::proofs::LineFaults::at_key))]
 pub(crate) fn read_column(alloc: Global, text: &[u8]) -> Result<(Column, &[u8]), LineFault>
     ensures found { IfOk result (λ read. text.now ≡ column_text (column_value read.0) ++ read.1.now) }
-    ensures kind { IfErr result IsOfLine }
+    ensures fault { IfErr result (IsColumnFault text.now) }
     ensures lawful { IfOk result (λ read. IsDescribedColumn (column_value read.0)) }
     ensures only { (column : ColumnValue) (rest : List ℕ) → IsDescribedColumn column → text.now ≡ column_text column ++ rest →
         MatchResult result (λ read. (column_value read.0 ≡ column) × (read.1.now ≡ rest)) (λ fault. fault ≡ LineFault.Memory) }

@@ -14,9 +14,15 @@ ghost use Rattle.columns.specs.Spans.{span_bytes, IsSameSpan};
 ghost use Rattle.columns.specs.Stamps.{stamp_bytes, IsSameStamp};
 ghost use Rattle.columns.specs.Times.{fraction_size};
 ghost use Rattle.columns.specs.Decimals.{decimal_bytes};
+ghost use Rattle.binlog.specs.Cell.{cell_value};
+ghost use Rattle.columns.specs.TypedValues.{IsValueOf, IsSameValue};
+ghost use Rattle.columns.specs.declared.typed_value.TypedValue.{TypedValue};
 
 use crate::data_type::DataType;
+use crate::one_value as value_by_type;
 use crate::sign::Sign as TypeSign;
+use crate::type_name::TypeName;
+use crate::typed_value::{bits_of, digits_of};
 use crate::value::date::Date;
 use crate::value::decimal::Decimal;
 use crate::value::fault::CellFault;
@@ -109,7 +115,7 @@ pub fn one_timestamp(digits: u8, bytes: &[u8])
     let _found = Timestamp::read(digits, Cell::Bytes(bytes));
 }
 
-/// Bytes are a DECIMAL with so many digits, and so many of them behind the point, in one way at most, so what is read of
+/// Bytes are a DECIMAL with so many digits, and so many of them after the point, in one way at most, so what is read of
 /// what was written is the value.
 pub fn one_decimal(precision: u8, scale: u8, bytes: &[u8])
     requires some { 1 ≤ precision }
@@ -139,4 +145,29 @@ pub fn double_reads_back(value: f64) -> Result<f64, CellFault>
 {
     let bytes = double_bytes(value);
     read_double(Cell::Bytes(&bytes))
+}
+
+/// A cell is that of one value at most in a column of a type, so what is read of a cell that was written is the value.
+pub fn one_value(kind: DataType, cell: Cell<'_>)
+    ensures { (a b : TypedValue) →
+        IsValueOf kind.name kind.numbers kind.sign a (cell_value cell.entry) →
+        IsValueOf kind.name kind.numbers kind.sign b (cell_value cell.entry) → IsSameValue a b }
+{
+    match kind.name {
+        TypeName::Tinyint => value_by_type::one_integer(IntegerWidth::One, kind.sign, cell),
+        TypeName::Smallint => value_by_type::one_integer(IntegerWidth::Two, kind.sign, cell),
+        TypeName::Mediumint => value_by_type::one_integer(IntegerWidth::Three, kind.sign, cell),
+        TypeName::Int => value_by_type::one_integer(IntegerWidth::Four, kind.sign, cell),
+        TypeName::Bigint => value_by_type::one_integer(IntegerWidth::Eight, kind.sign, cell),
+        TypeName::Decimal => value_by_type::one_decimal(kind.numbers, cell),
+        TypeName::Float => value_by_type::one_float(cell),
+        TypeName::Double => value_by_type::one_double(cell),
+        TypeName::Bit => value_by_type::one_bits(bits_of(kind.numbers), cell),
+        TypeName::Year => value_by_type::one_year(cell),
+        TypeName::Date => value_by_type::one_date(cell),
+        TypeName::Time => value_by_type::one_time(digits_of(kind.numbers), cell),
+        TypeName::Datetime => value_by_type::one_datetime(digits_of(kind.numbers), cell),
+        TypeName::Timestamp => value_by_type::one_timestamp(digits_of(kind.numbers), cell),
+        _ => {}
+    }
 }

@@ -1,8 +1,9 @@
 //! The columns of MySQL's tables: their types, and what the cells of a row mean by them.
 //!
 //! The log says how many bytes a cell takes and no more. A description of the columns, as the server's
-//! `information_schema` gives it, says the rest: the type, its sign, its digits. [`DataType::read`] reads the text of a
-//! type, and its `Display` writes it.
+//! `information_schema` gives it, says the rest: the type, its sign, its digits. [`Description::read`] reads one.
+//! [`DataType::read`] reads the text of a type, and its `Display` writes it. [`TypedValue::read`] gives the value of a cell
+//! in a column of a type, and [`TypedValue::write`] the cell of a value.
 //!
 //! The types and their texts are those of the MySQL Reference Manual, "Data Types" and "The INFORMATION_SCHEMA COLUMNS
 //! Table".
@@ -24,6 +25,7 @@ mod member;
 mod member_texts;
 mod members;
 mod numeral;
+mod one_value;
 mod plain;
 mod seen;
 mod sign;
@@ -31,9 +33,11 @@ mod table;
 mod text;
 mod type_name;
 mod typed_value;
+mod typed_write;
 mod value;
 mod wide;
 mod word;
+mod written_cell;
 
 pub use arguments::Arguments;
 pub use character_set::CharacterSet;
@@ -69,3 +73,4 @@ pub use value::span::Time;
 pub use value::stamp::Timestamp;
 pub use value::tens::Tens;
 pub use value::year::Year;
+pub use written_cell::WrittenCell;

@@ -1,8 +1,9 @@
 //! The lines of a table.
 
-ghost use Rattle.std.specs.Prelude.{◌≡◌, ◌++◌, ◌<◌, ◌≤◌, List, ℕ, IfSome, IfNone, IfOk, IfErr, MatchResult, length, Some, string_bytes};
+ghost use Rattle.std.specs.Prelude.{◌≡◌, ◌++◌, ◌<◌, List, ℕ, IfSome, IfNone, IfOk, IfErr, MatchResult, Some, string_bytes};
 ghost use Rattle.columns.specs.Descriptions.{DescribedTableValue, column_values, described_table, table_front, lines_text, table_text, AreDescribedColumns, IsTable, BeginsNot, IsFront, IsStopped};
-ghost use Rattle.columns.specs.Lines.{ColumnValue, field, IsName, IsOfLine};
+ghost use Rattle.columns.specs.Lines.{ColumnValue, field, IsName};
+ghost use Rattle.columns.specs.LineFaults.{IsFaultAmong, front_fields};
 ghost use Rattle.columns.specs.declared.fields.LineFault.TheVariants.{Memory};
 
 use crate::column::Column;
@@ -19,22 +20,28 @@ pub(crate) struct Stop {
     pub(crate) left: usize,
 }
 
-/// Reads the table that the text begins with, the first two fields of its lines, and what follows its lines.
-pub(crate) fn read_table(alloc: Global, text: &[u8]) -> Result<(DescribedTable, &[u8], &[u8]), Stop>
-    ensures found { IfOk result (λ read. text.now ≡ table_text (described_table read.0) ++ read.2.now) }
+/// Reads the table that the text begins with, whose names are these and stand so at the front of its lines, and what
+/// follows its lines.
+pub(crate) fn read_table<'a>(
+    alloc: Global,
+    schema: String,
+    name: String,
+    front: &[u8],
+    text: &'a [u8],
+) -> Result<(DescribedTable, &'a [u8]), Stop>
+    requires names { IsName (string_bytes schema) × IsName (string_bytes name) }
+    requires front { front.now ≡ field (string_bytes schema) 9 ++ field (string_bytes name) 9 }
+    requires begins { (rest : List ℕ) × (text.now ≡ front.now ++ rest) }
+    ensures found { IfOk result (λ read. text.now ≡ table_text (described_table read.0) ++ read.1.now) }
     ensures lawful { IfOk result (λ read. IsTable (described_table read.0)) }
-    ensures front { IfOk result (λ read. read.1.now ≡ table_front (described_table read.0)) }
-    ensures fault { IfErr result (λ stop. (front : List ℕ) × IsStopped front text.now stop.left stop.fault) }
-    ensures only { (table : DescribedTableValue) (rest : List ℕ) → IsTable table → BeginsNot (table_front table) rest → text.now ≡ table_text table ++ rest →
-        MatchResult result (λ read. (described_table read.0 ≡ table) × (read.2.now ≡ rest)) (λ stop. stop.fault ≡ LineFault.Memory) }
+    ensures front { IfOk result (λ read. front.now ≡ table_front (described_table read.0)) }
+    ensures fault { IfErr result (λ stop. IsStopped front.now text.now stop.left stop.fault) }
+    ensures only { (table : DescribedTableValue) (rest : List ℕ) → IsTable table →
+        string_bytes schema ≡ table.schema → string_bytes name ≡ table.name →
+        BeginsNot (table_front table) rest → text.now ≡ table_text table ++ rest →
+        MatchResult result (λ read. (described_table read.0 ≡ table) × (read.1.now ≡ rest))
+        (λ stop. stop.fault ≡ LineFault.Memory) }
 {
-    let (schema, name, front) = match read_front(alloc, text) {
-        Ok(read) => read,
-        Err(fault) => return Err(Stop {
-            fault,
-            left: text.len(),
-        }),
-    };
     match read_columns(alloc, front, text) {
         Ok((columns, rest)) => Ok((
             DescribedTable {
@@ -42,7 +49,6 @@ pub(crate) fn read_table(alloc: Global, text: &[u8]) -> Result<(DescribedTable, 
                 name,
                 columns,
             },
-            front,
             rest,
         )),
         Err(stop) => Err(stop),
@@ -50,9 +56,10 @@ pub(crate) fn read_table(alloc: Global, text: &[u8]) -> Result<(DescribedTable, 
 }
 
 /// Reads the names in the first two fields of a line: the schema's, the table's, and the two fields as they stand there.
-fn read_front(alloc: Global, text: &[u8]) -> Result<(String, String, &[u8]), LineFault>
+#[tactic(auto, using(crate::proofs::LineFaults::first_name, crate::proofs::LineFaults::second_name))]
+pub(crate) fn read_front(alloc: Global, text: &[u8]) -> Result<(String, String, &[u8]), LineFault>
     ensures found { IfOk result (λ read. (rest : List ℕ) × (text.now ≡ read.2.now ++ rest)) }
-    ensures kind { IfErr result IsOfLine }
+    ensures fault { IfErr result (IsFaultAmong front_fields text.now) }
     ensures front { IfOk result (λ read. read.2.now ≡ field (string_bytes read.0) 9 ++ field (string_bytes read.1) 9) }
     ensures names { IfOk result (λ read. IsName (string_bytes read.0) × IsName (string_bytes read.1)) }
     ensures only { (schema name rest : List ℕ) → IsName schema → IsName name → text.now ≡ (field schema 9 ++ field name 9) ++ rest →

@@ -1,6 +1,6 @@
 //! The texts of values of ENUM and SET.
 
-ghost use Rattle.std.specs.Prelude.{◌≡◌, ◌++◌, true, false, IfOk, OnOk};
+ghost use Rattle.std.specs.Prelude.{◌≡◌, ◌++◌, ◌<◌, ◌≤◌, ◌+◌, true, false, length, vec_len, vec_capacity, IfOk, IfErr, OnOk, OnErr};
 ghost use Rattle.columns.specs.Members.{member_bytes};
 ghost use Rattle.columns.specs.MemberTexts.{member_of, chosen, with_commas, comma_unless};
 
@@ -20,9 +20,12 @@ pub fn member_at(members: &[Member], ordinal: u16) -> &[u8]
     }
 }
 
-/// The bytes of the members whose bits are set, the lowest bit for the first one, with commas between.
+/// The bytes of the members whose bits are set, the lowest bit for the first one, with commas between. The only
+/// error is one of memory, and there is none where the text is empty.
 pub fn joined_members(alloc: Global, members: &[Member], bits: u64) -> Result<Vec<u8>, AllocError>
-    ensures { IfOk result (λ all. all.items ≡ with_commas true (chosen bits (member_bytes members.now))) }
+    ensures ok { IfOk result (λ all. all.items ≡ with_commas true (chosen bits (member_bytes members.now))) }
+    ensures full { IfErr result (λ _.
+        0 < length (with_commas true (chosen bits (member_bytes members.now)))) }
 {
     let mut all = Vec::new(alloc);
     append_members(members, bits, true, &mut all)?;
@@ -36,7 +39,10 @@ fn append_members(
     is_first: bool,
     out: &mut Vec<u8>,
 ) -> Result<(), AllocError>
-    ensures { OnOk result (out.new.items ≡ out.old.items ++ with_commas is_first (chosen bits (member_bytes members.now))) }
+    ensures ok { OnOk result (out.new.items ≡
+        out.old.items ++ with_commas is_first (chosen bits (member_bytes members.now))) }
+    ensures full { OnErr result (vec_capacity out.old <
+        vec_len out.old + length (with_commas is_first (chosen bits (member_bytes members.now)))) }
 {
     let [member, rest @ ..] = members else {
         return Ok(());
@@ -50,7 +56,10 @@ fn append_members(
 
 /// Appends a member, with a comma in front of it if it is not the first.
 fn append_member(member: &Member, is_first: bool, out: &mut Vec<u8>) -> Result<(), AllocError>
-    ensures { OnOk result (out.new.items ≡ out.old.items ++ (comma_unless is_first ++ member.now.text.items)) }
+    ensures ok { OnOk result (out.new.items ≡ out.old.items ++ (comma_unless is_first ++ member.now.text.items)) }
+    ensures full { OnErr result (vec_capacity out.old <
+        vec_len out.old + length (comma_unless is_first ++ member.now.text.items)) }
+    ensures capacity { vec_capacity out.old ≤ vec_capacity out.new }
 {
     if !is_first {
         out.extend_from_slice(b",")?;

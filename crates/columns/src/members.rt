@@ -139,7 +139,7 @@ fn read_digits(alloc: Global, text: &[u8]) -> Result<Option<(Member, &[u8])>, Al
     Ok(end_member(true, bytes, rest))
 }
 
-/// The member of these bytes, if a closing quote stands behind them and they are UTF-8 unless they stood in digits; and
+/// The member of these bytes, if a closing quote stands after them and they are UTF-8 unless they stood in digits; and
 /// what follows the quote.
 fn end_member(hex: bool, text: Vec<u8>, rest: &[u8]) -> Option<(Member, &[u8])>
     ensures text { IfSome result (λ made. made.0.text ≡ text) }

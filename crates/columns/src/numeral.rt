@@ -28,7 +28,7 @@ pub(crate) fn read_number(text: &[u8]) -> Option<(u32, &[u8])>
     Some((number, left))
 }
 
-/// Reads the number that the text begins with and the closing parenthesis behind it: the number, and what follows.
+/// Reads the number that the text begins with and the closing parenthesis after it: the number, and what follows.
 pub(crate) fn read_last_number(text: &[u8]) -> Option<(u32, &[u8])>
     ensures found { IfSome result (λ found. text.now ≡ decimal found.0 ++ byte ")" ∷ found.1.now) }
     ensures small { IfSome result (λ found. found.0 < 100000) }

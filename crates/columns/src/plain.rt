@@ -23,9 +23,10 @@ pub struct Plain<'a> {
     pub value: TypedValue<'a>,
 }
 
-/// Writes the text that the `mysql` client prints: an integer of a type with ZEROFILL in as many digits as the type's
-/// display width has, the others as their own text. A BIT is its number. Of a text and of bytes nothing is written. The
-/// only error is the writer's.
+/// Writes the text that the `mysql` client prints, but of a BIT: that is its number here, and the client prints `0x` and
+/// its bytes in hexadecimal digits. A number of a type with ZEROFILL has zeros in front, up to at least the display width of
+/// an integer, all digits of a DECIMAL, or M of a FLOAT or a DOUBLE (12 or 22 without it). Of a text and of bytes nothing is written. The only
+/// error is the writer's.
 impl fmt::Display for Plain<'_> {
     ghost output = { λ plain. shown_text plain.kind.numbers plain.kind.sign plain.value };
 

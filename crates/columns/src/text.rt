@@ -1,10 +1,10 @@
 //! Texts in UTF-8.
 
-ghost use Rattle.std.specs.Prelude.{◌≡◌, List, ℕ, nat_lt, IfOk, IfSome, IsSome, IsSomeAnd, IsTrue, MatchOption, Some, None};
+ghost use Rattle.std.specs.Prelude.{◌≡◌, List, ℕ, nat_lt, false, IfOk, IfErr, IfSome, IsSome, IsSomeAnd, IsTrue, MatchOption, Some, None};
 ghost use Rattle.std.specs.List.{list_all};
 ghost use Rattle.std.specs.Char.{encode_utf8};
 ghost use Rattle.std.specs.Str.{IsUtf8};
-ghost use Rattle.columns.specs.CharacterSets.{IsTextOf, latin1_character, written};
+ghost use Rattle.columns.specs.CharacterSets.{IsTextOf, IsConverted, latin1_character, written};
 ghost use Rattle.columns.specs.TextBytes.{bytes_of};
 ghost use Rattle.columns.specs.declared.text.Text.TheVariants.{Made};
 
@@ -23,12 +23,15 @@ pub enum Text<'a> {
 impl<'a> Text<'a> {
     /// The text in UTF-8 of bytes of this character set. `None` if the bytes are no text of the set, or
     /// the set is another one. A half of a surrogate pair, which ucs2 may have, is no character of UTF-8.
+    ///
+    /// The only error is one of memory, and only latin1 with a byte of 128 or more, ucs2, utf16, utf16le and utf32 take any.
     pub fn read(
         alloc: Global,
         set: CharacterSet,
         bytes: &'a [u8],
     ) -> Result<Option<Text<'a>>, AllocError>
         ensures found { IfOk result (λ made. IfSome made (λ text. IsTextOf set bytes.now (bytes_of text))) }
+        ensures full { IfErr result (λ _. IsConverted set bytes.now) }
         ensures only { (text : List ℕ) → IsTextOf set bytes.now text → IfOk result (λ made. IsSomeAnd made (λ found. bytes_of found ≡ text)) }
     {
         match set {
@@ -121,7 +124,8 @@ fn character_of(byte: u8) -> char
 
 /// The text of bytes of latin1.
 fn read_latin1(alloc: Global, bytes: &[u8]) -> Result<Text<'_>, AllocError>
-    ensures { IfOk result (λ text. bytes_of text ≡ written (λ byte. encode_utf8 (latin1_character byte)) bytes.now) }
+    ensures ok { IfOk result (λ text. bytes_of text ≡ written (λ byte. encode_utf8 (latin1_character byte)) bytes.now) }
+    ensures full { IfErr result (λ _. list_all (λ byte. nat_lt byte 128) bytes.now ≡ false) }
 {
     if let Some(text) = same_if(is_ascii(bytes), bytes) {
         return Ok(text);

@@ -1,10 +1,13 @@
 //! The value of a cell, of any type.
 
-ghost use Rattle.std.specs.Prelude.{◌≡◌, ◌≤◌, ◌||◌, ℕ, List, length, IfOk, IsOk, IsTrue};
+ghost use Rattle.std.specs.Prelude.{◌≡◌, ◌≤◌, ◌||◌, ℕ, List, length, Some, IfOk, IfErr, IsOk, IsTrue};
 ghost use Rattle.binlog.specs.Cell.{cell_value, bytes_cell};
 ghost use Rattle.columns.specs.DataType.{is_none, is_one_between, is_digits};
 ghost use Rattle.columns.specs.TypeText.{first_number};
-ghost use Rattle.columns.specs.TypedValues.{second_number, IsValueOf, IsIntegerOf, IsDecimalOf, IsFloatOf, IsDoubleOf, IsTextWithin, AreBytesWithin};
+ghost use Rattle.columns.specs.TypedValues.{second_number, IsValueOf, IsIntegerOf, IsDecimalOf, IsFloatOf, IsDoubleOf, IsTextWithin, AreBytesWithin, IsCellFault};
+ghost use Rattle.columns.specs.Cells.{number_fault, bytes_fault, within_fault};
+ghost use Rattle.columns.specs.Integers.{byte_count};
+ghost use Rattle.columns.specs.Decimals.{decimal_size};
 
 use crate::arguments::Arguments;
 use crate::data_type::DataType;
@@ -43,11 +46,14 @@ pub enum TypedValue<'a> {
 }
 
 impl<'a> TypedValue<'a> {
-    /// The value that a cell stands for in a column of this type, which is none of ENUM and SET. NULL
-    /// is no value.
+    /// The value that a cell stands for in a column of this type, which is none of ENUM and SET. NULL is no value.
+    /// `Kind` if the cell is bytes where the type has a number, a number where it has bytes, or NULL, and of each cell in a
+    /// column of JSON, GEOMETRY, VECTOR or their like; `Size` if it has another number of bytes than the type's cells, or
+    /// more; `Range` if it stands for no value.
     pub fn read(kind: DataType, cell: Cell<'a>) -> Result<TypedValue<'a>, CellFault>
         ensures found { IfOk result (λ value. IsValueOf kind.name kind.numbers kind.sign value (cell_value cell.entry)) }
         ensures only { (value : TypedValue) → IsValueOf kind.name kind.numbers kind.sign value (cell_value cell.entry) → IsOk result }
+        ensures fault { IfErr result (IsCellFault kind.name kind.numbers (cell_value cell.entry)) }
     {
         match kind.name {
             TypeName::Tinyint => read_integer(IntegerWidth::One, kind.sign, cell),
@@ -106,8 +112,8 @@ impl DataType {
     }
 }
 
-/// The first number of a type with digits behind the point of a second, and 0 where it has none.
-fn digits_of(numbers: Arguments) -> u8
+/// The first number of a type with digits after the point of a second, and 0 where it has none.
+pub(crate) fn digits_of(numbers: Arguments) -> u8
     requires { IsTrue (is_none numbers || is_one_between 1 6 numbers) }
     ensures number { result ≡ first_number numbers }
     ensures few { result ≤ 6 }
@@ -119,7 +125,7 @@ fn digits_of(numbers: Arguments) -> u8
 }
 
 /// The number of bits of a BIT.
-fn bits_of(numbers: Arguments) -> u8
+pub(crate) fn bits_of(numbers: Arguments) -> u8
     requires { IsTrue (is_one_between 1 64 numbers) }
     ensures number { result ≡ first_number numbers }
     ensures some { 1 ≤ result }
@@ -139,6 +145,7 @@ fn read_integer<'a>(
 ) -> Result<TypedValue<'a>, CellFault>
     ensures found { IfOk result (λ value. IsIntegerOf width sign value (cell_value cell.entry)) }
     ensures only { (value : TypedValue) → IsIntegerOf width sign value (cell_value cell.entry) → IsOk result }
+    ensures fault { IfErr result (λ fault. number_fault (byte_count width) (cell_value cell.entry) ≡ Some fault) }
 {
     Ok(TypedValue::Integer(Integer::read(width, sign, cell)?))
 }
@@ -148,6 +155,8 @@ fn read_decimal<'a>(numbers: Arguments, cell: Cell<'a>) -> Result<TypedValue<'a>
     requires { IsTrue (is_digits 65 numbers) }
     ensures found { IfOk result (λ value. IsDecimalOf (first_number numbers) (second_number numbers) value (cell_value cell.entry)) }
     ensures only { (value : TypedValue) → IsDecimalOf (first_number numbers) (second_number numbers) value (cell_value cell.entry) → IsOk result }
+    ensures fault { IfErr result (λ fault. fault ≡
+        bytes_fault (decimal_size (first_number numbers) (second_number numbers)) (cell_value cell.entry)) }
 {
     let Arguments::TwoNumbers(precision, scale) = numbers else {
         unreachable!();
@@ -159,6 +168,7 @@ fn read_decimal<'a>(numbers: Arguments, cell: Cell<'a>) -> Result<TypedValue<'a>
 fn read_float_cell<'a>(cell: Cell<'a>) -> Result<TypedValue<'a>, CellFault>
     ensures found { IfOk result (λ value. IsFloatOf value (cell_value cell.entry)) }
     ensures only { (value : TypedValue) → IsFloatOf value (cell_value cell.entry) → IsOk result }
+    ensures fault { IfErr result (λ fault. fault ≡ bytes_fault 4 (cell_value cell.entry)) }
 {
     let value = f64::from(read_float(cell)?);
     Ok(TypedValue::Float(Real { value }))
@@ -168,6 +178,7 @@ fn read_float_cell<'a>(cell: Cell<'a>) -> Result<TypedValue<'a>, CellFault>
 fn read_double_cell<'a>(cell: Cell<'a>) -> Result<TypedValue<'a>, CellFault>
     ensures found { IfOk result (λ value. IsDoubleOf value (cell_value cell.entry)) }
     ensures only { (value : TypedValue) → IsDoubleOf value (cell_value cell.entry) → IsOk result }
+    ensures fault { IfErr result (λ fault. fault ≡ bytes_fault 8 (cell_value cell.entry)) }
 {
     let value = read_double(cell)?;
     Ok(TypedValue::Double(Real { value }))
@@ -177,6 +188,7 @@ fn read_double_cell<'a>(cell: Cell<'a>) -> Result<TypedValue<'a>, CellFault>
 fn read_text<'a>(most: usize, cell: Cell<'a>) -> Result<TypedValue<'a>, CellFault>
     ensures found { IfOk result (λ value. IsTextWithin most value (cell_value cell.entry)) }
     ensures only { (value : TypedValue) → IsTextWithin most value (cell_value cell.entry) → IsOk result }
+    ensures fault { IfErr result (λ fault. fault ≡ within_fault (cell_value cell.entry)) }
 {
     Ok(TypedValue::Text(bytes_within(most, cell)?))
 }
@@ -185,6 +197,7 @@ fn read_text<'a>(most: usize, cell: Cell<'a>) -> Result<TypedValue<'a>, CellFaul
 fn read_bytes<'a>(most: usize, cell: Cell<'a>) -> Result<TypedValue<'a>, CellFault>
     ensures found { IfOk result (λ value. AreBytesWithin most value (cell_value cell.entry)) }
     ensures only { (value : TypedValue) → AreBytesWithin most value (cell_value cell.entry) → IsOk result }
+    ensures fault { IfErr result (λ fault. fault ≡ within_fault (cell_value cell.entry)) }
 {
     Ok(TypedValue::Bytes(bytes_within(most, cell)?))
 }
@@ -193,6 +206,7 @@ fn read_bytes<'a>(most: usize, cell: Cell<'a>) -> Result<TypedValue<'a>, CellFau
 fn bytes_within<'a>(most: usize, cell: Cell<'a>) -> Result<&'a [u8], CellFault>
     ensures found { IfOk result (λ bytes. (length bytes.now ≤ most) × (cell_value cell.entry ≡ bytes_cell bytes.now)) }
     ensures only { (bytes : List ℕ) → length bytes ≤ most → cell_value cell.entry ≡ bytes_cell bytes → IsOk result }
+    ensures fault { IfErr result (λ fault. fault ≡ within_fault (cell_value cell.entry)) }
 {
     let Cell::Bytes(bytes) = cell else {
         return Err(CellFault::Kind);

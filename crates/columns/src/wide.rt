@@ -1,6 +1,6 @@
 //! Texts whose characters take two or four bytes each.
 
-ghost use Rattle.std.specs.Prelude.{◌≡◌, ◌++◌, ◌<◌, ◌+◌, List, ℕ, Bool, true, false, nat_lt, ◌&&◌, Some, string_bytes, IfSome, IsSomeAnd, IsTrue, OnOk, OnErr, IfOk, Ok, length};
+ghost use Rattle.std.specs.Prelude.{◌≡◌, ◌++◌, ◌<◌, ◌+◌, List, ℕ, true, false, nat_lt, ◌&&◌, Some, string_bytes, IfSome, IsSomeAnd, IsTrue, IfOk, IfErr, Ok, length};
 ghost use Rattle.columns.specs.CharacterSets.{unit_bytes, utf16_bytes, utf32_bytes, wide_bytes, has_character, is_scalar_value, IsSpelled};
 
 use std::alloc::{AllocError, Global};
@@ -21,6 +21,7 @@ pub enum Wide {
 /// The text in UTF-8 of bytes in one of these forms; `None` if they are no text in it.
 pub(crate) fn decode(alloc: Global, form: Wide, bytes: &[u8]) -> Result<Option<String>, AllocError>
     ensures found { IfOk result (λ made. IfSome made (λ text. IsSpelled form bytes.now (string_bytes text))) }
+    ensures full { IfErr result (λ _. 0 < length bytes.now) }
     ensures only { (text : List ℕ) → IsSpelled form bytes.now text → IfOk result (λ made. IsSomeAnd made (λ found. string_bytes found ≡ text)) }
 {
     let mut text = String::with_capacity(alloc, bytes.len())?;

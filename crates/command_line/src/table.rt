@@ -139,7 +139,7 @@ const CHANGES: Argument = Argument(
 const BYTES: Argument = Argument(
     "bytes",
     Kind::OneOf("FORM", &ENCODINGS),
-    "Write bytes in JSON lines as text where they are UTF-8, as hexadecimal digits or as base64. Without it: hex",
+    "Write bytes in JSON lines as text where they are UTF-8, as hexadecimal digits or as base64. Without it: hex, and with --columns base64",
 );
 
 /// The description of the columns.
@@ -147,6 +147,13 @@ const COLUMNS: Argument = Argument(
     "columns",
     Kind::Text("FILE"),
     "The description of the columns, as the query of `mrep columns` gives it: rows have names and MySQL's types",
+);
+
+/// The description of the columns, of the commands that read changes.
+const CHANGE_COLUMNS: Argument = Argument(
+    "columns",
+    Kind::Text("FILE"),
+    "The description of the columns, as the query of `mrep columns` gives it: rows in the JSON lines and in messages have names and MySQL's types",
 );
 
 /// The tables whose rows are kept.
@@ -157,7 +164,7 @@ const ONLY: Argument = Argument(
 );
 
 /// All commands, in the order of the help.
-static COMMANDS: [CommandRow; 14] = [
+static COMMANDS: [CommandRow; 15] = [
     CommandRow(
         "packets",
         "List the payloads of a stream of packets: offset, sequence id, length",
@@ -186,6 +193,7 @@ static COMMANDS: [CommandRow; 14] = [
             DB,
             PROGRESS,
             CHANGES,
+            CHANGE_COLUMNS,
             BYTES,
             ONLY,
             Argument(
@@ -233,6 +241,7 @@ static COMMANDS: [CommandRow; 14] = [
             ),
             PROGRESS,
             CHANGES,
+            CHANGE_COLUMNS,
             BYTES,
             ONLY,
         ],
@@ -299,6 +308,31 @@ static COMMANDS: [CommandRow; 14] = [
             Argument("force", Kind::Flag, "Replace the file if it exists"),
         ],
         "Example:\n  mrep copy --db F.db copy.db && mrep tables --db copy.db",
+    ),
+    CommandRow(
+        "export",
+        "Make an SQLite file with a table for each described table, also while another process writes the database",
+        &[
+            Argument("db", Kind::NeededText("F"), "The database file"),
+            Argument(
+                "columns",
+                Kind::NeededText("FILE"),
+                "The description of the columns, as the query of `mrep columns` gives it",
+            ),
+            Argument(
+                "only",
+                Kind::Repeated("SCHEMA.TABLE"),
+                "Make only this table; may be repeated. Without it: all that are described",
+            ),
+            Argument(
+                "schema",
+                Kind::Text("SCHEMA"),
+                "Make the tables of this schema alone, under their names without it",
+            ),
+            Argument("TO", Kind::Word, "The file to make"),
+            Argument("force", Kind::Flag, "Replace the file if it exists"),
+        ],
+        "Example:\n  mrep export --db F.db --columns shop.columns --schema shop shop.db && sqlite3 shop.db 'SELECT name FROM items WHERE id = 7'",
     ),
     CommandRow(
         "adopt",

@@ -3,15 +3,15 @@
 use crate::cells::write_first_cells;
 use crate::name::{Shown, write_escaped, write_table};
 use crate::quoted::Quoted;
-use binlog::{ColumnPlace, EventFault, EventFaultKind};
-use gather::{Change, Delivery, ImageRef};
+use binlog::{ColumnPlace, EventFault, EventFaultKind, TableDef};
+use gather::{Change, ImageRef};
 use gtid::Gtid;
 use std::alloc::Global;
 use std::io;
 use std::io::Write;
 
-/// How much of a statement or a row is printed, in bytes.
-const SHOWN: usize = 512;
+/// How much of a statement or a row is printed in a message, in bytes.
+pub const SHOWN: usize = 512;
 
 /// The words of SQL before a password or its hash (MySQL Reference Manual, "CREATE USER Statement", "SET PASSWORD
 /// Statement").
@@ -22,7 +22,8 @@ const SECRETS: [&[u8]; 2] = [b"IDENTIFIED", b"PASSWORD"];
 pub struct Details {
     /// The transaction that has begun and not ended.
     pub gtid: Option<Gtid>,
-    lines: Vec<u8>,
+    /// Lines about its end, each with a line feed after it.
+    pub lines: Vec<u8>,
 }
 
 impl Details {
@@ -41,10 +42,9 @@ impl Details {
 
     /// Notes the change of a transaction that ends a connection: its row before it is not there, or the count of the row
     /// after it is full.
-    pub fn refuse_change(&mut self, delivery: &Delivery, at: usize, is_full: bool) {
-        if let Some(change) = delivery.changes.iter().nth(at) {
-            let _ = write_change(&change, is_full, &mut self.lines);
-        }
+    pub fn refuse_change(&mut self, change: &Change<'_>, is_full: bool) {
+        let (table, row) = row_of(change, is_full);
+        let _ = write_change(table, row, &mut self.lines);
     }
 
     /// Writes the lines, each after the name of the stream, and how the transaction can be left out, if it can be.
@@ -169,23 +169,19 @@ fn write_place(schema: &[u8], table: &[u8], out: &mut Vec<u8>) -> io::Result<()>
     write_table(schema, table, out)
 }
 
-/// Writes the table and the row of a change that is refused.
-fn write_change(change: &Change<'_>, is_full: bool, out: &mut Vec<u8>) -> io::Result<()> {
-    let (table, row) = match change {
+/// The table of a change that is refused, and the row because of which it is: the one before it, or the one after it if the
+/// count of that is full.
+pub fn row_of<'c, 'a>(change: &'c Change<'a>, is_full: bool) -> (&'a TableDef, &'c ImageRef<'a>) {
+    match change {
         Change::Insert { table, after } => (table, after),
         Change::Delete { table, before } => (table, before),
-        Change::Update {
-            table,
-            before,
-            after,
-        } => {
-            if is_full {
-                (table, after)
-            } else {
-                (table, before)
-            }
-        }
-    };
+        Change::Update { table, after, .. } if is_full => (table, after),
+        Change::Update { table, before, .. } => (table, before),
+    }
+}
+
+/// Writes the table and the row of a change that is refused.
+fn write_change(table: &TableDef, row: &ImageRef<'_>, out: &mut Vec<u8>) -> io::Result<()> {
     write_place(&table.schema, &table.table, out)?;
     write_line(row, out)
 }

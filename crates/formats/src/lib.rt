@@ -1,16 +1,14 @@
-//! What a follower prints: names, rows, sets, events, changes and faults as text, CSV records and JSON lines.
+//! What a follower prints: names, rows, sets, events and faults as text, CSV records and JSON lines.
 //!
-//! [`write_row`], [`Records`] and [`write_object`] print a row of a table in one of the [`Format`]s, [`write_event`] an event
-//! of a stream, and [`Feed`] the changes of transactions. [`write_named`] is a message, in which [`Shown`] is a
-//! name or another argument; [`Details`] says where in a transaction a connection has ended, [`Progress`] how far a command has
-//! come, and [`Chosen`] which tables had no row.
+//! [`write_row`], [`Records`] and [`write_object`] print a row of a table in one of the [`Format`]s, and [`write_event`] an
+//! event of a stream. [`write_named`] is a message, in which [`Shown`] is a name or another argument; [`Details`] says where
+//! in a transaction a connection has ended, [`Progress`] how far a command has come, and [`Chosen`] which tables had no row.
 //!
 //! Of what is printed only the text of a set has a contract ([`text_of`]).
 #![tactic(auto)]
 
 mod advice;
 mod cells;
-mod change_feed;
 mod csv_lines;
 mod details;
 mod event_line;
@@ -28,12 +26,13 @@ mod tallies;
 
 pub use advice::{event_advice, greet_advice};
 pub use cells::write_row;
-pub use change_feed::{Feed, FeedEntry, OUTPUT};
 pub use csv_lines::Records;
-pub use details::Details;
+pub use details::{Details, SHOWN, row_of};
 pub use event_line::write_event;
 pub use fault_name::{event_reason, gather_reason, greet_reason, wire_reason};
-pub use json_lines::{write_json_bytes, write_json_name, write_json_text, write_object};
+pub use json_lines::{
+    write_image, write_json_bytes, write_json_name, write_json_text, write_object,
+};
 pub use message::write_named;
 pub use name::{Shown, read_table, write_escaped, write_table};
 pub use notes::{Chosen, note_made, note_patterns};

@@ -8,9 +8,11 @@ use Rattle.clap.specs.declared.error.ErrorKind.TheVariants as clap_kind
 use Rattle.mrep.specs.declared.report.failure.Failure.{Failure}
 use Rattle.columns.specs.declared.fields.LineFault.{LineFault}
 use Rattle.columns.specs.declared.fields.LineFault.TheVariants.{Memory as OutOfMemory}
+use Rattle.typed_rows.specs.declared.tables.TablesFault.{TablesFault}
+use Rattle.typed_rows.specs.declared.tables.TablesFault.TheVariants as tables
 use Rattle.store.specs.declared.fault.StoreFault.{StoreFault}
 use Rattle.store.specs.declared.fault.StoreFault.TheVariants as store
-use Rattle.mrep.specs.declared.report.failure.Failure.TheVariants.{Words, Set, Gtid, Table, Number, Bytes, Columns, Description, Misfit, User, File, Host, Database, Damaged, Unusable, Output, Memory}
+use Rattle.mrep.specs.declared.report.failure.Failure.TheVariants.{Words, Set, Gtid, Table, Schema, Number, Bytes, Columns, Description, Tables, Misfit, User, File, Host, Database, Damaged, Unusable, Output, Memory}
 
 -- 4 if memory ran out, otherwise 3
 abbrev pub IsFileStatus : Error → ℕ → Type 0
@@ -32,17 +34,24 @@ abbrev pub description_status : LineFault → ℕ
 description_status OutOfMemory = 4
 description_status _ = 2
 
+-- 4 if memory ran out, otherwise 2
+abbrev pub tables_status : TablesFault → ℕ
+tables_status tables.Memory = 4
+tables_status _ = 2
+
 -- 1 for a row that does not fit the description; 2 for a mistake in the arguments, such as a text that is not a set, a
--- GTID, a table, a number or a user name, and for a file that is no description; 3 for a file, a host, a database or the output; 4 if memory ran out
+-- GTID, a table, a number or a user name, and for a file that is no description or of which no tables are made; 3 for a file, a host, a database or the output; 4 if memory ran out
 abbrev pub IsStatus : Failure → ℕ → Type 0
 IsStatus (Words error) status = (kind_of error ≡ clap_kind.OutOfMemory → status ≡ 4) × (kind_of error ≢ clap_kind.OutOfMemory → status ≡ 2)
 IsStatus (Set word cause) status = status ≡ 2
 IsStatus (Gtid word) status = status ≡ 2
 IsStatus (Table word) status = status ≡ 2
+IsStatus (Schema word) status = status ≡ 2
 IsStatus (Number word largest) status = status ≡ 2
 IsStatus Bytes status = status ≡ 2
 IsStatus Columns status = status ≡ 2
 IsStatus (Description name fault) status = status ≡ description_status fault.fault
+IsStatus (Tables name fault) status = status ≡ tables_status fault
 IsStatus (Misfit name misfit) status = status ≡ 1
 IsStatus (User word cause) status = status ≡ 2
 IsStatus (Database name cause) status = status ≡ database_status cause

@@ -1,5 +1,5 @@
 -- The exit statuses of connections.
-use Rattle.std.specs.Prelude.{ℕ, ◌==◌, if◌then◌else◌, List, [], ◌∷◌}
+use Rattle.std.specs.Prelude.{ℕ, ◌≡◌, ◌==◌, ◌⊎◌, if◌then◌else◌, List, [], ◌∷◌, ◌++◌}
 use Rattle.replica.specs.declared.end.Reason.{Reason}
 use Rattle.replica.specs.declared.end.Reason.TheVariants.{EndOfInput, SourceEof, SourceError, Wire, Greet, Event, Gather, Refused, Database, Memory, ReadFailed, WriteFailed, Halted}
 use Rattle.replica.specs.declared.end.Ended.{Ended}
@@ -25,3 +25,7 @@ status_of Halted = 3
 unfoldable pub first_status : List Ended → ℕ
 first_status [] = 0
 first_status (end ∷ ends) = if status_of end.reason == 0 then first_status ends else status_of end.reason
+
+-- all connections, or all but a last one that was halted
+abbrev pub IsCounted : List Ended → List Ended → Type 0
+IsCounted all counted = (counted ≡ all) ⊎ ((last : Ended) × (all ≡ counted ++ (last ∷ [])) × (last.reason ≡ Halted))

@@ -51,3 +51,12 @@ pub fn tables<'a>(alloc: Global, words: &[&'a str]) -> Result<Follow, Failure<'a
         Err(_) => Err(Failure::Memory),
     }
 }
+
+/// The name of the schema that a word is, written as the schema in the name of a table is.
+pub fn schema<'a>(alloc: Global, word: &'a str) -> Result<Vec<u8>, Failure<'a>> {
+    let table = format!(in alloc; "{word}.t")?;
+    match read_table(alloc, table.as_str())? {
+        Some((schema, _)) => Ok(schema),
+        None => Err(Failure::Schema { word }),
+    }
+}

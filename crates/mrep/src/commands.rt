@@ -3,6 +3,7 @@
 ghost use Rattle.std.specs.Prelude.{◌≤◌, IfOk, IfSome};
 
 pub mod copy;
+pub mod export;
 pub mod follow;
 pub mod jobs;
 pub mod minus;
@@ -13,6 +14,7 @@ pub mod socket;
 
 use crate::arguments::{tables, word};
 use crate::commands::copy::copy;
+use crate::commands::export::export;
 use crate::commands::follow::follow;
 use crate::commands::jobs::{job_of, run_job};
 use crate::commands::minus::minus;
@@ -140,6 +142,7 @@ fn run_named<'a, W: Write, E: Write>(
         "replay" => replay(rt, given, out, err)?,
         "follow" => follow(rt, given, out, err)?,
         "copy" => copy(rt, given)?,
+        "export" => export(rt, given, err)?,
         "completions" => {
             write_completions(word(given, "SHELL"), out)?;
             DONE

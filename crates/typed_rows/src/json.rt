@@ -8,9 +8,22 @@ use std::alloc::Global;
 use std::io;
 use std::io::Write;
 
+/// Writes a cell as a member of an object, which has the name of its column.
+pub fn write_member<W: Write>(
+    alloc: Global,
+    name: &str,
+    shown: &Shown<'_>,
+    encoding: Encoding,
+    out: &mut W,
+) -> io::Result<()> {
+    write_json_text(alloc, name, out)?;
+    out.write_all(b":")?;
+    write_value(alloc, shown, encoding, out)
+}
+
 /// Writes a cell as a value: integers, YEAR, BIT, FLOAT and DOUBLE as numbers, DECIMAL, dates, times and texts as strings,
 /// bytes in this form.
-pub fn write_value<W: Write>(
+fn write_value<W: Write>(
     alloc: Global,
     shown: &Shown<'_>,
     encoding: Encoding,

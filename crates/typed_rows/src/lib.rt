@@ -1,20 +1,37 @@
-//! Rows with the names and types of a description: as the `mysql` client prints them, as CSV, JSON, SQL and text.
+//! Rows with the names and types of a description: as the `mysql` client prints them, as CSV, JSON, SQL and text, and in the
+//! change feed.
 //!
 //! [`TypedRows`] prints rows in one of the formats. Each is made whole before any of it is printed: one that does not fit
-//! the description is a [`Misfit`]. [`write_query`] prints the query that gives the description.
+//! the description is a [`Misfit`]. [`Feed`] has the changes of transactions, with such rows or with what the log has, and
+//! [`write_refused`] a row in a message. [`write_query`] prints the query that gives the description.
+//!
+//! [`Tables`] says which tables of a description are made in an SQLite database, and [`TableRows`] makes them and adds rows.
 //!
 //! What the cells mean is the business of `columns`, whose functions have contracts; what is printed of it here has none.
 #![tactic(auto)]
 
+mod change_feed;
 mod csv;
+mod definition;
+mod described_tables;
 mod json;
 mod misfit;
+mod object;
 mod query;
+mod refused;
 mod rows;
 mod shown;
 mod sql;
+mod stored;
+mod table_rows;
+mod tables;
 mod tsv;
 
+pub use change_feed::{Feed, FeedEntry, OUTPUT};
+pub use described_tables::DescribedTables;
 pub use misfit::{Misfit, RowError};
 pub use query::write_query;
+pub use refused::write_refused;
 pub use rows::{Layout, TypedRows};
+pub use table_rows::{TableError, TableRows};
+pub use tables::{TableFault, TableName, Tables, TablesFault};

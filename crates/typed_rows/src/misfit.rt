@@ -1,7 +1,8 @@
 //! Why a row does not fit the description of its table.
 
-use columns::CellFault;
-use std::alloc::AllocError;
+use columns::{CellFault, Column, DescribedTable};
+use gather::ImageRef;
+use std::alloc::{AllocError, Global};
 use std::io;
 use thiserror::Error;
 
@@ -29,6 +30,12 @@ pub enum Fault {
     /// A text has more characters than its column's type.
     #[error("a text that is longer than the type")]
     Length,
+    /// A column of the key is NULL.
+    #[error("a key that is NULL")]
+    NoKey,
+    /// Another row has the same key.
+    #[error("two rows have the same key")]
+    SameKey,
 }
 
 /// Why a cell is not shown.
@@ -80,5 +87,81 @@ impl From<io::Error> for RowError {
 impl From<AllocError> for RowError {
     fn from(_error: AllocError) -> RowError {
         RowError::Output(io::ErrorKind::OutOfMemory.into())
+    }
+}
+
+/// Why the text of a row is not there.
+#[derive(Drop)]
+pub enum Stop<'d> {
+    /// The row, or the cell of this column, does not fit.
+    Fault(Option<&'d Column>, Fault),
+    Output(io::Error),
+}
+
+impl From<io::Error> for Stop<'_> {
+    fn from(error: io::Error) -> Self {
+        Stop::Output(error)
+    }
+}
+
+impl<'d> Stop<'d> {
+    /// Why the cell of a column is not shown.
+    pub fn at(column: &'d Column, error: CellError) -> Stop<'d> {
+        match error {
+            CellError::Fault(fault) => Stop::Fault(Some(column), fault),
+            CellError::Memory => Stop::Output(io::ErrorKind::OutOfMemory.into()),
+        }
+    }
+
+    /// The error of a row of this table.
+    pub fn in_table(self, alloc: Global, schema: &[u8], table: &[u8]) -> RowError {
+        match self {
+            Stop::Output(error) => RowError::Output(error),
+            Stop::Fault(column, fault) => match copied(alloc, schema, table, column, fault) {
+                Ok(misfit) => RowError::Misfit(misfit),
+                Err(error) => error.into(),
+            },
+        }
+    }
+}
+
+/// Refuses a row that has not as many cells as columns are described.
+pub fn check_count<'d>(table: &'d DescribedTable, image: &ImageRef<'_>) -> Result<(), Stop<'d>> {
+    // An image has at most 65,535 cells.
+    let cells = image.cells().take(65_536).count();
+    if cells != table.columns.len() {
+        return Err(Stop::Fault(None, Fault::Cells(cells, table.columns.len())));
+    }
+    Ok(())
+}
+
+/// The row that does not fit, with names of its own.
+pub fn copied(
+    alloc: Global,
+    schema: &[u8],
+    table: &[u8],
+    column: Option<&Column>,
+    fault: Fault,
+) -> Result<Misfit, AllocError> {
+    let column = match column {
+        Some(column) => Some((
+            String::from_str(alloc, column.name.as_str())?,
+            type_of(alloc, column)?,
+        )),
+        None => None,
+    };
+    Ok(Misfit {
+        schema: Vec::from_slice(alloc, schema)?,
+        table: Vec::from_slice(alloc, table)?,
+        column,
+        fault,
+    })
+}
+
+/// The type of a column, and its character set if it has one.
+fn type_of(alloc: Global, column: &Column) -> Result<String, AllocError> {
+    match &column.character_set {
+        Some(set) => format!(in alloc; "{} {}", column.kind, set.as_str()),
+        None => format!(in alloc; "{}", column.kind),
     }
 }

@@ -1,13 +1,14 @@
 //! Rows in one of the formats.
 
-use crate::misfit::{CellError, Fault, Misfit, RowError};
+use crate::described_tables::DescribedTables;
+use crate::misfit::{Fault, RowError, Stop, check_count};
 use crate::shown::show;
 use crate::{csv, json, sql, tsv};
 use binlog::Cell;
-use columns::{Column, DescribedTable, Description, Escaped};
+use columns::{Column, DescribedTable, Escaped};
 use formats::{Encoding, Format, write_json_name, write_table};
 use gather::ImageRef;
-use std::alloc::{AllocError, Global};
+use std::alloc::Global;
 use std::io;
 use std::io::Write;
 
@@ -25,7 +26,7 @@ pub struct Layout {
 #[derive(Drop)]
 pub struct TypedRows<'d, 'o, W> {
     alloc: Global,
-    description: &'d Description,
+    tables: &'d DescribedTables,
     layout: Layout,
     /// The table of the last row.
     last: Option<&'d DescribedTable>,
@@ -38,13 +39,13 @@ impl<'d, 'o, W: Write> TypedRows<'d, 'o, W> {
     /// Nothing is printed yet.
     pub fn new(
         alloc: Global,
-        description: &'d Description,
+        tables: &'d DescribedTables,
         layout: Layout,
         out: &'o mut W,
     ) -> TypedRows<'d, 'o, W> {
         TypedRows {
             alloc,
-            description,
+            tables,
             layout,
             last: None,
             line: Vec::new(alloc),
@@ -57,7 +58,7 @@ impl<'d, 'o, W: Write> TypedRows<'d, 'o, W> {
     pub fn begin(&mut self, only: Option<(&[u8], &[u8])>) -> io::Result<()> {
         match (self.layout.format, only) {
             (Format::Sql, _) => self.out.write_all(sql::SETTINGS),
-            (Format::Csv, Some((schema, table))) => match self.description.table(schema, table) {
+            (Format::Csv, Some((schema, table))) => match self.tables.find(schema, table) {
                 Some(described) => write_header(described, self.out),
                 None => Ok(()),
             },
@@ -73,26 +74,34 @@ impl<'d, 'o, W: Write> TypedRows<'d, 'o, W> {
         count: u64,
         image: &ImageRef<'_>,
     ) -> Result<(), RowError> {
+        match self.make(schema, table, count, image) {
+            Ok(()) => {}
+            Err(stop) => return Err(stop.in_table(self.alloc, schema, table)),
+        }
+        self.print(count)?;
+        Ok(())
+    }
+
+    /// Makes the line of a row.
+    fn make(
+        &mut self,
+        schema: &[u8],
+        table: &[u8],
+        count: u64,
+        image: &ImageRef<'_>,
+    ) -> Result<(), Stop<'d>> {
         let Some(described) = self.described(schema, table) else {
-            return Err(misfit(self.alloc, schema, table, None, Fault::Table));
+            return Err(Stop::Fault(None, Fault::Table));
         };
         self.line.clear();
-        match write_row(
+        write_row(
             self.alloc,
             self.layout,
             described,
             count,
             image,
             &mut self.line,
-        ) {
-            Ok(()) => {}
-            Err(Stop::Output(error)) => return Err(RowError::Output(error)),
-            Err(Stop::Fault(column, fault)) => {
-                return Err(misfit(self.alloc, schema, table, column, fault));
-            }
-        }
-        self.print(count)?;
-        Ok(())
+        )
     }
 
     /// The description of a table. Rows of a table come one after the other.
@@ -103,7 +112,7 @@ impl<'d, 'o, W: Write> TypedRows<'d, 'o, W> {
         {
             return Some(last);
         }
-        let found = self.description.table(schema, table)?;
+        let found = self.tables.find(schema, table)?;
         self.last = Some(found);
         Some(found)
     }
@@ -121,64 +130,6 @@ impl<'d, 'o, W: Write> TypedRows<'d, 'o, W> {
     }
 }
 
-/// Why the line of a row is not there.
-enum Stop<'d> {
-    /// The row, or the cell of this column, does not fit.
-    Fault(Option<&'d Column>, Fault),
-    Output(io::Error),
-}
-
-impl From<io::Error> for Stop<'_> {
-    fn from(error: io::Error) -> Self {
-        Stop::Output(error)
-    }
-}
-
-/// The error of a row that does not fit the description of its table.
-fn misfit(
-    alloc: Global,
-    schema: &[u8],
-    table: &[u8],
-    column: Option<&Column>,
-    fault: Fault,
-) -> RowError {
-    match copied(alloc, schema, table, column, fault) {
-        Ok(misfit) => RowError::Misfit(misfit),
-        Err(error) => error.into(),
-    }
-}
-
-/// The row that does not fit, with names of its own.
-fn copied(
-    alloc: Global,
-    schema: &[u8],
-    table: &[u8],
-    column: Option<&Column>,
-    fault: Fault,
-) -> Result<Misfit, AllocError> {
-    let column = match column {
-        Some(column) => Some((
-            String::from_str(alloc, column.name.as_str())?,
-            type_of(alloc, column)?,
-        )),
-        None => None,
-    };
-    Ok(Misfit {
-        schema: Vec::from_slice(alloc, schema)?,
-        table: Vec::from_slice(alloc, table)?,
-        column,
-        fault,
-    })
-}
-
-/// The type of a column, and its character set if it has one.
-fn type_of(alloc: Global, column: &Column) -> Result<String, AllocError> {
-    match &column.character_set {
-        Some(set) => format!(in alloc; "{} {}", column.kind, set.as_str()),
-        None => format!(in alloc; "{}", column.kind),
-    }
-}
-
 /// Writes the line of a row.
 fn write_row<'d>(
     alloc: Global,
@@ -188,11 +139,7 @@ fn write_row<'d>(
     image: &ImageRef<'_>,
     line: &mut Vec<u8>,
 ) -> Result<(), Stop<'d>> {
-    // An image has at most 65,535 cells.
-    let cells = image.cells().take(65_536).count();
-    if cells != table.columns.len() {
-        return Err(Stop::Fault(None, Fault::Cells(cells, table.columns.len())));
-    }
+    check_count(table, image)?;
     write_front(alloc, layout, table, count, line)?;
     let mut is_first = true;
     for (cell, column) in image.cells().zip(table.columns.iter()) {
@@ -299,8 +246,7 @@ fn write_cell<'d>(
 ) -> Result<(), Stop<'d>> {
     let shown = match show(alloc, column, cell) {
         Ok(shown) => shown,
-        Err(CellError::Fault(fault)) => return Err(Stop::Fault(Some(column), fault)),
-        Err(CellError::Memory) => return Err(Stop::Output(io::ErrorKind::OutOfMemory.into())),
+        Err(error) => return Err(Stop::at(column, error)),
     };
     match layout.format {
         Format::Tsv => tsv::write_field(&shown, line)?,
@@ -310,11 +256,13 @@ fn write_cell<'d>(
             write!(line, "{}=", Escaped(column.name.as_str()))?;
             tsv::write_field(&shown, line)?;
         }
-        Format::Json => {
-            write_json_name(alloc, column.name.as_bytes(), line)?;
-            line.write_all(b":")?;
-            json::write_value(alloc, &shown, layout.encoding, line)?;
-        }
+        Format::Json => json::write_member(
+            alloc,
+            column.name.as_str(),
+            &shown,
+            layout.encoding,
+            line,
+        )?,
     }
     Ok(())
 }

@@ -35,7 +35,7 @@ impl Datetime {
         }
     }
 
-    /// The value that a cell stands for in a column with so many digits behind the point: five bytes with date and time,
+    /// The value that a cell stands for in a column with so many digits after the point: five bytes with date and time,
     /// and the fraction in 0 to 3 more.
     pub fn read(digits: u8, cell: Cell<'_>) -> Result<Datetime, CellFault>
         requires { digits ≤ 6 }
@@ -92,7 +92,7 @@ impl fmt::Display for Datetime {
     }
 }
 
-/// The value of bytes, with so many digits behind the point.
+/// The value of bytes, with so many digits after the point.
 fn of_bytes(digits: u8, bytes: &[u8]) -> Option<Datetime>
     requires { digits ≤ 6 }
     ensures digits { IfSome result (λ made. made.fraction.digits ≡ digits) }

@@ -14,14 +14,14 @@ use binlog::Cell;
 use std::alloc::AllocError;
 use std::fmt;
 
-/// A value of DECIMAL: a sign, and digits, some of them behind the point.
+/// A value of DECIMAL: a sign, and digits, some of them after the point.
 #[derive(Clone, Copy, Debug, PartialEq, Eq)]
 pub struct Decimal {
     /// Whether it is below zero. A negative zero is a value of its own here, and has the text of zero.
     pub negative: bool,
     /// How many digits it has, 1 to 65.
     pub precision: u8,
-    /// How many of them stand behind the point, up to 30.
+    /// How many of them stand after the point, up to 30.
     pub scale: u8,
     /// The digits from the highest on, each from 0 to 9, and then zeros.
     pub digits: [u8; 65],
@@ -35,7 +35,7 @@ pub struct Decimal {
 }
 
 impl Decimal {
-    /// The value that a cell stands for in a column with so many digits, and so many of them behind the point: groups of
+    /// The value that a cell stands for in a column with so many digits, and so many of them after the point: groups of
     /// nine digits in four bytes, and what is left over at both ends in up to four.
     pub fn read(precision: u8, scale: u8, cell: Cell<'_>) -> Result<Decimal, CellFault>
         requires some { 1 ≤ precision }
@@ -179,7 +179,7 @@ fn flip_top(bytes: &mut [u8])
     }
 }
 
-/// Reads groups of so many digits each, and puts their digits one behind the other. It is false if a number has more
+/// Reads groups of so many digits each, and puts their digits one after the other. It is false if a number has more
 /// digits than its group.
 fn read_groups(sizes: &[u8], bytes: &[u8], digits: &mut [u8]) -> bool
     requires sizes { All (λ size. size ≤ 9) sizes.now }
@@ -315,7 +315,7 @@ pub struct ZerofilledDecimal {
 }
 
 /// Writes the value with zeros in front: in as many bytes as it has digits, and one more for the point if some stand
-/// behind it. The only error is the writer's.
+/// after it. The only error is the writer's.
 impl fmt::Display for ZerofilledDecimal {
     ghost output = { λ filled. Some (zero_filled (filled_width filled.decimal.precision filled.decimal.scale)
         (decimal_text filled.decimal.negative filled.decimal.precision filled.decimal.scale filled.decimal.digits)) };

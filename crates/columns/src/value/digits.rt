@@ -6,7 +6,7 @@ ghost use Rattle.columns.specs.Decimals.{are_zeros, digits_text};
 
 use std::fmt;
 
-/// Digits that are written one behind the other.
+/// Digits that are written one after the other.
 #[derive(Clone, Copy)]
 pub(crate) struct Digits<'a>(pub(crate) &'a [u8]);
 

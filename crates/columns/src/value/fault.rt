@@ -9,13 +9,13 @@ use thiserror::Error;
 #[derive(Clone, Copy, Debug, PartialEq, Eq, Error)]
 pub enum CellFault {
     /// It is bytes where the type has a number, or a number where it has bytes, or null.
-    #[error("a cell of another kind")]
+    #[error("the cell is not of the kind that the type has")]
     Kind,
     /// It takes this many bytes, and the type's cells another number.
-    #[error("a cell of {0} bytes")]
+    #[error("the cell has {0} bytes, and the cells of the type have another number")]
     Size(usize),
     /// Its kind and size are right, and the type has no value for it.
-    #[error("no value of this type")]
+    #[error("the cell stands for no value of the type")]
     Range,
 }
 

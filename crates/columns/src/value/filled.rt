@@ -67,7 +67,7 @@ fn fixed_length(fixed: FixedReal) -> usize
     minus(fixed.real.negative).len() + decimals_length(fixed.decimals, fixed.real)
 }
 
-/// How long the text with so many digits behind the point is, without its sign.
+/// How long the text with so many digits after the point is, without its sign.
 fn decimals_length(decimals: u8, real: Scientific) -> usize
     ensures length { result ≡ length (with_decimals decimals real.number real.tens) }
     ensures short { result ≤ 3000 }

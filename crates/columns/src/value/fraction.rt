@@ -7,7 +7,7 @@ ghost use Rattle.columns.specs.Times.{is_fraction, fraction_size, even_digits, f
 use crate::value::bytes::read_big;
 use std::fmt;
 
-/// A fraction of a second: how many digits stand behind the point, at most six, and the number that they are.
+/// A fraction of a second: how many digits stand after the point, at most six, and the number that they are.
 #[derive(Clone, Copy, Debug, PartialEq, Eq)]
 pub struct Fraction {
     pub digits: u8,

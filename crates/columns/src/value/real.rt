@@ -36,12 +36,13 @@ impl Scientific {
 /// The text of a FLOAT or a DOUBLE in a column without (M,D).
 #[derive(Clone, Copy, Debug, PartialEq, Eq)]
 pub struct PlainReal {
-    /// The digits, without zeros at the end.
+    /// The digits, without zeros at the end, as [`Scientific::of_double`] and [`Scientific::six_digits`] leave them. Zeros
+    /// that stand there are written, and counted where it is decided whether there is an exponent.
     pub real: Scientific,
 }
 
 /// Writes the number with a point where it belongs, or with an exponent if more than 15 digits and zeros would stand in
-/// front of the point with nothing behind it, or more than 14 zeros between it and the first digit. The only error is the
+/// front of the point with nothing after it, or more than 14 zeros between it and the first digit. The only error is the
 /// writer's.
 impl fmt::Display for PlainReal {
     ghost output = { λ plain. Some (plain_text plain.real.negative plain.real.number plain.real.tens) };
@@ -79,13 +80,14 @@ impl fmt::Display for ShortestReal {
 /// The text of a FLOAT or a DOUBLE in a column with (M,D).
 #[derive(Clone, Copy, Debug, PartialEq, Eq)]
 pub struct FixedReal {
-    /// The digits, rounded so that no more of them stand behind the point.
+    /// The digits, rounded so that no more of them stand after the point, as [`Scientific::rounded`] does. If more do, all
+    /// of them are written.
     pub real: Scientific,
-    /// How many digits stand behind the point.
+    /// How many digits stand after the point.
     pub decimals: u8,
 }
 
-/// Writes the number with so many digits behind the point, with zeros at its end. The only error is the writer's.
+/// Writes the number with so many digits after the point, with zeros at its end. The only error is the writer's.
 impl fmt::Display for FixedReal {
     ghost output = { λ fixed. Some (fixed_text fixed.decimals fixed.real.negative fixed.real.number fixed.real.tens) };
 
@@ -113,7 +115,7 @@ impl fmt::Display for FixedReal {
     }
 }
 
-/// A number as one digit, the others behind a point, and an exponent.
+/// A number as one digit, the others after a point, and an exponent.
 #[derive(Clone, Copy)]
 struct Power {
     real: Scientific,
@@ -298,7 +300,7 @@ fn more_exponent(exponent: u16, byte: u8) -> u16
     exponent * 10 + u16::from(digit)
 }
 
-/// How many digits stand behind the point.
+/// How many digits stand after the point.
 fn one_behind(behind: u16, is_behind: bool) -> u16
     requires { behind ≤ 100 }
     ensures { result ≤ 100 }
@@ -310,7 +312,7 @@ fn one_behind(behind: u16, is_behind: bool) -> u16
     }
 }
 
-/// The power of ten of a number with so many digits behind the point and an exponent.
+/// The power of ten of a number with so many digits after the point and an exponent.
 fn tens_of(behind: u16, exponent: u16, is_below: bool) -> PowerOfTen
     requires behind { behind ≤ 100 }
     requires exponent { exponent ≤ 999 }

@@ -64,7 +64,7 @@ impl Scientific {
         }
     }
 
-    /// The number with at most so many digits behind the point: the nearest one, and of two the even one.
+    /// The number with at most so many digits after the point: the nearest one, and of two the even one.
     pub fn rounded(self, decimals: u8) -> Scientific
         ensures negative { result.negative ≡ self.negative }
         ensures whole { (tens : ℕ) → self.tens ≡ Up tens → result ≡ self }
@@ -152,7 +152,7 @@ fn divided(number: u64, tens: u16) -> u64
     nearest(number, 10u64.pow(u32::from(tens)))
 }
 
-/// The power of ten of a number with so many digits behind the point.
+/// The power of ten of a number with so many digits after the point.
 fn behind(decimals: u16) -> PowerOfTen
     ensures { result ≡ (if decimals == 0 then Up 0 else Down decimals) }
 {

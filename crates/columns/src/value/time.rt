@@ -46,7 +46,7 @@ impl Time {
         })
     }
 
-    /// The time that a cell stands for in a column with so many digits behind the point: three bytes and 0 to 3 more, one
+    /// The time that a cell stands for in a column with so many digits after the point: three bytes and 0 to 3 more, one
     /// number with its sign around the middle of its range.
     pub fn read(digits: u8, cell: Cell<'_>) -> Result<Time, CellFault>
         requires { digits ≤ 6 }
@@ -131,7 +131,7 @@ fn sign_of(negative: bool) -> &'static str
     if negative { "-" } else { "" }
 }
 
-/// The time of bytes, with so many digits behind the point.
+/// The time of bytes, with so many digits after the point.
 fn of_bytes(digits: u8, bytes: &[u8]) -> Option<Time>
     requires { digits ≤ 6 }
     ensures digits { IfSome result (λ made. made.fraction.digits ≡ digits) }

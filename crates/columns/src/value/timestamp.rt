@@ -31,7 +31,7 @@ impl Timestamp {
         Some(Timestamp { seconds, fraction })
     }
 
-    /// The value that a cell stands for in a column with so many digits behind the point: four bytes of seconds, the
+    /// The value that a cell stands for in a column with so many digits after the point: four bytes of seconds, the
     /// highest first, and the fraction in 0 to 3 more.
     pub fn read(digits: u8, cell: Cell<'_>) -> Result<Timestamp, CellFault>
         requires { digits ≤ 6 }
@@ -90,7 +90,7 @@ impl fmt::Display for Timestamp {
     }
 }
 
-/// The value of bytes, with so many digits behind the point.
+/// The value of bytes, with so many digits after the point.
 fn of_bytes(digits: u8, bytes: &[u8]) -> Option<Timestamp>
     requires { digits ≤ 6 }
     ensures digits { IfSome result (λ made. made.fraction.digits ≡ digits) }

@@ -2,24 +2,59 @@
 //!
 //! The database is not opened and not locked, and nothing is written to it. [`files::Part`] copies its files.
 //! The copy is opened, and so tested, as any file is, and closed, which leaves one file; only then it gets its name.
+//! `mrep export` makes its file in the same way, with another content.
 
 ghost use Rattle.std.specs.Prelude.{◌≡◌, IfOk};
 
 use crate::arguments::word;
+use crate::commands::export::fill_tables;
+use crate::database::exporter::Wanted;
 use crate::database::open::{lock, test};
 use crate::report::failure::{DONE, Failure, over_file};
 use clap::ArgMatches;
 use files::{Names, Part, is_there, keep_one_name, lock_alone, make_part};
+use formats::Chosen;
 
 const TOO_FAST: &str = "no whole copy could be made, since its WAL file was begun anew each time";
+
+/// A file that is made out of a database.
+#[derive(Clone, Copy)]
+pub struct Target<'a> {
+    /// The database.
+    pub db: &'a str,
+    /// The name of the file.
+    pub to: &'a str,
+    /// Whether one that is there is replaced.
+    pub force: bool,
+}
+
+impl<'a> Target<'a> {
+    /// What the arguments name.
+    pub fn of(given: &ArgMatches<'a>) -> Target<'a> {
+        Target {
+            db: word(given, "db"),
+            to: word(given, "TO"),
+            force: given.get_flag("force"),
+        }
+    }
+}
 
 /// Copies a database to a file. One that is there is replaced only if that is asked for, and no other process has it open
 /// as a database or is about to open it. After a failure that file is as it was, and no other is left.
 pub fn copy<'a>(rt: &HostRuntime, given: &ArgMatches<'a>) -> Result<u8, Failure<'a>>
     ensures { IfOk result (λ status. status ≡ DONE) }
 {
-    let (db, to) = (word(given, "db"), word(given, "TO"));
-    let force = given.get_flag("force");
+    make_file(rt, Target::of(given), None)?;
+    Ok(DONE)
+}
+
+/// Makes a file as [`copy`] does: a copy of the database, or tables with its rows, of which it returns those that had some.
+pub fn make_file<'a>(
+    rt: &HostRuntime,
+    target: Target<'a>,
+    wanted: Option<Wanted>,
+) -> Result<Option<Chosen>, Failure<'a>> {
+    let Target { db, to, force } = target;
     let from = over_file(db, Names::of(rt, db))?;
     over_file(db, from.check(rt))?;
     over_file(to, from.check_target(rt, to, force))?;
@@ -27,68 +62,84 @@ pub fn copy<'a>(rt: &HostRuntime, given: &ArgMatches<'a>) -> Result<u8, Failure<
     // What comes to have the name from now on is not replaced: it is not locked.
     let replaces = force && is_there(rt, to).unwrap_or(false);
     if replaces {
-        replace(rt, db, to, &from)?;
+        replace(rt, target, &from, wanted)
     } else {
-        copy_to(rt, db, to, &from, force, false)?;
+        make_beside(rt, target, &from, false, wanted)
     }
-    Ok(DONE)
 }
 
-/// Copies a database to the name of a file that is there, which no other process has open meanwhile.
+/// Makes a file of the name of one that is there, which no other process has open meanwhile.
 fn replace<'a>(
     rt: &HostRuntime,
-    db: &'a str,
-    to: &'a str,
+    target: Target<'a>,
     from: &Names,
-) -> Result<(), Failure<'a>> {
-    let name_lock = over_file(to, lock_alone(rt, to))?;
-    let replaced = lock(rt, to)?;
-    let copied = copy_to(rt, db, to, from, true, true);
+    wanted: Option<Wanted>,
+) -> Result<Option<Chosen>, Failure<'a>> {
+    let name_lock = over_file(target.to, lock_alone(rt, target.to))?;
+    let replaced = lock(rt, target.to)?;
+    let made = make_beside(rt, target, from, true, wanted);
     drop(replaced);
     drop(name_lock);
-    copied
+    made
 }
 
-/// Copies a database to a name, after another look at it once nobody else makes a copy to it. No file is left after a failure.
-fn copy_to<'a>(
+/// Makes a file, after another look at its name once nobody else makes one of that name. No file is left after a failure.
+fn make_beside<'a>(
     rt: &HostRuntime,
-    db: &'a str,
-    to: &'a str,
+    target: Target<'a>,
     from: &Names,
-    force: bool,
     replaces: bool,
-) -> Result<(), Failure<'a>> {
+    wanted: Option<Wanted>,
+) -> Result<Option<Chosen>, Failure<'a>> {
+    let Target { to, force, .. } = target;
     let part = over_file(to, make_part(rt, from, to))?;
     let made = match over_file(to, from.check_target(rt, to, force)) {
-        Ok(()) => make(rt, db, to, from, &part, replaces),
+        Ok(()) => make(rt, target, from, &part, replaces, wanted),
         Err(failure) => Err(failure),
     };
     part.remove(rt, made.is_ok());
     made
 }
 
-/// Makes a copy under other names, and gives it its own.
+/// Makes a file under another name, and gives it its own.
 fn make<'a>(
     rt: &HostRuntime,
-    db: &'a str,
-    to: &'a str,
+    target: Target<'a>,
     from: &Names,
     part: &Part,
     replaces: bool,
+    wanted: Option<Wanted>,
+) -> Result<Option<Chosen>, Failure<'a>> {
+    let Target { db, to, .. } = target;
+    let seen = match wanted {
+        Some(wanted) => fill_tables(rt, target, from, part, wanted)?,
+        None => {
+            fill(rt, target, from, part)?;
+            test(rt, part.names.file.as_str(), to, db)?;
+            None
+        }
+    };
+    over_file(to, part.put(rt, to, replaces))?;
+    Ok(seen)
+}
+
+/// Copies the files of a database.
+pub fn fill<'a>(
+    rt: &HostRuntime,
+    target: Target<'a>,
+    from: &Names,
+    part: &Part,
 ) -> Result<(), Failure<'a>> {
+    let Target { db, to, .. } = target;
     if let Err(cause) = from.try_read(rt) {
         return Err(Failure::File { name: db, cause });
     }
     match part.fill(rt, from) {
-        Ok(true) => {}
-        Ok(false) => {
-            return Err(Failure::Unusable {
-                name: db,
-                why: TOO_FAST,
-            });
-        }
-        Err(cause) => return Err(Failure::File { name: to, cause }),
+        Ok(true) => Ok(()),
+        Ok(false) => Err(Failure::Unusable {
+            name: db,
+            why: TOO_FAST,
+        }),
+        Err(cause) => Err(Failure::File { name: to, cause }),
     }
-    test(rt, part.names.file.as_str(), to, db)?;
-    over_file(to, part.put(rt, to, replaces))
 }

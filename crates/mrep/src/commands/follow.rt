@@ -6,7 +6,7 @@ use crate::arguments::{number, word};
 use crate::commands::socket::Socket;
 use crate::database::open::{closed, follow_into};
 use crate::report::failure::{Failure, MEMORY, over_file, write_failure};
-use crate::report::status::status_after;
+use crate::report::status::{counted, status_after};
 use crate::report::wanted::Wanted;
 use crate::report::watch::{Source, Watch};
 use binlog::Follow;
@@ -63,7 +63,8 @@ pub fn follow<'a, W: Write, E: Write>(
     let printed = watch.report(1, &end, failure);
     watch.note_missing();
     let stopped = wanted.stopped(watch.stop());
-    status_after(&[end], first_failure(printed, stopped, closed), err)
+    let done = first_failure(printed, stopped, closed);
+    status_after(counted(&[end], &done), done, err)
 }
 
 /// The first failure of what was done at the end of a connection: its line, the feed, and the closing of the database.

@@ -3,16 +3,15 @@
 ghost use Rattle.std.specs.Prelude.{◌≡◌, IfOk};
 
 use crate::arguments::{gtid_set, tables, word};
+use crate::database::description::{encoding_with, read_tables};
 use crate::database::job::Job;
 use crate::database::open::work_on;
 use crate::database::printer::Selection;
 use crate::report::failure::{DONE, Failure};
 use clap::ArgMatches;
-use columns::Description;
 use files::has_bytes;
-use formats::{Chosen, Encoding, Format, encoding_of, format_of, note_made};
+use formats::{Chosen, format_of, note_made};
 use gtid::Gtid;
-use std::fs;
 use std::io::Write;
 
 /// The job of the command of this name, if it is one over a store.
@@ -20,7 +19,7 @@ pub fn job_of<'a>(
     rt: &HostRuntime,
     name: &str,
     given: &ArgMatches<'a>,
-) -> Result<Option<Job>, Failure<'a>> {
+) -> Result<Option<Job<'a>>, Failure<'a>> {
     let alloc = rt.alloc();
     let job = match name {
         "show" => Job::Show(selection(rt, given)?),
@@ -44,47 +43,18 @@ fn selection<'a>(rt: &HostRuntime, given: &ArgMatches<'a>) -> Result<Selection, 
     if described.is_none() && format.needs_columns() {
         return Err(Failure::Columns);
     }
-    let encoding = encoding(given.get_str("bytes"), format, described.is_some())?;
+    let encoding = encoding_with(given.get_str("bytes"), format, described.is_some())?;
     let only = tables(rt.alloc(), given.get_strs("only").unwrap_or(&[]))?;
-    let columns = match described {
-        Some(name) => Some(description(rt, name)?),
+    let described = match described {
+        Some(name) => Some(read_tables(rt, name)?),
         None => None,
     };
     Ok(Selection {
         chosen: Chosen::new(rt.alloc(), only)?,
         format,
         encoding,
-        columns,
+        described,
     })
-}
-
-/// The form of bytes of a word: where columns are described, JSON alone has several, and base64 without a word.
-fn encoding<'a>(
-    word: Option<&str>,
-    format: Format,
-    is_described: bool,
-) -> Result<Encoding, Failure<'a>> {
-    let found = match (is_described, format, word) {
-        (true, Format::Json, None) => Some(Encoding::Base64),
-        (true, Format::Csv, Some(_)) => None,
-        _ => encoding_of(word, format),
-    };
-    match found {
-        Some(encoding) => Ok(encoding),
-        None => Err(Failure::Bytes),
-    }
-}
-
-/// The description of columns in a file.
-fn description<'a>(rt: &HostRuntime, name: &'a str) -> Result<Description, Failure<'a>> {
-    let text = match fs::read(rt, name) {
-        Ok(text) => text,
-        Err(cause) => return Err(Failure::File { name, cause }),
-    };
-    match Description::read(rt.alloc(), &text) {
-        Ok(description) => Ok(description),
-        Err(fault) => Err(Failure::Description { name, fault }),
-    }
 }
 
 /// Does a job with the store in a database file, and prints what comes of it. Reports if a job that only reads has made the
@@ -92,7 +62,7 @@ fn description<'a>(rt: &HostRuntime, name: &'a str) -> Result<Description, Failu
 pub fn run_job<'a, W: Write, E: Write>(
     rt: &HostRuntime,
     file: &'a str,
-    job: Job,
+    job: Job<'a>,
     out: &mut W,
     err: &mut E,
 ) -> Result<u8, Failure<'a>>
@@ -112,7 +82,7 @@ pub fn run_job<'a, W: Write, E: Write>(
 fn run_and_print<'a, W: Write, E: Write>(
     rt: &HostRuntime,
     file: &'a str,
-    job: Job,
+    job: Job<'a>,
     out: &mut W,
     err: &mut E,
 ) -> Result<(), Failure<'a>> {

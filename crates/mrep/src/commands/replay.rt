@@ -4,7 +4,7 @@ ghost use Rattle.std.specs.Prelude.{◌≤◌, IfOk};
 
 use crate::database::open::{closed, replay_into};
 use crate::report::failure::{Failure, MEMORY, write_failure};
-use crate::report::status::status_after;
+use crate::report::status::{counted, status_after};
 use crate::report::wanted::Wanted;
 use crate::report::watch::{Source, Watch};
 use binlog::Follow;
@@ -69,7 +69,8 @@ fn replay_streams<'a, W: Write, E: Write>(
         }
         Ok(()) | Err(Halt::Observer) => stopped,
     };
-    status_after(&ends, read.and(closed(wanted.db, files)), err)
+    let done = read.and(closed(wanted.db, files));
+    status_after(counted(&ends, &done), done, err)
 }
 
 /// What is read: the tables whose rows are kept, the settings, and the streams.

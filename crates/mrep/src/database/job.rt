@@ -8,6 +8,7 @@ ghost use Rattle.store.specs.State.{Content};
 ghost use Rattle.store.specs.Changes.{with_executed};
 ghost use Rattle.store.specs.Store.{Holds, HoldsAs, database};
 
+use crate::database::exporter::{Export, export_rows};
 use crate::database::printer::{Selection, print_rows, print_tallies};
 use crate::report::failure::Failure;
 use formats::{Chosen, text_of};
@@ -21,7 +22,7 @@ use store::{Applied, Store};
 
 /// What is done with a store.
 #[derive(Drop)]
-pub enum Job {
+pub enum Job<'a> {
     /// Nothing: that the database can be opened and closed is all that is asked.
     Nothing,
     /// Its executed set is read.
@@ -36,6 +37,8 @@ pub enum Job {
     Tables,
     /// Its rows are printed.
     Show(Selection),
+    /// Its rows are added to tables of another database.
+    Export(Export<'a>),
 }
 
 /// What comes of a job, to be printed once the database is closed.
@@ -47,11 +50,11 @@ pub enum Done {
     Set(String),
     /// Whether a transaction was new.
     Applied(Applied),
-    /// The rows are printed, and of these tables some were there.
+    /// The rows are printed or added to tables, and of these tables some were there.
     Shown(Chosen),
 }
 
-impl Job {
+impl<'a> Job<'a> {
     /// Whether the job leaves the database as it is.
     pub fn only_reads(&self) -> bool {
         matches!(
@@ -61,7 +64,7 @@ impl Job {
     }
 
     /// Does it. A failure names the database.
-    pub fn run<'a, S: Alter, W: Write>(
+    pub fn run<S: Alter, W: Write>(
         self,
         alloc: Global,
         name: &'a str,
@@ -82,6 +85,10 @@ impl Job {
                 Ok(chosen) => Ok(Done::Shown(chosen)),
                 Err(failure) => Err(failure),
             },
+            Job::Export(export) => match export_rows(alloc, name, store, export) {
+                Ok(chosen) => Ok(Done::Shown(chosen)),
+                Err(failure) => Err(failure),
+            },
         }
     }
 }
@@ -95,6 +102,14 @@ fn set_of<'a>(text: Result<String, Failure<'a>>) -> Result<Done, Failure<'a>> {
 }
 
 impl Done {
+    /// The tables that were asked for, where rows are what has come of a job.
+    pub fn chosen(self) -> Option<Chosen> {
+        match self {
+            Done::Shown(chosen) => Some(chosen),
+            _ => None,
+        }
+    }
+
     /// Prints what has come of a job over the database in this file.
     pub fn print<W: Write, E: Write>(self, file: &str, out: &mut W, err: &mut E) -> io::Result<()> {
         match self {

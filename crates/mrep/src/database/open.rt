@@ -2,10 +2,12 @@
 
 ghost use Rattle.std.specs.Prelude.{◌≡◌, Ok, IfOk};
 
+use crate::database::exporter::{Export, Wanted, of_sqlite};
 use crate::database::job::{Done, Job};
 use crate::report::failure::{Failure, of_file, over_file};
 use binlog::Follow;
 use files::{LOCKED, Opening, is_file, missing_wal, opening_fault, reading_fault, remove_unused};
+use formats::Chosen;
 use replica::{
     Capture, Config, Duplex, FollowedFile, Observer, Replayed, Unopened, close_file, follow_file,
     open_file,
@@ -49,7 +51,7 @@ impl<'a> Place<'a, 'a> {
 pub fn work_on<'a, W: Write>(
     rt: &HostRuntime,
     name: &'a str,
-    job: Job,
+    job: Job<'a>,
     out: &mut W,
 ) -> Result<Done, Failure<'a>> {
     let opening = over_file(name, Opening::begin(rt, name))?;
@@ -74,13 +76,37 @@ pub fn test<'a>(rt: &HostRuntime, copy: &str, to: &'a str, db: &'a str) -> Resul
     Ok(())
 }
 
+/// Makes tables of a new database in an empty file, with the rows of a copy of a database, and closes both: `copy` and `part` are
+/// the paths. Returns of which tables that are named there were rows.
+pub fn export_from<'a>(
+    rt: &HostRuntime,
+    copy: &str,
+    part: &str,
+    to: &'a str,
+    db: &'a str,
+    wanted: Wanted,
+) -> Result<Option<Chosen>, Failure<'a>> {
+    let conn = match Connection::open(rt, part) {
+        Ok(conn) => conn,
+        Err(cause) => return Err(of_sqlite(to, cause)),
+    };
+    let place = Place {
+        path: copy,
+        file: to,
+        content: db,
+    };
+    let job = Job::Export(Export { to, wanted, conn });
+    let done = work_in(rt, place, None, job, &mut Vec::new(rt.alloc()))?;
+    Ok(done.chosen())
+}
+
 /// Opens the database at a place, whose WAL file is the one given if that was missing before, does a job with its store, and
 /// closes it. A function that hands a store in a file on to a generic one takes long to prove, so there is this one alone.
 fn work_in<'a, W: Write>(
     rt: &HostRuntime,
     place: Place<'_, 'a>,
     wal: Option<String>,
-    job: Job,
+    job: Job<'a>,
     out: &mut W,
 ) -> Result<Done, Failure<'a>> {
     match open_file(rt, place.path, Unknown, 0, None) {

@@ -1,14 +1,13 @@
 //! The rows of a database, in one of the formats, and how many there are of each table.
 
 use crate::report::failure::Failure;
-use columns::Description;
 use formats::{Chosen, Encoding, Format, Records, Tallies, write_filter, write_object, write_row};
 use sqlite::Alter;
 use std::alloc::Global;
 use std::io;
 use std::io::Write;
 use store::{ListError, Listed, Store, Visitor};
-use typed_rows::{Layout, RowError, TypedRows};
+use typed_rows::{DescribedTables, Layout, RowError, TypedRows};
 
 /// Which rows are printed, and how.
 #[derive(Drop)]
@@ -17,8 +16,8 @@ pub struct Selection {
     pub chosen: Chosen,
     pub format: Format,
     pub encoding: Encoding,
-    /// The description of the columns, with which rows have names and types.
-    pub columns: Option<Description>,
+    /// The tables that are described, whose rows have names and types.
+    pub described: Option<DescribedTables>,
 }
 
 /// Prints rows, with the number of copies or as often as there are. Returns of which of the tables there was a row.
@@ -30,8 +29,8 @@ pub fn print_rows<'a, S: Alter, W: Write>(
     out: &mut W,
 ) -> Result<Chosen, Failure<'a>> {
     let mut selection = selection;
-    if let Some(columns) = selection.columns.take() {
-        return print_typed(alloc, name, store, &columns, selection, out);
+    if let Some(tables) = selection.described.take() {
+        return print_typed(alloc, name, store, &tables, selection, out);
     }
     if selection.format == Format::Csv {
         return print_records(alloc, name, store, selection, out);
@@ -44,7 +43,7 @@ fn print_typed<'a, S: Alter, W: Write>(
     alloc: Global,
     name: &'a str,
     store: &mut Store<S>,
-    columns: &Description,
+    tables: &DescribedTables,
     selection: Selection,
     out: &mut W,
 ) -> Result<Chosen, Failure<'a>> {
@@ -54,7 +53,7 @@ fn print_typed<'a, S: Alter, W: Write>(
         encoding: selection.encoding,
         is_one: single.is_some(),
     };
-    let mut rows = TypedRows::new(alloc, columns, layout, out);
+    let mut rows = TypedRows::new(alloc, tables, layout, out);
     rows.begin(single)?;
     let mut all = Typed {
         chosen: selection.chosen,

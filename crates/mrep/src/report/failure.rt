@@ -14,7 +14,7 @@ use std::alloc::{AllocError, AllocFailed};
 use std::io;
 use std::io::Write;
 use store::{Damage, StoreFault};
-use typed_rows::Misfit;
+use typed_rows::{Misfit, TableName, TablesFault};
 
 /// Done.
 pub const DONE: u8 = 0;
@@ -32,6 +32,9 @@ const NO_GTID: &str =
 
 const NO_TABLE: &str =
     "not a table: expected SCHEMA.TABLE, with `%` only before two hexadecimal digits";
+
+const NO_SCHEMA: &str =
+    "not a schema: expected its name, without `.`, and with `%` only before two hexadecimal digits";
 
 const NO_BYTES: &[u8] =
     b"mrep: --bytes needs --format json, or csv without --columns, or --changes\n";
@@ -56,6 +59,10 @@ pub enum Failure<'a> {
     Table {
         word: &'a str,
     },
+    /// This argument is not the name of a schema.
+    Schema {
+        word: &'a str,
+    },
     /// This argument is not a number from 1 to the largest.
     Number {
         word: &'a str,
@@ -69,6 +76,11 @@ pub enum Failure<'a> {
     Description {
         name: &'a str,
         fault: DescriptionFault,
+    },
+    /// No tables are made of the description in the file of this name.
+    Tables {
+        name: &'a str,
+        fault: TablesFault,
     },
     /// This argument is not a user name.
     User {
@@ -162,11 +174,17 @@ impl Failure<'_> {
             | Failure::Set { .. }
             | Failure::Gtid { .. }
             | Failure::Table { .. }
+            | Failure::Schema { .. }
             | Failure::Number { .. }
             | Failure::Bytes
             | Failure::Columns
             | Failure::User { .. } => USAGE,
             Failure::Description { fault, .. } => description_status(*fault),
+            Failure::Tables {
+                fault: TablesFault::Memory,
+                ..
+            } => MEMORY,
+            Failure::Tables { .. } => USAGE,
             Failure::Misfit { .. } => REFUSED,
             Failure::Database { cause, .. } => database_status(*cause),
             Failure::File { cause, .. } | Failure::Host { cause, .. } | Failure::Output(cause) =>
@@ -183,6 +201,7 @@ impl Failure<'_> {
             Failure::Set { word, cause } => write_named(word, cause, err),
             Failure::Gtid { word } => write_named(word, &NO_GTID, err),
             Failure::Table { word } => write_named(word, &NO_TABLE, err),
+            Failure::Schema { word } => write_named(word, &NO_SCHEMA, err),
             Failure::Number { word, largest } => {
                 writeln!(
                     err,
@@ -201,6 +220,7 @@ impl Failure<'_> {
                     fault.fault
                 )
             }
+            Failure::Tables { name, fault } => write_tables_fault(name, fault, err),
             Failure::Misfit { name, misfit } => write_misfit(name, misfit, err),
             Failure::User { word, cause } => write_named(word, cause, err),
             Failure::File { name, cause } | Failure::Host { name, cause } => {
@@ -231,6 +251,32 @@ fn write_misfit<E: Write>(name: &str, misfit: &Misfit, err: &mut E) -> io::Resul
         ": {}: fetch the description of the columns again",
         misfit.fault
     )
+}
+
+/// Writes the message of a description of which no tables are made.
+fn write_tables_fault<E: Write>(name: &str, fault: &TablesFault, err: &mut E) -> io::Result<()> {
+    if let TablesFault::Memory = fault {
+        return err.write_all(b"mrep: out of memory\n");
+    }
+    write!(err, "mrep: {}: ", Shown(name))?;
+    match fault {
+        TablesFault::Table(table, fault) => {
+            write_table_name(table, err)?;
+            writeln!(err, ": {fault}")
+        }
+        TablesFault::Same(first, second) => {
+            write_table_name(first, err)?;
+            err.write_all(b" and ")?;
+            write_table_name(second, err)?;
+            err.write_all(b": SQLite takes their names for the same\n")
+        }
+        _ => err.write_all(b"no table of the schema that is asked for is described\n"),
+    }
+}
+
+/// Writes the name of a table.
+fn write_table_name<E: Write>(name: &TableName, err: &mut E) -> io::Result<()> {
+    write_table(&name.schema, &name.table, err)
 }
 
 /// The failure of the file of this name.

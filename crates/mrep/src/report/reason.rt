@@ -1,13 +1,14 @@
 //! The printed names of the reasons for which a stream or a connection ends.
 
 use formats::{
-    OUTPUT, Shown, event_advice, event_reason, gather_reason, greet_advice, greet_reason,
-    wire_reason, write_escaped, write_named,
+    Shown, event_advice, event_reason, gather_reason, greet_advice, greet_reason, wire_reason,
+    write_escaped, write_named,
 };
 use gather::GatherFault;
 use replica::{Ended, Reason, Refusal};
 use std::io;
 use std::io::Write;
+use typed_rows::OUTPUT;
 
 /// The name of a reason without a number in it.
 fn plain_reason(reason: &Reason) -> &'static str {

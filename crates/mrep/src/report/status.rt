@@ -1,7 +1,7 @@
 //! The exit status of the connections that a command has read.
 
-ghost use Rattle.std.specs.Prelude.{◌≡◌, ◌≤◌, Err, IfOk, IfErr};
-ghost use Rattle.mrep.specs.Reason.{status_of, first_status};
+ghost use Rattle.std.specs.Prelude.{◌≡◌, ◌≤◌, Err, IsOk, IfOk, IfErr};
+ghost use Rattle.mrep.specs.Reason.{status_of, first_status, IsCounted};
 
 use crate::report::failure::{DONE, FILES, Failure, MEMORY, REFUSED};
 use replica::{Ended, Reason};
@@ -37,6 +37,19 @@ fn first_status(ends: &[Ended]) -> u8
         }
     }
     DONE
+}
+
+/// The connections whose status counts: not the last one where it was stopped for a row that does not fit, whose failure has
+/// a status of its own.
+pub fn counted<'e>(ends: &'e [Ended], done: &Result<(), Failure<'_>>) -> &'e [Ended]
+    ensures counted { IsCounted ends.now result.now }
+    ensures all { IsOk done.now → result.now ≡ ends.now }
+{
+    match (ends, done) {
+        ([before @ .., last], Err(Failure::Misfit { .. }))
+            if matches!(last.reason, Reason::Halted) => before,
+        _ => ends,
+    }
 }
 
 /// The first status of the connections that is not 0, otherwise that of any other failure.

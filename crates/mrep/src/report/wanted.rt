@@ -1,14 +1,16 @@
 //! What `mrep replay` and `mrep follow` are asked for beside what they read.
 
 use crate::arguments::{tables, word};
+use crate::database::description::{encoding_with, read_tables};
 use crate::report::failure::{Failure, of_file};
 use crate::report::watch::{Reports, Stop};
 use binlog::Follow;
 use clap::ArgMatches;
-use formats::{Chosen, Feed, Format, OUTPUT, Progress, encoding_of};
+use formats::{Chosen, Format, Progress};
 use std::alloc::{AllocFailed, Global};
 use std::io::IsTerminal;
 use std::rc::Rc;
+use typed_rows::{DescribedTables, Feed, OUTPUT};
 
 /// The database and the tables whose rows are kept, and what is reported.
 #[derive(Clone, Copy)]
@@ -23,6 +25,8 @@ pub struct Wanted<'g, 'a> {
     changes: Option<&'a str>,
     /// How it has bytes.
     bytes: Option<&'a str>,
+    /// The file with the description of the columns.
+    columns: Option<&'a str>,
 }
 
 impl<'g, 'a> Wanted<'g, 'a> {
@@ -38,6 +42,7 @@ impl<'g, 'a> Wanted<'g, 'a> {
             progress: given.get_flag("progress"),
             changes,
             bytes,
+            columns: given.get_str("columns"),
         })
     }
 
@@ -57,9 +62,14 @@ impl<'g, 'a> Wanted<'g, 'a> {
         read: &[&str],
     ) -> Result<Reports, Failure<'a>> {
         let chosen = self.chosen(rt.alloc())?;
+        let tables = match self.columns {
+            Some(name) => Some(read_tables(rt, name)?),
+            None => None,
+        };
         Ok(Reports {
             progress,
             feed: self.feed(rt, read)?,
+            tables,
             chosen,
         })
     }
@@ -91,13 +101,16 @@ impl<'g, 'a> Wanted<'g, 'a> {
         let Some(name) = self.changes else {
             return Ok(None);
         };
-        let Some(encoding) = encoding_of(self.bytes, Format::Json) else {
-            return Err(Failure::Bytes);
-        };
+        let encoding = encoding_with(self.bytes, Format::Json, self.columns.is_some())?;
         if name == OUTPUT {
             return Ok(Some(Feed::to_output(rt.alloc(), encoding)));
         }
-        match Feed::to_file(rt, name, self.db, read, encoding) {
+        let mut others = Vec::with_capacity(rt.alloc(), read.len().saturating_add(1))?;
+        others.extend_from_slice(read)?;
+        if let Some(columns) = self.columns {
+            others.push(columns)?;
+        }
+        match Feed::to_file(rt, name, self.db, &others, encoding) {
             Ok(feed) => Ok(Some(feed)),
             Err(fault) => Err(of_file(name, fault)),
         }
@@ -117,6 +130,10 @@ impl<'g, 'a> Wanted<'g, 'a> {
                 cause,
             }),
             (Some(Stop::Feed(cause) | Stop::Output(cause)), _) => Err(Failure::Output(cause)),
+            (Some(Stop::Misfit(misfit)), _) => Err(Failure::Misfit {
+                name: self.columns.unwrap_or(""),
+                misfit,
+            }),
         }
     }
 }

@@ -5,13 +5,14 @@ ghost use Rattle.std.specs.Prelude.{◌≡◌, true, is_some};
 use crate::report::reason::{can_skip, write_advice, write_cause, write_end};
 use crate::report::wanted::Wanted;
 use binlog::Event;
-use formats::{Chosen, Details, Feed, FeedEntry, Progress, Shown, text_of};
+use formats::{Chosen, Details, Progress, Shown, text_of};
 use gather::Delivery;
 use gtid::GtidSet;
 use replica::{Ended, Observer, Reason, Refusal};
 use std::io;
 use std::io::Write;
 use std::rc::Rc;
+use typed_rows::{DescribedTables, Feed, FeedEntry, Misfit, RowError, write_refused};
 
 /// Why reading is stopped.
 #[derive(Drop)]
@@ -20,6 +21,18 @@ pub enum Stop {
     Output(io::Error),
     /// The change feed could not be written.
     Feed(io::Error),
+    /// A row does not fit the description of its columns.
+    Misfit(Misfit),
+}
+
+impl Stop {
+    /// What stops where the change feed was not written.
+    fn of(error: RowError) -> Stop {
+        match error {
+            RowError::Output(cause) => Stop::Feed(cause),
+            RowError::Misfit(misfit) => Stop::Misfit(misfit),
+        }
+    }
 }
 
 /// What is read, and into which database file.
@@ -58,6 +71,8 @@ impl<'a> Source<'a> {
 pub struct Reports {
     pub progress: Option<Rc<Progress>>,
     pub feed: Option<Feed>,
+    /// The tables whose rows have names and types in the feed and in messages.
+    pub tables: Option<DescribedTables>,
     /// The tables that are asked for of a new database, and which of them have come.
     pub chosen: Option<Chosen>,
 }
@@ -70,6 +85,8 @@ pub struct Watch<'a, O, E> {
     err: &'a mut E,
     progress: Option<Rc<Progress>>,
     feed: Option<Feed>,
+    /// The tables whose rows have names and types in the feed and in messages.
+    tables: Option<DescribedTables>,
     /// The executed set at the start, until the feed has it.
     executed: Option<String>,
     /// The tables that are asked for of a new database, and which of them have come.
@@ -95,6 +112,7 @@ impl<'a, O: Write, E: Write> Watch<'a, O, E> {
         let Reports {
             progress,
             feed,
+            tables,
             chosen,
         } = reports;
         Watch {
@@ -103,6 +121,7 @@ impl<'a, O: Write, E: Write> Watch<'a, O, E> {
             err,
             progress,
             feed,
+            tables,
             executed: None,
             chosen,
             has_failed: false,
@@ -126,8 +145,8 @@ impl<'a, O: Write, E: Write> Watch<'a, O, E> {
         let Some(feed) = &mut self.feed else {
             return;
         };
-        if let Err(cause) = feed.write(entry, self.out) {
-            self.stop = Some(Stop::Feed(cause));
+        if let Err(error) = feed.write(entry, self.tables.as_ref(), self.out) {
+            self.stop = Some(Stop::of(error));
         }
     }
 
@@ -138,6 +157,27 @@ impl<'a, O: Write, E: Write> Watch<'a, O, E> {
         if let Some(text) = self.executed.take() {
             self.put(FeedEntry::Opened(text.as_str()));
         }
+    }
+
+    /// Notes the change of a transaction that is refused, with names and types where its table is described.
+    fn note_refused(&mut self, delivery: &Delivery, at: usize, is_full: bool)
+        ensures { self.new.stop ≡ self.old.stop }
+    {
+        let Some(change) = delivery.changes.iter().nth(at) else {
+            return;
+        };
+        if let Some(tables) = &self.tables
+            && write_refused(
+                self.source.rt.alloc(),
+                tables,
+                &change,
+                is_full,
+                &mut self.details.lines,
+            )
+        {
+            return;
+        }
+        self.details.refuse_change(&change, is_full);
     }
 
     /// Writes the line of an end at once: to standard error where the output has the change feed.
@@ -291,10 +331,10 @@ impl<'a, O: Write, E: Write> Observer for Watch<'a, O, E> {
                 self.details.gtid = Some(delivery.gtid);
                 match reason {
                     Reason::Refused(Refusal::NoSuchRow(at)) => {
-                        self.details.refuse_change(delivery, *at, false);
+                        self.note_refused(delivery, *at, false);
                     }
                     Reason::Refused(Refusal::CountFull(at)) => {
-                        self.details.refuse_change(delivery, *at, true);
+                        self.note_refused(delivery, *at, true);
                     }
                     _ => {}
                 }

@@ -15,5 +15,5 @@ returns c =
     let bits = to_bits binary64 value in
     let same = of_bits-to_bits binary64 value (passes _ c.well_formed.0.1) in
     let below = double_below bits (subst (λ (x : Float). IsTrue (float_is_finite x)) (sym same) c.requires) in
-    c.read_double.ensures.found bits (to_bits-lt binary64 value (passes _ c.well_formed.0.1)) (ap bytes_cell c.double_bytes-bytes.ensures) (lt-ltb (bits % 0x8000000000000000) 0x7ff0000000000000 below)
+    c.read_double.ensures.found bits (to_bits-lt binary64 value (passes _ c.well_formed.0.1)) (ap bytes_cell c.double_bytes-bytes.ensures.bytes) (lt-ltb (bits % 0x8000000000000000) 0x7ff0000000000000 below)
     ∙ ap Ok same

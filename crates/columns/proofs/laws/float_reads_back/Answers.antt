@@ -15,5 +15,5 @@ returns c =
     let bits = to_bits binary32 value in
     let same = of_bits-to_bits binary32 value (passes _ c.well_formed.0.1) in
     let below = float_below bits (subst (λ (x : Float). IsTrue (float_is_finite x)) (sym same) c.requires) in
-    c.read_float.ensures.found bits (to_bits-lt binary32 value (passes _ c.well_formed.0.1)) (ap bytes_cell c.float_bytes-bytes.ensures) (lt-ltb (bits % 0x80000000) 0x7f800000 below)
+    c.read_float.ensures.found bits (to_bits-lt binary32 value (passes _ c.well_formed.0.1)) (ap bytes_cell c.float_bytes-bytes.ensures.bytes) (lt-ltb (bits % 0x80000000) 0x7f800000 below)
     ∙ ap Ok same

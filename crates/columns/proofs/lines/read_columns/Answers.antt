@@ -9,7 +9,7 @@ use Rattle.columns.specs.Lines.{ColumnValue, IsDescribedColumn, column_value, co
 use Rattle.columns.specs.Descriptions.{lines_text, column_values, column_names}
 use Rattle.columns.proofs.Types.{never}
 use Rattle.columns.proofs.Ahead.{IsAhead, begin, next, line_more, all_with, distinct_with, values_with, names_with, first_field, not_not, no_two, at_end}
-use Rattle.columns.proofs.WrongLines.{wrong_by_itself, behind_front, not_false}
+use Rattle.columns.proofs.WrongLines.{wrong_column, behind_front, not_false, some_there}
 use Rattle.columns.proofs.lines.read_columns.Goals as goal
 
 pub loop-line-init : goal.loop-line-init
@@ -70,11 +70,35 @@ returns-in-Err-clause-fault c = record {
   columns = column_values c.loop-line.columns.items;
   rest = c.loop-line.left.now;
   lawful = record { each = c.loop-line.invariant.each; distinct = c.loop-line.invariant.distinct };
+  begins = λ _. c.requires;
   text_is = c.loop-line.invariant.text;
   left_is = refl;
-  wrong = wrong_by_itself [] c.args.front.now (column_values c.loop-line.columns.items) c.loop-line.left.now c.in-Err.fault c.in-Err.ensures.kind
+  wrong = wrong_column [] c.args.front.now (column_values c.loop-line.columns.items) c.loop-line.left.now c.in-Some.line.now c.in-Err.fault c.requires c.in-Some.ensures.some c.in-Err.ensures.fault
       (λ other front column tail is one e. other (c.in-Err.ensures.only column tail one
-      (behind_front c.args.front.now front c.in-Some.line.now (column_text column ++ tail) c.requires is (sym c.in-Some.ensures.some ∙ e))));
+      (behind_front c.args.front.now front c.in-Some.line.now (column_text column ++ tail) c.requires is (sym c.in-Some.ensures.some ∙ e))))
+      (some_there c.args.front.now c.loop-line.left.now c.in-Some.line.now c.requires c.in-Some.ensures.some);
+}
+
+pub returns-in-Err-see-clause-fault : goal.returns-in-Err-see-clause-fault
+returns-in-Err-see-clause-fault c = record {
+  columns = column_values c.loop-line.columns.items;
+  rest = c.loop-line.left.now;
+  lawful = record { each = c.loop-line.invariant.each; distinct = c.loop-line.invariant.distinct };
+  begins = λ _. c.requires;
+  text_is = c.loop-line.invariant.text;
+  left_is = refl;
+  wrong = some_there c.args.front.now c.loop-line.left.now c.in-Some.line.now c.requires c.in-Some.ensures.some;
+}
+
+pub returns-in-Err-push-clause-fault : goal.returns-in-Err-push-clause-fault
+returns-in-Err-push-clause-fault c = record {
+  columns = column_values c.loop-line.columns.items;
+  rest = c.loop-line.left.now;
+  lawful = record { each = c.loop-line.invariant.each; distinct = c.loop-line.invariant.distinct };
+  begins = λ _. c.requires;
+  text_is = c.loop-line.invariant.text;
+  left_is = refl;
+  wrong = some_there c.args.front.now c.loop-line.left.now c.in-Some.line.now c.requires c.in-Some.ensures.some;
 }
 
 pub returns-in-Ok-false-clause-fault : goal.returns-in-Ok-false-clause-fault
@@ -87,6 +111,7 @@ returns-in-Ok-false-clause-fault c =
       columns = column_values c.loop-line.columns.items;
       rest = c.loop-line.left.now;
       lawful = record { each = c.loop-line.invariant.each; distinct = c.loop-line.invariant.distinct };
+      begins = λ _. c.requires;
       text_is = c.loop-line.invariant.text;
       left_is = refl;
       wrong = (

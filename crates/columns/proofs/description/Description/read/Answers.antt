@@ -2,7 +2,7 @@ use Rattle.std.proofs.Common.{refl, ◌≡◌, [], length, ap, sym, arith}
 use Rattle.std.proofs.lemmas.Bool.{eqb-true}
 use Rattle.columns.proofs.TablesAhead.{at_last, empty}
 use Rattle.columns.proofs.Ahead.{no_two}
-use Rattle.columns.proofs.WrongLines.{no_columns, nothing_there}
+use Rattle.columns.proofs.WrongLines.{no_columns}
 use Rattle.columns.proofs.description.Description.read.Goals as goal
 
 pub returns-then-is_empty-clause-only : goal.returns-then-is_empty-clause-only
@@ -18,7 +18,9 @@ returns-then-is_empty-clause-fault c = record {
   rest = c.args.text.now;
   tables_are = record { each = tt; distinct = no_two };
   lawful = no_columns;
+  begins = λ some. absurd (omega (arith, some));
+  fresh = λ some. absurd (omega (arith, some));
   text_is = refl;
   number_is = refl;
-  wrong = nothing_there c.args.text.now (eqb-true (length c.args.text.now) 0 (sym c.if-is_empty.ensures));
+  wrong = (refl, refl, empty c.args.text.now (omega (arith, eqb-true (length c.args.text.now) 0 (sym c.if-is_empty.ensures))));
 }

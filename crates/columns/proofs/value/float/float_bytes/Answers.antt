@@ -1,5 +1,22 @@
-use Rattle.columns.proofs.FloatBits.{a_number}
+use Rattle.std.proofs.Common.{◌%◌, to_bits, sym, ap, subst}
+use Rattle.std.specs.Prelude.{IsTrue}
+use Rattle.std.specs.Bool.{passes}
+use Rattle.std.specs.Float.{float_is_finite, binary32}
+use Rattle.std.specs.Float.Ieee.{Float}
+use Rattle.std.proofs.lemmas.Bool.{lt-ltb}
+use Rattle.binlog.specs.Cell.CellValue.{bytes_cell}
+use Rattle.columns.proofs.FloatBits.{a_number, float_below}
+use lib.Ieee.Bits.{of_bits-to_bits, to_bits-lt}
 use Rattle.columns.proofs.value.float.float_bytes.Goals as goal
+
+pub returns-clause-cell : goal.returns-clause-cell
+returns-clause-cell c =
+    let value = c.args.float in
+    let bits = to_bits binary32 value in
+    let fits = passes _ c.well_formed.0.1 in
+    let same = of_bits-to_bits binary32 value fits in
+    let below = float_below bits (subst (λ (x : Float). IsTrue (float_is_finite x)) (sym same) c.requires) in
+    (bits, to_bits-lt binary32 value fits, lt-ltb (bits % 0x80000000) 0x7f800000 below, ap bytes_cell c.to_le_bytes.ensures, sym same)
 
 pub to_le_bytes-requires : goal.to_le_bytes-requires
 to_le_bytes-requires c = a_number c.args.float c.requires

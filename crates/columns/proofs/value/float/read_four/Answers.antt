@@ -1,0 +1,6 @@
+use Rattle.std.proofs.Common.{arith}
+use Rattle.columns.proofs.Bytes.{little_all}
+use Rattle.columns.proofs.value.float.read_four.Goals as goal
+
+pub returns-clause-bytes : goal.returns-clause-bytes
+returns-clause-bytes c = rw c.read_u32.ensures (little_all 4 c.args.bytes.now c.requires (λ i. omega (arith, c.type_inv.bytes i)))

@@ -1,0 +1,110 @@
+//! A cell is that of one value at most, type by type.
+
+ghost use Rattle.std.specs.Prelude.{◌≤◌, IsTrue};
+ghost use Rattle.binlog.specs.Cell.{cell_value};
+ghost use Rattle.columns.specs.DataType.{is_digits};
+ghost use Rattle.columns.specs.TypeText.{first_number};
+ghost use Rattle.columns.specs.TypedValues.{second_number, IsIntegerOf, IsDecimalOf, IsFloatOf, IsDoubleOf, IsBitsOf, IsYearOf, IsDateOf, IsTimeOf, IsDatetimeOf, IsTimestampOf, IsSameValue};
+ghost use Rattle.columns.specs.declared.typed_value.TypedValue.{TypedValue};
+
+use crate::arguments::Arguments;
+use crate::sign::Sign;
+use crate::value::bit::read_bits;
+use crate::value::date::Date;
+use crate::value::decimal::Decimal;
+use crate::value::float::{read_double, read_float};
+use crate::value::integer::{Integer, IntegerWidth};
+use crate::value::moment::Datetime;
+use crate::value::span::Time;
+use crate::value::stamp::Timestamp;
+use crate::value::year::Year;
+use binlog::Cell;
+
+/// An integer's cell is that of one.
+pub(crate) fn one_integer(width: IntegerWidth, sign: Sign, cell: Cell<'_>)
+    ensures { (a b : TypedValue) → IsIntegerOf width sign a (cell_value cell.entry) →
+        IsIntegerOf width sign b (cell_value cell.entry) → IsSameValue a b }
+{
+    let _found = Integer::read(width, sign, cell);
+}
+
+/// A decimal's cell is that of one.
+pub(crate) fn one_decimal(numbers: Arguments, cell: Cell<'_>)
+    requires { IsTrue (is_digits 65 numbers) }
+    ensures { (a b : TypedValue) → IsDecimalOf (first_number numbers) (second_number numbers) a (cell_value cell.entry) →
+        IsDecimalOf (first_number numbers) (second_number numbers) b (cell_value cell.entry) → IsSameValue a b }
+{
+    let Arguments::TwoNumbers(precision, scale) = numbers else {
+        unreachable!();
+    };
+    let _found = Decimal::read(precision as u8, scale as u8, cell);
+}
+
+/// A FLOAT's cell is that of one.
+pub(crate) fn one_float(cell: Cell<'_>)
+    ensures { (a b : TypedValue) → IsFloatOf a (cell_value cell.entry) →
+        IsFloatOf b (cell_value cell.entry) → IsSameValue a b }
+{
+    let _found = read_float(cell);
+}
+
+/// A DOUBLE's cell is that of one.
+pub(crate) fn one_double(cell: Cell<'_>)
+    ensures { (a b : TypedValue) → IsDoubleOf a (cell_value cell.entry) →
+        IsDoubleOf b (cell_value cell.entry) → IsSameValue a b }
+{
+    let _found = read_double(cell);
+}
+
+/// The cell of a BIT is that of one.
+pub(crate) fn one_bits(bits: u8, cell: Cell<'_>)
+    requires some { 1 ≤ bits }
+    requires few { bits ≤ 64 }
+    ensures { (a b : TypedValue) → IsBitsOf bits a (cell_value cell.entry) →
+        IsBitsOf bits b (cell_value cell.entry) → IsSameValue a b }
+{
+    let _found = read_bits(bits, cell);
+}
+
+/// A year's cell is that of one.
+pub(crate) fn one_year(cell: Cell<'_>)
+    ensures { (a b : TypedValue) → IsYearOf a (cell_value cell.entry) →
+        IsYearOf b (cell_value cell.entry) → IsSameValue a b }
+{
+    let _found = Year::read(cell);
+}
+
+/// A date's cell is that of one.
+pub(crate) fn one_date(cell: Cell<'_>)
+    ensures { (a b : TypedValue) → IsDateOf a (cell_value cell.entry) →
+        IsDateOf b (cell_value cell.entry) → IsSameValue a b }
+{
+    let _found = Date::read(cell);
+}
+
+/// The cell of a TIME is that of one.
+pub(crate) fn one_time(digits: u8, cell: Cell<'_>)
+    requires { digits ≤ 6 }
+    ensures { (a b : TypedValue) → IsTimeOf digits a (cell_value cell.entry) →
+        IsTimeOf digits b (cell_value cell.entry) → IsSameValue a b }
+{
+    let _found = Time::read(digits, cell);
+}
+
+/// The cell of a DATETIME is that of one.
+pub(crate) fn one_datetime(digits: u8, cell: Cell<'_>)
+    requires { digits ≤ 6 }
+    ensures { (a b : TypedValue) → IsDatetimeOf digits a (cell_value cell.entry) →
+        IsDatetimeOf digits b (cell_value cell.entry) → IsSameValue a b }
+{
+    let _found = Datetime::read(digits, cell);
+}
+
+/// The cell of a TIMESTAMP is that of one.
+pub(crate) fn one_timestamp(digits: u8, cell: Cell<'_>)
+    requires { digits ≤ 6 }
+    ensures { (a b : TypedValue) → IsTimestampOf digits a (cell_value cell.entry) →
+        IsTimestampOf digits b (cell_value cell.entry) → IsSameValue a b }
+{
+    let _found = Timestamp::read(digits, cell);
+}

@@ -1,0 +1,108 @@
+//! `mrep export`: the rows of described tables as tables of a new SQLite database.
+//!
+//! The database is read as `mrep copy` reads it: its files are copied beside the file that is made, and the copy, which is opened
+//! and closed, is removed afterwards.
+
+ghost use Rattle.std.specs.Prelude.{◌≡◌, IfOk};
+
+use crate::arguments::{schema, tables, word};
+use crate::commands::copy::{Target, fill, make_file};
+use crate::database::description::read_description;
+use crate::database::exporter::Wanted;
+use crate::database::open::export_from;
+use crate::report::failure::{DONE, Failure, over_file};
+use clap::ArgMatches;
+use files::{FileFault, Names, Part, make_part};
+use formats::Chosen;
+use std::io;
+use std::io::Write;
+use typed_rows::Tables;
+
+const ROWS_PART: &str =
+    "the file with .rows.part after this name cannot be made: it is in use, no copy, or the database itself";
+
+/// Makes a database with the rows of described tables, and reports of which that are named there was none. The file is made
+/// as that of a copy.
+pub fn export<'a, E: Write>(
+    rt: &HostRuntime,
+    given: &ArgMatches<'a>,
+    err: &mut E,
+) -> Result<u8, Failure<'a>>
+    ensures { IfOk result (λ status. status ≡ DONE) }
+{
+    let target = Target::of(given);
+    let wanted = wanted(rt, given)?;
+    if let Some(chosen) = make_file(rt, target, Some(wanted))? {
+        let _ = chosen.note_missing(target.db, err);
+    }
+    Ok(DONE)
+}
+
+/// Which tables the arguments ask for.
+fn wanted<'a>(rt: &HostRuntime, given: &ArgMatches<'a>) -> Result<Wanted, Failure<'a>> {
+    let alloc = rt.alloc();
+    let only = tables(alloc, given.get_strs("only").unwrap_or(&[]))?;
+    let bare = match given.get_str("schema") {
+        Some(word) => Some(schema(alloc, word)?),
+        None => None,
+    };
+    let name = word(given, "columns");
+    let described = read_description(rt, name)?;
+    match Tables::new(alloc, described, &only, bare.as_deref()) {
+        Ok(tables) => Ok(Wanted {
+            tables,
+            chosen: Chosen::new(alloc, only)?,
+        }),
+        Err(fault) => Err(Failure::Tables { name, fault }),
+    }
+}
+
+/// Makes the tables of a file that is made, out of a copy of the database, which is removed. Returns which that are named had
+/// rows.
+pub fn fill_tables<'a>(
+    rt: &HostRuntime,
+    target: Target<'a>,
+    from: &Names,
+    part: &Part,
+    wanted: Wanted,
+) -> Result<Option<Chosen>, Failure<'a>> {
+    let to = target.to;
+    let rows = format!(in rt.alloc(); "{to}.rows")?;
+    let source = match make_part(rt, from, rows.as_str()) {
+        Err(FileFault::Unusable(_)) => {
+            return Err(Failure::Unusable {
+                name: to,
+                why: ROWS_PART,
+            });
+        }
+        made => over_file(to, made)?,
+    };
+    let done = fill_from(rt, target, from, part, &source, wanted);
+    source.remove(rt, false);
+    done
+}
+
+/// Copies a database, and makes the tables out of the copy.
+fn fill_from<'a>(
+    rt: &HostRuntime,
+    target: Target<'a>,
+    from: &Names,
+    part: &Part,
+    source: &Part,
+    wanted: Wanted,
+) -> Result<Option<Chosen>, Failure<'a>> {
+    fill(rt, target, from, source)?;
+    let Target { db, to, .. } = target;
+    let (copy, made) = (source.names.file.as_str(), part.names.file.as_str());
+    let chosen = export_from(rt, copy, made, to, db, wanted)?;
+    match take_mode(part, source) {
+        Ok(()) => Ok(chosen),
+        Err(cause) => Err(Failure::File { name: to, cause }),
+    }
+}
+
+/// Gives a file the mode of another.
+fn take_mode(part: &Part, other: &Part) -> io::Result<()> {
+    part.file
+        .set_permissions(other.file.metadata()?.permissions())
+}

@@ -1,0 +1,224 @@
+//! Rows as those of tables of SQLite.
+
+ghost use Rattle.std.specs.Prelude.{◌≡◌, false};
+
+use crate::definition::{creation, insertion};
+use crate::misfit::{CellError, Fault, Misfit, copied};
+use crate::shown::show;
+use crate::stored::{Stored, store};
+use crate::tables::Tables;
+use columns::{Column, DescribedTable, Key};
+use gather::ImageRef;
+use sqlite::types::ValueRef;
+use sqlite::{Alter, Connection, Constraint, Error, ErrorCode, Statement, Transaction};
+use std::alloc::{AllocError, AllocFailed, Global};
+
+const NO_MEMORY: Error = Error::SqliteFailure(ErrorCode::OutOfMemory);
+
+/// Why a row is not written.
+#[derive(Debug, Drop)]
+pub enum TableError {
+    Misfit(Misfit),
+    Database(Error),
+}
+
+impl From<Error> for TableError {
+    fn from(error: Error) -> TableError {
+        TableError::Database(error)
+    }
+}
+
+impl From<AllocError> for TableError {
+    fn from(_error: AllocError) -> TableError {
+        TableError::Database(NO_MEMORY)
+    }
+}
+
+/// Makes tables and adds rows to them, in one transaction of a database.
+#[derive(Drop)]
+pub struct TableRows<'d, 'c, T: Alter> {
+    alloc: Global,
+    tables: &'d Tables,
+    tx: Transaction<'c, T>,
+    /// The table of the last row, and the statement that adds one to it.
+    last: Option<(&'d DescribedTable, Statement)>,
+}
+
+impl<'d, 'c, T: Alter> TableRows<'d, 'c, T> {
+    /// Makes the tables, without rows.
+    pub fn begin(
+        alloc: Global,
+        tables: &'d Tables,
+        conn: &'c mut Connection<T>,
+    ) -> Result<TableRows<'d, 'c, T>, Error>
+        requires { conn.old.in_transaction ≡ false }
+    {
+        let mut tx = conn.transaction();
+        make_all(alloc, tables, &mut tx)?;
+        Ok(TableRows {
+            alloc,
+            tables,
+            tx,
+            last: None,
+        })
+    }
+
+    /// Adds a row as often as there are copies of it. A row of a table that is not made is left out.
+    pub fn write(
+        &mut self,
+        schema: &[u8],
+        table: &[u8],
+        count: u64,
+        image: &ImageRef<'_>,
+    ) -> Result<(), TableError> {
+        if !self.is_at(schema, table) {
+            self.turn_to(schema, table)?;
+        }
+        let Some((described, statement)) = &self.last else {
+            return Ok(());
+        };
+        let written = write_row(self.alloc, &mut self.tx, described, statement, count, image);
+        match written {
+            Ok(()) => Ok(()),
+            Err(Stop::Database(error)) => Err(TableError::Database(error)),
+            Err(Stop::Fault(column, fault)) => {
+                let misfit = copied(self.alloc, schema, table, column, fault)?;
+                Err(TableError::Misfit(misfit))
+            }
+        }
+    }
+
+    /// Commits the tables and their rows.
+    pub fn commit(self) -> Result<(), Error> {
+        let TableRows { tx, .. } = self;
+        tx.commit()
+    }
+
+    /// Whether the last row was of this table. Rows of a table come one after the other.
+    fn is_at(&self, schema: &[u8], table: &[u8]) -> bool {
+        match &self.last {
+            Some((last, _)) => last.name.as_bytes() == table && last.schema.as_bytes() == schema,
+            None => false,
+        }
+    }
+
+    /// Prepares for the rows of a table, if it is made.
+    fn turn_to(&mut self, schema: &[u8], table: &[u8]) -> Result<(), TableError> {
+        self.last = None;
+        let Some(described) = self.tables.table(self.alloc, schema, table)? else {
+            return Ok(());
+        };
+        let name = self.tables.name_of(self.alloc, described)?;
+        let text = insertion(self.alloc, described, name.as_str())?;
+        self.last = Some((described, self.tx.prepare(text.as_str())?));
+        Ok(())
+    }
+}
+
+/// Makes the tables.
+fn make_all<T: Alter>(
+    alloc: Global,
+    tables: &Tables,
+    tx: &mut Transaction<'_, T>,
+) -> Result<(), Error> {
+    for place in tables.places().values() {
+        if let Some(table) = tables.at(*place) {
+            let name = tables.name_of(alloc, table)?;
+            let text = creation(alloc, table, name.as_str())?;
+            tx.execute(text.as_str(), &[])?;
+        }
+    }
+    Ok(())
+}
+
+/// Why a row is not added.
+enum Stop<'d> {
+    /// The row, or the cell of this column, does not fit.
+    Fault(Option<&'d Column>, Fault),
+    Database(Error),
+}
+
+impl From<Error> for Stop<'_> {
+    fn from(error: Error) -> Self {
+        Stop::Database(error)
+    }
+}
+
+impl From<AllocError> for Stop<'_> {
+    fn from(_error: AllocError) -> Self {
+        Stop::Database(NO_MEMORY)
+    }
+}
+
+impl<T: Drop> From<AllocFailed<T>> for Stop<'_> {
+    fn from(_error: AllocFailed<T>) -> Self {
+        Stop::Database(NO_MEMORY)
+    }
+}
+
+/// Adds a row as often as there are copies of it.
+fn write_row<'d, T: Alter>(
+    alloc: Global,
+    tx: &mut Transaction<'_, T>,
+    table: &'d DescribedTable,
+    statement: &Statement,
+    count: u64,
+    image: &ImageRef<'_>,
+) -> Result<(), Stop<'d>> {
+    // An image has at most 65,535 cells.
+    let cells = image.cells().take(65_536).count();
+    if cells != table.columns.len() {
+        return Err(Stop::Fault(None, Fault::Cells(cells, table.columns.len())));
+    }
+    let mut row = Vec::with_capacity(alloc, cells)?;
+    for (cell, column) in image.cells().zip(table.columns.iter()) {
+        let shown = match show(alloc, column, cell) {
+            Ok(shown) => shown,
+            Err(CellError::Fault(fault)) => return Err(Stop::Fault(Some(column), fault)),
+            Err(CellError::Memory) => return Err(Stop::Database(NO_MEMORY)),
+        };
+        let stored = store(alloc, shown)?;
+        if column.key == Key::Pri && matches!(stored, Stored::Null) {
+            return Err(Stop::Fault(Some(column), Fault::NoKey));
+        }
+        row.push(stored)?;
+    }
+    add(alloc, tx, statement, count, &row)
+}
+
+/// Adds a row of these values as often as there are copies of it.
+fn add<'d, T: Alter>(
+    alloc: Global,
+    tx: &mut Transaction<'_, T>,
+    statement: &Statement,
+    count: u64,
+    row: &[Stored<'_>],
+) -> Result<(), Stop<'d>> {
+    let mut values = Vec::with_capacity(alloc, row.len())?;
+    for stored in row {
+        values.push(stored.value())?;
+    }
+    for _ in 0..count {
+        if !is_added(tx, statement, &values)? {
+            return Err(Stop::Fault(None, Fault::SameKey));
+        }
+    }
+    Ok(())
+}
+
+/// Adds a row of these values: whether none has its key.
+fn is_added<T: Alter>(
+    tx: &mut Transaction<'_, T>,
+    statement: &Statement,
+    values: &[ValueRef<'_>],
+) -> Result<bool, Error> {
+    match tx.execute_prepared(statement, values) {
+        Ok(_) => Ok(true),
+        Err(
+            Error::SqliteFailure(
+                ErrorCode::ConstraintViolation(Constraint::PrimaryKey | Constraint::Unique),
+            ),
+        ) => Ok(false),
+        Err(error) => Err(error),
+    }
+}

@@ -1,0 +1,278 @@
+//! Which tables of a description are made in an SQLite database, and under which names.
+
+use binlog::Follow;
+use columns::{DescribedTable, Description};
+use std::alloc::{AllocError, AllocFailed, Global};
+use std::collections::{BTreeMap, BTreeSet};
+use thiserror::Error;
+
+/// How many columns a table of SQLite has at most (SQLite, "Implementation Limits For SQLite").
+const MOST_COLUMNS: usize = 2_000;
+
+/// How the names begin that SQLite keeps for itself (SQLite, "CREATE TABLE", section 2).
+const RESERVED: &[u8] = b"sqlite_";
+
+/// What stands between the names of a schema and of a table where they are looked up: no byte of UTF-8.
+const BETWEEN: u8 = 0xff;
+
+/// The places of tables in a description, by the names of their schemas and themselves.
+type Places = BTreeMap<Vec<u8>, usize>;
+
+/// The name of a table.
+#[derive(Debug, Drop)]
+pub struct TableName {
+    pub schema: Vec<u8>,
+    pub table: Vec<u8>,
+}
+
+/// Why a described table is not made.
+#[derive(Clone, Copy, Debug, PartialEq, Eq, Error)]
+pub enum TableFault {
+    /// It is asked for and not described.
+    #[error("the table is not described")]
+    Missing,
+    /// It is asked for, and is not in the schema that is asked for.
+    #[error("it is not in the schema that is asked for")]
+    Elsewhere,
+    /// Its name or the name of a column has a NUL.
+    #[error("a name with a NUL, which SQLite does not take")]
+    Nul,
+    /// Its name begins as those that SQLite keeps for itself.
+    #[error("a name that begins with sqlite_, which SQLite keeps for itself")]
+    Reserved,
+    /// It has so many columns, which are too many.
+    #[error("it has {0} columns, and a table of SQLite has at most 2000")]
+    Columns(usize),
+    /// The names of two columns differ in case alone.
+    #[error("SQLite takes the names of two of its columns for the same")]
+    SameColumn,
+}
+
+/// Why no tables are made of a description.
+#[derive(Debug, Drop)]
+pub enum TablesFault {
+    /// This table cannot be made.
+    Table(TableName, TableFault),
+    /// SQLite takes the names of these two tables for the same.
+    Same(TableName, TableName),
+    /// No table of the schema that is asked for is described.
+    NoTable,
+    /// An allocation was refused.
+    Memory,
+}
+
+impl From<AllocError> for TablesFault {
+    fn from(_error: AllocError) -> TablesFault {
+        TablesFault::Memory
+    }
+}
+
+impl<T: Drop> From<AllocFailed<T>> for TablesFault {
+    fn from(_error: AllocFailed<T>) -> TablesFault {
+        TablesFault::Memory
+    }
+}
+
+/// Which tables of a description are made in an SQLite database, and whether under their bare names.
+#[derive(Debug, Drop)]
+pub struct Tables {
+    description: Description,
+    places: Places,
+    is_bare: bool,
+}
+
+impl Tables {
+    /// The tables of a description that are asked for: all, or those that are named; of a schema alone if one is given, under
+    /// their names without it. Each is described, and SQLite takes its name and those of its columns.
+    pub fn new(
+        alloc: Global,
+        description: Description,
+        only: &Follow,
+        schema: Option<&[u8]>,
+    ) -> Result<Tables, TablesFault> {
+        let all = places_of(alloc, &description, schema)?;
+        let places = if only.names().is_empty() {
+            all
+        } else {
+            chosen(alloc, &all, only, schema)?
+        };
+        if places.is_empty() {
+            return Err(TablesFault::NoTable);
+        }
+        judge_all(alloc, &description, &places, schema.is_some())?;
+        Ok(Tables {
+            description,
+            places,
+            is_bare: schema.is_some(),
+        })
+    }
+
+    /// The described table of this name, if it is made.
+    pub(crate) fn table(
+        &self,
+        alloc: Global,
+        schema: &[u8],
+        table: &[u8],
+    ) -> Result<Option<&DescribedTable>, AllocError> {
+        let key = key_of(alloc, schema, table)?;
+        let Some(place) = self.places.get(key.as_slice()) else {
+            return Ok(None);
+        };
+        Ok(self.description.tables.get(*place))
+    }
+
+    /// The tables that are made, in ascending order of the bytes of their names.
+    pub(crate) fn places(&self) -> &Places {
+        &self.places
+    }
+
+    /// The described table at a place.
+    pub(crate) fn at(&self, place: usize) -> Option<&DescribedTable> {
+        self.description.tables.get(place)
+    }
+
+    /// The name of a table in SQLite.
+    pub(crate) fn name_of(
+        &self,
+        alloc: Global,
+        table: &DescribedTable,
+    ) -> Result<String, AllocError> {
+        name_in(alloc, table, self.is_bare)
+    }
+}
+
+/// What a table is looked up by.
+fn key_of(alloc: Global, schema: &[u8], table: &[u8]) -> Result<Vec<u8>, AllocError> {
+    let mut key = Vec::from_slice(alloc, schema)?;
+    key.extend_from_slice(&[BETWEEN])?;
+    key.extend_from_slice(table)?;
+    Ok(key)
+}
+
+/// The places of all tables of a description, or of those of a schema.
+fn places_of(
+    alloc: Global,
+    description: &Description,
+    schema: Option<&[u8]>,
+) -> Result<Places, TablesFault> {
+    let mut places = BTreeMap::new(alloc);
+    for (place, table) in description.tables.iter().enumerate() {
+        if schema.is_some_and(|wanted| wanted != table.schema.as_bytes()) {
+            continue;
+        }
+        let key = key_of(alloc, table.schema.as_bytes(), table.name.as_bytes())?;
+        places.insert(key, place)?;
+    }
+    Ok(places)
+}
+
+/// The places of those tables that are named.
+fn chosen(
+    alloc: Global,
+    all: &Places,
+    only: &Follow,
+    schema: Option<&[u8]>,
+) -> Result<Places, TablesFault> {
+    let mut places = BTreeMap::new(alloc);
+    for (of, table) in only.names() {
+        let key = key_of(alloc, of, table)?;
+        let Some(place) = all.get(key.as_slice()) else {
+            let is_elsewhere = schema.is_some_and(|wanted| wanted != of.as_slice());
+            let fault = if is_elsewhere {
+                TableFault::Elsewhere
+            } else {
+                TableFault::Missing
+            };
+            return Err(fault_of(alloc, of, table, fault));
+        };
+        places.insert(key, *place)?;
+    }
+    Ok(places)
+}
+
+/// The fault of a table.
+fn fault_of(alloc: Global, schema: &[u8], table: &[u8], fault: TableFault) -> TablesFault {
+    match named(alloc, schema, table) {
+        Ok(name) => TablesFault::Table(name, fault),
+        Err(_) => TablesFault::Memory,
+    }
+}
+
+/// The name of a table, with bytes of its own.
+fn named(alloc: Global, schema: &[u8], table: &[u8]) -> Result<TableName, AllocError> {
+    Ok(TableName {
+        schema: Vec::from_slice(alloc, schema)?,
+        table: Vec::from_slice(alloc, table)?,
+    })
+}
+
+/// Refuses tables that SQLite does not take, alone or beside each other.
+fn judge_all(
+    alloc: Global,
+    description: &Description,
+    places: &Places,
+    is_bare: bool,
+) -> Result<(), TablesFault> {
+    let mut seen = BTreeMap::new(alloc);
+    for place in places.values() {
+        let Some(table) = description.tables.get(*place) else {
+            continue;
+        };
+        let (schema, name) = (table.schema.as_bytes(), table.name.as_bytes());
+        let in_sqlite = lowered(alloc, name_in(alloc, table, is_bare)?.as_str())?;
+        if let Some(fault) = fault_in(alloc, table, in_sqlite.as_slice())? {
+            return Err(fault_of(alloc, schema, name, fault));
+        }
+        let before: Option<usize> = seen.insert(in_sqlite, *place)?;
+        if let Some(other) = before.and_then(|at| description.tables.get(at)) {
+            let first = named(alloc, other.schema.as_bytes(), other.name.as_bytes())?;
+            return Err(TablesFault::Same(first, named(alloc, schema, name)?));
+        }
+    }
+    Ok(())
+}
+
+/// Why SQLite does not take a table of this name, if it does not.
+fn fault_in(
+    alloc: Global,
+    table: &DescribedTable,
+    in_sqlite: &[u8],
+) -> Result<Option<TableFault>, TablesFault> {
+    if in_sqlite.contains(&0) {
+        return Ok(Some(TableFault::Nul));
+    }
+    if in_sqlite.starts_with(RESERVED) {
+        return Ok(Some(TableFault::Reserved));
+    }
+    if table.columns.len() > MOST_COLUMNS {
+        return Ok(Some(TableFault::Columns(table.columns.len())));
+    }
+    let mut seen = BTreeSet::new(alloc);
+    for column in &table.columns {
+        let name = lowered(alloc, column.name.as_str())?;
+        if name.contains(&0) {
+            return Ok(Some(TableFault::Nul));
+        }
+        if !seen.insert(name)? {
+            return Ok(Some(TableFault::SameColumn));
+        }
+    }
+    Ok(None)
+}
+
+/// The name of a table in SQLite: its own, with that of its schema and a point in front unless it is bare.
+fn name_in(alloc: Global, table: &DescribedTable, is_bare: bool) -> Result<String, AllocError> {
+    if is_bare {
+        return String::from_str(alloc, table.name.as_str());
+    }
+    format!(in alloc; "{}.{}", table.schema.as_str(), table.name.as_str())
+}
+
+/// A name as SQLite compares it: without the case of ASCII.
+fn lowered(alloc: Global, name: &str) -> Result<Vec<u8>, AllocError> {
+    let mut low = Vec::with_capacity(alloc, name.len())?;
+    for byte in name.as_bytes() {
+        low.push(byte.to_ascii_lowercase())?;
+    }
+    Ok(low)
+}

@@ -1,0 +1,67 @@
+"""Looks what of the system the functions of `replica` and `store` reach.
+
+    python3 tests/program/pages/reach.py ROOT
+
+What is proved of files is proved of the files that the toolchain's crate hands out: no clause can say that a function does
+nothing else by the path that it is given, as to remove the file or to write another. That rests on this: only the functions
+below have a `HostRuntime`, without which no path is reached, and they give it to the calls below alone. A new one belongs
+here only once its body was read for that.
+"""
+import glob
+import os
+import re
+import sys
+
+root = os.path.abspath(sys.argv[1])
+# The functions that have a `HostRuntime`, and what each gives it to.
+FUNCTIONS = {
+    'crates/replica/src/file.rt': {'open_file': ['open_files']},
+    'crates/replica/src/file_connection.rt': {
+        'open_pair': ['sqlite_std_file::open'],
+        # It reads how long the file is and the size of its pages.
+        'sizes': ['fs::open'],
+        'options': ['RandomState::new', 'sizes'],
+        'open_files': ['open_pair', 'options'],
+    },
+    'crates/replica/src/followed_file.rt': {'follow_file': ['open_file']},
+    'crates/replica/src/replaying.rt': {'replay': ['open_file']},
+}
+# Ways to the system that need no `HostRuntime` in a line of their own.
+WAYS = r'\b(?:fs|env|process|net|os|thread|libc)::\w+|\bextern\b|\bunsafe\b|\bsqlite_std_file::open\w*'
+# The only use of each.
+USES = {'fs::open': 1, 'sqlite_std_file::open': 1}
+bad, seen, found = [], {}, {}
+
+for path in sorted(glob.glob(f'{root}/crates/replica/src/**/*.rt', recursive=True) + glob.glob(f'{root}/crates/store/src/**/*.rt', recursive=True)):
+    name, function = os.path.relpath(path, root), None
+    with open(path, encoding='utf-8') as file:
+        text = re.sub(r'//.*|"(?:[^"\\]|\\.)*"', '', file.read())
+    for line in text.split('\n'):
+        head = re.match(r'\s*(?:pub(?:\(\w+\))? )?(?:const )?fn (\w+)', line)
+        function = head.group(1) if head else function
+        if re.match(r'\s*(?:ghost use|ensures|requires|never)\b', line):
+            continue
+        for way in re.findall(WAYS, line):
+            USES[way] = USES.get(way, 0) - 1
+            if USES[way] < 0:
+                bad.append(f'{name}: {function} uses {way}')
+        if 'HostRuntime' in line:
+            seen.setdefault(name, {})[function] = []
+            if not re.search(r'\brt: &HostRuntime\b', line) or function not in FUNCTIONS.get(name, {}):
+                bad.append(f'{name}: {function} has a HostRuntime')
+    # What each use of `rt` is, but `rt.alloc()`.
+    for part in re.split(r'\n(?=(?:pub(?:\(\w+\))? )?fn )', text):
+        head = re.match(r'(?:pub(?:\(\w+\))? )?fn (\w+)', part)
+        body = re.sub(r'\brt\.alloc\(\)|\brt: &HostRuntime\b', '', part)
+        calls = re.findall(r'([\w:]+)\(\s*rt\b(?!:)', body)
+        if head and calls:
+            found.setdefault(name, {})[head.group(1)] = calls
+        if len(re.findall(r'\brt\b', body)) != len(calls):
+            bad.append(f'{name}: {head.group(1) if head else "it"} uses `rt` otherwise')
+
+if {name: set(functions) for name, functions in seen.items()} != {name: set(functions) for name, functions in FUNCTIONS.items()}:
+    bad.append(f'a HostRuntime has {seen}')
+if found != FUNCTIONS:
+    bad.append(f'a HostRuntime goes to {found}')
+print('\n'.join(bad), end='\n' if bad else '')
+sys.exit(1 if bad else 0)
