@@ -21,6 +21,7 @@ import read_feed
 TABLES = '''
 CREATE TABLE IF NOT EXISTS rows ("schema", name, row, key, n INTEGER, PRIMARY KEY ("schema", name, row)) WITHOUT ROWID;
 CREATE INDEX IF NOT EXISTS rows_by_key ON rows ("schema", name, key);
+CREATE INDEX IF NOT EXISTS rows_below_none ON rows (n) WHERE n < 0;
 CREATE TABLE IF NOT EXISTS place (one INTEGER PRIMARY KEY, place);
 INSERT OR IGNORE INTO place VALUES (1, '');
 '''
@@ -41,6 +42,8 @@ def main():
             for row, key, count in read_feed.rows(change):
                 base.execute(ADD, (change['schema'], change['table'], row, key, count))
                 base.execute(REMOVE, (change['schema'], change['table'], row))
+        if base.execute('SELECT 1 FROM rows WHERE n < 0').fetchone():
+            sys.exit('a row is removed that is not there: the form of rows has changed, or a file is missing')
         last, place = place, reader.place()
         if base.execute('UPDATE place SET place = ? WHERE place = ?', (place, last)).rowcount != 1:
             sys.exit('another process has used the feed meanwhile')

@@ -45,7 +45,17 @@ def digest(line):
 
 def is_named(file, name):
     """Whether the file still has its name, or nothing has: one that is renamed is written until the next one is made."""
-    return not os.path.exists(name) or os.path.samestat(os.stat(name), os.fstat(file.fileno()))
+    try:
+        return os.path.samestat(os.stat(name), os.fstat(file.fileno()))
+    except FileNotFoundError:
+        return True
+
+
+def opened(name, waits):
+    """The file of a name; with `waits` once there is one."""
+    while waits and not os.path.exists(name):
+        time.sleep(0.2)
+    return open(name, 'rb')
 
 
 class Reader:
@@ -67,12 +77,13 @@ class Reader:
 
     def transactions(self, names, follow=False):
         """Yields the changes of each transaction of the files, none for some; `place` is then the place after it."""
-        names = self.unread(names)
+        names = self.unread(names, follow)
         while names:
-            with open(names[0], 'rb') as file:
+            with opened(names[0], follow and len(names) == 1) as file:
                 goes_on = True
                 while goes_on:
-                    goes_on = follow and len(names) == 1 and is_named(file, names[0])
+                    # One that was renamed is written until the next one is there.
+                    goes_on = follow and (len(names) == 1 and is_named(file, names[0]) or len(names) == 2 and not os.path.exists(names[1]))
                     kept = yield from self.read(file)
                     if goes_on:
                         time.sleep(0.2)
@@ -80,10 +91,13 @@ class Reader:
             if len(names) > 1 or not follow:
                 del names[0]
 
-    def unread(self, names):
-        """The files from the one that was read last; all, where that is not there any more."""
+    def unread(self, names, follow):
+        """The files from the one that was read last; all, where that is not there any more. The last one may not be there yet
+        where it is followed."""
         self.begin, self.kept = self.last[1], []
         for at in reversed(range(len(names))):
+            if follow and at == len(names) - 1 and not os.path.exists(names[at]):
+                continue
             with open(names[at], 'rb') as file:
                 if self.is_in(file):
                     return names[at:]
