@@ -51,7 +51,7 @@ def is_named(file, name):
         return True
 
 
-def opened(name, waits):
+def open_feed(name, waits):
     """The file of a name; with `waits` once there is one."""
     while waits and not os.path.exists(name):
         time.sleep(0.2)
@@ -79,7 +79,7 @@ class Reader:
         """Yields the changes of each transaction of the files, none for some; `place` is then the place after it."""
         names = self.unread(names, follow)
         while names:
-            with opened(names[0], follow and len(names) == 1) as file:
+            with open_feed(names[0], follow and len(names) == 1) as file:
                 goes_on = True
                 while goes_on:
                     # One that was renamed is written until the next one is there.

@@ -3,6 +3,10 @@ pub mod Words
 pub mod Types
 pub mod Bytes
 pub mod Padded
+pub mod FieldDigits
+pub mod DigitCuts
+pub mod ClockTexts
+pub mod PaddedBytes
 pub mod Fractions
 pub mod MomentRange
 pub mod SpanNumbers

@@ -22,8 +22,8 @@ pub data TypeValue : Type 0 where
 
 abbrev pub type_value : ColumnType → TypeValue
 type_value (Scalar made) = scalar made.name made.numbers made.sign
-type_value (Enum members) = enumeration (member_bytes members.items)
-type_value (Set members) = choices (member_bytes members.items)
+type_value (Enum list) = enumeration (member_bytes list.members.items)
+type_value (Set list) = choices (member_bytes list.members.items)
 
 -- an ENUM has from 1 to 65,535 members, a SET from 1 to 64
 abbrev pub IsType : TypeValue → Type 0

@@ -18,6 +18,10 @@ pub mod CharacterSets
 pub mod TextBytes
 pub mod Choices
 pub mod TypedValues
+pub mod Padding
+pub mod Fields
+pub mod FieldForms
+pub mod FieldReals
 pub mod WrittenCells
 pub mod Writes
 pub mod PlainTexts

@@ -2,8 +2,17 @@
 use Rattle.std.specs.Prelude.{◌≡◌, ◌+◌, ◌<◌, ℕ, List, length, Option, Some, None, Result, Ok, Err}
 use Rattle.binlog.specs.Cell.{CellValue}
 use Rattle.binlog.specs.Cell.CellValue.{bytes_cell}
+use Rattle.columns.specs.Padding.{IsUnpaddedCell}
 use Rattle.columns.specs.WrittenCells.{IsWritten}
 use Rattle.columns.specs.declared.written_cell.WrittenCell.{WrittenCell}
+
+-- each cell of a value is without padding at its end
+abbrev pub AreUnpadded : (CellValue → Type 0) → Option (List ℕ) → Type 0
+AreUnpadded Is pad = (cell : CellValue) → Is cell → IsUnpaddedCell pad cell
+
+-- each has some
+abbrev pub ArePadded : (CellValue → Type 0) → Option (List ℕ) → Type 0
+ArePadded Is pad = (cell : CellValue) → Is cell → IsUnpaddedCell pad cell → ⊥
 
 -- a cell of the value, and none where there is none
 abbrev pub IsCellOf : (CellValue → Type 0) → Option WrittenCell → List ℕ → List ℕ → Type 0

@@ -8,6 +8,7 @@ ghost use Rattle.columns.specs.declared.column_type.ColumnTypeFault.TheVariants.
 use crate::data_type::DataType;
 use crate::fault::TypeFault;
 use crate::member::Member;
+use crate::member_lists::{EnumMembers, SetMembers};
 use crate::members::{Members, MembersFault, read_members};
 use crate::word::split_word;
 use std::alloc::Global;
@@ -29,10 +30,10 @@ const MOST_OF_SET: usize = 64;
 pub enum ColumnType {
     /// A type without members.
     Scalar(DataType),
-    /// ENUM with its members, of which there are from 1 to 65,535. The first has the number 1.
-    Enum(Vec<Member>),
-    /// SET with its members, of which there are from 1 to 64. The first has the lowest bit.
-    Set(Vec<Member>),
+    /// ENUM with its members.
+    Enum(EnumMembers),
+    /// SET with its members.
+    Set(SetMembers),
 }
 
 /// Why a text is not that of a type.
@@ -63,11 +64,11 @@ impl ColumnType {
         let (word, rest) = split_word(text);
         if word == ENUM {
             let members = read_behind_name(alloc, MOST_OF_ENUM, text.len(), rest)?;
-            return Ok(ColumnType::Enum(members));
+            return Ok(ColumnType::Enum(EnumMembers { members }));
         }
         if word == SET {
             let members = read_behind_name(alloc, MOST_OF_SET, text.len(), rest)?;
-            return Ok(ColumnType::Set(members));
+            return Ok(ColumnType::Set(SetMembers { members }));
         }
         match DataType::read(text) {
             Ok(made) => Ok(ColumnType::Scalar(made)),
@@ -105,12 +106,12 @@ impl fmt::Display for ColumnType {
     fn fmt<W: fmt::Write>(&self, f: &mut fmt::Formatter<W>) -> fmt::Result {
         match self {
             ColumnType::Scalar(made) => write!(f, "{made}"),
-            ColumnType::Enum(members) => {
-                let members = Members(members);
+            ColumnType::Enum(list) => {
+                let members = Members(&list.members);
                 write!(f, "enum{members}")
             }
-            ColumnType::Set(members) => {
-                let members = Members(members);
+            ColumnType::Set(list) => {
+                let members = Members(&list.members);
                 write!(f, "set{members}")
             }
         }

@@ -19,6 +19,7 @@ use thiserror::Error;
 pub struct Description {
     /// In the order of the text. No two have the same schema and name.
     pub tables: Vec<DescribedTable>,
+    pub ghost lawful: { ∥ IsDescription (described_tables tables.items) ∥₁ },
 }
 
 /// Why a text is not a description: the number of a line, from 1, and what is wrong with it.

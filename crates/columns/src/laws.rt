@@ -1,10 +1,13 @@
 //! Laws about the texts of types and the cells of values, for readers of this crate's definitions.
 
-ghost use Rattle.std.specs.Prelude.{◌≡◌, ◌≤◌, IsTrue, IsOkAnd, Ok};
+ghost use Rattle.std.specs.Prelude.{◌≡◌, ◌≤◌, ◌<◌, ◌^◌, IsTrue, IsOkAnd, Ok};
 ghost use Rattle.std.specs.Float.{float_is_finite};
 ghost use Rattle.columns.specs.DataType.{is_type};
 ghost use Rattle.columns.specs.TypeText.{type_text};
-ghost use Rattle.columns.specs.ColumnTypes.{TypeValue, column_type_text, IsType};
+ghost use Rattle.std.specs.List.{AllByRecursion};
+ghost use Rattle.columns.specs.Escapes.{AreBytes};
+ghost use Rattle.columns.specs.Members.{member_bytes};
+ghost use Rattle.columns.specs.ColumnTypes.{TypeValue, type_value, column_type_text, IsType};
 ghost use Rattle.columns.specs.declared.type_name.TypeName.{TypeName};
 ghost use Rattle.columns.specs.declared.arguments.Arguments.{Arguments};
 ghost use Rattle.columns.specs.declared.sign.Sign.{Sign};
@@ -18,11 +21,14 @@ ghost use Rattle.binlog.specs.Cell.{cell_value};
 ghost use Rattle.columns.specs.TypedValues.{IsValueOf, IsSameValue};
 ghost use Rattle.columns.specs.declared.typed_value.TypedValue.{TypedValue};
 
+use crate::column_type::ColumnType;
 use crate::data_type::DataType;
+use crate::member::Member;
 use crate::one_value as value_by_type;
 use crate::sign::Sign as TypeSign;
 use crate::type_name::TypeName;
 use crate::typed_value::{bits_of, digits_of};
+use crate::value::choice::{ordinal_cell, read_ordinal, read_set, set_cell};
 use crate::value::date::Date;
 use crate::value::decimal::Decimal;
 use crate::value::fault::CellFault;
@@ -32,6 +38,7 @@ use crate::value::moment::Datetime;
 use crate::value::span::Time;
 use crate::value::stamp::Timestamp;
 use crate::value::year::Year;
+use crate::written_cell::WrittenCell;
 use binlog::Cell;
 
 /// A text is that of one type at most.
@@ -49,6 +56,38 @@ pub fn one_column_type(text: &[u8])
     ensures { (value other : TypeValue) → IsType value → IsType other → text.now ≡ column_type_text value → text.now ≡ column_type_text other → value ≡ other }
 {
     let _found = DataType::read(text);
+}
+
+/// Each type of a column is one whose text is read.
+pub fn each_column_type(kind: &ColumnType)
+    ensures { IsType (type_value kind.now) }
+{
+    match kind {
+        ColumnType::Scalar(made) => {
+            let _made = *made;
+        }
+        ColumnType::Enum(list) => are_members(&list.members),
+        ColumnType::Set(list) => are_members(&list.members),
+    }
+}
+
+/// The texts of members are bytes.
+fn are_members(members: &[Member])
+    ensures { AllByRecursion AreBytes (member_bytes members.now) }
+{
+    if let [member, rest @ ..] = members {
+        are_bytes(&member.text);
+        are_members(rest);
+    }
+}
+
+/// Bytes are numbers below 256.
+fn are_bytes(bytes: &[u8])
+    ensures { AreBytes bytes.now }
+{
+    if let [_, rest @ ..] = bytes {
+        are_bytes(rest);
+    }
 }
 
 /// What is read of the cell of an integer is that integer.
@@ -145,6 +184,29 @@ pub fn double_reads_back(value: f64) -> Result<f64, CellFault>
 {
     let bytes = double_bytes(value);
     read_double(Cell::Bytes(&bytes))
+}
+
+/// What is read of the cell of an ENUM's ordinal is that ordinal.
+pub fn ordinal_reads_back(members: u16, ordinal: u16) -> Result<u16, CellFault>
+    requires { ordinal ≤ members }
+    ensures { result ≡ Ok ordinal }
+{
+    let Some(WrittenCell::Number { value, width }) = ordinal_cell(members, ordinal) else {
+        unreachable!();
+    };
+    read_ordinal(members, Cell::Number { value, width })
+}
+
+/// What is read of the cell of a SET's bits is these bits.
+pub fn set_reads_back(members: u8, bits: u64) -> Result<u64, CellFault>
+    requires members { members ≤ 64 }
+    requires bits { bits < 2 ^ members }
+    ensures { result ≡ Ok bits }
+{
+    let Some(WrittenCell::Number { value, width }) = set_cell(members, bits) else {
+        unreachable!();
+    };
+    read_set(members, Cell::Number { value, width })
 }
 
 /// A cell is that of one value at most in a column of a type, so what is read of a cell that was written is the value.

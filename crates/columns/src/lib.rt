@@ -3,7 +3,7 @@
 //! The log says how many bytes a cell takes and no more. A description of the columns, as the server's
 //! `information_schema` gives it, says the rest: the type, its sign, its digits. [`Description::read`] reads one.
 //! [`DataType::read`] reads the text of a type, and its `Display` writes it. [`TypedValue::read`] gives the value of a cell
-//! in a column of a type, and [`TypedValue::write`] the cell of a value.
+//! in a column of a type, and [`TypedValue::write`] the cell of a value, as a server sends it.
 //!
 //! The types and their texts are those of the MySQL Reference Manual, "Data Types" and "The INFORMATION_SCHEMA COLUMNS
 //! Table".
@@ -17,15 +17,19 @@ mod data_type;
 mod description;
 mod escape;
 mod fault;
+mod field_bytes;
+pub mod field_laws;
 mod fields;
-mod hex;
+mod hex_digits;
 pub mod laws;
 mod lines;
 mod member;
+mod member_lists;
 mod member_texts;
 mod members;
 mod numeral;
 mod one_value;
+mod padding;
 mod plain;
 mod seen;
 mod sign;
@@ -47,8 +51,10 @@ pub use data_type::DataType;
 pub use description::{Description, DescriptionFault};
 pub use escape::{EscapeFault, Escaped, unescape};
 pub use fault::TypeFault;
+pub use field_bytes::{is_null_field, read_hex_field};
 pub use fields::LineFault;
 pub use member::Member;
+pub use member_lists::{EnumMembers, SetMembers};
 pub use member_texts::{joined_members, member_at};
 pub use plain::Plain;
 pub use sign::Sign;
@@ -57,10 +63,13 @@ pub use text::Text;
 pub use type_name::TypeName;
 pub use typed_value::TypedValue;
 pub use value::bit::read_bits;
-pub use value::choice::{ordinal_width, read_ordinal, read_set, set_width};
+pub use value::choice::{ordinal_cell, ordinal_width, read_ordinal, read_set, set_cell, set_width};
 pub use value::date::Date;
 pub use value::decimal::{Decimal, ZerofilledDecimal};
 pub use value::fault::CellFault;
+pub use value::field_fault::FieldFault;
+pub use value::field_numbers::{read_bits_field, read_ordinal_field, read_set_field};
+pub use value::field_reals::{read_double_field, read_float_field};
 pub use value::filled::{ZerofilledFixedReal, ZerofilledPlainReal};
 pub use value::finite::Real;
 pub use value::float::{double_bytes, float_bytes, read_double, read_float};

@@ -8,7 +8,7 @@ ghost use Rattle.columns.specs.Members.{is_quote, member_text, members_text, mem
 ghost use Rattle.columns.specs.declared.members.MembersFault.TheVariants.{Memory};
 
 use crate::escape::{Layer, WithEscapes, unescape_front};
-use crate::hex::{HexText, read_hex};
+use crate::hex_digits::{HexText, read_hex};
 use crate::member::{Member, is_text};
 use std::alloc::{AllocError, AllocFailed, Global};
 use std::fmt;

@@ -1,6 +1,6 @@
 //! Texts of numbers, dates and times.
 
-ghost use Rattle.std.specs.Prelude.{◌≡◌, min};
+ghost use Rattle.std.specs.Prelude.{◌≡◌, ◌%◌, min};
 ghost use Rattle.columns.specs.TypeText.{first_number};
 ghost use Rattle.columns.specs.PlainTexts.{shown_text};
 
@@ -75,7 +75,9 @@ impl Plain<'_> {
         real: Real,
         width: u8,
         f: &mut fmt::Formatter<W>,
-    ) -> fmt::Result {
+    ) -> fmt::Result
+        requires { digits.number % 10 ≡ 0 → digits.number ≡ 0 }
+    {
         let is_filled = self.kind.sign == Sign::Zerofill;
         let Arguments::TwoNumbers(width_of_all, decimals) = self.kind.numbers else {
             let plain = PlainReal { real: digits };

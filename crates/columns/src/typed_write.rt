@@ -6,12 +6,15 @@ ghost use Rattle.columns.specs.DataType.{is_digits};
 ghost use Rattle.columns.specs.TypeText.{first_number};
 ghost use Rattle.columns.specs.Integers.{HasSign};
 ghost use Rattle.columns.specs.TypedValues.{second_number, IsValueOf, IsIntegerOf, IsDecimalOf, IsFloatOf, IsDoubleOf, IsBitsOf, IsYearOf, IsDateOf, IsTimeOf, IsDatetimeOf, IsTimestampOf, IsTextWithin, AreBytesWithin};
+ghost use Rattle.columns.specs.Padding.{IsSentCell};
 ghost use Rattle.columns.specs.WrittenCells.{IsWritten};
 ghost use Rattle.columns.specs.Writes.{IsCellOf, Writes};
 ghost use Rattle.columns.specs.declared.written_cell.WrittenCell.TheVariants as written;
 
 use crate::arguments::Arguments;
+use crate::character_set::CharacterSet;
 use crate::data_type::DataType;
+use crate::padding::is_padded;
 use crate::sign::Sign;
 use crate::type_name::TypeName;
 use crate::typed_value::{TypedValue, bits_of, digits_of};
@@ -22,22 +25,31 @@ use crate::written_cell::WrittenCell;
 use std::alloc::AllocError;
 
 impl TypedValue<'_> {
-    /// Writes the cell of the value in a column of this type, which is none of ENUM and SET: the number of an integer is
-    /// answered, the bytes of another value are appended. `None` if no cell of the type stands for the value, and then
-    /// nothing is appended. The only error is that the vector lacks the room and cannot grow. It leaves the vector as it
-    /// was.
-    pub fn write(self, kind: DataType, out: &mut Vec<u8>) -> Result<Option<WrittenCell>, AllocError>
+    /// Writes the cell of the value, as a server sends it, in a column of this type, which is none of ENUM and SET, and of
+    /// this character set, which counts for CHAR alone: the number of an integer is answered, the bytes of another value
+    /// are appended. `None` if there is no such cell, and then nothing is appended: no cell of the type stands for the
+    /// value, or it is a BINARY with a zero or a CHAR with a blank at its end, which [`DataType::unpadded`] takes off. The
+    /// only error is that the vector lacks the room and cannot grow. It leaves the vector as it was.
+    pub fn write(
+        self,
+        kind: DataType,
+        set: CharacterSet,
+        out: &mut Vec<u8>,
+    ) -> Result<Option<WrittenCell>, AllocError>
         ensures found { IfOk result (λ made. IfSome made (λ written.
             (cell : CellValue) × IsWritten written out.old.items out.new.items cell ×
-            IsValueOf kind.name kind.numbers kind.sign self.entry cell)) }
+            IsSentCell kind.name kind.numbers kind.sign set self.entry cell)) }
         ensures none { IfOk result (λ made. IfNone made ((cell : CellValue) →
-            IsValueOf kind.name kind.numbers kind.sign self.entry cell → ⊥)) }
+            IsSentCell kind.name kind.numbers kind.sign set self.entry cell → ⊥)) }
         ensures kept { IfOk result (λ made. IfNone made (out.new.items ≡ out.old.items)) }
         ensures err { OnErr result (out.new.items ≡ out.old.items) }
         ensures full { IfErr result (λ _. (bytes : List ℕ) ×
-            IsValueOf kind.name kind.numbers kind.sign self.entry (bytes_cell bytes) ×
+            IsSentCell kind.name kind.numbers kind.sign set self.entry (bytes_cell bytes) ×
             (vec_capacity out.old < vec_len out.old + length bytes)) }
     {
+        if is_padded(kind, set, self) {
+            return Ok(None);
+        }
         write_cell(kind, self, out)
     }
 }

@@ -6,7 +6,11 @@ use crate::part_file::{Claim, Leftover, begin, give_name, remove};
 use crate::sqlite_file::is_database;
 use crate::what_is_named::private;
 use std::fs::File;
+use std::os::unix::fs::FileExt;
 use std::{fs, io};
+
+/// Where the header of a database has its two format versions, which are 2 in WAL mode and 1 otherwise.
+const VERSIONS: u64 = 18;
 
 const IN_USE: &str =
     "another copy to this name is being made: the file with .part after it is locked";
@@ -56,6 +60,12 @@ impl Part {
     /// Makes TO.part-wal, which nothing has the name of.
     pub fn make_wal(&self, rt: &HostRuntime) -> io::Result<File> {
         private().create_new(true).open(rt, self.names.wal.as_str())
+    }
+
+    /// Says in the header of the database that it is not in WAL mode: then who may not write in its folder can read it. Its WAL
+    /// file is copied back and removed before (SQLite, "Database File Format", section 1.3.3).
+    pub fn leave_wal_mode(&self) -> io::Result<()> {
+        self.file.write_all_at(&[1, 1], VERSIONS)
     }
 
     /// Gives a copy that is whole its name, once it is on the disk, and syncs the folder. It is refused if it is not to

@@ -106,6 +106,11 @@ impl FeedFile {
         Ok(&*room == part)
     }
 
+    /// Whether what was written can be cut off again: it is on a disk.
+    pub fn can_cut(&self) -> bool {
+        self.is_regular
+    }
+
     /// Begins an entry, on a line of its own, and returns the length of the file before it.
     pub fn begin(&mut self) -> io::Result<u64> {
         let length = self.file.metadata()?.len();

@@ -33,4 +33,4 @@ pub use names::Names;
 pub use opening::{Opening, missing_wal, opening_fault, remove_unused};
 pub use password_file::{others_may_read, read_password};
 pub use sqlite_file::reading_fault;
-pub use what_is_named::{has_bytes, is_file, is_there};
+pub use what_is_named::{has_bytes, is_file, is_there, lead_to_one};

@@ -45,6 +45,14 @@ fn is_same(rt: &HostRuntime, file: &File, name: &str) -> io::Result<bool> {
     Ok(open.dev() == named.dev() && open.ino() == named.ino())
 }
 
+/// Whether two names lead to one file.
+pub fn lead_to_one(rt: &HostRuntime, name: &str, other: &str) -> bool {
+    match (fs::metadata(rt, name), fs::metadata(rt, other)) {
+        (Ok(one), Ok(two)) => one.dev() == two.dev() && one.ino() == two.ino(),
+        _ => false,
+    }
+}
+
 /// Whether an open file has no bytes.
 pub fn is_empty(file: &File) -> bool {
     match file.metadata() {

@@ -1,8 +1,10 @@
 -- The exit statuses of connections.
-use Rattle.std.specs.Prelude.{ℕ, ◌≡◌, ◌==◌, ◌⊎◌, if◌then◌else◌, List, [], ◌∷◌, ◌++◌}
+use Rattle.std.specs.Prelude.{ℕ, ◌≡◌, ◌==◌, ◌⊎◌, if◌then◌else◌, List, [], ◌∷◌, ◌++◌, Result, Err}
 use Rattle.replica.specs.declared.end.Reason.{Reason}
 use Rattle.replica.specs.declared.end.Reason.TheVariants.{EndOfInput, SourceEof, SourceError, Wire, Greet, Event, Gather, Refused, Database, Memory, ReadFailed, WriteFailed, Halted}
 use Rattle.replica.specs.declared.end.Ended.{Ended}
+use Rattle.mrep.specs.declared.report.failure.Failure.{Failure}
+use Rattle.mrep.specs.declared.report.failure.Failure.TheVariants.{Misfit}
 
 -- 0 if the input or the source's log has ended, 1 for a refusal by the source or because of what its data says, 3 for a
 -- file, a socket, the database or the change feed, 4 if memory ran out
@@ -26,6 +28,12 @@ unfoldable pub first_status : List Ended → ℕ
 first_status [] = 0
 first_status (end ∷ ends) = if status_of end.reason == 0 then first_status ends else status_of end.reason
 
--- all connections, or all but a last one that was halted
-abbrev pub IsCounted : List Ended → List Ended → Type 0
-IsCounted all counted = (counted ≡ all) ⊎ ((last : Ended) × (all ≡ counted ++ (last ∷ [])) × (last.reason ≡ Halted))
+-- a connection that was stopped for a row that does not fit the description, which is what failed
+abbrev pub StopsForMisfit : {T : Type 0} → Ended → Result T Failure → Type 0
+StopsForMisfit last (Err (Misfit name misfit)) = last.reason ≡ Halted
+StopsForMisfit last _ = ⊥
+
+-- all connections but a last one that was stopped for a row that does not fit, if there is one
+abbrev pub IsCounted : {T : Type 0} → List Ended → Result T Failure → List Ended → Type 0
+IsCounted all done counted = ((last : Ended) × (all ≡ counted ++ (last ∷ [])) × StopsForMisfit last done)
+    ⊎ ((counted ≡ all) × ((before : List Ended) → (last : Ended) → all ≡ before ++ (last ∷ []) → StopsForMisfit last done → ⊥))

@@ -33,7 +33,9 @@ use Rattle.replica.specs.Crash.{IsLeftOfAll}
 use Rattle.replica.specs.Crash as crash
 use Rattle.replica.specs.Over.{HasReadAll, LeavesOnly}
 use Rattle.replica.specs.Capture.{Reads}
-use Rattle.replica.specs.File.{FilesHold, AreClosedWith, LeavesContent, IsOpenedIn, IsCleanlyClosed, WasClosed, ClosesAs}
+use Rattle.replica.specs.File.{FilesHold, AreClosedWith, LeavesContent, IsOpenedIn, IsCleanlyClosed, WasClosed, ClosesAs, KeepsContent}
+use Rattle.replica.specs.Noted.{Account, IsNotedOf, IsLedTo}
+use Rattle.replica.specs.NotedFile.{IsNotedOfFiles}
 use Rattle.replica.specs.Replay.{LeadsTo, MayLeave}
 use Rattle.replica.specs.FollowFile.{Connects, MayHold, FollowsFile}
 use Rattle.replica.proofs.Captured.{reads_weaker}
@@ -160,3 +162,39 @@ module _ {D : Type 0} (g : Ghosts D) (names : Names) (old : Content) (opened aft
       let clean : HasCleanDisk (database over_files after) = omega (arith, quiet.clean, honest) in
       let f = connects clean false old (opens clean).0 in
       (f.0, λ trees may. left_there (subst (λ (s : Store (FileStore D g) over_files). HasCleanDisk (database over_files s)) f.1 clean) trees (subst (λ (s : Store (FileStore D g) over_files). (database over_files s).may_leave trees) f.1 (quiet.outcomes trees may)))
+
+  -- a store that stayed as it was opened
+  pub keeps_content : (only : Names) (closed : Result (Files D) (Error × FileStore D g))
+      → after.following ≡ opened.following → (HasCleanDisk (database over_files after) → Holds over_files opened old × (opened.following ≡ names)) → LeavesContent only names old (database over_files opened)
+      → (Holds over_files opened old → after ≡ opened)
+      → IfOk closed (λ files. AreClean g files.log files.db → IsCopied after.conn files)
+      → IfErr closed (λ e. IsClosed after.conn e.1 × (IsClean (view e.1) → FailsToClose after.conn e.1 e.0))
+      → KeepsContent only names old closed
+  keeps_content only (Ok files) same opens left_there stays copied failed = λ honest.
+      let copy = copied honest in
+      let o = opens copy.was_clean in
+      closed_with g names after (same ∙ o.1) false old files copy (subst (λ (s : Store (FileStore D g) over_files). Holds over_files s old) (sym (stays o.0)) o.0)
+  keeps_content only (Err e) same opens left_there stays copied failed = λ honest trees may.
+      let quiet = failed.0.quiet in
+      let clean : HasCleanDisk (database over_files after) = omega (arith, quiet.clean, honest) in
+      let stayed = stays (opens clean).0 in
+      left_there (subst (λ (s : Store (FileStore D g) over_files). HasCleanDisk (database over_files s)) stayed clean) trees (subst (λ (s : Store (FileStore D g) over_files). (database over_files s).may_leave trees) stayed (quiet.outcomes trees may))
+
+  -- what was reported to an observer leads to what closed files hold
+  pub noted_of_files : (t0 t1 : Account) (ends : List Ended) (closed : Result (Files D) (Error × FileStore D g))
+      → after.following ≡ opened.following → (HasCleanDisk (database over_files after) → Holds over_files opened old × (opened.following ≡ names))
+      → (HasCleanDisk (database over_files after) → (was : Bool) (content : Content) → HoldsAs over_files was content opened → IsLedTo over_files opened after was content t0 t1 ends)
+      → IfOk closed (λ files. AreClean g files.log files.db → IsCopied after.conn files)
+      → IfErr closed (λ e. IsClosed after.conn e.1 × (IsClean (view e.1) → FailsToClose after.conn e.1 e.0))
+      → IsNotedOfFiles names old t0 t1 ends closed
+  noted_of_files t0 t1 ends (Ok files) same opens notes copied failed = λ honest.
+      let copy = copied honest in
+      let o = opens copy.was_clean in
+      let a = notes copy.was_clean false old o.0 in
+      (a.new, closed_with g names after (same ∙ o.1) a.now_broken a.new files copy a.holds, subst (λ n. IsNotedOf n old a.new t0 t1 ends) o.1 a.noted_of)
+  noted_of_files t0 t1 ends (Err e) same opens notes copied failed = λ honest.
+      let quiet = failed.0.quiet in
+      let clean : HasCleanDisk (database over_files after) = omega (arith, quiet.clean, honest) in
+      let o = opens clean in
+      let a = notes clean false old o.0 in
+      (a.new, subst (λ n. IsNotedOf n old a.new t0 t1 ends) o.1 a.noted_of)

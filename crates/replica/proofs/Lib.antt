@@ -20,11 +20,13 @@ pub mod TooLong
 pub mod SomeEnd
 pub mod Failed
 pub mod Observed
+pub mod Noted
 pub mod Followed
 pub mod Left
 pub mod FromReader
 pub mod Captured
 pub mod Filed
+pub mod Cut
 pub mod Closed
 pub mod Scripted
 pub mod Talking

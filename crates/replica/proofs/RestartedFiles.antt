@@ -12,6 +12,7 @@ use Rattle.std.specs.Io.KnownBytes.{Consumes}
 use Rattle.greet.specs.Message.{DumpValue, IsDump}
 use Rattle.binlog.specs.Filter.{Names}
 use Rattle.store.specs.State.{Content}
+use Rattle.store.specs.Entering.{names_for}
 use Rattle.scripted_source.specs.Script.{ScriptValue}
 use Rattle.replica.specs.declared.counted.Counted.{Counted}
 use Rattle.replica.specs.declared.end.Ended.{Ended}
@@ -20,9 +21,10 @@ use Rattle.replica.specs.Conn.{Conn}
 use Rattle.replica.specs.Crash.{IsLeftOfOne}
 use Rattle.replica.specs.Follow.{IsInFull}
 use Rattle.replica.specs.Resume.{Reaches, Restarts, end_reason}
-use Rattle.replica.specs.File.{FilesHold, AreClosedWith}
+use Rattle.replica.specs.declared.file.Unopened.{Unopened}
+use Rattle.replica.specs.File.{FilesHold, AreClosedWith, IsTurnedAway}
 use Rattle.replica.specs.FollowFile.{FollowsFile}
-use Rattle.replica.specs.Restart.{IsSent, MayFind, Starts, IsUncut, AreStarts, HoldFirst, FilesNeverFall}
+use Rattle.replica.specs.Restart.{IsSent, MayFind, MayFindUnopened, IsLeftUnopened, Starts, IsUncut, AreStarts, HoldFirst, FilesNeverFall}
 use Rattle.replica.proofs.Bytes.{all_back}
 use Rattle.scripted_source.specs.Source.{is_once}
 use Rattle.replica.proofs.OneOutcome.{one_content}
@@ -43,6 +45,18 @@ closed_found g only names content files next a f =
       | inl is ↦ subst (λ image. FilesHold only names content image) (sym is) (inr (a.trees, alone.both, a.stands only))
       | inr is ↦ subst (λ image. FilesHold only names content image) (sym is) (inr (a.trees, alone.alone, a.stands only))
     ]
+
+-- what files hold is found by the next call, where this one has not opened their database
+pub unopened_found : {D : Type 0} {g : Ghosts D} (wanted : Option Names) (names : Names) (content : Content) (before next : Image) (why : Unopened D g) → FilesHold (names_for wanted) names content before → IsTurnedAway wanted before why
+    → MayFindUnopened before why next → FilesHold (names_for wanted) names content next
+unopened_found wanted names content before next (Unopened.NotOpened why) hold away may = subst (λ i. FilesHold (names_for wanted) names content i) (sym may) hold
+unopened_found wanted names content before next (Unopened.Files error left) hold away may = away.refused names content hold may.0 next may.1
+unopened_found wanted names content before next (Unopened.Database cause conn) hold away may = inr (may.1.0, may.1.2, (away.refused names content hold).1 may.0 may.1.0 may.1.1)
+
+still_found : {D : Type 0} {g : Ghosts D} (only names : Names) (content : Content) (before next : Image) → (r : IsLeftUnopened g only before next) → FilesHold only names content before → FilesHold only names content next
+still_found only names content before next r hold =
+    subst (λ n. FilesHold n names content next) r.is_for
+    (unopened_found r.wanted names content before next r.why (subst (λ n. FilesHold n names content before) (sym r.is_for) hold) r.away r.finds)
 
 module _ (one_dump : (a b : DumpValue) (payload : List ℕ) → IsDump a payload → IsDump b payload → a ≡ b) {D : Type 0} (g : Ghosts D) {F T E : Type 0} (left written : T → Option (List ℕ)) (failures : T → Option (ℕ × ℕ))
     (gives : F → Result T E → Type 0) (only names : Names) (history : List ScriptValue) where
@@ -98,8 +112,10 @@ module _ (one_dump : (a b : DumpValue) (payload : List ℕ) → IsDump a payload
       → AreStarts g left written failures gives only names history before images → FilesNeverFall only names history j images
   files_never_fall j held before [] reached hold starts = tt
   files_never_fall j held before (next ∷ images) reached hold starts =
-      let s = starts.0 in
-      let one = found s.settings s.connect j held next reached s.done.connection s.done.closed (s.follows held hold) (λ stream gave. s.sent stream gave held hold) s.finds in
+      let one : (i : ℕ) × HoldFirst only names history next (j + i) = elim starts.0 [
+        | inl s ↦ found s.settings s.connect j held next reached s.done.connection s.done.closed (s.follows held hold) (λ stream gave. s.sent stream gave held hold) s.finds
+        | inr r ↦ stays j held next reached (still_found only names held before next r hold)
+      ] in
       (one.0, one.1, files_never_fall (j + one.0) one.1.content next images one.1.reached one.1.hold starts.1)
 
   -- what was read is all that the source sends

@@ -1,24 +1,24 @@
 -- Databases in files.
-use Rattle.std.specs.Prelude.{◌≡◌, ◌⊎◌, true, false, [], Option, None, Some, Result, IfErr, MatchResult}
+use Rattle.std.specs.Prelude.{◌≡◌, ◌⊎◌, ℕ, false, Option, Result, IfErr, MatchResult}
 use Rattle.sqlite_disk.specs.declared.Disk.{Ghosts}
 use Rattle.sqlite_disk.specs.declared.Files.{Files}
-use Rattle.sqlite_disk.specs.declared.calls.Calls as calls
-use Rattle.sqlite_disk.specs.declared.start.Start as start
-use Rattle.sqlite_disk.specs.declared.modelled.Modelled.{Modelled}
-use Rattle.sqlite_std_file.specs.declared.host.Host.{Host}
-use Rattle.sqlite_std_file.specs.File.{IsFresh}
 use Rattle.sqlite_wal.specs.Recovery.{Image}
 use Rattle.sqlite_wal.specs.Files.{outcomes}
-use Rattle.sqlite_wal.specs.Reads.{AreClean}
+use Rattle.sqlite_wal.specs.Reads.{AreClean, tally_of_files}
+use Rattle.sqlite_pool.specs.Stored.{is_summed}
 use Rattle.sqlite_trees.specs.Tree.{Trees}
 use Rattle.sqlite_trees.specs.View.{IsClean}
 use Rattle.sqlite_store.specs.declared.store.FileStore.{FileStore}
-use Rattle.sqlite_store.specs.FileStore.{view}
+use Rattle.sqlite_store.specs.FileStore.{view, recovers}
+use Rattle.sqlite_store.specs.Unopened.{state_of}
 use Rattle.sqlite.specs.declared.error.Error.{Error}
+use Rattle.sqlite.specs.declared.file.Leftover.{Leftover}
+use Rattle.sqlite.specs.declared.file.Leftover.TheVariants as left
+use Rattle.sqlite.specs.Opening.{HoldsIn}
 use Rattle.sqlite.specs.State.{State, HasCleanDisk}
 use Rattle.sqlite.specs.Start.{FindsIn}
 use Rattle.sqlite.specs.Held.{Held}
-use Rattle.sqlite.specs.Files.{HoldsDatabase, image_of, over_files, file_state, IsOpened, IsClosed, IsCleanLeft, LeavesFiles, FailsToOpenFiles, FailsToClose}
+use Rattle.sqlite.specs.Files.{HoldsDatabase, IsNothing, IsEmpty, image_of, faults_of, over_files, file_state, IsOpened, IsClosed, IsCleanLeft, LeavesFiles, FailsToOpenFiles, FailsToClose}
 use Rattle.sqlite.specs.Closing.{HoldsAlone}
 use Rattle.binlog.specs.Filter.{Names}
 use Rattle.store.specs.State.{Content}
@@ -28,24 +28,41 @@ use Rattle.store.specs.Store.{Opens}
 use Rattle.store.specs.Entering.{IsLeft, IsReady, IsOf, IsWanted, IsRefusedOpening, IsTurned, names_for}
 use Rattle.replica.specs.declared.file.Unopened.{Unopened}
 
--- The database file is empty or not there, and is to be made for these tables; or the file and its log hold a database
--- that stands for this content and these tables.
+-- No database is in the files: the database file is empty or not there, or has what an opening that was cut has made of one, a
+-- part of its first page, or a database without tables.
+abbrev pub HoldNone : Image → Type 0
+HoldNone image = IsNothing image ⊎ ∥ ((trees : Trees) × HoldsDatabase image trees × IsEmpty trees) ∥₁
+
+-- No database is in the files, and one is to be made for these tables; or they hold a database that stands for this content
+-- and these tables.
 abbrev pub FilesHold : Names → Names → Content → Image → Type 0
 FilesHold only names content image =
-    ((image.db ≡ []) × (names ≡ only) × (content ≡ nothing)) ⊎ ((trees : Trees) × ∥ HoldsDatabase image trees ∥₁ × IsLeft only names content trees)
+    (HoldNone image × (names ≡ only) × (content ≡ nothing)) ⊎ ((trees : Trees) × ∥ HoldsDatabase image trees ∥₁ × IsLeft only names content trees)
 
 -- Whatever a crash may leave of the database is opened as this content, with these tables.
 abbrev pub LeavesContent : Names → Names → Content → State → Type 0
 LeavesContent only names content s = HasCleanDisk s → (trees : Trees) → s.may_leave trees → IsLeft only names content trees
 
+-- No page of a database in the files ends with a sum, as none does that is made here.
+abbrev pub HaveNoSums : Image → Type 0
+HaveNoSums image = (size : ℕ) (trees : Trees) → HoldsIn size image trees → is_summed size ≡ false
+
+-- What the next call may find of files that were not opened as a database: what a crash leaves of them.
+abbrev pub MayFindLeft : {D : Type 0} {g : Ghosts D} → Image → Leftover D g → Image → Type 0
+MayFindLeft {D} {g} before (left.Files files) next = outcomes g files.log files.db next
+MayFindLeft before (left.Unopened files) next = HaveNoSums before × (state_of files).may_leave next
+MayFindLeft before (left.Store it) next = (trees : Trees) × recovers it trees × ∥ HoldsDatabase next trees ∥₁
+
 -- A database of this content is refused only by a failure, for memory, or since it was made for other tables, and is left as that
--- content.
-abbrev pub IsUnopened : {D : Type 0} {g : Ghosts D} → Option Names → Names → Content → Unopened D g
+-- content; and where the files could not be opened as a database, they still hold it.
+abbrev pub IsUnopened : {D : Type 0} {g : Ghosts D} → Option Names → Names → Content → Image → Unopened D g
     → Type 0
-IsUnopened wanted names content (Unopened.Database cause conn) =
+IsUnopened wanted names content image (Unopened.NotOpened why) = Unit {0}
+IsUnopened wanted names content image (Unopened.Files error left) =
+    IsCleanLeft left → (next : Image) → MayFindLeft image left next → FilesHold (names_for wanted) names content next
+IsUnopened wanted names content image (Unopened.Database cause conn) =
     (HasCleanDisk (file_state conn) → IsRefusedOpening wanted names cause)
     × LeavesContent (names_for wanted) names content (file_state conn)
-IsUnopened wanted names content _ = Unit {0}
 
 -- The connection is open, has changed nothing, and reads what the files hold.
 pub record HasFound {D : Type 0} {g : Ghosts D} (image : Image) (conn : Held (FileStore D g)) : Type 0 where
@@ -59,34 +76,43 @@ IsOpenedIn {D} {g} wanted image store =
     (before : Held (FileStore D g)) × HasFound image before
     × (IsReady (file_state before) → Opens over_files wanted (file_state before) store)
 
--- The database that was found is refused with its reason and left as it is. Where files could not be opened as a database, the error is
--- what they met, and they are left as they were, unless there was no database in them (LeavesFiles); `from` says of them that nothing
--- had happened to them before.
-abbrev pub IsTurnedBack : {D : Type 0} {g : Ghosts D} → Option Names → Image → (Files D → Type 0)
-    → Unopened D g → Type 0
-IsTurnedBack wanted image from Unopened.Memory = Unit {0}
-IsTurnedBack wanted image from (Unopened.Files error None) = Unit {0}
-IsTurnedBack {D} {g} wanted image from (Unopened.Files error (Some left)) =
-    (files : Files D) × from files
+-- The files were opened with this image, and nothing has happened to them: a crash leaves it, no answer was wrong and no call has failed.
+pub record AreJustOpened {D : Type 0} (g : Ghosts D) (image : Image) (files : Files D) : Type 0 where
+  pub seen : image_of g files ≡ image
+  pub left : (after : Image) → outcomes g files.log files.db after → after ≡ image
+  pub clean : AreClean g files.log files.db
+  pub no_fault : faults_of g files ≡ 0
+  pub no_cause : tally_of_files g (files.log, files.db) ≡ record { caught = 0; refused = 0 }
+
+-- Files that were opened with this image could not be opened as a database: the error is what they met, and they are left as they
+-- were, unless there was no database in them (LeavesFiles).
+abbrev pub IsLeftOver : {D : Type 0} {g : Ghosts D} → Image → Error → Leftover D g → Type 0
+IsLeftOver {D} {g} image error left =
+    (files : Files D) × AreJustOpened g image files
     × (IsCleanLeft left → FailsToOpenFiles files left error × LeavesFiles files left)
-IsTurnedBack {D} {g} wanted image from (Unopened.Database cause conn) =
+
+-- The database that was found is refused with its reason and left as it is, and so are files that hold none.
+abbrev pub IsTurnedBack : {D : Type 0} {g : Ghosts D} → Option Names → Image → Unopened D g → Type 0
+IsTurnedBack wanted image (Unopened.NotOpened why) = Unit {0}
+IsTurnedBack wanted image (Unopened.Files error left) = IsLeftOver image error left
+IsTurnedBack {D} {g} wanted image (Unopened.Database cause conn) =
     HasCleanDisk (file_state conn) → (before : Held (FileStore D g)) × HasFound image before
     × (IsReady (file_state before) → IsTurned wanted (file_state before) (file_state conn) cause)
 
--- the files were settled, and nothing has happened to them since
-abbrev pub AreFresh : {S : Type 0} {g : calls.Ghosts Host} {first : start.Ghosts S}
-    → Files (Modelled Host S g first) → Type 0
-AreFresh files = IsFresh true files.log × IsFresh false files.db
+-- The files were not opened, for this reason.
+abbrev pub IsNotOpened : {D : Type 0} {g : Ghosts D} → Error → Unopened D g → Type 0
+IsNotOpened cause (Unopened.NotOpened why) = why.cause ≡ cause
+IsNotOpened cause _ = ⊥
 
 -- What an opening for these names leaves that is refused.
 pub record IsTurnedAway {D : Type 0} {g : Ghosts D} (wanted : Option Names) (image : Image)
-    (from : Files D → Type 0) (why : Unopened D g) : Type 0 where
+    (why : Unopened D g) : Type 0 where
   -- A database that stands for a content is refused only if it was made for other tables, fails, or
   -- memory runs out, and is left with that content.
   pub refused : (names : Names) (content : Content)
-      → FilesHold (names_for wanted) names content image → IsUnopened wanted names content why
+      → FilesHold (names_for wanted) names content image → IsUnopened wanted names content image why
   -- Any other is refused with its reason and left as it is, and so are files that cannot be opened.
-  pub turned : IsTurnedBack wanted image from why
+  pub turned : IsTurnedBack wanted image why
 
 -- The files were closed, or could not be, with a disk that never lied.
 abbrev pub IsCleanlyClosed : {D : Type 0} {g : Ghosts D} → Result (Files D) (Error × FileStore D g) → Type 0
@@ -123,3 +149,9 @@ module _ {D : Type 0} (g : Ghosts D) where
     pub stands : (only : Names) → IsLeft only names content trees
     pub seen : HoldsAlone (image_of g files) trees
     pub left : (image : Image) → outcomes g files.log files.db image → HoldsAlone image trees
+
+-- The files hold this content: those that were closed, and whatever a crash leaves of those that could not be.
+abbrev pub KeepsContent : {D : Type 0} {g : Ghosts D} → Names → Names → Content → Result (Files D) (Error × FileStore D g) → Type 0
+KeepsContent {D} {g} only names content closed = MatchResult closed
+    (λ files. AreClean g files.log files.db → AreClosedWith g names content files)
+    (λ e. IsClean (view e.1) → (trees : Trees) → recovers e.1 trees → IsLeft only names content trees)

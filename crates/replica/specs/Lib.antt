@@ -13,10 +13,12 @@ pub mod Crash
 pub mod Over
 pub mod Pieces
 pub mod Report
+pub mod Noted
 pub mod Failing
 pub mod Follow
 pub mod Resume
 pub mod File
+pub mod NotedFile
 pub mod Replay
 pub mod FollowFile
 pub mod Restart

@@ -11,9 +11,11 @@ use Rattle.sqlite_trees.specs.View.{IsClean}
 use Rattle.sqlite_store.specs.declared.store.FileStore.{FileStore}
 use Rattle.sqlite_store.specs.FileStore.{view, recovers}
 use Rattle.sqlite.specs.declared.error.Error.{Error}
-use Rattle.sqlite.specs.Files.{HoldsDatabase, image_of}
+use Rattle.sqlite.specs.State.{HasCleanDisk}
+use Rattle.sqlite.specs.Files.{HoldsDatabase, image_of, file_state, IsCleanLeft}
 use Rattle.binlog.specs.Filter.{Names}
 use Rattle.store.specs.State.{Content}
+use Rattle.store.specs.Entering.{names_for}
 use Rattle.scripted_source.specs.Script.{ScriptValue}
 use Rattle.wire.specs.Payload.{Payload}
 use Rattle.replica.specs.declared.counted.Counted.{Counted}
@@ -22,7 +24,8 @@ use Rattle.replica.specs.declared.followed_file.FollowedFile.{FollowedFile}
 use Rattle.replica.specs.Settings.{Settings}
 use Rattle.replica.specs.Follow.{IsInFull}
 use Rattle.replica.specs.Resume.{Reaches, Resumes}
-use Rattle.replica.specs.File.{FilesHold}
+use Rattle.replica.specs.declared.file.Unopened.{Unopened}
+use Rattle.replica.specs.File.{FilesHold, MayFindLeft, IsTurnedAway}
 use Rattle.replica.specs.FollowFile.{FollowsFile}
 
 -- What a source with this history sends to a replica that holds this content, and the prefix of it that a stream has left
@@ -47,6 +50,22 @@ MayFind {D} {g} (Ok files) next =
     AreClean g files.log files.db × ((image : Image) × ((image ≡ image_of g files) ⊎ outcomes g files.log files.db image) × ((next ≡ image) ⊎ (next ≡ record image { log = [] })))
 MayFind (Err e) next = IsClean (view e.1) × ((trees : Trees) × recovers e.1 trees × ∥ HoldsDatabase next trees ∥₁)
 
+-- What the next call may find of the files whose database this one has not opened.
+abbrev pub MayFindUnopened : {D : Type 0} {g : Ghosts D} → Image → Unopened D g → Image → Type 0
+MayFindUnopened before (Unopened.NotOpened why) next = next ≡ before
+MayFindUnopened before (Unopened.Files error left) next = IsCleanLeft left × MayFindLeft before left next
+MayFindUnopened before (Unopened.Database cause conn) next =
+    HasCleanDisk (file_state conn) × ((trees : Trees) × (file_state conn).may_leave trees × ∥ HoldsDatabase next trees ∥₁)
+
+-- The database in files that were the first image was not opened; the next call may find the second. What is said of the call is
+-- the clause `turned` of `follow_file`.
+pub record IsLeftUnopened {D : Type 0} (g : Ghosts D) (only : Names) (before next : Image) : Type 0 where
+  pub wanted : Option Names
+  pub why : Unopened D g
+  pub is_for : names_for wanted ≡ only
+  pub away : IsTurnedAway wanted before why
+  pub finds : MayFindUnopened before why next
+
 module _ {D : Type 0} (g : Ghosts D) {F T E : Type 0} (left written : T → Option (List ℕ)) (failures : T → Option (ℕ × ℕ)) (gives : F → Result T E → Type 0) (only names : Names) (history : List ScriptValue) where
   -- A source with this history was followed once into files that were the first image before; the next call may find the
   -- second. What is said of the call is the clause `follows` of `follow_file`.
@@ -68,10 +87,10 @@ module _ {D : Type 0} (g : Ghosts D) {F T E : Type 0} (left written : T → Opti
     pub nothing_left : left counted.stream ≡ Some []
     pub all_sent : (stream : T) (gave : gives start.connect (Ok stream)) (held : Content) (hold : FilesHold only names held before) → (start.sent stream gave held hold).more ≡ []
 
-  -- Each time the files are what the call before has left.
+  -- Each time the files are what the call before has left, which may have opened the database or not.
   abbrev pub AreStarts : Image → List Image → Type 0
   AreStarts before [] = Unit {0}
-  AreStarts before (next ∷ images) = Starts before next × AreStarts next images
+  AreStarts before (next ∷ images) = (Starts before next ⊎ IsLeftUnopened g only before next) × AreStarts next images
 
 -- The files hold the content after the first transactions of the history, this many.
 pub record HoldFirst (only names : Names) (history : List ScriptValue) (image : Image) (count : ℕ) : Type 0 where

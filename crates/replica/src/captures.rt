@@ -7,6 +7,7 @@ ghost use Rattle.store.specs.Store.{HoldsAs, IsBroken, database, names_of};
 ghost use Rattle.replica.specs.Capture.{HasReadOne, HasBrokenOff, Reads};
 ghost use Rattle.replica.specs.Over.{HasReadAll};
 ghost use Rattle.replica.specs.Conn.{MayEnd};
+ghost use Rattle.replica.specs.Noted.{IsLedTo};
 
 use crate::config::Config;
 use crate::end::{Ended, Reason};
@@ -51,6 +52,10 @@ fn read_capture<R: Read + Drop, S: Alter, W: Observer>(
         → HasBrokenOff S.Store R.Read.remaining config.now.limit store.old store.new was old capture) }
     ensures may_end { IfOk result (λ end. MayEnd end.reason (W.has_stopped observer.new)) }
     ensures stays { W.has_stopped observer.old ≡ true → W.has_stopped observer.new ≡ true }
+    ensures notes { HasCleanDisk (database S.Store store.new) → (was : Bool) (old : Content)
+        → HoldsAs S.Store was old store.old → IsLedTo S.Store store.old store.new was old
+        (W.noted observer.old, W.has_stopped observer.old)
+        (W.noted observer.new, W.has_stopped observer.new) [] }
     ensures heeds { (is : Bool) (now : Content) → HoldsAs S.Store is now store.old → W.has_stopped observer.old ≡ true → store.new ≡ store.old }
     ensures following { names_of S.Store store.new ≡ names_of S.Store store.old }
     ensures broken { IsBroken S.Store store.old → store.new ≡ store.old }
@@ -95,6 +100,14 @@ pub(crate) fn read_captures<R: Read + Drop, S: Alter, W: Observer>(
     // Once it has stopped, no further capture is read.
     ensures heeds { result ≡ Ok tt → ends.new.items ≢ [] → W.has_stopped observer.new ≡ false }
     ensures no_more { W.has_stopped observer.old ≡ true → length ends.new.items ≤ 1 }
+    // What was reported to it leads from the content before to the one afterwards, with the ends of the connections.
+    ensures notes { HasCleanDisk (database S.Store store.new) → (was : Bool) (old : Content)
+        → HoldsAs S.Store was old store.old → IsLedTo S.Store store.old store.new was old
+        (W.noted observer.old, W.has_stopped observer.old)
+        (W.noted observer.new, W.has_stopped observer.new) ends.new.items }
+    // If it had stopped before, the store stays as it is.
+    ensures keeps { (is : Bool) (now : Content) → HoldsAs S.Store is now store.old
+        → W.has_stopped observer.old ≡ true → store.new ≡ store.old }
     ensures may_end { All (λ end. MayEnd end.reason (W.has_stopped observer.new)) ends.new.items }
     ensures following { names_of S.Store store.new ≡ names_of S.Store store.old }
     ensures broken { IsBroken S.Store store.old → store.new ≡ store.old }

@@ -16,6 +16,7 @@ ghost use Rattle.replica.specs.Message.{begins_event};
 ghost use Rattle.store.specs.Changes.{is_executed};
 ghost use Rattle.replica.specs.Conn.{IsOwn, MayEnd};
 ghost use Rattle.replica.specs.Event.{TakesEvent};
+ghost use Rattle.replica.specs.Noted.{HasBeenNoted, asked_about, IsLedTo};
 
 use crate::end::{Reason, Refusal};
 use crate::message::reported;
@@ -61,6 +62,7 @@ fn gather<W: Observer>(
     ensures ok { (es : List EventValue) (ds : List DeliveryValue) → Gathers es ds gatherer.old → IfOk result (λ delivery. GathersMore follow.now es ds payload.now (delivered delivery) gatherer.new) }
     ensures err { (es : List EventValue) (ds : List DeliveryValue) → Gathers es ds gatherer.old → IfErr result (EndsDump follow.now es payload.now) }
     ensures may_end { IfErr result IsOwn }
+    ensures noted { W.noted observer.new ≡ W.noted observer.old }
     ensures stays { W.has_stopped observer.old ≡ true → W.has_stopped observer.new ≡ true }
 {
     let [0, body @ ..] = payload else {
@@ -96,6 +98,9 @@ fn outcome(answer: Result<Applied, StoreFault>) -> Result<bool, Reason>
 fn is_halted<S: Alter, W: Observer>(store: &Store<S>, delivery: &Delivery, observer: &mut W) -> bool
     ensures new { (is : Bool) (now : Content) → HoldsAs S.Store is now store.now → result ≡ true → is_executed now (delivery_value delivery.now) ≡ false }
     ensures asked { result ≡ true → W.has_stopped observer.new ≡ true }
+    ensures noted { (is : Bool) (now : Content) → HoldsAs S.Store is now store.now
+        → HasBeenNoted (W.noted observer.old) (W.noted observer.new)
+        (asked_about now (delivery_value delivery.now) result) }
     ensures heeds { (is : Bool) (now : Content) → HoldsAs S.Store is now store.now → is_executed now (delivery_value delivery.now) ≡ false → result ≡ W.has_stopped observer.new }
     ensures stays { W.has_stopped observer.old ≡ true → W.has_stopped observer.new ≡ true }
 {
@@ -116,6 +121,11 @@ fn apply<S: Alter, W: Observer>(
     ensures stays { W.has_stopped observer.old ≡ true → W.has_stopped observer.new ≡ true }
     // Once the observer has stopped, the store stays as it is.
     ensures heeds { (is : Bool) (now : Content) → HoldsAs S.Store is now store.old → W.has_stopped observer.old ≡ true → store.new ≡ store.old }
+    // What was reported to the observer leads from the content before to the one afterwards.
+    ensures notes { HasCleanDisk (database S.Store store.new) → (was : Bool) (old : Content)
+        → HoldsAs S.Store was old store.old → IsLedTo S.Store store.old store.new was old
+        (W.noted observer.old, W.has_stopped observer.old)
+        (W.noted observer.new, W.has_stopped observer.new) [] }
     ensures following { names_of S.Store store.new ≡ names_of S.Store store.old }
     ensures broken { IsBroken S.Store store.old → store.new ≡ store.old }
     ensures step { HasCleanDisk (database S.Store store.new) → (is : Bool) (now : Content) (es : List EventValue) (ds : List DeliveryValue) (p : Payload) (gatherer : Gatherer) → HoldsAs S.Store is now store.old
@@ -143,6 +153,11 @@ pub(crate) fn take_event<S: Alter, W: Observer>(
     ensures stays { W.has_stopped observer.old ≡ true → W.has_stopped observer.new ≡ true }
     // Once the observer has stopped, the store stays as it is.
     ensures heeds { (is : Bool) (now : Content) → HoldsAs S.Store is now store.old → W.has_stopped observer.old ≡ true → store.new ≡ store.old }
+    // What was reported to the observer leads from the content before to the one afterwards.
+    ensures notes { HasCleanDisk (database S.Store store.new) → (was : Bool) (old : Content)
+        → HoldsAs S.Store was old store.old → IsLedTo S.Store store.old store.new was old
+        (W.noted observer.old, W.has_stopped observer.old)
+        (W.noted observer.new, W.has_stopped observer.new) [] }
     ensures following { names_of S.Store store.new ≡ names_of S.Store store.old }
     ensures broken { IsBroken S.Store store.old → store.new ≡ store.old }
     ensures step { HasCleanDisk (database S.Store store.new) → (is : Bool) (now : Content) (es : List EventValue) (ds : List DeliveryValue) → Gathers es ds gatherer.old → HoldsAs S.Store is now store.old

@@ -11,6 +11,7 @@ ghost use Rattle.replica.specs.Standing.{Stands, end_of, room_of, taken_of};
 ghost use Rattle.replica.specs.Over.{StandsOver};
 ghost use Rattle.replica.specs.PayloadStep.{reason_of};
 ghost use Rattle.store.specs.Store.{HoldsAs, database, names_of, IsBroken};
+ghost use Rattle.replica.specs.Noted.{IsLedTo};
 
 use crate::config::Config;
 use crate::end::{Ended, Reason};
@@ -101,6 +102,11 @@ impl Session {
         // The connection is halted only if the observer has stopped.
         ensures may_end { MayEnd (end_of self.old).reason (W.has_stopped observer.old) → MayEnd (end_of self.new).reason (W.has_stopped observer.new) }
         ensures stays { W.has_stopped observer.old ≡ true → W.has_stopped observer.new ≡ true }
+        // What was reported to it leads from the content before to the one afterwards.
+        ensures notes { HasCleanDisk (database S.Store store.new) → (was : Bool) (old : Content)
+            → HoldsAs S.Store was old store.old → IsLedTo S.Store store.old store.new was old
+            (W.noted observer.old, W.has_stopped observer.old)
+            (W.noted observer.new, W.has_stopped observer.new) [] }
         // Once it has stopped, the store stays as it is.
         ensures heeds { (is : Bool) (now : Content) → HoldsAs S.Store is now store.old → W.has_stopped observer.old ≡ true → store.new ≡ store.old }
         ensures stopped { IsErr result ↔ IsSome self.old.ended }
@@ -134,6 +140,10 @@ impl Session {
         ensures config { self.new.config ≡ self.old.config }
         ensures may_end { MayEnd (end_of self.old).reason (W.has_stopped observer.old) → MayEnd (end_of self.new).reason (W.has_stopped observer.new) }
         ensures stays { W.has_stopped observer.old ≡ true → W.has_stopped observer.new ≡ true }
+        ensures notes { HasCleanDisk (database S.Store store.new) → (was : Bool) (old : Content)
+            → HoldsAs S.Store was old store.old → IsLedTo S.Store store.old store.new was old
+            (W.noted observer.old, W.has_stopped observer.old)
+            (W.noted observer.new, W.has_stopped observer.new) [] }
         ensures heeds { (is : Bool) (now : Content) → HoldsAs S.Store is now store.old → W.has_stopped observer.old ≡ true → store.new ≡ store.old }
         ensures room { self.new.ended ≡ None → (self.old.ended ≡ None) × (room_of self.new + length (taken_of result bytes.now) ≤ room_of self.old) }
     {

@@ -1,6 +1,6 @@
 //! Databases in files.
 
-ghost use Rattle.std.specs.Prelude.{◌≡◌, codes, None, Err, IfOk, IfErr};
+ghost use Rattle.std.specs.Prelude.{◌≡◌, codes, IfOk, IfErr, IsErrAnd};
 ghost use Rattle.sqlite_wal.specs.Files.{image_at};
 ghost use Rattle.sqlite_wal.specs.Reads.{AreClean};
 ghost use Rattle.sqlite_trees.specs.View.{IsClean};
@@ -13,20 +13,22 @@ ghost use Rattle.binlog.specs.Filter.{Names};
 ghost use Rattle.store.specs.State.{Content};
 ghost use Rattle.store.specs.Store.{Holds, connection, database, names_of};
 ghost use Rattle.store.specs.Entering.{IsWanted, wanted_of, names_for};
-ghost use Rattle.replica.specs.File.{FilesHold, LeavesContent, IsOpenedIn, IsTurnedAway, AreFresh};
+ghost use Rattle.replica.specs.File.{FilesHold, LeavesContent, IsOpenedIn, IsTurnedAway, IsNotOpened};
 
-use crate::file_connection::open_files;
+use crate::file_connection::connect_to;
+use crate::file_pair::{CANNOT_OPEN, NotOpened, give_up, open_pair};
 use binlog::Follow;
 use sqlite::{Connection, Error, FileFrom, FileStore, Files, Leftover, Start};
 use sqlite_disk::Disk;
+use std::hash::{BuildHasher, RandomState};
 use store::{Store, StoreFault};
 
 /// Why the database in a file was not opened.
 pub enum Unopened<D: Disk> {
-    /// An allocation was refused, and nothing was done.
-    Memory,
-    /// The files could not be opened, or hold no database; what is left of them, if the system has opened them.
-    Files(Error, Option<Leftover<D>>),
+    /// The files were not opened: memory ran out before, or they could not be.
+    NotOpened(NotOpened<D>),
+    /// The files were opened, and hold no database, or fail, or memory ran out; what is left of them.
+    Files(Error, Leftover<D>),
     /// The database was refused. Its connection is still there, and the file is locked.
     Database(StoreFault, Connection<FileStore<D>>),
 }
@@ -61,13 +63,19 @@ pub fn open_file<P: Start>(
         (database over_files store)) }
     // `:memory:`, which SQLite takes for no file, is refused.
     ensures memory { path.now ≡ codes ":memory:"
-        → result ≡ Err (Unopened.Files (Error.SqliteFailure CannotOpen) None) }
+        → IsErrAnd result (IsNotOpened (Error.SqliteFailure CannotOpen)) }
     // A database that stands for a content is refused only if it was made for other tables, fails, or memory runs out, and is
     // left with that content. Any other is refused with its reason and left as it is, and so are files that cannot be opened.
-    ensures turned { IfErr result (IsTurnedAway (wanted_of only.entry) (image_at P.Start)
-        AreFresh) }
+    ensures turned { IfErr result (IsTurnedAway (wanted_of only.entry) (image_at P.Start)) }
 {
-    let conn = match open_files(rt, path, start, expected) {
+    let Ok(random) = RandomState::new(rt) else {
+        return Err(Unopened::NotOpened(give_up(start, CANNOT_OPEN)));
+    };
+    let files = match open_pair(rt, path, start) {
+        Ok(files) => files,
+        Err(why) => return Err(Unopened::NotOpened(why)),
+    };
+    let conn = match connect_to(rt, path, files, expected, random.hash_one(&0u8)) {
         Ok(conn) => conn,
         Err((cause, left)) => return Err(Unopened::Files(cause, left)),
     };

@@ -1,18 +1,17 @@
 //! A connection to the files of a database, with room for more pages than the crate `sqlite` takes by itself.
 
-ghost use Rattle.std.specs.Prelude.{◌≡◌, true, false, codes, IsTrue, None, IfOk, IfErr, IfSome, Err};
+ghost use Rattle.std.specs.Prelude.{true, false, IsTrue, IfOk, IfErr};
 ghost use Rattle.sqlite_wal.specs.Files.{image_at};
 ghost use Rattle.sqlite_std_file.specs.File.{file_is_usable, IsFresh};
 ghost use Rattle.sqlite.specs.State.{HasCleanDisk};
 ghost use Rattle.sqlite.specs.Held.{IsNew};
 ghost use Rattle.sqlite.specs.Start.{FindsIn};
-ghost use Rattle.sqlite.specs.Files.{file_state, IsOpened, IsCleanLeft, FailsToOpenFiles, LeavesFiles};
+ghost use Rattle.sqlite.specs.Files.{file_state, IsOpened};
+ghost use Rattle.replica.specs.File.{IsLeftOver};
 
-use sqlite::{Connection, Error, ErrorCode, FileFrom, FileStore, Files, Leftover, Start};
+use sqlite::{Connection, Error, FileFrom, FileStore, Files, Leftover, Start};
 use sqlite_pager::Options;
-use sqlite_std_file::OpenError;
-use std::hash::{BuildHasher, RandomState};
-use std::io::{ErrorKind, Read};
+use std::io::Read;
 use std::{fs, io};
 
 /// The least of the pages that were read and are kept in memory, and the most, in bytes. They are allocated when a database is
@@ -40,29 +39,6 @@ const HEAD: usize = PAGE_SIZE + 2;
 
 const LEAST_PAGE: u64 = 512;
 
-const NO_MEMORY: Error = Error::SqliteFailure(ErrorCode::OutOfMemory);
-
-const CANNOT_OPEN: Error = Error::SqliteFailure(ErrorCode::CannotOpen);
-
-/// Opens the database file and its WAL file, which are made if they are not there, and locks them. It refuses `:memory:`, which
-/// SQLite takes for no file, and a URI, as `Connection::open_from` does.
-fn open_pair<P: Start>(rt: &HostRuntime, path: &str, start: P) -> Result<Files<FileFrom<P>>, Error>
-    ensures usable { IfOk result (λ files. IsTrue (file_is_usable P.Start files.log) × IsTrue (file_is_usable P.Start files.db)) }
-    ensures fresh { IfOk result (λ files. IsFresh true files.log × IsFresh false files.db) }
-    ensures memory { path.now ≡ codes ":memory:" → result ≡ Err (Error.SqliteFailure ErrorCode.CannotOpen) }
-{
-    if path == ":memory:" || path.starts_with("file:") {
-        return Err(CANNOT_OPEN);
-    }
-    match sqlite_std_file::open(rt, path, start) {
-        Ok(files) => Ok(files),
-        Err(OpenError::OutOfMemory) => Err(NO_MEMORY),
-        Err(OpenError::Busy) => Err(Error::SqliteFailure(ErrorCode::DatabaseBusy)),
-        Err(OpenError::Io(error)) if error.kind() == ErrorKind::OutOfMemory => Err(NO_MEMORY),
-        Err(_) => Err(CANNOT_OPEN),
-    }
-}
-
 /// How long a database file is, and the size of its pages, both in bytes.
 fn sizes(rt: &HostRuntime, path: &str) -> io::Result<(u64, u64)> {
     let mut file = fs::open(rt, path)?;
@@ -74,11 +50,8 @@ fn sizes(rt: &HostRuntime, path: &str) -> io::Result<(u64, u64)> {
 }
 
 /// The options of a connection to a file: as many pages are kept in memory as it has, and as `expected` bytes more take, within
-/// the limits. The WAL's salts begin with a random number.
-fn options(rt: &HostRuntime, path: &str, expected: u64) -> Result<Options, Error> {
-    let Ok(state) = RandomState::new(rt) else {
-        return Err(CANNOT_OPEN);
-    };
+/// the limits. The WAL's salts begin with `salt`.
+fn options(rt: &HostRuntime, path: &str, expected: u64, salt: u64) -> Options {
     let (length, page) = match sizes(rt, path) {
         Ok((length, page)) if page >= LEAST_PAGE => (length, page),
         _ => (0, PAGE),
@@ -87,37 +60,34 @@ fn options(rt: &HostRuntime, path: &str, expected: u64) -> Result<Options, Error
         .saturating_add(expected)
         .max(LEAST_CACHE)
         .min(MOST_CACHE);
-    let mut options = Options::new(state.hash_one(&0u8));
+    let mut options = Options::new(salt);
     options.cache_pages = (cache / page) as usize;
     options.spill_pages = (SPILL / page) as usize;
     options.checkpoint_frames = (CHECKPOINT / page) as usize;
-    Ok(options)
+    options
 }
 
-/// Opens the files at a path, as `Connection::open_from` does, where `start` stands for what they held. An error comes
-/// with what is left of them, once they were opened. `expected` is how many bytes are about to be written, as far as is known.
-pub(crate) fn open_files<P: Start>(
+/// A connection to the files at a path, as `Connection::open_from` makes it. An error comes with what is left of them.
+/// `expected` is how many bytes are about to be written, as far as is known.
+pub(crate) fn connect_to<P: Start>(
     rt: &HostRuntime,
     path: &str,
-    start: P,
+    files: Files<FileFrom<P>>,
     expected: u64,
-) -> Result<Connection<FileStore<FileFrom<P>>>, (Error, Option<Leftover<FileFrom<P>>>)>
+    salt: u64,
+) -> Result<Connection<FileStore<FileFrom<P>>>, (Error, Leftover<FileFrom<P>>)>
+    requires usable { IsTrue (file_is_usable P.Start files.log)
+        × IsTrue (file_is_usable P.Start files.db) }
+    requires fresh { IsFresh true files.log × IsFresh false files.db }
     ensures opened { IfOk result (λ c. HasCleanDisk (file_state c) → IsOpened c) }
     ensures found { IfOk result (λ c. HasCleanDisk (file_state c) → FindsIn (image_at P.Start) (file_state c)) }
     ensures fresh { IfOk result IsNew }
-    ensures memory { path.now ≡ codes ":memory:" → result ≡ Err (Error.SqliteFailure ErrorCode.CannotOpen, None) }
-    ensures cause { IfErr result (λ e. IfSome e.1 (λ left. (files : _) × (IsFresh true files.log × IsFresh false files.db) × (IsCleanLeft left → FailsToOpenFiles files left e.0 × LeavesFiles files left))) }
+    // The error is what the files met, and they are left as they were, unless there was no database in them.
+    ensures cause { IfErr result (λ e. IsLeftOver (image_at P.Start) e.0 e.1) }
 {
-    let files = match open_pair(rt, path, start) {
-        Ok(files) => files,
-        Err(error) => return Err((error, None)),
-    };
-    let options = match options(rt, path, expected) {
-        Ok(options) => options,
-        Err(error) => return Err((error, None)),
-    };
+    let options = options(rt, path, expected, salt);
     match Connection::open_files_with(rt.alloc(), files, options, false) {
         Ok(conn) => Ok(conn),
-        Err((error, left)) => Err((error, Some(left))),
+        Err((error, left)) => Err((error, left)),
     }
 }

@@ -1,14 +1,16 @@
 //! Following a source into a database file.
 
-ghost use Rattle.std.specs.Prelude.{◌≡◌, ◌<◌, Bool, true, IfOk, IfErr, IsErr};
+ghost use Rattle.std.specs.Prelude.{◌≡◌, ◌<◌, [], Bool, true, IfOk, IfErr, IsErr};
 ghost use Rattle.sqlite_wal.specs.Files.{image_at};
 ghost use Rattle.sqlite.specs.State.{HasCleanDisk};
 ghost use Rattle.binlog.specs.Filter.{Names};
 ghost use Rattle.store.specs.State.{Content};
 ghost use Rattle.store.specs.Store.{HoldsAs, IsBroken, database, names_of};
 ghost use Rattle.store.specs.Entering.{wanted_of, names_for};
-ghost use Rattle.replica.specs.File.{FilesHold, IsTurnedAway, AreFresh, ClosesAs};
+ghost use Rattle.replica.specs.NotedFile.{IsNotedOfFiles};
+ghost use Rattle.replica.specs.File.{FilesHold, IsTurnedAway, ClosesAs, KeepsContent};
 ghost use Rattle.replica.specs.declared.end.Reason.TheVariants.{Halted};
+ghost use Rattle.replica.specs.Noted.{IsLedTo};
 ghost use Rattle.replica.specs.FollowFile.{Connects, FollowsFile, CountsFailures};
 
 use crate::config::Config;
@@ -51,6 +53,12 @@ fn connect_and_follow<
         → Connects S.Store T.Read.remaining T.Write.contents T.failures (F.post connect) config store.old store.new was old result }
     ensures counts { IfOk result (λ done. CountsFailures done.0 done.1) }
     ensures asked { IfOk result (λ done. done.0.reason ≡ Halted → W.has_stopped observer.new ≡ true) }
+    ensures notes { HasCleanDisk (database S.Store store.new) → (was : Bool) (old : Content)
+        → HoldsAs S.Store was old store.old → IsLedTo S.Store store.old store.new was old
+        (W.noted observer.old, W.has_stopped observer.old)
+        (W.noted observer.new, W.has_stopped observer.new) [] }
+    ensures heeds { (is : Bool) (now : Content) → HoldsAs S.Store is now store.old
+        → W.has_stopped observer.old ≡ true → store.new ≡ store.old }
     ensures following { names_of S.Store store.new ≡ names_of S.Store store.old }
     ensures broken { IsBroken S.Store store.old → store.new ≡ store.old }
     ensures clean { HasCleanDisk (database S.Store store.new) → HasCleanDisk (database S.Store store.old) }
@@ -102,10 +110,19 @@ pub fn follow_file<
     ensures counts { IfOk result (λ done. IfOk done.connection (λ ended. CountsFailures ended.0 ended.1)) }
     // The connection is halted only if the observer has stopped.
     ensures asked { IfOk result (λ done. IfOk done.connection (λ ended. ended.0.reason ≡ Halted → W.has_stopped observer.new ≡ true)) }
+    // What was reported to the observer leads from that content to the one that the closed files hold.
+    ensures notes { IfOk result (λ done. (names : Names) (content : Content)
+        → FilesHold (names_for (wanted_of only.entry)) names content (image_at P.Start)
+        → IsNotedOfFiles names content (W.noted observer.old, W.has_stopped observer.old)
+        (W.noted observer.new, W.has_stopped observer.new) [] done.closed) }
+    // If it had stopped before, nothing is applied: the files hold the content from before.
+    ensures keeps { IfOk result (λ done. W.has_stopped observer.old ≡ true
+        → (names : Names) (content : Content)
+        → FilesHold (names_for (wanted_of only.entry)) names content (image_at P.Start)
+        → KeepsContent (names_for (wanted_of only.entry)) names content done.closed) }
     // A database that stands for a content is refused only if it was made for other tables, fails, or memory runs out, and is
     // left with that content. Any other is refused with its reason and left as it is, and so are files that cannot be opened.
-    ensures turned { IfErr result (IsTurnedAway (wanted_of only.entry) (image_at P.Start)
-        AreFresh) }
+    ensures turned { IfErr result (IsTurnedAway (wanted_of only.entry) (image_at P.Start)) }
     // Then nothing was read or reported.
     ensures untouched { IsErr result → observer.new ≡ observer.old }
 {

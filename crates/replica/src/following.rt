@@ -9,6 +9,7 @@ ghost use Rattle.store.specs.Store.{HoldsAs, IsBroken, database, names_of};
 ghost use Rattle.replica.specs.Conn.{MayEnd};
 ghost use Rattle.replica.specs.Standing.{end_of};
 ghost use Rattle.replica.specs.Over.{StandsOver};
+ghost use Rattle.replica.specs.Noted.{IsLedTo};
 ghost use Rattle.replica.specs.Failing.{HaveFailed};
 ghost use Rattle.replica.specs.Follow.{Follows, HandsOut, sends_no_more_after, reads_failed, turns_left, failed_reads_of, failed_writes_of};
 
@@ -105,6 +106,10 @@ fn read_piece<T: Duplex, S: Alter, W: Observer>(
     ensures config { session.new.config ≡ session.old.config }
     ensures may_end { MayEnd (end_of session.old).reason (W.has_stopped observer.old) → MayEnd (end_of session.new).reason (W.has_stopped observer.new) }
     ensures stays { W.has_stopped observer.old ≡ true → W.has_stopped observer.new ≡ true }
+    ensures notes { HasCleanDisk (database S.Store store.new) → (was : Bool) (old : Content)
+        → HoldsAs S.Store was old store.old → IsLedTo S.Store store.old store.new was old
+        (W.noted observer.old, W.has_stopped observer.old)
+        (W.noted observer.new, W.has_stopped observer.new) [] }
     ensures heeds { (is : Bool) (now : Content) → HoldsAs S.Store is now store.old → W.has_stopped observer.old ≡ true → store.new ≡ store.old }
     ensures turns { result ≡ Turn.Read → turns_left session.new < turns_left session.old }
     ensures still { result ≢ Turn.Read → (session.new ≡ session.old) × (store.new ≡ store.old) × Keeps (T.Read.remaining stream.old.stream) (T.Read.remaining stream.new.stream) }
@@ -184,6 +189,11 @@ pub fn follow_observed<T: Duplex, S: Alter, W: Observer>(
         → Follows S.Store config store.old store.new was old (T.Read.remaining stream.old.stream) (T.Read.remaining stream.new.stream) (T.Write.contents stream.old.stream) (T.Write.contents stream.new.stream) result }
     // The connection is halted only if the observer has stopped.
     ensures asked { result.reason ≡ Reason.Halted → W.has_stopped observer.new ≡ true }
+    // What was reported to it leads from the content before to the one afterwards.
+    ensures notes { HasCleanDisk (database S.Store store.new) → (was : Bool) (old : Content)
+        → HoldsAs S.Store was old store.old → IsLedTo S.Store store.old store.new was old
+        (W.noted observer.old, W.has_stopped observer.old)
+        (W.noted observer.new, W.has_stopped observer.new) [] }
     // Once it has stopped, the store stays as it is.
     ensures heeds { (is : Bool) (now : Content) → HoldsAs S.Store is now store.old → W.has_stopped observer.old ≡ true → store.new ≡ store.old }
     ensures read_failed { (result.reason ≡ Reason.ReadFailed) ↔ (stream.old.failed_reads < stream.new.failed_reads) }

@@ -2,7 +2,7 @@
 //!
 //! A law is a function with an empty body: its clauses are proved of the definitions themselves.
 
-ghost use Rattle.std.specs.Prelude.{◌≡◌, ◌↔◌, ◌⊎◌, ℕ, ◌+◌, ◌<◌, ◌≤◌, ◌++◌, Bool, List, [], length, drop, map, None};
+ghost use Rattle.std.specs.Prelude.{◌≡◌, ◌↔◌, ◌⊎◌, ℕ, ◌+◌, ◌<◌, ◌≤◌, ◌++◌, Bool, List, [], length, drop, map, Option, None};
 ghost use Rattle.std.specs.FinSet as set;
 ghost use Rattle.std.specs.List.{AllByRecursion};
 ghost use Rattle.sqlite.specs.Held.{state};
@@ -17,6 +17,7 @@ ghost use Rattle.scripted_source.specs.Source.{is_once};
 ghost use Rattle.store.specs.State.{Content};
 ghost use Rattle.store.specs.Changes.{HasOutcome, done};
 ghost use Rattle.store.specs.Store.{HoldsAs, database, names_of};
+ghost use Rattle.store.specs.Entering.{names_for};
 ghost use Rattle.replica.specs.declared.end.Reason.{Reason};
 ghost use Rattle.replica.specs.declared.end.Reason.TheVariants.{EndOfInput, Wire};
 ghost use Rattle.wire.specs.declared.fault.WireFault.TheVariants as wire;
@@ -25,17 +26,19 @@ ghost use Rattle.replica.specs.Stream.{Reading};
 ghost use Rattle.replica.specs.End.{End};
 ghost use Rattle.replica.specs.Report.{report_of};
 ghost use Rattle.replica.specs.Outcome.{IsSameEnd, HasEnd};
-ghost use Rattle.replica.specs.Conn.{Conn, AppliesFirst, BreaksStore, IsDumpTooLong, IsOfBytes};
+ghost use Rattle.replica.specs.Conn.{Conn, AppliesAll, AppliesFirst, BreaksStore, IsDumpTooLong, IsOfBytes};
 ghost use Rattle.replica.specs.Crash.{IsLeftOfOne, LeavesFirst};
 ghost use Rattle.replica.specs.Sent.{SentFor};
 ghost use Rattle.replica.specs.Standing.{Stands, end_of};
 ghost use Rattle.replica.specs.Over.{StandsOver};
 ghost use Rattle.replica.specs.Follow.{HandsOut, IsInFull};
-ghost use Rattle.replica.specs.File.{FilesHold, AreClosedWith};
-ghost use Rattle.replica.specs.Restart.{Starts, IsUncut, AreStarts, HoldFirst, FilesNeverFall};
+ghost use Rattle.replica.specs.File.{FilesHold, AreClosedWith, IsTurnedAway};
+ghost use Rattle.replica.specs.Noted.{Notice, LeadsBy, applied_in};
+ghost use Rattle.replica.specs.Restart.{Starts, IsUncut, MayFindUnopened, AreStarts, HoldFirst, FilesNeverFall};
 ghost use Rattle.replica.specs.Resume.{Resumes, Leads, Reaches, AreRestarts, NeverFalls, part_changes, transaction, transactions, end_reason};
 
 use crate::counted::Duplex;
+use crate::file::Unopened;
 use crate::session::Session;
 use sqlite::{Alter, Files};
 use sqlite_disk::Disk;
@@ -107,6 +110,24 @@ pub fn found_again<D: Disk>(_files: &Files<D>)
     ensures left { (only names : Names) (content : Content) (image : Image) → AreClosedWith D.Disk names content _files.now → outcomes D.Disk _files.now.log _files.now.db image → FilesHold only names content image × FilesHold only names content (record image { log = [] }) }
 {}
 
+/// What files hold is found by the next call that opens them, where this one has not opened their database: if they were not
+/// opened, as they were, and otherwise what a crash leaves of what is left.
+pub fn found_unopened<D: Disk>(_why: &Unopened<D>)
+    ensures { (wanted : Option Names) (names : Names) (content : Content) (before next : Image)
+        → FilesHold (names_for wanted) names content before → IsTurnedAway wanted before _why.now
+        → MayFindUnopened before _why.now next → FilesHold (names_for wanted) names content next }
+{}
+
+/// If what is reported to an observer leads from one content to another, then so do the transactions that are reported as applied, in
+/// order, each of which is new; and it leads to no other.
+pub fn led()
+    ensures applied { (names : Names) (old new : Content) (notices : List Notice)
+        → LeadsBy names old notices new
+        → AppliesAll names old (applied_in notices) (length (applied_in notices)) new }
+    ensures one { (names : Names) (old new other : Content) (notices : List Notice)
+        → LeadsBy names old notices new → LeadsBy names old notices other → new ≡ other }
+{}
+
 /// No reading of a connection's bytes has more payloads than the reading up to their end.
 pub fn longest()
     ensures { (limit : ℕ) (names : Names) (b : List ℕ) (r : Reason) (at : ℕ) → AllByRecursion (λ byte. byte < 256) b → (e : End limit names b r at) → (q : Reading limit names b) → length q.payloads ≤ length e.reading.payloads }
@@ -145,10 +166,10 @@ pub fn restarted()
     greet::laws::dumps();
 }
 
-/// The same of a replica whose database is in files, over its openings: each call of `follow_file` opens what the one
-/// before has left, as it was closed or after a crash. However often it is started, and wherever each connection is cut,
-/// the files hold the content after the first transactions of the history, and of these there are never fewer than before.
-/// A connection that is not cut leaves the content after all of them.
+/// The same of a replica whose database is in files, over its openings: each call of `follow_file` finds what the one
+/// before has left, as it was closed or after a crash, and opens it or not. However often it is started, and wherever
+/// each connection is cut, the files hold the content after the first transactions of the history, and of these there are
+/// never fewer than before. A connection that is not cut leaves the content after all of them.
 pub fn restarted_files<D: Disk, T: Duplex + Drop, E: Drop, F: FnOnce() -> Result<T, E> + Drop>(
     _files: &Files<D>,
     _connect: &F,

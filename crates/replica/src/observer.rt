@@ -1,6 +1,8 @@
 //! What is reported of connections while they are read.
 
-ghost use Rattle.std.specs.Prelude.{◌≡◌, Bool, true, false, not};
+ghost use Rattle.std.specs.Prelude.{◌≡◌, Bool, true, false, not, List, [], ◌∷◌, Option, None, if◌then◌else◌};
+ghost use Rattle.gather.specs.View.{delivery_value};
+ghost use Rattle.replica.specs.Noted.{Notice, HasBeenNoted, opened, before, stopped, after, ended};
 
 use crate::end::{Ended, Reason};
 use binlog::Event;
@@ -12,48 +14,60 @@ pub trait Observer {
     // Whether it has asked to stop. It never takes that back.
     ghost has_stopped: { Self → Bool };
 
+    // What was reported to it, if it keeps an account of that.
+    ghost noted: { Self → Option (List Notice) } = { λ _. None };
+
     /// Called once with the executed set of a database file, before anything is read.
-    fn opened(&mut self, _executed: &GtidSet)
-        ensures { has_stopped self.old ≡ true → has_stopped self.new ≡ true }
-    {}
+    fn opened(&mut self, executed: &GtidSet)
+        ensures noted { HasBeenNoted (noted self.old) (noted self.new) (opened executed.now ∷ []) }
+        ensures stays { has_stopped self.old ≡ true → has_stopped self.new ≡ true };
 
     /// Called when the source has been reached.
     fn connected(&mut self)
-        ensures { has_stopped self.old ≡ true → has_stopped self.new ≡ true }
+        ensures noted { noted self.new ≡ noted self.old }
+        ensures stays { has_stopped self.old ≡ true → has_stopped self.new ≡ true }
     {}
 
     /// Called after this many bytes of a connection have been read, before they are used.
     fn received(&mut self, _count: usize)
-        ensures { has_stopped self.old ≡ true → has_stopped self.new ≡ true }
+        ensures noted { noted self.new ≡ noted self.old }
+        ensures stays { has_stopped self.old ≡ true → has_stopped self.new ≡ true }
     {}
 
     /// Called with each event of a connection, before it is used.
     fn event(&mut self, _event: &Event<'_>)
-        ensures { has_stopped self.old ≡ true → has_stopped self.new ≡ true }
+        ensures noted { noted self.new ≡ noted self.old }
+        ensures stays { has_stopped self.old ≡ true → has_stopped self.new ≡ true }
     {}
 
     /// Called with each whole transaction that is not in the executed set, before it is applied. Returns whether it is to
     /// be applied; otherwise the connection ends with `Reason::Halted`.
     fn before_apply(&mut self, delivery: &Delivery) -> bool
         ensures goes_on { result ≡ not (has_stopped self.new) }
+        ensures noted { HasBeenNoted (noted self.old) (noted self.new)
+            ((if result then before (delivery_value delivery.now)
+            else stopped (delivery_value delivery.now)) ∷ []) }
         ensures stays { has_stopped self.old ≡ true → has_stopped self.new ≡ true };
 
     /// Called with each whole transaction after it: whether it was applied, which one of the executed set is not, or why
     /// the connection ends.
-    fn after_apply(&mut self, _delivery: &Delivery, _outcome: &Result<bool, Reason>)
-        ensures { has_stopped self.old ≡ true → has_stopped self.new ≡ true }
-    {}
+    fn after_apply(&mut self, delivery: &Delivery, outcome: &Result<bool, Reason>)
+        ensures noted { HasBeenNoted (noted self.old) (noted self.new)
+            (after (delivery_value delivery.now) outcome.now ∷ []) }
+        ensures stays { has_stopped self.old ≡ true → has_stopped self.new ≡ true };
 
     /// Called with a payload of the dump that ends the connection without ending a transaction: an event and the byte
     /// before it, or a message of the source.
     fn refused(&mut self, _payload: &[u8], _reason: &Reason)
-        ensures { has_stopped self.old ≡ true → has_stopped self.new ≡ true }
+        ensures noted { noted self.new ≡ noted self.old }
+        ensures stays { has_stopped self.old ≡ true → has_stopped self.new ≡ true }
     {}
 
     /// Called with the end of each connection of a list, as soon as it has ended. Returns whether the next one is to be
     /// read.
     fn ended(&mut self, end: &Ended) -> bool
         ensures goes_on { result ≡ not (has_stopped self.new) }
+        ensures noted { HasBeenNoted (noted self.old) (noted self.new) (ended end.now result ∷ []) }
         ensures stays { has_stopped self.old ≡ true → has_stopped self.new ≡ true };
 }
 
@@ -64,9 +78,13 @@ pub struct Unobserved;
 impl Observer for Unobserved {
     ghost has_stopped = { λ _. false };
 
+    fn opened(&mut self, _executed: &GtidSet) {}
+
     fn before_apply(&mut self, _delivery: &Delivery) -> bool {
         true
     }
+
+    fn after_apply(&mut self, _delivery: &Delivery, _outcome: &Result<bool, Reason>) {}
 
     fn ended(&mut self, _end: &Ended) -> bool {
         true

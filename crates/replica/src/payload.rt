@@ -11,6 +11,7 @@ ghost use Rattle.replica.specs.Conn.{IsOwn, MayEnd};
 ghost use Rattle.replica.specs.Over.{StandsOver, MeetsOver};
 ghost use Rattle.replica.specs.declared.phase.Phase.TheVariants as phase;
 ghost use Rattle.store.specs.Store.{HoldsAs, database, names_of, IsBroken};
+ghost use Rattle.replica.specs.Noted.{IsLedTo};
 
 use crate::dump::take_event;
 use crate::end::{Ended, Reason};
@@ -113,6 +114,10 @@ impl Session {
         ensures config { self.new.config ≡ self.old.config }
         ensures may_end { MayEnd (end_of self.new).reason (W.has_stopped observer.new) }
         ensures stays { W.has_stopped observer.old ≡ true → W.has_stopped observer.new ≡ true }
+        ensures notes { HasCleanDisk (database S.Store store.new) → (was : Bool) (old : Content)
+            → HoldsAs S.Store was old store.old → IsLedTo S.Store store.old store.new was old
+            (W.noted observer.old, W.has_stopped observer.old)
+            (W.noted observer.new, W.has_stopped observer.new) [] }
         ensures heeds { (is : Bool) (now : Content) → HoldsAs S.Store is now store.old → W.has_stopped observer.old ≡ true → store.new ≡ store.old }
         ensures further { self.new.ended ≡ None → (self.new.at ≡ end) × (self.new.assembler.held ≡ []) }
         ensures takes { HasCleanDisk (database S.Store store.new) → (schema : Schema) (was : Bool) (old : Content) (b o : List ℕ) → end ≡ self.old.at + packing_length (length payload.now)
@@ -140,6 +145,10 @@ impl Session {
         ensures config { self.new.config ≡ self.old.config }
         ensures may_end { MayEnd (end_of self.new).reason (W.has_stopped observer.new) }
         ensures stays { W.has_stopped observer.old ≡ true → W.has_stopped observer.new ≡ true }
+        ensures notes { HasCleanDisk (database S.Store store.new) → (was : Bool) (old : Content)
+            → HoldsAs S.Store was old store.old → IsLedTo S.Store store.old store.new was old
+            (W.noted observer.old, W.has_stopped observer.old)
+            (W.noted observer.new, W.has_stopped observer.new) [] }
         ensures heeds { (is : Bool) (now : Content) → HoldsAs S.Store is now store.old → W.has_stopped observer.old ≡ true → store.new ≡ store.old }
         ensures room { self.new.ended ≡ None → room_of self.new + packing_length (length payload.now) ≤ room_of self.old }
         ensures takes { HasCleanDisk (database S.Store store.new) → (schema : Schema) (was : Bool) (old : Content) (b o : List ℕ)

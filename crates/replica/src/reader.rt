@@ -1,6 +1,6 @@
 //! A connection that is read from a file.
 
-ghost use Rattle.std.specs.Prelude.{◌≡◌, ◌<◌, Bool, true, length, IfOk, IfErr};
+ghost use Rattle.std.specs.Prelude.{◌≡◌, ◌<◌, [], Bool, true, length, IfOk, IfErr};
 ghost use Rattle.std.specs.Io.{ReadsAtMost};
 ghost use Rattle.std.specs.Io.KnownBytes.{ReadConsumes, IsAtEnd};
 ghost use Rattle.sqlite.specs.State.{HasCleanDisk};
@@ -10,6 +10,7 @@ ghost use Rattle.replica.specs.declared.end.Reason.TheVariants.{EndOfInput};
 ghost use Rattle.replica.specs.declared.end.Ended.{Ended as End};
 ghost use Rattle.replica.specs.Over.{HasReadOf};
 ghost use Rattle.replica.specs.Conn.{MayEnd};
+ghost use Rattle.replica.specs.Noted.{IsLedTo};
 
 use crate::config::Config;
 use crate::end::Ended;
@@ -62,6 +63,11 @@ pub fn read_stream<R: Read, S: Alter, W: Observer>(
     // The connection is halted only if the observer has stopped.
     ensures may_end { IfOk result (λ end. MayEnd end.reason (W.has_stopped observer.new)) }
     ensures stays { W.has_stopped observer.old ≡ true → W.has_stopped observer.new ≡ true }
+    // What was reported to it leads from the content before to the one afterwards.
+    ensures notes { HasCleanDisk (database S.Store store.new) → (was : Bool) (old : Content)
+        → HoldsAs S.Store was old store.old → IsLedTo S.Store store.old store.new was old
+        (W.noted observer.old, W.has_stopped observer.old)
+        (W.noted observer.new, W.has_stopped observer.new) [] }
     // Once it has stopped, the store stays as it is.
     ensures heeds { (is : Bool) (now : Content) → HoldsAs S.Store is now store.old → W.has_stopped observer.old ≡ true → store.new ≡ store.old }
     ensures following { names_of S.Store store.new ≡ names_of S.Store store.old }

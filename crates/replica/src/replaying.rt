@@ -5,7 +5,8 @@ ghost use Rattle.sqlite_wal.specs.Files.{image_at};
 ghost use Rattle.binlog.specs.Filter.{Names};
 ghost use Rattle.store.specs.State.{Content};
 ghost use Rattle.store.specs.Entering.{wanted_of, names_for};
-ghost use Rattle.replica.specs.File.{FilesHold, IsTurnedAway, AreFresh, ClosesAs};
+ghost use Rattle.replica.specs.NotedFile.{IsNotedOfFiles};
+ghost use Rattle.replica.specs.File.{FilesHold, IsTurnedAway, ClosesAs, KeepsContent};
 ghost use Rattle.replica.specs.Replay.{Replays};
 ghost use Rattle.replica.specs.Conn.{MayEnd};
 
@@ -13,6 +14,7 @@ use crate::captures::{Capture, Halt, read_captures};
 use crate::config::Config;
 use crate::end::Ended;
 use crate::file::{Unopened, close_file, open_file};
+use crate::file_pair::{NO_MEMORY, give_up};
 use crate::following::PIECE;
 use crate::observer::Observer;
 use binlog::Follow;
@@ -68,20 +70,29 @@ pub fn replay<P: Start, R: Read + Drop, W: Observer>(
     // Once it has stopped, no further connection is read.
     ensures heeds { IfOk result (λ done. done.read ≡ Ok tt → done.ends.items ≢ [] → W.has_stopped observer.new ≡ false) }
     ensures no_more { IfOk result (λ done. W.has_stopped observer.old ≡ true → length done.ends.items ≤ 1) }
+    // What was reported to the observer leads from that content to the one that the closed files hold, with the ends.
+    ensures notes { IfOk result (λ done. (names : Names) (content : Content)
+        → FilesHold (names_for (wanted_of only.entry)) names content (image_at P.Start)
+        → IsNotedOfFiles names content (W.noted observer.old, W.has_stopped observer.old)
+        (W.noted observer.new, W.has_stopped observer.new) done.ends.items done.closed) }
+    // If it had stopped before, nothing is applied: the files hold the content from before.
+    ensures keeps { IfOk result (λ done. W.has_stopped observer.old ≡ true
+        → (names : Names) (content : Content)
+        → FilesHold (names_for (wanted_of only.entry)) names content (image_at P.Start)
+        → KeepsContent (names_for (wanted_of only.entry)) names content done.closed) }
     ensures may_end { IfOk result (λ done. All (λ end. MayEnd end.reason (W.has_stopped observer.new)) done.ends.items) }
     // A database that stands for a content is refused only if it was made for other tables, fails, or memory runs out, and is
     // left with that content. Any other is refused with its reason and left as it is, and so are files that cannot be opened.
-    ensures turned { IfErr result (IsTurnedAway (wanted_of only.entry) (image_at P.Start)
-        AreFresh) }
+    ensures turned { IfErr result (IsTurnedAway (wanted_of only.entry) (image_at P.Start)) }
     // Then nothing was read or reported.
     ensures untouched { IsErr result → observer.new ≡ observer.old }
 {
     let alloc = rt.alloc();
     let Ok(mut ends) = Vec::with_capacity(alloc, captures.len()) else {
-        return Err(Unopened::Memory);
+        return Err(Unopened::NotOpened(give_up(start, NO_MEMORY)));
     };
     let Ok(mut piece) = vec![in alloc; 0; PIECE] else {
-        return Err(Unopened::Memory);
+        return Err(Unopened::NotOpened(give_up(start, NO_MEMORY)));
     };
     let mut store = open_file(rt, path, start, growth(&captures), only)?;
     let read = read_captures(

@@ -105,6 +105,9 @@ impl Feed {
                 return Ok(());
             }
         }
+        if !file.can_cut() {
+            try_entry(form, entry)?;
+        }
         let begin = file.begin()?;
         let written = write_to_file(form, entry, file);
         if written.is_err() {
@@ -123,15 +126,21 @@ struct Form<'d> {
     tables: Option<&'d DescribedTables>,
 }
 
+/// Finds out whether all rows of an entry fit, where it could not be cut off again.
+fn try_entry(form: Form<'_>, entry: FeedEntry<'_>) -> Result<(), RowError> {
+    match form.tables {
+        Some(_) => write_entry(form, entry, &mut io::sink()),
+        None => Ok(()),
+    }
+}
+
 /// Writes an entry to the output, once it is known that all its rows fit.
 fn write_to_output<O: Write>(
     form: Form<'_>,
     entry: FeedEntry<'_>,
     out: &mut O,
 ) -> Result<(), RowError> {
-    if form.tables.is_some() {
-        write_entry(form, entry, &mut io::sink())?;
-    }
+    try_entry(form, entry)?;
     write_entry(form, entry, out)?;
     out.flush()?;
     Ok(())

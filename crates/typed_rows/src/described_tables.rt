@@ -4,6 +4,7 @@ ghost use Rattle.std.specs.Prelude.{◌≡◌, None, IfSome, IfNone, IsPermutati
 ghost use Rattle.std.specs.Option.{option_copied};
 ghost use Rattle.typed_rows.specs.DescribedTables.{is_named, IsOfName};
 
+use binlog::Follow;
 use columns::{DescribedTable, Description};
 use std::cmp::Ordering;
 
@@ -22,6 +23,14 @@ impl DescribedTables {
         let Description { mut tables } = description;
         tables.sort_unstable_by(compare);
         DescribedTables { tables }
+    }
+
+    /// Keeps the tables that are named, or all if none is; of a schema alone if one is given.
+    pub fn keep(&mut self, only: &Follow, schema: Option<&[u8]>) {
+        self.tables.retain(|table| {
+            let of = table.schema.as_bytes();
+            only.follows(of, table.name.as_bytes()) && schema.is_none_or(|wanted| wanted == of)
+        });
     }
 
     /// The tables, in the order of the names of their schemas and their own.

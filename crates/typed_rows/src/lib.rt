@@ -11,6 +11,7 @@
 #![tactic(auto)]
 
 mod change_feed;
+mod collected;
 mod csv;
 mod definition;
 mod described_tables;
@@ -28,6 +29,7 @@ mod tables;
 mod tsv;
 
 pub use change_feed::{Feed, FeedEntry, OUTPUT};
+pub use collected::Collected;
 pub use described_tables::DescribedTables;
 pub use misfit::{Misfit, RowError};
 pub use query::write_query;

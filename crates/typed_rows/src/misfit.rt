@@ -6,6 +6,14 @@ use std::alloc::{AllocError, Global};
 use std::io;
 use thiserror::Error;
 
+const FETCH: &str = "fetch the description of the columns again";
+
+const CHARACTER_SET: &str =
+    "fetch the description of the columns again; if it is the same, write longblob and NULL as the type and the character set of this column, and it has its bytes";
+
+const KEY: &str =
+    "fetch the description of the columns again; if it is the same, a statement that deletes rows, as TRUNCATE, was skipped";
+
 /// Why a row does not fit the description of its table.
 #[derive(Clone, Copy, Debug, PartialEq, Eq, Error)]
 pub enum Fault {
@@ -36,6 +44,17 @@ pub enum Fault {
     /// Another row has the same key.
     #[error("two rows have the same key")]
     SameKey,
+}
+
+impl Fault {
+    /// What to do about it.
+    pub fn advice(self) -> &'static str {
+        match self {
+            Fault::CharacterSet => CHARACTER_SET,
+            Fault::NoKey | Fault::SameKey => KEY,
+            _ => FETCH,
+        }
+    }
 }
 
 /// Why a cell is not shown.

@@ -130,7 +130,7 @@ impl<'d, 'o, W: Write> TypedRows<'d, 'o, W> {
     }
 }
 
-/// Writes the line of a row.
+/// Writes the line of a row. The number of its cells is looked at first where it does not fit.
 fn write_row<'d>(
     alloc: Global,
     layout: Layout,
@@ -139,15 +139,24 @@ fn write_row<'d>(
     image: &ImageRef<'_>,
     line: &mut Vec<u8>,
 ) -> Result<(), Stop<'d>> {
-    check_count(table, image)?;
     write_front(alloc, layout, table, count, line)?;
+    let mut cells = image.cells();
     let mut is_first = true;
-    for (cell, column) in image.cells().zip(table.columns.iter()) {
+    for column in &table.columns {
+        let Some(cell) = cells.next() else {
+            return check_count(table, image);
+        };
         if !is_first {
             line.write_all(separator(layout.format))?;
         }
-        write_cell(alloc, layout, column, cell, line)?;
+        if let Err(stop) = write_cell(alloc, layout, column, cell, line) {
+            check_count(table, image)?;
+            return Err(stop);
+        }
         is_first = false;
+    }
+    if cells.next().is_some() {
+        return check_count(table, image);
     }
     line.write_all(end(layout.format))?;
     Ok(())

@@ -31,13 +31,13 @@ pub fn show<'a>(alloc: Global, column: &'a Column, cell: Cell<'a>) -> Result<Sho
     }
     match &column.kind {
         ColumnType::Scalar(kind) => show_scalar(alloc, column, *kind, cell),
-        ColumnType::Enum(members) => {
-            let ordinal = read_ordinal(u16::try_from(members.len()).unwrap_or(u16::MAX), cell)?;
-            show_member(column, member_at(members, ordinal))
+        ColumnType::Enum(list) => {
+            let ordinal = read_ordinal(list.count(), cell)?;
+            show_member(column, member_at(&list.members, ordinal))
         }
-        ColumnType::Set(members) => {
-            let bits = read_set(u8::try_from(members.len()).unwrap_or(64).min(64), cell)?;
-            show_joined(column, joined_members(alloc, members, bits)?)
+        ColumnType::Set(list) => {
+            let bits = read_set(list.count(), cell)?;
+            show_joined(column, joined_members(alloc, &list.members, bits)?)
         }
     }
 }

@@ -2,8 +2,10 @@
 
 ghost use Rattle.std.specs.Prelude.{◌≡◌, false};
 
+use crate::collected::Collected;
 use crate::definition::{creation, insertion};
 use crate::misfit::{CellError, Fault, Misfit, copied};
+use crate::object::has_key;
 use crate::shown::show;
 use crate::stored::{Stored, store};
 use crate::tables::Tables;
@@ -63,29 +65,26 @@ impl<'d, 'c, T: Alter> TableRows<'d, 'c, T> {
         })
     }
 
-    /// Adds a row as often as there are copies of it. A row of a table that is not made is left out.
+    /// Adds a row as often as there are copies of it, or collects it to be added in the order of its key. A row of a table that
+    /// is not made is left out.
     pub fn write(
         &mut self,
+        collected: &mut Collected,
         schema: &[u8],
         table: &[u8],
         count: u64,
         image: &ImageRef<'_>,
     ) -> Result<(), TableError> {
         if !self.is_at(schema, table) {
+            self.add_collected(collected)?;
             self.turn_to(schema, table)?;
         }
-        let Some((described, statement)) = &self.last else {
-            return Ok(());
-        };
-        let written = write_row(self.alloc, &mut self.tx, described, statement, count, image);
-        match written {
-            Ok(()) => Ok(()),
-            Err(Stop::Database(error)) => Err(TableError::Database(error)),
-            Err(Stop::Fault(column, fault)) => {
-                let misfit = copied(self.alloc, schema, table, column, fault)?;
-                Err(TableError::Misfit(misfit))
-            }
+        let done = self.put(collected, count, image);
+        fault_in(self.alloc, done, schema, table)?;
+        if collected.is_full() {
+            self.add_collected(collected)?;
         }
+        Ok(())
     }
 
     /// Commits the tables and their rows.
@@ -105,14 +104,78 @@ impl<'d, 'c, T: Alter> TableRows<'d, 'c, T> {
     /// Prepares for the rows of a table, if it is made.
     fn turn_to(&mut self, schema: &[u8], table: &[u8]) -> Result<(), TableError> {
         self.last = None;
-        let Some(described) = self.tables.table(self.alloc, schema, table)? else {
+        let Some(table) = self.tables.table(schema, table) else {
             return Ok(());
         };
-        let name = self.tables.name_of(self.alloc, described)?;
-        let text = insertion(self.alloc, described, name.as_str())?;
-        self.last = Some((described, self.tx.prepare(text.as_str())?));
+        let name = self.tables.name_of(self.alloc, table)?;
+        let text = insertion(self.alloc, table, name.as_str())?;
+        self.last = Some((table, self.tx.prepare(text.as_str())?));
         Ok(())
     }
+
+    /// Adds a row of a table without a key, and collects one of another.
+    fn put(
+        &mut self,
+        collected: &mut Collected,
+        count: u64,
+        image: &ImageRef<'_>,
+    ) -> Result<(), Stop<'d>> {
+        let Some((table, statement)) = &self.last else {
+            return Ok(());
+        };
+        let row = values_of(self.alloc, table, image)?;
+        if has_key(table) {
+            collected.push(table, &row, count, image)?;
+            return Ok(());
+        }
+        add(self.alloc, &mut self.tx, statement, count, &row)
+    }
+
+    /// Adds the rows that are collected.
+    pub fn add_collected(&mut self, collected: &mut Collected) -> Result<(), TableError> {
+        let Some((table, statement)) = &self.last else {
+            return Ok(());
+        };
+        let done = add_sorted(self.alloc, &mut self.tx, table, statement, collected);
+        let (schema, name) = (table.schema.as_bytes(), table.name.as_bytes());
+        fault_in(self.alloc, done, schema, name)
+    }
+}
+
+/// The error of what was done with the rows of a table.
+fn fault_in(
+    alloc: Global,
+    done: Result<(), Stop<'_>>,
+    schema: &[u8],
+    table: &[u8],
+) -> Result<(), TableError> {
+    match done {
+        Ok(()) => Ok(()),
+        Err(Stop::Database(error)) => Err(TableError::Database(error)),
+        Err(Stop::Fault(column, fault)) => {
+            let misfit = copied(alloc, schema, table, column, fault)?;
+            Err(TableError::Misfit(misfit))
+        }
+    }
+}
+
+/// Adds the rows that are collected, in the order of their keys.
+fn add_sorted<'d, T: Alter>(
+    alloc: Global,
+    tx: &mut Transaction<'_, T>,
+    table: &'d DescribedTable,
+    statement: &Statement,
+    collected: &mut Collected,
+) -> Result<(), Stop<'d>> {
+    collected.sort();
+    for at in 0..collected.len() {
+        if let Some((count, image)) = collected.get(at) {
+            let row = values_of(alloc, table, &image)?;
+            add(alloc, tx, statement, count, &row)?;
+        }
+    }
+    collected.clear();
+    Ok(())
 }
 
 /// Makes the tables.
@@ -121,12 +184,10 @@ fn make_all<T: Alter>(
     tables: &Tables,
     tx: &mut Transaction<'_, T>,
 ) -> Result<(), Error> {
-    for place in tables.places().values() {
-        if let Some(table) = tables.at(*place) {
-            let name = tables.name_of(alloc, table)?;
-            let text = creation(alloc, table, name.as_str())?;
-            tx.execute(text.as_str(), &[])?;
-        }
+    for table in tables.all() {
+        let name = tables.name_of(alloc, table)?;
+        let text = creation(alloc, table, name.as_str())?;
+        tx.execute(text.as_str(), &[])?;
     }
     Ok(())
 }
@@ -156,15 +217,15 @@ impl<T: Drop> From<AllocFailed<T>> for Stop<'_> {
     }
 }
 
-/// Adds a row as often as there are copies of it.
-fn write_row<'d, T: Alter>(
+/// The values of a row.
+fn values_of<'d, 'a>(
     alloc: Global,
-    tx: &mut Transaction<'_, T>,
     table: &'d DescribedTable,
-    statement: &Statement,
-    count: u64,
-    image: &ImageRef<'_>,
-) -> Result<(), Stop<'d>> {
+    image: &ImageRef<'a>,
+) -> Result<Vec<Stored<'a>>, Stop<'d>>
+where
+    'd: 'a,
+{
     // An image has at most 65,535 cells.
     let cells = image.cells().take(65_536).count();
     if cells != table.columns.len() {
@@ -183,7 +244,7 @@ fn write_row<'d, T: Alter>(
         }
         row.push(stored)?;
     }
-    add(alloc, tx, statement, count, &row)
+    Ok(row)
 }
 
 /// Adds a row of these values as often as there are copies of it.

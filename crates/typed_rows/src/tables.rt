@@ -1,5 +1,6 @@
 //! Which tables of a description are made in an SQLite database, and under which names.
 
+use crate::described_tables::DescribedTables;
 use binlog::Follow;
 use columns::{DescribedTable, Description};
 use std::alloc::{AllocError, AllocFailed, Global};
@@ -11,12 +12,6 @@ const MOST_COLUMNS: usize = 2_000;
 
 /// How the names begin that SQLite keeps for itself (SQLite, "CREATE TABLE", section 2).
 const RESERVED: &[u8] = b"sqlite_";
-
-/// What stands between the names of a schema and of a table where they are looked up: no byte of UTF-8.
-const BETWEEN: u8 = 0xff;
-
-/// The places of tables in a description, by the names of their schemas and themselves.
-type Places = BTreeMap<Vec<u8>, usize>;
 
 /// The name of a table.
 #[derive(Debug, Drop)]
@@ -74,10 +69,9 @@ impl<T: Drop> From<AllocFailed<T>> for TablesFault {
 }
 
 /// Which tables of a description are made in an SQLite database, and whether under their bare names.
-#[derive(Debug, Drop)]
+#[derive(Drop)]
 pub struct Tables {
-    description: Description,
-    places: Places,
+    tables: DescribedTables,
     is_bare: bool,
 }
 
@@ -90,45 +84,31 @@ impl Tables {
         only: &Follow,
         schema: Option<&[u8]>,
     ) -> Result<Tables, TablesFault> {
-        let all = places_of(alloc, &description, schema)?;
-        let places = if only.names().is_empty() {
-            all
-        } else {
-            chosen(alloc, &all, only, schema)?
-        };
-        if places.is_empty() {
+        let mut tables = DescribedTables::new(description);
+        for (of, table) in only.names() {
+            if let Some(fault) = missing(&tables, of, table, schema) {
+                return Err(fault_of(alloc, of, table, fault));
+            }
+        }
+        tables.keep(only, schema);
+        if tables.all().is_empty() {
             return Err(TablesFault::NoTable);
         }
-        judge_all(alloc, &description, &places, schema.is_some())?;
+        judge_all(alloc, tables.all(), schema.is_some())?;
         Ok(Tables {
-            description,
-            places,
+            tables,
             is_bare: schema.is_some(),
         })
     }
 
     /// The described table of this name, if it is made.
-    pub(crate) fn table(
-        &self,
-        alloc: Global,
-        schema: &[u8],
-        table: &[u8],
-    ) -> Result<Option<&DescribedTable>, AllocError> {
-        let key = key_of(alloc, schema, table)?;
-        let Some(place) = self.places.get(key.as_slice()) else {
-            return Ok(None);
-        };
-        Ok(self.description.tables.get(*place))
+    pub(crate) fn table(&self, schema: &[u8], table: &[u8]) -> Option<&DescribedTable> {
+        self.tables.find(schema, table)
     }
 
-    /// The tables that are made, in ascending order of the bytes of their names.
-    pub(crate) fn places(&self) -> &Places {
-        &self.places
-    }
-
-    /// The described table at a place.
-    pub(crate) fn at(&self, place: usize) -> Option<&DescribedTable> {
-        self.description.tables.get(place)
+    /// The tables that are made, in the order of the names of their schemas and their own.
+    pub fn all(&self) -> &[DescribedTable] {
+        self.tables.all()
     }
 
     /// The name of a table in SQLite.
@@ -141,53 +121,20 @@ impl Tables {
     }
 }
 
-/// What a table is looked up by.
-fn key_of(alloc: Global, schema: &[u8], table: &[u8]) -> Result<Vec<u8>, AllocError> {
-    let mut key = Vec::from_slice(alloc, schema)?;
-    key.extend_from_slice(&[BETWEEN])?;
-    key.extend_from_slice(table)?;
-    Ok(key)
-}
-
-/// The places of all tables of a description, or of those of a schema.
-fn places_of(
-    alloc: Global,
-    description: &Description,
+/// Why a table that is named is not among these, of one schema if that is given.
+fn missing(
+    tables: &DescribedTables,
+    of: &[u8],
+    table: &[u8],
     schema: Option<&[u8]>,
-) -> Result<Places, TablesFault> {
-    let mut places = BTreeMap::new(alloc);
-    for (place, table) in description.tables.iter().enumerate() {
-        if schema.is_some_and(|wanted| wanted != table.schema.as_bytes()) {
-            continue;
-        }
-        let key = key_of(alloc, table.schema.as_bytes(), table.name.as_bytes())?;
-        places.insert(key, place)?;
+) -> Option<TableFault> {
+    if schema.is_some_and(|wanted| wanted != of) {
+        return Some(TableFault::Elsewhere);
     }
-    Ok(places)
-}
-
-/// The places of those tables that are named.
-fn chosen(
-    alloc: Global,
-    all: &Places,
-    only: &Follow,
-    schema: Option<&[u8]>,
-) -> Result<Places, TablesFault> {
-    let mut places = BTreeMap::new(alloc);
-    for (of, table) in only.names() {
-        let key = key_of(alloc, of, table)?;
-        let Some(place) = all.get(key.as_slice()) else {
-            let is_elsewhere = schema.is_some_and(|wanted| wanted != of.as_slice());
-            let fault = if is_elsewhere {
-                TableFault::Elsewhere
-            } else {
-                TableFault::Missing
-            };
-            return Err(fault_of(alloc, of, table, fault));
-        };
-        places.insert(key, *place)?;
+    match tables.find(of, table) {
+        Some(_) => None,
+        None => Some(TableFault::Missing),
     }
-    Ok(places)
 }
 
 /// The fault of a table.
@@ -207,24 +154,16 @@ fn named(alloc: Global, schema: &[u8], table: &[u8]) -> Result<TableName, AllocE
 }
 
 /// Refuses tables that SQLite does not take, alone or beside each other.
-fn judge_all(
-    alloc: Global,
-    description: &Description,
-    places: &Places,
-    is_bare: bool,
-) -> Result<(), TablesFault> {
+fn judge_all(alloc: Global, tables: &[DescribedTable], is_bare: bool) -> Result<(), TablesFault> {
     let mut seen = BTreeMap::new(alloc);
-    for place in places.values() {
-        let Some(table) = description.tables.get(*place) else {
-            continue;
-        };
+    for (place, table) in tables.iter().enumerate() {
         let (schema, name) = (table.schema.as_bytes(), table.name.as_bytes());
         let in_sqlite = lowered(alloc, name_in(alloc, table, is_bare)?.as_str())?;
         if let Some(fault) = fault_in(alloc, table, in_sqlite.as_slice())? {
             return Err(fault_of(alloc, schema, name, fault));
         }
-        let before: Option<usize> = seen.insert(in_sqlite, *place)?;
-        if let Some(other) = before.and_then(|at| description.tables.get(at)) {
+        let before: Option<usize> = seen.insert(in_sqlite, place)?;
+        if let Some(other) = before.and_then(|at| tables.get(at)) {
             let first = named(alloc, other.schema.as_bytes(), other.name.as_bytes())?;
             return Err(TablesFault::Same(first, named(alloc, schema, name)?));
         }

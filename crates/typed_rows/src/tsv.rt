@@ -8,13 +8,20 @@ use std::io::Write;
 /// The digits by their value.
 const DIGITS: [u8; 16] = *b"0123456789ABCDEF";
 
+/// How many bytes have their digits written at once.
+const AT_ONCE: usize = 32;
+
 /// Writes bytes in hexadecimal digits, as the client does.
 pub fn write_digits<W: Write>(bytes: &[u8], out: &mut W) -> io::Result<()> {
-    for byte in bytes {
-        out.write_all(&[
-            DIGITS[usize::from(*byte / 16)],
-            DIGITS[usize::from(*byte % 16)],
-        ])?;
+    let mut digits = [0; 2 * AT_ONCE];
+    for part in bytes.chunks(AT_ONCE) {
+        for (pair, byte) in digits.chunks_mut(2).zip(part.iter()) {
+            if let [high, low] = pair {
+                *high = DIGITS[usize::from(*byte / 16)];
+                *low = DIGITS[usize::from(*byte % 16)];
+            }
+        }
+        out.write_all(digits.get(..part.len().saturating_mul(2)).unwrap_or(&[]))?;
     }
     Ok(())
 }

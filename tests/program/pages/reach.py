@@ -15,14 +15,14 @@ import sys
 root = os.path.abspath(sys.argv[1])
 # The functions that have a `HostRuntime`, and what each gives it to.
 FUNCTIONS = {
-    'crates/replica/src/file.rt': {'open_file': ['open_files']},
+    'crates/replica/src/file.rt': {'open_file': ['RandomState::new', 'open_pair', 'connect_to']},
     'crates/replica/src/file_connection.rt': {
-        'open_pair': ['sqlite_std_file::open'],
         # It reads how long the file is and the size of its pages.
         'sizes': ['fs::open'],
-        'options': ['RandomState::new', 'sizes'],
-        'open_files': ['open_pair', 'options'],
+        'options': ['sizes'],
+        'connect_to': ['options'],
     },
+    'crates/replica/src/file_pair.rt': {'open_pair': ['sqlite_std_file::open']},
     'crates/replica/src/followed_file.rt': {'follow_file': ['open_file']},
     'crates/replica/src/replaying.rt': {'replay': ['open_file']},
 }

@@ -57,7 +57,7 @@ impl IntegerWidth {
     }
 
     /// The least number that is too great for the signed type: the value of its sign bit.
-    fn half(self) -> u64
+    pub(crate) fn half(self) -> u64
         ensures { result ≡ spec.half self }
     {
         match self {

@@ -1,8 +1,9 @@
 //! FLOAT and DOUBLE.
 
-ghost use Rattle.std.specs.Prelude.{◌≡◌, ◌+◌, ◌-◌, ◌^◌, ◌<◌, ◌≤◌, Some, IsTrue};
+ghost use Rattle.std.specs.Prelude.{◌≡◌, ℕ, ◌+◌, ◌-◌, ◌%◌, ◌^◌, ◌<◌, ◌≤◌, Some, IsTrue};
 ghost use Rattle.std.specs.Float.{float_is_finite};
 ghost use Rattle.columns.specs.Tens.{tens_size};
+ghost use Rattle.columns.specs.declared.value.tens.Tens.TheVariants.{Down};
 ghost use Rattle.columns.specs.Reals as spec;
 ghost use Rattle.columns.specs.Reals.{point_text, exponent_text, scientific_text, plain_text, shortest_text, fixed_text, near_text, minus_part};
 
@@ -16,6 +17,7 @@ impl Scientific {
     /// The fewest digits that read back as the same DOUBLE, without zeros at the end.
     pub fn of_double(value: f64) -> Scientific
         requires { IsTrue (float_is_finite value) }
+        ensures trimmed { result.number % 10 ≡ 0 → result.number ≡ 0 }
     {
         let mut buffer = Buffer::new();
         of_text(buffer.format_finite(value).as_bytes())
@@ -25,6 +27,7 @@ impl Scientific {
     /// column without (M,D). The seventh of the fewest digits is never a last 5 that stands for more or less than a half.
     pub fn six_digits(value: f64) -> Scientific
         requires { IsTrue (float_is_finite value) }
+        ensures trimmed { result.number % 10 ≡ 0 → result.number ≡ 0 }
     {
         let mut buffer = Buffer::new();
         of_text(buffer.format_finite(value).as_bytes())
@@ -36,9 +39,9 @@ impl Scientific {
 /// The text of a FLOAT or a DOUBLE in a column without (M,D).
 #[derive(Clone, Copy, Debug, PartialEq, Eq)]
 pub struct PlainReal {
-    /// The digits, without zeros at the end, as [`Scientific::of_double`] and [`Scientific::six_digits`] leave them. Zeros
-    /// that stand there are written, and counted where it is decided whether there is an exponent.
+    /// The digits, without zeros at the end, as [`Scientific::of_double`] and [`Scientific::six_digits`] leave them.
     pub real: Scientific,
+    pub ghost trimmed: { real.number % 10 ≡ 0 → real.number ≡ 0 },
 }
 
 /// Writes the number with a point where it belongs, or with an exponent if more than 15 digits and zeros would stand in
@@ -80,11 +83,11 @@ impl fmt::Display for ShortestReal {
 /// The text of a FLOAT or a DOUBLE in a column with (M,D).
 #[derive(Clone, Copy, Debug, PartialEq, Eq)]
 pub struct FixedReal {
-    /// The digits, rounded so that no more of them stand after the point, as [`Scientific::rounded`] does. If more do, all
-    /// of them are written.
+    /// The digits, rounded so that no more of them stand after the point, as [`Scientific::rounded`] does.
     pub real: Scientific,
     /// How many digits stand after the point.
     pub decimals: u8,
+    pub ghost within: { (behind : ℕ) → real.tens ≡ Down behind → behind ≤ decimals },
 }
 
 /// Writes the number with so many digits after the point, with zeros at its end. The only error is the writer's.
@@ -244,7 +247,8 @@ pub(crate) fn is_far(count: u8, tens: PowerOfTen) -> bool
 
 /// The number of a text of at most 17 digits, perhaps with a point and an exponent, without zeros at its end.
 fn of_text(text: &[u8]) -> Scientific
-    ensures { tens_size result.tens ≤ 1200 }
+    ensures near { tens_size result.tens ≤ 1200 }
+    ensures trimmed { result.number % 10 ≡ 0 → result.number ≡ 0 }
 {
     let negative = matches!(text, [b'-', ..]);
     let mut number = 0;

@@ -67,6 +67,7 @@ impl Scientific {
     /// The number with at most so many digits after the point: the nearest one, and of two the even one.
     pub fn rounded(self, decimals: u8) -> Scientific
         ensures negative { result.negative ≡ self.negative }
+        ensures within { (tens : ℕ) → result.tens ≡ Down tens → tens ≤ decimals }
         ensures whole { (tens : ℕ) → self.tens ≡ Up tens → result ≡ self }
         ensures kept { (tens : ℕ) → self.tens ≡ Down tens → tens ≤ decimals → result ≡ self }
         ensures rounded { (tens : ℕ) → self.tens ≡ Down tens → decimals < tens → IsRounded self.number (10 ^ (tens - decimals)) result.number }

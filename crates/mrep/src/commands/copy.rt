@@ -13,7 +13,6 @@ use crate::database::open::{lock, test};
 use crate::report::failure::{DONE, Failure, over_file};
 use clap::ArgMatches;
 use files::{Names, Part, is_there, keep_one_name, lock_alone, make_part};
-use formats::Chosen;
 
 const TOO_FAST: &str = "no whole copy could be made, since its WAL file was begun anew each time";
 
@@ -48,12 +47,13 @@ pub fn copy<'a>(rt: &HostRuntime, given: &ArgMatches<'a>) -> Result<u8, Failure<
     Ok(DONE)
 }
 
-/// Makes a file as [`copy`] does: a copy of the database, or tables with its rows, of which it returns those that had some.
+/// Makes a file as [`copy`] does: a copy of the database, or tables with its rows. Returns what is to be reported of tables
+/// without rows.
 pub fn make_file<'a>(
     rt: &HostRuntime,
     target: Target<'a>,
     wanted: Option<Wanted>,
-) -> Result<Option<Chosen>, Failure<'a>> {
+) -> Result<Vec<u8>, Failure<'a>> {
     let Target { db, to, force } = target;
     let from = over_file(db, Names::of(rt, db))?;
     over_file(db, from.check(rt))?;
@@ -74,7 +74,7 @@ fn replace<'a>(
     target: Target<'a>,
     from: &Names,
     wanted: Option<Wanted>,
-) -> Result<Option<Chosen>, Failure<'a>> {
+) -> Result<Vec<u8>, Failure<'a>> {
     let name_lock = over_file(target.to, lock_alone(rt, target.to))?;
     let replaced = lock(rt, target.to)?;
     let made = make_beside(rt, target, from, true, wanted);
@@ -90,7 +90,7 @@ fn make_beside<'a>(
     from: &Names,
     replaces: bool,
     wanted: Option<Wanted>,
-) -> Result<Option<Chosen>, Failure<'a>> {
+) -> Result<Vec<u8>, Failure<'a>> {
     let Target { to, force, .. } = target;
     let part = over_file(to, make_part(rt, from, to))?;
     let made = match over_file(to, from.check_target(rt, to, force)) {
@@ -109,18 +109,18 @@ fn make<'a>(
     part: &Part,
     replaces: bool,
     wanted: Option<Wanted>,
-) -> Result<Option<Chosen>, Failure<'a>> {
+) -> Result<Vec<u8>, Failure<'a>> {
     let Target { db, to, .. } = target;
-    let seen = match wanted {
+    let notes = match wanted {
         Some(wanted) => fill_tables(rt, target, from, part, wanted)?,
         None => {
             fill(rt, target, from, part)?;
             test(rt, part.names.file.as_str(), to, db)?;
-            None
+            Vec::new(rt.alloc())
         }
     };
     over_file(to, part.put(rt, to, replaces))?;
-    Ok(seen)
+    Ok(notes)
 }
 
 /// Copies the files of a database.

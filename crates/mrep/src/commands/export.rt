@@ -12,17 +12,19 @@ use crate::database::exporter::Wanted;
 use crate::database::open::export_from;
 use crate::report::failure::{DONE, Failure, over_file};
 use clap::ArgMatches;
-use files::{FileFault, Names, Part, make_part};
+use files::{FileFault, Names, Part, lead_to_one, make_part};
 use formats::Chosen;
 use std::io;
 use std::io::Write;
 use typed_rows::Tables;
 
+const DESCRIPTION: &str = "it is the description of the columns";
+
 const ROWS_PART: &str =
     "the file with .rows.part after this name cannot be made: it is in use, no copy, or the database itself";
 
-/// Makes a database with the rows of described tables, and reports of which that are named there was none. The file is made
-/// as that of a copy.
+/// Makes a database with the rows of described tables, and reports of which that are named there was none, and which the
+/// filter leaves out. The file is made as that of a copy.
 pub fn export<'a, E: Write>(
     rt: &HostRuntime,
     given: &ArgMatches<'a>,
@@ -31,22 +33,31 @@ pub fn export<'a, E: Write>(
     ensures { IfOk result (λ status. status ≡ DONE) }
 {
     let target = Target::of(given);
-    let wanted = wanted(rt, given)?;
-    if let Some(chosen) = make_file(rt, target, Some(wanted))? {
-        let _ = chosen.note_missing(target.db, err);
+    let name = word(given, "columns");
+    if lead_to_one(rt, target.to, name) {
+        return Err(Failure::Unusable {
+            name: target.to,
+            why: DESCRIPTION,
+        });
     }
+    let wanted = wanted(rt, given, name)?;
+    let notes = make_file(rt, target, Some(wanted))?;
+    let _ = err.write_all(&notes);
     Ok(DONE)
 }
 
-/// Which tables the arguments ask for.
-fn wanted<'a>(rt: &HostRuntime, given: &ArgMatches<'a>) -> Result<Wanted, Failure<'a>> {
+/// Which tables the arguments ask for, of the description in the file of this name.
+fn wanted<'a>(
+    rt: &HostRuntime,
+    given: &ArgMatches<'a>,
+    name: &'a str,
+) -> Result<Wanted, Failure<'a>> {
     let alloc = rt.alloc();
     let only = tables(alloc, given.get_strs("only").unwrap_or(&[]))?;
     let bare = match given.get_str("schema") {
         Some(word) => Some(schema(alloc, word)?),
         None => None,
     };
-    let name = word(given, "columns");
     let described = read_description(rt, name)?;
     match Tables::new(alloc, described, &only, bare.as_deref()) {
         Ok(tables) => Ok(Wanted {
@@ -57,15 +68,15 @@ fn wanted<'a>(rt: &HostRuntime, given: &ArgMatches<'a>) -> Result<Wanted, Failur
     }
 }
 
-/// Makes the tables of a file that is made, out of a copy of the database, which is removed. Returns which that are named had
-/// rows.
+/// Makes the tables of a file that is made, out of a copy of the database, which is removed. Returns what is to be reported of
+/// tables without rows.
 pub fn fill_tables<'a>(
     rt: &HostRuntime,
     target: Target<'a>,
     from: &Names,
     part: &Part,
     wanted: Wanted,
-) -> Result<Option<Chosen>, Failure<'a>> {
+) -> Result<Vec<u8>, Failure<'a>> {
     let to = target.to;
     let rows = format!(in rt.alloc(); "{to}.rows")?;
     let source = match make_part(rt, from, rows.as_str()) {
@@ -82,7 +93,7 @@ pub fn fill_tables<'a>(
     done
 }
 
-/// Copies a database, and makes the tables out of the copy.
+/// Copies a database, and makes the tables out of the copy. The file has no WAL file, and the mode of the database.
 fn fill_from<'a>(
     rt: &HostRuntime,
     target: Target<'a>,
@@ -90,19 +101,20 @@ fn fill_from<'a>(
     part: &Part,
     source: &Part,
     wanted: Wanted,
-) -> Result<Option<Chosen>, Failure<'a>> {
+) -> Result<Vec<u8>, Failure<'a>> {
     fill(rt, target, from, source)?;
     let Target { db, to, .. } = target;
     let (copy, made) = (source.names.file.as_str(), part.names.file.as_str());
-    let chosen = export_from(rt, copy, made, to, db, wanted)?;
-    match take_mode(part, source) {
-        Ok(()) => Ok(chosen),
+    let notes = export_from(rt, copy, made, to, db, wanted)?;
+    match finish(part, source) {
+        Ok(()) => Ok(notes),
         Err(cause) => Err(Failure::File { name: to, cause }),
     }
 }
 
-/// Gives a file the mode of another.
-fn take_mode(part: &Part, other: &Part) -> io::Result<()> {
+/// Makes a database one that is only read: without WAL mode, and with the file mode of another.
+fn finish(part: &Part, other: &Part) -> io::Result<()> {
+    part.leave_wal_mode()?;
     part.file
         .set_permissions(other.file.metadata()?.permissions())
 }

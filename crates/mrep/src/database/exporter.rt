@@ -4,11 +4,14 @@ ghost use Rattle.std.specs.Prelude.{◌≡◌, false};
 
 use crate::database::open::FileOf;
 use crate::report::failure::Failure;
-use formats::Chosen;
+use formats::{Chosen, Shown, write_table};
+use gtid::GtidSet;
 use sqlite::{Alter, Connection, Error, ErrorCode};
 use std::alloc::Global;
+use std::io;
+use std::io::Write;
 use store::{ListError, Listed, Store, StoreFault, Visitor};
-use typed_rows::{TableError, TableRows, Tables};
+use typed_rows::{Collected, TableError, TableRows, Tables};
 
 /// Which tables are made.
 #[derive(Drop)]
@@ -28,13 +31,15 @@ pub struct Export<'a> {
     pub conn: Connection<FileOf>,
 }
 
-/// Makes tables, adds the rows to them, and closes their database. Returns of which tables that are named there were rows.
-pub fn export_rows<'a, S: Alter>(
+/// Makes tables, adds the rows to them, and closes their database. Prints which tables the filter leaves out, and of which that
+/// are named there was no row.
+pub fn export_rows<'a, S: Alter, W: Write>(
     alloc: Global,
     name: &'a str,
     store: &mut Store<S>,
     export: Export<'a>,
-) -> Result<Chosen, Failure<'a>> {
+    out: &mut W,
+) -> Result<(), Failure<'a>> {
     let Export {
         to,
         wanted,
@@ -43,11 +48,37 @@ pub fn export_rows<'a, S: Alter>(
     if !conn.is_autocommit() {
         return Err(of_sqlite(to, Error::SqliteFailure(ErrorCode::TransactionState)));
     }
+    note_emptiness(alloc, name, store, &wanted.tables, out)?;
     let chosen = add_rows(alloc, [name, to], store, &mut conn, wanted)?;
     match conn.close() {
-        Ok(()) => Ok(chosen),
+        Ok(()) => {
+            chosen.note_missing(name, out)?;
+            Ok(())
+        }
         Err(cause) => Err(of_sqlite(to, cause)),
     }
+}
+
+/// Reports that a database has no transaction, or of which tables that are made it keeps no rows.
+fn note_emptiness<S: Alter, W: Write>(
+    alloc: Global,
+    name: &str,
+    store: &Store<S>,
+    tables: &Tables,
+    out: &mut W,
+) -> io::Result<()> {
+    if store.executed().is_subset(&GtidSet::new(alloc)) {
+        return writeln!(out, "mrep: {}: it has no transaction", Shown(name));
+    }
+    for table in tables.all() {
+        let (schema, of) = (table.schema.as_bytes(), table.name.as_bytes());
+        if !store.following().follows(schema, of) {
+            write!(out, "mrep: {}: it does not keep the rows of ", Shown(name))?;
+            write_table(schema, of, out)?;
+            out.write_all(b"\n")?;
+        }
+    }
+    Ok(())
 }
 
 /// Makes tables and adds the rows to them. The names are those of the database and of the file that is made.
@@ -66,8 +97,12 @@ fn add_rows<'a, S: Alter, T: Alter>(
         Ok(rows) => rows,
         Err(cause) => return Err(of_sqlite(to, cause)),
     };
-    let mut all = Exported { chosen, rows };
-    match store.list(&mut all) {
+    let mut all = Exported {
+        chosen,
+        collected: Collected::new(alloc),
+        rows,
+    };
+    match list_into(store, &mut all) {
         Ok(()) => {}
         Err(ListError::Store(cause)) => return Err(Failure::Database { name, cause }),
         Err(ListError::Visitor(TableError::Database(cause))) => return Err(of_sqlite(to, cause)),
@@ -75,7 +110,7 @@ fn add_rows<'a, S: Alter, T: Alter>(
             return Err(Failure::Misfit { name, misfit });
         }
     }
-    let Exported { chosen, rows } = all;
+    let Exported { chosen, rows, .. } = all;
     match rows.commit() {
         Ok(()) => Ok(chosen),
         Err(cause) => Err(of_sqlite(to, cause)),
@@ -86,7 +121,25 @@ fn add_rows<'a, S: Alter, T: Alter>(
 #[derive(Drop)]
 struct Exported<'d, 'c, T: Alter> {
     chosen: Chosen,
+    collected: Collected,
     rows: TableRows<'d, 'c, T>,
+}
+
+/// Adds the rows of a database to tables.
+fn list_into<S: Alter, T: Alter>(
+    store: &mut Store<S>,
+    all: &mut Exported<'_, '_, T>,
+) -> Result<(), ListError<TableError>> {
+    store.list(all)?;
+    let Exported {
+        collected,
+        rows,
+        ..
+    } = all;
+    match rows.add_collected(collected) {
+        Ok(()) => Ok(()),
+        Err(error) => Err(ListError::Visitor(error)),
+    }
 }
 
 impl<T: Alter> Visitor for Exported<'_, '_, T> {
@@ -98,8 +151,13 @@ impl<T: Alter> Visitor for Exported<'_, '_, T> {
         if !self.chosen.takes(row.schema, row.table) {
             return Ok(());
         }
-        self.rows
-            .write(row.schema, row.table, row.count, &row.image)
+        self.rows.write(
+            &mut self.collected,
+            row.schema,
+            row.table,
+            row.count,
+            &row.image,
+        )
     }
 }
 

@@ -1,12 +1,12 @@
 //! What a command does with the store in a database file, and what comes of it.
 
-ghost use Rattle.std.specs.Prelude.{◌≡◌, [], Bool, string_bytes, IfOk};
+ghost use Rattle.std.specs.Prelude.{◌≡◌, [], Bool, Ok, string_bytes, IfOk};
 ghost use Rattle.std.specs.FinSet as set;
 ghost use Rattle.sqlite.specs.State.{HasCleanDisk};
 ghost use Rattle.gtid.specs.Text.{AppendsText};
 ghost use Rattle.store.specs.State.{Content};
 ghost use Rattle.store.specs.Changes.{with_executed};
-ghost use Rattle.store.specs.Store.{Holds, HoldsAs, database};
+ghost use Rattle.store.specs.Store.{Applies, Holds, HoldsAs, database};
 
 use crate::database::exporter::{Export, export_rows};
 use crate::database::printer::{Selection, print_rows, print_tallies};
@@ -37,7 +37,7 @@ pub enum Job<'a> {
     Tables,
     /// Its rows are printed.
     Show(Selection),
-    /// Its rows are added to tables of another database.
+    /// Its rows are added to tables of another database, and what is to be reported of tables without rows is printed.
     Export(Export<'a>),
 }
 
@@ -50,7 +50,7 @@ pub enum Done {
     Set(String),
     /// Whether a transaction was new.
     Applied(Applied),
-    /// The rows are printed or added to tables, and of these tables some were there.
+    /// The rows are printed, and of these tables some were there.
     Shown(Chosen),
 }
 
@@ -76,7 +76,10 @@ impl<'a> Job<'a> {
             Job::Executed => set_of(executed_text(alloc, store)),
             Job::Missing(asked) => set_of(missing_text(alloc, asked, store)),
             Job::Adopt(asked) => set_of(adopt(alloc, name, store, &asked)),
-            Job::Skip(gtid) => skip(alloc, name, store, gtid),
+            Job::Skip(gtid) => match skip(alloc, name, store, gtid) {
+                Ok(applied) => Ok(Done::Applied(applied)),
+                Err(failure) => Err(failure),
+            },
             Job::Tables => match print_tallies(alloc, name, store, out) {
                 Ok(()) => Ok(Done::Nothing),
                 Err(failure) => Err(failure),
@@ -85,8 +88,8 @@ impl<'a> Job<'a> {
                 Ok(chosen) => Ok(Done::Shown(chosen)),
                 Err(failure) => Err(failure),
             },
-            Job::Export(export) => match export_rows(alloc, name, store, export) {
-                Ok(chosen) => Ok(Done::Shown(chosen)),
+            Job::Export(export) => match export_rows(alloc, name, store, export, out) {
+                Ok(()) => Ok(Done::Nothing),
                 Err(failure) => Err(failure),
             },
         }
@@ -102,14 +105,6 @@ fn set_of<'a>(text: Result<String, Failure<'a>>) -> Result<Done, Failure<'a>> {
 }
 
 impl Done {
-    /// The tables that were asked for, where rows are what has come of a job.
-    pub fn chosen(self) -> Option<Chosen> {
-        match self {
-            Done::Shown(chosen) => Some(chosen),
-            _ => None,
-        }
-    }
-
     /// Prints what has come of a job over the database in this file.
     pub fn print<W: Write, E: Write>(self, file: &str, out: &mut W, err: &mut E) -> io::Result<()> {
         match self {
@@ -176,13 +171,17 @@ fn skip<'a, S: Alter>(
     name: &'a str,
     store: &mut Store<S>,
     gtid: Gtid,
-) -> Result<Done, Failure<'a>> {
+) -> Result<Applied, Failure<'a>>
+    ensures skips { HasCleanDisk (database S.Store store.new) → (content : Content) → Holds S.Store store.old content
+        → IfOk result (λ applied. Applies S.Store content
+        (record { source = gtid.source; number = gtid.number; changes = [] }) store.old store.new (Ok applied)) }
+{
     let delivery = Delivery {
         gtid,
         changes: Changes::new(alloc),
     };
     match store.apply(&delivery) {
-        Ok(applied) => Ok(Done::Applied(applied)),
+        Ok(applied) => Ok(applied),
         Err(cause) => Err(Failure::Database { name, cause }),
     }
 }

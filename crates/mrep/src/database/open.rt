@@ -7,7 +7,6 @@ use crate::database::job::{Done, Job};
 use crate::report::failure::{Failure, of_file, over_file};
 use binlog::Follow;
 use files::{LOCKED, Opening, is_file, missing_wal, opening_fault, reading_fault, remove_unused};
-use formats::Chosen;
 use replica::{
     Capture, Config, Duplex, FollowedFile, Observer, Replayed, Unopened, close_file, follow_file,
     open_file,
@@ -77,7 +76,7 @@ pub fn test<'a>(rt: &HostRuntime, copy: &str, to: &'a str, db: &'a str) -> Resul
 }
 
 /// Makes tables of a new database in an empty file, with the rows of a copy of a database, and closes both: `copy` and `part` are
-/// the paths. Returns of which tables that are named there were rows.
+/// the paths. Returns what is to be reported of tables without rows.
 pub fn export_from<'a>(
     rt: &HostRuntime,
     copy: &str,
@@ -85,7 +84,7 @@ pub fn export_from<'a>(
     to: &'a str,
     db: &'a str,
     wanted: Wanted,
-) -> Result<Option<Chosen>, Failure<'a>> {
+) -> Result<Vec<u8>, Failure<'a>> {
     let conn = match Connection::open(rt, part) {
         Ok(conn) => conn,
         Err(cause) => return Err(of_sqlite(to, cause)),
@@ -96,8 +95,9 @@ pub fn export_from<'a>(
         content: db,
     };
     let job = Job::Export(Export { to, wanted, conn });
-    let done = work_in(rt, place, None, job, &mut Vec::new(rt.alloc()))?;
-    Ok(done.chosen())
+    let mut notes = Vec::new(rt.alloc());
+    work_in(rt, place, None, job, &mut notes)?;
+    Ok(notes)
 }
 
 /// Opens the database at a place, whose WAL file is the one given if that was missing before, does a job with its store, and
@@ -197,11 +197,12 @@ enum Cause {
 /// Closes what is left of an opening that failed, and returns its cause.
 fn leave(rt: &HostRuntime, wal: Option<String>, unopened: Unopened<File>) -> Cause {
     match unopened {
-        Unopened::Memory => Cause::Fault(StoreFault::Memory),
-        Unopened::Files(cause, left) => {
-            if left.is_some() {
-                remove_unused(rt, wal);
-            }
+        Unopened::NotOpened(why) => Cause::Fault(match why.cause {
+            Error::SqliteFailure(ErrorCode::OutOfMemory) => StoreFault::Memory,
+            cause => StoreFault::Database(cause),
+        }),
+        Unopened::Files(cause, _left) => {
+            remove_unused(rt, wal);
             Cause::Fault(StoreFault::Database(cause))
         }
         Unopened::Database(fault, conn) => leave_database(rt, wal, fault, conn),

@@ -246,11 +246,7 @@ fn write_misfit<E: Write>(name: &str, misfit: &Misfit, err: &mut E) -> io::Resul
     if let Some((column, kind)) = &misfit.column {
         write!(err, ", column {} {}", Shown(column), Shown(kind))?;
     }
-    writeln!(
-        err,
-        ": {}: fetch the description of the columns again",
-        misfit.fault
-    )
+    writeln!(err, ": {}: {}", misfit.fault, misfit.fault.advice())
 }
 
 /// Writes the message of a description of which no tables are made.

@@ -49,11 +49,11 @@ pub fn write_end<W: Write>(number: usize, end: &Ended, out: &mut W) -> io::Resul
 }
 
 /// Writes the cause to standard error if the line of an end leaves it out: the stream or the database file, and the
-/// cause. What stops a command before a transaction is its change feed.
+/// cause. What stops a command before a transaction is its change feed, of this name; without one, a row that does not fit.
 pub fn write_cause<W: Write>(
     stream: &str,
     file: &str,
-    changes: &str,
+    changes: Option<&str>,
     reason: &Reason,
     out: &mut W,
 ) -> io::Result<()> {
@@ -80,18 +80,14 @@ fn write_refusal<W: Write>(stream: Shown<'_>, refusal: Refusal, out: &mut W) -> 
     writeln!(out, "mrep: {stream}: change {at}: {why}")
 }
 
-/// Writes what stopped the command before a transaction.
-fn write_halted<W: Write>(stream: Shown<'_>, changes: &str, out: &mut W) -> io::Result<()> {
-    let feed = if changes == OUTPUT {
-        "standard output"
-    } else {
-        changes
-    };
-    writeln!(
-        out,
-        "mrep: {stream}: stopped before a transaction, since its changes could not be written to {}",
-        Shown(feed)
-    )
+/// Writes what stopped the command before a transaction: its change feed, or a row that does not fit.
+fn write_halted<W: Write>(stream: Shown<'_>, changes: Option<&str>, out: &mut W) -> io::Result<()> {
+    write!(out, "mrep: {stream}: stopped before a transaction, since ")?;
+    match changes {
+        Some(OUTPUT) => out.write_all(b"its changes could not be written to standard output\n"),
+        Some(feed) => writeln!(out, "its changes could not be written to {}", Shown(feed)),
+        None => out.write_all(b"a row of it does not fit the description of its columns\n"),
+    }
 }
 
 /// Writes the message of a source.

@@ -42,8 +42,7 @@ fn first_status(ends: &[Ended]) -> u8
 /// The connections whose status counts: not the last one where it was stopped for a row that does not fit, whose failure has
 /// a status of its own.
 pub fn counted<'e>(ends: &'e [Ended], done: &Result<(), Failure<'_>>) -> &'e [Ended]
-    ensures counted { IsCounted ends.now result.now }
-    ensures all { IsOk done.now → result.now ≡ ends.now }
+    ensures counted { IsCounted ends.now done.now result.now }
 {
     match (ends, done) {
         ([before @ .., last], Err(Failure::Misfit { .. }))

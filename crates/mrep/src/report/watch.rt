@@ -199,7 +199,11 @@ impl<'a, O: Write, E: Write> Watch<'a, O, E> {
     fn explain(&mut self, stream: &str, reason: &Reason)
         ensures { self.new.stop ≡ self.old.stop }
     {
-        let Source { db, changes, .. } = self.source;
+        let db = self.source.db;
+        let changes = match self.stop {
+            Some(Stop::Misfit(_)) => None,
+            _ => Some(self.source.changes),
+        };
         let _ = write_cause(stream, db, changes, reason, self.err);
         let _ = write_advice(stream, reason, self.err);
         if let Some(can_skip) = can_skip(reason, self.source.port != 0) {

@@ -1,4 +1,4 @@
-use Rattle.std.proofs.Common.{rules, ◌≡◌, ◌++◌, ◌∷◌, [], ◌+◌, List, slice_get, take, length, refl, sym, ap, ◌∙◌, subst, subst₂, All}
+use Rattle.std.proofs.Common.{rules, ◌≡◌, ◌++◌, ◌∷◌, [], ◌+◌, List, slice_get, take, length, append-nil, refl, sym, ap, ◌∙◌, subst, subst₂, All}
 use Rattle.std.proofs.lemmas.Bool.{not-false, not-true}
 use Rattle.std.proofs.lemmas.List.{take_more, length_push}
 use Rattle.std.proofs.Math.Seq.{take-length}
@@ -6,12 +6,15 @@ use Rattle.std.proofs.lemmas.Option.{slice_get_read}
 use Rattle.std.proofs.lemmas.Iterator.Consumers.{YieldsList-turn, YieldsList-end}
 use Rattle.std.proofs.lemmas.Iterator.Adapters.{YieldsList-from_vec}
 use Rattle.sqlite.specs.Held.{state}
+use Rattle.store.specs.Store.{HoldsAs}
 use Rattle.replica.specs.declared.captures.Capture.{Capture}
 use Rattle.replica.specs.declared.end.Ended.{Ended}
 use Rattle.replica.specs.Over.{HasReadAll}
 use Rattle.replica.specs.Capture.{AreRead, AreReadUpTo}
 use Rattle.replica.specs.Conn.{MayEnd}
-use Rattle.replica.proofs.Observed.{ends_later, more_ends, none_yet, one_at_most}
+use Rattle.replica.proofs.Observed.{ends_later, more_ends, none_yet, one_at_most, still}
+use Rattle.replica.specs.Noted.{IsLedTo}
+use Rattle.replica.proofs.Noted.{led_from, led_through, led_to_end}
 use Rattle.replica.proofs.Captured.{no_captures, captures_more, breaks_off}
 use Rattle.replica.proofs.captures.read_captures.Goals as goal
 
@@ -20,12 +23,16 @@ loop-capture-init g c = record {
   piece = search rules;
   may = subst (λ (l : List Ended). All (λ (e : Ended). MayEnd e.reason (g.W.Observer.has_stopped c.opened.new.self)) l) (sym c.requires.none) (search rules);
   heeds = λ some. absurd (some c.requires.none);
-  stays = c.opened.ensures;
+  stays = c.opened.ensures.stays;
   count = search rules;
   room = search rules;
   clean = λ h. h;
   following = refl;
   broken = λ h. refl;
+  keeps = λ is now holds on. refl;
+  notes = λ clean was old holds.
+      subst (λ (l : List Ended). IsLedTo g.S.Store c.args.store.now c.args.store.now was old (g.W.Observer.noted c.args.observer.now, g.W.Observer.has_stopped c.args.observer.now) (g.W.Observer.noted c.opened.new.self, g.W.Observer.has_stopped c.opened.new.self) l) (sym c.requires.none)
+      (led_from g.S.Store was old c.args.store.now c.executed.result.now (g.W.Observer.noted c.args.observer.now, g.W.Observer.has_stopped c.args.observer.now) (g.W.Observer.noted c.opened.new.self, g.W.Observer.has_stopped c.opened.new.self) holds (c.executed.ensures.value was old holds) c.opened.ensures.noted c.opened.ensures.stays);
   taken = λ h was old holds.
       subst (λ (l : List Ended). AreRead g.R.Read.remaining (HasReadAll g.S.Store c.args.config.now.limit c.args.store.now (state g.S.Store c.args.store.now.conn).now.schema was old) [] l) (search rules)
       (no_captures g.S.Store g.R.Read.remaining (λ h db is_open may. g.met.S.Store.settled h.store db is_open may) c.args.config.now.limit c.args.store.now was old holds);
@@ -79,6 +86,15 @@ loop-capture-preserved g c =
       clean = λ h. inv.clean (c.read_capture.ensures.clean h);
       following = c.read_capture.ensures.following ∙ inv.following;
       broken = search rules;
+      keeps = λ is now holds on. still (HoldsAs g.S.Store is now) c.args.store.now c.loop-capture.store c.read_capture.new.store (inv.keeps is now holds on) holds (λ h. c.read_capture.ensures.heeds is now h (inv.stays on));
+      notes = λ clean was old holds.
+          subst (λ (l : List Ended). IsLedTo g.S.Store c.args.store.now c.read_capture.new.store was old (g.W.Observer.noted c.args.observer.now, g.W.Observer.has_stopped c.args.observer.now) (g.W.Observer.noted c.ended-goes_on.new.self, g.W.Observer.has_stopped c.ended-goes_on.new.self) l) (sym c.push_reserved.ensures.items)
+          (led_through g.S.Store was old c.args.store.now c.loop-capture.store c.read_capture.new.store (g.W.Observer.noted c.args.observer.now, g.W.Observer.has_stopped c.args.observer.now) (g.W.Observer.noted c.loop-capture.observer, g.W.Observer.has_stopped c.loop-capture.observer) (g.W.Observer.noted c.ended-goes_on.new.self, g.W.Observer.has_stopped c.ended-goes_on.new.self) c.loop-capture.ends.items (c.in-Ok.end ∷ []) inv.following inv.heeds
+          (inv.notes (c.read_capture.ensures.clean clean) was old holds)
+          (λ is now held.
+          led_through g.S.Store is now c.loop-capture.store c.read_capture.new.store c.read_capture.new.store (g.W.Observer.noted c.loop-capture.observer, g.W.Observer.has_stopped c.loop-capture.observer) (g.W.Observer.noted c.read_capture.new.observer, g.W.Observer.has_stopped c.read_capture.new.observer) (g.W.Observer.noted c.ended-goes_on.new.self, g.W.Observer.has_stopped c.ended-goes_on.new.self) [] (c.in-Ok.end ∷ []) c.read_capture.ensures.following (λ some. absurd (some refl))
+          (c.read_capture.ensures.notes clean is now held)
+          (λ after later kept. led_to_end g.S.Store after later c.read_capture.new.store c.in-Ok.end c.ended-goes_on.result (g.W.Observer.noted c.read_capture.new.observer, g.W.Observer.has_stopped c.read_capture.new.observer) (g.W.Observer.noted c.ended-goes_on.new.self, g.W.Observer.has_stopped c.ended-goes_on.new.self) kept c.ended-goes_on.ensures.noted c.ended-goes_on.ensures.goes_on c.ended-goes_on.ensures.stays)));
       taken = λ clean was old holds.
           let t = inv.taken (c.read_capture.ensures.clean clean) was old holds in
           subst₂ (λ (l : List (Capture g.row.R.Denot)) (es : List Ended). AreRead g.R.Read.remaining (HasReadAll g.S.Store c.args.config.now.limit c.read_capture.new.store (state g.S.Store c.args.store.now.conn).now.schema was old) l es) (sym more) (sym ends)
@@ -117,3 +133,35 @@ returns-then-not-goes_on-clause-no_more g c on =
 
 pub returns-clause-no_more : goal.returns-clause-no_more
 returns-clause-no_more g c on = none_yet c.loop-capture.ends.items (g.W.Observer.has_stopped c.loop-capture.observer) c.loop-capture.invariant.heeds (c.loop-capture.invariant.stays on)
+
+pub returns-in-Err-clause-keeps : goal.returns-in-Err-clause-keeps
+returns-in-Err-clause-keeps g c is now holds on =
+    still (HoldsAs g.S.Store is now) c.args.store.now c.loop-capture.store c.read_capture.new.store (c.loop-capture.invariant.keeps is now holds on) holds (λ h. c.read_capture.ensures.heeds is now h (c.loop-capture.invariant.stays on))
+
+pub returns-then-not-goes_on-clause-keeps : goal.returns-then-not-goes_on-clause-keeps
+returns-then-not-goes_on-clause-keeps g c is now holds on =
+    still (HoldsAs g.S.Store is now) c.args.store.now c.loop-capture.store c.read_capture.new.store (c.loop-capture.invariant.keeps is now holds on) holds (λ h. c.read_capture.ensures.heeds is now h (c.loop-capture.invariant.stays on))
+
+pub returns-clause-keeps : goal.returns-clause-keeps
+returns-clause-keeps g c = c.loop-capture.invariant.keeps
+
+pub returns-in-Err-clause-notes : goal.returns-in-Err-clause-notes
+returns-in-Err-clause-notes g c clean was old holds =
+    let inv = c.loop-capture.invariant in
+    subst (λ (l : List Ended). IsLedTo g.S.Store c.args.store.now c.read_capture.new.store was old (g.W.Observer.noted c.args.observer.now, g.W.Observer.has_stopped c.args.observer.now) (g.W.Observer.noted c.read_capture.new.observer, g.W.Observer.has_stopped c.read_capture.new.observer) l) (append-nil c.loop-capture.ends.items)
+    (led_through g.S.Store was old c.args.store.now c.loop-capture.store c.read_capture.new.store (g.W.Observer.noted c.args.observer.now, g.W.Observer.has_stopped c.args.observer.now) (g.W.Observer.noted c.loop-capture.observer, g.W.Observer.has_stopped c.loop-capture.observer) (g.W.Observer.noted c.read_capture.new.observer, g.W.Observer.has_stopped c.read_capture.new.observer) c.loop-capture.ends.items [] inv.following inv.heeds
+    (inv.notes (c.read_capture.ensures.clean clean) was old holds) (λ is now held. c.read_capture.ensures.notes clean is now held))
+
+pub returns-then-not-goes_on-clause-notes : goal.returns-then-not-goes_on-clause-notes
+returns-then-not-goes_on-clause-notes g c clean was old holds =
+    let inv = c.loop-capture.invariant in
+    subst (λ (l : List Ended). IsLedTo g.S.Store c.args.store.now c.read_capture.new.store was old (g.W.Observer.noted c.args.observer.now, g.W.Observer.has_stopped c.args.observer.now) (g.W.Observer.noted c.ended-goes_on.new.self, g.W.Observer.has_stopped c.ended-goes_on.new.self) l) (sym c.push_reserved.ensures.items)
+    (led_through g.S.Store was old c.args.store.now c.loop-capture.store c.read_capture.new.store (g.W.Observer.noted c.args.observer.now, g.W.Observer.has_stopped c.args.observer.now) (g.W.Observer.noted c.loop-capture.observer, g.W.Observer.has_stopped c.loop-capture.observer) (g.W.Observer.noted c.ended-goes_on.new.self, g.W.Observer.has_stopped c.ended-goes_on.new.self) c.loop-capture.ends.items (c.in-Ok.end ∷ []) inv.following inv.heeds
+    (inv.notes (c.read_capture.ensures.clean clean) was old holds)
+    (λ is now held.
+    led_through g.S.Store is now c.loop-capture.store c.read_capture.new.store c.read_capture.new.store (g.W.Observer.noted c.loop-capture.observer, g.W.Observer.has_stopped c.loop-capture.observer) (g.W.Observer.noted c.read_capture.new.observer, g.W.Observer.has_stopped c.read_capture.new.observer) (g.W.Observer.noted c.ended-goes_on.new.self, g.W.Observer.has_stopped c.ended-goes_on.new.self) [] (c.in-Ok.end ∷ []) c.read_capture.ensures.following (λ some. absurd (some refl))
+    (c.read_capture.ensures.notes clean is now held)
+    (λ after later kept. led_to_end g.S.Store after later c.read_capture.new.store c.in-Ok.end c.ended-goes_on.result (g.W.Observer.noted c.read_capture.new.observer, g.W.Observer.has_stopped c.read_capture.new.observer) (g.W.Observer.noted c.ended-goes_on.new.self, g.W.Observer.has_stopped c.ended-goes_on.new.self) kept c.ended-goes_on.ensures.noted c.ended-goes_on.ensures.goes_on c.ended-goes_on.ensures.stays)))
+
+pub returns-clause-notes : goal.returns-clause-notes
+returns-clause-notes g c = c.loop-capture.invariant.notes

@@ -1,7 +1,9 @@
-use Rattle.std.proofs.Common.{true, false}
+use Rattle.std.proofs.Common.{Bool, true, false, [], subst, sym, ◌∙◌}
 use Rattle.gather.specs.View.{delivery_value}
 use Rattle.store.specs.Store.{HoldsAs}
 use Rattle.replica.specs.Event.{TakesEvent}
+use Rattle.replica.specs.Noted.{HasBeenNoted, asked_about, Account, IsLedTo}
+use Rattle.replica.proofs.Noted.{Asks, led_to_stop, led_broken, led_whole}
 use Rattle.replica.proofs.Events.{halts, over_broken, over_whole, heeded}
 use Rattle.replica.proofs.dump.apply.Goals as goal
 
@@ -24,3 +26,31 @@ pub returns-clause-heeds : goal.returns-clause-heeds
 returns-clause-heeds g c is now holds on =
     heeded g.S.Store is now (delivery_value c.args.delivery.now) c.args.store.now c.apply.new.self c.is_halted.result (g.W.Observer.has_stopped c.is_halted.new.observer) holds (c.is_halted.ensures.heeds is now holds) (c.is_halted.ensures.stays on) c.if-is_halted.false
     (λ b. (c.apply.ensures.broken b).1) (λ content keeps it. (c.apply.ensures.known content keeps it).1)
+
+pub returns-then-is_halted-clause-notes : goal.returns-then-is_halted-clause-notes
+returns-then-is_halted-clause-notes g c clean was old holds =
+    let d = delivery_value c.args.delivery.now in
+    let t0 = g.W.Observer.noted c.args.observer.now in
+    let t1 = g.W.Observer.noted c.is_halted.new.observer in
+    led_to_stop g.S.Store was old c.args.store.now d (t0, g.W.Observer.has_stopped c.args.observer.now) (t1, g.W.Observer.has_stopped c.is_halted.new.observer) holds (c.is_halted.ensures.new was old holds c.if-is_halted.true)
+    (subst (λ (b : Bool). HasBeenNoted t0 t1 (asked_about old d b)) c.if-is_halted.true (c.is_halted.ensures.noted was old holds)) (c.is_halted.ensures.asked c.if-is_halted.true)
+
+pub returns-clause-notes : goal.returns-clause-notes
+returns-clause-notes g c clean was old holds =
+    let d = delivery_value c.args.delivery.now in
+    let store = c.args.store.now in
+    let new = c.apply.new.self in
+    let t0 : Account = (g.W.Observer.noted c.args.observer.now, g.W.Observer.has_stopped c.args.observer.now) in
+    let t1 : Account = (g.W.Observer.noted c.is_halted.new.observer, g.W.Observer.has_stopped c.is_halted.new.observer) in
+    let t2 : Account = (g.W.Observer.noted c.after_apply.new.self, g.W.Observer.has_stopped c.after_apply.new.self) in
+    let asks : Asks old d t0 t1 t2 c.outcome-outcome.result = record {
+      asked = subst (λ (halts : Bool). HasBeenNoted t0.0 t1.0 (asked_about old d halts)) c.if-is_halted.false (c.is_halted.ensures.noted was old holds);
+      noted = c.after_apply.ensures.noted;
+      goes_on = λ fresh. sym (c.is_halted.ensures.heeds was old holds fresh) ∙ c.if-is_halted.false;
+      stays = c.is_halted.ensures.stays;
+      stays_after = c.after_apply.ensures.stays;
+    } in
+    elim was as (λ b. HoldsAs g.S.Store b old store → IsLedTo g.S.Store store new b old t0 t2 []) [
+      | true ↦ λ holds. led_broken g.S.Store old store new d t0 t1 t2 c.apply.result c.outcome-outcome.result holds (c.apply.ensures.broken holds.broken) c.outcome-outcome.ensures.maps asks
+      | false ↦ λ holds. led_whole g.S.Store old store new d t0 t1 t2 c.apply.result c.outcome-outcome.result holds (c.apply.ensures.applies clean old holds) c.outcome-outcome.ensures.maps asks
+    ] holds

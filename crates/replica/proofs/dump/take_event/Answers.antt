@@ -1,6 +1,7 @@
-use Rattle.std.proofs.Common.{[], ◌∷◌, subst}
+use Rattle.std.proofs.Common.{[], ◌∷◌, ◌∙◌, subst}
 use Rattle.gather.specs.View.{delivery_value, delivered}
 use Rattle.replica.specs.PayloadStep.{GathersMore, EndsDump}
+use Rattle.replica.proofs.Noted.{led_nowhere, led_after}
 use Rattle.replica.proofs.Events.{ends_early, goes_on}
 use Rattle.replica.proofs.dump.take_event.Goals as goal
 
@@ -22,3 +23,14 @@ returns-in-Ok-None-clause-step g c clean is now es ds stands holds = goes_on g.S
 pub returns-in-Err-clause-step : goal.returns-in-Err-clause-step
 returns-in-Err-clause-step g c clean is now es ds stands holds = ends_early g.S.Store es ds c.args.payload.now is now c.args.store.now c.in-Err.reason holds
     (subst (λ f. EndsDump f es c.args.payload.now c.in-Err.reason) c.following.ensures (c.in-Err.ensures.err es ds stands))
+
+pub returns-in-Ok-Some-clause-notes : goal.returns-in-Ok-Some-clause-notes
+returns-in-Ok-Some-clause-notes g c clean was old holds =
+    led_after g.S.Store was old c.args.store.now c.apply.new.store (g.W.Observer.noted c.args.observer.now, g.W.Observer.has_stopped c.args.observer.now) (g.W.Observer.noted c.gather.new.observer, g.W.Observer.has_stopped c.gather.new.observer) (g.W.Observer.noted c.apply.new.observer, g.W.Observer.has_stopped c.apply.new.observer) [] c.gather.ensures.noted c.gather.ensures.stays (c.apply.ensures.notes clean was old holds)
+
+pub returns-in-Ok-None-clause-notes : goal.returns-in-Ok-None-clause-notes
+returns-in-Ok-None-clause-notes g c clean was old holds = led_nowhere g.S.Store was old c.args.store.now (g.W.Observer.noted c.args.observer.now, g.W.Observer.has_stopped c.args.observer.now) (g.W.Observer.noted c.gather.new.observer, g.W.Observer.has_stopped c.gather.new.observer) holds c.gather.ensures.noted c.gather.ensures.stays
+
+pub returns-in-Err-clause-notes : goal.returns-in-Err-clause-notes
+returns-in-Err-clause-notes g c clean was old holds =
+    led_nowhere g.S.Store was old c.args.store.now (g.W.Observer.noted c.args.observer.now, g.W.Observer.has_stopped c.args.observer.now) (g.W.Observer.noted c.refused.new.self, g.W.Observer.has_stopped c.refused.new.self) holds (c.refused.ensures.noted ∙ c.gather.ensures.noted) (λ on. c.refused.ensures.stays (c.gather.ensures.stays on))

@@ -1,4 +1,4 @@
-use Rattle.std.proofs.Common.{Bool, if◌then◌else◌, length, arith, ◌≡◌, ◌≢◌, ◌++◌, true, Option, None, is_some, unwrap_or, sym, ap, ◌∙◌, subst, refl, rules}
+use Rattle.std.proofs.Common.{Bool, [], if◌then◌else◌, length, arith, ◌≡◌, ◌≢◌, ◌++◌, true, Option, None, is_some, unwrap_or, sym, ap, ◌∙◌, subst, refl, rules}
 use Rattle.replica.specs.Conn.{reported_as}
 use Rattle.std.proofs.KnownBytes.{Appends-kept, Keeps-trans}
 use Rattle.replica.specs.declared.end.Ended.{Ended}
@@ -13,6 +13,7 @@ use Rattle.replica.specs.Conn.{IsNoStreamFailure, MayEnd}
 use Rattle.replica.specs.Standing.{end_of}
 use Rattle.replica.specs.Follow.{Follows, reads_failed, failed_reads_of, failed_writes_of}
 use Rattle.replica.proofs.Observed.{asked, may_later, not_of_stream, still}
+use Rattle.replica.proofs.Noted.{led_nowhere, led_through}
 use Rattle.replica.proofs.Failed.{none_failed, failed_later, failed_none, counted_none}
 use Rattle.replica.proofs.Advance.{none_after}
 use Rattle.replica.proofs.Followed.{follows-memory, follows-sends_no_more, follows-write_failed, follows-ended, follows-read_failed, following-begins, following-sent, following-read, follows-same, some_after, ended_early, over-out, length_kept}
@@ -39,6 +40,7 @@ turns-init g c = record {
   may_end = rw c.new-session.ensures.ended tt;
   stays = λ h. h;
   heeds = λ is now holds on. refl;
+  notes = λ clean was old holds. led_nowhere g.S.Store was old c.args.store.now (g.W.Observer.noted c.args.observer.now, g.W.Observer.has_stopped c.args.observer.now) (g.W.Observer.noted c.args.observer.now, g.W.Observer.has_stopped c.args.observer.now) holds refl (λ on. on);
   may = rw c.new-session.ensures.ended tt;
   following = λ clean was old holds.
       following-begins g.S.Store (λ h db is_open may. g.met.S.Store.settled h.store db is_open may) c.new-session.result c.args.store.now was old (g.T.Read.remaining c.args.stream.now.stream) (g.T.Write.contents c.args.stream.now.stream) c.new-session.ensures.ended holds (c.new-session.ensures.stands c.args.store.now.following was old);
@@ -102,6 +104,9 @@ turns-preserved g c =
       may_end = not_of_stream (end_of c.read_piece.new.session).reason (g.W.Observer.has_stopped c.read_piece.new.observer) may;
       stays = λ h. c.read_piece.ensures.stays (inv.stays h);
       heeds = λ is now holds on. still (HoldsAs g.S.Store is now) c.args.store.now c.turns.store c.read_piece.new.store (inv.heeds is now holds on) holds (λ h. c.read_piece.ensures.heeds is now h (inv.stays on));
+      notes = λ clean was old holds.
+          led_through g.S.Store was old c.args.store.now c.turns.store c.read_piece.new.store (g.W.Observer.noted c.args.observer.now, g.W.Observer.has_stopped c.args.observer.now) (g.W.Observer.noted c.turns.observer, g.W.Observer.has_stopped c.turns.observer) (g.W.Observer.noted c.read_piece.new.observer, g.W.Observer.has_stopped c.read_piece.new.observer) [] [] inv.names (λ some. absurd (some refl))
+          (inv.notes (c.read_piece.ensures.clean clean) was old holds) (λ is now held. c.read_piece.ensures.notes clean is now held);
       may = may;
       following = λ clean was old holds.
           let f = inv.following (c.read_piece.ensures.clean clean) was old holds in
@@ -236,3 +241,27 @@ pub returns-in-Failed-clause-heeds : goal.returns-in-Failed-clause-heeds
 returns-in-Failed-clause-heeds g c is now holds on =
     let inv = c.turns.invariant in
     still (HoldsAs g.S.Store is now) c.args.store.now c.turns.store c.read_piece.new.store (inv.heeds is now holds on) holds (λ h. c.read_piece.ensures.heeds is now h (inv.stays on))
+
+pub returns-in_default-clause-notes : goal.returns-in_default-clause-notes
+returns-in_default-clause-notes g c clean was old holds = led_nowhere g.S.Store was old c.args.store.now (g.W.Observer.noted c.args.observer.now, g.W.Observer.has_stopped c.args.observer.now) (g.W.Observer.noted c.args.observer.now, g.W.Observer.has_stopped c.args.observer.now) holds refl (λ on. on)
+
+pub returns-then-sends_no_more-clause-notes : goal.returns-then-sends_no_more-clause-notes
+returns-then-sends_no_more-clause-notes g c = c.turns.invariant.notes
+
+pub returns-then-not-send_pending-clause-notes : goal.returns-then-not-send_pending-clause-notes
+returns-then-not-send_pending-clause-notes g c = c.turns.invariant.notes
+
+pub returns-then-is_some-clause-notes : goal.returns-then-is_some-clause-notes
+returns-then-is_some-clause-notes g c = c.turns.invariant.notes
+
+pub returns-in-AtEnd-clause-notes : goal.returns-in-AtEnd-clause-notes
+returns-in-AtEnd-clause-notes g c clean was old holds =
+    let inv = c.turns.invariant in
+    led_through g.S.Store was old c.args.store.now c.turns.store c.read_piece.new.store (g.W.Observer.noted c.args.observer.now, g.W.Observer.has_stopped c.args.observer.now) (g.W.Observer.noted c.turns.observer, g.W.Observer.has_stopped c.turns.observer) (g.W.Observer.noted c.read_piece.new.observer, g.W.Observer.has_stopped c.read_piece.new.observer) [] [] inv.names (λ some. absurd (some refl))
+    (inv.notes (c.read_piece.ensures.clean clean) was old holds) (λ is now held. c.read_piece.ensures.notes clean is now held)
+
+pub returns-in-Failed-clause-notes : goal.returns-in-Failed-clause-notes
+returns-in-Failed-clause-notes g c clean was old holds =
+    let inv = c.turns.invariant in
+    led_through g.S.Store was old c.args.store.now c.turns.store c.read_piece.new.store (g.W.Observer.noted c.args.observer.now, g.W.Observer.has_stopped c.args.observer.now) (g.W.Observer.noted c.turns.observer, g.W.Observer.has_stopped c.turns.observer) (g.W.Observer.noted c.read_piece.new.observer, g.W.Observer.has_stopped c.read_piece.new.observer) [] [] inv.names (λ some. absurd (some refl))
+    (inv.notes (c.read_piece.ensures.clean clean) was old holds) (λ is now held. c.read_piece.ensures.notes clean is now held)

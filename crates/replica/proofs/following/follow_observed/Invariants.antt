@@ -1,9 +1,10 @@
-use Rattle.std.proofs.Common.{◌≡◌, Bool, true, length}
+use Rattle.std.proofs.Common.{◌≡◌, Bool, [], true, length}
 use Rattle.sqlite.specs.State.{HasCleanDisk}
 use Rattle.store.specs.State.{Content}
 use Rattle.store.specs.Store.{HoldsAs, IsBroken, database, names_of}
 use Rattle.replica.specs.Conn.{IsNoStreamFailure, MayEnd}
 use Rattle.replica.specs.Standing.{end_of}
+use Rattle.replica.specs.Noted.{IsLedTo}
 use Rattle.replica.specs.Failing.{HaveFailed}
 use Rattle.replica.specs.Follow.{IsFollowing, turns_left}
 use Rattle.replica.proofs.following.follow_observed.Given as goal
@@ -21,6 +22,7 @@ invariant-turns g l = record {
   may_end : IsNoStreamFailure (end_of l.session).reason;
   stays : g.W.Observer.has_stopped l.fn.observer ≡ true → g.W.Observer.has_stopped l.observer ≡ true;
   heeds : (is : Bool) (now : Content) → HoldsAs g.S.Store is now l.fn.store → g.W.Observer.has_stopped l.fn.observer ≡ true → l.store ≡ l.fn.store;
+  notes : HasCleanDisk (database g.S.Store l.store) → (was : Bool) (old : Content) → HoldsAs g.S.Store was old l.fn.store → IsLedTo g.S.Store l.fn.store l.store was old (g.W.Observer.noted l.fn.observer, g.W.Observer.has_stopped l.fn.observer) (g.W.Observer.noted l.observer, g.W.Observer.has_stopped l.observer) [];
   may : MayEnd (end_of l.session).reason (g.W.Observer.has_stopped l.observer);
   following : HasCleanDisk (database g.S.Store l.store) → (was : Bool) (old : Content) → HoldsAs g.S.Store was old l.fn.store
       → IsFollowing g.S.Store l.session l.fn.store l.store was old

@@ -7,6 +7,7 @@ use Rattle.replica.specs.Standing.{HasEnded, end_of}
 use Rattle.replica.proofs.PayloadSteps.{rest_length, too_far, stands_ended, room_left}
 use Rattle.replica.proofs.Dumping.{over_same}
 use Rattle.replica.proofs.Observed.{own_may}
+use Rattle.replica.proofs.Noted.{led_nowhere}
 use Rattle.replica.proofs.session.Session.take.Goals as goal
 
 pub returns-in_default-clause-takes : goal.returns-in_default-clause-takes
@@ -34,9 +35,16 @@ returns-in-Login g c =
       config = c.take_message.ensures.config;
       may_end = own_may (end_of c.take_message.new.self).reason (g.W.Observer.has_stopped c.args.observer.now) c.take_message.ensures.may_end;
       stays = λ h. h;
+      notes = λ clean was old holds. led_nowhere g.S.Store was old c.args.store.now (g.W.Observer.noted c.args.observer.now, g.W.Observer.has_stopped c.args.observer.now) (g.W.Observer.noted c.args.observer.now, g.W.Observer.has_stopped c.args.observer.now) holds refl (λ on. on);
       heeds = λ is now holds on. refl;
       room = λ none. let f = c.take_message.ensures.further none in room_left s c.take_message.new.self c.in-Some.end n f.0 f.1 c.requires.between.0 ends (omega (arith, c.in-Some.ensures));
       takes = λ clean schema was old b o m.
           over_same g.S.Store (λ h db is_open may. g.met.S.Store.settled h.store db is_open may) s c.take_message.new.self c.args.store.now schema was old b o c.args.payload.now m
           (c.take_message.ensures.takes c.args.store.now.following was m.is old m.now b o (c.executed.ensures.value m.is m.now m.holds) ends m.meets);
     }
+
+pub returns-in_default-clause-notes : goal.returns-in_default-clause-notes
+returns-in_default-clause-notes g c clean was old holds = led_nowhere g.S.Store was old c.args.store.now (g.W.Observer.noted c.args.observer.now, g.W.Observer.has_stopped c.args.observer.now) (g.W.Observer.noted c.args.observer.now, g.W.Observer.has_stopped c.args.observer.now) holds refl (λ on. on)
+
+pub returns-in-Dump-clause-notes : goal.returns-in-Dump-clause-notes
+returns-in-Dump-clause-notes g c = c.take_dump.ensures.notes

@@ -27,3 +27,9 @@ returns-in-Err-clause-takes g c clean schema was old b o ends m =
     let t = c.in-Err.ensures.step clean m.is m.now m.meets.reading.events m.meets.reading.deliveries m.meets.gathers m.holds in
     dump_ends g.S.Store (λ h db is_open may. g.met.S.Store.settled h.store db is_open may) s c.args.store.now c.take_event.new.store schema was old b o c.args.payload.now m c.take_event.ensures.following
     c.end_after.new.self c.args.end (ap due_of c.requires.in_dump) ends (omega (arith, c.ranges.end.fits)) c.end_after.ensures.config (ap (λ v. v.items) c.end_after.ensures.out) c.in-Err.reason c.end_after.ensures.ended t
+
+pub returns-in-Ok-clause-notes : goal.returns-in-Ok-clause-notes
+returns-in-Ok-clause-notes g c = c.take_event.ensures.notes
+
+pub returns-in-Err-clause-notes : goal.returns-in-Err-clause-notes
+returns-in-Err-clause-notes g c = c.take_event.ensures.notes

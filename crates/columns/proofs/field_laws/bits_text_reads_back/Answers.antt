@@ -1,0 +1,9 @@
+use Rattle.std.proofs.Common.{subst, sym}
+use Rattle.columns.specs.Fields.{IsDigitsOf}
+use Rattle.columns.proofs.FieldDigits.{decimal_is}
+use Rattle.columns.proofs.field_laws.bits_text_reads_back.Goals as goal
+
+pub returns : goal.returns
+returns c =
+    let number = c.args.number in
+    c.read_bits_field.ensures.only number c.requires.small (subst (IsDigitsOf number) (sym c.requires.text) (decimal_is number c.ranges.number.fits))

@@ -1,0 +1,333 @@
+-- What is reported to an observer, along the calls that report it.
+use Rattle.std.proofs.Common.{◌≡◌, ◌≢◌, ◌⊎◌, ◌∷◌, ◌++◌, [], length, arith, List, Option, Some, None, Result, Ok, Err, Bool, true, false, refl, sym, ap, ap₂, subst, ◌∙◌, inl, inr, append_assoc, append-nil}
+use Rattle.std.specs.Prelude.{if◌then◌else◌, not}
+use Rattle.std.proofs.lemmas.Bool.{cases_Bool, false≢true}
+use Rattle.sqlite_trees.specs.declared.store.Store.{Ghosts}
+use Rattle.gtid.specs.Identifier.{Ids}
+use Rattle.binlog.specs.Filter.{Names}
+use Rattle.gather.specs.Transaction.{DeliveryValue}
+use Rattle.store.specs.State.{Content}
+use Rattle.store.specs.Changes.{HasOutcome, done, is_executed}
+use Rattle.store.specs.declared.fault.Applied.{Applied}
+use Rattle.store.specs.declared.fault.Applied.TheVariants as applied
+use Rattle.store.specs.declared.fault.StoreFault.{StoreFault}
+use Rattle.store.specs.declared.fault.StoreFault.TheVariants as fault
+use Rattle.store.specs.declared.store.Store.{Store}
+use Rattle.store.specs.Store.{Holds, HasFailed, HoldsAs, Applies}
+use Rattle.replica.specs.declared.end.Reason.{Reason}
+use Rattle.replica.specs.declared.end.Reason.TheVariants.{EndOfInput, SourceEof, SourceError, Wire, Greet, Event, Gather, Refused, Database, Memory, ReadFailed, WriteFailed, Halted}
+use Rattle.replica.specs.declared.end.Ended.{Ended}
+use Rattle.replica.specs.Conn.{AppliesAll}
+use Rattle.replica.specs.PayloadStep.{outcome_of}
+use Rattle.replica.proofs.Transactions.{all_one}
+use Rattle.replica.specs.Noted.{Notice, opened, before, stopped, after, ended, HasBeenNoted, asked_about, ends_in, has_stop, has_last, LetsNone, applied_in, IsMadeBy, LeadsBy, Account, IsNotedOf, IsLedTo}
+
+pub noted_none : (noted : Option (List Notice)) → HasBeenNoted noted noted []
+noted_none None = tt
+noted_none (Some l) = sym (append-nil l)
+
+pub noted_more : (first middle last : Option (List Notice)) (xs ys : List Notice) → HasBeenNoted first middle xs → HasBeenNoted middle last ys → HasBeenNoted first last (xs ++ ys)
+noted_more first middle None xs ys a b = tt
+noted_more first None (Some l) xs ys a b = absurd b
+noted_more None (Some m) (Some l) xs ys a b = absurd a
+noted_more (Some f) (Some m) (Some l) xs ys a b = b ∙ ap (λ (x : List Notice). x ++ ys) a ∙ append_assoc f xs ys
+
+pub none_more : (xs ys : List Notice) → LetsNone xs → LetsNone ys → LetsNone (xs ++ ys)
+none_more [] ys a b = b
+none_more (before d ∷ xs) ys a b = absurd a
+none_more (stopped d ∷ xs) ys a b = none_more xs ys a b
+none_more (after d answer ∷ xs) ys a b = none_more xs ys a b
+none_more (opened ids ∷ xs) ys a b = none_more xs ys a b
+none_more (ended end goes_on ∷ xs) ys a b = none_more xs ys a b
+
+pub stop_more : (xs ys : List Notice) → has_stop (xs ++ ys) ≡ true → (has_stop xs ≡ true) ⊎ (has_stop ys ≡ true)
+stop_more [] ys h = inr h
+stop_more (stopped d ∷ xs) ys h = inl refl
+stop_more (before d ∷ xs) ys h = stop_more xs ys h
+stop_more (after d answer ∷ xs) ys h = stop_more xs ys h
+stop_more (opened ids ∷ xs) ys h = stop_more xs ys h
+stop_more (ended end goes_on ∷ xs) ys h = stop_more xs ys h
+
+pub last_more : (xs ys : List Notice) → has_last (xs ++ ys) ≡ true → (has_last xs ≡ true) ⊎ (has_last ys ≡ true)
+last_more [] ys h = inr h
+last_more (ended end false ∷ xs) ys h = inl refl
+last_more (ended end true ∷ xs) ys h = last_more xs ys h
+last_more (stopped d ∷ xs) ys h = last_more xs ys h
+last_more (before d ∷ xs) ys h = last_more xs ys h
+last_more (after d answer ∷ xs) ys h = last_more xs ys h
+last_more (opened ids ∷ xs) ys h = last_more xs ys h
+
+-- without an end there is no last one
+no_last : (xs : List Notice) → ends_in xs ≡ [] → has_last xs ≡ false
+no_last [] h = refl
+no_last (ended end goes_on ∷ xs) h = absurd (cc)
+no_last (stopped d ∷ xs) h = no_last xs h
+no_last (before d ∷ xs) h = no_last xs h
+no_last (after d answer ∷ xs) h = no_last xs h
+no_last (opened ids ∷ xs) h = no_last xs h
+
+pub leads_more : (names : Names) (old : Content) (xs : List Notice) (mid : Content) (ys : List Notice) (new : Content) → LeadsBy names old xs mid → LeadsBy names mid ys new → (has_stop xs ≡ true → LetsNone ys) → (has_last xs ≡ true → ys ≡ []) → LeadsBy names old (xs ++ ys) new
+leads_more names old [] mid ys new a b none last = subst (λ c. LeadsBy names c ys new) a b
+leads_more names old (before d ∷ []) mid ys new a b none last = absurd a
+leads_more names old (before d ∷ after e answer ∷ xs) mid ys new a b none last = (a.0, a.1, a.2, leads_more names a.1 xs mid ys new a.3 b none last)
+leads_more names old (before d ∷ opened ids ∷ xs) mid ys new a b none last = absurd a
+leads_more names old (before d ∷ before e ∷ xs) mid ys new a b none last = absurd a
+leads_more names old (before d ∷ stopped e ∷ xs) mid ys new a b none last = absurd a
+leads_more names old (before d ∷ ended end goes_on ∷ xs) mid ys new a b none last = absurd a
+leads_more names old (stopped d ∷ xs) mid ys new a b none last = (a.0, none_more xs ys a.1 (none refl), leads_more names old xs mid ys new a.2 b (λ h. none refl) last)
+leads_more names old (after d (Ok true) ∷ xs) mid ys new a b none last = absurd a
+leads_more names old (after d (Ok false) ∷ xs) mid ys new a b none last = (a.0, leads_more names old xs mid ys new a.1 b none last)
+leads_more names old (after d (Err reason) ∷ xs) mid ys new a b none last = (a.0, leads_more names old xs mid ys new a.1 b none last)
+leads_more names old (opened ids ∷ xs) mid ys new a b none last = (a.0, leads_more names old xs mid ys new a.1 b none last)
+leads_more names old (ended end true ∷ xs) mid ys new a b none last = leads_more names old xs mid ys new a b none last
+leads_more names old (ended end false ∷ xs) mid ys new a b none last =
+    let alone : ys ≡ [] = last refl in
+    (ap₂ (λ (x y : List Notice). x ++ y) a.0 alone, subst (λ (l : List Notice). LeadsBy names mid l new) alone b ∙ a.1)
+
+pub ends_more : (xs ys : List Notice) → ends_in (xs ++ ys) ≡ ends_in xs ++ ends_in ys
+ends_more [] ys = refl
+ends_more (opened ids ∷ xs) ys = ends_more xs ys
+ends_more (before d ∷ xs) ys = ends_more xs ys
+ends_more (stopped d ∷ xs) ys = ends_more xs ys
+ends_more (after d answer ∷ xs) ys = ends_more xs ys
+ends_more (ended end goes_on ∷ xs) ys = ap (λ (l : List Ended). end ∷ l) (ends_more xs ys)
+
+-- a transaction that is refused, or in which the store fails, changes nothing
+unchanged : (names : Names) (old : Content) (d : DeliveryValue) (reason : Reason) (mid : Content) → IsMadeBy names old d (Err reason) mid → mid ≡ old
+unchanged names old d EndOfInput mid a = a.1
+unchanged names old d SourceEof mid a = a.1
+unchanged names old d (SourceError code state message) mid a = a.1
+unchanged names old d (Wire f) mid a = a.1
+unchanged names old d (Greet f) mid a = a.1
+unchanged names old d (Event f) mid a = a.1
+unchanged names old d (Gather f) mid a = a.1
+unchanged names old d (Refused f) mid a = a.1
+unchanged names old d (Database f) mid a = a.1
+unchanged names old d Memory mid a = a.1
+unchanged names old d ReadFailed mid a = a.1
+unchanged names old d WriteFailed mid a = a.1
+unchanged names old d Halted mid a = a.1
+
+-- the transactions reported as applied are applied in order, and each is new
+pub all_applied : (names : Names) (old : Content) (notices : List Notice) (new : Content) → LeadsBy names old notices new → AppliesAll names old (applied_in notices) (length (applied_in notices)) new
+all_applied names old [] new l = (refl, l)
+all_applied names old (before d ∷ []) new l = absurd l
+all_applied names old (before d ∷ after e (Ok true) ∷ ns) new l =
+    inl (l.1, length (applied_in ns), subst (λ x. HasOutcome names old x (done l.1)) (sym l.0) l.2, omega arith, all_applied names l.1 ns new l.3)
+all_applied names old (before d ∷ after e (Ok false) ∷ ns) new l = absurd l.2
+all_applied names old (before d ∷ after e (Err reason) ∷ ns) new l =
+    subst (λ c. AppliesAll names c (applied_in ns) (length (applied_in ns)) new) (unchanged names old d reason l.1 l.2) (all_applied names l.1 ns new l.3)
+all_applied names old (before d ∷ opened ids ∷ ns) new l = absurd l
+all_applied names old (before d ∷ before e ∷ ns) new l = absurd l
+all_applied names old (before d ∷ stopped e ∷ ns) new l = absurd l
+all_applied names old (before d ∷ ended end goes_on ∷ ns) new l = absurd l
+all_applied names old (stopped d ∷ ns) new l = all_applied names old ns new l.2
+all_applied names old (after d (Ok true) ∷ ns) new l = absurd l
+all_applied names old (after d (Ok false) ∷ ns) new l = all_applied names old ns new l.1
+all_applied names old (after d (Err reason) ∷ ns) new l = all_applied names old ns new l.1
+all_applied names old (opened ids ∷ ns) new l = all_applied names old ns new l.1
+all_applied names old (ended end true ∷ ns) new l = all_applied names old ns new l
+all_applied names old (ended end false ∷ ns) new l = subst (λ (x : List Notice). AppliesAll names old (applied_in x) (length (applied_in x)) new) (sym l.0) (refl, l.1)
+
+pub one_led : (names : Names) (old : Content) (notices : List Notice) (a b : Content) → LeadsBy names old notices a → LeadsBy names old notices b → a ≡ b
+one_led names old notices a b l m = (all_one names old (applied_in notices) (length (applied_in notices)) (length (applied_in notices)) a b (all_applied names old notices a l) (all_applied names old notices b m)).content
+
+pub asked_known : (now : Content) (d : DeliveryValue) (noted : Option (List Notice)) → is_executed now d ≡ true → HasBeenNoted noted noted (asked_about now d false)
+asked_known now d noted known = subst (λ (b : Bool). HasBeenNoted noted noted (if b then [] else before d ∷ [])) (sym known) (noted_none noted)
+
+pub asked_new : (now : Content) (d : DeliveryValue) (was is : Option (List Notice)) (goes_on : Bool) → is_executed now d ≡ false → HasBeenNoted was is ((if goes_on then before d else stopped d) ∷ []) → HasBeenNoted was is (asked_about now d (not goes_on))
+asked_new now d was is true fresh noted = subst (λ (b : Bool). HasBeenNoted was is (if b then [] else before d ∷ [])) (sym fresh) noted
+asked_new now d was is false fresh noted = subst (λ (b : Bool). HasBeenNoted was is (if b then [] else stopped d ∷ [])) (sym fresh) noted
+
+pub nothing_noted : (names : Names) (old : Content) (was is : Account) → is.0 ≡ was.0 → (was.1 ≡ true → is.1 ≡ true) → IsNotedOf names old old was is []
+nothing_noted names old was is same stays = record {
+  notices = [];
+  noted = subst (λ (t : Option (List Notice)). HasBeenNoted was.0 t []) (sym same) (noted_none was.0);
+  leads = refl;
+  ends_are = refl;
+  stays = stays;
+  stops = λ bad. absurd (false≢true bad);
+  last = λ bad. absurd (false≢true bad);
+  lets_none = λ on. tt;
+}
+
+pub noted_on : (names : Names) (old mid new : Content) (t0 t1 t2 : Account) (ends more : List Ended) → (ends ≢ [] → t1.1 ≡ false) → IsNotedOf names old mid t0 t1 ends → IsNotedOf names mid new t1 t2 more → IsNotedOf names old new t0 t2 (ends ++ more)
+noted_on names old mid new t0 t1 t2 ends more going a b = record {
+  notices = a.notices ++ b.notices;
+  noted = noted_more t0.0 t1.0 t2.0 a.notices b.notices a.noted b.noted;
+  leads = leads_more names old a.notices mid b.notices new a.leads b.leads (λ h. b.lets_none (a.stops h))
+      (λ h. absurd (false≢true (sym (going (λ none. false≢true (sym (no_last a.notices (a.ends_are ∙ none)) ∙ h))) ∙ a.last h)));
+  ends_are = ends_more a.notices b.notices ∙ ap₂ (λ (x y : List Ended). x ++ y) a.ends_are b.ends_are;
+  stays = λ on. b.stays (a.stays on);
+  stops = λ h. elim (stop_more a.notices b.notices h) [ inl one ↦ b.stays (a.stops one) | inr two ↦ b.stops two ];
+  last = λ h. elim (last_more a.notices b.notices h) [ inl one ↦ b.stays (a.last one) | inr two ↦ b.last two ];
+  lets_none = λ on. none_more a.notices b.notices (a.lets_none on) (b.lets_none (a.stays on));
+}
+
+-- what is reported before and after a transaction that the observer lets pass, unless it is executed
+pub record Asks (old : Content) (d : DeliveryValue) (t0 t1 t2 : Account) (answer : Result Bool Reason) : Type 0 where
+  pub asked : HasBeenNoted t0.0 t1.0 (asked_about old d false)
+  pub noted : HasBeenNoted t1.0 t2.0 (after d answer ∷ [])
+  pub goes_on : is_executed old d ≡ false → t1.1 ≡ false
+  pub stays : t0.1 ≡ true → t1.1 ≡ true
+  pub stays_after : t1.1 ≡ true → t2.1 ≡ true
+
+end_leads : (names : Names) (old : Content) (end : Ended) (goes_on : Bool) → LeadsBy names old (ended end goes_on ∷ []) old
+end_leads names old end true = refl
+end_leads names old end false = (refl, refl)
+
+end_stops : (end : Ended) (goes_on on : Bool) → goes_on ≡ not on → has_last (ended end goes_on ∷ []) ≡ true → on ≡ true
+end_stops end true on asks last = absurd (false≢true last)
+end_stops end false true asks last = refl
+end_stops end false false asks last = asks
+
+module _ {S : Type 0} (g : Ghosts S) where
+  -- nothing is reported, and the store stays as it is
+  pub led_nowhere : (broken : Bool) (old : Content) (store : Store S g) (was is : Account) → HoldsAs g broken old store → is.0 ≡ was.0 → (was.1 ≡ true → is.1 ≡ true) → IsLedTo g store store broken old was is []
+  led_nowhere broken old store was is holds same stays = record { now_broken = broken; new = old; holds = holds; noted_of = nothing_noted store.following old was is same stays }
+
+  pub led_on : (broken : Bool) (old : Content) (first middle last : Store S g) (t0 t1 t2 : Account) (ends more : List Ended) → middle.following ≡ first.following → (ends ≢ [] → t1.1 ≡ false)
+      → (a : IsLedTo g first middle broken old t0 t1 ends) → IsLedTo g middle last a.now_broken a.new t1 t2 more → IsLedTo g first last broken old t0 t2 (ends ++ more)
+  led_on broken old first middle last t0 t1 t2 ends more same going a b = record {
+    now_broken = b.now_broken;
+    new = b.new;
+    holds = b.holds;
+    noted_of = noted_on first.following old a.new b.new t0 t1 t2 ends more going a.noted_of (subst (λ n. IsNotedOf n a.new b.new t1 t2 more) same b.noted_of);
+  }
+
+  pub led_through : (broken : Bool) (old : Content) (first middle last : Store S g) (t0 t1 t2 : Account) (ends more : List Ended) → middle.following ≡ first.following → (ends ≢ [] → t1.1 ≡ false)
+      → IsLedTo g first middle broken old t0 t1 ends → ((is : Bool) (now : Content) → HoldsAs g is now middle → IsLedTo g middle last is now t1 t2 more) → IsLedTo g first last broken old t0 t2 (ends ++ more)
+  led_through broken old first middle last t0 t1 t2 ends more same going a next = led_on broken old first middle last t0 t1 t2 ends more same going a (next a.now_broken a.new a.holds)
+
+  -- what is reported before makes no difference, if it is of no transaction
+  pub led_after : (broken : Bool) (old : Content) (first last : Store S g) (t0 t1 t2 : Account) (ends : List Ended) → t1.0 ≡ t0.0 → (t0.1 ≡ true → t1.1 ≡ true) → IsLedTo g first last broken old t1 t2 ends → IsLedTo g first last broken old t0 t2 ends
+  led_after broken old first last t0 t1 t2 ends early stays a = record {
+    now_broken = a.now_broken;
+    new = a.new;
+    holds = a.holds;
+    noted_of = record {
+      notices = a.noted_of.notices;
+      noted = subst (λ (t : Option (List Notice)). HasBeenNoted t t2.0 a.noted_of.notices) early a.noted_of.noted;
+      leads = a.noted_of.leads;
+      ends_are = a.noted_of.ends_are;
+      stays = λ on. a.noted_of.stays (stays on);
+      stops = a.noted_of.stops;
+      last = a.noted_of.last;
+      lets_none = λ on. a.noted_of.lets_none (stays on);
+    };
+  }
+
+  -- the executed set of a store
+  pub led_from : (broken : Bool) (old : Content) (store : Store S g) (ids : Ids) (was is : Account) → HoldsAs g broken old store → ids ≡ old.executed → HasBeenNoted was.0 is.0 (opened ids ∷ []) → (was.1 ≡ true → is.1 ≡ true) → IsLedTo g store store broken old was is []
+  led_from broken old store ids was is holds same notes stays = record {
+    now_broken = broken;
+    new = old;
+    holds = holds;
+    noted_of = record { notices = opened ids ∷ []; noted = notes; leads = (same, refl); ends_are = refl; stays = stays; stops = λ bad. absurd (false≢true bad); last = λ bad. absurd (false≢true bad); lets_none = λ on. tt };
+  }
+
+  -- the end of a connection
+  pub led_to_end : (broken : Bool) (old : Content) (store : Store S g) (end : Ended) (goes_on : Bool) (was is : Account) → HoldsAs g broken old store → HasBeenNoted was.0 is.0 (ended end goes_on ∷ []) → goes_on ≡ not is.1 → (was.1 ≡ true → is.1 ≡ true)
+      → IsLedTo g store store broken old was is (end ∷ [])
+  led_to_end broken old store end goes_on was is holds notes asks stays = record {
+    now_broken = broken;
+    new = old;
+    holds = holds;
+    noted_of = record {
+      notices = ended end goes_on ∷ [];
+      noted = notes;
+      leads = end_leads store.following old end goes_on;
+      ends_are = refl;
+      stays = stays;
+      stops = λ bad. absurd (false≢true bad);
+      last = end_stops end goes_on is.1 asks;
+      lets_none = λ on. tt;
+    };
+  }
+
+  -- a new transaction, before which the observer stops
+  pub led_to_stop : (broken : Bool) (old : Content) (store : Store S g) (d : DeliveryValue) (was is : Account) → HoldsAs g broken old store → is_executed old d ≡ false → HasBeenNoted was.0 is.0 (asked_about old d true) → is.1 ≡ true
+      → IsLedTo g store store broken old was is []
+  led_to_stop broken old store d was is holds fresh asked on = record {
+    now_broken = broken;
+    new = old;
+    holds = holds;
+    noted_of = record {
+      notices = stopped d ∷ [];
+      noted = subst (λ (b : Bool). HasBeenNoted was.0 is.0 (if b then [] else stopped d ∷ [])) fresh asked;
+      leads = (fresh, tt, refl);
+      ends_are = refl;
+      stays = λ was_on. on;
+      stops = λ stop. on;
+      last = λ bad. absurd (false≢true bad);
+      lets_none = λ was_on. tt;
+    };
+  }
+
+  -- a new one that is answered
+  answered : (broken is : Bool) (old new : Content) (first last : Store S g) (d : DeliveryValue) (t0 t1 t2 : Account) (answer : Result Bool Reason) → is_executed old d ≡ false
+      → Asks old d t0 t1 t2 answer → IsMadeBy first.following old d answer new → HoldsAs g is new last → IsLedTo g first last broken old t0 t2 []
+  answered broken is old new first last d t0 t1 t2 answer fresh a makes holds = record {
+    now_broken = is;
+    new = new;
+    holds = holds;
+    noted_of = record {
+      notices = before d ∷ after d answer ∷ [];
+      noted = noted_more t0.0 t1.0 t2.0 (before d ∷ []) (after d answer ∷ []) (subst (λ (b : Bool). HasBeenNoted t0.0 t1.0 (if b then [] else before d ∷ [])) fresh a.asked) a.noted;
+      leads = (refl, new, makes, refl);
+      ends_are = refl;
+      stays = λ on. a.stays_after (a.stays on);
+      stops = λ bad. absurd (false≢true bad);
+      last = λ bad. absurd (false≢true bad);
+      lets_none = λ on. absurd (false≢true (sym (a.goes_on fresh) ∙ a.stays on));
+    };
+  }
+
+  -- one that is executed
+  repeated : (broken : Bool) (old : Content) (first last : Store S g) (d : DeliveryValue) (t0 t1 t2 : Account) (answer : Result Bool Reason) → is_executed old d ≡ true → LeadsBy first.following old (after d answer ∷ []) old
+      → Asks old d t0 t1 t2 answer → HoldsAs g broken old last → IsLedTo g first last broken old t0 t2 []
+  repeated broken old first last d t0 t1 t2 answer known leads a holds = record {
+    now_broken = broken;
+    new = old;
+    holds = holds;
+    noted_of = record {
+      notices = after d answer ∷ [];
+      noted = noted_more t0.0 t1.0 t2.0 [] (after d answer ∷ []) (subst (λ (b : Bool). HasBeenNoted t0.0 t1.0 (if b then [] else before d ∷ [])) known a.asked) a.noted;
+      leads = leads;
+      ends_are = refl;
+      stays = λ on. a.stays_after (a.stays on);
+      stops = λ bad. absurd (false≢true bad);
+      last = λ bad. absurd (false≢true bad);
+      lets_none = λ on. tt;
+    };
+  }
+
+  -- a store that a failure has broken before
+  pub led_broken : (old : Content) (first last : Store S g) (d : DeliveryValue) (t0 t1 t2 : Account) (r : Result Applied StoreFault) (out : Result Bool Reason) → HasFailed g first old
+      → (r ≡ Err fault.Broken) × (last ≡ first) → out ≡ outcome_of r → Asks old d t0 t1 t2 out → IsLedTo g first last true old t0 t2 []
+  led_broken old first last d t0 t1 t2 r out holds same is asked =
+      let answer : Result Bool Reason = Err (Database fault.Broken) in
+      let asks : Asks old d t0 t1 t2 answer = subst (λ (o : Result Bool Reason). Asks old d t0 t1 t2 o) (is ∙ ap outcome_of same.0) asked in
+      let still : HoldsAs g true old last = subst (λ (s : Store S g). HasFailed g s old) (sym same.1) holds in
+      elim (cases_Bool (is_executed old d)) [
+        | inl known ↦ repeated true old first last d t0 t1 t2 answer known (known, refl) asks still
+        | inr fresh ↦ answered true true old old first last d t0 t1 t2 answer fresh asks (fresh, refl) still
+      ]
+
+  by_answer : (old : Content) (first last : Store S g) (d : DeliveryValue) (t0 t1 t2 : Account) (r : Result Applied StoreFault) → Holds g first old → Applies g old d first last r
+      → Asks old d t0 t1 t2 (outcome_of r) → IsLedTo g first last false old t0 t2 []
+  by_answer old first last d t0 t1 t2 (Ok applied.Done) holds it asks = answered false false old it.after first last d t0 t1 t2 (Ok true) it.outcome.0 asks it.outcome it.holds
+  by_answer old first last d t0 t1 t2 (Ok applied.Repeat) holds it asks = repeated false old first last d t0 t1 t2 (Ok false) it.0 (it.0, refl) asks (subst (λ (s : Store S g). Holds g s old) (sym it.1) holds)
+  by_answer old first last d t0 t1 t2 (Err (fault.NoSuchRow at)) holds it asks = answered false false old old first last d t0 t1 t2 (outcome_of (Err (fault.NoSuchRow at))) it.0.0 asks (it.0, refl) it.1
+  by_answer old first last d t0 t1 t2 (Err (fault.CountFull at)) holds it asks = answered false false old old first last d t0 t1 t2 (outcome_of (Err (fault.CountFull at))) it.0.0 asks (it.0, refl) it.1
+  by_answer old first last d t0 t1 t2 (Err (fault.Database e)) holds it asks = answered false true old old first last d t0 t1 t2 (outcome_of (Err (fault.Database e))) it.0 asks (it.0, refl) it.1
+  by_answer old first last d t0 t1 t2 (Err fault.Memory) holds it asks = answered false true old old first last d t0 t1 t2 (outcome_of (Err fault.Memory)) it.0 asks (it.0, refl) it.1
+  by_answer old first last d t0 t1 t2 (Err fault.Damaged) holds it asks = absurd it
+  by_answer old first last d t0 t1 t2 (Err (fault.Layout n)) holds it asks = absurd it
+  by_answer old first last d t0 t1 t2 (Err fault.Broken) holds it asks = absurd it
+  by_answer old first last d t0 t1 t2 (Err fault.Follows) holds it asks = absurd it
+
+  -- a whole one
+  pub led_whole : (old : Content) (first last : Store S g) (d : DeliveryValue) (t0 t1 t2 : Account) (r : Result Applied StoreFault) (out : Result Bool Reason) → Holds g first old
+      → Applies g old d first last r → out ≡ outcome_of r → Asks old d t0 t1 t2 out → IsLedTo g first last false old t0 t2 []
+  led_whole old first last d t0 t1 t2 r out holds it is asks = by_answer old first last d t0 t1 t2 r holds it (subst (λ (o : Result Bool Reason). Asks old d t0 t1 t2 o) is asks)

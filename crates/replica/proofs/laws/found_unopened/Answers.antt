@@ -1,0 +1,5 @@
+use Rattle.replica.proofs.RestartedFiles.{unopened_found}
+use Rattle.replica.proofs.laws.found_unopened.Goals as goal
+
+pub returns : goal.returns
+returns g c = λ wanted names content before next hold away may. unopened_found wanted names content before next c.args._why.now hold away may

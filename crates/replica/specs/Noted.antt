@@ -1,0 +1,111 @@
+-- What is reported to an observer of transactions and connections, and what follows from that.
+use Rattle.std.specs.Prelude.{◌≡◌, Bool, true, false, if◌then◌else◌, List, [], ◌∷◌, ◌++◌, Option, Some, None, Result, Ok, Err}
+use Rattle.sqlite_trees.specs.declared.store.Store.{Ghosts}
+use Rattle.gtid.specs.Identifier.{Ids}
+use Rattle.binlog.specs.Filter.{Names}
+use Rattle.gather.specs.Transaction.{DeliveryValue}
+use Rattle.store.specs.State.{Content}
+use Rattle.store.specs.Changes.{HasOutcome, done, repeat, is_executed}
+use Rattle.store.specs.declared.store.Store.{Store}
+use Rattle.store.specs.Store.{HoldsAs, names_of}
+use Rattle.replica.specs.declared.end.Reason.{Reason}
+use Rattle.replica.specs.declared.end.Reason.TheVariants.{Refused}
+use Rattle.replica.specs.declared.end.Ended.{Ended}
+use Rattle.replica.specs.Conn.{IsRefusedBy}
+
+-- What is reported to an observer: the executed set of a database that was opened; of a new transaction that it is to be applied, or that
+-- the observer has stopped before it; of a transaction whether it was applied, which one that is executed is not, or why the
+-- connection ends; and how a connection has ended, and whether the observer goes on.
+pub data Notice : Type 0 where
+  opened : Ids → Notice
+  before : DeliveryValue → Notice
+  stopped : DeliveryValue → Notice
+  after : DeliveryValue → Result Bool Reason → Notice
+  ended : Ended → Bool → Notice
+
+-- An observer may keep an account of what is reported to it. If it does so afterwards, it did so before, and this was added to it.
+abbrev pub HasBeenNoted : Option (List Notice) → Option (List Notice) → List Notice → Type 0
+HasBeenNoted was None notices = Unit {0}
+HasBeenNoted None (Some is) notices = ⊥
+HasBeenNoted (Some was) (Some is) notices = is ≡ was ++ notices
+
+-- what is reported before a transaction: nothing of one that is executed
+abbrev pub asked_about : Content → DeliveryValue → Bool → List Notice
+asked_about content d halts = if is_executed content d then [] else (if halts then stopped d else before d) ∷ []
+
+-- the ends of connections that are reported
+abbrev pub ends_in : List Notice → List Ended
+ends_in [] = []
+ends_in (ended end goes_on ∷ notices) = end ∷ ends_in notices
+ends_in (_ ∷ notices) = ends_in notices
+
+-- whether it has stopped before a transaction
+abbrev pub has_stop : List Notice → Bool
+has_stop [] = false
+has_stop (stopped d ∷ notices) = true
+has_stop (_ ∷ notices) = has_stop notices
+
+-- whether it has stopped after a connection
+abbrev pub has_last : List Notice → Bool
+has_last [] = false
+has_last (ended end false ∷ notices) = true
+has_last (_ ∷ notices) = has_last notices
+
+-- none is to be applied
+abbrev pub LetsNone : List Notice → Type 0
+LetsNone [] = Unit {0}
+LetsNone (before d ∷ notices) = ⊥
+LetsNone (_ ∷ notices) = LetsNone notices
+
+-- the transactions that are reported as applied, in order
+abbrev pub applied_in : List Notice → List DeliveryValue
+applied_in [] = []
+applied_in (after d (Ok true) ∷ notices) = d ∷ applied_in notices
+applied_in (_ ∷ notices) = applied_in notices
+
+-- What a new transaction that was reported with this answer makes of a content.
+abbrev pub IsMadeBy : Names → Content → DeliveryValue → Result Bool Reason → Content → Type 0
+IsMadeBy names old d (Ok true) new = HasOutcome names old d (done new)
+IsMadeBy names old d (Ok false) new = ⊥
+IsMadeBy names old d (Err (Refused refusal)) new = IsRefusedBy names old d refusal × (new ≡ old)
+IsMadeBy names old d (Err reason) new = (is_executed old d ≡ false) × (new ≡ old)
+
+-- What is reported leads from one content to another. A transaction is applied only between the notice before it and the one after
+-- it, which says so; nothing else changes the content: none that is refused or in which the database fails, none that is executed,
+-- which is reported afterwards alone, and none before which the observer has stopped; and once it has, none is to be applied.
+-- Where it stops after a connection, nothing more is reported.
+abbrev pub LeadsBy : Names → Content → List Notice → Content → Type 0
+LeadsBy names old [] new = new ≡ old
+LeadsBy names old (before d ∷ after e answer ∷ notices) new = (e ≡ d) × (mid : Content) × IsMadeBy names old d answer mid × LeadsBy names mid notices new
+LeadsBy names old (before d ∷ notices) new = ⊥
+LeadsBy names old (stopped d ∷ notices) new = (is_executed old d ≡ false) × LetsNone notices × LeadsBy names old notices new
+LeadsBy names old (after d (Ok true) ∷ notices) new = ⊥
+LeadsBy names old (after d answer ∷ notices) new = HasOutcome names old d repeat × LeadsBy names old notices new
+LeadsBy names old (opened ids ∷ notices) new = (ids ≡ old.executed) × LeadsBy names old notices new
+LeadsBy names old (ended end true ∷ notices) new = LeadsBy names old notices new
+LeadsBy names old (ended end false ∷ notices) new = (notices ≡ []) × (new ≡ old)
+
+-- what was reported to an observer, if it keeps an account of that, and whether it has stopped
+abbrev pub Account : Type 0
+Account = Option (List Notice) × Bool
+
+-- What was reported to an observer from one moment to another leads from one content to another, and these are the ends of connections
+-- in it. If it had stopped at the first, nothing was to be applied.
+pub record IsNotedOf (names : Names) (old new : Content) (was is : Account) (ends : List Ended) : Type 0 where
+  pub notices : List Notice
+  pub noted : HasBeenNoted was.0 is.0 notices
+  pub leads : LeadsBy names old notices new
+  pub ends_are : ends_in notices ≡ ends
+  pub stays : was.1 ≡ true → is.1 ≡ true
+  pub stops : has_stop notices ≡ true → is.1 ≡ true
+  pub last : has_last notices ≡ true → is.1 ≡ true
+  pub lets_none : was.1 ≡ true → LetsNone notices
+
+module _ {S : Type 0} (g : Ghosts S) where
+  -- A store that held this content, and had failed or not, has come to hold another one, to which what was reported to an observer
+  -- leads.
+  pub record IsLedTo (before after : Store S g) (broken : Bool) (old : Content) (was is : Account) (ends : List Ended) : Type 0 where
+    pub now_broken : Bool
+    pub new : Content
+    pub holds : HoldsAs g now_broken new after
+    pub noted_of : IsNotedOf (names_of g before) old new was is ends
