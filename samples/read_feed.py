@@ -1,5 +1,8 @@
 """The three rules of a reader of mrep's change feed, for consume.py and the programs beside it: each transaction once.
 
+Where a `commit` says how many changes its transaction has, and its changes at which place each stands, they have to be all
+there; lines of feeds that were written before they did say nothing of it.
+
 A place is a text: the last line that was used, an `open`, `commit` or `rollback`, by its offsets and its digest, and the set of
 the transactions that were used. It belongs into the same commit as what is made of them. The set alone keeps a transaction
 from being used twice; the line spares reading from the beginning."""
@@ -56,6 +59,15 @@ def open_feed(name, waits):
     while waits and not os.path.exists(name):
         time.sleep(0.2)
     return open(name, 'rb')
+
+
+def whole(item, changes):
+    """The changes of a transaction that is used, in their places and as many as its `commit` says."""
+    places = [change.get('n', place) for place, change in enumerate(changes)]
+    if places != list(range(len(changes))) or item.get('changes', len(changes)) != len(changes):
+        sys.exit(f'a part of the feed is missing: transaction {item["gtid"]} has the changes {places}'
+                 + (f' of {item["changes"]}' if 'changes' in item else ''))
+    return changes
 
 
 class Reader:
@@ -125,7 +137,7 @@ class Reader:
                 continue
             if is_cut and item['type'] != 'open':
                 sys.exit(f'{file.name}: a line is cut before {after - len(line)}, and no open follows')
-            if item['type'] in ('insert', 'update', 'delete'):
+            if item['type'] in ('insert', 'update', 'delete', 'skip'):
                 kept.append(item)
             else:
                 changes = self.opened(item, kept) if item['type'] == 'open' else self.ended(item, kept)
@@ -139,8 +151,9 @@ class Reader:
         """The changes to use at a `commit` or a `rollback`."""
         if item['type'] == 'rollback' or has(self.used, read_set(item['gtid'])):
             return []
+        changes = whole(item, [change for change in kept if change['gtid'] == item['gtid'] and change['type'] != 'skip'])
         add(self.used, read_set(item['gtid']))
-        return [change for change in kept if change['gtid'] == item['gtid']]
+        return changes
 
     def opened(self, item, kept):
         """The changes to use at an `open`. Its set has nothing else that was not used."""

@@ -1,5 +1,6 @@
 pub mod Tables
 pub mod Headers
+pub mod Origins
 pub mod Columns
 pub mod RowCells
 pub mod Examples

@@ -20,3 +20,4 @@ pub mod Columns
 pub mod ColumnsView
 pub mod TableView
 pub mod Writing
+pub mod Origin

@@ -49,15 +49,23 @@ fn write_words<W: Write>(words: &[&str], out: &mut W) -> io::Result<()> {
     Ok(())
 }
 
+/// Writes the names of commands, with a blank after each.
+fn write_names<W: Write>(rows: &[CommandRow], out: &mut W) -> io::Result<()> {
+    for CommandRow(name, ..) in rows {
+        write!(out, "{name} ")?;
+    }
+    Ok(())
+}
+
 /// Writes a function for bash: which words may come at a place, and those of files where none may.
 fn write_bash<W: Write>(out: &mut W) -> io::Result<()> {
     out.write_all(BASH_HEAD.as_bytes())?;
-    for CommandRow(name, ..) in commands() {
-        write!(out, "{name} ")?;
+    for rows in commands() {
+        write_names(rows, out)?;
     }
     out.write_all(b"help --help --version' ;;\n")?;
-    for row in commands() {
-        write_bash_command(row, out)?;
+    for rows in commands() {
+        write_bash_commands(rows, out)?;
     }
     out.write_all(BASH_TAIL.as_bytes())
 }
@@ -73,6 +81,14 @@ fn write_bash_command<W: Write>(row: &CommandRow, out: &mut W) -> io::Result<()>
         write_bash_argument(argument, out)?;
     }
     out.write_all(b"--help' ;;\n")
+}
+
+/// Writes what may come after each option of commands that has a value, and what else.
+fn write_bash_commands<W: Write>(rows: &[CommandRow], out: &mut W) -> io::Result<()> {
+    for row in rows {
+        write_bash_command(row, out)?;
+    }
+    Ok(())
 }
 
 /// Writes what may come after an option of a command, if it has a value.
@@ -98,12 +114,12 @@ fn write_bash_argument<W: Write>(argument: &Argument, out: &mut W) -> io::Result
 /// Writes a function for zsh.
 fn write_zsh<W: Write>(out: &mut W) -> io::Result<()> {
     out.write_all(ZSH_HEAD.as_bytes())?;
-    for row in commands() {
-        write_zsh_name(row, out)?;
+    for rows in commands() {
+        write_zsh_names(rows, out)?;
     }
     out.write_all(ZSH_MIDDLE.as_bytes())?;
-    for row in commands() {
-        write_zsh_command(row, out)?;
+    for rows in commands() {
+        write_zsh_commands(rows, out)?;
     }
     out.write_all(ZSH_TAIL.as_bytes())
 }
@@ -116,6 +132,14 @@ fn write_zsh_name<W: Write>(row: &CommandRow, out: &mut W) -> io::Result<()> {
     out.write_all(b"'\n")
 }
 
+/// Writes commands and their help.
+fn write_zsh_names<W: Write>(rows: &[CommandRow], out: &mut W) -> io::Result<()> {
+    for row in rows {
+        write_zsh_name(row, out)?;
+    }
+    Ok(())
+}
+
 /// Writes the arguments of a command.
 fn write_zsh_command<W: Write>(row: &CommandRow, out: &mut W) -> io::Result<()> {
     let CommandRow(name, _, arguments, _) = row;
@@ -124,6 +148,14 @@ fn write_zsh_command<W: Write>(row: &CommandRow, out: &mut W) -> io::Result<()> 
         write_zsh_argument(argument, out)?;
     }
     out.write_all(b" '--help[Print help]' ;;\n")
+}
+
+/// Writes the arguments of commands.
+fn write_zsh_commands<W: Write>(rows: &[CommandRow], out: &mut W) -> io::Result<()> {
+    for row in rows {
+        write_zsh_command(row, out)?;
+    }
+    Ok(())
 }
 
 /// Writes an argument: whether it may be repeated, its option and help, and the name and the words of its value.
@@ -166,8 +198,8 @@ fn write_zsh_values<W: Write>(value: Option<&str>, words: &[&str], out: &mut W) 
 /// Writes commands for fish.
 fn write_fish<W: Write>(out: &mut W) -> io::Result<()> {
     out.write_all(FISH_HEAD.as_bytes())?;
-    for row in commands() {
-        write_fish_command(row, out)?;
+    for rows in commands() {
+        write_fish_commands(rows, out)?;
     }
     Ok(())
 }
@@ -182,6 +214,14 @@ fn write_fish_command<W: Write>(row: &CommandRow, out: &mut W) -> io::Result<()>
     write_fish_help(about, out)?;
     for argument in *arguments {
         write_fish_argument(name, argument, out)?;
+    }
+    Ok(())
+}
+
+/// Writes commands and their help, and their arguments.
+fn write_fish_commands<W: Write>(rows: &[CommandRow], out: &mut W) -> io::Result<()> {
+    for row in rows {
+        write_fish_command(row, out)?;
     }
     Ok(())
 }

@@ -163,8 +163,22 @@ const ONLY: Argument = Argument(
     "Keep only the rows of this table; may be repeated. Without it: of the tables that the database was made for, or of all tables for a new database",
 );
 
-/// All commands, in the order of the help.
-static COMMANDS: [CommandRow; 15] = [
+/// The file of the status.
+const STATUS: Argument = Argument(
+    "status",
+    Kind::Text("FILE"),
+    "Replace this file, at most once a second and at each ending, by how it stands, in Prometheus' text form",
+);
+
+/// The set at which reading ends.
+const UNTIL: Argument = Argument(
+    "until",
+    Kind::Text("SET"),
+    "End with status 0 as soon as all of this GTID set is executed, and apply nothing after that",
+);
+
+/// The commands that read streams or a source.
+static READING: [CommandRow; 5] = [
     CommandRow(
         "packets",
         "List the payloads of a stream of packets: offset, sequence id, length",
@@ -196,6 +210,8 @@ static COMMANDS: [CommandRow; 15] = [
             CHANGE_COLUMNS,
             BYTES,
             ONLY,
+            STATUS,
+            UNTIL,
             Argument(
                 "STREAM",
                 Kind::Words,
@@ -244,9 +260,15 @@ static COMMANDS: [CommandRow; 15] = [
             CHANGE_COLUMNS,
             BYTES,
             ONLY,
+            STATUS,
+            UNTIL,
         ],
         "Example:\n  mrep follow --db F.db --host db1 --user repl --password-file W --server-id 7 --only shop.items",
     ),
+];
+
+/// The commands over a database, and what helps with the command line.
+static OTHERS: [CommandRow; 11] = [
     CommandRow(
         "show",
         "Print the rows of a database: table, count, cells",
@@ -280,6 +302,25 @@ static COMMANDS: [CommandRow; 15] = [
             "Describe this table; may be repeated. Without it: all tables but the server's own",
         )],
         "Example:\n  mysql -h db1 -u me -p -BN -e \"$(mrep columns --only shop.items)\" > shop.columns",
+    ),
+    CommandRow(
+        "verify",
+        "Compare the rows of a table with those that the `mysql` client has printed, and print those that one side lacks",
+        &[
+            DB,
+            Argument(
+                "columns",
+                Kind::NeededText("FILE"),
+                "The description of the columns, as the query of `mrep columns` gives it",
+            ),
+            Argument("SCHEMA.TABLE", Kind::Word, "The table"),
+            Argument(
+                "ROWS",
+                Kind::Word,
+                "A file with the rows, in any order, as `show --format tsv` prints them, or `-` for standard input",
+            ),
+        ],
+        "Example:\n  mysql -h db1 -u me -p -BN --binary-as-hex --default-character-set=utf8mb4 --init-command=\"SET time_zone='+00:00'\" -e 'SELECT * FROM shop.items' | mrep verify --db F.db --columns shop.columns shop.items -",
     ),
     CommandRow(
         "tables",
@@ -350,6 +391,11 @@ static COMMANDS: [CommandRow; 15] = [
                 Kind::Word,
                 "A GTID: a hyphenated UUID, `:` and a number",
             ),
+            Argument(
+                "changes",
+                Kind::Text("FILE"),
+                "Write to this file of a change feed that the transaction is skipped",
+            ),
         ],
         "Example:\n  mrep skip --db F.db 3e11fa47-71ca-11e1-9e33-c80aa9429562:7",
     ),
@@ -361,9 +407,18 @@ static COMMANDS: [CommandRow; 15] = [
     ),
 ];
 
-/// All commands. The table stands in the proof of each function that names it, and so one alone does.
-pub fn commands() -> &'static [CommandRow] {
-    &COMMANDS
+fn reading() -> &'static [CommandRow] {
+    &READING
+}
+
+fn others() -> &'static [CommandRow] {
+    &OTHERS
+}
+
+/// All commands, in the order of the help. A table stands in the proof of each function that names it, and so one alone does; in
+/// one table they are more than the prover takes.
+pub fn commands() -> [&'static [CommandRow]; 2] {
+    [reading(), others()]
 }
 
 /// The argument of a row.
@@ -430,5 +485,9 @@ fn with_commands<'a>(
 
 /// All commands and their arguments.
 pub fn grammar<'a>(alloc: Global) -> Result<Command<'a>, AllocError> {
-    with_commands(alloc, program(alloc), commands())
+    let mut command = program(alloc);
+    for rows in commands() {
+        command = with_commands(alloc, command, rows)?;
+    }
+    Ok(command)
 }

@@ -4,11 +4,12 @@
 //! event of a stream. [`write_named`] is a message, in which [`Shown`] is a name or another argument; [`Details`] says where
 //! in a transaction a connection has ended, [`Progress`] how far a command has come, and [`Chosen`] which tables had no row.
 //!
-//! Of what is printed only the text of a set has a contract ([`text_of`]).
+//! Of what is printed only the text of a set ([`text_of`]) and that of the type of a column ([`TypeText`]) have a contract.
 #![tactic(auto)]
 
 mod advice;
 mod cells;
+mod comparison;
 mod csv_lines;
 mod details;
 mod event_line;
@@ -23,9 +24,11 @@ mod progress;
 mod quoted;
 mod set_text;
 mod tallies;
+mod type_text;
 
 pub use advice::{event_advice, greet_advice};
 pub use cells::write_row;
+pub use comparison::{Comparer, Differences, TextLines};
 pub use csv_lines::Records;
 pub use details::{Details, SHOWN, row_of};
 pub use event_line::write_event;
@@ -40,3 +43,4 @@ pub use output_format::{ENCODINGS, Encoding, FORMATS, Format, encoding_of, forma
 pub use progress::{Progress, pause};
 pub use set_text::text_of;
 pub use tallies::{Tallies, write_filter};
+pub use type_text::TypeText;

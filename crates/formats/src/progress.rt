@@ -66,9 +66,8 @@ impl Progress {
         });
     }
 
-    /// Counts the bytes of a read. What was read before is done with, so a line may be written first.
-    pub fn read<E: Write>(&self, clock: &HostRuntime, count: usize, err: &mut E) {
-        self.report(clock, err);
+    /// Counts the bytes of a read.
+    pub fn count_bytes(&self, count: usize) {
         let Counts { bytes, applied } = self.now.get();
         self.now.set(Counts {
             bytes: bytes.saturating_add(count as u64),

@@ -1,8 +1,8 @@
 -- What a gatherer keeps of the events that it has been given.
-use Rattle.std.specs.Prelude.{◌≡◌, Bool, true, false, List}
-use Rattle.binlog.specs.Event.{EventValue}
-use Rattle.gather.specs.Transaction.{DeliveryValue, AreDeliveries}
-use Rattle.gather.specs.Fault.{has_format, last_block}
+use Rattle.std.specs.Prelude.{◌≡◌, ◌⊎◌, ℕ, Bool, true, false, List, [], ◌∷◌, length}
+use Rattle.binlog.specs.Event.{EventValue, gtid, begin}
+use Rattle.gather.specs.Transaction.{ChangeValue, DeliveryValue, AreChanges, AreDeliveries}
+use Rattle.gather.specs.Fault.{has_format, last_block, is_open}
 use Rattle.gather.specs.State.{IsAt}
 use Rattle.gather.specs.declared.state.State.{State}
 use Rattle.gather.specs.declared.gatherer.Gatherer.{Gatherer}
@@ -23,3 +23,17 @@ pub record HasGathered (events : List EventValue) (ds : List DeliveryValue) (g :
 -- It has answered a fault.
 abbrev pub HasAnsweredFault : Gatherer → Type 0
 HasAnsweredFault g = g.ended ≡ true
+
+-- The last block is an open transaction with this body, whose events have brought so many changes.
+pub record HasPending (events : List EventValue) (count : ℕ) : Type 0 where
+  pub source : List ℕ
+  pub number : ℕ
+  pub body : List EventValue
+  pub block_is : last_block events ≡ gtid source number ∷ begin ∷ body
+  pub changes : List ChangeValue
+  pub are_changes : AreChanges [] body changes
+  pub count_is : count ≡ length changes
+
+-- So many changes are pending: those of the open transaction, or none.
+abbrev pub ArePending : List EventValue → ℕ → Type 0
+ArePending events count = HasPending events count ⊎ ((is_open (last_block events) ≡ false) × (count ≡ 0))

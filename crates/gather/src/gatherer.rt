@@ -24,7 +24,7 @@ impl Gatherer {
     ghost use Rattle.gather.specs.Transaction.{DeliveryValue};
     ghost use Rattle.gather.specs.Fault.{IsFault, IsKept};
     ghost use Rattle.gather.specs.View.{delivered};
-    ghost use Rattle.gather.specs.Standing.{Brings, HasGathered, HasAnsweredFault};
+    ghost use Rattle.gather.specs.Standing.{ArePending, Brings, HasGathered, HasAnsweredFault};
 
     /// A gatherer that has been given no events. It takes no memory.
     pub fn new(alloc: Global) -> Gatherer
@@ -35,6 +35,16 @@ impl Gatherer {
             formatted: false,
             state: State::Between,
             ended: false,
+        }
+    }
+
+    /// How many changes the open transaction has so far; 0 if none is open. It takes no memory.
+    pub fn pending(&self) -> usize
+        ensures { (events : List EventValue) (ds : List DeliveryValue) → HasGathered events ds self.now → ArePending events result }
+    {
+        match &self.state {
+            State::Inside(current) => current.changes.len(),
+            _ => 0,
         }
     }
 

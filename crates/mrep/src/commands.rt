@@ -11,6 +11,7 @@ pub mod payload_lines;
 pub mod payload_listing;
 pub mod replay;
 pub mod socket;
+pub mod verify;
 
 use crate::arguments::{tables, word};
 use crate::commands::copy::copy;
@@ -20,6 +21,7 @@ use crate::commands::jobs::{job_of, run_job};
 use crate::commands::minus::minus;
 use crate::commands::payload_lines::{Lines, list};
 use crate::commands::replay::replay;
+use crate::commands::verify::verify;
 use crate::report::failure::{DONE, Failure, MEMORY};
 use clap::{ArgMatches, Command};
 use command_line::{escaped, grammar, input_again, no_command, write_completions, write_help};
@@ -58,7 +60,7 @@ pub fn command<S: AsStr, O: Write, E: Write>(
 }
 
 fn run<'a, S: AsStr, O: Write, E: Write>(
-    rt: &HostRuntime,
+    rt: &'a HostRuntime,
     words: &'a [S],
     out: &mut O,
     err: &mut E,
@@ -90,7 +92,7 @@ fn answer<'a, S: AsStr, O: Write>(
 
 /// Runs the command of the matches.
 fn run_matches<'a, O: Write, E: Write>(
-    rt: &HostRuntime,
+    rt: &'a HostRuntime,
     command: &mut Command<'a>,
     matches: &ArgMatches<'a>,
     out: &mut O,
@@ -127,7 +129,7 @@ fn reads_input_again(given: &ArgMatches<'_>) -> bool {
 
 /// Runs the command of this name, if there is one.
 fn run_named<'a, W: Write, E: Write>(
-    rt: &HostRuntime,
+    rt: &'a HostRuntime,
     name: &str,
     given: &ArgMatches<'a>,
     out: &mut W,
@@ -143,6 +145,7 @@ fn run_named<'a, W: Write, E: Write>(
         "follow" => follow(rt, given, out, err)?,
         "copy" => copy(rt, given)?,
         "export" => export(rt, given, err)?,
+        "verify" => verify(rt, given, out, err)?,
         "completions" => {
             write_completions(word(given, "SHELL"), out)?;
             DONE

@@ -5,3 +5,4 @@ pub mod exporter;
 pub mod job;
 pub mod open;
 pub mod printer;
+pub mod skip_feed;

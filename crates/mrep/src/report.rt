@@ -1,6 +1,7 @@
 //! What a command reports while it reads and at its end, and why it failed.
 
 pub mod failure;
+pub mod pulse;
 pub mod reason;
 pub mod status;
 pub mod wanted;

@@ -1,5 +1,5 @@
 -- Captured connections that were read into a file.
-use Rattle.std.proofs.Common.{◌≡◌, ℕ, Bool, true, false, List, Option, Result, Ok, Err, IfOk, IfErr, IsTrue, refl, sym, subst, ◌∙◌, arith}
+use Rattle.std.proofs.Common.{◌≡◌, ◌≢◌, ℕ, Bool, true, false, List, [], Option, Result, Ok, Err, IfOk, IfErr, IsTrue, refl, sym, subst, ◌∙◌, arith}
 use Rattle.std.specs.Prelude.{MatchResult}
 use Rattle.sqlite_disk.specs.declared.Disk.{Ghosts}
 use Rattle.sqlite_disk.specs.declared.Files.{Files}
@@ -34,7 +34,7 @@ use Rattle.replica.specs.Crash as crash
 use Rattle.replica.specs.Over.{HasReadAll, LeavesOnly}
 use Rattle.replica.specs.Capture.{Reads}
 use Rattle.replica.specs.File.{FilesHold, AreClosedWith, LeavesContent, IsOpenedIn, IsCleanlyClosed, WasClosed, ClosesAs, KeepsContent}
-use Rattle.replica.specs.Noted.{Account, IsNotedOf, IsLedTo}
+use Rattle.replica.specs.Noted.{Account, IsNotedOf, IsLedTo, WasMissing}
 use Rattle.replica.specs.NotedFile.{IsNotedOfFiles}
 use Rattle.replica.specs.Replay.{LeadsTo, MayLeave}
 use Rattle.replica.specs.FollowFile.{Connects, MayHold, FollowsFile}
@@ -184,17 +184,18 @@ module _ {D : Type 0} (g : Ghosts D) (names : Names) (old : Content) (opened aft
   pub noted_of_files : (t0 t1 : Account) (ends : List Ended) (closed : Result (Files D) (Error × FileStore D g))
       → after.following ≡ opened.following → (HasCleanDisk (database over_files after) → Holds over_files opened old × (opened.following ≡ names))
       → (HasCleanDisk (database over_files after) → (was : Bool) (content : Content) → HoldsAs over_files was content opened → IsLedTo over_files opened after was content t0 t1 ends)
+      → (HasCleanDisk (database over_files after) → (was : Bool) (content : Content) → HoldsAs over_files was content opened → ends ≢ [] → WasMissing t0.2 t1.2 content.executed)
       → IfOk closed (λ files. AreClean g files.log files.db → IsCopied after.conn files)
       → IfErr closed (λ e. IsClosed after.conn e.1 × (IsClean (view e.1) → FailsToClose after.conn e.1 e.0))
       → IsNotedOfFiles names old t0 t1 ends closed
-  noted_of_files t0 t1 ends (Ok files) same opens notes copied failed = λ honest.
+  noted_of_files t0 t1 ends (Ok files) same opens notes missed copied failed = λ honest.
       let copy = copied honest in
       let o = opens copy.was_clean in
       let a = notes copy.was_clean false old o.0 in
-      (a.new, closed_with g names after (same ∙ o.1) a.now_broken a.new files copy a.holds, subst (λ n. IsNotedOf n old a.new t0 t1 ends) o.1 a.noted_of)
-  noted_of_files t0 t1 ends (Err e) same opens notes copied failed = λ honest.
+      (a.new, closed_with g names after (same ∙ o.1) a.now_broken a.new files copy a.holds, subst (λ n. IsNotedOf n old a.new t0 t1 ends) o.1 a.noted_of, missed copy.was_clean false old o.0)
+  noted_of_files t0 t1 ends (Err e) same opens notes missed copied failed = λ honest.
       let quiet = failed.0.quiet in
       let clean : HasCleanDisk (database over_files after) = omega (arith, quiet.clean, honest) in
       let o = opens clean in
       let a = notes clean false old o.0 in
-      (a.new, subst (λ n. IsNotedOf n old a.new t0 t1 ends) o.1 a.noted_of)
+      (a.new, subst (λ n. IsNotedOf n old a.new t0 t1 ends) o.1 a.noted_of, missed clean false old o.0)

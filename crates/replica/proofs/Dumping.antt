@@ -21,7 +21,7 @@ use Rattle.store.specs.declared.store.Store.{Store}
 use Rattle.store.specs.Store.{Holds, HoldsAs, AreOf}
 use Rattle.store.proofs.Applying.{stays}
 use Rattle.replica.specs.declared.end.Reason.{Reason}
-use Rattle.replica.specs.declared.end.Reason.TheVariants.{EndOfInput, SourceEof, SourceError, Wire, Greet, Event, Gather, Refused, Database, Memory, ReadFailed, WriteFailed, Halted}
+use Rattle.replica.specs.declared.end.Reason.TheVariants.{EndOfInput, SourceEof, SourceError, Wire, Greet, Event, Gather, Refused, Database, Memory, ReadFailed, WriteFailed, Halted, Until}
 use Rattle.replica.specs.declared.end.Ended.{Ended}
 use Rattle.replica.specs.declared.phase.Phase.{Phase}
 use Rattle.replica.specs.declared.session.Session.{Session}
@@ -111,6 +111,16 @@ module _ (settings : Settings) (assembly : ReaderState) (gatherer : Gatherer) (w
     denied = subst (λ x. Denies names x h.reading.events p reason) (sym due_is) denied;
   }
 
+-- where the connection goes on, the observer may end it
+until_ended : (settings : Settings) (assembly : ReaderState) (gatherer : Gatherer) (waits : Phase) (at applied : ℕ) (names : Names) (was is : Bool) (old now : Content) (b all : List ℕ)
+    → GoesOn settings assembly gatherer waits at applied names was is old now b all → HasEnded settings names was is old now b all (record { reason = Until; at = at; applied = applied })
+until_ended settings assembly gatherer waits at applied names was is old now b all g = record {
+  conn = record { reading = g.reading; has_applied = g.has_applied; why = g.at_is; kept = g.kept };
+  more = λ e. cc;
+  sent = record { payloads = g.reading.payloads; taken = record { reading = g.reading; payloads_are = refl; at_is = inl g.at_is }; sent = g.sent };
+  store = g.store;
+}
+
 -- a session that has moved on goes on
 pub moved : (s new : Session) (at applied : ℕ) (names : Names) (was is : Bool) (old now : Content) (b o : List ℕ) → MovesOn s new at applied
     → GoesOn s.config s.assembler s.gatherer s.phase at applied names was is old now b (o ++ s.out.items)
@@ -183,6 +193,21 @@ module _ {S : Type 0} (g : Ghosts S) (settled : (h : Held S) (db : Trees) → Is
         over_going new after schema was m.is old f.after b o none f.holds
         (subst (λ n. GoesOn new.config new.assembler new.gatherer new.phase new.at new.applied n was m.is old f.after b (o ++ new.out.items)) (sym same_names) goes)
         (λ whole. f.schema whole ∙ m.schema_is whole)
+
+    -- the observer waits for nothing more after it
+    pub dump_until : (new : Session) (gatherer : Gatherer) (applied : Bool) (end : Ended) → new.ended ≡ Some end → end ≡ record { reason = Until; at = new.at; applied = new.applied }
+        → (f : GoesFurther g m.is m.now m.meets.reading.events m.meets.reading.deliveries p store after gatherer applied)
+        → GoesOn new.config new.assembler new.gatherer new.phase new.at new.applied store.following was m.is old f.after b (o ++ new.out.items)
+        → StandsOver g new after schema was old b o
+    dump_until new gatherer applied end some is f goes =
+        over_ended new after schema was m.is old f.after b o end some f.holds
+        (subst (λ n. HasEnded new.config n was m.is old f.after b (o ++ new.out.items) end) (sym same_names)
+        (subst (λ e. HasEnded new.config store.following was m.is old f.after b (o ++ new.out.items) e) (sym is)
+        (until_ended new.config new.assembler new.gatherer new.phase new.at new.applied store.following was m.is old f.after b (o ++ new.out.items) goes)))
+        (λ whole. f.schema whole ∙ m.schema_is whole)
+        (λ whole.
+        let is_whole : m.is ≡ false = goes.store ∙ whole in
+        leaves_only after schema f.after (IsLeftOfOne new.config.limit after.following old b f.after end) (subst (λ i. HoldsAs g i f.after after) is_whole f.holds) (f.schema is_whole ∙ m.schema_is is_whole) (inl refl))
 
     dump_ended : (new : Session) (is : Bool) (end : Ended) → new.ended ≡ Some end → HoldsAs g is m.now after → HasEnded new.config store.following was is old m.now b (o ++ new.out.items) end
         → (is ≡ false → (state g after.conn).now.schema ≡ schema) → (was ≡ false → LeavesOnly g schema after (IsLeftOfOne new.config.limit store.following old b m.now end)) → StandsOver g new after schema was old b o
@@ -300,3 +325,4 @@ module _ {S : Type 0} (g : Ghosts S) (settled : (h : Held S) (db : Trees) → Is
       dump_ends WriteFailed some e = absurd e.0
       dump_ends Halted some e =
           rests_so Halted s.at some e.3 (stopped Halted m.is (λ q. cc) (m.meets.at_is, record { delivery = e.0; ends = next_ends e.0 e.1; fresh = e.2 }) m.meets.store)
+      dump_ends Until some e = absurd e.0

@@ -21,7 +21,7 @@ use Rattle.store.specs.declared.fault.StoreFault.TheVariants as fault
 use Rattle.store.specs.declared.store.Store.{Store}
 use Rattle.store.specs.Store.{Holds, HasFailed, HoldsAs, Keeps, IsBroken, Applies, Leaves}
 use Rattle.replica.specs.declared.end.Reason.{Reason}
-use Rattle.replica.specs.declared.end.Reason.TheVariants.{EndOfInput, SourceEof, SourceError, Wire, Greet, Event, Gather, Refused, Database, Memory, ReadFailed, WriteFailed, Halted}
+use Rattle.replica.specs.declared.end.Reason.TheVariants.{EndOfInput, SourceEof, SourceError, Wire, Greet, Event, Gather, Refused, Database, Memory, ReadFailed, WriteFailed, Halted, Until}
 use Rattle.replica.specs.Stream.{Carries}
 use Rattle.wire.specs.Payload.{Payload}
 use Rattle.replica.specs.PayloadStep.{EndsDump, GathersMore, outcome_of, reason_of_events}
@@ -60,6 +60,7 @@ module _ {S : Type 0} (g : Ghosts S) (es : List EventValue) (ds : List DeliveryV
   ends_early is now store ReadFailed holds h = absurd h
   ends_early is now store WriteFailed holds h = absurd h
   ends_early is now store Halted holds h = absurd h
+  ends_early is now store Until holds h = absurd h
 
   pub goes_on : (is : Bool) (now : Content) (store : Store S g) (gatherer : Gatherer) → HoldsAs g is now store → GathersMore store.following es ds p [] gatherer → GoesFurther g is now es ds p store store gatherer false
   goes_on is now store gatherer holds more = record {

@@ -9,7 +9,7 @@ use Rattle.binlog.specs.Event.{EventValue}
 use Rattle.gather.specs.Transaction.{DeliveryValue}
 use Rattle.store.specs.State.{Content}
 use Rattle.replica.specs.declared.end.Reason.{Reason}
-use Rattle.replica.specs.declared.end.Reason.TheVariants.{EndOfInput, SourceEof, SourceError, Wire, Greet, Event, Gather, Refused, Database, Memory, ReadFailed, WriteFailed, Halted}
+use Rattle.replica.specs.declared.end.Reason.TheVariants.{EndOfInput, SourceEof, SourceError, Wire, Greet, Event, Gather, Refused, Database, Memory, ReadFailed, WriteFailed, Halted, Until}
 use Rattle.replica.specs.declared.end.Ended.{Ended}
 use Rattle.replica.specs.Settings.{Settings}
 use Rattle.replica.specs.Stream.{Due, Reading, due_after}
@@ -77,6 +77,7 @@ module _ (limit : ℕ) (names : Names) (due : Due) (es : List EventValue) (taken
   stops-append at ReadFailed h s = s
   stops-append at WriteFailed h s = s
   stops-append at Halted h s = s
+  stops-append at Until h s = s
 
   module _ (ds : List DeliveryValue) where
     pub ends-append : (d : DeliveryValue) → NextEnds limit names due es ds taken id r d → NextEnds limit names due es ds taken id (r ++ more) d
@@ -102,6 +103,7 @@ module _ (limit : ℕ) (names : Names) (due : Due) (es : List EventValue) (taken
     why-append was old new at ReadFailed h w = w
     why-append was old new at WriteFailed h w = elim w [ inl e ↦ inl e | inr f ↦ inr (log-append at f) ]
     why-append was old new at Halted h w = (w.0, record { delivery = w.1.delivery; ends = ends-append w.1.delivery w.1.ends; fresh = w.1.fresh })
+    why-append was old new at Until h w = w
 
 -- a connection that has ended has this end whatever follows
 pub conn-append : (limit : ℕ) (names : Names) (was : Bool) (old : Content) (b more : List ℕ) (new : Content) (end : Ended) → end.reason ≢ EndOfInput → Conn limit names was old b new end → Conn limit names was old (b ++ more) new end

@@ -1,7 +1,7 @@
 -- What a stream reports of its own failures over several calls.
 use Rattle.std.proofs.Common.{◌≡◌, ℕ, ◌+◌, Option, Some, None, arith}
 use Rattle.replica.specs.declared.end.Reason.{Reason}
-use Rattle.replica.specs.declared.end.Reason.TheVariants.{EndOfInput, SourceEof, SourceError, Wire, Greet, Event, Gather, Refused, Database, Memory, ReadFailed, WriteFailed, Halted}
+use Rattle.replica.specs.declared.end.Reason.TheVariants.{EndOfInput, SourceEof, SourceError, Wire, Greet, Event, Gather, Refused, Database, Memory, ReadFailed, WriteFailed, Halted, Until}
 use Rattle.replica.specs.Conn.{IsNoStreamFailure}
 use Rattle.replica.specs.Failing.{HaveFailed}
 use Rattle.replica.specs.Follow.{failed_reads_of, failed_writes_of}
@@ -33,6 +33,7 @@ failed_none Memory n a b h = h
 failed_none ReadFailed n a b h = absurd n
 failed_none WriteFailed n a b h = absurd n
 failed_none Halted n a b h = h
+failed_none Until n a b h = h
 
 pub counted_none : (reason : Reason) → IsNoStreamFailure reason → (a b c d : ℕ) → b ≡ a → d ≡ c → (b ≡ a + failed_reads_of reason) × (d ≡ c + failed_writes_of reason)
 counted_none EndOfInput n a b c d p q = (omega (arith, p), omega (arith, q))
@@ -48,3 +49,4 @@ counted_none Memory n a b c d p q = (omega (arith, p), omega (arith, q))
 counted_none ReadFailed n a b c d p q = absurd n
 counted_none WriteFailed n a b c d p q = absurd n
 counted_none Halted n a b c d p q = (omega (arith, p), omega (arith, q))
+counted_none Until n a b c d p q = (omega (arith, p), omega (arith, q))

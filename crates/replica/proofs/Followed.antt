@@ -14,7 +14,7 @@ use Rattle.store.specs.State.{Content}
 use Rattle.store.specs.declared.store.Store.{Store}
 use Rattle.store.specs.Store.{HoldsAs, database}
 use Rattle.replica.specs.declared.end.Reason.{Reason}
-use Rattle.replica.specs.declared.end.Reason.TheVariants.{EndOfInput, SourceEof, SourceError, Wire, Greet, Event, Gather, Refused, Database, Memory, ReadFailed, WriteFailed, Halted}
+use Rattle.replica.specs.declared.end.Reason.TheVariants.{EndOfInput, SourceEof, SourceError, Wire, Greet, Event, Gather, Refused, Database, Memory, ReadFailed, WriteFailed, Halted, Until}
 use Rattle.replica.specs.declared.end.Ended.{Ended}
 use Rattle.replica.specs.declared.session.Session.{Session}
 use Rattle.replica.specs.Settings.{Settings}
@@ -42,6 +42,7 @@ may_owe Memory h = tt
 may_owe ReadFailed h = cc
 may_owe WriteFailed h = cc
 may_owe Halted h = tt
+may_owe Until h = tt
 
 is_in_full : (reason : Reason) → sends_no_more_after reason ≡ false → IsNoStreamFailure reason → IsInFull reason
 is_in_full EndOfInput h n = tt
@@ -57,6 +58,7 @@ is_in_full Memory h n = cc
 is_in_full ReadFailed h n = absurd n
 is_in_full WriteFailed h n = absurd n
 is_in_full Halted h n = cc
+is_in_full Until h n = cc
 
 not_of_stream : (reason : Reason) → IsNoStreamFailure reason → IsOfStream reason → ⊥
 not_of_stream EndOfInput n h = h
@@ -72,6 +74,7 @@ not_of_stream Memory n h = h
 not_of_stream ReadFailed n h = n
 not_of_stream WriteFailed n h = n
 not_of_stream Halted n h = h
+not_of_stream Until n h = h
 
 -- such an end leaves the store failed or not, as it was
 as_it_was : (reason : Reason) (was is : Bool) → IsInFull reason → BreaksStore reason was is → is ≡ was
@@ -88,10 +91,12 @@ as_it_was Memory was is full h = absurd full
 as_it_was ReadFailed was is full h = h
 as_it_was WriteFailed was is full h = h
 as_it_was Halted was is full h = absurd full
+as_it_was Until was is full h = absurd full
 
--- running out of memory, or a failure of the stream
+-- running out of memory, an observer that waits for nothing, or a failure of the stream
 abbrev pub IsLate : Reason → Type 0
 IsLate Memory = Unit {0}
+IsLate Until = Unit {0}
 IsLate reason = IsOfStream reason
 
 reported_late : (reason : Reason) (was is : Bool) → IsLate reason → is ≡ was → BreaksStore reason was is
@@ -108,6 +113,7 @@ reported_late Memory was is s h = λ w. h ∙ w
 reported_late ReadFailed was is s h = h
 reported_late WriteFailed was is s h = h
 reported_late Halted was is s h = absurd s
+reported_late Until was is s h = h
 
 module _ (limit : ℕ) (names : Names) (due : Due) (es : List EventValue) (ds : List DeliveryValue) (taken id : ℕ) (rest : List ℕ) (was : Bool) (old new : Content) (at : ℕ) where
   abbrev pub why : Reason → Type 0
@@ -128,6 +134,7 @@ module _ (limit : ℕ) (names : Names) (due : Due) (es : List EventValue) (ds : 
   why_write_failed ReadFailed h w = absurd h
   why_write_failed WriteFailed h w = absurd h
   why_write_failed Halted h w = absurd h
+  why_write_failed Until h w = absurd h
 
   -- and an end of the input by a failed read
   pub why_read_failed : (reason : Reason) → reason ≡ EndOfInput → why reason → why ReadFailed
@@ -135,6 +142,9 @@ module _ (limit : ℕ) (names : Names) (due : Due) (es : List EventValue) (ds : 
 
   why_memory : (reason : Reason) → reason ≡ EndOfInput → why reason → why Memory
   why_memory reason h w = (subst (λ (v : Reason). why v) h w).0
+
+  why_until : (reason : Reason) → reason ≡ EndOfInput → why reason → why Until
+  why_until reason h w = (subst (λ (v : Reason). why v) h w).0
 
 -- for each reading of the bytes, one reason implies the other
 abbrev pub Retells : ℕ → Names → Bool → Content → List ℕ → Content → ℕ → Reason → Reason → Type 0
@@ -209,6 +219,27 @@ module _ {S : Type 0} (g : Ghosts S) where
               (λ new r w. why_memory session.config.limit before.following (due_after r.payloads) r.events r.deliveries (length r.front) r.id r.rest was old new end.at end.reason e w) has_read;
           in_full = λ h. absurd h;
           all_read = λ bad. let no : Memory ≡ EndOfInput = bad in cc;
+          is_due = is_due;
+          all_sent = inl tt;
+        }
+
+    -- nothing is read, since the observer waits for nothing
+    pub follows-until : end.reason ≡ EndOfInput → Follows g session.config before store was old left0 left written0 written (reported_as Until end)
+    unfolding ended_with has_read
+    follows-until e =
+        let full : IsInFull end.reason = subst (λ (v : Reason). IsInFull v) (sym e) tt in
+        record {
+          read = f.read;
+          sent = f.sent;
+          pending = session.out.items;
+          reads = f.reads;
+          writes = f.writes;
+          last = f.last;
+          unended = λ h. let no : Until ≡ ReadFailed = h in cc;
+          has_read = ended_with session.config.limit before store was old f.read end Until full tt
+              (λ new r w. why_until session.config.limit before.following (due_after r.payloads) r.events r.deliveries (length r.front) r.id r.rest was old new end.at end.reason e w) has_read;
+          in_full = λ h. absurd h;
+          all_read = λ bad. let no : Until ≡ EndOfInput = bad in cc;
           is_due = is_due;
           all_sent = inl tt;
         }

@@ -21,6 +21,7 @@ pub mod SomeEnd
 pub mod Failed
 pub mod Observed
 pub mod Noted
+pub mod Missing
 pub mod Followed
 pub mod Left
 pub mod FromReader

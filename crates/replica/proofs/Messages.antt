@@ -4,7 +4,7 @@ use Rattle.greet.specs.Message.{IsSwitch}
 use Rattle.gtid.specs.Identifier.{Ids}
 use Rattle.binlog.specs.Filter.{Names}
 use Rattle.replica.specs.declared.end.Reason.{Reason}
-use Rattle.replica.specs.declared.end.Reason.TheVariants.{EndOfInput, SourceEof, SourceError, Wire, Greet, Event, Gather, Refused, Database, Memory, ReadFailed, WriteFailed, Halted}
+use Rattle.replica.specs.declared.end.Reason.TheVariants.{EndOfInput, SourceEof, SourceError, Wire, Greet, Event, Gather, Refused, Database, Memory, ReadFailed, WriteFailed, Halted, Until}
 use Rattle.replica.specs.Settings.{Settings}
 use Rattle.replica.specs.Stream.{Due, Reply, SecondReply, next_due}
 use Rattle.wire.specs.Payload.{Payload}
@@ -28,6 +28,7 @@ message_ends names executed due p Memory n t = tt
 message_ends names executed due p ReadFailed n t = absurd t
 message_ends names executed due p WriteFailed n t = absurd t
 message_ends names executed due p Halted n t = absurd t
+message_ends names executed due p Until n t = absurd t
 
 pub dump_ends : (names : Names) (es : List EventValue) (p : Payload) (reason : Reason) → IsNoEvent InDump p → IsReportOf (refusal_of InDump p) reason → EndsDump names es p reason
 dump_ends names es p EndOfInput n t = absurd t
@@ -43,6 +44,7 @@ dump_ends names es p Memory n t = tt
 dump_ends names es p ReadFailed n t = absurd t
 dump_ends names es p WriteFailed n t = absurd t
 dump_ends names es p Halted n t = absurd t
+dump_ends names es p Until n t = absurd t
 
 pub answered_again : (settings : Settings) (names : Names) (executed : Ids) (scramble : List ℕ) (p : Payload) (old new : List ℕ) → IsSwitch scramble p → Sends 3 (auth_bytes settings.password scramble) old new
     → IsAnswered settings names executed Reply p old new

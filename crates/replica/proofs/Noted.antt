@@ -3,6 +3,7 @@ use Rattle.std.proofs.Common.{◌≡◌, ◌≢◌, ◌⊎◌, ◌∷◌, ◌++�
 use Rattle.std.specs.Prelude.{if◌then◌else◌, not}
 use Rattle.std.proofs.lemmas.Bool.{cases_Bool, false≢true}
 use Rattle.sqlite_trees.specs.declared.store.Store.{Ghosts}
+use Rattle.std.specs.FinSet as set
 use Rattle.gtid.specs.Identifier.{Ids}
 use Rattle.binlog.specs.Filter.{Names}
 use Rattle.gather.specs.Transaction.{DeliveryValue}
@@ -15,12 +16,12 @@ use Rattle.store.specs.declared.fault.StoreFault.TheVariants as fault
 use Rattle.store.specs.declared.store.Store.{Store}
 use Rattle.store.specs.Store.{Holds, HasFailed, HoldsAs, Applies}
 use Rattle.replica.specs.declared.end.Reason.{Reason}
-use Rattle.replica.specs.declared.end.Reason.TheVariants.{EndOfInput, SourceEof, SourceError, Wire, Greet, Event, Gather, Refused, Database, Memory, ReadFailed, WriteFailed, Halted}
+use Rattle.replica.specs.declared.end.Reason.TheVariants.{EndOfInput, SourceEof, SourceError, Wire, Greet, Event, Gather, Refused, Database, Memory, ReadFailed, WriteFailed, Halted, Until}
 use Rattle.replica.specs.declared.end.Ended.{Ended}
 use Rattle.replica.specs.Conn.{AppliesAll}
 use Rattle.replica.specs.PayloadStep.{outcome_of}
 use Rattle.replica.proofs.Transactions.{all_one}
-use Rattle.replica.specs.Noted.{Notice, opened, before, stopped, after, ended, HasBeenNoted, asked_about, ends_in, has_stop, has_last, LetsNone, applied_in, IsMadeBy, LeadsBy, Account, IsNotedOf, IsLedTo}
+use Rattle.replica.specs.Noted.{Notice, opened, before, stopped, after, ended, HasBeenNoted, asked_about, ends_in, has_stop, has_last, LetsNone, applied_in, IsMadeBy, LeadsBy, Account, IsNotedOf, IsLedTo, missing_after, StillWaits, waits_for_none, AreMissed, WereMissed}
 
 pub noted_none : (noted : Option (List Notice)) → HasBeenNoted noted noted []
 noted_none None = tt
@@ -31,6 +32,71 @@ noted_more first middle None xs ys a b = tt
 noted_more first None (Some l) xs ys a b = absurd b
 noted_more None (Some m) (Some l) xs ys a b = absurd a
 noted_more (Some f) (Some m) (Some l) xs ys a b = b ∙ ap (λ (x : List Notice). x ++ ys) a ∙ append_assoc f xs ys
+
+-- what is missing after one list and then another
+missing_more : (ids : Ids) (xs ys : List Notice) → missing_after ids (xs ++ ys) ≡ missing_after (missing_after ids xs) ys
+missing_more ids [] ys = refl
+missing_more ids (before d ∷ xs) ys = missing_more ids xs ys
+missing_more ids (stopped d ∷ xs) ys = missing_more ids xs ys
+missing_more ids (after d (Ok true) ∷ xs) ys = missing_more (set.remove ids (d.source, d.number)) xs ys
+missing_more ids (after d (Ok false) ∷ xs) ys = missing_more ids xs ys
+missing_more ids (after d (Err reason) ∷ xs) ys = missing_more ids xs ys
+missing_more ids (opened executed ∷ xs) ys = missing_more (set.difference ids executed) xs ys
+missing_more ids (ended end goes_on ∷ xs) ys = missing_more ids xs ys
+
+pub waits_none : (waits : Option Ids) → StillWaits waits [] waits
+waits_none None = tt
+waits_none (Some ids) = refl
+
+pub waits_more : (first middle last : Option Ids) (xs ys : List Notice) → StillWaits first xs middle → StillWaits middle ys last → StillWaits first (xs ++ ys) last
+waits_more first middle None xs ys a b = tt
+waits_more first None (Some l) xs ys a b = absurd b
+waits_more None (Some m) (Some l) xs ys a b = absurd a
+waits_more (Some f) (Some m) (Some l) xs ys a b = b ∙ ap (λ (ids : Ids). missing_after ids ys) a ∙ sym (missing_more f xs ys)
+
+-- what is reported of no transaction that was applied changes nothing
+waits_same : (was is : Option Ids) (n : Notice) → ((ids : Ids) → missing_after ids (n ∷ []) ≡ ids) → StillWaits was [] is → StillWaits was (n ∷ []) is
+waits_same was None n same a = tt
+waits_same None (Some is) n same a = absurd a
+waits_same (Some was) (Some is) n same a = a ∙ sym (same was)
+
+pub missed_none : (was is : Option Ids) → StillWaits was [] is → WereMissed was [] is
+missed_none was None a = tt
+missed_none None (Some is) a = absurd a
+missed_none (Some was) (Some is) a = tt
+
+all_missed : (ids : Ids) (xs ys : List Notice) → AreMissed ids xs → AreMissed (missing_after ids xs) ys → AreMissed ids (xs ++ ys)
+all_missed ids [] ys a b = b
+all_missed ids (before d ∷ xs) ys a b = (a.0, all_missed ids xs ys a.1 b)
+all_missed ids (stopped d ∷ xs) ys a b = all_missed ids xs ys a b
+all_missed ids (after d (Ok true) ∷ xs) ys a b = all_missed (set.remove ids (d.source, d.number)) xs ys a b
+all_missed ids (after d (Ok false) ∷ xs) ys a b = all_missed ids xs ys a b
+all_missed ids (after d (Err reason) ∷ xs) ys a b = all_missed ids xs ys a b
+all_missed ids (opened executed ∷ xs) ys a b = all_missed (set.difference ids executed) xs ys a b
+all_missed ids (ended end goes_on ∷ xs) ys a b = all_missed ids xs ys a b
+
+pub missed_more : (first middle last : Option Ids) (xs ys : List Notice) → StillWaits first xs middle → StillWaits middle ys last → WereMissed first xs middle → WereMissed middle ys last → WereMissed first (xs ++ ys) last
+missed_more first middle None xs ys a b m n = tt
+missed_more first None (Some l) xs ys a b m n = absurd b
+missed_more None (Some m) (Some l) xs ys a b p n = absurd a
+missed_more (Some f) (Some m) (Some l) xs ys a b p n = all_missed f xs ys p (subst (λ (ids : Ids). AreMissed ids ys) a n)
+
+-- what is reported of a transaction that is not to be applied
+missed_same : (was is : Option Ids) (n : Notice) → ((ids : Ids) → AreMissed ids (n ∷ [])) → StillWaits was (n ∷ []) is → WereMissed was (n ∷ []) is
+missed_same was None n same a = tt
+missed_same None (Some is) n same a = absurd a
+missed_same (Some was) (Some is) n same a = same was
+
+after_missed : (ids : Ids) (d : DeliveryValue) (answer : Result Bool Reason) → AreMissed ids (after d answer ∷ [])
+after_missed ids d (Ok true) = tt
+after_missed ids d (Ok false) = tt
+after_missed ids d (Err reason) = tt
+
+-- and of one that is
+missed_before : (was is : Option Ids) (d : DeliveryValue) → StillWaits was [] is → waits_for_none is ≡ false → WereMissed was (before d ∷ []) is
+missed_before was None d a some = tt
+missed_before None (Some is) d a some = absurd a
+missed_before (Some was) (Some is) d a some = (subst (λ (ids : Ids). set.is_subset ids set.empty ≡ false) a some, tt)
 
 pub none_more : (xs ys : List Notice) → LetsNone xs → LetsNone ys → LetsNone (xs ++ ys)
 none_more [] ys a b = b
@@ -93,7 +159,7 @@ ends_more (after d answer ∷ xs) ys = ends_more xs ys
 ends_more (ended end goes_on ∷ xs) ys = ap (λ (l : List Ended). end ∷ l) (ends_more xs ys)
 
 -- a transaction that is refused, or in which the store fails, changes nothing
-unchanged : (names : Names) (old : Content) (d : DeliveryValue) (reason : Reason) (mid : Content) → IsMadeBy names old d (Err reason) mid → mid ≡ old
+pub unchanged : (names : Names) (old : Content) (d : DeliveryValue) (reason : Reason) (mid : Content) → IsMadeBy names old d (Err reason) mid → mid ≡ old
 unchanged names old d EndOfInput mid a = a.1
 unchanged names old d SourceEof mid a = a.1
 unchanged names old d (SourceError code state message) mid a = a.1
@@ -107,6 +173,7 @@ unchanged names old d Memory mid a = a.1
 unchanged names old d ReadFailed mid a = a.1
 unchanged names old d WriteFailed mid a = a.1
 unchanged names old d Halted mid a = a.1
+unchanged names old d Until mid a = a.1
 
 -- the transactions reported as applied are applied in order, and each is new
 pub all_applied : (names : Names) (old : Content) (notices : List Notice) (new : Content) → LeadsBy names old notices new → AppliesAll names old (applied_in notices) (length (applied_in notices)) new
@@ -139,10 +206,12 @@ pub asked_new : (now : Content) (d : DeliveryValue) (was is : Option (List Notic
 asked_new now d was is true fresh noted = subst (λ (b : Bool). HasBeenNoted was is (if b then [] else before d ∷ [])) (sym fresh) noted
 asked_new now d was is false fresh noted = subst (λ (b : Bool). HasBeenNoted was is (if b then [] else stopped d ∷ [])) (sym fresh) noted
 
-pub nothing_noted : (names : Names) (old : Content) (was is : Account) → is.0 ≡ was.0 → (was.1 ≡ true → is.1 ≡ true) → IsNotedOf names old old was is []
-nothing_noted names old was is same stays = record {
+pub nothing_noted : (names : Names) (old : Content) (was is : Account) → is.0 ≡ was.0 → (was.1 ≡ true → is.1 ≡ true) → StillWaits was.2 [] is.2 → IsNotedOf names old old was is []
+nothing_noted names old was is same stays still = record {
   notices = [];
   noted = subst (λ (t : Option (List Notice)). HasBeenNoted was.0 t []) (sym same) (noted_none was.0);
+  waits = still;
+  missed = missed_none was.2 is.2 still;
   leads = refl;
   ends_are = refl;
   stays = stays;
@@ -155,6 +224,8 @@ pub noted_on : (names : Names) (old mid new : Content) (t0 t1 t2 : Account) (end
 noted_on names old mid new t0 t1 t2 ends more going a b = record {
   notices = a.notices ++ b.notices;
   noted = noted_more t0.0 t1.0 t2.0 a.notices b.notices a.noted b.noted;
+  waits = waits_more t0.2 t1.2 t2.2 a.notices b.notices a.waits b.waits;
+  missed = missed_more t0.2 t1.2 t2.2 a.notices b.notices a.waits b.waits a.missed b.missed;
   leads = leads_more names old a.notices mid b.notices new a.leads b.leads (λ h. b.lets_none (a.stops h))
       (λ h. absurd (false≢true (sym (going (λ none. false≢true (sym (no_last a.notices (a.ends_are ∙ none)) ∙ h))) ∙ a.last h)));
   ends_are = ends_more a.notices b.notices ∙ ap₂ (λ (x y : List Ended). x ++ y) a.ends_are b.ends_are;
@@ -171,6 +242,9 @@ pub record Asks (old : Content) (d : DeliveryValue) (t0 t1 t2 : Account) (answer
   pub goes_on : is_executed old d ≡ false → t1.1 ≡ false
   pub stays : t0.1 ≡ true → t1.1 ≡ true
   pub stays_after : t1.1 ≡ true → t2.1 ≡ true
+  pub still : StillWaits t0.2 [] t1.2
+  pub waits : StillWaits t1.2 (after d answer ∷ []) t2.2
+  pub missed : is_executed old d ≡ false → waits_for_none t1.2 ≡ false
 
 end_leads : (names : Names) (old : Content) (end : Ended) (goes_on : Bool) → LeadsBy names old (ended end goes_on ∷ []) old
 end_leads names old end true = refl
@@ -183,8 +257,8 @@ end_stops end false false asks last = asks
 
 module _ {S : Type 0} (g : Ghosts S) where
   -- nothing is reported, and the store stays as it is
-  pub led_nowhere : (broken : Bool) (old : Content) (store : Store S g) (was is : Account) → HoldsAs g broken old store → is.0 ≡ was.0 → (was.1 ≡ true → is.1 ≡ true) → IsLedTo g store store broken old was is []
-  led_nowhere broken old store was is holds same stays = record { now_broken = broken; new = old; holds = holds; noted_of = nothing_noted store.following old was is same stays }
+  pub led_nowhere : (broken : Bool) (old : Content) (store : Store S g) (was is : Account) → HoldsAs g broken old store → is.0 ≡ was.0 → (was.1 ≡ true → is.1 ≡ true) → StillWaits was.2 [] is.2 → IsLedTo g store store broken old was is []
+  led_nowhere broken old store was is holds same stays still = record { now_broken = broken; new = old; holds = holds; noted_of = nothing_noted store.following old was is same stays still }
 
   pub led_on : (broken : Bool) (old : Content) (first middle last : Store S g) (t0 t1 t2 : Account) (ends more : List Ended) → middle.following ≡ first.following → (ends ≢ [] → t1.1 ≡ false)
       → (a : IsLedTo g first middle broken old t0 t1 ends) → IsLedTo g middle last a.now_broken a.new t1 t2 more → IsLedTo g first last broken old t0 t2 (ends ++ more)
@@ -200,14 +274,16 @@ module _ {S : Type 0} (g : Ghosts S) where
   led_through broken old first middle last t0 t1 t2 ends more same going a next = led_on broken old first middle last t0 t1 t2 ends more same going a (next a.now_broken a.new a.holds)
 
   -- what is reported before makes no difference, if it is of no transaction
-  pub led_after : (broken : Bool) (old : Content) (first last : Store S g) (t0 t1 t2 : Account) (ends : List Ended) → t1.0 ≡ t0.0 → (t0.1 ≡ true → t1.1 ≡ true) → IsLedTo g first last broken old t1 t2 ends → IsLedTo g first last broken old t0 t2 ends
-  led_after broken old first last t0 t1 t2 ends early stays a = record {
+  pub led_after : (broken : Bool) (old : Content) (first last : Store S g) (t0 t1 t2 : Account) (ends : List Ended) → t1.0 ≡ t0.0 → (t0.1 ≡ true → t1.1 ≡ true) → StillWaits t0.2 [] t1.2 → IsLedTo g first last broken old t1 t2 ends → IsLedTo g first last broken old t0 t2 ends
+  led_after broken old first last t0 t1 t2 ends early stays still a = record {
     now_broken = a.now_broken;
     new = a.new;
     holds = a.holds;
     noted_of = record {
       notices = a.noted_of.notices;
       noted = subst (λ (t : Option (List Notice)). HasBeenNoted t t2.0 a.noted_of.notices) early a.noted_of.noted;
+      waits = waits_more t0.2 t1.2 t2.2 [] a.noted_of.notices still a.noted_of.waits;
+      missed = missed_more t0.2 t1.2 t2.2 [] a.noted_of.notices still a.noted_of.waits (missed_none t0.2 t1.2 still) a.noted_of.missed;
       leads = a.noted_of.leads;
       ends_are = a.noted_of.ends_are;
       stays = λ on. a.noted_of.stays (stays on);
@@ -218,24 +294,26 @@ module _ {S : Type 0} (g : Ghosts S) where
   }
 
   -- the executed set of a store
-  pub led_from : (broken : Bool) (old : Content) (store : Store S g) (ids : Ids) (was is : Account) → HoldsAs g broken old store → ids ≡ old.executed → HasBeenNoted was.0 is.0 (opened ids ∷ []) → (was.1 ≡ true → is.1 ≡ true) → IsLedTo g store store broken old was is []
-  led_from broken old store ids was is holds same notes stays = record {
+  pub led_from : (broken : Bool) (old : Content) (store : Store S g) (ids : Ids) (was is : Account) → HoldsAs g broken old store → ids ≡ old.executed → HasBeenNoted was.0 is.0 (opened ids ∷ []) → (was.1 ≡ true → is.1 ≡ true) → StillWaits was.2 (opened ids ∷ []) is.2 → IsLedTo g store store broken old was is []
+  led_from broken old store ids was is holds same notes stays waits = record {
     now_broken = broken;
     new = old;
     holds = holds;
-    noted_of = record { notices = opened ids ∷ []; noted = notes; leads = (same, refl); ends_are = refl; stays = stays; stops = λ bad. absurd (false≢true bad); last = λ bad. absurd (false≢true bad); lets_none = λ on. tt };
+    noted_of = record { notices = opened ids ∷ []; noted = notes; waits = waits; missed = missed_same was.2 is.2 (opened ids) (λ all. tt) waits; leads = (same, refl); ends_are = refl; stays = stays; stops = λ bad. absurd (false≢true bad); last = λ bad. absurd (false≢true bad); lets_none = λ on. tt };
   }
 
   -- the end of a connection
-  pub led_to_end : (broken : Bool) (old : Content) (store : Store S g) (end : Ended) (goes_on : Bool) (was is : Account) → HoldsAs g broken old store → HasBeenNoted was.0 is.0 (ended end goes_on ∷ []) → goes_on ≡ not is.1 → (was.1 ≡ true → is.1 ≡ true)
+  pub led_to_end : (broken : Bool) (old : Content) (store : Store S g) (end : Ended) (goes_on : Bool) (was is : Account) → HoldsAs g broken old store → HasBeenNoted was.0 is.0 (ended end goes_on ∷ []) → goes_on ≡ not is.1 → (was.1 ≡ true → is.1 ≡ true) → StillWaits was.2 [] is.2
       → IsLedTo g store store broken old was is (end ∷ [])
-  led_to_end broken old store end goes_on was is holds notes asks stays = record {
+  led_to_end broken old store end goes_on was is holds notes asks stays still = record {
     now_broken = broken;
     new = old;
     holds = holds;
     noted_of = record {
       notices = ended end goes_on ∷ [];
       noted = notes;
+      waits = waits_same was.2 is.2 (ended end goes_on) (λ ids. refl) still;
+      missed = missed_same was.2 is.2 (ended end goes_on) (λ ids. tt) (waits_same was.2 is.2 (ended end goes_on) (λ ids. refl) still);
       leads = end_leads store.following old end goes_on;
       ends_are = refl;
       stays = stays;
@@ -246,15 +324,17 @@ module _ {S : Type 0} (g : Ghosts S) where
   }
 
   -- a new transaction, before which the observer stops
-  pub led_to_stop : (broken : Bool) (old : Content) (store : Store S g) (d : DeliveryValue) (was is : Account) → HoldsAs g broken old store → is_executed old d ≡ false → HasBeenNoted was.0 is.0 (asked_about old d true) → is.1 ≡ true
+  pub led_to_stop : (broken : Bool) (old : Content) (store : Store S g) (d : DeliveryValue) (was is : Account) → HoldsAs g broken old store → is_executed old d ≡ false → HasBeenNoted was.0 is.0 (asked_about old d true) → is.1 ≡ true → StillWaits was.2 [] is.2
       → IsLedTo g store store broken old was is []
-  led_to_stop broken old store d was is holds fresh asked on = record {
+  led_to_stop broken old store d was is holds fresh asked on still = record {
     now_broken = broken;
     new = old;
     holds = holds;
     noted_of = record {
       notices = stopped d ∷ [];
       noted = subst (λ (b : Bool). HasBeenNoted was.0 is.0 (if b then [] else stopped d ∷ [])) fresh asked;
+      waits = waits_same was.2 is.2 (stopped d) (λ ids. refl) still;
+      missed = missed_same was.2 is.2 (stopped d) (λ ids. tt) (waits_same was.2 is.2 (stopped d) (λ ids. refl) still);
       leads = (fresh, tt, refl);
       ends_are = refl;
       stays = λ was_on. on;
@@ -274,6 +354,9 @@ module _ {S : Type 0} (g : Ghosts S) where
     noted_of = record {
       notices = before d ∷ after d answer ∷ [];
       noted = noted_more t0.0 t1.0 t2.0 (before d ∷ []) (after d answer ∷ []) (subst (λ (b : Bool). HasBeenNoted t0.0 t1.0 (if b then [] else before d ∷ [])) fresh a.asked) a.noted;
+      waits = waits_more t0.2 t1.2 t2.2 (before d ∷ []) (after d answer ∷ []) (waits_same t0.2 t1.2 (before d) (λ ids. refl) a.still) a.waits;
+      missed = missed_more t0.2 t1.2 t2.2 (before d ∷ []) (after d answer ∷ []) (waits_same t0.2 t1.2 (before d) (λ ids. refl) a.still) a.waits
+          (missed_before t0.2 t1.2 d a.still (a.missed fresh)) (missed_same t1.2 t2.2 (after d answer) (λ ids. after_missed ids d answer) a.waits);
       leads = (refl, new, makes, refl);
       ends_are = refl;
       stays = λ on. a.stays_after (a.stays on);
@@ -293,6 +376,8 @@ module _ {S : Type 0} (g : Ghosts S) where
     noted_of = record {
       notices = after d answer ∷ [];
       noted = noted_more t0.0 t1.0 t2.0 [] (after d answer ∷ []) (subst (λ (b : Bool). HasBeenNoted t0.0 t1.0 (if b then [] else before d ∷ [])) known a.asked) a.noted;
+      waits = waits_more t0.2 t1.2 t2.2 [] (after d answer ∷ []) a.still a.waits;
+      missed = missed_more t0.2 t1.2 t2.2 [] (after d answer ∷ []) a.still a.waits (missed_none t0.2 t1.2 a.still) (missed_same t1.2 t2.2 (after d answer) (λ ids. after_missed ids d answer) a.waits);
       leads = leads;
       ends_are = refl;
       stays = λ on. a.stays_after (a.stays on);

@@ -4,7 +4,7 @@ use Rattle.std.proofs.lemmas.Bool.{false≢true}
 use Rattle.std.proofs.lemmas.List.Elements.{All-push}
 use Rattle.replica.specs.declared.end.Ended.{Ended}
 use Rattle.replica.specs.declared.end.Reason.{Reason}
-use Rattle.replica.specs.declared.end.Reason.TheVariants.{EndOfInput, SourceEof, SourceError, Wire, Greet, Event, Gather, Refused, Database, Memory, ReadFailed, WriteFailed, Halted}
+use Rattle.replica.specs.declared.end.Reason.TheVariants.{EndOfInput, SourceEof, SourceError, Wire, Greet, Event, Gather, Refused, Database, Memory, ReadFailed, WriteFailed, Halted, Until}
 use Rattle.replica.specs.Conn.{IsOwn, MayEnd, IsNoStreamFailure}
 
 pub own_may : (reason : Reason) (stopped : Bool) → IsOwn reason → MayEnd reason stopped
@@ -21,6 +21,7 @@ own_may Memory stopped h = tt
 own_may ReadFailed stopped h = absurd h
 own_may WriteFailed stopped h = absurd h
 own_may Halted stopped h = absurd h
+own_may Until stopped h = absurd h
 
 -- an observer does not take back that it has stopped
 pub may_later : (reason : Reason) (before after : Bool) → (before ≡ true → after ≡ true) → MayEnd reason before → MayEnd reason after
@@ -37,6 +38,7 @@ may_later Memory before after stays h = tt
 may_later ReadFailed before after stays h = absurd h
 may_later WriteFailed before after stays h = absurd h
 may_later Halted before after stays h = stays h
+may_later Until before after stays h = stays h
 
 pub not_of_stream : (reason : Reason) (stopped : Bool) → MayEnd reason stopped → IsNoStreamFailure reason
 not_of_stream EndOfInput stopped h = tt
@@ -52,6 +54,7 @@ not_of_stream Memory stopped h = tt
 not_of_stream ReadFailed stopped h = absurd h
 not_of_stream WriteFailed stopped h = absurd h
 not_of_stream Halted stopped h = tt
+not_of_stream Until stopped h = tt
 
 pub asked : (reason : Reason) (stopped : Bool) → MayEnd reason stopped → reason ≡ Halted → stopped ≡ true
 asked reason stopped h is = subst (λ r. MayEnd r stopped) is h

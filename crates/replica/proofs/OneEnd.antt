@@ -26,7 +26,7 @@ use Rattle.gather.specs.declared.fault.GatherFault.{GatherFault}
 use Rattle.gather.proofs.NextEvents.{not_both, one as one_fault}
 use Rattle.gather.proofs.Shortening.{beginning}
 use Rattle.replica.specs.declared.end.Reason.{Reason}
-use Rattle.replica.specs.declared.end.Reason.TheVariants.{EndOfInput, SourceEof, SourceError, Wire, Greet, Event, Gather, Refused, Database, Memory, ReadFailed, WriteFailed, Halted}
+use Rattle.replica.specs.declared.end.Reason.TheVariants.{EndOfInput, SourceEof, SourceError, Wire, Greet, Event, Gather, Refused, Database, Memory, ReadFailed, WriteFailed, Halted, Until}
 use Rattle.replica.specs.Stream.{Due, Hello, Reply, SecondReply, QueryReply, InDump, IsInDump, Carries, Answers, Talks, Reading, next_due, next_id, due_from, due_after}
 use Rattle.replica.specs.Message.{refusal_of, begins_event, IsNoEvent, IsOfMessage}
 use Rattle.replica.specs.Report.{Report, Verdict, report_of, reported_refusal}
@@ -266,6 +266,7 @@ eof_denied names due es p Memory h eof d = d
 eof_denied names due es p ReadFailed h eof d = d
 eof_denied names due es p WriteFailed h eof d = d
 eof_denied names due es p Halted h eof d = d
+eof_denied names due es p Until h eof d = d
 
 module _ (limit : ℕ) (names : Names) (due : Due) (es : List EventValue) (taken id : ℕ) (r : List ℕ) where
   -- an end after which nothing goes on: what the payload reports
@@ -292,6 +293,7 @@ module _ (limit : ℕ) (names : Names) (due : Due) (es : List EventValue) (taken
   denied ReadFailed p first others fs ds fits a split are d = d
   denied WriteFailed p first others fs ds fits a split are d = d
   denied Halted p first others fs ds fits a split are d = d
+  denied Until p first others fs ds fits a split are d = d
 
   module _ (x y : List ℕ) (fs : List EventValue) (ds : List DeliveryValue) (f : Further limit names due id x es r y fs) (taken_is : taken ≡ length x) (bytes : AllByRecursion (λ b. b < 256) r) (within : length y < 2 ^ 64) (are : AreDeliveries fs ds) where
     fits : taken + length f.packing < 2 ^ 64
@@ -323,6 +325,7 @@ module _ (limit : ℕ) (names : Names) (due : Due) (es : List EventValue) (taken
     blocked at ReadFailed s = s
     blocked at WriteFailed s = s
     blocked at Halted s = s
+    blocked at Until s = s
 
   -- an end of the log is not an end of another kind
   ends_so : (reason : Reason) (other : ℕ) → EndsLog limit names due es taken id r other → EndsWith limit names due es taken id r reason → ⊥
@@ -347,6 +350,7 @@ module _ (limit : ℕ) (names : Names) (due : Due) (es : List EventValue) (taken
   no_log other at ReadFailed l s h = s
   no_log other at WriteFailed l s h = s
   no_log other at Halted l s h = s
+  no_log other at Until l s h = s
 
   -- where it stops
   offset_of : (at : ℕ) (reason : Reason) → StopsFor limit names due es taken id r at reason → ((at ≡ taken) × (reason ≢ SourceEof)) ⊎ EndsLog limit names due es taken id r at
@@ -363,6 +367,7 @@ module _ (limit : ℕ) (names : Names) (due : Due) (es : List EventValue) (taken
   offset_of at ReadFailed s = absurd s
   offset_of at WriteFailed s = absurd s
   offset_of at Halted s = absurd s
+  offset_of at Until s = absurd s
 
   one_offset : (at other : ℕ) (reason also : Reason) → StopsFor limit names due es taken id r at reason → StopsFor limit names due es taken id r other also → at ≡ other
   one_offset at other reason also s t = elim (offset_of at reason s) [
@@ -549,6 +554,7 @@ module _ (limit : ℕ) (names : Names) (due : Due) (es : List EventValue) (taken
   tells at ReadFailed s = absurd s
   tells at WriteFailed s = absurd s
   tells at Halted s = absurd s
+  tells at Until s = absurd s
 
   same_verdict : (p : Payload) (a b : Verdict) → AllByRecursion (λ v. v < 256) p → SaysSo p a → SaysSo p b → a ≡ b
   same_verdict p a b fits x y = elim x [

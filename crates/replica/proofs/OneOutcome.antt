@@ -17,7 +17,7 @@ use Rattle.store.specs.declared.row_change.Refusal as row
 use Rattle.replica.specs.declared.end.Refusal.{Refusal}
 use Rattle.replica.specs.declared.end.Refusal.TheVariants.{NoSuchRow, CountFull}
 use Rattle.replica.specs.declared.end.Reason.{Reason}
-use Rattle.replica.specs.declared.end.Reason.TheVariants.{EndOfInput, SourceEof, SourceError, Wire, Greet, Event, Gather, Refused, Database, Memory, ReadFailed, WriteFailed, Halted}
+use Rattle.replica.specs.declared.end.Reason.TheVariants.{EndOfInput, SourceEof, SourceError, Wire, Greet, Event, Gather, Refused, Database, Memory, ReadFailed, WriteFailed, Halted, Until}
 use Rattle.replica.specs.declared.end.Ended.{Ended}
 use Rattle.replica.specs.Stream.{Due, Hello, Reply, SecondReply, QueryReply, InDump, IsInDump, Carries, Answers, Talks, Reading, next_due, next_id, due_from, due_after}
 use Rattle.wire.specs.Payload.{Payload}
@@ -88,6 +88,7 @@ kind_of limit names due es ds taken id rest was old new at Memory h w = absurd h
 kind_of limit names due es ds taken id rest was old new at ReadFailed h w = absurd h
 kind_of limit names due es ds taken id rest was old new at WriteFailed h w = absurd h
 kind_of limit names due es ds taken id rest was old new at Halted h w = absurd h
+kind_of limit names due es ds taken id rest was old new at Until h w = absurd h
 
 none_refused : (reason : Reason) → IsOfBytes reason → refused_by reason ≡ None
 none_refused EndOfInput h = refl
@@ -103,6 +104,7 @@ none_refused Memory h = absurd h
 none_refused ReadFailed h = absurd h
 none_refused WriteFailed h = absurd h
 none_refused Halted h = absurd h
+none_refused Until h = absurd h
 
 -- ---- A refused transaction is not taken, and is refused for one reason.
 

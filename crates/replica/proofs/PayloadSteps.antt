@@ -10,7 +10,7 @@ use Rattle.binlog.specs.Filter.{Names}
 use Rattle.gather.specs.declared.gatherer.Gatherer.{Gatherer}
 use Rattle.store.specs.State.{Content}
 use Rattle.replica.specs.declared.end.Reason.{Reason}
-use Rattle.replica.specs.declared.end.Reason.TheVariants.{EndOfInput, SourceEof, SourceError, Wire, Greet, Event, Gather, Refused, Database, Memory, ReadFailed, WriteFailed, Halted}
+use Rattle.replica.specs.declared.end.Reason.TheVariants.{EndOfInput, SourceEof, SourceError, Wire, Greet, Event, Gather, Refused, Database, Memory, ReadFailed, WriteFailed, Halted, Until}
 use Rattle.replica.specs.declared.end.Ended.{Ended}
 use Rattle.replica.specs.declared.phase.Phase.{Phase}
 use Rattle.replica.specs.declared.phase.Phase.TheVariants as phases
@@ -159,3 +159,4 @@ module _ (settings : Settings) (assembly : ReaderState) (gatherer : Gatherer) (w
   message_ends_it ReadFailed within e = absurd e
   message_ends_it WriteFailed within e = absurd e
   message_ends_it Halted within e = absurd e
+  message_ends_it Until within e = absurd e

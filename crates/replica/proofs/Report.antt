@@ -4,7 +4,7 @@ use Rattle.wire.specs.declared.fault.WireFault.TheVariants as wire
 use Rattle.binlog.specs.Filter.{Names}
 use Rattle.store.specs.State.{Content}
 use Rattle.replica.specs.declared.end.Reason.{Reason}
-use Rattle.replica.specs.declared.end.Reason.TheVariants.{EndOfInput, SourceEof, SourceError, Wire, Greet, Event, Gather, Refused, Database, Memory, ReadFailed, WriteFailed, Halted}
+use Rattle.replica.specs.declared.end.Reason.TheVariants.{EndOfInput, SourceEof, SourceError, Wire, Greet, Event, Gather, Refused, Database, Memory, ReadFailed, WriteFailed, Halted, Until}
 use Rattle.replica.specs.declared.end.Ended.{Ended}
 use Rattle.replica.specs.declared.session.Session.{Session}
 use Rattle.replica.specs.Stream.{Reading, due_after}
@@ -31,6 +31,7 @@ stops_of limit names was old new b r at Memory h w = absurd h
 stops_of limit names was old new b r at ReadFailed h w = absurd h
 stops_of limit names was old new b r at WriteFailed h w = absurd h
 stops_of limit names was old new b r at Halted h w = absurd h
+stops_of limit names was old new b r at Until h w = absurd h
 
 pub end_by : (limit : ℕ) (names : Names) (was : Bool) (old : Content) (b : List ℕ) (new : Content) (end : Ended) → Conn limit names was old b new end → IsOfBytes end.reason
     → End limit names b end.reason end.at ⊎ ((end.reason ≡ Wire wire.TooLarge) × IsDumpTooLong old.executed)

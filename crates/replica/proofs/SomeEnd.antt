@@ -15,7 +15,7 @@ use Rattle.gather.specs.Transaction.{DeliveryValue, AreDeliveries}
 use Rattle.gather.specs.Fault.{IsFromBytes}
 use Rattle.store.specs.State.{Content}
 use Rattle.replica.specs.declared.end.Reason.{Reason}
-use Rattle.replica.specs.declared.end.Reason.TheVariants.{EndOfInput, SourceEof, SourceError, Wire, Greet, Event, Gather, Refused, Database, Memory, ReadFailed, WriteFailed, Halted}
+use Rattle.replica.specs.declared.end.Reason.TheVariants.{EndOfInput, SourceEof, SourceError, Wire, Greet, Event, Gather, Refused, Database, Memory, ReadFailed, WriteFailed, Halted, Until}
 use Rattle.replica.specs.Stream.{Due, Hello, Reply, SecondReply, QueryReply, InDump, IsInDump, Carries, Answers, Reading, next_due, next_id, due_after}
 use Rattle.replica.specs.End.{HasNext, StopsAt, IsWrong, Denies}
 use Rattle.replica.specs.Conn.{AppliesAll, IsDumpTooLong, HasApplied, Why}
@@ -73,6 +73,7 @@ module _ (limit : ℕ) (names : Names) (due : Due) (es : List EventValue) (ds : 
   denied_so p ReadFailed s d = absurd d
   denied_so p WriteFailed s d = absurd d
   denied_so p Halted s d = absurd d
+  denied_so p Until s d = absurd d
 
 -- ---- One payload more.
 

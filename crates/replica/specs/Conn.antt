@@ -17,7 +17,7 @@ use Rattle.store.specs.declared.row_change.Refusal.TheVariants as why
 use Rattle.replica.specs.declared.end.Refusal.{Refusal}
 use Rattle.replica.specs.declared.end.Refusal.TheVariants.{NoSuchRow, CountFull}
 use Rattle.replica.specs.declared.end.Reason.{Reason}
-use Rattle.replica.specs.declared.end.Reason.TheVariants.{EndOfInput, SourceEof, SourceError, Wire, Greet, Event, Gather, Refused, Database, Memory, ReadFailed, WriteFailed, Halted}
+use Rattle.replica.specs.declared.end.Reason.TheVariants.{EndOfInput, SourceEof, SourceError, Wire, Greet, Event, Gather, Refused, Database, Memory, ReadFailed, WriteFailed, Halted, Until}
 use Rattle.replica.specs.declared.end.Ended.{Ended}
 use Rattle.replica.specs.Stream.{Due, QueryReply, IsInDump, Carries, Reading, due_after}
 use Rattle.wire.specs.Payload.{Payload}
@@ -120,6 +120,8 @@ module _ (limit : ℕ) (names : Names) (due : Due) (es : List EventValue) (ds : 
   -- the pending output may be sent after the end of the log
   Why was old new at WriteFailed = (at ≡ taken) ⊎ EndsLog limit names due es taken id rest at
   Why was old new at Halted = (at ≡ taken) × IsNextNew new
+  -- the observer waits for nothing more
+  Why was old new at Until = at ≡ taken
 
 -- A connection with these bytes, for a store that had failed before or not, leads from old to new and has this end: a
 -- prefix of its bytes is a conversation, whose transactions are applied in order and none refused. If the store had
@@ -174,6 +176,7 @@ IsOfBytes Memory = ⊥
 IsOfBytes ReadFailed = ⊥
 IsOfBytes WriteFailed = ⊥
 IsOfBytes Halted = ⊥
+IsOfBytes Until = ⊥
 IsOfBytes _ = Unit {0}
 
 -- The connection is ended neither by a failure of a stream nor by the observer.
@@ -181,6 +184,7 @@ abbrev pub IsOwn : Reason → Type 0
 IsOwn ReadFailed = ⊥
 IsOwn WriteFailed = ⊥
 IsOwn Halted = ⊥
+IsOwn Until = ⊥
 IsOwn _ = Unit {0}
 
 -- The connection is not ended by a failure of a stream, and by the observer only if that has stopped.
@@ -188,6 +192,7 @@ abbrev pub MayEnd : Reason → Bool → Type 0
 MayEnd ReadFailed stopped = ⊥
 MayEnd WriteFailed stopped = ⊥
 MayEnd Halted stopped = stopped ≡ true
+MayEnd Until stopped = stopped ≡ true
 MayEnd _ stopped = Unit {0}
 
 -- No read and no write of a stream has failed.

@@ -11,7 +11,7 @@ use Rattle.binlog.specs.Filter.{Names}
 use Rattle.binlog.specs.Event.{EventValue, event_fault}
 use Rattle.gather.specs.Fault.{IsFault}
 use Rattle.replica.specs.declared.end.Reason.{Reason}
-use Rattle.replica.specs.declared.end.Reason.TheVariants.{EndOfInput, SourceEof, SourceError, Wire, Greet, Event, Gather, Refused, Database, Memory, ReadFailed, WriteFailed, Halted}
+use Rattle.replica.specs.declared.end.Reason.TheVariants.{EndOfInput, SourceEof, SourceError, Wire, Greet, Event, Gather, Refused, Database, Memory, ReadFailed, WriteFailed, Halted, Until}
 use Rattle.replica.specs.Stream.{Due, IsInDump, Carries, Reading, due_after}
 use Rattle.replica.specs.Message.{refusal_of, IsNoEvent, IsOfMessage}
 
@@ -84,6 +84,7 @@ module _ (limit : ℕ) (names : Names) (due : Due) (es : List EventValue) (taken
   StopsFor at ReadFailed = ⊥
   StopsFor at WriteFailed = ⊥
   StopsFor at Halted = ⊥
+  StopsFor at Until = ⊥
 
 -- the reading of these bytes stops at this offset, for this reason
 abbrev pub Stops : (limit : ℕ) (names : Names) (b : List ℕ) → Reading limit names b → ℕ → Reason → Type 0

@@ -7,7 +7,7 @@ use Rattle.store.specs.State.{Content}
 use Rattle.store.specs.declared.store.Store.{Store}
 use Rattle.store.specs.Store.{database, names_of}
 use Rattle.replica.specs.declared.end.Reason.{Reason}
-use Rattle.replica.specs.declared.end.Reason.TheVariants.{EndOfInput, Refused, Database, Memory, ReadFailed, WriteFailed, Halted}
+use Rattle.replica.specs.declared.end.Reason.TheVariants.{EndOfInput, Refused, Database, Memory, ReadFailed, WriteFailed, Halted, Until}
 use Rattle.replica.specs.declared.end.Ended.{Ended}
 use Rattle.replica.specs.declared.session.Session.{Session}
 use Rattle.replica.specs.declared.following.Turn.{Turn}
@@ -28,6 +28,7 @@ abbrev pub sends_no_more_after : Reason → Bool
 sends_no_more_after Memory = true
 sends_no_more_after (Database cause) = true
 sends_no_more_after Halted = true
+sends_no_more_after Until = true
 sends_no_more_after _ = false
 
 -- some pending output may stay unsent
@@ -36,6 +37,7 @@ MaySendLess Memory = Unit {0}
 MaySendLess (Database cause) = Unit {0}
 MaySendLess WriteFailed = Unit {0}
 MaySendLess Halted = Unit {0}
+MaySendLess Until = Unit {0}
 MaySendLess _ = ⊥
 
 -- a failure of the stream

@@ -14,6 +14,7 @@ pub mod Over
 pub mod Pieces
 pub mod Report
 pub mod Noted
+pub mod Missing
 pub mod Failing
 pub mod Follow
 pub mod Resume

@@ -1,6 +1,7 @@
 -- What is reported to an observer of transactions and connections, and what follows from that.
 use Rattle.std.specs.Prelude.{◌≡◌, Bool, true, false, if◌then◌else◌, List, [], ◌∷◌, ◌++◌, Option, Some, None, Result, Ok, Err}
 use Rattle.sqlite_trees.specs.declared.store.Store.{Ghosts}
+use Rattle.std.specs.FinSet as set
 use Rattle.gtid.specs.Identifier.{Ids}
 use Rattle.binlog.specs.Filter.{Names}
 use Rattle.gather.specs.Transaction.{DeliveryValue}
@@ -63,6 +64,46 @@ applied_in [] = []
 applied_in (after d (Ok true) ∷ notices) = d ∷ applied_in notices
 applied_in (_ ∷ notices) = applied_in notices
 
+-- Which of these transactions are missing after this was reported: those that no opened database had executed and that were not
+-- reported as applied.
+abbrev pub missing_after : Ids → List Notice → Ids
+missing_after ids [] = ids
+missing_after ids (opened executed ∷ notices) = missing_after (set.difference ids executed) notices
+missing_after ids (after d (Ok true) ∷ notices) = missing_after (set.remove ids (d.source, d.number)) notices
+missing_after ids (_ ∷ notices) = missing_after ids notices
+
+-- An observer may say which transactions it still waits for. If it does so afterwards, it did so before, and waits for those that
+-- are missing after what was reported to it.
+abbrev pub StillWaits : Option Ids → List Notice → Option Ids → Type 0
+StillWaits was notices None = Unit {0}
+StillWaits None notices (Some is) = ⊥
+StillWaits (Some was) notices (Some is) = is ≡ missing_after was notices
+
+-- whether it says so, and waits for none
+abbrev pub waits_for_none : Option Ids → Bool
+waits_for_none None = false
+waits_for_none (Some ids) = set.is_subset ids set.empty
+
+-- Something of these transactions is missing before each one that is to be applied.
+abbrev pub AreMissed : Ids → List Notice → Type 0
+AreMissed ids [] = Unit {0}
+AreMissed ids (opened executed ∷ notices) = AreMissed (set.difference ids executed) notices
+AreMissed ids (before d ∷ notices) = (set.is_subset ids set.empty ≡ false) × AreMissed ids notices
+AreMissed ids (after d (Ok true) ∷ notices) = AreMissed (set.remove ids (d.source, d.number)) notices
+AreMissed ids (_ ∷ notices) = AreMissed ids notices
+
+-- The same of what an observer waited for, if it still says so.
+abbrev pub WereMissed : Option Ids → List Notice → Option Ids → Type 0
+WereMissed was notices None = Unit {0}
+WereMissed None notices (Some is) = ⊥
+WereMissed (Some was) notices (Some is) = AreMissed was notices
+
+-- Of what an observer waited for, something was not executed, unless it does not say any more what it waits for.
+abbrev pub WasMissing : Option Ids → Option Ids → Ids → Type 0
+WasMissing was None executed = Unit {0}
+WasMissing None (Some is) executed = ⊥
+WasMissing (Some wanted) (Some is) executed = set.is_subset wanted executed ≡ false
+
 -- What a new transaction that was reported with this answer makes of a content.
 abbrev pub IsMadeBy : Names → Content → DeliveryValue → Result Bool Reason → Content → Type 0
 IsMadeBy names old d (Ok true) new = HasOutcome names old d (done new)
@@ -85,15 +126,18 @@ LeadsBy names old (opened ids ∷ notices) new = (ids ≡ old.executed) × Leads
 LeadsBy names old (ended end true ∷ notices) new = LeadsBy names old notices new
 LeadsBy names old (ended end false ∷ notices) new = (notices ≡ []) × (new ≡ old)
 
--- what was reported to an observer, if it keeps an account of that, and whether it has stopped
+-- what was reported to an observer, if it keeps an account of that; whether it has stopped; and what it still waits for, if it says so
 abbrev pub Account : Type 0
-Account = Option (List Notice) × Bool
+Account = Option (List Notice) × Bool × Option Ids
 
 -- What was reported to an observer from one moment to another leads from one content to another, and these are the ends of connections
--- in it. If it had stopped at the first, nothing was to be applied.
+-- in it; and it waits for what is missing after it, of which something was missing before each transaction that was to be applied. If it
+-- had stopped at the first, nothing was to be applied.
 pub record IsNotedOf (names : Names) (old new : Content) (was is : Account) (ends : List Ended) : Type 0 where
   pub notices : List Notice
   pub noted : HasBeenNoted was.0 is.0 notices
+  pub waits : StillWaits was.2 notices is.2
+  pub missed : WereMissed was.2 notices is.2
   pub leads : LeadsBy names old notices new
   pub ends_are : ends_in notices ≡ ends
   pub stays : was.1 ≡ true → is.1 ≡ true

@@ -12,7 +12,7 @@ use Rattle.gtid.specs.Encoding.{IsEncoding}
 use Rattle.binlog.specs.Filter.{Names}
 use Rattle.binlog.specs.Event.{EventValue}
 use Rattle.replica.specs.declared.end.Reason.{Reason}
-use Rattle.replica.specs.declared.end.Reason.TheVariants.{EndOfInput, SourceEof, SourceError, Wire, Greet, Event, Gather, Refused, Database, Memory, ReadFailed, WriteFailed, Halted}
+use Rattle.replica.specs.declared.end.Reason.TheVariants.{EndOfInput, SourceEof, SourceError, Wire, Greet, Event, Gather, Refused, Database, Memory, ReadFailed, WriteFailed, Halted, Until}
 use Rattle.gather.specs.Transaction.{DeliveryValue}
 use Rattle.gather.specs.Standing.{HasGathered as Gathers}
 use Rattle.gather.specs.declared.gatherer.Gatherer.{Gatherer}
@@ -65,6 +65,7 @@ EndsAt names executed due p (Database cause) = ⊥
 EndsAt names executed due p ReadFailed = ⊥
 EndsAt names executed due p WriteFailed = ⊥
 EndsAt names executed due p Halted = ⊥
+EndsAt names executed due p Until = ⊥
 
 -- The dump command with the set was appended.
 pub record SendsDump (settings : Settings) (executed : Ids) (old new : List ℕ) : Type 0 where
@@ -95,6 +96,7 @@ EndsDump names es p (Database cause) = ⊥
 EndsDump names es p ReadFailed = ⊥
 EndsDump names es p WriteFailed = ⊥
 EndsDump names es p Halted = ⊥
+EndsDump names es p Until = ⊥
 
 -- The payload has an event that ends these transactions, one or none, and the gatherer was given it.
 pub record GathersMore (names : Names) (es : List EventValue) (ds : List DeliveryValue) (p : Payload) (more : List DeliveryValue) (gatherer : Gatherer) : Type 0 where

@@ -7,7 +7,7 @@ ghost use Rattle.store.specs.Store.{HoldsAs, IsBroken, database, names_of};
 ghost use Rattle.replica.specs.Capture.{HasReadOne, HasBrokenOff, Reads};
 ghost use Rattle.replica.specs.Over.{HasReadAll};
 ghost use Rattle.replica.specs.Conn.{MayEnd};
-ghost use Rattle.replica.specs.Noted.{IsLedTo};
+ghost use Rattle.replica.specs.Noted.{IsLedTo, WasMissing};
 
 use crate::config::Config;
 use crate::end::{Ended, Reason};
@@ -32,7 +32,7 @@ pub struct Capture<R> {
 pub enum Halt {
     /// A reader failed before its connection had ended.
     Reader(io::Error),
-    /// The observer stopped: [`Observer::ended`] returned `false`.
+    /// The observer stopped: [`Observer::ended`] returned `false`, or it waited for nothing at the start.
     Observer,
 }
 
@@ -54,8 +54,8 @@ fn read_capture<R: Read + Drop, S: Alter, W: Observer>(
     ensures stays { W.has_stopped observer.old ≡ true → W.has_stopped observer.new ≡ true }
     ensures notes { HasCleanDisk (database S.Store store.new) → (was : Bool) (old : Content)
         → HoldsAs S.Store was old store.old → IsLedTo S.Store store.old store.new was old
-        (W.noted observer.old, W.has_stopped observer.old)
-        (W.noted observer.new, W.has_stopped observer.new) [] }
+        (W.noted observer.old, W.has_stopped observer.old, W.waits observer.old)
+        (W.noted observer.new, W.has_stopped observer.new, W.waits observer.new) [] }
     ensures heeds { (is : Bool) (now : Content) → HoldsAs S.Store is now store.old → W.has_stopped observer.old ≡ true → store.new ≡ store.old }
     ensures following { names_of S.Store store.new ≡ names_of S.Store store.old }
     ensures broken { IsBroken S.Store store.old → store.new ≡ store.old }
@@ -103,8 +103,12 @@ pub(crate) fn read_captures<R: Read + Drop, S: Alter, W: Observer>(
     // What was reported to it leads from the content before to the one afterwards, with the ends of the connections.
     ensures notes { HasCleanDisk (database S.Store store.new) → (was : Bool) (old : Content)
         → HoldsAs S.Store was old store.old → IsLedTo S.Store store.old store.new was old
-        (W.noted observer.old, W.has_stopped observer.old)
-        (W.noted observer.new, W.has_stopped observer.new) ends.new.items }
+        (W.noted observer.old, W.has_stopped observer.old, W.waits observer.old)
+        (W.noted observer.new, W.has_stopped observer.new, W.waits observer.new) ends.new.items }
+    // A connection is read only if something was missing of what it waited for, or it does not say any more what that is.
+    ensures missed { HasCleanDisk (database S.Store store.new) → (was : Bool) (old : Content)
+        → HoldsAs S.Store was old store.old → ends.new.items ≢ []
+        → WasMissing (W.waits observer.old) (W.waits observer.new) old.executed }
     // If it had stopped before, the store stays as it is.
     ensures keeps { (is : Bool) (now : Content) → HoldsAs S.Store is now store.old
         → W.has_stopped observer.old ≡ true → store.new ≡ store.old }
@@ -114,6 +118,9 @@ pub(crate) fn read_captures<R: Read + Drop, S: Alter, W: Observer>(
     ensures clean { HasCleanDisk (database S.Store store.new) → HasCleanDisk (database S.Store store.old) }
 {
     observer.opened(store.executed());
+    if observer.is_done() {
+        return Err(Halt::Observer);
+    }
     for capture in captures {
         let end = match read_capture(config, store, capture, piece, observer) {
             Ok(end) => end,

@@ -16,7 +16,7 @@ ghost use Rattle.replica.specs.Message.{begins_event};
 ghost use Rattle.store.specs.Changes.{is_executed};
 ghost use Rattle.replica.specs.Conn.{IsOwn, MayEnd};
 ghost use Rattle.replica.specs.Event.{TakesEvent};
-ghost use Rattle.replica.specs.Noted.{HasBeenNoted, asked_about, IsLedTo};
+ghost use Rattle.replica.specs.Noted.{HasBeenNoted, StillWaits, asked_about, waits_for_none, IsLedTo};
 
 use crate::end::{Reason, Refusal};
 use crate::message::reported;
@@ -63,6 +63,7 @@ fn gather<W: Observer>(
     ensures err { (es : List EventValue) (ds : List DeliveryValue) → Gathers es ds gatherer.old → IfErr result (EndsDump follow.now es payload.now) }
     ensures may_end { IfErr result IsOwn }
     ensures noted { W.noted observer.new ≡ W.noted observer.old }
+    ensures waits { StillWaits (W.waits observer.old) [] (W.waits observer.new) }
     ensures stays { W.has_stopped observer.old ≡ true → W.has_stopped observer.new ≡ true }
 {
     let [0, body @ ..] = payload else {
@@ -72,7 +73,7 @@ fn gather<W: Observer>(
         Ok(event) => event,
         Err(fault) => return Err(Reason::Event(fault)),
     };
-    observer.event(&event);
+    observer.event(&event, body, gatherer.pending());
     match gatherer.event(&event) {
         Ok(delivery) => Ok(delivery),
         Err(fault) => Err(reason_for(fault)),
@@ -101,7 +102,11 @@ fn is_halted<S: Alter, W: Observer>(store: &Store<S>, delivery: &Delivery, obser
     ensures noted { (is : Bool) (now : Content) → HoldsAs S.Store is now store.now
         → HasBeenNoted (W.noted observer.old) (W.noted observer.new)
         (asked_about now (delivery_value delivery.now) result) }
+    ensures waits { StillWaits (W.waits observer.old) [] (W.waits observer.new) }
     ensures heeds { (is : Bool) (now : Content) → HoldsAs S.Store is now store.now → is_executed now (delivery_value delivery.now) ≡ false → result ≡ W.has_stopped observer.new }
+    ensures missed { (is : Bool) (now : Content) → HoldsAs S.Store is now store.now
+        → is_executed now (delivery_value delivery.now) ≡ false
+        → result ≡ false → waits_for_none (W.waits observer.new) ≡ false }
     ensures stays { W.has_stopped observer.old ≡ true → W.has_stopped observer.new ≡ true }
 {
     if store.executed().contains(delivery.gtid) {
@@ -124,8 +129,8 @@ fn apply<S: Alter, W: Observer>(
     // What was reported to the observer leads from the content before to the one afterwards.
     ensures notes { HasCleanDisk (database S.Store store.new) → (was : Bool) (old : Content)
         → HoldsAs S.Store was old store.old → IsLedTo S.Store store.old store.new was old
-        (W.noted observer.old, W.has_stopped observer.old)
-        (W.noted observer.new, W.has_stopped observer.new) [] }
+        (W.noted observer.old, W.has_stopped observer.old, W.waits observer.old)
+        (W.noted observer.new, W.has_stopped observer.new, W.waits observer.new) [] }
     ensures following { names_of S.Store store.new ≡ names_of S.Store store.old }
     ensures broken { IsBroken S.Store store.old → store.new ≡ store.old }
     ensures step { HasCleanDisk (database S.Store store.new) → (is : Bool) (now : Content) (es : List EventValue) (ds : List DeliveryValue) (p : Payload) (gatherer : Gatherer) → HoldsAs S.Store is now store.old
@@ -156,8 +161,8 @@ pub(crate) fn take_event<S: Alter, W: Observer>(
     // What was reported to the observer leads from the content before to the one afterwards.
     ensures notes { HasCleanDisk (database S.Store store.new) → (was : Bool) (old : Content)
         → HoldsAs S.Store was old store.old → IsLedTo S.Store store.old store.new was old
-        (W.noted observer.old, W.has_stopped observer.old)
-        (W.noted observer.new, W.has_stopped observer.new) [] }
+        (W.noted observer.old, W.has_stopped observer.old, W.waits observer.old)
+        (W.noted observer.new, W.has_stopped observer.new, W.waits observer.new) [] }
     ensures following { names_of S.Store store.new ≡ names_of S.Store store.old }
     ensures broken { IsBroken S.Store store.old → store.new ≡ store.old }
     ensures step { HasCleanDisk (database S.Store store.new) → (is : Bool) (now : Content) (es : List EventValue) (ds : List DeliveryValue) → Gathers es ds gatherer.old → HoldsAs S.Store is now store.old

@@ -51,6 +51,9 @@ pub enum Reason {
     WriteFailed,
     /// The observer stopped before a transaction, which was not applied.
     Halted,
+    /// The observer waits for nothing more: what it waits for had been executed before, or the last payload taken ended a
+    /// transaction that was applied, after which nothing was missing.
+    Until,
 }
 
 /// How a connection ended.

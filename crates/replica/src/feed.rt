@@ -48,6 +48,7 @@ impl Session {
         ensures stands { (names : Names) (broken : Bool) (content : Content) → Stands result names broken broken content content [] [] }
         ensures config { result.config ≡ config }
         ensures ended { result.ended ≡ None }
+        ensures none { (result.at ≡ 0) × (result.applied ≡ 0) }
     {
         let alloc = config.alloc();
         let limit = config.limit();
@@ -105,8 +106,8 @@ impl Session {
         // What was reported to it leads from the content before to the one afterwards.
         ensures notes { HasCleanDisk (database S.Store store.new) → (was : Bool) (old : Content)
             → HoldsAs S.Store was old store.old → IsLedTo S.Store store.old store.new was old
-            (W.noted observer.old, W.has_stopped observer.old)
-            (W.noted observer.new, W.has_stopped observer.new) [] }
+            (W.noted observer.old, W.has_stopped observer.old, W.waits observer.old)
+            (W.noted observer.new, W.has_stopped observer.new, W.waits observer.new) [] }
         // Once it has stopped, the store stays as it is.
         ensures heeds { (is : Bool) (now : Content) → HoldsAs S.Store is now store.old → W.has_stopped observer.old ≡ true → store.new ≡ store.old }
         ensures stopped { IsErr result ↔ IsSome self.old.ended }
@@ -142,8 +143,8 @@ impl Session {
         ensures stays { W.has_stopped observer.old ≡ true → W.has_stopped observer.new ≡ true }
         ensures notes { HasCleanDisk (database S.Store store.new) → (was : Bool) (old : Content)
             → HoldsAs S.Store was old store.old → IsLedTo S.Store store.old store.new was old
-            (W.noted observer.old, W.has_stopped observer.old)
-            (W.noted observer.new, W.has_stopped observer.new) [] }
+            (W.noted observer.old, W.has_stopped observer.old, W.waits observer.old)
+            (W.noted observer.new, W.has_stopped observer.new, W.waits observer.new) [] }
         ensures heeds { (is : Bool) (now : Content) → HoldsAs S.Store is now store.old → W.has_stopped observer.old ≡ true → store.new ≡ store.old }
         ensures room { self.new.ended ≡ None → (self.old.ended ≡ None) × (room_of self.new + length (taken_of result bytes.now) ≤ room_of self.old) }
     {

@@ -55,8 +55,8 @@ fn connect_and_follow<
     ensures asked { IfOk result (λ done. done.0.reason ≡ Halted → W.has_stopped observer.new ≡ true) }
     ensures notes { HasCleanDisk (database S.Store store.new) → (was : Bool) (old : Content)
         → HoldsAs S.Store was old store.old → IsLedTo S.Store store.old store.new was old
-        (W.noted observer.old, W.has_stopped observer.old)
-        (W.noted observer.new, W.has_stopped observer.new) [] }
+        (W.noted observer.old, W.has_stopped observer.old, W.waits observer.old)
+        (W.noted observer.new, W.has_stopped observer.new, W.waits observer.new) [] }
     ensures heeds { (is : Bool) (now : Content) → HoldsAs S.Store is now store.old
         → W.has_stopped observer.old ≡ true → store.new ≡ store.old }
     ensures following { names_of S.Store store.new ≡ names_of S.Store store.old }
@@ -113,8 +113,8 @@ pub fn follow_file<
     // What was reported to the observer leads from that content to the one that the closed files hold.
     ensures notes { IfOk result (λ done. (names : Names) (content : Content)
         → FilesHold (names_for (wanted_of only.entry)) names content (image_at P.Start)
-        → IsNotedOfFiles names content (W.noted observer.old, W.has_stopped observer.old)
-        (W.noted observer.new, W.has_stopped observer.new) [] done.closed) }
+        → IsNotedOfFiles names content (W.noted observer.old, W.has_stopped observer.old, W.waits observer.old)
+        (W.noted observer.new, W.has_stopped observer.new, W.waits observer.new) [] done.closed) }
     // If it had stopped before, nothing is applied: the files hold the content from before.
     ensures keeps { IfOk result (λ done. W.has_stopped observer.old ≡ true
         → (names : Names) (content : Content)

@@ -9,7 +9,7 @@ ghost use Rattle.store.specs.Store.{HoldsAs, IsBroken, database, names_of};
 ghost use Rattle.replica.specs.Conn.{MayEnd};
 ghost use Rattle.replica.specs.Standing.{end_of};
 ghost use Rattle.replica.specs.Over.{StandsOver};
-ghost use Rattle.replica.specs.Noted.{IsLedTo};
+ghost use Rattle.replica.specs.Noted.{IsLedTo, waits_for_none};
 ghost use Rattle.replica.specs.Failing.{HaveFailed};
 ghost use Rattle.replica.specs.Follow.{Follows, HandsOut, sends_no_more_after, reads_failed, turns_left, failed_reads_of, failed_writes_of};
 
@@ -33,7 +33,7 @@ fn sends_no_more(session: &Session) -> bool
     match session.ended() {
         Some(end) => matches!(
             end.reason,
-            Reason::Memory | Reason::Database(_) | Reason::Halted
+            Reason::Memory | Reason::Database(_) | Reason::Halted | Reason::Until
         ),
         None => false,
     }
@@ -108,8 +108,8 @@ fn read_piece<T: Duplex, S: Alter, W: Observer>(
     ensures stays { W.has_stopped observer.old ≡ true → W.has_stopped observer.new ≡ true }
     ensures notes { HasCleanDisk (database S.Store store.new) → (was : Bool) (old : Content)
         → HoldsAs S.Store was old store.old → IsLedTo S.Store store.old store.new was old
-        (W.noted observer.old, W.has_stopped observer.old)
-        (W.noted observer.new, W.has_stopped observer.new) [] }
+        (W.noted observer.old, W.has_stopped observer.old, W.waits observer.old)
+        (W.noted observer.new, W.has_stopped observer.new, W.waits observer.new) [] }
     ensures heeds { (is : Bool) (now : Content) → HoldsAs S.Store is now store.old → W.has_stopped observer.old ≡ true → store.new ≡ store.old }
     ensures turns { result ≡ Turn.Read → turns_left session.new < turns_left session.old }
     ensures still { result ≢ Turn.Read → (session.new ≡ session.old) × (store.new ≡ store.old) × Keeps (T.Read.remaining stream.old.stream) (T.Read.remaining stream.new.stream) }
@@ -174,8 +174,8 @@ pub fn follow<T: Duplex, S: Alter>(
     follow_observed(alloc, stream, store, config, &mut Unobserved)
 }
 
-/// As [`follow`], and reports what is read to an observer, which may stop it before a transaction. After that nothing
-/// more is sent.
+/// As [`follow`], and reports what is read to an observer, which may stop it before a transaction, or once it waits for nothing
+/// more. After that nothing more is sent; and nothing is read or sent where it waits for nothing at the start.
 pub fn follow_observed<T: Duplex, S: Alter, W: Observer>(
     alloc: Global,
     stream: &mut Counted<T>,
@@ -192,8 +192,12 @@ pub fn follow_observed<T: Duplex, S: Alter, W: Observer>(
     // What was reported to it leads from the content before to the one afterwards.
     ensures notes { HasCleanDisk (database S.Store store.new) → (was : Bool) (old : Content)
         → HoldsAs S.Store was old store.old → IsLedTo S.Store store.old store.new was old
-        (W.noted observer.old, W.has_stopped observer.old)
-        (W.noted observer.new, W.has_stopped observer.new) [] }
+        (W.noted observer.old, W.has_stopped observer.old, W.waits observer.old)
+        (W.noted observer.new, W.has_stopped observer.new, W.waits observer.new) [] }
+    // If it waits for nothing, nothing is read or sent.
+    ensures until { waits_for_none (W.waits observer.old) ≡ true
+        → (result ≡ record { reason = Reason.Until; at = 0; applied = 0 })
+        × (stream.new ≡ stream.old) × (store.new ≡ store.old) × (observer.new ≡ observer.old) }
     // Once it has stopped, the store stays as it is.
     ensures heeds { (is : Bool) (now : Content) → HoldsAs S.Store is now store.old → W.has_stopped observer.old ≡ true → store.new ≡ store.old }
     ensures read_failed { (result.reason ≡ Reason.ReadFailed) ↔ (stream.old.failed_reads < stream.new.failed_reads) }
@@ -206,6 +210,9 @@ pub fn follow_observed<T: Duplex, S: Alter, W: Observer>(
     ensures clean { HasCleanDisk (database S.Store store.new) → HasCleanDisk (database S.Store store.old) }
 {
     let mut session = Session::new(config);
+    if observer.is_done() {
+        return ended_with(session, Reason::Until);
+    }
     let Ok(mut buffer) = vec![in alloc; 0u8; PIECE] else {
         return ended_with(session, Reason::Memory);
     };

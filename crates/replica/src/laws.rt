@@ -2,7 +2,7 @@
 //!
 //! A law is a function with an empty body: its clauses are proved of the definitions themselves.
 
-ghost use Rattle.std.specs.Prelude.{◌≡◌, ◌↔◌, ◌⊎◌, ℕ, ◌+◌, ◌<◌, ◌≤◌, ◌++◌, Bool, List, [], length, drop, map, Option, None};
+ghost use Rattle.std.specs.Prelude.{◌≡◌, ◌↔◌, ◌⊎◌, ℕ, ◌+◌, ◌<◌, ◌≤◌, ◌++◌, Bool, true, false, List, [], ◌∷◌, length, drop, map, Option, None, Some};
 ghost use Rattle.std.specs.FinSet as set;
 ghost use Rattle.std.specs.List.{AllByRecursion};
 ghost use Rattle.sqlite.specs.Held.{state};
@@ -10,8 +10,9 @@ ghost use Rattle.sqlite.specs.Files.{image_of};
 ghost use Rattle.sqlite_wal.specs.Recovery.{Image};
 ghost use Rattle.sqlite_wal.specs.Files.{outcomes};
 ghost use Rattle.sqlite_schema.specs.declared.schema.Schema.{Schema};
+ghost use Rattle.gtid.specs.Identifier.{Ids};
 ghost use Rattle.binlog.specs.Filter.{Names};
-ghost use Rattle.gather.specs.Transaction.{change_of};
+ghost use Rattle.gather.specs.Transaction.{DeliveryValue, change_of};
 ghost use Rattle.scripted_source.specs.Script.{PartValue, ScriptValue};
 ghost use Rattle.scripted_source.specs.Source.{is_once};
 ghost use Rattle.store.specs.State.{Content};
@@ -33,7 +34,7 @@ ghost use Rattle.replica.specs.Standing.{Stands, end_of};
 ghost use Rattle.replica.specs.Over.{StandsOver};
 ghost use Rattle.replica.specs.Follow.{HandsOut, IsInFull};
 ghost use Rattle.replica.specs.File.{FilesHold, AreClosedWith, IsTurnedAway};
-ghost use Rattle.replica.specs.Noted.{Notice, LeadsBy, applied_in};
+ghost use Rattle.replica.specs.Noted.{Account, IsNotedOf, Notice, opened, before, LeadsBy, applied_in, StillWaits, WereMissed, waits_for_none};
 ghost use Rattle.replica.specs.Restart.{Starts, IsUncut, MayFindUnopened, AreStarts, HoldFirst, FilesNeverFall};
 ghost use Rattle.replica.specs.Resume.{Resumes, Leads, Reaches, AreRestarts, NeverFalls, part_changes, transaction, transactions, end_reason};
 
@@ -126,6 +127,24 @@ pub fn led()
         → AppliesAll names old (applied_in notices) (length (applied_in notices)) new }
     ensures one { (names : Names) (old new other : Content) (notices : List Notice)
         → LeadsBy names old notices new → LeadsBy names old notices other → new ≡ other }
+{}
+
+/// If what was reported to an observer leads from one content to another, and it waits for nothing more, then all transactions that it
+/// waited for are executed in the latter. If the opening of a database was reported first, what it still waits for are exactly
+/// those that are not.
+pub fn waited()
+    ensures none { (names : Names) (old new : Content) (was is : Account) (ends : List Ended) (wanted : Ids)
+        → IsNotedOf names old new was is ends → was.2 ≡ Some wanted → waits_for_none is.2 ≡ true
+        → set.is_subset wanted new.executed ≡ true }
+    ensures left { (names : Names) (old new : Content) (executed wanted left : Ids) (notices : List Notice)
+        → LeadsBy names old (opened executed ∷ notices) new
+        → StillWaits (Some wanted) (opened executed ∷ notices) (Some left)
+        → left ≡ set.difference wanted new.executed }
+    // Before each transaction that was to be applied, not all of them were executed.
+    ensures missed { (names : Names) (old mid : Content) (executed wanted left : Ids) (notices more : List Notice)
+        (d : DeliveryValue) → LeadsBy names old (opened executed ∷ notices) mid
+        → WereMissed (Some wanted) (opened executed ∷ (notices ++ before d ∷ more)) (Some left)
+        → set.is_subset wanted mid.executed ≡ false }
 {}
 
 /// No reading of a connection's bytes has more payloads than the reading up to their end.

@@ -10,9 +10,9 @@
 //! Over a database file, [`replay`] opens it, reads a list of [`Capture`]s, each a connection from a reader, and closes
 //! it, and [`follow_file`] does so with a source that is followed over a stream of two directions, such as a socket
 //! ([`Duplex`]); [`open_file`] and [`close_file`] are their first and their last step. An [`Observer`] is called
-//! with what is read and applied, and may stop it. Over a store, [`run`] reads a list of connections that are in memory, one after the
-//! other, [`read_stream`] one connection from a reader, and [`follow`] follows a source: it sends all pending output before
-//! each read, until the connection ends.
+//! with what is read and applied, and may stop it; [`Until`] is one that stops once nothing of a set of GTIDs is missing. Over
+//! a store, [`run`] reads a list of connections that are in memory, one after the other, [`read_stream`] one connection from a
+//! reader, and [`follow`] follows a source: it sends all pending output before each read, until the connection ends.
 //!
 //! All of them borrow the store, so that it can be used for the next connection. After an end with `Reason::Database`
 //! the store has failed and must be opened again; after `Reason::Memory` it may have. A connection that is cut short
@@ -43,6 +43,7 @@ mod phase;
 mod reader;
 mod replaying;
 mod session;
+mod until;
 
 pub use captures::{Capture, Halt};
 pub use config::{Config, ConfigFault};
@@ -58,3 +59,4 @@ pub use observer::{Observer, Unobserved};
 pub use reader::{read_some, read_stream};
 pub use replaying::{Replayed, replay};
 pub use session::Session;
+pub use until::Until;

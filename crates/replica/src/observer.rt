@@ -1,8 +1,9 @@
 //! What is reported of connections while they are read.
 
 ghost use Rattle.std.specs.Prelude.{◌≡◌, Bool, true, false, not, List, [], ◌∷◌, Option, None, if◌then◌else◌};
+ghost use Rattle.gtid.specs.Identifier.{Ids};
 ghost use Rattle.gather.specs.View.{delivery_value};
-ghost use Rattle.replica.specs.Noted.{Notice, HasBeenNoted, opened, before, stopped, after, ended};
+ghost use Rattle.replica.specs.Noted.{Notice, HasBeenNoted, StillWaits, waits_for_none, opened, before, stopped, after, ended};
 
 use crate::end::{Ended, Reason};
 use binlog::Event;
@@ -17,26 +18,34 @@ pub trait Observer {
     // What was reported to it, if it keeps an account of that.
     ghost noted: { Self → Option (List Notice) } = { λ _. None };
 
+    // Which transactions it still waits for, if it says so.
+    ghost waits: { Self → Option Ids } = { λ _. None };
+
     /// Called once with the executed set of a database file, before anything is read.
     fn opened(&mut self, executed: &GtidSet)
         ensures noted { HasBeenNoted (noted self.old) (noted self.new) (opened executed.now ∷ []) }
+        ensures waits { StillWaits (waits self.old) (opened executed.now ∷ []) (waits self.new) }
         ensures stays { has_stopped self.old ≡ true → has_stopped self.new ≡ true };
 
     /// Called when the source has been reached.
     fn connected(&mut self)
         ensures noted { noted self.new ≡ noted self.old }
+        ensures waits { StillWaits (waits self.old) [] (waits self.new) }
         ensures stays { has_stopped self.old ≡ true → has_stopped self.new ≡ true }
     {}
 
     /// Called after this many bytes of a connection have been read, before they are used.
     fn received(&mut self, _count: usize)
         ensures noted { noted self.new ≡ noted self.old }
+        ensures waits { StillWaits (waits self.old) [] (waits self.new) }
         ensures stays { has_stopped self.old ≡ true → has_stopped self.new ≡ true }
     {}
 
-    /// Called with each event of a connection, before it is used.
-    fn event(&mut self, _event: &Event<'_>)
+    /// Called with each event of a connection, before it is used; with its bytes, header and body, and with how many changes
+    /// of the open transaction came before it.
+    fn event(&mut self, _event: &Event<'_>, _bytes: &[u8], _pending: usize)
         ensures noted { noted self.new ≡ noted self.old }
+        ensures waits { StillWaits (waits self.old) [] (waits self.new) }
         ensures stays { has_stopped self.old ≡ true → has_stopped self.new ≡ true }
     {}
 
@@ -47,6 +56,8 @@ pub trait Observer {
         ensures noted { HasBeenNoted (noted self.old) (noted self.new)
             ((if result then before (delivery_value delivery.now)
             else stopped (delivery_value delivery.now)) ∷ []) }
+        ensures waits { StillWaits (waits self.old) [] (waits self.new) }
+        ensures missed { result ≡ true → waits_for_none (waits self.new) ≡ false }
         ensures stays { has_stopped self.old ≡ true → has_stopped self.new ≡ true };
 
     /// Called with each whole transaction after it: whether it was applied, which one of the executed set is not, or why
@@ -54,12 +65,15 @@ pub trait Observer {
     fn after_apply(&mut self, delivery: &Delivery, outcome: &Result<bool, Reason>)
         ensures noted { HasBeenNoted (noted self.old) (noted self.new)
             (after (delivery_value delivery.now) outcome.now ∷ []) }
+        ensures waits { StillWaits (waits self.old)
+            (after (delivery_value delivery.now) outcome.now ∷ []) (waits self.new) }
         ensures stays { has_stopped self.old ≡ true → has_stopped self.new ≡ true };
 
     /// Called with a payload of the dump that ends the connection without ending a transaction: an event and the byte
     /// before it, or a message of the source.
     fn refused(&mut self, _payload: &[u8], _reason: &Reason)
         ensures noted { noted self.new ≡ noted self.old }
+        ensures waits { StillWaits (waits self.old) [] (waits self.new) }
         ensures stays { has_stopped self.old ≡ true → has_stopped self.new ≡ true }
     {}
 
@@ -68,7 +82,14 @@ pub trait Observer {
     fn ended(&mut self, end: &Ended) -> bool
         ensures goes_on { result ≡ not (has_stopped self.new) }
         ensures noted { HasBeenNoted (noted self.old) (noted self.new) (ended end.now result ∷ []) }
+        ensures waits { StillWaits (waits self.old) [] (waits self.new) }
         ensures stays { has_stopped self.old ≡ true → has_stopped self.new ≡ true };
+
+    /// Whether it waits for nothing more, so that nothing more is to be read: the connection ends with `Reason::Until`.
+    /// Asked before anything is read, and after each transaction that was applied.
+    fn is_done(&self) -> bool
+        ensures done { result ≡ waits_for_none (waits self.now) }
+        ensures stopped { result ≡ true → has_stopped self.now ≡ true };
 }
 
 /// An observer that does nothing and never stops.
@@ -88,5 +109,9 @@ impl Observer for Unobserved {
 
     fn ended(&mut self, _end: &Ended) -> bool {
         true
+    }
+
+    fn is_done(&self) -> bool {
+        false
     }
 }

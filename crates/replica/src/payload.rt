@@ -1,6 +1,6 @@
 //! What a session does with a payload.
 
-ghost use Rattle.std.specs.Prelude.{◌≡◌, ◌≤◌, ◌<◌, ◌+◌, Bool, List, ℕ, Some, None, true, false, length, [], if◌then◌else◌};
+ghost use Rattle.std.specs.Prelude.{◌≡◌, ◌≢◌, ◌≤◌, ◌<◌, ◌+◌, Bool, List, ℕ, Some, None, true, false, length, [], if◌then◌else◌};
 ghost use Rattle.sqlite.specs.State.{HasCleanDisk};
 ghost use Rattle.sqlite_schema.specs.declared.schema.Schema.{Schema};
 ghost use Rattle.binlog.specs.Filter.{Names};
@@ -11,7 +11,7 @@ ghost use Rattle.replica.specs.Conn.{IsOwn, MayEnd};
 ghost use Rattle.replica.specs.Over.{StandsOver, MeetsOver};
 ghost use Rattle.replica.specs.declared.phase.Phase.TheVariants as phase;
 ghost use Rattle.store.specs.Store.{HoldsAs, database, names_of, IsBroken};
-ghost use Rattle.replica.specs.Noted.{IsLedTo};
+ghost use Rattle.replica.specs.Noted.{IsLedTo, waits_for_none};
 
 use crate::dump::take_event;
 use crate::end::{Ended, Reason};
@@ -116,17 +116,31 @@ impl Session {
         ensures stays { W.has_stopped observer.old ≡ true → W.has_stopped observer.new ≡ true }
         ensures notes { HasCleanDisk (database S.Store store.new) → (was : Bool) (old : Content)
             → HoldsAs S.Store was old store.old → IsLedTo S.Store store.old store.new was old
-            (W.noted observer.old, W.has_stopped observer.old)
-            (W.noted observer.new, W.has_stopped observer.new) [] }
+            (W.noted observer.old, W.has_stopped observer.old, W.waits observer.old)
+            (W.noted observer.new, W.has_stopped observer.new, W.waits observer.new) [] }
         ensures heeds { (is : Bool) (now : Content) → HoldsAs S.Store is now store.old → W.has_stopped observer.old ≡ true → store.new ≡ store.old }
         ensures further { self.new.ended ≡ None → (self.new.at ≡ end) × (self.new.assembler.held ≡ []) }
+        // It does not go on after a transaction that was applied, if the observer waits for nothing more.
+        ensures until { self.new.ended ≡ None → self.new.applied ≢ self.old.applied
+            → waits_for_none (W.waits observer.new) ≡ false }
         ensures takes { HasCleanDisk (database S.Store store.new) → (schema : Schema) (was : Bool) (old : Content) (b o : List ℕ) → end ≡ self.old.at + packing_length (length payload.now)
             → MeetsOver S.Store self.old store.old schema was old b o payload.now → StandsOver S.Store self.new store.new schema was old b o }
     {
         let alloc = self.config.alloc();
-        match take_event(alloc, &mut self.gatherer, store, payload, observer) {
-            Ok(applied) => self.go_on(end, applied),
-            Err(reason) => self.end_after(reason, end),
+        let applied = match take_event(alloc, &mut self.gatherer, store, payload, observer) {
+            Ok(applied) => applied,
+            Err(reason) => {
+                self.end_after(reason, end);
+                return;
+            }
+        };
+        self.go_on(end, applied);
+        if !applied {
+            return;
+        }
+        if observer.is_done() {
+            self.end(Reason::Until);
+            return;
         }
     }
 
@@ -147,8 +161,8 @@ impl Session {
         ensures stays { W.has_stopped observer.old ≡ true → W.has_stopped observer.new ≡ true }
         ensures notes { HasCleanDisk (database S.Store store.new) → (was : Bool) (old : Content)
             → HoldsAs S.Store was old store.old → IsLedTo S.Store store.old store.new was old
-            (W.noted observer.old, W.has_stopped observer.old)
-            (W.noted observer.new, W.has_stopped observer.new) [] }
+            (W.noted observer.old, W.has_stopped observer.old, W.waits observer.old)
+            (W.noted observer.new, W.has_stopped observer.new, W.waits observer.new) [] }
         ensures heeds { (is : Bool) (now : Content) → HoldsAs S.Store is now store.old → W.has_stopped observer.old ≡ true → store.new ≡ store.old }
         ensures room { self.new.ended ≡ None → room_of self.new + packing_length (length payload.now) ≤ room_of self.old }
         ensures takes { HasCleanDisk (database S.Store store.new) → (schema : Schema) (was : Bool) (old : Content) (b o : List ℕ)

@@ -66,8 +66,8 @@ pub fn read_stream<R: Read, S: Alter, W: Observer>(
     // What was reported to it leads from the content before to the one afterwards.
     ensures notes { HasCleanDisk (database S.Store store.new) → (was : Bool) (old : Content)
         → HoldsAs S.Store was old store.old → IsLedTo S.Store store.old store.new was old
-        (W.noted observer.old, W.has_stopped observer.old)
-        (W.noted observer.new, W.has_stopped observer.new) [] }
+        (W.noted observer.old, W.has_stopped observer.old, W.waits observer.old)
+        (W.noted observer.new, W.has_stopped observer.new, W.waits observer.new) [] }
     // Once it has stopped, the store stays as it is.
     ensures heeds { (is : Bool) (now : Content) → HoldsAs S.Store is now store.old → W.has_stopped observer.old ≡ true → store.new ≡ store.old }
     ensures following { names_of S.Store store.new ≡ names_of S.Store store.old }

@@ -73,8 +73,8 @@ pub fn replay<P: Start, R: Read + Drop, W: Observer>(
     // What was reported to the observer leads from that content to the one that the closed files hold, with the ends.
     ensures notes { IfOk result (λ done. (names : Names) (content : Content)
         → FilesHold (names_for (wanted_of only.entry)) names content (image_at P.Start)
-        → IsNotedOfFiles names content (W.noted observer.old, W.has_stopped observer.old)
-        (W.noted observer.new, W.has_stopped observer.new) done.ends.items done.closed) }
+        → IsNotedOfFiles names content (W.noted observer.old, W.has_stopped observer.old, W.waits observer.old)
+        (W.noted observer.new, W.has_stopped observer.new, W.waits observer.new) done.ends.items done.closed) }
     // If it had stopped before, nothing is applied: the files hold the content from before.
     ensures keeps { IfOk result (λ done. W.has_stopped observer.old ≡ true
         → (names : Names) (content : Content)

@@ -1,1 +1,3 @@
 pub mod DescribedTables
+pub mod Seconds
+pub mod Stamps

@@ -7,9 +7,11 @@
 use crate::described_tables::DescribedTables;
 use crate::misfit::{Fault, RowError, Stop};
 use crate::object::{has_key, write_cells};
+use crate::stamps::Stamps;
+use binlog::ColumnType;
 use columns::DescribedTable;
 use files::{FeedFile, FileFault};
-use formats::{Encoding, write_image, write_json_name};
+use formats::{Encoding, TypeText, write_image, write_json_name};
 use gather::{Change, Delivery, ImageRef};
 use gtid::Gtid;
 use std::alloc::{AllocError, Global};
@@ -27,9 +29,11 @@ pub enum FeedEntry<'a> {
     /// The changes of a transaction that is to be committed.
     Changes(&'a Delivery),
     /// The transaction has been committed.
-    Committed(Gtid),
+    Committed(&'a Delivery),
     /// The transaction was refused, and none of its changes is in the database.
     RolledBack(Gtid),
+    /// The transaction is to be recorded without changes.
+    Skipped(Gtid),
 }
 
 /// A change feed.
@@ -84,10 +88,12 @@ impl Feed {
     /// Writes an entry: to a file, all of it or nothing. When the changes of a transaction are written, a file has them on
     /// its disk. An executed set that the last line of a file has already is not written again.
     ///
-    /// With described tables rows have names and types; where one of a transaction does not fit, nothing of it is written.
+    /// Changes and commits have what the events of the transaction say besides. With described tables rows have names and
+    /// types; where one of a transaction does not fit, nothing of it is written.
     pub fn write<O: Write>(
         &mut self,
         entry: FeedEntry<'_>,
+        stamps: &Stamps,
         tables: Option<&DescribedTables>,
         out: &mut O,
     ) -> Result<(), RowError> {
@@ -95,6 +101,7 @@ impl Feed {
             alloc: self.alloc,
             encoding: self.encoding,
             tables,
+            stamps,
         };
         let Some(file) = &mut self.file else {
             return write_to_output(form, entry, out);
@@ -124,6 +131,8 @@ struct Form<'d> {
     encoding: Encoding,
     /// The tables that are described, if rows have names and types.
     tables: Option<&'d DescribedTables>,
+    /// What the events of the transaction say of it besides its changes.
+    stamps: &'d Stamps,
 }
 
 /// Finds out whether all rows of an entry fit, where it could not be cut off again.
@@ -158,6 +167,7 @@ fn write_to_file(form: Form<'_>, entry: FeedEntry<'_>, file: &FeedFile) -> Resul
     flushed?;
     match entry {
         FeedEntry::Changes(delivery) if !delivery.changes.is_empty() => file.sync()?,
+        FeedEntry::Skipped(_) => file.sync()?,
         _ => {}
     }
     Ok(())
@@ -180,8 +190,13 @@ fn write_entry<W: Write>(
             out.write_all(line.as_bytes())?;
         }
         FeedEntry::Changes(delivery) => write_changes(form, delivery, out)?,
-        FeedEntry::Committed(gtid) => write_end("commit", gtid, out)?,
-        FeedEntry::RolledBack(gtid) => write_end("rollback", gtid, out)?,
+        FeedEntry::Committed(delivery) => write_commit(form.stamps, delivery, out)?,
+        FeedEntry::RolledBack(gtid) => {
+            writeln!(out, "{{\"type\":\"rollback\",\"gtid\":\"{gtid}\"}}")?;
+        }
+        FeedEntry::Skipped(gtid) => {
+            writeln!(out, "{{\"type\":\"skip\",\"gtid\":\"{gtid}\"}}")?;
+        }
     }
     Ok(())
 }
@@ -193,15 +208,21 @@ fn write_changes<W: Write>(
     out: &mut W,
 ) -> Result<(), RowError> {
     let mut line = Vec::new(form.alloc);
-    for change in delivery.changes.iter() {
+    let mut seconds = form.stamps.seconds.iter();
+    for (number, change) in (0..delivery.changes.len()).zip(delivery.changes.iter()) {
+        let place = Place {
+            gtid: delivery.gtid,
+            number,
+            seconds: seconds.at(number),
+        };
         let Some(tables) = form.tables else {
-            write_change(form, delivery.gtid, &change, out)?;
+            write_change(form, place, &change, out)?;
             continue;
         };
         line.clear();
         let table = change.table();
         let (schema, name) = (table.schema.as_slice(), table.table.as_slice());
-        match write_typed(form, tables, delivery.gtid, &change, &mut line) {
+        match write_typed(form, tables, place, &change, &mut line) {
             Ok(()) => out.write_all(&line)?,
             Err(stop) => return Err(stop.in_table(form.alloc, schema, name)),
         }
@@ -209,9 +230,33 @@ fn write_changes<W: Write>(
     Ok(())
 }
 
-/// Writes the line of a transaction's end.
-fn write_end<W: Write>(kind: &str, gtid: Gtid, out: &mut W) -> io::Result<()> {
-    writeln!(out, "{{\"type\":\"{kind}\",\"gtid\":\"{gtid}\"}}")
+/// Where and when a change was made.
+#[derive(Clone, Copy)]
+struct Place {
+    gtid: Gtid,
+    /// How many changes of its transaction stand before it.
+    number: usize,
+    /// Seconds since 1970-01-01 00:00:00 UTC, where they are known.
+    seconds: Option<u32>,
+}
+
+/// Writes the line of a transaction that has been committed.
+fn write_commit<W: Write>(stamps: &Stamps, delivery: &Delivery, out: &mut W) -> io::Result<()> {
+    let (gtid, count) = (delivery.gtid, delivery.changes.len());
+    write!(
+        out,
+        "{{\"type\":\"commit\",\"gtid\":\"{gtid}\",\"changes\":{count}"
+    )?;
+    if let Some(micros) = stamps.committed {
+        write!(out, ",\"committed_us\":{micros}")?;
+    }
+    if let Some(server) = stamps.server {
+        write!(out, ",\"server\":{server}")?;
+    }
+    if let Some(number) = stamps.xid {
+        write!(out, ",\"xid\":{number}")?;
+    }
+    out.write_all(b"}\n")
 }
 
 /// The parts of a change: what it is, and its rows.
@@ -232,13 +277,14 @@ fn parts<'c, 'a>(
 /// Writes the line of a change: an object with the row before it, the row after it, or both.
 fn write_change<W: Write>(
     form: Form<'_>,
-    gtid: Gtid,
+    place: Place,
     change: &Change<'_>,
     out: &mut W,
 ) -> io::Result<()> {
     let (kind, before, after) = parts(change);
     let table = change.table();
-    write_head(form.alloc, kind, gtid, &table.schema, &table.table, out)?;
+    write_head(form.alloc, kind, place, &table.schema, &table.table, out)?;
+    write_types(&table.types, out)?;
     write_side(form, "before", before, out)?;
     write_side(form, "after", after, out)?;
     out.write_all(b"}\n")
@@ -249,7 +295,7 @@ fn write_change<W: Write>(
 fn write_typed<'d>(
     form: Form<'d>,
     tables: &'d DescribedTables,
-    gtid: Gtid,
+    place: Place,
     change: &Change<'_>,
     line: &mut Vec<u8>,
 ) -> Result<(), Stop<'d>> {
@@ -258,7 +304,7 @@ fn write_typed<'d>(
     let Some(described) = tables.find(&table.schema, &table.table) else {
         return Err(Stop::Fault(None, Fault::Table));
     };
-    write_head(form.alloc, kind, gtid, &table.schema, &table.table, line)?;
+    write_head(form.alloc, kind, place, &table.schema, &table.table, line)?;
     if has_key(described) {
         write_typed_side(form, described, "key", before.or(after), line)?;
     }
@@ -268,19 +314,40 @@ fn write_typed<'d>(
     Ok(())
 }
 
-/// Writes the members of a change before its rows: what it is, its transaction and its table.
+/// Writes the members of a change before its rows: what it is, its transaction, its place there, when it was made, and its
+/// table.
 fn write_head<W: Write>(
     alloc: Global,
     kind: &str,
-    gtid: Gtid,
+    place: Place,
     schema: &[u8],
     table: &[u8],
     out: &mut W,
 ) -> io::Result<()> {
-    write!(out, "{{\"type\":\"{kind}\",\"gtid\":\"{gtid}\",\"schema\":")?;
+    let (gtid, number) = (place.gtid, place.number);
+    write!(
+        out,
+        "{{\"type\":\"{kind}\",\"gtid\":\"{gtid}\",\"n\":{number}"
+    )?;
+    if let Some(seconds) = place.seconds {
+        write!(out, ",\"ts\":{seconds}")?;
+    }
+    out.write_all(b",\"schema\":")?;
     write_json_name(alloc, schema, out)?;
     out.write_all(b",\"table\":")?;
     write_json_name(alloc, table, out)
+}
+
+/// Writes the types of the columns of a change's table, as its table map has them.
+fn write_types<W: Write>(types: &[ColumnType], out: &mut W) -> io::Result<()> {
+    out.write_all(b",\"types\":[")?;
+    let mut mark = "";
+    for column in types.iter() {
+        let text = TypeText(column.kind);
+        write!(out, "{mark}\"{text}\"")?;
+        mark = ",";
+    }
+    out.write_all(b"]")
 }
 
 /// Writes the row before or after a change, if there is one.

@@ -3,11 +3,13 @@
 //!
 //! [`TypedRows`] prints rows in one of the formats. Each is made whole before any of it is printed: one that does not fit
 //! the description is a [`Misfit`]. [`Feed`] has the changes of transactions, with such rows or with what the log has, and
-//! [`write_refused`] a row in a message. [`write_query`] prints the query that gives the description.
+//! with what their events say of times and numbers ([`Stamps`]). [`write_refused`] has a row in a message, and
+//! [`write_query`] prints the query that gives the description.
 //!
 //! [`Tables`] says which tables of a description are made in an SQLite database, and [`TableRows`] makes them and adds rows.
 //!
-//! What the cells mean is the business of `columns`, whose functions have contracts; what is printed of it here has none.
+//! What the cells mean is the business of `columns`, whose functions have contracts; what is printed of it here has none. What
+//! [`Stamps`] holds after an event has one.
 #![tactic(auto)]
 
 mod change_feed;
@@ -21,8 +23,10 @@ mod object;
 mod query;
 mod refused;
 mod rows;
+mod seconds;
 mod shown;
 mod sql;
+mod stamps;
 mod stored;
 mod table_rows;
 mod tables;
@@ -35,5 +39,6 @@ pub use misfit::{Misfit, RowError};
 pub use query::write_query;
 pub use refused::write_refused;
 pub use rows::{Layout, TypedRows};
+pub use stamps::Stamps;
 pub use table_rows::{TableError, TableRows};
 pub use tables::{TableFault, TableName, Tables, TablesFault};

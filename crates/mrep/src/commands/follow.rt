@@ -6,14 +6,16 @@ use crate::arguments::{number, word};
 use crate::commands::socket::Socket;
 use crate::database::open::{closed, follow_into};
 use crate::report::failure::{Failure, MEMORY, over_file, write_failure};
+use crate::report::pulse::Pulse;
 use crate::report::status::{counted, status_after};
-use crate::report::wanted::Wanted;
+use crate::report::wanted::{Wanted, waited};
 use crate::report::watch::{Source, Watch};
 use binlog::Follow;
 use clap::ArgMatches;
 use files::{others_may_read, read_password};
-use formats::{Progress, Shown};
-use replica::{Config, ConfigFault, Ended, FollowedFile, Observer};
+use formats::Shown;
+use gtid::GtidSet;
+use replica::{Config, ConfigFault, Ended, FollowedFile, Observer, Until};
 use std::alloc::AllocError;
 use std::io;
 use std::io::{ErrorKind, Write};
@@ -36,35 +38,55 @@ pub fn follow<'a, W: Write, E: Write>(
 {
     let wanted = Wanted::of(given)?;
     let port = number(word(given, "port"), 65_535)? as u16;
+    let until = wanted.until(rt.alloc())?;
     let following = Following::of(rt, given, &wanted)?;
     let (name, password_file) = (word(given, "host"), word(given, "password-file"));
     warn(rt, password_file, err);
-    let progress = wanted.progress(rt, None)?;
-    let host = Host::new(rt, name, port, &progress)?;
-    let reports = wanted.reports(rt, progress, &[password_file])?;
+    let reports = wanted.reports(rt, None, &[password_file], err)?;
+    let host = Host::new(rt, name, port, &reports.pulse)?;
     let streams = [name];
     let source = Source::of(rt, &streams, port, &wanted);
-    let mut watch = Watch::new(source, reports, out, err);
-    let followed = follow_over(host, wanted.db, following, &mut watch);
-    let Followed { connection, closed } = match followed {
-        Ok(followed) => followed,
+    let watch = Watch::new(source, reports, out, err);
+    let (followed, watch) = follow_until(host, wanted.db, following, until, watch);
+    let (end, done) = match followed {
+        Ok(followed) => concluded(&wanted, followed, watch),
         Err(failure) => {
             watch.discard(wanted.feed_name());
             return Err(failure);
         }
     };
-    let (end, failure) = match connection {
-        Ok(ended) => ended,
+    match end {
+        Ok(end) => status_after(counted(&[end], &done), done, err),
         Err(cause) => {
-            write_failure(wanted.stopped(watch.stop()).and(closed), err);
-            return Err(Failure::Host { name, cause });
+            write_failure(done, err);
+            Err(Failure::Host { name, cause })
         }
-    };
-    let printed = watch.report(1, &end, failure);
-    watch.note_missing();
-    let stopped = wanted.stopped(watch.stop());
-    let done = first_failure(printed, stopped, closed);
-    status_after(counted(&[end], &done), done, err)
+    }
+}
+
+/// Prints how the connection ended. Returns that, or why there is no connection, and whether all else was done.
+fn concluded<'a, W: Write, E: Write>(
+    wanted: &Wanted<'_, 'a>,
+    followed: Followed<'a>,
+    mut watch: Watch<'_, W, E>,
+) -> (io::Result<Ended>, Result<(), Failure<'a>>) {
+    let Followed {
+        connection,
+        closed,
+        waited,
+    } = followed;
+    match connection {
+        Ok((end, failure)) => {
+            let printed = watch.report(1, &end, failure);
+            watch.note_missing();
+            let stopped = wanted.stopped(watch.stop()).and(waited);
+            (Ok(end), first_failure(printed, stopped, closed))
+        }
+        Err(cause) => {
+            watch.give_up();
+            (Err(cause), wanted.stopped(watch.stop()).and(closed))
+        }
+    }
 }
 
 /// The first failure of what was done at the end of a connection: its line, the feed, and the closing of the database.
@@ -138,12 +160,15 @@ fn settings<'a>(
 }
 
 /// How following a source went.
+#[derive(Drop)]
 struct Followed<'a> {
     /// How the connection ended, and the cause of the last failure of its stream, if there was one; or why there is no
     /// connection.
     connection: io::Result<(Ended, Option<ErrorKind>)>,
     /// Whether the database was closed.
     closed: Result<(), Failure<'a>>,
+    /// Whether there was memory for what is waited for.
+    waited: Result<(), Failure<'a>>,
 }
 
 /// The host of a name: an IPv6 address may stand in brackets.
@@ -157,13 +182,13 @@ fn unbracketed(name: &str) -> &str {
     }
 }
 
-/// Where the source listens, and the progress that the connection reports, if it is reported.
+/// Where the source listens, and what the connection reports.
 #[derive(Drop)]
 struct Host<'r> {
     rt: &'r HostRuntime,
     name: &'r str,
     port: u16,
-    progress: Option<Rc<Progress>>,
+    pulse: Rc<Pulse>,
 }
 
 impl<'r> Host<'r> {
@@ -171,23 +196,19 @@ impl<'r> Host<'r> {
         rt: &'r HostRuntime,
         name: &'r str,
         port: u16,
-        progress: &Option<Rc<Progress>>,
+        pulse: &Rc<Pulse>,
     ) -> Result<Host<'r>, AllocError> {
-        let progress = match progress {
-            Some(progress) => Some(progress.clone()?),
-            None => None,
-        };
         Ok(Host {
             rt,
             name,
             port,
-            progress,
+            pulse: pulse.clone()?,
         })
     }
 
     fn connect(self) -> io::Result<Socket<'r>> {
         match TcpStream::connect(self.rt, (unbracketed(self.name), self.port)) {
-            Ok(stream) => Ok(Socket::new(self.rt, stream, self.progress)),
+            Ok(stream) => Ok(Socket::new(self.rt, stream, self.pulse)),
             Err(cause) => Err(cause),
         }
     }
@@ -220,5 +241,38 @@ fn follow_over<'a, W: Observer>(
     Ok(Followed {
         connection,
         closed: closed(db, files),
+        waited: Ok(()),
     })
+}
+
+/// Follows over a socket, until all of a set is executed if there is one, and gives the observer back.
+fn follow_until<'a, W: Observer>(
+    host: Host<'_>,
+    db: &'a str,
+    following: Following,
+    until: Option<GtidSet>,
+    mut observer: W,
+) -> (Result<Followed<'a>, Failure<'a>>, W) {
+    let Some(set) = until else {
+        let followed = follow_over(host, db, following, &mut observer);
+        return (followed, observer);
+    };
+    let alloc = host.rt.alloc();
+    let mut waiting = Until::new(alloc, set, observer);
+    let followed = match follow_over(host, db, following, &mut waiting) {
+        Ok(followed) => {
+            let Followed {
+                connection,
+                closed,
+                ..
+            } = followed;
+            Ok(Followed {
+                connection,
+                closed,
+                waited: waited(waiting.is_out_of_memory()),
+            })
+        }
+        Err(failure) => Err(failure),
+    };
+    (followed, waiting.into_inner())
 }

@@ -7,6 +7,7 @@ use crate::database::description::{encoding_with, read_tables};
 use crate::database::job::Job;
 use crate::database::open::work_on;
 use crate::database::printer::Selection;
+use crate::database::skip_feed::SkipFeed;
 use crate::report::failure::{DONE, Failure};
 use clap::ArgMatches;
 use files::has_bytes;
@@ -16,7 +17,7 @@ use std::io::Write;
 
 /// The job of the command of this name, if it is one over a store.
 pub fn job_of<'a>(
-    rt: &HostRuntime,
+    rt: &'a HostRuntime,
     name: &str,
     given: &ArgMatches<'a>,
 ) -> Result<Option<Job<'a>>, Failure<'a>> {
@@ -28,12 +29,22 @@ pub fn job_of<'a>(
         "missing" => Job::Missing(gtid_set(alloc, "SET", word(given, "SET"))?),
         "adopt" => Job::Adopt(gtid_set(alloc, "SET", word(given, "SET"))?),
         "skip" => match Gtid::parse(word(given, "G")) {
-            Some(gtid) => Job::Skip(gtid),
+            Some(gtid) => Job::Skip(gtid, skip_feed(rt, given)),
             None => return Err(Failure::Gtid { word: "G" }),
         },
         _ => return Ok(None),
     };
     Ok(Some(job))
+}
+
+/// The change feed of `mrep skip`, if one is asked for.
+fn skip_feed<'a>(rt: &'a HostRuntime, given: &ArgMatches<'a>) -> Option<SkipFeed<'a>> {
+    let name = given.get_str("changes")?;
+    Some(SkipFeed {
+        rt,
+        name,
+        db: word(given, "db"),
+    })
 }
 
 /// Which rows `mrep show` prints, and how.

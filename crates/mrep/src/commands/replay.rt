@@ -5,12 +5,13 @@ ghost use Rattle.std.specs.Prelude.{◌≤◌, IfOk};
 use crate::database::open::{closed, replay_into};
 use crate::report::failure::{Failure, MEMORY, write_failure};
 use crate::report::status::{counted, status_after};
-use crate::report::wanted::Wanted;
+use crate::report::wanted::{Wanted, waited};
 use crate::report::watch::{Source, Watch};
 use binlog::Follow;
 use clap::ArgMatches;
 use files::Input;
-use replica::{Capture, Config, Halt, Observer, Replayed, read_some};
+use gtid::GtidSet;
+use replica::{Capture, Config, Halt, Observer, Replayed, Until, read_some};
 use sqlite::File;
 use std::io;
 use std::io::Write;
@@ -43,12 +44,15 @@ fn replay_streams<'a, W: Write, E: Write>(
 ) -> Result<u8, Failure<'a>>
     ensures { IfOk result (λ status. status ≤ MEMORY) }
 {
+    let until = wanted.until(rt.alloc())?;
     let reading = Reading::of(rt, &wanted, names)?;
-    let reports = wanted.reports(rt, wanted.progress(rt, reading.total)?, names)?;
-    let source = Source::of(rt, names, 0, &wanted);
-    let mut watch = Watch::new(source, reports, out, err);
-    let done = reading.replay(rt, wanted.db, &mut watch);
-    let done = match done {
+    let reports = wanted.reports(rt, reading.total, names, err)?;
+    let mut streams = Vec::with_capacity(rt.alloc(), names.len())?;
+    streams.extend_from_slice(names)?;
+    let source = Source::of(rt, &streams, 0, &wanted);
+    let watch = Watch::new(source, reports, out, err);
+    let (done, mut watch) = reading.replay_until(rt, wanted.db, until, watch);
+    let (done, waited) = match done {
         Ok(done) => done,
         Err(failure) => {
             watch.discard(wanted.feed_name());
@@ -56,7 +60,7 @@ fn replay_streams<'a, W: Write, E: Write>(
         }
     };
     watch.note_missing();
-    let stopped = wanted.stopped(watch.stop());
+    let stopped = wanted.stopped(watch.stop()).and(waited);
     let Replayed {
         ends,
         read,
@@ -117,6 +121,34 @@ impl Reading {
             ..
         } = self;
         replay_into(rt, db, only.as_ref(), &config, captures, observer)
+    }
+
+    /// Reads the streams, until all of a set is executed if there is one, and gives the observer back. Says whether there was
+    /// memory for what is waited for.
+    fn replay_until<'a, W: Observer>(
+        self,
+        rt: &HostRuntime,
+        db: &'a str,
+        until: Option<GtidSet>,
+        mut observer: W,
+    ) -> (
+        Result<(Replayed<File>, Result<(), Failure<'a>>), Failure<'a>>,
+        W,
+    ) {
+        let Some(set) = until else {
+            let done = self.replay(rt, db, &mut observer);
+            let done = match done {
+                Ok(replayed) => Ok((replayed, Ok(()))),
+                Err(failure) => Err(failure),
+            };
+            return (done, observer);
+        };
+        let mut waiting = Until::new(rt.alloc(), set, observer);
+        let done = match self.replay(rt, db, &mut waiting) {
+            Ok(replayed) => Ok((replayed, waited(waiting.is_out_of_memory()))),
+            Err(failure) => Err(failure),
+        };
+        (done, waiting.into_inner())
     }
 }
 

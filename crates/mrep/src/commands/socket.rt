@@ -3,49 +3,26 @@
 ghost use Rattle.std.specs.Prelude.{None, IfSome};
 ghost use Rattle.std.specs.Io.{ReadsAtMost};
 
-use formats::{Progress, pause};
+use crate::report::pulse::Pulse;
+use formats::pause;
 use replica::Duplex;
 use std::io;
 use std::io::{ErrorKind, Read, Write};
 use std::net::TcpStream;
 use std::rc::Rc;
 
-/// A TCP connection, and the progress that is reported once nothing has come for a second. Nothing is specified about its
-/// bytes.
+/// A TCP connection, and what is reported once nothing has come for a second. Nothing is specified about its bytes.
 #[derive(Drop)]
 pub struct Socket<'r> {
     rt: &'r HostRuntime,
     stream: TcpStream,
-    progress: Option<Rc<Progress>>,
+    pulse: Rc<Pulse>,
 }
 
 impl<'r> Socket<'r> {
-    /// A connection, and the progress to report, if it is reported.
-    pub fn new(
-        rt: &'r HostRuntime,
-        stream: TcpStream,
-        progress: Option<Rc<Progress>>,
-    ) -> Socket<'r> {
-        Socket {
-            rt,
-            stream,
-            progress,
-        }
-    }
-
-    /// Whether there is progress to report.
-    fn has_news(&self) -> bool {
-        match &self.progress {
-            Some(progress) => progress.has_news(),
-            None => false,
-        }
-    }
-
-    /// Reports the progress.
-    fn report(&self) {
-        if let Some(progress) = &self.progress {
-            progress.report(self.rt, &mut self.rt.stderr());
-        }
+    /// A connection, and what to report.
+    pub fn new(rt: &'r HostRuntime, stream: TcpStream, pulse: Rc<Pulse>) -> Socket<'r> {
+        Socket { rt, stream, pulse }
     }
 
     /// Reads what comes within a second. `None` if nothing does.
@@ -84,11 +61,11 @@ impl Duplex for Socket<'_> {
     ghost failures = { λ s. None };
 
     fn receive(&mut self, buf: &mut [u8]) -> io::Result<usize> {
-        if self.has_news() {
+        if self.pulse.has_news() {
             if let Some(read) = self.read_soon(buf) {
                 return read;
             }
-            self.report();
+            self.pulse.report(self.rt, &mut self.rt.stderr());
         }
         self.stream.read(buf)
     }

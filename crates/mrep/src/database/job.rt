@@ -10,6 +10,7 @@ ghost use Rattle.store.specs.Store.{Applies, Holds, HoldsAs, database};
 
 use crate::database::exporter::{Export, export_rows};
 use crate::database::printer::{Selection, print_rows, print_tallies};
+use crate::database::skip_feed::SkipFeed;
 use crate::report::failure::Failure;
 use formats::{Chosen, text_of};
 use gather::{Changes, Delivery};
@@ -31,8 +32,8 @@ pub enum Job<'a> {
     Missing(GtidSet),
     /// This set is added to its executed set.
     Adopt(GtidSet),
-    /// A transaction without changes is applied.
-    Skip(Gtid),
+    /// A transaction without changes is applied, and a change feed says so, if there is one.
+    Skip(Gtid, Option<SkipFeed<'a>>),
     /// Its filter is printed, and how many rows of each table it has.
     Tables,
     /// Its rows are printed.
@@ -76,7 +77,7 @@ impl<'a> Job<'a> {
             Job::Executed => set_of(executed_text(alloc, store)),
             Job::Missing(asked) => set_of(missing_text(alloc, asked, store)),
             Job::Adopt(asked) => set_of(adopt(alloc, name, store, &asked)),
-            Job::Skip(gtid) => match skip(alloc, name, store, gtid) {
+            Job::Skip(gtid, feed) => match skip_and_feed(alloc, name, store, gtid, feed) {
                 Ok(applied) => Ok(Done::Applied(applied)),
                 Err(failure) => Err(failure),
             },
@@ -163,6 +164,27 @@ fn adopt<'a, S: Alter>(
         Ok(()) => Ok(new),
         Err(cause) => Err(Failure::Database { name, cause }),
     }
+}
+
+/// Applies a transaction without changes, and writes to a feed that it is skipped, if there is one and it is new.
+fn skip_and_feed<'a, S: Alter>(
+    alloc: Global,
+    name: &'a str,
+    store: &mut Store<S>,
+    gtid: Gtid,
+    feed: Option<SkipFeed<'a>>,
+) -> Result<Applied, Failure<'a>> {
+    let Some(feed) = feed else {
+        return skip(alloc, name, store, gtid);
+    };
+    if store.executed().contains(gtid) {
+        return Ok(Applied::Repeat);
+    }
+    let executed = text_of(alloc, store.executed())?;
+    let mut skipping = feed.begin(alloc, executed.as_str(), gtid)?;
+    let done = skip(alloc, name, store, gtid);
+    skipping.end(alloc, gtid, &done)?;
+    done
 }
 
 /// Applies a transaction without changes.

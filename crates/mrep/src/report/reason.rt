@@ -27,11 +27,12 @@ fn plain_reason(reason: &Reason) -> &'static str {
         Reason::ReadFailed => "ReadFailed",
         Reason::WriteFailed => "WriteFailed",
         Reason::Halted => "Halted",
+        Reason::Until => "Until",
     }
 }
 
 /// Writes the name of a reason.
-fn write_reason<W: Write>(reason: &Reason, out: &mut W) -> io::Result<()> {
+pub fn write_reason<W: Write>(reason: &Reason, out: &mut W) -> io::Result<()> {
     match reason {
         Reason::SourceError { code, .. } => write!(out, "SourceError.{code}"),
         Reason::Gather(GatherFault::Event(fault)) => {
@@ -48,12 +49,23 @@ pub fn write_end<W: Write>(number: usize, end: &Ended, out: &mut W) -> io::Resul
     writeln!(out, " at {} applied {}", end.at, end.applied)
 }
 
+/// What has stopped a command before a transaction.
+#[derive(Clone, Copy)]
+pub enum Halt<'a> {
+    /// Its change feed, of this name, could not be written.
+    Feed(&'a str),
+    /// A row of it does not fit the description of its columns.
+    Misfit,
+    /// Memory ran out for what is waited for.
+    Memory,
+}
+
 /// Writes the cause to standard error if the line of an end leaves it out: the stream or the database file, and the
-/// cause. What stops a command before a transaction is its change feed, of this name; without one, a row that does not fit.
+/// cause.
 pub fn write_cause<W: Write>(
     stream: &str,
     file: &str,
-    changes: Option<&str>,
+    halt: Halt<'_>,
     reason: &Reason,
     out: &mut W,
 ) -> io::Result<()> {
@@ -66,8 +78,12 @@ pub fn write_cause<W: Write>(
         Reason::Refused(refusal) => write_refusal(Shown(stream), *refusal, out),
         Reason::Database(fault) => write_named(file, fault, out),
         Reason::Memory => write_named(stream, &"out of memory", out),
-        Reason::Halted => write_halted(Shown(stream), changes, out),
-        Reason::EndOfInput | Reason::SourceEof | Reason::ReadFailed | Reason::WriteFailed => Ok(()),
+        Reason::Halted => write_halted(Shown(stream), halt, out),
+        Reason::EndOfInput
+        | Reason::SourceEof
+        | Reason::ReadFailed
+        | Reason::WriteFailed
+        | Reason::Until => Ok(()),
     }
 }
 
@@ -80,13 +96,18 @@ fn write_refusal<W: Write>(stream: Shown<'_>, refusal: Refusal, out: &mut W) -> 
     writeln!(out, "mrep: {stream}: change {at}: {why}")
 }
 
-/// Writes what stopped the command before a transaction: its change feed, or a row that does not fit.
-fn write_halted<W: Write>(stream: Shown<'_>, changes: Option<&str>, out: &mut W) -> io::Result<()> {
+/// Writes what has stopped the command before a transaction.
+fn write_halted<W: Write>(stream: Shown<'_>, halt: Halt<'_>, out: &mut W) -> io::Result<()> {
     write!(out, "mrep: {stream}: stopped before a transaction, since ")?;
-    match changes {
-        Some(OUTPUT) => out.write_all(b"its changes could not be written to standard output\n"),
-        Some(feed) => writeln!(out, "its changes could not be written to {}", Shown(feed)),
-        None => out.write_all(b"a row of it does not fit the description of its columns\n"),
+    match halt {
+        Halt::Feed(OUTPUT) => {
+            out.write_all(b"its changes could not be written to standard output\n")
+        }
+        Halt::Feed(feed) => writeln!(out, "its changes could not be written to {}", Shown(feed)),
+        Halt::Misfit => {
+            out.write_all(b"a row of it does not fit the description of its columns\n")
+        }
+        Halt::Memory => out.write_all(b"memory ran out for the set that is waited for\n"),
     }
 }
 

@@ -13,7 +13,7 @@ fn status_of(reason: &Reason) -> u8
     ensures range { result ≤ MEMORY }
 {
     match reason {
-        Reason::EndOfInput | Reason::SourceEof => DONE,
+        Reason::EndOfInput | Reason::SourceEof | Reason::Until => DONE,
         Reason::SourceError { .. }
         | Reason::Wire(_)
         | Reason::Greet(_)
@@ -39,13 +39,13 @@ fn first_status(ends: &[Ended]) -> u8
     DONE
 }
 
-/// The connections whose status counts: not the last one where it was stopped for a row that does not fit, whose failure has
-/// a status of its own.
+/// The connections whose status counts: not the last one where it was stopped for a row that does not fit, or since memory ran
+/// out, whose failure has a status of its own.
 pub fn counted<'e>(ends: &'e [Ended], done: &Result<(), Failure<'_>>) -> &'e [Ended]
     ensures counted { IsCounted ends.now done.now result.now }
 {
     match (ends, done) {
-        ([before @ .., last], Err(Failure::Misfit { .. }))
+        ([before @ .., last], Err(Failure::Misfit { .. } | Failure::Memory))
             if matches!(last.reason, Reason::Halted) => before,
         _ => ends,
     }

@@ -1,14 +1,17 @@
 //! What `mrep replay` and `mrep follow` are asked for beside what they read.
 
-use crate::arguments::{tables, word};
+use crate::arguments::{gtid_set, tables, word};
 use crate::database::description::{encoding_with, read_tables};
-use crate::report::failure::{Failure, of_file};
+use crate::report::failure::{Failure, of_file, over_file};
+use crate::report::pulse::Pulse;
 use crate::report::watch::{Reports, Stop};
 use binlog::Follow;
 use clap::ArgMatches;
 use formats::{Chosen, Format, Progress};
-use std::alloc::{AllocFailed, Global};
-use std::io::IsTerminal;
+use gtid::GtidSet;
+use metrics::{Status, StatusFile};
+use std::alloc::Global;
+use std::io::{IsTerminal, Write};
 use std::rc::Rc;
 use typed_rows::{DescribedTables, Feed, OUTPUT};
 
@@ -27,6 +30,18 @@ pub struct Wanted<'g, 'a> {
     bytes: Option<&'a str>,
     /// The file with the description of the columns.
     columns: Option<&'a str>,
+    /// The file of the status.
+    status: Option<&'a str>,
+    /// The text of the set that is waited for.
+    until: Option<&'a str>,
+}
+
+/// What was waited for: nothing is known of it where memory ran out.
+pub fn waited<'a>(is_out_of_memory: bool) -> Result<(), Failure<'a>> {
+    if is_out_of_memory {
+        return Err(Failure::Memory);
+    }
+    Ok(())
 }
 
 impl<'g, 'a> Wanted<'g, 'a> {
@@ -43,6 +58,8 @@ impl<'g, 'a> Wanted<'g, 'a> {
             changes,
             bytes,
             columns: given.get_str("columns"),
+            status: given.get_str("status"),
+            until: given.get_str("until"),
         })
     }
 
@@ -54,24 +71,52 @@ impl<'g, 'a> Wanted<'g, 'a> {
         }
     }
 
-    /// All that is reported, with this progress.
-    pub fn reports(
+    /// The set that is waited for, if there is one.
+    pub fn until(&self, alloc: Global) -> Result<Option<GtidSet>, Failure<'a>> {
+        match self.until {
+            Some(text) => Ok(Some(gtid_set(alloc, "--until", text)?)),
+            None => Ok(None),
+        }
+    }
+
+    /// All that is reported of a command that reads these files, with how many bytes, if that is known.
+    pub fn reports<E: Write>(
         &self,
         rt: &HostRuntime,
-        progress: Option<Rc<Progress>>,
+        total: Option<u64>,
         read: &[&str],
+        err: &mut E,
     ) -> Result<Reports, Failure<'a>> {
         let chosen = self.chosen(rt.alloc())?;
         let tables = match self.columns {
             Some(name) => Some(read_tables(rt, name)?),
             None => None,
         };
+        let others = self.others(rt.alloc(), read)?;
+        let pulse = self.pulse(rt, total, &others)?;
+        pulse.write_status(rt, err);
         Ok(Reports {
-            progress,
-            feed: self.feed(rt, read)?,
+            pulse: Rc::new(rt.alloc(), pulse)?,
+            feed: self.feed(rt, &others)?,
             tables,
             chosen,
         })
+    }
+
+    /// The files that the command uses besides the change feed: those that it reads, the description, and the status.
+    fn others<'n>(&self, alloc: Global, read: &[&'n str]) -> Result<Vec<&'n str>, Failure<'a>>
+    where
+        'a: 'n,
+    {
+        let mut others = Vec::with_capacity(alloc, read.len().saturating_add(2))?;
+        others.extend_from_slice(read)?;
+        if let Some(columns) = self.columns {
+            others.push(columns)?;
+        }
+        if let Some(status) = self.status {
+            others.push(status)?;
+        }
+        Ok(others)
     }
 
     /// The tables, of which no row has come, if any are named.
@@ -82,22 +127,32 @@ impl<'g, 'a> Wanted<'g, 'a> {
         }
     }
 
-    /// The progress that is reported, if that is asked for, with how many bytes are to be read, if that is known.
-    pub fn progress(
+    /// Lines of progress, with how many bytes are to be read, if that is known, and the status, where they are asked for.
+    fn pulse(
         &self,
         rt: &HostRuntime,
         total: Option<u64>,
-    ) -> Result<Option<Rc<Progress>>, AllocFailed<Progress>> {
-        if !self.progress {
-            return Ok(None);
-        }
-        let redraws = rt.stderr().is_terminal();
-        let progress = Rc::new(rt.alloc(), Progress::new(rt, total, redraws))?;
-        Ok(Some(progress))
+        others: &[&str],
+    ) -> Result<Pulse, Failure<'a>> {
+        let progress = if self.progress {
+            Some(Progress::new(rt, total, rt.stderr().is_terminal()))
+        } else {
+            None
+        };
+        let status = match self.status {
+            Some(name) => {
+                let file = over_file(name, StatusFile::new(rt, name, self.db, others))?;
+                Some(Status::new(rt.alloc(), file))
+            }
+            None => None,
+        };
+        let name = self.status.unwrap_or("");
+        let file = format!(in rt.alloc(); "{name}")?;
+        Ok(Pulse::new(progress, status, file))
     }
 
-    /// The change feed, if one is asked for. Its file may be none of those that the command reads.
-    fn feed(&self, rt: &HostRuntime, read: &[&str]) -> Result<Option<Feed>, Failure<'a>> {
+    /// The change feed, if one is asked for. Its file may be none of the others that the command uses.
+    fn feed(&self, rt: &HostRuntime, others: &[&str]) -> Result<Option<Feed>, Failure<'a>> {
         let Some(name) = self.changes else {
             return Ok(None);
         };
@@ -105,12 +160,7 @@ impl<'g, 'a> Wanted<'g, 'a> {
         if name == OUTPUT {
             return Ok(Some(Feed::to_output(rt.alloc(), encoding)));
         }
-        let mut others = Vec::with_capacity(rt.alloc(), read.len().saturating_add(1))?;
-        others.extend_from_slice(read)?;
-        if let Some(columns) = self.columns {
-            others.push(columns)?;
-        }
-        match Feed::to_file(rt, name, self.db, &others, encoding) {
+        match Feed::to_file(rt, name, self.db, others, encoding) {
             Ok(feed) => Ok(Some(feed)),
             Err(fault) => Err(of_file(name, fault)),
         }

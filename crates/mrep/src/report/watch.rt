@@ -2,17 +2,18 @@
 
 ghost use Rattle.std.specs.Prelude.{◌≡◌, true, is_some};
 
-use crate::report::reason::{can_skip, write_advice, write_cause, write_end};
+use crate::report::pulse::Pulse;
+use crate::report::reason::{Halt, can_skip, write_advice, write_cause, write_end};
 use crate::report::wanted::Wanted;
 use binlog::Event;
-use formats::{Chosen, Details, Progress, Shown, text_of};
+use formats::{Chosen, Details, Shown, text_of};
 use gather::Delivery;
 use gtid::GtidSet;
 use replica::{Ended, Observer, Reason, Refusal};
 use std::io;
 use std::io::Write;
 use std::rc::Rc;
-use typed_rows::{DescribedTables, Feed, FeedEntry, Misfit, RowError, write_refused};
+use typed_rows::{DescribedTables, Feed, FeedEntry, Misfit, RowError, Stamps, write_refused};
 
 /// Why reading is stopped.
 #[derive(Drop)]
@@ -69,7 +70,7 @@ impl<'a> Source<'a> {
 /// What is reported, where it is asked for.
 #[derive(Drop)]
 pub struct Reports {
-    pub progress: Option<Rc<Progress>>,
+    pub pulse: Rc<Pulse>,
     pub feed: Option<Feed>,
     /// The tables whose rows have names and types in the feed and in messages.
     pub tables: Option<DescribedTables>,
@@ -83,7 +84,7 @@ pub struct Watch<'a, O, E> {
     source: Source<'a>,
     out: &'a mut O,
     err: &'a mut E,
-    progress: Option<Rc<Progress>>,
+    pulse: Rc<Pulse>,
     feed: Option<Feed>,
     /// The tables whose rows have names and types in the feed and in messages.
     tables: Option<DescribedTables>,
@@ -96,6 +97,8 @@ pub struct Watch<'a, O, E> {
     /// Whether a transaction was applied.
     has_applied: bool,
     details: Details,
+    /// What the events of the open transaction say of it besides its changes.
+    stamps: Stamps,
     /// How many connections have ended.
     ended: usize,
     stop: Option<Stop>,
@@ -110,7 +113,7 @@ impl<'a, O: Write, E: Write> Watch<'a, O, E> {
         err: &'a mut E,
     ) -> Watch<'a, O, E> {
         let Reports {
-            progress,
+            pulse,
             feed,
             tables,
             chosen,
@@ -119,7 +122,7 @@ impl<'a, O: Write, E: Write> Watch<'a, O, E> {
             source,
             out,
             err,
-            progress,
+            pulse,
             feed,
             tables,
             executed: None,
@@ -127,6 +130,7 @@ impl<'a, O: Write, E: Write> Watch<'a, O, E> {
             has_failed: false,
             has_applied: false,
             details: Details::new(source.rt.alloc()),
+            stamps: Stamps::new(source.rt.alloc()),
             ended: 0,
             stop: None,
         }
@@ -145,7 +149,7 @@ impl<'a, O: Write, E: Write> Watch<'a, O, E> {
         let Some(feed) = &mut self.feed else {
             return;
         };
-        if let Err(error) = feed.write(entry, self.tables.as_ref(), self.out) {
+        if let Err(error) = feed.write(entry, &self.stamps, self.tables.as_ref(), self.out) {
             self.stop = Some(Stop::of(error));
         }
     }
@@ -195,16 +199,21 @@ impl<'a, O: Write, E: Write> Watch<'a, O, E> {
         self.out.flush()
     }
 
+    /// What has stopped a command before a transaction.
+    fn halt(&self) -> Halt<'a> {
+        match self.stop {
+            Some(Stop::Misfit(_)) => Halt::Misfit,
+            Some(_) => Halt::Feed(self.source.changes),
+            None => Halt::Memory,
+        }
+    }
+
     /// Writes the cause of an end to standard error, and in which transaction it was.
     fn explain(&mut self, stream: &str, reason: &Reason)
         ensures { self.new.stop ≡ self.old.stop }
     {
         let db = self.source.db;
-        let changes = match self.stop {
-            Some(Stop::Misfit(_)) => None,
-            _ => Some(self.source.changes),
-        };
-        let _ = write_cause(stream, db, changes, reason, self.err);
+        let _ = write_cause(stream, db, self.halt(), reason, self.err);
         let _ = write_advice(stream, reason, self.err);
         if let Some(can_skip) = can_skip(reason, self.source.port != 0) {
             let _ = self.details.write(stream, db, can_skip, self.err);
@@ -221,9 +230,7 @@ impl<'a, O: Write, E: Write> Watch<'a, O, E> {
     ) -> io::Result<()>
         ensures { self.new.stop ≡ self.old.stop }
     {
-        if let Some(progress) = &self.progress {
-            progress.finish(self.source.rt, self.err);
-        }
+        self.pulse.ended(self.source.rt, end, self.err);
         let printed = self.print(number, end);
         let name = self.source.streams.get(number.saturating_sub(1));
         let stream = name.copied().unwrap_or("");
@@ -255,6 +262,13 @@ impl<'a, O: Write, E: Write> Watch<'a, O, E> {
         }
     }
 
+    /// Says in the status that the source could not be reached.
+    pub fn give_up(&mut self)
+        ensures { self.new.stop ≡ self.old.stop }
+    {
+        self.pulse.write_status(self.source.rt, self.err);
+    }
+
     /// Why reading was stopped, if it was.
     pub fn stop(self) -> Option<Stop> {
         let Watch { stop, .. } = self;
@@ -266,6 +280,7 @@ impl<'a, O: Write, E: Write> Observer for Watch<'a, O, E> {
     ghost has_stopped = { λ w. is_some w.stop };
 
     fn opened(&mut self, executed: &GtidSet) {
+        self.pulse.opened(executed);
         if !executed.is_subset(&GtidSet::new(self.source.rt.alloc())) {
             self.chosen = None;
         }
@@ -284,7 +299,8 @@ impl<'a, O: Write, E: Write> Observer for Watch<'a, O, E> {
 
     fn connected(&mut self) {
         self.put_executed();
-        if self.progress.is_some() {
+        self.pulse.connected();
+        if self.pulse.has_lines() {
             let name = self.source.streams.first().copied().unwrap_or("");
             let _ = writeln!(
                 self.err,
@@ -296,12 +312,16 @@ impl<'a, O: Write, E: Write> Observer for Watch<'a, O, E> {
     }
 
     fn received(&mut self, count: usize) {
-        if let Some(progress) = &self.progress {
-            progress.read(self.source.rt, count, self.err);
-        }
+        self.pulse.received(self.source.rt, count, self.err);
     }
 
-    fn event(&mut self, event: &Event<'_>) {
+    fn event(&mut self, event: &Event<'_>, bytes: &[u8], pending: usize) {
+        if self.feed.is_some() || self.pulse.has_status() {
+            let stamped = self.stamps.event(event, bytes, pending);
+            if stamped.is_err() && self.feed.is_some() {
+                self.stop = Some(Stop::Feed(io::ErrorKind::OutOfMemory.into()));
+            }
+        }
         match event {
             Event::Gtid(gtid) => self.details.gtid = Some(*gtid),
             Event::TableMap(map) => {
@@ -325,10 +345,10 @@ impl<'a, O: Write, E: Write> Observer for Watch<'a, O, E> {
                 self.details.gtid = None;
                 if *applied {
                     self.has_applied = true;
-                    if let Some(progress) = &self.progress {
-                        progress.count();
-                    }
-                    self.put(FeedEntry::Committed(delivery.gtid));
+                    let committed_at = self.stamps.committed_at();
+                    self.pulse
+                        .applied(self.source.rt, delivery.gtid, committed_at);
+                    self.put(FeedEntry::Committed(delivery));
                 }
             }
             Err(reason) => {
@@ -368,5 +388,9 @@ impl<'a, O: Write, E: Write> Observer for Watch<'a, O, E> {
             self.stop = Some(Stop::Output(cause));
         }
         self.stop.is_none()
+    }
+
+    fn is_done(&self) -> bool {
+        false
     }
 }

@@ -15,6 +15,7 @@ use Rattle.replica.specs.Conn.{MayEnd}
 use Rattle.replica.proofs.Observed.{ends_later, more_ends, none_yet, one_at_most, still}
 use Rattle.replica.specs.Noted.{IsLedTo}
 use Rattle.replica.proofs.Noted.{led_from, led_through, led_to_end}
+use Rattle.replica.proofs.Missing.{missing_first, missing_later}
 use Rattle.replica.proofs.Captured.{no_captures, captures_more, breaks_off}
 use Rattle.replica.proofs.captures.read_captures.Goals as goal
 
@@ -31,8 +32,10 @@ loop-capture-init g c = record {
   broken = λ h. refl;
   keeps = λ is now holds on. refl;
   notes = λ clean was old holds.
-      subst (λ (l : List Ended). IsLedTo g.S.Store c.args.store.now c.args.store.now was old (g.W.Observer.noted c.args.observer.now, g.W.Observer.has_stopped c.args.observer.now) (g.W.Observer.noted c.opened.new.self, g.W.Observer.has_stopped c.opened.new.self) l) (sym c.requires.none)
-      (led_from g.S.Store was old c.args.store.now c.executed.result.now (g.W.Observer.noted c.args.observer.now, g.W.Observer.has_stopped c.args.observer.now) (g.W.Observer.noted c.opened.new.self, g.W.Observer.has_stopped c.opened.new.self) holds (c.executed.ensures.value was old holds) c.opened.ensures.noted c.opened.ensures.stays);
+      subst (λ (l : List Ended). IsLedTo g.S.Store c.args.store.now c.args.store.now was old (g.W.Observer.noted c.args.observer.now, g.W.Observer.has_stopped c.args.observer.now, g.W.Observer.waits c.args.observer.now) (g.W.Observer.noted c.opened.new.self, g.W.Observer.has_stopped c.opened.new.self, g.W.Observer.waits c.opened.new.self) l) (sym c.requires.none)
+      (led_from g.S.Store was old c.args.store.now c.executed.result.now (g.W.Observer.noted c.args.observer.now, g.W.Observer.has_stopped c.args.observer.now, g.W.Observer.waits c.args.observer.now) (g.W.Observer.noted c.opened.new.self, g.W.Observer.has_stopped c.opened.new.self, g.W.Observer.waits c.opened.new.self) holds (c.executed.ensures.value was old holds) c.opened.ensures.noted c.opened.ensures.stays c.opened.ensures.waits);
+  missed = λ clean was old holds.
+      missing_first (g.W.Observer.waits c.args.observer.now) (g.W.Observer.waits c.opened.new.self) c.executed.result.now old.executed (c.executed.ensures.value was old holds) c.opened.ensures.waits (sym c.is_done.ensures.done ∙ c.if-is_done.false);
   taken = λ h was old holds.
       subst (λ (l : List Ended). AreRead g.R.Read.remaining (HasReadAll g.S.Store c.args.config.now.limit c.args.store.now (state g.S.Store c.args.store.now.conn).now.schema was old) [] l) (search rules)
       (no_captures g.S.Store g.R.Read.remaining (λ h db is_open may. g.met.S.Store.settled h.store db is_open may) c.args.config.now.limit c.args.store.now was old holds);
@@ -88,13 +91,18 @@ loop-capture-preserved g c =
       broken = search rules;
       keeps = λ is now holds on. still (HoldsAs g.S.Store is now) c.args.store.now c.loop-capture.store c.read_capture.new.store (inv.keeps is now holds on) holds (λ h. c.read_capture.ensures.heeds is now h (inv.stays on));
       notes = λ clean was old holds.
-          subst (λ (l : List Ended). IsLedTo g.S.Store c.args.store.now c.read_capture.new.store was old (g.W.Observer.noted c.args.observer.now, g.W.Observer.has_stopped c.args.observer.now) (g.W.Observer.noted c.ended-goes_on.new.self, g.W.Observer.has_stopped c.ended-goes_on.new.self) l) (sym c.push_reserved.ensures.items)
-          (led_through g.S.Store was old c.args.store.now c.loop-capture.store c.read_capture.new.store (g.W.Observer.noted c.args.observer.now, g.W.Observer.has_stopped c.args.observer.now) (g.W.Observer.noted c.loop-capture.observer, g.W.Observer.has_stopped c.loop-capture.observer) (g.W.Observer.noted c.ended-goes_on.new.self, g.W.Observer.has_stopped c.ended-goes_on.new.self) c.loop-capture.ends.items (c.in-Ok.end ∷ []) inv.following inv.heeds
+          subst (λ (l : List Ended). IsLedTo g.S.Store c.args.store.now c.read_capture.new.store was old (g.W.Observer.noted c.args.observer.now, g.W.Observer.has_stopped c.args.observer.now, g.W.Observer.waits c.args.observer.now) (g.W.Observer.noted c.ended-goes_on.new.self, g.W.Observer.has_stopped c.ended-goes_on.new.self, g.W.Observer.waits c.ended-goes_on.new.self) l) (sym c.push_reserved.ensures.items)
+          (led_through g.S.Store was old c.args.store.now c.loop-capture.store c.read_capture.new.store (g.W.Observer.noted c.args.observer.now, g.W.Observer.has_stopped c.args.observer.now, g.W.Observer.waits c.args.observer.now) (g.W.Observer.noted c.loop-capture.observer, g.W.Observer.has_stopped c.loop-capture.observer, g.W.Observer.waits c.loop-capture.observer) (g.W.Observer.noted c.ended-goes_on.new.self, g.W.Observer.has_stopped c.ended-goes_on.new.self, g.W.Observer.waits c.ended-goes_on.new.self) c.loop-capture.ends.items (c.in-Ok.end ∷ []) inv.following inv.heeds
           (inv.notes (c.read_capture.ensures.clean clean) was old holds)
           (λ is now held.
-          led_through g.S.Store is now c.loop-capture.store c.read_capture.new.store c.read_capture.new.store (g.W.Observer.noted c.loop-capture.observer, g.W.Observer.has_stopped c.loop-capture.observer) (g.W.Observer.noted c.read_capture.new.observer, g.W.Observer.has_stopped c.read_capture.new.observer) (g.W.Observer.noted c.ended-goes_on.new.self, g.W.Observer.has_stopped c.ended-goes_on.new.self) [] (c.in-Ok.end ∷ []) c.read_capture.ensures.following (λ some. absurd (some refl))
+          led_through g.S.Store is now c.loop-capture.store c.read_capture.new.store c.read_capture.new.store (g.W.Observer.noted c.loop-capture.observer, g.W.Observer.has_stopped c.loop-capture.observer, g.W.Observer.waits c.loop-capture.observer) (g.W.Observer.noted c.read_capture.new.observer, g.W.Observer.has_stopped c.read_capture.new.observer, g.W.Observer.waits c.read_capture.new.observer) (g.W.Observer.noted c.ended-goes_on.new.self, g.W.Observer.has_stopped c.ended-goes_on.new.self, g.W.Observer.waits c.ended-goes_on.new.self) [] (c.in-Ok.end ∷ []) c.read_capture.ensures.following (λ some. absurd (some refl))
           (c.read_capture.ensures.notes clean is now held)
-          (λ after later kept. led_to_end g.S.Store after later c.read_capture.new.store c.in-Ok.end c.ended-goes_on.result (g.W.Observer.noted c.read_capture.new.observer, g.W.Observer.has_stopped c.read_capture.new.observer) (g.W.Observer.noted c.ended-goes_on.new.self, g.W.Observer.has_stopped c.ended-goes_on.new.self) kept c.ended-goes_on.ensures.noted c.ended-goes_on.ensures.goes_on c.ended-goes_on.ensures.stays)));
+          (λ after later kept. led_to_end g.S.Store after later c.read_capture.new.store c.in-Ok.end c.ended-goes_on.result (g.W.Observer.noted c.read_capture.new.observer, g.W.Observer.has_stopped c.read_capture.new.observer, g.W.Observer.waits c.read_capture.new.observer) (g.W.Observer.noted c.ended-goes_on.new.self, g.W.Observer.has_stopped c.ended-goes_on.new.self, g.W.Observer.waits c.ended-goes_on.new.self) kept c.ended-goes_on.ensures.noted c.ended-goes_on.ensures.goes_on c.ended-goes_on.ensures.stays c.ended-goes_on.ensures.waits)));
+      missed = λ clean was old holds.
+          missing_later (g.W.Observer.waits c.args.observer.now) (g.W.Observer.waits c.read_capture.new.observer) (g.W.Observer.waits c.ended-goes_on.new.self) [] old.executed c.ended-goes_on.ensures.waits
+          (let led = inv.notes (c.read_capture.ensures.clean clean) was old holds in
+          let next = c.read_capture.ensures.notes clean led.now_broken led.new led.holds in
+          missing_later (g.W.Observer.waits c.args.observer.now) (g.W.Observer.waits c.loop-capture.observer) (g.W.Observer.waits c.read_capture.new.observer) next.noted_of.notices old.executed next.noted_of.waits (inv.missed (c.read_capture.ensures.clean clean) was old holds));
       taken = λ clean was old holds.
           let t = inv.taken (c.read_capture.ensures.clean clean) was old holds in
           subst₂ (λ (l : List (Capture g.row.R.Denot)) (es : List Ended). AreRead g.R.Read.remaining (HasReadAll g.S.Store c.args.config.now.limit c.read_capture.new.store (state g.S.Store c.args.store.now.conn).now.schema was old) l es) (sym more) (sym ends)
@@ -148,20 +156,60 @@ returns-clause-keeps g c = c.loop-capture.invariant.keeps
 pub returns-in-Err-clause-notes : goal.returns-in-Err-clause-notes
 returns-in-Err-clause-notes g c clean was old holds =
     let inv = c.loop-capture.invariant in
-    subst (λ (l : List Ended). IsLedTo g.S.Store c.args.store.now c.read_capture.new.store was old (g.W.Observer.noted c.args.observer.now, g.W.Observer.has_stopped c.args.observer.now) (g.W.Observer.noted c.read_capture.new.observer, g.W.Observer.has_stopped c.read_capture.new.observer) l) (append-nil c.loop-capture.ends.items)
-    (led_through g.S.Store was old c.args.store.now c.loop-capture.store c.read_capture.new.store (g.W.Observer.noted c.args.observer.now, g.W.Observer.has_stopped c.args.observer.now) (g.W.Observer.noted c.loop-capture.observer, g.W.Observer.has_stopped c.loop-capture.observer) (g.W.Observer.noted c.read_capture.new.observer, g.W.Observer.has_stopped c.read_capture.new.observer) c.loop-capture.ends.items [] inv.following inv.heeds
+    subst (λ (l : List Ended). IsLedTo g.S.Store c.args.store.now c.read_capture.new.store was old (g.W.Observer.noted c.args.observer.now, g.W.Observer.has_stopped c.args.observer.now, g.W.Observer.waits c.args.observer.now) (g.W.Observer.noted c.read_capture.new.observer, g.W.Observer.has_stopped c.read_capture.new.observer, g.W.Observer.waits c.read_capture.new.observer) l) (append-nil c.loop-capture.ends.items)
+    (led_through g.S.Store was old c.args.store.now c.loop-capture.store c.read_capture.new.store (g.W.Observer.noted c.args.observer.now, g.W.Observer.has_stopped c.args.observer.now, g.W.Observer.waits c.args.observer.now) (g.W.Observer.noted c.loop-capture.observer, g.W.Observer.has_stopped c.loop-capture.observer, g.W.Observer.waits c.loop-capture.observer) (g.W.Observer.noted c.read_capture.new.observer, g.W.Observer.has_stopped c.read_capture.new.observer, g.W.Observer.waits c.read_capture.new.observer) c.loop-capture.ends.items [] inv.following inv.heeds
     (inv.notes (c.read_capture.ensures.clean clean) was old holds) (λ is now held. c.read_capture.ensures.notes clean is now held))
 
 pub returns-then-not-goes_on-clause-notes : goal.returns-then-not-goes_on-clause-notes
 returns-then-not-goes_on-clause-notes g c clean was old holds =
     let inv = c.loop-capture.invariant in
-    subst (λ (l : List Ended). IsLedTo g.S.Store c.args.store.now c.read_capture.new.store was old (g.W.Observer.noted c.args.observer.now, g.W.Observer.has_stopped c.args.observer.now) (g.W.Observer.noted c.ended-goes_on.new.self, g.W.Observer.has_stopped c.ended-goes_on.new.self) l) (sym c.push_reserved.ensures.items)
-    (led_through g.S.Store was old c.args.store.now c.loop-capture.store c.read_capture.new.store (g.W.Observer.noted c.args.observer.now, g.W.Observer.has_stopped c.args.observer.now) (g.W.Observer.noted c.loop-capture.observer, g.W.Observer.has_stopped c.loop-capture.observer) (g.W.Observer.noted c.ended-goes_on.new.self, g.W.Observer.has_stopped c.ended-goes_on.new.self) c.loop-capture.ends.items (c.in-Ok.end ∷ []) inv.following inv.heeds
+    subst (λ (l : List Ended). IsLedTo g.S.Store c.args.store.now c.read_capture.new.store was old (g.W.Observer.noted c.args.observer.now, g.W.Observer.has_stopped c.args.observer.now, g.W.Observer.waits c.args.observer.now) (g.W.Observer.noted c.ended-goes_on.new.self, g.W.Observer.has_stopped c.ended-goes_on.new.self, g.W.Observer.waits c.ended-goes_on.new.self) l) (sym c.push_reserved.ensures.items)
+    (led_through g.S.Store was old c.args.store.now c.loop-capture.store c.read_capture.new.store (g.W.Observer.noted c.args.observer.now, g.W.Observer.has_stopped c.args.observer.now, g.W.Observer.waits c.args.observer.now) (g.W.Observer.noted c.loop-capture.observer, g.W.Observer.has_stopped c.loop-capture.observer, g.W.Observer.waits c.loop-capture.observer) (g.W.Observer.noted c.ended-goes_on.new.self, g.W.Observer.has_stopped c.ended-goes_on.new.self, g.W.Observer.waits c.ended-goes_on.new.self) c.loop-capture.ends.items (c.in-Ok.end ∷ []) inv.following inv.heeds
     (inv.notes (c.read_capture.ensures.clean clean) was old holds)
     (λ is now held.
-    led_through g.S.Store is now c.loop-capture.store c.read_capture.new.store c.read_capture.new.store (g.W.Observer.noted c.loop-capture.observer, g.W.Observer.has_stopped c.loop-capture.observer) (g.W.Observer.noted c.read_capture.new.observer, g.W.Observer.has_stopped c.read_capture.new.observer) (g.W.Observer.noted c.ended-goes_on.new.self, g.W.Observer.has_stopped c.ended-goes_on.new.self) [] (c.in-Ok.end ∷ []) c.read_capture.ensures.following (λ some. absurd (some refl))
+    led_through g.S.Store is now c.loop-capture.store c.read_capture.new.store c.read_capture.new.store (g.W.Observer.noted c.loop-capture.observer, g.W.Observer.has_stopped c.loop-capture.observer, g.W.Observer.waits c.loop-capture.observer) (g.W.Observer.noted c.read_capture.new.observer, g.W.Observer.has_stopped c.read_capture.new.observer, g.W.Observer.waits c.read_capture.new.observer) (g.W.Observer.noted c.ended-goes_on.new.self, g.W.Observer.has_stopped c.ended-goes_on.new.self, g.W.Observer.waits c.ended-goes_on.new.self) [] (c.in-Ok.end ∷ []) c.read_capture.ensures.following (λ some. absurd (some refl))
     (c.read_capture.ensures.notes clean is now held)
-    (λ after later kept. led_to_end g.S.Store after later c.read_capture.new.store c.in-Ok.end c.ended-goes_on.result (g.W.Observer.noted c.read_capture.new.observer, g.W.Observer.has_stopped c.read_capture.new.observer) (g.W.Observer.noted c.ended-goes_on.new.self, g.W.Observer.has_stopped c.ended-goes_on.new.self) kept c.ended-goes_on.ensures.noted c.ended-goes_on.ensures.goes_on c.ended-goes_on.ensures.stays)))
+    (λ after later kept. led_to_end g.S.Store after later c.read_capture.new.store c.in-Ok.end c.ended-goes_on.result (g.W.Observer.noted c.read_capture.new.observer, g.W.Observer.has_stopped c.read_capture.new.observer, g.W.Observer.waits c.read_capture.new.observer) (g.W.Observer.noted c.ended-goes_on.new.self, g.W.Observer.has_stopped c.ended-goes_on.new.self, g.W.Observer.waits c.ended-goes_on.new.self) kept c.ended-goes_on.ensures.noted c.ended-goes_on.ensures.goes_on c.ended-goes_on.ensures.stays c.ended-goes_on.ensures.waits)))
 
 pub returns-clause-notes : goal.returns-clause-notes
 returns-clause-notes g c = c.loop-capture.invariant.notes
+
+pub returns-then-is_done-clause-reads : goal.returns-then-is_done-clause-reads
+returns-then-is_done-clause-reads g c clean was old holds =
+    subst (λ (l : List Ended). AreRead g.R.Read.remaining (HasReadAll g.S.Store c.args.config.now.limit c.args.store.now (state g.S.Store c.args.store.now.conn).now.schema was old) (take (length l) c.args.captures.items) l) (sym c.requires.none)
+    (no_captures g.S.Store g.R.Read.remaining (λ h db is_open may. g.met.S.Store.settled h.store db is_open may) c.args.config.now.limit c.args.store.now was old holds)
+
+pub returns-then-is_done-clause-may_end : goal.returns-then-is_done-clause-may_end
+returns-then-is_done-clause-may_end g c = subst (λ (l : List Ended). All (λ (e : Ended). MayEnd e.reason (g.W.Observer.has_stopped c.opened.new.self)) l) (sym c.requires.none) (search rules)
+
+pub returns-then-is_done-clause-asked : goal.returns-then-is_done-clause-asked
+returns-then-is_done-clause-asked g c is = c.is_done.ensures.stopped c.if-is_done.true
+
+pub returns-then-is_done-clause-no_more : goal.returns-then-is_done-clause-no_more
+returns-then-is_done-clause-no_more g c on = none_yet c.args.ends.now.items (g.W.Observer.has_stopped c.opened.new.self) (λ some. absurd (some c.requires.none)) (c.opened.ensures.stays on)
+
+pub returns-then-is_done-clause-notes : goal.returns-then-is_done-clause-notes
+returns-then-is_done-clause-notes g c clean was old holds =
+    subst (λ (l : List Ended). IsLedTo g.S.Store c.args.store.now c.args.store.now was old (g.W.Observer.noted c.args.observer.now, g.W.Observer.has_stopped c.args.observer.now, g.W.Observer.waits c.args.observer.now) (g.W.Observer.noted c.opened.new.self, g.W.Observer.has_stopped c.opened.new.self, g.W.Observer.waits c.opened.new.self) l) (sym c.requires.none)
+    (led_from g.S.Store was old c.args.store.now c.executed.result.now (g.W.Observer.noted c.args.observer.now, g.W.Observer.has_stopped c.args.observer.now, g.W.Observer.waits c.args.observer.now) (g.W.Observer.noted c.opened.new.self, g.W.Observer.has_stopped c.opened.new.self, g.W.Observer.waits c.opened.new.self) holds (c.executed.ensures.value was old holds) c.opened.ensures.noted c.opened.ensures.stays c.opened.ensures.waits)
+
+pub returns-then-is_done-clause-missed : goal.returns-then-is_done-clause-missed
+returns-then-is_done-clause-missed g c clean was old holds some = absurd (some c.requires.none)
+
+pub returns-in-Err-clause-missed : goal.returns-in-Err-clause-missed
+returns-in-Err-clause-missed g c clean was old holds some =
+    let inv = c.loop-capture.invariant in
+    (let led = inv.notes (c.read_capture.ensures.clean clean) was old holds in
+    let next = c.read_capture.ensures.notes clean led.now_broken led.new led.holds in
+    missing_later (g.W.Observer.waits c.args.observer.now) (g.W.Observer.waits c.loop-capture.observer) (g.W.Observer.waits c.read_capture.new.observer) next.noted_of.notices old.executed next.noted_of.waits (inv.missed (c.read_capture.ensures.clean clean) was old holds))
+
+pub returns-then-not-goes_on-clause-missed : goal.returns-then-not-goes_on-clause-missed
+returns-then-not-goes_on-clause-missed g c clean was old holds some =
+    let inv = c.loop-capture.invariant in
+    missing_later (g.W.Observer.waits c.args.observer.now) (g.W.Observer.waits c.read_capture.new.observer) (g.W.Observer.waits c.ended-goes_on.new.self) [] old.executed c.ended-goes_on.ensures.waits
+    (let led = inv.notes (c.read_capture.ensures.clean clean) was old holds in
+    let next = c.read_capture.ensures.notes clean led.now_broken led.new led.holds in
+    missing_later (g.W.Observer.waits c.args.observer.now) (g.W.Observer.waits c.loop-capture.observer) (g.W.Observer.waits c.read_capture.new.observer) next.noted_of.notices old.executed next.noted_of.waits (inv.missed (c.read_capture.ensures.clean clean) was old holds))
+
+pub returns-clause-missed : goal.returns-clause-missed
+returns-clause-missed g c clean was old holds some = c.loop-capture.invariant.missed clean was old holds

@@ -6,7 +6,7 @@ use Rattle.store.specs.Store.{HoldsAs}
 use Rattle.replica.specs.Over.{HasReadAll}
 use Rattle.replica.specs.Capture.{AreRead}
 use Rattle.replica.specs.Conn.{MayEnd}
-use Rattle.replica.specs.Noted.{IsLedTo}
+use Rattle.replica.specs.Noted.{IsLedTo, WasMissing}
 use Rattle.replica.proofs.captures.read_captures.Given as goal
 
 abbrev pub invariant-loop-capture : goal.invariant-loop-capture
@@ -21,7 +21,8 @@ invariant-loop-capture g l = record {
   following : l.store.following ≡ l.fn.store.following;
   broken : l.fn.store.broken ≡ true → l.store ≡ l.fn.store;
   keeps : (is : Bool) (now : Content) → HoldsAs g.S.Store is now l.fn.store → g.W.Observer.has_stopped l.fn.observer ≡ true → l.store ≡ l.fn.store;
-  notes : HasCleanDisk (state g.S.Store l.store.conn) → (was : Bool) (old : Content) → HoldsAs g.S.Store was old l.fn.store → IsLedTo g.S.Store l.fn.store l.store was old (g.W.Observer.noted l.fn.observer, g.W.Observer.has_stopped l.fn.observer) (g.W.Observer.noted l.observer, g.W.Observer.has_stopped l.observer) l.ends.items;
+  notes : HasCleanDisk (state g.S.Store l.store.conn) → (was : Bool) (old : Content) → HoldsAs g.S.Store was old l.fn.store → IsLedTo g.S.Store l.fn.store l.store was old (g.W.Observer.noted l.fn.observer, g.W.Observer.has_stopped l.fn.observer, g.W.Observer.waits l.fn.observer) (g.W.Observer.noted l.observer, g.W.Observer.has_stopped l.observer, g.W.Observer.waits l.observer) l.ends.items;
+  missed : HasCleanDisk (state g.S.Store l.store.conn) → (was : Bool) (old : Content) → HoldsAs g.S.Store was old l.fn.store → WasMissing (g.W.Observer.waits l.fn.observer) (g.W.Observer.waits l.observer) old.executed;
   taken : HasCleanDisk (state g.S.Store l.store.conn) → (was : Bool) (old : Content) → HoldsAs g.S.Store was old l.fn.store
       → AreRead g.R.Read.remaining (HasReadAll g.S.Store l.config.limit l.store (state g.S.Store l.fn.store.conn).now.schema was old) (take (length l.yielded) l.fn.captures.items) l.ends.items;
 }

@@ -32,23 +32,26 @@ returns-then-is_halted-clause-notes g c clean was old holds =
     let d = delivery_value c.args.delivery.now in
     let t0 = g.W.Observer.noted c.args.observer.now in
     let t1 = g.W.Observer.noted c.is_halted.new.observer in
-    led_to_stop g.S.Store was old c.args.store.now d (t0, g.W.Observer.has_stopped c.args.observer.now) (t1, g.W.Observer.has_stopped c.is_halted.new.observer) holds (c.is_halted.ensures.new was old holds c.if-is_halted.true)
-    (subst (λ (b : Bool). HasBeenNoted t0 t1 (asked_about old d b)) c.if-is_halted.true (c.is_halted.ensures.noted was old holds)) (c.is_halted.ensures.asked c.if-is_halted.true)
+    led_to_stop g.S.Store was old c.args.store.now d (t0, g.W.Observer.has_stopped c.args.observer.now, g.W.Observer.waits c.args.observer.now) (t1, g.W.Observer.has_stopped c.is_halted.new.observer, g.W.Observer.waits c.is_halted.new.observer) holds (c.is_halted.ensures.new was old holds c.if-is_halted.true)
+    (subst (λ (b : Bool). HasBeenNoted t0 t1 (asked_about old d b)) c.if-is_halted.true (c.is_halted.ensures.noted was old holds)) (c.is_halted.ensures.asked c.if-is_halted.true) c.is_halted.ensures.waits
 
 pub returns-clause-notes : goal.returns-clause-notes
 returns-clause-notes g c clean was old holds =
     let d = delivery_value c.args.delivery.now in
     let store = c.args.store.now in
     let new = c.apply.new.self in
-    let t0 : Account = (g.W.Observer.noted c.args.observer.now, g.W.Observer.has_stopped c.args.observer.now) in
-    let t1 : Account = (g.W.Observer.noted c.is_halted.new.observer, g.W.Observer.has_stopped c.is_halted.new.observer) in
-    let t2 : Account = (g.W.Observer.noted c.after_apply.new.self, g.W.Observer.has_stopped c.after_apply.new.self) in
+    let t0 : Account = (g.W.Observer.noted c.args.observer.now, g.W.Observer.has_stopped c.args.observer.now, g.W.Observer.waits c.args.observer.now) in
+    let t1 : Account = (g.W.Observer.noted c.is_halted.new.observer, g.W.Observer.has_stopped c.is_halted.new.observer, g.W.Observer.waits c.is_halted.new.observer) in
+    let t2 : Account = (g.W.Observer.noted c.after_apply.new.self, g.W.Observer.has_stopped c.after_apply.new.self, g.W.Observer.waits c.after_apply.new.self) in
     let asks : Asks old d t0 t1 t2 c.outcome-outcome.result = record {
       asked = subst (λ (halts : Bool). HasBeenNoted t0.0 t1.0 (asked_about old d halts)) c.if-is_halted.false (c.is_halted.ensures.noted was old holds);
       noted = c.after_apply.ensures.noted;
       goes_on = λ fresh. sym (c.is_halted.ensures.heeds was old holds fresh) ∙ c.if-is_halted.false;
       stays = c.is_halted.ensures.stays;
       stays_after = c.after_apply.ensures.stays;
+      still = c.is_halted.ensures.waits;
+      waits = c.after_apply.ensures.waits;
+      missed = λ fresh. c.is_halted.ensures.missed was old holds fresh c.if-is_halted.false;
     } in
     elim was as (λ b. HoldsAs g.S.Store b old store → IsLedTo g.S.Store store new b old t0 t2 []) [
       | true ↦ λ holds. led_broken g.S.Store old store new d t0 t1 t2 c.apply.result c.outcome-outcome.result holds (c.apply.ensures.broken holds.broken) c.outcome-outcome.ensures.maps asks

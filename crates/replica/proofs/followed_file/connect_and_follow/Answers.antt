@@ -20,12 +20,12 @@ returns-in-Err-clause-heeds g c is now holds on = refl
 
 pub returns-in-Ok-clause-notes : goal.returns-in-Ok-clause-notes
 returns-in-Ok-clause-notes g c clean was old holds =
-    led_through g.S.Store was old c.args.store.now c.args.store.now c.follow_observed-end.new.store (g.W.Observer.noted c.args.observer.now, g.W.Observer.has_stopped c.args.observer.now) (g.W.Observer.noted c.opened.new.self, g.W.Observer.has_stopped c.opened.new.self) (g.W.Observer.noted c.follow_observed-end.new.observer, g.W.Observer.has_stopped c.follow_observed-end.new.observer) [] [] refl (λ some. absurd (some refl))
-    (led_from g.S.Store was old c.args.store.now c.executed.result.now (g.W.Observer.noted c.args.observer.now, g.W.Observer.has_stopped c.args.observer.now) (g.W.Observer.noted c.opened.new.self, g.W.Observer.has_stopped c.opened.new.self) holds (c.executed.ensures.value was old holds) c.opened.ensures.noted c.opened.ensures.stays)
+    led_through g.S.Store was old c.args.store.now c.args.store.now c.follow_observed-end.new.store (g.W.Observer.noted c.args.observer.now, g.W.Observer.has_stopped c.args.observer.now, g.W.Observer.waits c.args.observer.now) (g.W.Observer.noted c.opened.new.self, g.W.Observer.has_stopped c.opened.new.self, g.W.Observer.waits c.opened.new.self) (g.W.Observer.noted c.follow_observed-end.new.observer, g.W.Observer.has_stopped c.follow_observed-end.new.observer, g.W.Observer.waits c.follow_observed-end.new.observer) [] [] refl (λ some. absurd (some refl))
+    (led_from g.S.Store was old c.args.store.now c.executed.result.now (g.W.Observer.noted c.args.observer.now, g.W.Observer.has_stopped c.args.observer.now, g.W.Observer.waits c.args.observer.now) (g.W.Observer.noted c.opened.new.self, g.W.Observer.has_stopped c.opened.new.self, g.W.Observer.waits c.opened.new.self) holds (c.executed.ensures.value was old holds) c.opened.ensures.noted c.opened.ensures.stays c.opened.ensures.waits)
     (λ is now held.
-    led_after g.S.Store is now c.args.store.now c.follow_observed-end.new.store (g.W.Observer.noted c.opened.new.self, g.W.Observer.has_stopped c.opened.new.self) (g.W.Observer.noted c.connected.new.self, g.W.Observer.has_stopped c.connected.new.self) (g.W.Observer.noted c.follow_observed-end.new.observer, g.W.Observer.has_stopped c.follow_observed-end.new.observer) [] c.connected.ensures.noted c.connected.ensures.stays
+    led_after g.S.Store is now c.args.store.now c.follow_observed-end.new.store (g.W.Observer.noted c.opened.new.self, g.W.Observer.has_stopped c.opened.new.self, g.W.Observer.waits c.opened.new.self) (g.W.Observer.noted c.connected.new.self, g.W.Observer.has_stopped c.connected.new.self, g.W.Observer.waits c.connected.new.self) (g.W.Observer.noted c.follow_observed-end.new.observer, g.W.Observer.has_stopped c.follow_observed-end.new.observer, g.W.Observer.waits c.follow_observed-end.new.observer) [] c.connected.ensures.noted c.connected.ensures.stays c.connected.ensures.waits
     (c.follow_observed-end.ensures.notes clean is now held))
 
 pub returns-in-Err-clause-notes : goal.returns-in-Err-clause-notes
 returns-in-Err-clause-notes g c clean was old holds =
-    led_from g.S.Store was old c.args.store.now c.executed.result.now (g.W.Observer.noted c.args.observer.now, g.W.Observer.has_stopped c.args.observer.now) (g.W.Observer.noted c.opened.new.self, g.W.Observer.has_stopped c.opened.new.self) holds (c.executed.ensures.value was old holds) c.opened.ensures.noted c.opened.ensures.stays
+    led_from g.S.Store was old c.args.store.now c.executed.result.now (g.W.Observer.noted c.args.observer.now, g.W.Observer.has_stopped c.args.observer.now, g.W.Observer.waits c.args.observer.now) (g.W.Observer.noted c.opened.new.self, g.W.Observer.has_stopped c.opened.new.self, g.W.Observer.waits c.opened.new.self) holds (c.executed.ensures.value was old holds) c.opened.ensures.noted c.opened.ensures.stays c.opened.ensures.waits

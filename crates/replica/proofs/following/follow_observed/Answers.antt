@@ -1,9 +1,10 @@
 use Rattle.std.proofs.Common.{Bool, [], if◌then◌else◌, length, arith, ◌≡◌, ◌≢◌, ◌++◌, true, Option, None, is_some, unwrap_or, sym, ap, ◌∙◌, subst, refl, rules}
+use Rattle.std.proofs.lemmas.Bool.{false≢true}
 use Rattle.replica.specs.Conn.{reported_as}
 use Rattle.std.proofs.KnownBytes.{Appends-kept, Keeps-trans}
 use Rattle.replica.specs.declared.end.Ended.{Ended}
 use Rattle.replica.specs.declared.end.Reason.{Reason}
-use Rattle.replica.specs.declared.end.Reason.TheVariants.{EndOfInput, Memory, WriteFailed, ReadFailed}
+use Rattle.replica.specs.declared.end.Reason.TheVariants.{EndOfInput, Memory, WriteFailed, ReadFailed, Until}
 use Rattle.replica.specs.declared.session.Session.{Session}
 use Rattle.replica.specs.declared.following.Turn.{Turn}
 use Rattle.replica.specs.declared.following.Turn.TheVariants as turn
@@ -13,17 +14,25 @@ use Rattle.replica.specs.Conn.{IsNoStreamFailure, MayEnd}
 use Rattle.replica.specs.Standing.{end_of}
 use Rattle.replica.specs.Follow.{Follows, reads_failed, failed_reads_of, failed_writes_of}
 use Rattle.replica.proofs.Observed.{asked, may_later, not_of_stream, still}
-use Rattle.replica.proofs.Noted.{led_nowhere, led_through}
+use Rattle.replica.proofs.Noted.{led_nowhere, led_through, waits_none}
 use Rattle.replica.proofs.Failed.{none_failed, failed_later, failed_none, counted_none}
 use Rattle.replica.proofs.Advance.{none_after}
-use Rattle.replica.proofs.Followed.{follows-memory, follows-sends_no_more, follows-write_failed, follows-ended, follows-read_failed, following-begins, following-sent, following-read, follows-same, some_after, ended_early, over-out, length_kept}
+use Rattle.replica.proofs.Followed.{follows-memory, follows-until, follows-sends_no_more, follows-write_failed, follows-ended, follows-read_failed, following-begins, following-sent, following-read, follows-same, some_after, ended_early, over-out, length_kept}
 use Rattle.replica.proofs.following.follow_observed.Goals as goal
+
+pub returns-then-is_done-clause-follows : goal.returns-then-is_done-clause-follows
+returns-then-is_done-clause-follows g c clean was old holds =
+    let session = c.new-session.result in
+    let reason : (end_of session).reason ≡ EndOfInput = ap (λ (v : Option Ended). (unwrap_or v (record { reason = EndOfInput; at = session.at; applied = session.applied })).reason) c.new-session.ensures.ended in
+    follows-same g.S.Store session.config c.args.config c.args.store.now c.args.store.now was old (g.T.Read.remaining c.args.stream.now.stream) (g.T.Read.remaining c.args.stream.now.stream) (g.T.Write.contents c.args.stream.now.stream) (g.T.Write.contents c.args.stream.now.stream) (reported_as Until (end_of session)) c.ended_with.result c.new-session.ensures.config (sym c.ended_with.ensures)
+    (follows-until g.S.Store session c.args.store.now c.args.store.now was old (g.T.Read.remaining c.args.stream.now.stream) (g.T.Read.remaining c.args.stream.now.stream) (g.T.Write.contents c.args.stream.now.stream) (g.T.Write.contents c.args.stream.now.stream) refl
+    (following-begins g.S.Store (λ h db is_open may. g.met.S.Store.settled h.store db is_open may) session c.args.store.now was old (g.T.Read.remaining c.args.stream.now.stream) (g.T.Write.contents c.args.stream.now.stream) c.new-session.ensures.ended holds (c.new-session.ensures.stands c.args.store.now.following was old)) reason)
 
 pub returns-in_default-clause-follows : goal.returns-in_default-clause-follows
 returns-in_default-clause-follows g c clean was old holds =
     let session = c.new-session.result in
     let reason : (end_of session).reason ≡ EndOfInput = ap (λ (v : Option Ended). (unwrap_or v (record { reason = EndOfInput; at = session.at; applied = session.applied })).reason) c.new-session.ensures.ended in
-    follows-same g.S.Store session.config c.args.config c.args.store.now c.args.store.now was old (g.T.Read.remaining c.args.stream.now.stream) (g.T.Read.remaining c.args.stream.now.stream) (g.T.Write.contents c.args.stream.now.stream) (g.T.Write.contents c.args.stream.now.stream) (reported_as Memory (end_of session)) c.ended_with.result c.new-session.ensures.config (sym c.ended_with.ensures)
+    follows-same g.S.Store session.config c.args.config c.args.store.now c.args.store.now was old (g.T.Read.remaining c.args.stream.now.stream) (g.T.Read.remaining c.args.stream.now.stream) (g.T.Write.contents c.args.stream.now.stream) (g.T.Write.contents c.args.stream.now.stream) (reported_as Memory (end_of session)) c.ended_with-in_default.result c.new-session.ensures.config (sym c.ended_with-in_default.ensures)
     (follows-memory g.S.Store session c.args.store.now c.args.store.now was old (g.T.Read.remaining c.args.stream.now.stream) (g.T.Read.remaining c.args.stream.now.stream) (g.T.Write.contents c.args.stream.now.stream) (g.T.Write.contents c.args.stream.now.stream) refl
     (following-begins g.S.Store (λ h db is_open may. g.met.S.Store.settled h.store db is_open may) session c.args.store.now was old (g.T.Read.remaining c.args.stream.now.stream) (g.T.Write.contents c.args.stream.now.stream) c.new-session.ensures.ended holds (c.new-session.ensures.stands c.args.store.now.following was old)) reason)
 
@@ -40,7 +49,7 @@ turns-init g c = record {
   may_end = rw c.new-session.ensures.ended tt;
   stays = λ h. h;
   heeds = λ is now holds on. refl;
-  notes = λ clean was old holds. led_nowhere g.S.Store was old c.args.store.now (g.W.Observer.noted c.args.observer.now, g.W.Observer.has_stopped c.args.observer.now) (g.W.Observer.noted c.args.observer.now, g.W.Observer.has_stopped c.args.observer.now) holds refl (λ on. on);
+  notes = λ clean was old holds. led_nowhere g.S.Store was old c.args.store.now (g.W.Observer.noted c.args.observer.now, g.W.Observer.has_stopped c.args.observer.now, g.W.Observer.waits c.args.observer.now) (g.W.Observer.noted c.args.observer.now, g.W.Observer.has_stopped c.args.observer.now, g.W.Observer.waits c.args.observer.now) holds refl (λ on. on) (waits_none (g.W.Observer.waits c.args.observer.now));
   may = rw c.new-session.ensures.ended tt;
   following = λ clean was old holds.
       following-begins g.S.Store (λ h db is_open may. g.met.S.Store.settled h.store db is_open may) c.new-session.result c.args.store.now was old (g.T.Read.remaining c.args.stream.now.stream) (g.T.Write.contents c.args.stream.now.stream) c.new-session.ensures.ended holds (c.new-session.ensures.stands c.args.store.now.following was old);
@@ -105,7 +114,7 @@ turns-preserved g c =
       stays = λ h. c.read_piece.ensures.stays (inv.stays h);
       heeds = λ is now holds on. still (HoldsAs g.S.Store is now) c.args.store.now c.turns.store c.read_piece.new.store (inv.heeds is now holds on) holds (λ h. c.read_piece.ensures.heeds is now h (inv.stays on));
       notes = λ clean was old holds.
-          led_through g.S.Store was old c.args.store.now c.turns.store c.read_piece.new.store (g.W.Observer.noted c.args.observer.now, g.W.Observer.has_stopped c.args.observer.now) (g.W.Observer.noted c.turns.observer, g.W.Observer.has_stopped c.turns.observer) (g.W.Observer.noted c.read_piece.new.observer, g.W.Observer.has_stopped c.read_piece.new.observer) [] [] inv.names (λ some. absurd (some refl))
+          led_through g.S.Store was old c.args.store.now c.turns.store c.read_piece.new.store (g.W.Observer.noted c.args.observer.now, g.W.Observer.has_stopped c.args.observer.now, g.W.Observer.waits c.args.observer.now) (g.W.Observer.noted c.turns.observer, g.W.Observer.has_stopped c.turns.observer, g.W.Observer.waits c.turns.observer) (g.W.Observer.noted c.read_piece.new.observer, g.W.Observer.has_stopped c.read_piece.new.observer, g.W.Observer.waits c.read_piece.new.observer) [] [] inv.names (λ some. absurd (some refl))
           (inv.notes (c.read_piece.ensures.clean clean) was old holds) (λ is now held. c.read_piece.ensures.notes clean is now held);
       may = may;
       following = λ clean was old holds.
@@ -242,8 +251,11 @@ returns-in-Failed-clause-heeds g c is now holds on =
     let inv = c.turns.invariant in
     still (HoldsAs g.S.Store is now) c.args.store.now c.turns.store c.read_piece.new.store (inv.heeds is now holds on) holds (λ h. c.read_piece.ensures.heeds is now h (inv.stays on))
 
+pub returns-then-is_done-clause-notes : goal.returns-then-is_done-clause-notes
+returns-then-is_done-clause-notes g c clean was old holds = led_nowhere g.S.Store was old c.args.store.now (g.W.Observer.noted c.args.observer.now, g.W.Observer.has_stopped c.args.observer.now, g.W.Observer.waits c.args.observer.now) (g.W.Observer.noted c.args.observer.now, g.W.Observer.has_stopped c.args.observer.now, g.W.Observer.waits c.args.observer.now) holds refl (λ on. on) (waits_none (g.W.Observer.waits c.args.observer.now))
+
 pub returns-in_default-clause-notes : goal.returns-in_default-clause-notes
-returns-in_default-clause-notes g c clean was old holds = led_nowhere g.S.Store was old c.args.store.now (g.W.Observer.noted c.args.observer.now, g.W.Observer.has_stopped c.args.observer.now) (g.W.Observer.noted c.args.observer.now, g.W.Observer.has_stopped c.args.observer.now) holds refl (λ on. on)
+returns-in_default-clause-notes g c clean was old holds = led_nowhere g.S.Store was old c.args.store.now (g.W.Observer.noted c.args.observer.now, g.W.Observer.has_stopped c.args.observer.now, g.W.Observer.waits c.args.observer.now) (g.W.Observer.noted c.args.observer.now, g.W.Observer.has_stopped c.args.observer.now, g.W.Observer.waits c.args.observer.now) holds refl (λ on. on) (waits_none (g.W.Observer.waits c.args.observer.now))
 
 pub returns-then-sends_no_more-clause-notes : goal.returns-then-sends_no_more-clause-notes
 returns-then-sends_no_more-clause-notes g c = c.turns.invariant.notes
@@ -257,11 +269,41 @@ returns-then-is_some-clause-notes g c = c.turns.invariant.notes
 pub returns-in-AtEnd-clause-notes : goal.returns-in-AtEnd-clause-notes
 returns-in-AtEnd-clause-notes g c clean was old holds =
     let inv = c.turns.invariant in
-    led_through g.S.Store was old c.args.store.now c.turns.store c.read_piece.new.store (g.W.Observer.noted c.args.observer.now, g.W.Observer.has_stopped c.args.observer.now) (g.W.Observer.noted c.turns.observer, g.W.Observer.has_stopped c.turns.observer) (g.W.Observer.noted c.read_piece.new.observer, g.W.Observer.has_stopped c.read_piece.new.observer) [] [] inv.names (λ some. absurd (some refl))
+    led_through g.S.Store was old c.args.store.now c.turns.store c.read_piece.new.store (g.W.Observer.noted c.args.observer.now, g.W.Observer.has_stopped c.args.observer.now, g.W.Observer.waits c.args.observer.now) (g.W.Observer.noted c.turns.observer, g.W.Observer.has_stopped c.turns.observer, g.W.Observer.waits c.turns.observer) (g.W.Observer.noted c.read_piece.new.observer, g.W.Observer.has_stopped c.read_piece.new.observer, g.W.Observer.waits c.read_piece.new.observer) [] [] inv.names (λ some. absurd (some refl))
     (inv.notes (c.read_piece.ensures.clean clean) was old holds) (λ is now held. c.read_piece.ensures.notes clean is now held)
 
 pub returns-in-Failed-clause-notes : goal.returns-in-Failed-clause-notes
 returns-in-Failed-clause-notes g c clean was old holds =
     let inv = c.turns.invariant in
-    led_through g.S.Store was old c.args.store.now c.turns.store c.read_piece.new.store (g.W.Observer.noted c.args.observer.now, g.W.Observer.has_stopped c.args.observer.now) (g.W.Observer.noted c.turns.observer, g.W.Observer.has_stopped c.turns.observer) (g.W.Observer.noted c.read_piece.new.observer, g.W.Observer.has_stopped c.read_piece.new.observer) [] [] inv.names (λ some. absurd (some refl))
+    led_through g.S.Store was old c.args.store.now c.turns.store c.read_piece.new.store (g.W.Observer.noted c.args.observer.now, g.W.Observer.has_stopped c.args.observer.now, g.W.Observer.waits c.args.observer.now) (g.W.Observer.noted c.turns.observer, g.W.Observer.has_stopped c.turns.observer, g.W.Observer.waits c.turns.observer) (g.W.Observer.noted c.read_piece.new.observer, g.W.Observer.has_stopped c.read_piece.new.observer, g.W.Observer.waits c.read_piece.new.observer) [] [] inv.names (λ some. absurd (some refl))
     (inv.notes (c.read_piece.ensures.clean clean) was old holds) (λ is now held. c.read_piece.ensures.notes clean is now held)
+
+pub returns-then-is_done-clause-until : goal.returns-then-is_done-clause-until
+returns-then-is_done-clause-until g c none =
+    let session = c.new-session.result in
+    let end : end_of session ≡ record { reason = EndOfInput; at = session.at; applied = session.applied } =
+    ap (λ (v : Option Ended). unwrap_or v (record { reason = EndOfInput; at = session.at; applied = session.applied })) c.new-session.ensures.ended in (
+      c.ended_with.ensures ∙ ap (λ (e : Ended). reported_as Until e) end
+          ∙ (λ i. record { reason = Until; at = c.new-session.ensures.none.0 i; applied = c.new-session.ensures.none.1 i }),
+      refl,
+      refl,
+      refl,
+    )
+
+pub returns-in_default-clause-until : goal.returns-in_default-clause-until
+returns-in_default-clause-until g c none = absurd (false≢true (sym c.if-is_done.false ∙ c.is_done.ensures.done ∙ none))
+
+pub returns-then-sends_no_more-clause-until : goal.returns-then-sends_no_more-clause-until
+returns-then-sends_no_more-clause-until g c none = absurd (false≢true (sym c.if-is_done.false ∙ c.is_done.ensures.done ∙ none))
+
+pub returns-then-not-send_pending-clause-until : goal.returns-then-not-send_pending-clause-until
+returns-then-not-send_pending-clause-until g c none = absurd (false≢true (sym c.if-is_done.false ∙ c.is_done.ensures.done ∙ none))
+
+pub returns-then-is_some-clause-until : goal.returns-then-is_some-clause-until
+returns-then-is_some-clause-until g c none = absurd (false≢true (sym c.if-is_done.false ∙ c.is_done.ensures.done ∙ none))
+
+pub returns-in-AtEnd-clause-until : goal.returns-in-AtEnd-clause-until
+returns-in-AtEnd-clause-until g c none = absurd (false≢true (sym c.if-is_done.false ∙ c.is_done.ensures.done ∙ none))
+
+pub returns-in-Failed-clause-until : goal.returns-in-Failed-clause-until
+returns-in-Failed-clause-until g c none = absurd (false≢true (sym c.if-is_done.false ∙ c.is_done.ensures.done ∙ none))

@@ -22,7 +22,7 @@ loop-reader-init g c = record {
   stays = λ h. c.feed_observed.ensures.stays (c.received.ensures.stays h);
   heeds = λ is now holds on. c.feed_observed.ensures.heeds is now holds (c.received.ensures.stays on);
   notes = λ clean was old holds.
-      led_after g.S.Store was old c.args.store.now c.feed_observed.new.store (g.W.Observer.noted c.args.observer.now, g.W.Observer.has_stopped c.args.observer.now) (g.W.Observer.noted c.received.new.self, g.W.Observer.has_stopped c.received.new.self) (g.W.Observer.noted c.feed_observed.new.observer, g.W.Observer.has_stopped c.feed_observed.new.observer) [] c.received.ensures.noted c.received.ensures.stays (c.feed_observed.ensures.notes clean was old holds);
+      led_after g.S.Store was old c.args.store.now c.feed_observed.new.store (g.W.Observer.noted c.args.observer.now, g.W.Observer.has_stopped c.args.observer.now, g.W.Observer.waits c.args.observer.now) (g.W.Observer.noted c.received.new.self, g.W.Observer.has_stopped c.received.new.self, g.W.Observer.waits c.received.new.self) (g.W.Observer.noted c.feed_observed.new.observer, g.W.Observer.has_stopped c.feed_observed.new.observer, g.W.Observer.waits c.feed_observed.new.observer) [] c.received.ensures.noted c.received.ensures.stays c.received.ensures.waits (c.feed_observed.ensures.notes clean was old holds);
   taking = record {
     read = [];
     consumes = Consumes-nil (g.R.Read.remaining c.args.reader.now);
@@ -48,10 +48,10 @@ loop-reader-preserved g c = record {
       still (HoldsAs g.S.Store is now) c.args.store.now c.loop-reader.store c.feed_observed-in-Ok.new.store (inv.heeds is now holds on) holds (λ h. c.feed_observed-in-Ok.ensures.heeds is now h (c.received-in-Ok.ensures.stays (inv.stays on)));
   notes = λ clean was old holds.
       let inv = c.loop-reader.invariant in
-      led_through g.S.Store was old c.args.store.now c.loop-reader.store c.feed_observed-in-Ok.new.store (g.W.Observer.noted c.args.observer.now, g.W.Observer.has_stopped c.args.observer.now) (g.W.Observer.noted c.loop-reader.observer, g.W.Observer.has_stopped c.loop-reader.observer) (g.W.Observer.noted c.feed_observed-in-Ok.new.observer, g.W.Observer.has_stopped c.feed_observed-in-Ok.new.observer) [] [] inv.taking.following (λ some. absurd (some refl))
+      led_through g.S.Store was old c.args.store.now c.loop-reader.store c.feed_observed-in-Ok.new.store (g.W.Observer.noted c.args.observer.now, g.W.Observer.has_stopped c.args.observer.now, g.W.Observer.waits c.args.observer.now) (g.W.Observer.noted c.loop-reader.observer, g.W.Observer.has_stopped c.loop-reader.observer, g.W.Observer.waits c.loop-reader.observer) (g.W.Observer.noted c.feed_observed-in-Ok.new.observer, g.W.Observer.has_stopped c.feed_observed-in-Ok.new.observer, g.W.Observer.waits c.feed_observed-in-Ok.new.observer) [] [] inv.taking.following (λ some. absurd (some refl))
       (inv.notes (c.feed_observed-in-Ok.ensures.clean clean) was old holds)
       (λ is now held.
-      led_after g.S.Store is now c.loop-reader.store c.feed_observed-in-Ok.new.store (g.W.Observer.noted c.loop-reader.observer, g.W.Observer.has_stopped c.loop-reader.observer) (g.W.Observer.noted c.received-in-Ok.new.self, g.W.Observer.has_stopped c.received-in-Ok.new.self) (g.W.Observer.noted c.feed_observed-in-Ok.new.observer, g.W.Observer.has_stopped c.feed_observed-in-Ok.new.observer) [] c.received-in-Ok.ensures.noted c.received-in-Ok.ensures.stays
+      led_after g.S.Store is now c.loop-reader.store c.feed_observed-in-Ok.new.store (g.W.Observer.noted c.loop-reader.observer, g.W.Observer.has_stopped c.loop-reader.observer, g.W.Observer.waits c.loop-reader.observer) (g.W.Observer.noted c.received-in-Ok.new.self, g.W.Observer.has_stopped c.received-in-Ok.new.self, g.W.Observer.waits c.received-in-Ok.new.self) (g.W.Observer.noted c.feed_observed-in-Ok.new.observer, g.W.Observer.has_stopped c.feed_observed-in-Ok.new.observer, g.W.Observer.waits c.feed_observed-in-Ok.new.observer) [] c.received-in-Ok.ensures.noted c.received-in-Ok.ensures.stays c.received-in-Ok.ensures.waits
       (c.feed_observed-in-Ok.ensures.notes clean is now held));
   taking = taking_more g.S.Store c.args.config.limit (length c.args.piece.now) c.args.first.now c.args.store.now c.loop-reader.session c.loop-reader.store (g.R.Read.remaining c.args.reader.now) (g.R.Read.remaining c.loop-reader.reader)
       c.feed_observed-in-Ok.new.self c.feed_observed-in-Ok.new.store (g.R.Read.remaining c.read_some.new.reader) (take c.in-Ok.count c.read_some.new.piece) c.loop-reader.invariant.taking

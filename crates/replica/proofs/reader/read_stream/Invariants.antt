@@ -14,7 +14,7 @@ invariant-loop-reader g l = record {
   may : MayEnd (end_of l.session).reason (g.W.Observer.has_stopped l.observer);
   stays : g.W.Observer.has_stopped l.fn.observer ≡ true → g.W.Observer.has_stopped l.observer ≡ true;
   heeds : (is : Bool) (now : Content) → HoldsAs g.S.Store is now l.fn.store → g.W.Observer.has_stopped l.fn.observer ≡ true → l.store ≡ l.fn.store;
-  notes : HasCleanDisk (database g.S.Store l.store) → (was : Bool) (old : Content) → HoldsAs g.S.Store was old l.fn.store → IsLedTo g.S.Store l.fn.store l.store was old (g.W.Observer.noted l.fn.observer, g.W.Observer.has_stopped l.fn.observer) (g.W.Observer.noted l.observer, g.W.Observer.has_stopped l.observer) [];
+  notes : HasCleanDisk (database g.S.Store l.store) → (was : Bool) (old : Content) → HoldsAs g.S.Store was old l.fn.store → IsLedTo g.S.Store l.fn.store l.store was old (g.W.Observer.noted l.fn.observer, g.W.Observer.has_stopped l.fn.observer, g.W.Observer.waits l.fn.observer) (g.W.Observer.noted l.observer, g.W.Observer.has_stopped l.observer, g.W.Observer.waits l.observer) [];
   taking : IsTaking g.S.Store l.fn.config.limit (length l.fn.piece) l.fn.first l.fn.store l.session l.store (g.R.Read.remaining l.fn.reader) (g.R.Read.remaining l.reader);
 }
 

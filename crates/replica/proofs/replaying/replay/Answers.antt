@@ -23,9 +23,9 @@ returns-clause-keeps g c on names content files =
 
 pub returns-clause-notes : goal.returns-clause-notes
 returns-clause-notes g c names content files =
-    noted_of_files _ names content c.in_ok-store.store c.read_captures-read.new.store (g.W.Observer.noted c.args.observer.now, g.W.Observer.has_stopped c.args.observer.now) (g.W.Observer.noted c.read_captures-read.new.observer, g.W.Observer.has_stopped c.read_captures-read.new.observer) c.read_captures-read.new.ends.items c.close_file-closed.result
+    noted_of_files _ names content c.in_ok-store.store c.read_captures-read.new.store (g.W.Observer.noted c.args.observer.now, g.W.Observer.has_stopped c.args.observer.now, g.W.Observer.waits c.args.observer.now) (g.W.Observer.noted c.read_captures-read.new.observer, g.W.Observer.has_stopped c.read_captures-read.new.observer, g.W.Observer.waits c.read_captures-read.new.observer) c.read_captures-read.new.ends.items c.close_file-closed.result
     c.read_captures-read.ensures.following (λ clean. let o = c.in_ok-store.ensures.opens (c.read_captures-read.ensures.clean clean) names content files in (o.0, o.1))
-    c.read_captures-read.ensures.notes c.close_file-closed.ensures.copied c.close_file-closed.ensures.err
+    c.read_captures-read.ensures.notes c.read_captures-read.ensures.missed c.close_file-closed.ensures.copied c.close_file-closed.ensures.err
 
 pub returns-in_err-store-clause-untouched : goal.returns-in_err-store-clause-untouched
 returns-in_err-store-clause-untouched g c = λ failed. refl

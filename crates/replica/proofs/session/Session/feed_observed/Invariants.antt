@@ -17,7 +17,7 @@ invariant-loop-used g l = record {
   may_end : MayEnd (end_of l.fn.self).reason (g.W.Observer.has_stopped l.fn.observer) → MayEnd (end_of l.self).reason (g.W.Observer.has_stopped l.observer);
   stays : g.W.Observer.has_stopped l.fn.observer ≡ true → g.W.Observer.has_stopped l.observer ≡ true;
   heeds : (is : Bool) (now : Content) → HoldsAs g.S.Store is now l.fn.store → g.W.Observer.has_stopped l.fn.observer ≡ true → l.store ≡ l.fn.store;
-  notes : HasCleanDisk (database g.S.Store l.store) → (was : Bool) (old : Content) → HoldsAs g.S.Store was old l.fn.store → IsLedTo g.S.Store l.fn.store l.store was old (g.W.Observer.noted l.fn.observer, g.W.Observer.has_stopped l.fn.observer) (g.W.Observer.noted l.observer, g.W.Observer.has_stopped l.observer) [];
+  notes : HasCleanDisk (database g.S.Store l.store) → (was : Bool) (old : Content) → HoldsAs g.S.Store was old l.fn.store → IsLedTo g.S.Store l.fn.store l.store was old (g.W.Observer.noted l.fn.observer, g.W.Observer.has_stopped l.fn.observer, g.W.Observer.waits l.fn.observer) (g.W.Observer.noted l.observer, g.W.Observer.has_stopped l.observer, g.W.Observer.waits l.observer) [];
   room : l.self.ended ≡ None → room_of l.self + length l.bytes ≤ room_of l.fn.self + length l.rest;
 }
 

@@ -7,7 +7,7 @@ use Rattle.replica.specs.Standing.{HasEnded, end_of}
 use Rattle.replica.proofs.PayloadSteps.{rest_length, too_far, stands_ended, room_left}
 use Rattle.replica.proofs.Dumping.{over_same}
 use Rattle.replica.proofs.Observed.{own_may}
-use Rattle.replica.proofs.Noted.{led_nowhere}
+use Rattle.replica.proofs.Noted.{led_nowhere, waits_none}
 use Rattle.replica.proofs.session.Session.take.Goals as goal
 
 pub returns-in_default-clause-takes : goal.returns-in_default-clause-takes
@@ -35,7 +35,7 @@ returns-in-Login g c =
       config = c.take_message.ensures.config;
       may_end = own_may (end_of c.take_message.new.self).reason (g.W.Observer.has_stopped c.args.observer.now) c.take_message.ensures.may_end;
       stays = λ h. h;
-      notes = λ clean was old holds. led_nowhere g.S.Store was old c.args.store.now (g.W.Observer.noted c.args.observer.now, g.W.Observer.has_stopped c.args.observer.now) (g.W.Observer.noted c.args.observer.now, g.W.Observer.has_stopped c.args.observer.now) holds refl (λ on. on);
+      notes = λ clean was old holds. led_nowhere g.S.Store was old c.args.store.now (g.W.Observer.noted c.args.observer.now, g.W.Observer.has_stopped c.args.observer.now, g.W.Observer.waits c.args.observer.now) (g.W.Observer.noted c.args.observer.now, g.W.Observer.has_stopped c.args.observer.now, g.W.Observer.waits c.args.observer.now) holds refl (λ on. on) (waits_none (g.W.Observer.waits c.args.observer.now));
       heeds = λ is now holds on. refl;
       room = λ none. let f = c.take_message.ensures.further none in room_left s c.take_message.new.self c.in-Some.end n f.0 f.1 c.requires.between.0 ends (omega (arith, c.in-Some.ensures));
       takes = λ clean schema was old b o m.
@@ -44,7 +44,7 @@ returns-in-Login g c =
     }
 
 pub returns-in_default-clause-notes : goal.returns-in_default-clause-notes
-returns-in_default-clause-notes g c clean was old holds = led_nowhere g.S.Store was old c.args.store.now (g.W.Observer.noted c.args.observer.now, g.W.Observer.has_stopped c.args.observer.now) (g.W.Observer.noted c.args.observer.now, g.W.Observer.has_stopped c.args.observer.now) holds refl (λ on. on)
+returns-in_default-clause-notes g c clean was old holds = led_nowhere g.S.Store was old c.args.store.now (g.W.Observer.noted c.args.observer.now, g.W.Observer.has_stopped c.args.observer.now, g.W.Observer.waits c.args.observer.now) (g.W.Observer.noted c.args.observer.now, g.W.Observer.has_stopped c.args.observer.now, g.W.Observer.waits c.args.observer.now) holds refl (λ on. on) (waits_none (g.W.Observer.waits c.args.observer.now))
 
 pub returns-in-Dump-clause-notes : goal.returns-in-Dump-clause-notes
 returns-in-Dump-clause-notes g c = c.take_dump.ensures.notes

@@ -1,0 +1,130 @@
+//! `mrep verify`: the rows of a table beside those that the `mysql` client has printed.
+
+ghost use Rattle.std.specs.Prelude.{◌≤◌, IfOk};
+
+use crate::arguments::{tables, word};
+use crate::commands::jobs::run_job;
+use crate::database::description::read_tables;
+use crate::database::job::Job;
+use crate::database::printer::Selection;
+use crate::report::failure::{DONE, Failure, MEMORY, REFUSED};
+use binlog::Follow;
+use clap::ArgMatches;
+use files::Input;
+use formats::{Chosen, Comparer, Differences, Encoding, Format, Shown, TextLines};
+use std::alloc::Global;
+use std::io::{Read, Write};
+use typed_rows::{DescribedTables, TableFault, TableName, TablesFault};
+
+/// Prints the rows that one side lacks: `<` before those that the file has alone, `>` before those that the database has
+/// alone. The status is 0 if there are none, and 1 otherwise.
+pub fn verify<'a, W: Write, E: Write>(
+    rt: &HostRuntime,
+    given: &ArgMatches<'a>,
+    out: &mut W,
+    err: &mut E,
+) -> Result<u8, Failure<'a>>
+    ensures { IfOk result (λ status. status ≤ MEMORY) }
+{
+    let (db, file) = (word(given, "db"), word(given, "ROWS"));
+    let only = tables(rt.alloc(), &[word(given, "SCHEMA.TABLE")])?;
+    let described = described(rt, word(given, "columns"), &only)?;
+    let text = read_text(rt, file)?;
+    let job = show_all(rt.alloc(), only, described)?;
+    let mut printed = Vec::new(rt.alloc());
+    run_job(rt, db, job, &mut printed, err)?;
+    let differences = compare(rt.alloc(), &text, &printed, out)?;
+    Ok(reported(differences, file, db, err))
+}
+
+/// Prints the lines that one text lacks, and returns how many there are.
+fn compare<'a, W: Write>(
+    alloc: Global,
+    text: &[u8],
+    printed: &[u8],
+    out: &mut W,
+) -> Result<Differences, Failure<'a>> {
+    let mut comparer = Comparer::new(alloc, TextLines::of(alloc, text)?, out);
+    comparer.write(printed)?;
+    let differences = comparer.finish()?;
+    Ok(differences)
+}
+
+/// The job that prints all rows of these tables as the `mysql` client does.
+fn show_all<'a>(
+    alloc: Global,
+    only: Follow,
+    described: DescribedTables,
+) -> Result<Job<'a>, Failure<'a>> {
+    Ok(Job::Show(Selection {
+        chosen: Chosen::new(alloc, only)?,
+        format: Format::Tsv,
+        encoding: Encoding::Base64,
+        described: Some(described),
+    }))
+}
+
+/// The described tables of a file, one of which is the table that is named.
+fn described<'a>(
+    rt: &HostRuntime,
+    name: &'a str,
+    only: &Follow,
+) -> Result<DescribedTables, Failure<'a>> {
+    let described = read_tables(rt, name)?;
+    for (schema, table) in only.names() {
+        if described.find(schema, table).is_none() {
+            return Err(not_described(rt.alloc(), name, schema, table)?);
+        }
+    }
+    Ok(described)
+}
+
+/// The failure of a table that is not described.
+fn not_described<'a>(
+    alloc: Global,
+    name: &'a str,
+    schema: &[u8],
+    table: &[u8],
+) -> Result<Failure<'a>, Failure<'a>> {
+    let mut missing = TableName {
+        schema: Vec::new(alloc),
+        table: Vec::new(alloc),
+    };
+    missing.schema.extend_from_slice(schema)?;
+    missing.table.extend_from_slice(table)?;
+    let fault = TablesFault::Table(missing, TableFault::Missing);
+    Ok(Failure::Tables { name, fault })
+}
+
+/// All of a file, or of standard input.
+fn read_text<'a>(rt: &HostRuntime, name: &'a str) -> Result<Vec<u8>, Failure<'a>> {
+    let mut text = Vec::new(rt.alloc());
+    let read = match Input::open(rt, name) {
+        Ok(mut input) => input.read_to_end(&mut text),
+        Err(cause) => Err(cause),
+    };
+    match read {
+        Ok(_) => Ok(text),
+        Err(cause) => Err(Failure::File { name, cause }),
+    }
+}
+
+/// Reports how many rows one side lacks, if there are any, and returns the status.
+fn reported<E: Write>(found: Differences, file: &str, db: &str, err: &mut E) -> u8
+    ensures { result ≤ MEMORY }
+{
+    let Differences {
+        of_text,
+        of_written,
+    } = found;
+    if of_text == 0 && of_written == 0 {
+        return DONE;
+    }
+    let _ = writeln!(
+        err,
+        "mrep: {of_text} rows of {} alone, {of_written} of {} alone",
+        Shown(file),
+        Shown(db)
+    );
+    REFUSED
+}

@@ -1,0 +1,261 @@
+-- What is missing of a set after transactions were applied.
+use Rattle.std.proofs.Common.{◌≡◌, ◌∷◌, ◌++◌, [], List, Option, Some, None, Result, Ok, Err, Bool, true, false, ◌||◌, ◌&&◌, not, inl, inr, refl, sym, ap, subst, ◌∙◌}
+use Rattle.std.specs.Prelude.{if◌then◌else◌}
+use Rattle.std.specs.FinSet as set
+use Rattle.std.specs.Cmp.{Equal-is}
+use Rattle.std.specs.Ordering.{eq_by_cmp}
+use Rattle.std.proofs.lemmas.Bool.{cases_Bool, false≢true, false_from_ne_true, or_right}
+use Rattle.gtid.specs.Identifier.{Id, Ids, id_cmp}
+use Rattle.gtid.proofs.Sets.{id_cmp_total, id_cmp-same}
+use Rattle.binlog.specs.Filter.{Names}
+use Rattle.gather.specs.Transaction.{DeliveryValue}
+use Rattle.store.specs.State.{Content}
+use Rattle.replica.specs.declared.end.Reason.{Reason}
+use Rattle.replica.specs.declared.end.Ended.{Ended}
+use Rattle.replica.specs.Missing.{is_over, IsLeftOf}
+use Rattle.replica.specs.Noted.{Notice, opened, before, stopped, after, ended, HasBeenNoted, LeadsBy, missing_after, StillWaits, waits_for_none, AreMissed, WereMissed, WasMissing, Account, IsNotedOf}
+use Rattle.replica.proofs.Noted.{unchanged}
+
+-- ---- sets
+
+not_or : (a b c : Bool) → (not b && (a && not c)) ≡ (a && not (b || c))
+not_or true true c = refl
+not_or true false c = refl
+not_or false true c = refl
+not_or false false c = refl
+
+not_twice : (a b : Bool) → ((a && not b) && not b) ≡ (a && not b)
+not_twice true true = refl
+not_twice true false = refl
+not_twice false b = refl
+
+swapped : (a b : Bool) → (not b && a) ≡ (a && not (b || false))
+swapped true true = refl
+swapped true false = refl
+swapped false true = refl
+swapped false false = refl
+
+-- without a set and then one more
+removed : (w s : Ids) (q : Id) → set.remove (set.difference w s) q ≡ set.difference w (set.insert s q)
+removed w s q = set.same_set id_cmp_total id_cmp-same (set.remove (set.difference w s) q) (set.difference w (set.insert s q)) (λ x.
+    set.contains-remove id_cmp_total (set.difference w s) q x
+    ∙ ap (λ b. not (eq_by_cmp id_cmp x q) && b) (set.contains-difference id_cmp_total w s x)
+    ∙ not_or (set.contains w x) (eq_by_cmp id_cmp x q) (set.contains s x)
+    ∙ ap (λ b. set.contains w x && not b) (sym (set.contains-insert id_cmp_total s q x))
+    ∙ sym (set.contains-difference id_cmp_total w (set.insert s q) x))
+
+-- without the same set twice
+again : (w s : Ids) → set.difference (set.difference w s) s ≡ set.difference w s
+again w s = set.same_set id_cmp_total id_cmp-same (set.difference (set.difference w s) s) (set.difference w s) (λ x.
+    set.contains-difference id_cmp_total (set.difference w s) s x
+    ∙ ap (λ b. b && not (set.contains s x)) (set.contains-difference id_cmp_total w s x)
+    ∙ not_twice (set.contains w x) (set.contains s x)
+    ∙ sym (set.contains-difference id_cmp_total w s x))
+
+exchanged : (a b c : Bool) → (not b && (a && not c)) ≡ ((not b && a) && not c)
+exchanged a true c = refl
+exchanged a false c = refl
+
+both_out : (a b c : Bool) → ((a && not b) && not c) ≡ ((a && not c) && not b)
+both_out true true true = refl
+both_out true true false = refl
+both_out true false true = refl
+both_out true false false = refl
+both_out false b c = refl
+
+-- without one and a set, in either order
+removed_within : (w s : Ids) (q : Id) → set.remove (set.difference w s) q ≡ set.difference (set.remove w q) s
+removed_within w s q = set.same_set id_cmp_total id_cmp-same (set.remove (set.difference w s) q) (set.difference (set.remove w q) s) (λ x.
+    set.contains-remove id_cmp_total (set.difference w s) q x
+    ∙ ap (λ b. not (eq_by_cmp id_cmp x q) && b) (set.contains-difference id_cmp_total w s x)
+    ∙ exchanged (set.contains w x) (eq_by_cmp id_cmp x q) (set.contains s x)
+    ∙ ap (λ b. b && not (set.contains s x)) (sym (set.contains-remove id_cmp_total w q x))
+    ∙ sym (set.contains-difference id_cmp_total (set.remove w q) s x))
+
+-- without two sets, in either order
+either_first : (w s t : Ids) → set.difference (set.difference w s) t ≡ set.difference (set.difference w t) s
+either_first w s t = set.same_set id_cmp_total id_cmp-same (set.difference (set.difference w s) t) (set.difference (set.difference w t) s) (λ x.
+    set.contains-difference id_cmp_total (set.difference w s) t x
+    ∙ ap (λ b. b && not (set.contains t x)) (set.contains-difference id_cmp_total w s x)
+    ∙ both_out (set.contains w x) (set.contains s x) (set.contains t x)
+    ∙ ap (λ b. b && not (set.contains s x)) (sym (set.contains-difference id_cmp_total w t x))
+    ∙ sym (set.contains-difference id_cmp_total (set.difference w t) s x))
+
+-- without a set of one
+without_one : (w : Ids) (q : Id) → set.difference w (set.insert set.empty q) ≡ set.remove w q
+without_one w q = set.same_set id_cmp_total id_cmp-same (set.difference w (set.insert set.empty q)) (set.remove w q) (λ x.
+    set.contains-difference id_cmp_total w (set.insert set.empty q) x
+    ∙ ap (λ b. set.contains w x && not b) (set.contains-insert id_cmp_total set.empty q x ∙ ap (λ b. eq_by_cmp id_cmp x q || b) (set.contains-empty id_cmp x))
+    ∙ sym (swapped (set.contains w x) (eq_by_cmp id_cmp x q))
+    ∙ sym (set.contains-remove id_cmp_total w q x))
+
+absent : (w : Ids) (q x : Id) → set.contains w q ≡ false → set.contains w x ≡ (not (eq_by_cmp id_cmp x q) && set.contains w x)
+absent w q x out = elim (cases_Bool (eq_by_cmp id_cmp x q)) [
+  | inl same ↦ (
+      let none : set.contains w x ≡ false = sym (set.contains_tied id_cmp_total w x q ((Equal-is (id_cmp x q)).0 same)) ∙ out in
+      none ∙ sym (ap (λ b. not b && set.contains w x) same))
+  | inr other ↦ sym (ap (λ b. not b && set.contains w x) other)
+]
+
+-- without one that is not in it
+without_absent : (w : Ids) (q : Id) → set.contains w q ≡ false → w ≡ set.remove w q
+without_absent w q out = set.same_set id_cmp_total id_cmp-same w (set.remove w q) (λ x. absent w q x out ∙ sym (set.contains-remove id_cmp_total w q x))
+
+first_of : (a b : Bool) → (a && b) ≡ true → a ≡ true
+first_of true b h = refl
+first_of false b h = h
+
+not_both : (a b : Bool) → (a ≡ true → b ≡ true) → (a && not b) ≡ true → ⊥
+not_both true true h both = false≢true both
+not_both true false h both = false≢true (h refl)
+not_both false b h both = false≢true both
+
+none_left : (w s : Ids) → set.is_subset w set.empty ≡ true → set.is_subset (set.difference w s) set.empty ≡ true
+none_left w s none = set.contains-is_subset id_cmp_total (set.difference w s) set.empty (λ q there.
+    set.is_subset-contains id_cmp_total w set.empty none q (first_of (set.contains w q) (not (set.contains s q)) (sym (set.contains-difference id_cmp_total w s q) ∙ there)))
+
+none_removed : (w : Ids) (q : Id) → set.is_subset w set.empty ≡ true → set.is_subset (set.remove w q) set.empty ≡ true
+none_removed w q none = subst (λ (s : Ids). set.is_subset s set.empty ≡ true) (without_one w q) (none_left w (set.insert set.empty q) none)
+
+-- nothing is left of a set without another one, so it is within it
+pub within : (w s : Ids) → set.is_subset (set.difference w s) set.empty ≡ true → set.is_subset w s ≡ true
+within w s none = set.contains-is_subset id_cmp_total w s (λ q there. elim (cases_Bool (set.contains s q)) [
+  | inl held ↦ held
+  | inr out ↦ (
+      let left : set.contains (set.difference w s) q ≡ true = set.contains-difference id_cmp_total w s q ∙ (λ i. there i && not (out i)) in
+      absurd (false≢true (sym (set.contains-empty id_cmp q) ∙ set.is_subset-contains id_cmp_total (set.difference w s) set.empty none q left)))
+])
+
+-- ---- what is missing after what was reported
+
+-- without what was executed at the first, it is without what is executed at the end
+pub kept_missing : (names : Names) (old : Content) (notices : List Notice) (new : Content) (w : Ids) → LeadsBy names old notices new → missing_after (set.difference w old.executed) notices ≡ set.difference w new.executed
+kept_missing names old [] new w l = ap (λ (c : Content). set.difference w c.executed) (sym l)
+kept_missing names old (before d ∷ []) new w l = absurd l
+kept_missing names old (before d ∷ after e (Ok true) ∷ ns) new w l =
+    let gone : set.remove (set.difference w old.executed) (e.source, e.number) ≡ set.difference w l.1.executed =
+    removed w old.executed (e.source, e.number) ∙ ap (λ (x : DeliveryValue). set.difference w (set.insert old.executed (x.source, x.number))) l.0 ∙ ap (λ (s : Ids). set.difference w s) (sym l.2.2) in
+    ap (λ (s : Ids). missing_after s ns) gone ∙ kept_missing names l.1 ns new w l.3
+kept_missing names old (before d ∷ after e (Ok false) ∷ ns) new w l = absurd l.2
+kept_missing names old (before d ∷ after e (Err reason) ∷ ns) new w l =
+    ap (λ (c : Content). missing_after (set.difference w c.executed) ns) (sym (unchanged names old d reason l.1 l.2)) ∙ kept_missing names l.1 ns new w l.3
+kept_missing names old (before d ∷ opened ids ∷ ns) new w l = absurd l
+kept_missing names old (before d ∷ before e ∷ ns) new w l = absurd l
+kept_missing names old (before d ∷ stopped e ∷ ns) new w l = absurd l
+kept_missing names old (before d ∷ ended end goes_on ∷ ns) new w l = absurd l
+kept_missing names old (stopped d ∷ ns) new w l = kept_missing names old ns new w l.2
+kept_missing names old (after d (Ok true) ∷ ns) new w l = absurd l
+kept_missing names old (after d (Ok false) ∷ ns) new w l = kept_missing names old ns new w l.1
+kept_missing names old (after d (Err reason) ∷ ns) new w l = kept_missing names old ns new w l.1
+kept_missing names old (opened ids ∷ ns) new w l =
+    ap (λ (s : Ids). missing_after s ns) (ap (λ (s : Ids). set.difference (set.difference w old.executed) s) l.0 ∙ again w old.executed) ∙ kept_missing names old ns new w l.1
+kept_missing names old (ended end true ∷ ns) new w l = kept_missing names old ns new w l
+kept_missing names old (ended end false ∷ ns) new w l = ap (λ (x : List Notice). missing_after (set.difference w old.executed) x) l.0 ∙ ap (λ (c : Content). set.difference w c.executed) (sym l.1)
+
+pub missing_of : (names : Names) (old : Content) (ids : Ids) (notices : List Notice) (new : Content) (wanted : Ids) → LeadsBy names old (opened ids ∷ notices) new
+    → missing_after wanted (opened ids ∷ notices) ≡ set.difference wanted new.executed
+missing_of names old ids notices new wanted l = ap (λ (s : Ids). missing_after (set.difference wanted s) notices) l.0 ∙ kept_missing names old notices new wanted l.1
+
+pub waits_of : (names : Names) (old : Content) (ids : Ids) (notices : List Notice) (new : Content) (was : Option Ids) (wanted left : Ids) → was ≡ Some wanted → LeadsBy names old (opened ids ∷ notices) new
+    → StillWaits was (opened ids ∷ notices) (Some left) → left ≡ set.difference wanted new.executed
+waits_of names old ids notices new was wanted left is l waits =
+    subst (λ (w : Option Ids). StillWaits w (opened ids ∷ notices) (Some left)) is waits ∙ missing_of names old ids notices new wanted l
+
+-- what is missing, and a set before or after that
+set_out : (w s : Ids) (notices : List Notice) → missing_after (set.difference w s) notices ≡ set.difference (missing_after w notices) s
+set_out w s [] = refl
+set_out w s (opened ids ∷ ns) = ap (λ (x : Ids). missing_after x ns) (either_first w s ids) ∙ set_out (set.difference w ids) s ns
+set_out w s (before d ∷ ns) = set_out w s ns
+set_out w s (stopped d ∷ ns) = set_out w s ns
+set_out w s (after d (Ok true) ∷ ns) = ap (λ (x : Ids). missing_after x ns) (removed_within w s (d.source, d.number)) ∙ set_out (set.remove w (d.source, d.number)) s ns
+set_out w s (after d (Ok false) ∷ ns) = set_out w s ns
+set_out w s (after d (Err reason) ∷ ns) = set_out w s ns
+set_out w s (ended end goes_on ∷ ns) = set_out w s ns
+
+all_within : (names : Names) (old : Content) (notices : List Notice) (new : Content) (wanted : Ids) (is : Option Ids) → LeadsBy names old notices new
+    → StillWaits (Some wanted) notices is → waits_for_none is ≡ true → set.is_subset wanted new.executed ≡ true
+all_within names old notices new wanted None l waits none = absurd (false≢true none)
+all_within names old notices new wanted (Some left) l waits none =
+    within wanted new.executed (subst (λ (s : Ids). set.is_subset s set.empty ≡ true) (sym (set_out wanted old.executed notices) ∙ kept_missing names old notices new wanted l)
+    (none_left (missing_after wanted notices) old.executed (subst (λ (s : Ids). set.is_subset s set.empty ≡ true) waits none)))
+
+-- an observer that waits for nothing more after what led to a content
+pub all_there : (names : Names) (old new : Content) (was is : Account) (ends : List Ended) (wanted : Ids) → IsNotedOf names old new was is ends → was.2 ≡ Some wanted → waits_for_none is.2 ≡ true
+    → set.is_subset wanted new.executed ≡ true
+all_there names old new was is ends wanted noted wants none =
+    all_within names old noted.notices new wanted is.2 noted.leads (subst (λ (w : Option Ids). StillWaits w noted.notices is.2) wants noted.waits) none
+
+-- something was missing before each transaction that was to be applied
+missed_at : (ids : Ids) (xs : List Notice) (d : DeliveryValue) (ys : List Notice) → AreMissed ids (xs ++ before d ∷ ys) → set.is_subset (missing_after ids xs) set.empty ≡ false
+missed_at ids [] d ys a = a.0
+missed_at ids (opened executed ∷ xs) d ys a = missed_at (set.difference ids executed) xs d ys a
+missed_at ids (before e ∷ xs) d ys a = missed_at ids xs d ys a.1
+missed_at ids (stopped e ∷ xs) d ys a = missed_at ids xs d ys a
+missed_at ids (after e (Ok true) ∷ xs) d ys a = missed_at (set.remove ids (e.source, e.number)) xs d ys a
+missed_at ids (after e (Ok false) ∷ xs) d ys a = missed_at ids xs d ys a
+missed_at ids (after e (Err reason) ∷ xs) d ys a = missed_at ids xs d ys a
+missed_at ids (ended end goes_on ∷ xs) d ys a = missed_at ids xs d ys a
+
+outside : (w s : Ids) → set.is_subset (set.difference w s) set.empty ≡ false → set.is_subset w s ≡ false
+outside w s some = false_from_ne_true (set.is_subset w s) (λ all. false≢true (sym some ∙ set.contains-is_subset id_cmp_total (set.difference w s) set.empty (λ q there.
+    let both : (set.contains w q && not (set.contains s q)) ≡ true = sym (set.contains-difference id_cmp_total w s q) ∙ there in
+    absurd (not_both (set.contains w q) (set.contains s q) (λ in_w. set.is_subset-contains id_cmp_total w s all q in_w) both))))
+
+pub too_few : (names : Names) (old : Content) (ids : Ids) (xs : List Notice) (mid : Content) (wanted left : Ids) (d : DeliveryValue) (ys : List Notice) → LeadsBy names old (opened ids ∷ xs) mid
+    → WereMissed (Some wanted) (opened ids ∷ (xs ++ before d ∷ ys)) (Some left) → set.is_subset wanted mid.executed ≡ false
+too_few names old ids xs mid wanted left d ys l missed =
+    outside wanted mid.executed (subst (λ (s : Ids). set.is_subset s set.empty ≡ false) (missing_of names old ids xs mid wanted l) (missed_at (set.difference wanted ids) xs d ys missed))
+
+-- after an opening that left something missing
+pub missing_first : (was is : Option Ids) (ids executed : Ids) → ids ≡ executed → StillWaits was (opened ids ∷ []) is → waits_for_none is ≡ false → WasMissing was is executed
+missing_first was None ids executed same waits some = tt
+missing_first None (Some is) ids executed same waits some = absurd waits
+missing_first (Some wanted) (Some is) ids executed same waits some =
+    outside wanted executed (subst (λ (s : Ids). set.is_subset s set.empty ≡ false) (waits ∙ ap (λ (s : Ids). set.difference wanted s) same) some)
+
+pub missing_later : (was mid is : Option Ids) (notices : List Notice) (executed : Ids) → StillWaits mid notices is → WasMissing was mid executed → WasMissing was is executed
+missing_later was mid None notices executed waits missed = tt
+missing_later was None (Some is) notices executed waits missed = absurd waits
+missing_later None (Some mid) (Some is) notices executed waits missed = absurd missed
+missing_later (Some wanted) (Some mid) (Some is) notices executed waits missed = missed
+
+-- ---- an observer that stops once nothing is missing
+
+pub left_opened : (was : Option Ids) (taken : Ids) (is : Option Ids) → IsLeftOf was taken is → StillWaits was (opened taken ∷ []) is
+left_opened was taken None l = tt
+left_opened None taken (Some is) l = absurd l
+left_opened (Some was) taken (Some is) l = l
+
+pub left_none : (was : Option Ids) (taken : Ids) (is : Option Ids) → IsLeftOf was taken is → is_over was ≡ true → is_over is ≡ true
+left_none was taken None l over = refl
+left_none None taken (Some is) l over = absurd l
+left_none (Some was) taken (Some is) l over = subst (λ (s : Ids). set.is_subset s set.empty ≡ true) (sym l) (none_left was taken over)
+
+-- what is reported of a transaction
+pub left_one : (was : Ids) (d : DeliveryValue) (one : Ids) (is : Option Ids) → one ≡ set.insert set.empty (d.source, d.number) → IsLeftOf (Some was) one is → StillWaits (Some was) (after d (Ok true) ∷ []) is
+left_one was d one None same l = tt
+left_one was d one (Some is) same l = l ∙ ap (λ (s : Ids). set.difference was s) same ∙ without_one was (d.source, d.number)
+
+pub left_absent : (was : Ids) (d : DeliveryValue) → set.contains was (d.source, d.number) ≡ false → StillWaits (Some was) (after d (Ok true) ∷ []) (Some was)
+left_absent was d out = without_absent was (d.source, d.number) out
+
+pub after_none : (was : Option Ids) (d : DeliveryValue) (outcome : Result Bool Reason) (is : Option Ids) → StillWaits was (after d outcome ∷ []) is → is_over was ≡ true → is_over is ≡ true
+after_none was d outcome None l over = refl
+after_none None d outcome (Some is) l over = absurd l
+after_none (Some was) d (Ok true) (Some is) l over = subst (λ (s : Ids). set.is_subset s set.empty ≡ true) (sym l) (none_removed was (d.source, d.number) over)
+after_none (Some was) d (Ok false) (Some is) l over = subst (λ (s : Ids). set.is_subset s set.empty ≡ true) (sym l) over
+after_none (Some was) d (Err reason) (Some is) l over = subst (λ (s : Ids). set.is_subset s set.empty ≡ true) (sym l) over
+
+-- either stays
+pub either_stays : (a b c d : Bool) → (a ≡ true → c ≡ true) → (b ≡ true → d ≡ true) → (a || b) ≡ true → (c || d) ≡ true
+either_stays true b c d first second h = ap (λ x. x || d) (first refl)
+either_stays false b c d first second h = or_right c d (second h)
+
+-- the account of an observer, as long as it is that of the one in it
+pub apart_noted : (apart : Bool) (was is : Option (List Notice)) (notices : List Notice) → HasBeenNoted was is notices → HasBeenNoted (if apart then None else was) (if apart then None else is) notices
+apart_noted true was is notices h = tt
+apart_noted false was is notices h = h
+
+pub done_stops : (missing : Option Ids) → waits_for_none missing ≡ true → is_over missing ≡ true
+done_stops None none = refl
+done_stops (Some ids) none = none

@@ -1,0 +1,13 @@
+use Rattle.std.proofs.Common.{Option, subst}
+use Rattle.gtid.specs.Identifier.{Ids}
+use Rattle.replica.specs.Missing.{is_over, IsLeftOf}
+use Rattle.replica.proofs.Missing.{either_stays, left_none}
+use Rattle.replica.proofs.until.UntilObserver.opened.Goals as goal
+
+pub returns-clause-stays : goal.returns-clause-stays
+returns-clause-stays g c =
+    let was = c.args.self.now.missing in
+    let taken = c.args.executed.now in
+    let left : IsLeftOf was taken c.without.result = subst (λ (m : Option Ids). IsLeftOf m taken c.without.result) c.take.ensures.value c.without.ensures in
+    either_stays (is_over was) (g.W.Observer.has_stopped c.args.self.now.inner) (is_over c.without.result) (g.W.Observer.has_stopped c.opened.new.self)
+    (left_none was taken c.without.result left) c.opened.ensures.stays
