@@ -68,10 +68,12 @@ fn full_byte(n: usize) -> u8
 
 /// Appends the bitmap of the null cells, or a part of it.
 pub(crate) fn write_bitmap(cells: &[OwnedCell], out: &mut Vec<u8>) -> Result<(), EventFault>
-    ensures ok { OnOk result (out.new.items ≡ out.old.items ++ bitmap_bytes (map is_null (owned_values cells.now))) }
+    ensures ok { OnOk result (out.new.items ≡ out.old.items ++ bitmap_bytes
+        (map is_null (owned_values cells.now))) }
     ensures err { OnErr result (result ≡ Err (record { kind = Memory; at = 0 })) }
     ensures kept { OnErr result (take (length out.old.items) out.new.items ≡ out.old.items) }
-    ensures full { OnErr result (vec_capacity out.old < vec_len out.old + length (bitmap_bytes (map is_null (owned_values cells.now)))) }
+    ensures full { OnErr result (vec_capacity out.old
+        < vec_len out.old + length (bitmap_bytes (map is_null (owned_values cells.now)))) }
     ensures capacity { vec_capacity out.old ≤ vec_capacity out.new }
 {
     for i in 0..cells.len().div_ceil(8) {

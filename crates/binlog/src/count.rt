@@ -22,7 +22,8 @@ pub(crate) fn read_count(
     kind: EventFaultKind,
 ) -> Result<(u64, usize), EventFault>
     requires { at ≤ length bytes.now }
-    ensures value { IfOk result (λ read. (read.0 ≡ count_at bytes.now at) × (read.1 ≡ count_width bytes.now at)) }
+    ensures value { IfOk result (λ read. (read.0 ≡ count_at bytes.now at)
+        × (read.1 ≡ count_width bytes.now at)) }
     ensures found { IfOk result (λ read. IsLengthEncoded read.0 (take read.1 (drop at bytes.now))) }
     ensures within { IfOk result (λ read. at + read.1 ≤ length bytes.now) }
     ensures whole { IfOk result (λ _. no_count bytes.now at kind ≡ None) }
@@ -59,7 +60,8 @@ pub(crate) fn write_count(count: usize, out: &mut Vec<u8>) -> Result<(), EventFa
     ensures ok { OnOk result (out.new.items ≡ out.old.items ++ length_encoded count) }
     ensures err { OnErr result (result ≡ Err (record { kind = Memory; at = 0 })) }
     ensures kept { OnErr result (take (length out.old.items) out.new.items ≡ out.old.items) }
-    ensures full { OnErr result (vec_capacity out.old < vec_len out.old + length (length_encoded count)) }
+    ensures full { OnErr result (vec_capacity out.old
+        < vec_len out.old + length (length_encoded count)) }
     ensures capacity { vec_capacity out.old ≤ vec_capacity out.new }
 {
     match write_int(count as u64, out) {
@@ -79,7 +81,8 @@ pub(crate) fn write_padded_count(
     ensures ok { OnOk result (out.new.items ≡ out.old.items ++ count_bytes width count) }
     ensures err { OnErr result (result ≡ Err (record { kind = Memory; at = 0 })) }
     ensures kept { OnErr result (take (length out.old.items) out.new.items ≡ out.old.items) }
-    ensures full { OnErr result (vec_capacity out.old < vec_len out.old + length (count_bytes width count)) }
+    ensures full { OnErr result (vec_capacity out.old
+        < vec_len out.old + length (count_bytes width count)) }
     ensures capacity { vec_capacity out.old ≤ vec_capacity out.new }
 {
     let [a, b, ..] = count.to_le_bytes();

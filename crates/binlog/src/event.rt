@@ -61,7 +61,8 @@ pub enum Event<'a> {
 /// from left to right; one that does not fit is `Truncated`.
 pub fn read_event(bytes: &[u8]) -> Result<Event<'_>, EventFault>
     ensures found { IfOk result (λ event. IsEvent set.empty (event_value event) bytes.now) }
-    ensures only { (e : EventValue) → IsEvent set.empty e bytes.now → MatchResult result (λ event. event_value event ≡ e) (λ _. ⊥) }
+    ensures only { (e : EventValue) → IsEvent set.empty e bytes.now
+        → MatchResult result (λ event. event_value event ≡ e) (λ _. ⊥) }
     ensures fault { IfErr result (λ fault. event_fault set.empty bytes.now ≡ Some fault) }
 {
     read(bytes, None)
@@ -71,7 +72,8 @@ pub fn read_event(bytes: &[u8]) -> Result<Event<'_>, EventFault>
 /// answered as [`Event::OtherMap`]. An empty list means all tables.
 pub fn read_event_only<'a>(bytes: &'a [u8], filter: &Follow) -> Result<Event<'a>, EventFault>
     ensures found { IfOk result (λ event. IsEvent filter.now (event_value event) bytes.now) }
-    ensures only { (e : EventValue) → IsEvent filter.now e bytes.now → MatchResult result (λ event. event_value event ≡ e) (λ _. ⊥) }
+    ensures only { (e : EventValue) → IsEvent filter.now e bytes.now
+        → MatchResult result (λ event. event_value event ≡ e) (λ _. ⊥) }
     ensures fault { IfErr result (λ fault. event_fault filter.now bytes.now ≡ Some fault) }
 {
     read(bytes, Some(filter))
@@ -79,9 +81,12 @@ pub fn read_event_only<'a>(bytes: &'a [u8], filter: &Follow) -> Result<Event<'a>
 
 /// Reads an event. Without a filter all tables are followed.
 fn read<'a>(bytes: &'a [u8], filter: Option<&Follow>) -> Result<Event<'a>, EventFault>
-    ensures found { IfOk result (λ event. IsEvent (filter_of filter.entry) (event_value event) bytes.now) }
-    ensures only { (e : EventValue) → IsEvent (filter_of filter.entry) e bytes.now → MatchResult result (λ event. event_value event ≡ e) (λ _. ⊥) }
-    ensures fault { IfErr result (λ fault. event_fault (filter_of filter.entry) bytes.now ≡ Some fault) }
+    ensures found { IfOk result (λ event. IsEvent (filter_of filter.entry)
+        (event_value event) bytes.now) }
+    ensures only { (e : EventValue) → IsEvent (filter_of filter.entry) e bytes.now
+        → MatchResult result (λ event. event_value event ≡ e) (λ _. ⊥) }
+    ensures fault { IfErr result (λ fault. event_fault (filter_of filter.entry) bytes.now
+        ≡ Some fault) }
 {
     match Header::read(bytes) {
         Ok(header) => read_body(header, bytes, filter),
@@ -97,8 +102,11 @@ fn read_body<'a>(
     filter: Option<&Follow>,
 ) -> Result<Event<'a>, EventFault>
     requires { IsFramed header.code header.may_ignore (drop header_length bytes.now) bytes.now }
-    ensures found { IfOk result (λ event. HasBody (filter_of filter.entry) (event_value event) header.code header.may_ignore (drop header_length bytes.now)) }
-    ensures fault { IfErr result (λ fault. first_of (type_fault header.code header.may_ignore ∷ body_fault (filter_of filter.entry) header.code bytes.now ∷ []) ≡ Some fault) }
+    ensures found { IfOk result (λ event. HasBody (filter_of filter.entry)
+        (event_value event) header.code header.may_ignore (drop header_length bytes.now)) }
+    ensures fault { IfErr result (λ fault. first_of
+        (type_fault header.code header.may_ignore ∷ body_fault
+        (filter_of filter.entry) header.code bytes.now ∷ []) ≡ Some fault) }
 {
     match header.code {
         event_type::QUERY => match read_query(bytes)? {
@@ -147,8 +155,10 @@ fn read_map<'a>(
     filter: Option<&Follow>,
 ) -> Result<Event<'a>, EventFault>
     requires { header.code ≡ type_code.table_map }
-    ensures found { IfOk result (λ event. HasBody (filter_of filter.entry) (event_value event) header.code header.may_ignore (drop header_length bytes.now)) }
-    ensures fault { IfErr result (λ fault. table_map_fault (filter_of filter.entry) bytes.now ≡ Some fault) }
+    ensures found { IfOk result (λ event. HasBody (filter_of filter.entry)
+        (event_value event) header.code header.may_ignore (drop header_length bytes.now)) }
+    ensures fault { IfErr result (λ fault. table_map_fault (filter_of filter.entry) bytes.now
+        ≡ Some fault) }
 {
     let names = read_names(bytes)?;
     if !is_admitted(filter, names.schema, names.table) {
@@ -200,9 +210,12 @@ impl Event<'_> {
     /// The only error is `Memory`: the vector lacks the room and cannot grow. It leaves the vector as it was.
     pub fn write(&self, out: &mut Vec<u8>) -> Result<(), EventFault>
         requires { IsWritable (event_value self.now) }
-        ensures ok { OnOk result (out.new.items ≡ out.old.items ++ event_bytes (event_value self.now)) }
-        ensures err { OnErr result ((result ≡ Err (record { kind = Memory; at = 0 })) × (out.new.items ≡ out.old.items)) }
-        ensures full { OnErr result (vec_capacity out.old < vec_len out.old + length (event_bytes (event_value self.now))) }
+        ensures ok { OnOk result (out.new.items ≡ out.old.items ++ event_bytes
+            (event_value self.now)) }
+        ensures err { OnErr result ((result ≡ Err (record { kind = Memory; at = 0 }))
+            × (out.new.items ≡ out.old.items)) }
+        ensures full { OnErr result (vec_capacity out.old
+            < vec_len out.old + length (event_bytes (event_value self.now))) }
     {
         let start = out.len();
         match write_event(self, out) {
@@ -218,10 +231,12 @@ impl Event<'_> {
 /// Appends an event. If it fails, a part of it may have been appended.
 fn write_event(event: &Event<'_>, out: &mut Vec<u8>) -> Result<(), EventFault>
     requires { IsWritable (event_value event.now) }
-    ensures ok { OnOk result (out.new.items ≡ out.old.items ++ event_bytes (event_value event.now)) }
+    ensures ok { OnOk result (out.new.items ≡ out.old.items ++ event_bytes
+        (event_value event.now)) }
     ensures err { OnErr result (result ≡ Err (record { kind = Memory; at = 0 })) }
     ensures kept { OnErr result (take (length out.old.items) out.new.items ≡ out.old.items) }
-    ensures full { OnErr result (vec_capacity out.old < vec_len out.old + length (event_bytes (event_value event.now))) }
+    ensures full { OnErr result (vec_capacity out.old
+        < vec_len out.old + length (event_bytes (event_value event.now))) }
 {
     let start = out.len();
     out.extend_from_slice(&[0; HEADER_LENGTH])?;
@@ -237,7 +252,8 @@ fn write_body(event: &Event<'_>, out: &mut Vec<u8>) -> Result<u8, EventFault>
     ensures ok { OnOk result (out.new.items ≡ out.old.items ++ event_body (event_value event.now)) }
     ensures err { OnErr result (result ≡ Err (record { kind = Memory; at = 0 })) }
     ensures kept { OnErr result (take (length out.old.items) out.new.items ≡ out.old.items) }
-    ensures full { OnErr result (vec_capacity out.old < vec_len out.old + length (event_body (event_value event.now))) }
+    ensures full { OnErr result (vec_capacity out.old
+        < vec_len out.old + length (event_body (event_value event.now))) }
     ensures capacity { vec_capacity out.old ≤ vec_capacity out.new }
 {
     match event {

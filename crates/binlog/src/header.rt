@@ -34,9 +34,17 @@ impl Header {
     /// number of the bytes as `Size`.
     #[tactic(auto, unfolding(crate::specs::Header::header_fault))]
     pub fn read(bytes: &[u8]) -> Result<Header, EventFault>
-        ensures found { IfOk result (λ header. IsFramed header.code header.may_ignore (drop header_length bytes.now) bytes.now) }
+        ensures found { IfOk result (λ header. IsFramed header.code header.may_ignore
+            (drop header_length bytes.now) bytes.now) }
         ensures size { IfOk result (λ header. header.size ≡ length bytes.now) }
-        ensures only { (code : ℕ) (may_ignore : Bool) (body : List ℕ) → IsFramed code may_ignore body bytes.now → result ≡ Ok (record { code = code; size = length bytes.now; may_ignore = may_ignore }) }
+        ensures only { (code : ℕ) (may_ignore : Bool) (body : List ℕ)
+            → IsFramed code may_ignore body bytes.now
+            → result ≡ Ok (record {
+              code = code;
+              size = length bytes.now;
+              may_ignore =
+                  may_ignore;
+            }) }
         ensures fault { IfErr result (λ fault. header_fault bytes.now ≡ Some fault) }
     {
         match bytes.len() {
@@ -83,7 +91,8 @@ fn set_header(code: u8, event: &mut [u8])
 pub(crate) fn frame(code: u8, start: usize, out: &mut Vec<u8>)
     requires whole { start + header_length ≤ length out.old.items }
     requires size { length out.old.items < start + 2 ^ 32 }
-    ensures { out.new.items ≡ take start out.old.items ++ header_bytes code (length (drop start out.old.items)) ++ drop (start + header_length) out.old.items }
+    ensures { out.new.items ≡ take start out.old.items ++ header_bytes code
+        (length (drop start out.old.items)) ++ drop (start + header_length) out.old.items }
 {
     let (_, event) = out.as_mut_slice().split_at_mut(start);
     set_header(code, event);

@@ -33,7 +33,8 @@ pub struct Origin {
 impl Origin {
     /// Reads the two fields of a whole event; `None` if it is shorter than a header.
     pub fn read(event: &[u8]) -> Option<Origin>
-        ensures found { IfSome result (λ origin. IsWrittenAt origin.seconds origin.server_id event.now) }
+        ensures found { IfSome result (λ origin. IsWrittenAt origin.seconds origin.server_id
+            event.now) }
         ensures only { (seconds server_id : ℕ) → IsWrittenAt seconds server_id event.now
             → result ≡ Some (record { seconds = seconds; server_id = server_id }) }
     {

@@ -66,9 +66,12 @@ impl<'a> Row<'a> {
     /// or the length or the bytes of a value, does not fit, the error is the offset of that part.
     #[inline(always)]
     pub(crate) fn read(types: &'a [ColumnType], bytes: &'a [u8]) -> Result<(Row<'a>, usize), usize>
-        ensures found { IfOk result (λ read. IsRow (kinds types.now) read.0 (take read.1 bytes.now)) }
+        ensures found { IfOk result (λ read. IsRow (kinds types.now) read.0
+            (take read.1 bytes.now)) }
         ensures within { IfOk result (λ read. read.1 ≤ length bytes.now) }
-        ensures only { (cells : List CellValue) (first rest : List ℕ) → bytes.now ≡ first ++ rest → IsRow (kinds types.now) cells first → MatchResult result (λ read. (read.0 ≡ cells) × (read.1 ≡ length first)) (λ _. ⊥) }
+        ensures only { (cells : List CellValue) (first rest : List ℕ) → bytes.now ≡ first ++ rest
+            → IsRow (kinds types.now) cells first → MatchResult result (λ read. (read.0 ≡ cells)
+            × (read.1 ≡ length first)) (λ _. ⊥) }
         ensures fault { IfErr result (λ place. row_end (kinds types.now) bytes.now ≡ Err place) }
     {
         let end = row_end(types, bytes)?;
@@ -175,10 +178,12 @@ pub(crate) fn write_row(
     out: &mut Vec<u8>,
 ) -> Result<(), EventFault>
     requires { IsTrue (row_fits (kinds types.now) (owned_values cells.now)) }
-    ensures ok { OnOk result (out.new.items ≡ out.old.items ++ row_bytes (kinds types.now) (owned_values cells.now)) }
+    ensures ok { OnOk result (out.new.items ≡ out.old.items ++ row_bytes (kinds types.now)
+        (owned_values cells.now)) }
     ensures err { OnErr result (result ≡ Err (record { kind = Memory; at = 0 })) }
     ensures kept { OnErr result (take (length out.old.items) out.new.items ≡ out.old.items) }
-    ensures full { OnErr result (vec_capacity out.old < vec_len out.old + length (row_bytes (kinds types.now) (owned_values cells.now))) }
+    ensures full { OnErr result (vec_capacity out.old
+        < vec_len out.old + length (row_bytes (kinds types.now) (owned_values cells.now))) }
     ensures capacity { vec_capacity out.old ≤ vec_capacity out.new }
 {
     write_bitmap(cells, out)?;
@@ -193,10 +198,12 @@ fn write_values(
 ) -> Result<(), EventFault>
     requires as_many { length cells.now ≡ length types.now }
     requires fit { IsTrue (row_fits (kinds types.now) (owned_values cells.now)) }
-    ensures ok { OnOk result (out.new.items ≡ out.old.items ++ values_bytes (kinds types.now) (owned_values cells.now)) }
+    ensures ok { OnOk result (out.new.items ≡ out.old.items ++ values_bytes (kinds types.now)
+        (owned_values cells.now)) }
     ensures err { OnErr result (result ≡ Err (record { kind = Memory; at = 0 })) }
     ensures kept { OnErr result (take (length out.old.items) out.new.items ≡ out.old.items) }
-    ensures full { OnErr result (vec_capacity out.old < vec_len out.old + length (values_bytes (kinds types.now) (owned_values cells.now))) }
+    ensures full { OnErr result (vec_capacity out.old
+        < vec_len out.old + length (values_bytes (kinds types.now) (owned_values cells.now))) }
     ensures capacity { vec_capacity out.old ≤ vec_capacity out.new }
 {
     for i in 0..types.len() {

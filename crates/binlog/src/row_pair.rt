@@ -35,10 +35,12 @@ impl<'a> RowPair<'a> {
         bytes: &'a [u8],
     ) -> Result<(RowPair<'a>, usize), usize>
         requires { length bytes.now < 2 ^ 32 }
-        ensures pair { IfOk result (λ read. pair_value read.0 ≡ pair_of kind (kinds types.now) bytes.now) }
+        ensures pair { IfOk result (λ read. pair_value read.0
+            ≡ pair_of kind (kinds types.now) bytes.now) }
         ensures end { IfOk result (λ read. pair_end kind (kinds types.now) bytes.now ≡ Ok read.1) }
         ensures within { IfOk result (λ read. read.1 ≤ length bytes.now) }
-        ensures fault { IfErr result (λ place. pair_end kind (kinds types.now) bytes.now ≡ Err place) }
+        ensures fault { IfErr result (λ place. pair_end kind (kinds types.now) bytes.now
+            ≡ Err place) }
         ensures fault_within { IfErr result (λ place. place ≤ length bytes.now) }
     {
         let (row, size) = Row::read(types, bytes)?;
@@ -97,10 +99,12 @@ pub(crate) fn write_pair(
     out: &mut Vec<u8>,
 ) -> Result<(), EventFault>
     requires { IsTrue (pair_fits kind (kinds types.now) (owned_pair pair.now)) }
-    ensures ok { OnOk result (out.new.items ≡ out.old.items ++ pair_bytes (kinds types.now) (owned_pair pair.now)) }
+    ensures ok { OnOk result (out.new.items ≡ out.old.items ++ pair_bytes (kinds types.now)
+        (owned_pair pair.now)) }
     ensures err { OnErr result (result ≡ Err (record { kind = Memory; at = 0 })) }
     ensures kept { OnErr result (take (length out.old.items) out.new.items ≡ out.old.items) }
-    ensures full { OnErr result (vec_capacity out.old < vec_len out.old + length (pair_bytes (kinds types.now) (owned_pair pair.now))) }
+    ensures full { OnErr result (vec_capacity out.old
+        < vec_len out.old + length (pair_bytes (kinds types.now) (owned_pair pair.now))) }
     ensures capacity { vec_capacity out.old ≤ vec_capacity out.new }
 {
     match pair {

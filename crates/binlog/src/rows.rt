@@ -50,8 +50,13 @@ impl<'a> RowsEvent<'a> {
     /// columns. A row that does not fit ends the iteration: the last item is then `Truncated` at the row's bitmap, or
     /// at the length or the bytes of a value.
     pub fn rows(&self, table: &'a TableDef) -> Result<Rows<'a>, EventFault>
-        ensures columns { (result ≡ Err (record { kind = EventFaultKind.Columns; at = self.now.columns_at })) ↔ (length table.now.types.items ≢ self.now.columns) }
-        ensures only { IfErr result (λ fault. fault ≡ record { kind = EventFaultKind.Columns; at = self.now.columns_at }) }
+        ensures columns { (result ≡ Err (record {
+          kind = EventFaultKind.Columns;
+          at =
+              self.now.columns_at;
+        })) ↔ (length table.now.types.items ≢ self.now.columns) }
+        ensures only { IfErr result (λ fault. fault
+            ≡ record { kind = EventFaultKind.Columns; at = self.now.columns_at }) }
         ensures items { IfOk result (AreItems (rows_value self.now) (kinds table.now.types.items)) }
     {
         self.rows_of(&table.types)
@@ -63,8 +68,13 @@ impl<'a> RowsEvent<'a> {
     /// number of columns. A row that does not fit ends the iteration: the last item is then `Truncated` at the row's
     /// bitmap, or at the length or the bytes of a value.
     fn rows_of(&self, types: &'a [ColumnType]) -> Result<Rows<'a>, EventFault>
-        ensures columns { (result ≡ Err (record { kind = EventFaultKind.Columns; at = self.now.columns_at })) ↔ (length types.now ≢ self.now.columns) }
-        ensures only { IfErr result (λ fault. fault ≡ record { kind = EventFaultKind.Columns; at = self.now.columns_at }) }
+        ensures columns { (result ≡ Err (record {
+          kind = EventFaultKind.Columns;
+          at =
+              self.now.columns_at;
+        })) ↔ (length types.now ≢ self.now.columns) }
+        ensures only { IfErr result (λ fault. fault
+            ≡ record { kind = EventFaultKind.Columns; at = self.now.columns_at }) }
         ensures items { IfOk result (AreItems (rows_value self.now) (kinds types.now)) }
     {
         if types.len() != self.columns {
@@ -147,9 +157,12 @@ pub fn write_rows(
     out: &mut Vec<u8>,
 ) -> Result<(), EventFault>
     requires { HaveRows kind (kinds types.now) (owned_pairs pairs.now) }
-    ensures ok { OnOk result (out.new.items ≡ out.old.items ++ rows_bytes (kinds types.now) (owned_pairs pairs.now)) }
-    ensures err { OnErr result ((result ≡ Err (record { kind = Memory; at = 0 })) × (out.new.items ≡ out.old.items)) }
-    ensures full { OnErr result (vec_capacity out.old < vec_len out.old + length (rows_bytes (kinds types.now) (owned_pairs pairs.now))) }
+    ensures ok { OnOk result (out.new.items ≡ out.old.items ++ rows_bytes (kinds types.now)
+        (owned_pairs pairs.now)) }
+    ensures err { OnErr result ((result ≡ Err (record { kind = Memory; at = 0 }))
+        × (out.new.items ≡ out.old.items)) }
+    ensures full { OnErr result (vec_capacity out.old
+        < vec_len out.old + length (rows_bytes (kinds types.now) (owned_pairs pairs.now))) }
 {
     let start = out.len();
     match write_pairs(kind, types, pairs, out) {
@@ -169,10 +182,12 @@ fn write_pairs(
     out: &mut Vec<u8>,
 ) -> Result<(), EventFault>
     requires { IsTrue (pairs_fit kind (kinds types.now) (owned_pairs pairs.now)) }
-    ensures ok { OnOk result (out.new.items ≡ out.old.items ++ rows_bytes (kinds types.now) (owned_pairs pairs.now)) }
+    ensures ok { OnOk result (out.new.items ≡ out.old.items ++ rows_bytes (kinds types.now)
+        (owned_pairs pairs.now)) }
     ensures err { OnErr result (result ≡ Err (record { kind = Memory; at = 0 })) }
     ensures kept { OnErr result (take (length out.old.items) out.new.items ≡ out.old.items) }
-    ensures full { OnErr result (vec_capacity out.old < vec_len out.old + length (rows_bytes (kinds types.now) (owned_pairs pairs.now))) }
+    ensures full { OnErr result (vec_capacity out.old
+        < vec_len out.old + length (rows_bytes (kinds types.now) (owned_pairs pairs.now))) }
 {
     for pair in pairs {
         write_pair(kind, types, pair, out)?;

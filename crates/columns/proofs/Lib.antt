@@ -11,11 +11,14 @@ pub mod Fractions
 pub mod MomentRange
 pub mod SpanNumbers
 pub mod CalendarSteps
+pub mod CalendarDays
+pub mod StampTexts
 pub mod Characters
 pub mod DigitNumbers
 pub mod DigitGroups
 pub mod DecimalSigns
 pub mod DecimalTexts
+pub mod DecimalFields
 pub mod Codes
 pub mod EscapeCodes
 pub mod MemberLists
@@ -30,4 +33,5 @@ pub mod WrongLines
 pub mod Refusals
 pub mod Narrow
 pub mod WrittenCells
+pub mod FieldWrites
 pub mod LineFaults

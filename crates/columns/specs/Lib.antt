@@ -13,7 +13,9 @@ pub mod Spans
 pub mod Bits
 pub mod StampRange
 pub mod Calendar
+pub mod CalendarDays
 pub mod Stamps
+pub mod StampParts
 pub mod CharacterSets
 pub mod TextBytes
 pub mod Choices
@@ -22,6 +24,10 @@ pub mod Padding
 pub mod Fields
 pub mod FieldForms
 pub mod FieldReals
+pub mod FieldDecimals
+pub mod FieldPoints
+pub mod FieldCells
+pub mod FieldWrites
 pub mod WrittenCells
 pub mod Writes
 pub mod PlainTexts
@@ -29,6 +35,7 @@ pub mod Decimals
 pub mod Escapes
 pub mod Members
 pub mod ColumnTypes
+pub mod ColumnFields
 pub mod MemberTexts
 pub mod Tens
 pub mod Reals

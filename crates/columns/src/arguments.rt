@@ -33,8 +33,9 @@ impl Arguments {
 /// Reads the numbers in parentheses that the text begins with, and what follows them.
 pub(crate) fn read_arguments(text: &[u8]) -> Option<(Arguments, &[u8])>
     ensures found { IfSome result (λ found. text.now ≡ arguments_text found.0 ++ found.1.now) }
-    ensures only { (numbers : Arguments) (rest : List ℕ) → AreSmall numbers → Ends is_opening rest →
-        text.now ≡ arguments_text numbers ++ rest → IsSomeAnd result (λ found. (found.0 ≡ numbers) × (found.1.now ≡ rest)) }
+    ensures only { (numbers : Arguments) (rest : List ℕ) → AreSmall numbers → Ends is_opening rest
+        → text.now ≡ arguments_text numbers ++ rest
+        → IsSomeAnd result (λ found. (found.0 ≡ numbers) × (found.1.now ≡ rest)) }
 {
     let [b'(', inner @ ..] = text else {
         return Some((Arguments::NoNumber, text));

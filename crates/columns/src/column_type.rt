@@ -57,8 +57,9 @@ impl ColumnType {
     pub fn read(alloc: Global, text: &[u8]) -> Result<ColumnType, ColumnTypeFault>
         ensures found { IfOk result (λ made. text.now ≡ column_type_text (type_value made)) }
         ensures lawful { IfOk result (λ made. IsType (type_value made)) }
-        ensures only { (value : TypeValue) → IsType value → text.now ≡ column_type_text value →
-            MatchResult result (λ made. type_value made ≡ value) (λ fault. fault ≡ ColumnTypeFault.Memory) }
+        ensures only { (value : TypeValue) → IsType value → text.now ≡ column_type_text value
+            → MatchResult result (λ made. type_value made ≡ value) (λ fault. fault
+            ≡ ColumnTypeFault.Memory) }
         ensures fault { IfErr result (IsColumnTypeFault text.now) }
     {
         let (word, rest) = split_word(text);
@@ -88,8 +89,9 @@ fn read_behind_name(
     requires within { length list.now ≤ size }
     ensures found { IfOk result (λ members. list.now ≡ members_text (member_bytes members.items)) }
     ensures lawful { IfOk result (λ members. AreMembers most (member_bytes members.items)) }
-    ensures only { (members : List (List ℕ)) → AreMembers most members → list.now ≡ members_text members →
-        MatchResult result (λ read. member_bytes read.items ≡ members) (λ fault. fault ≡ ColumnTypeFault.Memory) }
+    ensures only { (members : List (List ℕ)) → AreMembers most members
+        → list.now ≡ members_text members → MatchResult result (λ read. member_bytes read.items
+        ≡ members) (λ fault. fault ≡ ColumnTypeFault.Memory) }
     ensures fault { IfErr result (IsMemberListFault most size list.now) }
 {
     match read_members(alloc, most, list) {

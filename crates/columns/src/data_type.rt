@@ -25,7 +25,8 @@ impl DataType {
     /// The type, if one of this name has these numbers and this sign.
     pub fn new(name: TypeName, numbers: Arguments, sign: Sign) -> Option<DataType>
         ensures lawful { IsSome result ↔ IsTrue (is_type name numbers sign) }
-        ensures parts { IfSome result (λ made. (made.name ≡ name) × (made.numbers ≡ numbers) × (made.sign ≡ sign)) }
+        ensures parts { IfSome result (λ made. (made.name ≡ name) × (made.numbers ≡ numbers)
+            × (made.sign ≡ sign)) }
     {
         if !takes(name, numbers) {
             return None;
@@ -43,9 +44,12 @@ impl DataType {
     /// Reads the text of a type, as the column `COLUMN_TYPE` of `INFORMATION_SCHEMA.COLUMNS` has it. The whole text is
     /// read.
     pub fn read(text: &[u8]) -> Result<DataType, TypeFault>
-        ensures found { IfOk result (λ made. text.now ≡ type_text made.name made.numbers made.sign) }
-        ensures only { (name : TypeName) (numbers : Arguments) (sign : Sign) → IsTrue (is_type name numbers sign) →
-            text.now ≡ type_text name numbers sign → IsOkAnd result (λ made. (made.name ≡ name) × (made.numbers ≡ numbers) × (made.sign ≡ sign)) }
+        ensures found { IfOk result (λ made. text.now
+            ≡ type_text made.name made.numbers made.sign) }
+        ensures only { (name : TypeName) (numbers : Arguments) (sign : Sign)
+            → IsTrue (is_type name numbers sign) → text.now ≡ type_text name numbers sign
+            → IsOkAnd result (λ made. (made.name ≡ name) × (made.numbers ≡ numbers)
+            × (made.sign ≡ sign)) }
         ensures fault { IfErr result (IsTypeFault text.now) }
     {
         let (word, rest) = split_word(text);
@@ -74,9 +78,11 @@ impl fmt::Display for DataType {
 /// Reads the numbers and the sign that follow the name of a type.
 fn read_rest(name: TypeName, text: &[u8]) -> Option<DataType>
     ensures name { IfSome result (λ made. made.name ≡ name) }
-    ensures found { IfSome result (λ made. text.now ≡ arguments_text made.numbers ++ sign_text made.sign) }
-    ensures only { (numbers : Arguments) (sign : Sign) → IsTrue (is_type name numbers sign) →
-        text.now ≡ arguments_text numbers ++ sign_text sign → IsSomeAnd result (λ made. (made.numbers ≡ numbers) × (made.sign ≡ sign)) }
+    ensures found { IfSome result (λ made. text.now
+        ≡ arguments_text made.numbers ++ sign_text made.sign) }
+    ensures only { (numbers : Arguments) (sign : Sign) → IsTrue (is_type name numbers sign)
+        → text.now ≡ arguments_text numbers ++ sign_text sign
+        → IsSomeAnd result (λ made. (made.numbers ≡ numbers) × (made.sign ≡ sign)) }
 {
     let (numbers, end) = read_arguments(text)?;
     let sign = Sign::find(end)?;

@@ -38,10 +38,13 @@ impl Description {
     /// The fault of the empty text is `NoLine` in line 1. Of another text it is that of the first line which is wrong after
     /// those before it; `Memory` is answered only where there is something to read.
     pub fn read(alloc: Global, text: &[u8]) -> Result<Description, DescriptionFault>
-        ensures found { IfOk result (λ made. text.now ≡ description_text (described_tables made.tables.items)) }
+        ensures found { IfOk result (λ made. text.now
+            ≡ description_text (described_tables made.tables.items)) }
         ensures lawful { IfOk result (λ made. IsDescription (described_tables made.tables.items)) }
-        ensures only { (tables : List DescribedTableValue) → IsDescription tables → text.now ≡ description_text tables →
-            MatchResult result (λ made. described_tables made.tables.items ≡ tables) (λ fault. fault.fault ≡ LineFault.Memory) }
+        ensures only { (tables : List DescribedTableValue) → IsDescription tables
+            → text.now ≡ description_text tables → MatchResult result
+            (λ made. described_tables made.tables.items ≡ tables) (λ fault. fault.fault
+            ≡ LineFault.Memory) }
         ensures empty { text.now ≡ [] →
             IsErrAnd result (λ fault. (fault.line ≡ 1) × (fault.fault ≡ LineFault.NoLine)) }
         ensures fault { IfErr result (λ fault. IsDescriptionFault text.now fault.line fault.fault) }
@@ -63,7 +66,9 @@ impl Description {
 
     /// The table of this name in this schema, if it is described.
     pub fn table(&self, schema: &[u8], name: &[u8]) -> Option<&DescribedTable>
-        ensures { option_copied result ≡ find (λ table. bytes_eq (string_bytes table.schema) schema.now && bytes_eq (string_bytes table.name) name.now) self.now.tables.items }
+        ensures { option_copied result ≡ find (λ table. bytes_eq
+            (string_bytes table.schema) schema.now && bytes_eq (string_bytes table.name) name.now)
+            self.now.tables.items }
     {
         self.tables.iter().find(|table| table.schema.as_bytes() == schema
             && table.name.as_bytes() == name)
@@ -80,10 +85,12 @@ fn line_of(text: &[u8], left: usize) -> usize
 
 /// Reads tables up to the end of the text.
 fn read_tables(alloc: Global, text: &[u8]) -> Result<Vec<DescribedTable>, Stop>
-    ensures found { IfOk result (λ tables. text.now ≡ description_text (described_tables tables.items)) }
+    ensures found { IfOk result (λ tables. text.now
+        ≡ description_text (described_tables tables.items)) }
     ensures lawful { IfOk result (λ tables. AreTables (described_tables tables.items)) }
-    ensures only { (tables : List DescribedTableValue) → AreTables tables → text.now ≡ description_text tables →
-        MatchResult result (λ read. described_tables read.items ≡ tables) (λ stop. stop.fault ≡ LineFault.Memory) }
+    ensures only { (tables : List DescribedTableValue) → AreTables tables
+        → text.now ≡ description_text tables → MatchResult result
+        (λ read. described_tables read.items ≡ tables) (λ stop. stop.fault ≡ LineFault.Memory) }
     ensures fault { IfErr result (λ stop. IsTableStopped text.now stop.left stop.fault) }
 {
     let mut tables = Vec::new(alloc);

@@ -1,24 +1,29 @@
 //! Laws about the fields of lines: what is read of the text of a value is the value.
 
-ghost use Rattle.std.specs.Prelude.{◌≡◌, ◌≤◌, ◌<◌, ◌^◌, ◌⊎◌, ℕ, List, decimal, IsOkAnd, IfOk, IfErr, MatchResult, Ok};
+ghost use Rattle.std.specs.Prelude.{◌≡◌, ◌≤◌, ◌<◌, ◌^◌, ◌⊎◌, ℕ, List, false, decimal, IsOkAnd, IfOk, IfErr, MatchResult, Ok};
 ghost use Rattle.hex.specs.Hex.{encode_upper, encode_lower};
 ghost use Rattle.columns.specs.Dates.{year_text, date_text};
 ghost use Rattle.columns.specs.Moments.{moment_text, IsSameMoment};
 ghost use Rattle.columns.specs.Spans.{span_text, IsSameSpan};
+ghost use Rattle.columns.specs.Stamps.{stamp_text, IsSameStamp};
 ghost use Rattle.columns.specs.Escapes.{AreBytes};
 ghost use Rattle.columns.specs.Integers.{HasSign, IsInRange};
-ghost use Rattle.columns.specs.PlainTexts.{shown_integer};
+ghost use Rattle.columns.specs.PlainTexts.{shown_integer, shown_decimal};
+ghost use Rattle.columns.specs.FieldDecimals.{IsNoMinusZero};
+ghost use Rattle.columns.specs.declared.sign.Sign.TheVariants.{Zerofill};
 ghost use Rattle.columns.specs.declared.value.field_fault.FieldFault.TheVariants.{Memory};
 
 use crate::arguments::Arguments;
 use crate::field_bytes::read_hex_field;
 use crate::sign::Sign;
 use crate::value::date::Date;
+use crate::value::decimal::Decimal;
 use crate::value::field_fault::FieldFault;
 use crate::value::field_numbers::{read_bits_field, read_ordinal_field, read_set_field};
 use crate::value::integer::{Integer, IntegerWidth};
 use crate::value::moment::Datetime;
 use crate::value::span::Time;
+use crate::value::stamp::Timestamp;
 use crate::value::year::Year;
 use std::alloc::Global;
 
@@ -36,6 +41,23 @@ pub fn integer_text_reads_back(
     ensures { result ≡ Ok integer }
 {
     Integer::read_field(width, sign, field)
+}
+
+/// What is read of the text of a DECIMAL, with the zeros of ZEROFILL or without, is that value; but a zero with a minus
+/// sign, which no server stores, has the text of zero.
+pub fn decimal_text_reads_back(
+    sign: Sign,
+    decimal: Decimal,
+    field: &[u8],
+) -> Result<Decimal, FieldFault>
+    requires plain { IsNoMinusZero decimal }
+    requires filled { sign ≡ Zerofill → decimal.negative ≡ false }
+    requires text { field.now ≡ shown_decimal sign decimal }
+    ensures { IsOkAnd result (λ made. (made.precision ≡ decimal.precision) ×
+        (made.scale ≡ decimal.scale) × (made.negative ≡ decimal.negative) ×
+        (made.digits ≡ decimal.digits)) }
+{
+    Decimal::read_field(decimal.precision, decimal.scale, field)
 }
 
 /// What is read of the text of a year is that year.
@@ -61,6 +83,14 @@ pub fn datetime_text_reads_back(moment: Datetime, field: &[u8]) -> Result<Dateti
     ensures { IsOkAnd result (λ made. IsSameMoment made moment) }
 {
     Datetime::read_field(moment.fraction.digits, field)
+}
+
+/// What is read of the text of a TIMESTAMP is that value.
+pub fn timestamp_text_reads_back(stamp: Timestamp, field: &[u8]) -> Result<Timestamp, FieldFault>
+    requires { field.now ≡ stamp_text stamp }
+    ensures { IsOkAnd result (λ made. IsSameStamp made stamp) }
+{
+    Timestamp::read_field(stamp.fraction.digits, field)
 }
 
 /// What is read of the text of a TIME is that time.

@@ -107,8 +107,9 @@ fn stands_within(byte: u8) -> bool
 pub(crate) fn read_field(alloc: Global, end: u8, text: &[u8]) -> Result<(Vec<u8>, &[u8]), LineFault>
     ensures found { IfOk result (λ read. text.now ≡ field read.0.items end ++ read.1.now) }
     ensures fault { IfErr result (IsFieldFault end text.now) }
-    ensures only { (bytes rest : List ℕ) → IsTrue (is_separator end) → text.now ≡ field bytes end ++ rest →
-        MatchResult result (λ read. (read.0.items ≡ bytes) × (read.1.now ≡ rest)) (λ fault. fault ≡ LineFault.Memory) }
+    ensures only { (bytes rest : List ℕ) → IsTrue (is_separator end)
+        → text.now ≡ field bytes end ++ rest → MatchResult result (λ read. (read.0.items ≡ bytes)
+        × (read.1.now ≡ rest)) (λ fault. fault ≡ LineFault.Memory) }
 {
     let (field, behind) = split_field(text);
     let Some(rest) = after_byte(end, behind) else {
@@ -130,8 +131,9 @@ pub(crate) fn read_name(alloc: Global, text: &[u8]) -> Result<(String, &[u8]), L
     ensures found { IfOk result (λ read. text.now ≡ field (string_bytes read.0) 9 ++ read.1.now) }
     ensures fault { IfErr result (IsFaultOf a_name text.now) }
     ensures name { IfOk result (λ read. IsName (string_bytes read.0)) }
-    ensures only { (name rest : List ℕ) → IsName name → text.now ≡ field name 9 ++ rest →
-        MatchResult result (λ read. (string_bytes read.0 ≡ name) × (read.1.now ≡ rest)) (λ fault. fault ≡ LineFault.Memory) }
+    ensures only { (name rest : List ℕ) → IsName name → text.now ≡ field name 9 ++ rest
+        → MatchResult result (λ read. (string_bytes read.0 ≡ name)
+        × (read.1.now ≡ rest)) (λ fault. fault ≡ LineFault.Memory) }
 {
     let (bytes, rest) = read_field(alloc, TAB, text)?;
     let Some(name) = name_of(bytes) else {
@@ -161,11 +163,14 @@ fn name_of(bytes: Vec<u8>) -> Option<String>
 /// Reads the field of a type, and the tab after it.
 #[tactic(auto, using(crate::proofs::LineFaults::of_type))]
 fn read_kind(alloc: Global, text: &[u8]) -> Result<(ColumnType, &[u8]), LineFault>
-    ensures found { IfOk result (λ read. text.now ≡ field (column_type_text (type_value read.0)) 9 ++ read.1.now) }
+    ensures found { IfOk result (λ read. text.now
+        ≡ field (column_type_text (type_value read.0)) 9 ++ read.1.now) }
     ensures fault { IfErr result (IsFaultOf a_type text.now) }
     ensures lawful { IfOk result (λ read. IsType (type_value read.0)) }
-    ensures only { (value : TypeValue) (rest : List ℕ) → IsType value → text.now ≡ field (column_type_text value) 9 ++ rest →
-        MatchResult result (λ read. (type_value read.0 ≡ value) × (read.1.now ≡ rest)) (λ fault. fault ≡ LineFault.Memory) }
+    ensures only { (value : TypeValue) (rest : List ℕ) → IsType value
+        → text.now ≡ field (column_type_text value) 9 ++ rest
+        → MatchResult result (λ read. (type_value read.0 ≡ value)
+        × (read.1.now ≡ rest)) (λ fault. fault ≡ LineFault.Memory) }
 {
     let (bytes, rest) = read_field(alloc, TAB, text)?;
     match ColumnType::read(alloc, &bytes) {
@@ -177,11 +182,14 @@ fn read_kind(alloc: Global, text: &[u8]) -> Result<(ColumnType, &[u8]), LineFaul
 
 /// Reads the field of a character set, or the word for none, and the tab after it.
 fn read_set(alloc: Global, text: &[u8]) -> Result<(Option<String>, &[u8]), LineFault>
-    ensures found { IfOk result (λ read. text.now ≡ field (set_text (option_bytes read.0)) 9 ++ read.1.now) }
+    ensures found { IfOk result (λ read. text.now
+        ≡ field (set_text (option_bytes read.0)) 9 ++ read.1.now) }
     ensures fault { IfErr result (IsFaultOf a_name text.now) }
     ensures lawful { IfOk result (λ read. IsSet (option_bytes read.0)) }
-    ensures only { (set : Option (List ℕ)) (rest : List ℕ) → IsSet set → text.now ≡ field (set_text set) 9 ++ rest →
-        MatchResult result (λ read. (option_bytes read.0 ≡ set) × (read.1.now ≡ rest)) (λ fault. fault ≡ LineFault.Memory) }
+    ensures only { (set : Option (List ℕ)) (rest : List ℕ) → IsSet set
+        → text.now ≡ field (set_text set) 9 ++ rest
+        → MatchResult result (λ read. (option_bytes read.0 ≡ set)
+        × (read.1.now ≡ rest)) (λ fault. fault ≡ LineFault.Memory) }
 {
     match read_name(alloc, text) {
         Ok((name, rest)) => {
@@ -199,8 +207,9 @@ fn read_set(alloc: Global, text: &[u8]) -> Result<(Option<String>, &[u8]), LineF
 fn read_key(alloc: Global, text: &[u8]) -> Result<(Key, &[u8]), LineFault>
     ensures found { IfOk result (λ read. text.now ≡ field (key_text read.0) 10 ++ read.1.now) }
     ensures fault { IfErr result (IsFaultOf a_key text.now) }
-    ensures only { (key : KeyValue) (rest : List ℕ) → text.now ≡ field (key_text key) 10 ++ rest →
-        MatchResult result (λ read. (read.0 ≡ key) × (read.1.now ≡ rest)) (λ fault. fault ≡ LineFault.Memory) }
+    ensures only { (key : KeyValue) (rest : List ℕ) → text.now ≡ field (key_text key) 10 ++ rest
+        → MatchResult result (λ read. (read.0 ≡ key)
+        × (read.1.now ≡ rest)) (λ fault. fault ≡ LineFault.Memory) }
 {
     let (bytes, rest) = read_field(alloc, NEWLINE, text)?;
     let Some(key) = Key::find(&bytes) else {
@@ -212,11 +221,13 @@ fn read_key(alloc: Global, text: &[u8]) -> Result<(Key, &[u8]), LineFault>
 /// Reads the last four fields of a line: the column, and what follows the line.
 #[tactic(auto, using(crate::proofs::LineFaults::at_name, crate::proofs::LineFaults::at_type, crate::proofs::LineFaults::at_set, crate::proofs::LineFaults::at_key))]
 pub(crate) fn read_column(alloc: Global, text: &[u8]) -> Result<(Column, &[u8]), LineFault>
-    ensures found { IfOk result (λ read. text.now ≡ column_text (column_value read.0) ++ read.1.now) }
+    ensures found { IfOk result (λ read. text.now
+        ≡ column_text (column_value read.0) ++ read.1.now) }
     ensures fault { IfErr result (IsColumnFault text.now) }
     ensures lawful { IfOk result (λ read. IsDescribedColumn (column_value read.0)) }
-    ensures only { (column : ColumnValue) (rest : List ℕ) → IsDescribedColumn column → text.now ≡ column_text column ++ rest →
-        MatchResult result (λ read. (column_value read.0 ≡ column) × (read.1.now ≡ rest)) (λ fault. fault ≡ LineFault.Memory) }
+    ensures only { (column : ColumnValue) (rest : List ℕ) → IsDescribedColumn column
+        → text.now ≡ column_text column ++ rest → MatchResult result (λ read. (column_value read.0
+        ≡ column) × (read.1.now ≡ rest)) (λ fault. fault ≡ LineFault.Memory) }
 {
     let (name, rest) = read_name(alloc, text)?;
     let (kind, rest) = read_kind(alloc, rest)?;

@@ -53,7 +53,8 @@ pub fn one_type(text: &[u8])
 
 /// A text is that of one type of a column at most.
 pub fn one_column_type(text: &[u8])
-    ensures { (value other : TypeValue) → IsType value → IsType other → text.now ≡ column_type_text value → text.now ≡ column_type_text other → value ≡ other }
+    ensures { (value other : TypeValue) → IsType value → IsType other
+        → text.now ≡ column_type_text value → text.now ≡ column_type_text other → value ≡ other }
 {
     let _found = DataType::read(text);
 }
@@ -121,7 +122,8 @@ pub fn year_reads_back(year: Year) -> Result<Year, CellFault>
 
 /// What is read of the cell of a date is that date.
 pub fn date_reads_back(date: Date) -> Result<Date, CellFault>
-    ensures { IsOkAnd result (λ made. (made.year ≡ date.year) × (made.month ≡ date.month) × (made.day ≡ date.day)) }
+    ensures { IsOkAnd result (λ made. (made.year ≡ date.year) × (made.month ≡ date.month)
+        × (made.day ≡ date.day)) }
 {
     let bytes = date.bytes();
     Date::read(Cell::Bytes(&bytes))
@@ -139,8 +141,9 @@ pub fn one_datetime(digits: u8, bytes: &[u8])
 /// Bytes are a TIME with so many digits in one way at most, so what is read of what was written is the value.
 pub fn one_time(digits: u8, bytes: &[u8])
     requires { digits ≤ 6 }
-    ensures { (a b : Time) → a.fraction.digits ≡ digits → b.fraction.digits ≡ digits →
-        bytes.now ≡ span_bytes (fraction_size digits) a → bytes.now ≡ span_bytes (fraction_size digits) b → IsSameSpan a b }
+    ensures { (a b : Time) → a.fraction.digits ≡ digits → b.fraction.digits ≡ digits
+        → bytes.now ≡ span_bytes (fraction_size digits) a
+        → bytes.now ≡ span_bytes (fraction_size digits) b → IsSameSpan a b }
 {
     let _found = Time::read(digits, Cell::Bytes(bytes));
 }
@@ -161,9 +164,10 @@ pub fn one_decimal(precision: u8, scale: u8, bytes: &[u8])
     requires few { precision ≤ 65 }
     requires within { scale ≤ precision }
     requires short { scale ≤ 30 }
-    ensures { (a b : Decimal) → a.precision ≡ precision → b.precision ≡ precision → a.scale ≡ scale → b.scale ≡ scale →
-        bytes.now ≡ decimal_bytes a.negative precision scale a.digits → bytes.now ≡ decimal_bytes b.negative precision scale b.digits →
-        (a.negative ≡ b.negative) × (a.digits ≡ b.digits) }
+    ensures { (a b : Decimal) → a.precision ≡ precision → b.precision ≡ precision → a.scale ≡ scale
+        → b.scale ≡ scale → bytes.now ≡ decimal_bytes a.negative precision scale a.digits
+        → bytes.now ≡ decimal_bytes b.negative precision scale b.digits
+        → (a.negative ≡ b.negative) × (a.digits ≡ b.digits) }
 {
     let _found = Decimal::read(precision, scale, Cell::Bytes(bytes));
 }

@@ -3,7 +3,8 @@
 //! The log says how many bytes a cell takes and no more. A description of the columns, as the server's
 //! `information_schema` gives it, says the rest: the type, its sign, its digits. [`Description::read`] reads one.
 //! [`DataType::read`] reads the text of a type, and its `Display` writes it. [`TypedValue::read`] gives the value of a cell
-//! in a column of a type, and [`TypedValue::write`] the cell of a value, as a server sends it.
+//! in a column of a type, and [`TypedValue::write`] the cell of a value, as a server sends it. [`ColumnType::write_field`]
+//! writes the cell of the value that a field of a client's line is.
 //!
 //! The types and their texts are those of the MySQL Reference Manual, "Data Types" and "The INFORMATION_SCHEMA COLUMNS
 //! Table".
@@ -12,12 +13,14 @@
 mod arguments;
 mod character_set;
 mod column;
+mod column_cell;
 mod column_type;
 mod data_type;
 mod description;
 mod escape;
 mod fault;
 mod field_bytes;
+mod field_cell;
 pub mod field_laws;
 mod fields;
 mod hex_digits;

@@ -32,7 +32,8 @@ pub(crate) fn read_table<'a>(
     requires names { IsName (string_bytes schema) × IsName (string_bytes name) }
     requires front { front.now ≡ field (string_bytes schema) 9 ++ field (string_bytes name) 9 }
     requires begins { (rest : List ℕ) × (text.now ≡ front.now ++ rest) }
-    ensures found { IfOk result (λ read. text.now ≡ table_text (described_table read.0) ++ read.1.now) }
+    ensures found { IfOk result (λ read. text.now
+        ≡ table_text (described_table read.0) ++ read.1.now) }
     ensures lawful { IfOk result (λ read. IsTable (described_table read.0)) }
     ensures front { IfOk result (λ read. front.now ≡ table_front (described_table read.0)) }
     ensures fault { IfErr result (λ stop. IsStopped front.now text.now stop.left stop.fault) }
@@ -60,10 +61,14 @@ pub(crate) fn read_table<'a>(
 pub(crate) fn read_front(alloc: Global, text: &[u8]) -> Result<(String, String, &[u8]), LineFault>
     ensures found { IfOk result (λ read. (rest : List ℕ) × (text.now ≡ read.2.now ++ rest)) }
     ensures fault { IfErr result (IsFaultAmong front_fields text.now) }
-    ensures front { IfOk result (λ read. read.2.now ≡ field (string_bytes read.0) 9 ++ field (string_bytes read.1) 9) }
-    ensures names { IfOk result (λ read. IsName (string_bytes read.0) × IsName (string_bytes read.1)) }
-    ensures only { (schema name rest : List ℕ) → IsName schema → IsName name → text.now ≡ (field schema 9 ++ field name 9) ++ rest →
-        MatchResult result (λ read. (string_bytes read.0 ≡ schema) × (string_bytes read.1 ≡ name)) (λ fault. fault ≡ LineFault.Memory) }
+    ensures front { IfOk result (λ read. read.2.now
+        ≡ field (string_bytes read.0) 9 ++ field (string_bytes read.1) 9) }
+    ensures names { IfOk result (λ read. IsName (string_bytes read.0)
+        × IsName (string_bytes read.1)) }
+    ensures only { (schema name rest : List ℕ) → IsName schema → IsName name
+        → text.now ≡ (field schema 9 ++ field name 9) ++ rest
+        → MatchResult result (λ read. (string_bytes read.0 ≡ schema)
+        × (string_bytes read.1 ≡ name)) (λ fault. fault ≡ LineFault.Memory) }
 {
     let (schema, rest) = read_name(alloc, text)?;
     let (name, rest) = read_name(alloc, rest)?;
@@ -77,12 +82,15 @@ fn read_columns<'a>(
     text: &'a [u8],
 ) -> Result<(Vec<Column>, &'a [u8]), Stop>
     requires { IsFront front.now }
-    ensures found { IfOk result (λ read. text.now ≡ lines_text front.now (column_values read.0.items) ++ read.1.now) }
+    ensures found { IfOk result (λ read. text.now
+        ≡ lines_text front.now (column_values read.0.items) ++ read.1.now) }
     ensures lawful { IfOk result (λ read. AreDescribedColumns (column_values read.0.items)) }
     ensures end { IfOk result (λ read. BeginsNot front.now read.1.now) }
     ensures fault { IfErr result (λ stop. IsStopped front.now text.now stop.left stop.fault) }
-    ensures only { (columns : List ColumnValue) (rest : List ℕ) → AreDescribedColumns columns → BeginsNot front.now rest → text.now ≡ lines_text front.now columns ++ rest →
-        MatchResult result (λ read. (column_values read.0.items ≡ columns) × (read.1.now ≡ rest)) (λ stop. stop.fault ≡ LineFault.Memory) }
+    ensures only { (columns : List ColumnValue) (rest : List ℕ) → AreDescribedColumns columns
+        → BeginsNot front.now rest → text.now ≡ lines_text front.now columns ++ rest
+        → MatchResult result (λ read. (column_values read.0.items ≡ columns)
+        × (read.1.now ≡ rest)) (λ stop. stop.fault ≡ LineFault.Memory) }
 {
     let mut columns = Vec::new(alloc);
     let mut seen = BTreeSet::new(alloc);

@@ -23,7 +23,8 @@ pub fn member_at(members: &[Member], ordinal: u16) -> &[u8]
 /// The bytes of the members whose bits are set, the lowest bit for the first one, with commas between. The only
 /// error is one of memory, and there is none where the text is empty.
 pub fn joined_members(alloc: Global, members: &[Member], bits: u64) -> Result<Vec<u8>, AllocError>
-    ensures ok { IfOk result (λ all. all.items ≡ with_commas true (chosen bits (member_bytes members.now))) }
+    ensures ok { IfOk result (λ all. all.items ≡ with_commas true
+        (chosen bits (member_bytes members.now))) }
     ensures full { IfErr result (λ _.
         0 < length (with_commas true (chosen bits (member_bytes members.now)))) }
 {
@@ -56,7 +57,8 @@ fn append_members(
 
 /// Appends a member, with a comma in front of it if it is not the first.
 fn append_member(member: &Member, is_first: bool, out: &mut Vec<u8>) -> Result<(), AllocError>
-    ensures ok { OnOk result (out.new.items ≡ out.old.items ++ (comma_unless is_first ++ member.now.text.items)) }
+    ensures ok { OnOk result (out.new.items ≡ out.old.items ++
+        (comma_unless is_first ++ member.now.text.items)) }
     ensures full { OnErr result (vec_capacity out.old <
         vec_len out.old + length (comma_unless is_first ++ member.now.text.items)) }
     ensures capacity { vec_capacity out.old ≤ vec_capacity out.new }

@@ -47,8 +47,9 @@ pub(crate) fn read_members(
     requires { 0 < most }
     ensures found { IfOk result (λ members. text.now ≡ members_text (member_bytes members.items)) }
     ensures lawful { IfOk result (λ members. AreMembers most (member_bytes members.items)) }
-    ensures only { (members : List (List ℕ)) → AreMembers most members → text.now ≡ members_text members →
-        MatchResult result (λ read. member_bytes read.items ≡ members) (λ fault. fault ≡ MembersFault.Memory) }
+    ensures only { (members : List (List ℕ)) → AreMembers most members
+        → text.now ≡ members_text members → MatchResult result (λ read. member_bytes read.items
+        ≡ members) (λ fault. fault ≡ MembersFault.Memory) }
     ensures fault { IfErr result (IsMembersFault most text.now) }
 {
     let Some(inner) = after_byte(b'(', text) else {
@@ -99,11 +100,13 @@ fn is_end(text: &[u8]) -> bool
 
 /// Reads the member that the text begins with, and what follows it.
 fn read_member(alloc: Global, text: &[u8]) -> Result<Option<(Member, &[u8])>, AllocError>
-    ensures found { IfOk result (λ read. IfSome read (λ r. text.now ≡ member_text r.0.text.items ++ r.1.now)) }
+    ensures found { IfOk result (λ read. IfSome read (λ r. text.now
+        ≡ member_text r.0.text.items ++ r.1.now)) }
     ensures bytes { IfOk result (λ read. IfSome read (λ r. AreBytes r.0.text.items)) }
     ensures end { IfOk result (λ read. IfSome read (λ r. Ends is_quote r.1.now)) }
-    ensures only { (bytes rest : List ℕ) → AreBytes bytes → Ends is_quote rest → text.now ≡ member_text bytes ++ rest →
-        IfOk result (λ read. IsSomeAnd read (λ r. (r.0.text.items ≡ bytes) × (r.1.now ≡ rest))) }
+    ensures only { (bytes rest : List ℕ) → AreBytes bytes → Ends is_quote rest
+        → text.now ≡ member_text bytes ++ rest → IfOk result
+        (λ read. IsSomeAnd read (λ r. (r.0.text.items ≡ bytes) × (r.1.now ≡ rest))) }
 {
     match text {
         [b'\'', inner @ ..] => read_quoted(alloc, inner),
@@ -114,11 +117,13 @@ fn read_member(alloc: Global, text: &[u8]) -> Result<Option<(Member, &[u8])>, Al
 
 /// Reads the member whose opening quote stands in front of the text, and what follows it.
 fn read_quoted(alloc: Global, text: &[u8]) -> Result<Option<(Member, &[u8])>, AllocError>
-    ensures found { IfOk result (λ read. IfSome read (λ r. 39 ∷ text.now ≡ member_text r.0.text.items ++ r.1.now)) }
+    ensures found { IfOk result (λ read. IfSome read (λ r. 39 ∷ text.now
+        ≡ member_text r.0.text.items ++ r.1.now)) }
     ensures bytes { IfOk result (λ read. IfSome read (λ r. AreBytes r.0.text.items)) }
     ensures end { IfOk result (λ read. IfSome read (λ r. Ends is_quote r.1.now)) }
-    ensures only { (bytes rest : List ℕ) → AreBytes bytes → Ends is_quote rest → 39 ∷ text.now ≡ member_text bytes ++ rest →
-        IfOk result (λ read. IsSomeAnd read (λ r. (r.0.text.items ≡ bytes) × (r.1.now ≡ rest))) }
+    ensures only { (bytes rest : List ℕ) → AreBytes bytes → Ends is_quote rest
+        → 39 ∷ text.now ≡ member_text bytes ++ rest
+        → IfOk result (λ read. IsSomeAnd read (λ r. (r.0.text.items ≡ bytes) × (r.1.now ≡ rest))) }
 {
     let (bytes, rest) = unescape_front(alloc, Layer::Quoted, text)?;
     Ok(end_member(false, bytes, rest))
@@ -126,11 +131,13 @@ fn read_quoted(alloc: Global, text: &[u8]) -> Result<Option<(Member, &[u8])>, Al
 
 /// Reads the member whose letter `x` stands in front of the text, and what follows it.
 fn read_digits(alloc: Global, text: &[u8]) -> Result<Option<(Member, &[u8])>, AllocError>
-    ensures found { IfOk result (λ read. IfSome read (λ r. byte "x" ∷ text.now ≡ member_text r.0.text.items ++ r.1.now)) }
+    ensures found { IfOk result (λ read. IfSome read (λ r. byte "x" ∷ text.now
+        ≡ member_text r.0.text.items ++ r.1.now)) }
     ensures bytes { IfOk result (λ read. IfSome read (λ r. AreBytes r.0.text.items)) }
     ensures end { IfOk result (λ read. IfSome read (λ r. Ends is_quote r.1.now)) }
-    ensures only { (bytes rest : List ℕ) → AreBytes bytes → Ends is_quote rest → byte "x" ∷ text.now ≡ member_text bytes ++ rest →
-        IfOk result (λ read. IsSomeAnd read (λ r. (r.0.text.items ≡ bytes) × (r.1.now ≡ rest))) }
+    ensures only { (bytes rest : List ℕ) → AreBytes bytes → Ends is_quote rest
+        → byte "x" ∷ text.now ≡ member_text bytes ++ rest
+        → IfOk result (λ read. IsSomeAnd read (λ r. (r.0.text.items ≡ bytes) × (r.1.now ≡ rest))) }
 {
     let [b'\'', digits @ ..] = text else {
         return Ok(None);
@@ -146,8 +153,9 @@ fn end_member(hex: bool, text: Vec<u8>, rest: &[u8]) -> Option<(Member, &[u8])>
     ensures form { IfSome result (λ made. is_utf8 text.items ≡ not hex) }
     ensures found { IfSome result (λ made. rest.now ≡ 39 ∷ made.1.now) }
     ensures end { IfSome result (λ made. Ends is_quote made.1.now) }
-    ensures only { (tail : List ℕ) → is_utf8 text.items ≡ not hex → rest.now ≡ 39 ∷ tail → Ends is_quote tail →
-        IsSomeAnd result (λ made. (made.0.text ≡ text) × (made.1.now ≡ tail)) }
+    ensures only { (tail : List ℕ) → is_utf8 text.items ≡ not hex → rest.now ≡ 39 ∷ tail
+        → Ends is_quote tail → IsSomeAnd result (λ made. (made.0.text ≡ text)
+        × (made.1.now ≡ tail)) }
 {
     let [b'\'', tail @ ..] = rest else {
         return None;

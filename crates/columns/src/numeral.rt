@@ -9,8 +9,9 @@ ghost use Rattle.columns.specs.Word.{Ends, is_decimal_digit};
 pub(crate) fn read_number(text: &[u8]) -> Option<(u32, &[u8])>
     ensures found { IfSome result (λ found. text.now ≡ decimal found.0 ++ found.1.now) }
     ensures small { IfSome result (λ found. found.0 < 100000) }
-    ensures only { (n : ℕ) (rest : List ℕ) → n < 100000 → Ends is_decimal_digit rest → text.now ≡ decimal n ++ rest →
-        IsSomeAnd result (λ found. (found.0 ≡ n) × (found.1.now ≡ rest)) }
+    ensures only { (n : ℕ) (rest : List ℕ) → n < 100000 → Ends is_decimal_digit rest
+        → text.now ≡ decimal n ++ rest → IsSomeAnd result (λ found. (found.0 ≡ n)
+        × (found.1.now ≡ rest)) }
 {
     let (first, rest) = take_digit(text)?;
     let mut number = u32::from(first);
@@ -44,7 +45,8 @@ pub(crate) fn read_last_number(text: &[u8]) -> Option<(u32, &[u8])>
 
 /// The value of the digit at the front, and what follows it.
 fn take_digit(text: &[u8]) -> Option<(u8, &[u8])>
-    ensures some { IfSome result (λ taken. (text.now ≡ (48 + taken.0) ∷ taken.1.now) × (taken.0 < 10)) }
+    ensures some { IfSome result (λ taken. (text.now ≡ (48 + taken.0) ∷ taken.1.now)
+        × (taken.0 < 10)) }
     ensures none { IfNone result (Ends is_decimal_digit text.now) }
 {
     match text {

@@ -31,8 +31,9 @@ pub(crate) fn one_integer(width: IntegerWidth, sign: Sign, cell: Cell<'_>)
 /// A decimal's cell is that of one.
 pub(crate) fn one_decimal(numbers: Arguments, cell: Cell<'_>)
     requires { IsTrue (is_digits 65 numbers) }
-    ensures { (a b : TypedValue) → IsDecimalOf (first_number numbers) (second_number numbers) a (cell_value cell.entry) →
-        IsDecimalOf (first_number numbers) (second_number numbers) b (cell_value cell.entry) → IsSameValue a b }
+    ensures { (a b : TypedValue) → IsDecimalOf (first_number numbers) (second_number numbers) a
+        (cell_value cell.entry) → IsDecimalOf (first_number numbers) (second_number numbers) b
+        (cell_value cell.entry) → IsSameValue a b }
 {
     let Arguments::TwoNumbers(precision, scale) = numbers else {
         unreachable!();

@@ -57,9 +57,9 @@ fn front_of<'a>(bytes: &'a [u8], pad: &[u8]) -> &'a [u8]
 
 /// Whether the bytes of the value end with what a server leaves out in a column of this type.
 pub(crate) fn is_padded(kind: DataType, set: CharacterSet, value: TypedValue<'_>) -> bool
-    ensures { MatchBool result
-        (ArePadded (IsValueOf kind.name kind.numbers kind.sign value.entry) (padding kind.name set))
-        (AreUnpadded (IsValueOf kind.name kind.numbers kind.sign value.entry) (padding kind.name set)) }
+    ensures { MatchBool result (ArePadded (IsValueOf kind.name kind.numbers kind.sign value.entry)
+        (padding kind.name set)) (AreUnpadded (IsValueOf kind.name kind.numbers kind.sign
+        value.entry) (padding kind.name set)) }
 {
     match kind.name {
         TypeName::Binary => is_padded_binary(value),

@@ -30,9 +30,11 @@ impl<'a> Text<'a> {
         set: CharacterSet,
         bytes: &'a [u8],
     ) -> Result<Option<Text<'a>>, AllocError>
-        ensures found { IfOk result (λ made. IfSome made (λ text. IsTextOf set bytes.now (bytes_of text))) }
+        ensures found { IfOk result (λ made. IfSome made
+            (λ text. IsTextOf set bytes.now (bytes_of text))) }
         ensures full { IfErr result (λ _. IsConverted set bytes.now) }
-        ensures only { (text : List ℕ) → IsTextOf set bytes.now text → IfOk result (λ made. IsSomeAnd made (λ found. bytes_of found ≡ text)) }
+        ensures only { (text : List ℕ) → IsTextOf set bytes.now text
+            → IfOk result (λ made. IsSomeAnd made (λ found. bytes_of found ≡ text)) }
     {
         match set {
             CharacterSet::Utf8mb4 => Ok(same(bytes)),
@@ -71,7 +73,8 @@ fn same(bytes: &[u8]) -> Option<Text<'_>>
 
 /// The bytes, if they are UTF-8 and this holds.
 fn same_if(holds: bool, bytes: &[u8]) -> Option<Text<'_>>
-    ensures found { IfSome result (λ text. (bytes_of text ≡ bytes.now) × IsUtf8 bytes.now × IsTrue holds) }
+    ensures found { IfSome result (λ text. (bytes_of text ≡ bytes.now) × IsUtf8 bytes.now
+        × IsTrue holds) }
     ensures only { IsUtf8 bytes.now → IsTrue holds → IsSome result }
 {
     if !holds {
@@ -124,7 +127,8 @@ fn character_of(byte: u8) -> char
 
 /// The text of bytes of latin1.
 fn read_latin1(alloc: Global, bytes: &[u8]) -> Result<Text<'_>, AllocError>
-    ensures ok { IfOk result (λ text. bytes_of text ≡ written (λ byte. encode_utf8 (latin1_character byte)) bytes.now) }
+    ensures ok { IfOk result (λ text. bytes_of text
+        ≡ written (λ byte. encode_utf8 (latin1_character byte)) bytes.now) }
     ensures full { IfErr result (λ _. list_all (λ byte. nat_lt byte 128) bytes.now ≡ false) }
 {
     if let Some(text) = same_if(is_ascii(bytes), bytes) {

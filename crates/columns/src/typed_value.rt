@@ -51,8 +51,10 @@ impl<'a> TypedValue<'a> {
     /// column of JSON, GEOMETRY, VECTOR or their like; `Size` if it has another number of bytes than the type's cells, or
     /// more; `Range` if it stands for no value.
     pub fn read(kind: DataType, cell: Cell<'a>) -> Result<TypedValue<'a>, CellFault>
-        ensures found { IfOk result (λ value. IsValueOf kind.name kind.numbers kind.sign value (cell_value cell.entry)) }
-        ensures only { (value : TypedValue) → IsValueOf kind.name kind.numbers kind.sign value (cell_value cell.entry) → IsOk result }
+        ensures found { IfOk result (λ value. IsValueOf kind.name kind.numbers kind.sign value
+            (cell_value cell.entry)) }
+        ensures only { (value : TypedValue) → IsValueOf kind.name kind.numbers kind.sign value
+            (cell_value cell.entry) → IsOk result }
         ensures fault { IfErr result (IsCellFault kind.name kind.numbers (cell_value cell.entry)) }
     {
         match kind.name {
@@ -144,8 +146,10 @@ fn read_integer<'a>(
     cell: Cell<'a>,
 ) -> Result<TypedValue<'a>, CellFault>
     ensures found { IfOk result (λ value. IsIntegerOf width sign value (cell_value cell.entry)) }
-    ensures only { (value : TypedValue) → IsIntegerOf width sign value (cell_value cell.entry) → IsOk result }
-    ensures fault { IfErr result (λ fault. number_fault (byte_count width) (cell_value cell.entry) ≡ Some fault) }
+    ensures only { (value : TypedValue) → IsIntegerOf width sign value (cell_value cell.entry)
+        → IsOk result }
+    ensures fault { IfErr result (λ fault. number_fault (byte_count width) (cell_value cell.entry)
+        ≡ Some fault) }
 {
     Ok(TypedValue::Integer(Integer::read(width, sign, cell)?))
 }
@@ -153,10 +157,13 @@ fn read_integer<'a>(
 /// The value of a decimal's cell.
 fn read_decimal<'a>(numbers: Arguments, cell: Cell<'a>) -> Result<TypedValue<'a>, CellFault>
     requires { IsTrue (is_digits 65 numbers) }
-    ensures found { IfOk result (λ value. IsDecimalOf (first_number numbers) (second_number numbers) value (cell_value cell.entry)) }
-    ensures only { (value : TypedValue) → IsDecimalOf (first_number numbers) (second_number numbers) value (cell_value cell.entry) → IsOk result }
-    ensures fault { IfErr result (λ fault. fault ≡
-        bytes_fault (decimal_size (first_number numbers) (second_number numbers)) (cell_value cell.entry)) }
+    ensures found { IfOk result (λ value. IsDecimalOf (first_number numbers)
+        (second_number numbers) value (cell_value cell.entry)) }
+    ensures only { (value : TypedValue) → IsDecimalOf (first_number numbers)
+        (second_number numbers) value (cell_value cell.entry) → IsOk result }
+    ensures fault { IfErr result (λ fault. fault
+        ≡ bytes_fault (decimal_size (first_number numbers) (second_number numbers))
+        (cell_value cell.entry)) }
 {
     let Arguments::TwoNumbers(precision, scale) = numbers else {
         unreachable!();
@@ -187,7 +194,8 @@ fn read_double_cell<'a>(cell: Cell<'a>) -> Result<TypedValue<'a>, CellFault>
 /// The text of a cell, if it has at most so many bytes.
 fn read_text<'a>(most: usize, cell: Cell<'a>) -> Result<TypedValue<'a>, CellFault>
     ensures found { IfOk result (λ value. IsTextWithin most value (cell_value cell.entry)) }
-    ensures only { (value : TypedValue) → IsTextWithin most value (cell_value cell.entry) → IsOk result }
+    ensures only { (value : TypedValue) → IsTextWithin most value (cell_value cell.entry)
+        → IsOk result }
     ensures fault { IfErr result (λ fault. fault ≡ within_fault (cell_value cell.entry)) }
 {
     Ok(TypedValue::Text(bytes_within(most, cell)?))
@@ -196,7 +204,8 @@ fn read_text<'a>(most: usize, cell: Cell<'a>) -> Result<TypedValue<'a>, CellFaul
 /// The bytes of a cell, if there are at most so many.
 fn read_bytes<'a>(most: usize, cell: Cell<'a>) -> Result<TypedValue<'a>, CellFault>
     ensures found { IfOk result (λ value. AreBytesWithin most value (cell_value cell.entry)) }
-    ensures only { (value : TypedValue) → AreBytesWithin most value (cell_value cell.entry) → IsOk result }
+    ensures only { (value : TypedValue) → AreBytesWithin most value (cell_value cell.entry)
+        → IsOk result }
     ensures fault { IfErr result (λ fault. fault ≡ within_fault (cell_value cell.entry)) }
 {
     Ok(TypedValue::Bytes(bytes_within(most, cell)?))
@@ -204,8 +213,10 @@ fn read_bytes<'a>(most: usize, cell: Cell<'a>) -> Result<TypedValue<'a>, CellFau
 
 /// The bytes of a cell, if there are at most so many.
 fn bytes_within<'a>(most: usize, cell: Cell<'a>) -> Result<&'a [u8], CellFault>
-    ensures found { IfOk result (λ bytes. (length bytes.now ≤ most) × (cell_value cell.entry ≡ bytes_cell bytes.now)) }
-    ensures only { (bytes : List ℕ) → length bytes ≤ most → cell_value cell.entry ≡ bytes_cell bytes → IsOk result }
+    ensures found { IfOk result (λ bytes. (length bytes.now ≤ most)
+        × (cell_value cell.entry ≡ bytes_cell bytes.now)) }
+    ensures only { (bytes : List ℕ) → length bytes ≤ most → cell_value cell.entry ≡ bytes_cell bytes
+        → IsOk result }
     ensures fault { IfErr result (λ fault. fault ≡ within_fault (cell_value cell.entry)) }
 {
     let Cell::Bytes(bytes) = cell else {

@@ -129,7 +129,7 @@ fn has_sign(sign: Sign, integer: Integer) -> bool
 }
 
 /// Appends bytes.
-fn append(bytes: &[u8], out: &mut Vec<u8>) -> Result<(), AllocError>
+pub(crate) fn append(bytes: &[u8], out: &mut Vec<u8>) -> Result<(), AllocError>
     ensures ok { OnOk result (out.new.items ≡ out.old.items ++ bytes.now) }
     ensures err { OnErr result (out.new.items ≡ out.old.items) }
     ensures full { OnErr result (vec_capacity out.old < vec_len out.old + length bytes.now) }
@@ -139,7 +139,8 @@ fn append(bytes: &[u8], out: &mut Vec<u8>) -> Result<(), AllocError>
 
 /// What is answered of bytes that were appended, or were not.
 fn appended(done: Result<(), AllocError>) -> Result<Option<WrittenCell>, AllocError>
-    ensures { MatchResult done (λ _. result ≡ Ok (Some written.Bytes)) (λ error. result ≡ Err error) }
+    ensures { MatchResult done (λ _. result ≡ Ok (Some written.Bytes)) (λ error. result
+        ≡ Err error) }
 {
     match done {
         Ok(()) => Ok(Some(WrittenCell::Bytes)),

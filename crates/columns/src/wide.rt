@@ -20,9 +20,11 @@ pub enum Wide {
 
 /// The text in UTF-8 of bytes in one of these forms; `None` if they are no text in it.
 pub(crate) fn decode(alloc: Global, form: Wide, bytes: &[u8]) -> Result<Option<String>, AllocError>
-    ensures found { IfOk result (λ made. IfSome made (λ text. IsSpelled form bytes.now (string_bytes text))) }
+    ensures found { IfOk result (λ made. IfSome made
+        (λ text. IsSpelled form bytes.now (string_bytes text))) }
     ensures full { IfErr result (λ _. 0 < length bytes.now) }
-    ensures only { (text : List ℕ) → IsSpelled form bytes.now text → IfOk result (λ made. IsSomeAnd made (λ found. string_bytes found ≡ text)) }
+    ensures only { (text : List ℕ) → IsSpelled form bytes.now text
+        → IfOk result (λ made. IsSomeAnd made (λ found. string_bytes found ≡ text)) }
 {
     let mut text = String::with_capacity(alloc, bytes.len())?;
     let mut rest = bytes;
@@ -41,8 +43,9 @@ fn next_character(form: Wide, bytes: &[u8]) -> Option<(char, &[u8])>
     ensures is { IfSome result (λ next. IsTrue (has_character form next.0)) }
     ensures found { IfSome result (λ next. bytes.now ≡ wide_bytes form next.0 ++ next.1.now) }
     ensures shorter { IfSome result (λ next. length next.1.now < length bytes.now) }
-    ensures only { (c : ℕ) (rest : List ℕ) → IsTrue (has_character form c) → bytes.now ≡ wide_bytes form c ++ rest →
-        IsSomeAnd result (λ next. (next.0 ≡ c) × (next.1.now ≡ rest)) }
+    ensures only { (c : ℕ) (rest : List ℕ) → IsTrue (has_character form c)
+        → bytes.now ≡ wide_bytes form c ++ rest → IsSomeAnd result (λ next. (next.0 ≡ c)
+        × (next.1.now ≡ rest)) }
 {
     match form {
         Wide::TwoBytes => next_of_two(bytes),
@@ -57,8 +60,9 @@ fn next_unit(little: bool, bytes: &[u8]) -> Option<(u32, &[u8])>
     ensures small { IfSome result (λ next. next.0 < 65536) }
     ensures found { IfSome result (λ next. bytes.now ≡ unit_bytes little next.0 ++ next.1.now) }
     ensures shorter { IfSome result (λ next. length next.1.now + 2 ≡ length bytes.now) }
-    ensures only { (unit : ℕ) (rest : List ℕ) → unit < 65536 → bytes.now ≡ unit_bytes little unit ++ rest →
-        IsSomeAnd result (λ next. (next.0 ≡ unit) × (next.1.now ≡ rest)) }
+    ensures only { (unit : ℕ) (rest : List ℕ) → unit < 65536
+        → bytes.now ≡ unit_bytes little unit ++ rest
+        → IsSomeAnd result (λ next. (next.0 ≡ unit) × (next.1.now ≡ rest)) }
 {
     let [a, b, rest @ ..] = bytes else {
         return None;
@@ -76,8 +80,9 @@ fn next_of_two(bytes: &[u8]) -> Option<(char, &[u8])>
     ensures is { IfSome result (λ next. IsTrue (is_scalar_value next.0 && nat_lt next.0 65536)) }
     ensures found { IfSome result (λ next. bytes.now ≡ unit_bytes false next.0 ++ next.1.now) }
     ensures shorter { IfSome result (λ next. length next.1.now < length bytes.now) }
-    ensures only { (c : ℕ) (rest : List ℕ) → IsTrue (is_scalar_value c && nat_lt c 65536) → bytes.now ≡ unit_bytes false c ++ rest →
-        IsSomeAnd result (λ next. (next.0 ≡ c) × (next.1.now ≡ rest)) }
+    ensures only { (c : ℕ) (rest : List ℕ) → IsTrue (is_scalar_value c && nat_lt c 65536)
+        → bytes.now ≡ unit_bytes false c ++ rest → IsSomeAnd result (λ next. (next.0 ≡ c)
+        × (next.1.now ≡ rest)) }
 {
     let (unit, rest) = next_unit(false, bytes)?;
     Some((char_of(unit)?, rest))
@@ -96,8 +101,9 @@ fn next_of_units(little: bool, bytes: &[u8]) -> Option<(char, &[u8])>
     ensures is { IfSome result (λ next. IsTrue (is_scalar_value next.0)) }
     ensures found { IfSome result (λ next. bytes.now ≡ utf16_bytes little next.0 ++ next.1.now) }
     ensures shorter { IfSome result (λ next. length next.1.now < length bytes.now) }
-    ensures only { (c : ℕ) (rest : List ℕ) → IsTrue (is_scalar_value c) → bytes.now ≡ utf16_bytes little c ++ rest →
-        IsSomeAnd result (λ next. (next.0 ≡ c) × (next.1.now ≡ rest)) }
+    ensures only { (c : ℕ) (rest : List ℕ) → IsTrue (is_scalar_value c)
+        → bytes.now ≡ utf16_bytes little c ++ rest
+        → IsSomeAnd result (λ next. (next.0 ≡ c) × (next.1.now ≡ rest)) }
 {
     let (first, after) = next_unit(little, bytes)?;
     if let Some(character) = char_of(first) {
@@ -119,8 +125,9 @@ fn next_of_four(bytes: &[u8]) -> Option<(char, &[u8])>
     ensures is { IfSome result (λ next. IsTrue (is_scalar_value next.0)) }
     ensures found { IfSome result (λ next. bytes.now ≡ utf32_bytes next.0 ++ next.1.now) }
     ensures shorter { IfSome result (λ next. length next.1.now < length bytes.now) }
-    ensures only { (c : ℕ) (rest : List ℕ) → IsTrue (is_scalar_value c) → bytes.now ≡ utf32_bytes c ++ rest →
-        IsSomeAnd result (λ next. (next.0 ≡ c) × (next.1.now ≡ rest)) }
+    ensures only { (c : ℕ) (rest : List ℕ) → IsTrue (is_scalar_value c)
+        → bytes.now ≡ utf32_bytes c ++ rest → IsSomeAnd result (λ next. (next.0 ≡ c)
+        × (next.1.now ≡ rest)) }
 {
     let [0, a, b, c, rest @ ..] = bytes else {
         return None;

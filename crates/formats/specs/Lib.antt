@@ -1,1 +1,2 @@
+pub mod RowText
 pub mod TypeText

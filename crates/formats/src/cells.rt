@@ -1,5 +1,10 @@
 //! The cells of rows as they are printed.
 
+ghost use Rattle.std.specs.Prelude.{OnOk};
+ghost use Rattle.std.specs.Io.KnownBytes.{Appends};
+ghost use Rattle.binlog.specs.Cell.{cell_value};
+ghost use Rattle.formats.specs.RowText.{cell_text, after_comma, cells_text, row_text};
+
 use crate::hex::write_hex;
 use crate::name::write_table;
 use binlog::Cell;
@@ -8,7 +13,10 @@ use std::io;
 use std::io::Write;
 
 /// Writes a cell: `null`; a number in decimal digits, `/` and its width; or bytes as `x` and hexadecimal digits.
-fn write_cell<W: Write>(cell: Cell<'_>, out: &mut W) -> io::Result<()> {
+fn write_cell<W: Write>(cell: Cell<'_>, out: &mut W) -> io::Result<()>
+    ensures { OnOk result (Appends (W.contents out.old) (W.contents out.new)
+        (cell_text (cell_value cell.entry))) }
+{
     match cell {
         Cell::Null => write!(out, "null"),
         Cell::Number { value, width } => write!(out, "{value}/{width}"),
@@ -20,7 +28,10 @@ fn write_cell<W: Write>(cell: Cell<'_>, out: &mut W) -> io::Result<()> {
 }
 
 /// Writes a cell, after a comma if it is not the first.
-fn write_next<W: Write>(cell: Cell<'_>, first: bool, out: &mut W) -> io::Result<()> {
+fn write_next<W: Write>(cell: Cell<'_>, first: bool, out: &mut W) -> io::Result<()>
+    ensures { OnOk result (Appends (W.contents out.old) (W.contents out.new)
+        (after_comma first (cell_text (cell_value cell.entry)))) }
+{
     if !first {
         write!(out, ",")?;
     }
@@ -28,7 +39,10 @@ fn write_next<W: Write>(cell: Cell<'_>, first: bool, out: &mut W) -> io::Result<
 }
 
 /// Writes the cells of a row, separated by commas.
-fn write_cells<W: Write>(row: &ImageRef<'_>, out: &mut W) -> io::Result<()> {
+fn write_cells<W: Write>(row: &ImageRef<'_>, out: &mut W) -> io::Result<()>
+    ensures { OnOk result (Appends (W.contents out.old) (W.contents out.new)
+        (cells_text row.now)) }
+{
     let mut first = true;
     for cell in row.cells() {
         write_next(cell, first, out)?;
@@ -65,7 +79,11 @@ pub fn write_row<W: Write>(
     count: u64,
     image: &ImageRef<'_>,
     out: &mut W,
-) -> io::Result<()> {
+) -> io::Result<()>
+    // Where it is done, the output has this line after what it had, if its contract gives its bytes.
+    ensures { OnOk result (Appends (W.contents out.old) (W.contents out.new)
+        (row_text schema.now table.now count image.now)) }
+{
     write_table(schema, table, out)?;
     write!(out, " {count} ")?;
     write_cells(image, out)?;

@@ -4,7 +4,8 @@
 //! event of a stream. [`write_named`] is a message, in which [`Shown`] is a name or another argument; [`Details`] says where
 //! in a transaction a connection has ended, [`Progress`] how far a command has come, and [`Chosen`] which tables had no row.
 //!
-//! Of what is printed only the text of a set ([`text_of`]) and that of the type of a column ([`TypeText`]) have a contract.
+//! Of what is printed the text of a set ([`text_of`]), that of the type of a column ([`TypeText`]) and the line of a row
+//! ([`write_row`]) have a contract.
 #![tactic(auto)]
 
 mod advice;

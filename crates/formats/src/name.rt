@@ -1,6 +1,10 @@
 //! Names of schemas and tables, as they are printed and as an argument gives them; and the texts of arguments and of the source
 //! in messages.
 
+ghost use Rattle.std.specs.Prelude.{OnOk, flat_map};
+ghost use Rattle.std.specs.Io.KnownBytes.{Appends};
+ghost use Rattle.formats.specs.RowText.{name_byte, qualified_text};
+
 use crate::hex::{byte_of, digits_of};
 use std::alloc::{AllocError, Global};
 use std::io::Write;
@@ -30,24 +34,35 @@ impl fmt::Display for Shown<'_> {
     }
 }
 
-/// Writes a name: digits, letters, `_` and `$` as they are, every other byte as `%` and two hexadecimal digits.
-pub(crate) fn write_name<W: Write>(name: &[u8], out: &mut W) -> io::Result<()> {
-    for byte in name {
-        match *byte {
-            plain @ (b'0'..=b'9' | b'A'..=b'Z' | b'a'..=b'z' | b'_' | b'$') => {
-                out.write_all(&[plain])?
-            }
-            other => {
-                let [high, low] = digits_of(other);
-                out.write_all(&[MARK, high, low])?;
-            }
+/// Writes a byte of a name.
+fn write_name_byte<W: Write>(byte: u8, out: &mut W) -> io::Result<()>
+    ensures { OnOk result (Appends (W.contents out.old) (W.contents out.new) (name_byte byte)) }
+{
+    match byte {
+        b'0'..=b'9' | b'A'..=b'Z' | b'a'..=b'z' | b'_' | b'$' => out.write_all(&[byte]),
+        _ => {
+            let [high, low] = digits_of(byte);
+            out.write_all(&[MARK, high, low])
         }
+    }
+}
+
+/// Writes a name: digits, letters, `_` and `$` as they are, every other byte as `%` and two hexadecimal digits.
+pub(crate) fn write_name<W: Write>(name: &[u8], out: &mut W) -> io::Result<()>
+    ensures { OnOk result (Appends (W.contents out.old) (W.contents out.new)
+        (flat_map name_byte name.now)) }
+{
+    for byte in name {
+        write_name_byte(*byte, out)?;
     }
     Ok(())
 }
 
 /// Writes the name of a table after that of its schema.
-pub fn write_table<W: Write>(schema: &[u8], table: &[u8], out: &mut W) -> io::Result<()> {
+pub fn write_table<W: Write>(schema: &[u8], table: &[u8], out: &mut W) -> io::Result<()>
+    ensures { OnOk result (Appends (W.contents out.old) (W.contents out.new)
+        (qualified_text schema.now table.now)) }
+{
     write_name(schema, out)?;
     write!(out, ".")?;
     write_name(table, out)

@@ -90,7 +90,8 @@ impl Changes {
 
     /// Appends: the row is added to the table. The only error is `Memory`, and then the changes are as they were.
     pub fn insert(&mut self, table: &Rc<TableDef>, after: &Image) -> Result<(), GatherFault>
-        ensures ok { OnOk result (self.new ≡ self.old ++ insert table.now.value.schema.items table.now.value.table.items after.now ∷ []) }
+        ensures ok { OnOk result (self.new ≡ self.old ++ insert table.now.value.schema.items
+            table.now.value.table.items after.now ∷ []) }
         ensures err { OnErr result (result ≡ Err GatherFault.Memory) }
         ensures kept { OnErr result (self.new ≡ self.old) }
     {
@@ -99,7 +100,8 @@ impl Changes {
 
     /// Appends: the row is removed from the table. The only error is `Memory`, and then the changes are as they were.
     pub fn delete(&mut self, table: &Rc<TableDef>, before: &Image) -> Result<(), GatherFault>
-        ensures ok { OnOk result (self.new ≡ self.old ++ delete table.now.value.schema.items table.now.value.table.items before.now ∷ []) }
+        ensures ok { OnOk result (self.new ≡ self.old ++ delete table.now.value.schema.items
+            table.now.value.table.items before.now ∷ []) }
         ensures err { OnErr result (result ≡ Err GatherFault.Memory) }
         ensures kept { OnErr result (self.new ≡ self.old) }
     {
@@ -114,7 +116,8 @@ impl Changes {
         before: &Image,
         after: &Image,
     ) -> Result<(), GatherFault>
-        ensures ok { OnOk result (self.new ≡ self.old ++ update table.now.value.schema.items table.now.value.table.items before.now after.now ∷ []) }
+        ensures ok { OnOk result (self.new ≡ self.old ++ update table.now.value.schema.items
+            table.now.value.table.items before.now after.now ∷ []) }
         ensures err { OnErr result (result ≡ Err GatherFault.Memory) }
         ensures kept { OnErr result (self.new ≡ self.old) }
     {
@@ -129,7 +132,8 @@ impl Changes {
         pair: &RowPair<'_>,
     ) -> Result<(), GatherFault>
         requires { HasImages (pair_value pair.now) }
-        ensures ok { (id : ℕ) → OnOk result (self.new ≡ self.old ++ change_of (table_of id table.now) (pair_value pair.now) ∷ []) }
+        ensures ok { (id : ℕ) → OnOk result (self.new
+            ≡ self.old ++ change_of (table_of id table.now) (pair_value pair.now) ∷ []) }
         ensures err { OnErr result (result ≡ Err GatherFault.Memory) }
         ensures gone { OnErr result (self.new ≡ []) }
     {
@@ -147,7 +151,9 @@ impl Changes {
         requires before { IsAbsentOrImage before.now }
         requires after { IsAbsentOrImage after.now }
         requires some { 0 < length before.now + length after.now }
-        ensures ok { OnOk result (self.new ≡ self.old ++ change_by_size table.now.value (length before.now) (length after.now) (cells_of_image before.now) (cells_of_image after.now) ∷ []) }
+        ensures ok { OnOk result (self.new ≡ self.old ++ change_by_size table.now.value
+            (length before.now) (length after.now) (cells_of_image before.now)
+            (cells_of_image after.now) ∷ []) }
         ensures err { OnErr result (result ≡ Err GatherFault.Memory) }
         ensures kept { OnErr result (self.new ≡ self.old) }
     {
@@ -179,7 +185,10 @@ fn push_pair(
 ) -> Result<(), GatherFault>
     requires entries { AreEntries entries.old.items images.old.items }
     requires images { HasImages (pair_value pair.now) }
-    ensures ok { (id : ℕ) → OnOk result (AreEntries entries.new.items images.new.items × (changes_in entries.new.items images.new.items ≡ changes_in entries.old.items images.old.items ++ change_of (table_of id table.now) (pair_value pair.now) ∷ [])) }
+    ensures ok { (id : ℕ) → OnOk result (AreEntries entries.new.items images.new.items
+        × (changes_in entries.new.items images.new.items
+        ≡ changes_in entries.old.items images.old.items ++ change_of (table_of id table.now)
+        (pair_value pair.now) ∷ [])) }
     ensures err { OnErr result (result ≡ Err Memory) }
 {
     match pair {
@@ -206,7 +215,8 @@ fn push_entry(
     after: u32,
     entries: &mut Vec<Entry>,
 ) -> Result<(), GatherFault>
-    ensures ok { OnOk result (AddsEntry table.now.value before after entries.old.items entries.new.items) }
+    ensures ok { OnOk result (AddsEntry table.now.value before after entries.old.items
+        entries.new.items) }
     ensures err { OnErr result (result ≡ Err Memory) }
 {
     let table = table.clone()?;

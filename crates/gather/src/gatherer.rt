@@ -40,7 +40,8 @@ impl Gatherer {
 
     /// How many changes the open transaction has so far; 0 if none is open. It takes no memory.
     pub fn pending(&self) -> usize
-        ensures { (events : List EventValue) (ds : List DeliveryValue) → HasGathered events ds self.now → ArePending events result }
+        ensures { (events : List EventValue) (ds : List DeliveryValue)
+            → HasGathered events ds self.now → ArePending events result }
     {
         match &self.state {
             State::Inside(current) => current.changes.len(),
@@ -54,12 +55,16 @@ impl Gatherer {
     /// whichever applies first in this order; `Memory` if memory runs out, only at a table map or a rows event that is in
     /// place. After a fault each call answers `Ended`.
     pub fn event(&mut self, event: &Event<'_>) -> Result<Option<Delivery>, GatherFault>
-        ensures taken { (events : List EventValue) (ds : List DeliveryValue) → HasGathered events ds self.old →
-            IfOk result (λ delivery. HasGathered (events ++ event_value event.now ∷ []) (ds ++ delivered delivery) self.new) }
-        ensures fault { (events : List EventValue) (ds : List DeliveryValue) → HasGathered events ds self.old →
-            IfErr result (λ fault. (fault ≡ GatherFault.Memory) ⊎ IsFault events (event_value event.now) fault) }
-        ensures memory { (events : List EventValue) (ds : List DeliveryValue) → HasGathered events ds self.old →
-            IfErr result (λ fault. fault ≡ GatherFault.Memory → IsKept events (event_value event.now)) }
+        ensures taken { (events : List EventValue) (ds : List DeliveryValue)
+            → HasGathered events ds self.old → IfOk result
+            (λ delivery. HasGathered (events ++ event_value event.now ∷ [])
+            (ds ++ delivered delivery) self.new) }
+        ensures fault { (events : List EventValue) (ds : List DeliveryValue)
+            → HasGathered events ds self.old → IfErr result (λ fault. (fault ≡ GatherFault.Memory)
+            ⊎ IsFault events (event_value event.now) fault) }
+        ensures memory { (events : List EventValue) (ds : List DeliveryValue)
+            → HasGathered events ds self.old → IfErr result (λ fault. fault ≡ GatherFault.Memory
+            → IsKept events (event_value event.now)) }
         ensures ended { HasAnsweredFault self.old → result ≡ Err GatherFault.Ended }
         ensures err { OnErr result (HasAnsweredFault self.new) }
     {
@@ -74,12 +79,18 @@ impl Gatherer {
 
     /// Takes an event, depending on the state.
     fn take(&mut self, event: &Event<'_>) -> Result<Option<Delivery>, GatherFault>
-        ensures taken { (events : List EventValue) (ds : List DeliveryValue) → Brings events ds self.old.formatted self.old.state →
-            IfOk result (λ delivery. Brings (events ++ event_value event.now ∷ []) (ds ++ delivered delivery) self.new.formatted self.new.state) }
-        ensures fault { (events : List EventValue) (ds : List DeliveryValue) → Brings events ds self.old.formatted self.old.state →
-            IfErr result (λ fault. (fault ≡ GatherFault.Memory) ⊎ IsFault events (event_value event.now) fault) }
-        ensures memory { (events : List EventValue) (ds : List DeliveryValue) → Brings events ds self.old.formatted self.old.state →
-            IfErr result (λ fault. fault ≡ GatherFault.Memory → IsKept events (event_value event.now)) }
+        ensures taken { (events : List EventValue) (ds : List DeliveryValue)
+            → Brings events ds self.old.formatted self.old.state
+            → IfOk result (λ delivery. Brings (events ++ event_value event.now ∷ [])
+            (ds ++ delivered delivery) self.new.formatted self.new.state) }
+        ensures fault { (events : List EventValue) (ds : List DeliveryValue)
+            → Brings events ds self.old.formatted self.old.state
+            → IfErr result (λ fault. (fault ≡ GatherFault.Memory)
+            ⊎ IsFault events (event_value event.now) fault) }
+        ensures memory { (events : List EventValue) (ds : List DeliveryValue)
+            → Brings events ds self.old.formatted self.old.state
+            → IfErr result (λ fault. fault ≡ GatherFault.Memory
+            → IsKept events (event_value event.now)) }
         ensures ended { self.new.ended ≡ self.old.ended }
     {
         if lacks_format(self.formatted, event) {

@@ -119,7 +119,8 @@ impl<'a> Model for ImageRef<'a> {
 impl<'a> ImageRef<'a> {
     /// The image that these bytes are, or `None` if they are not one. It takes no memory.
     pub fn read(bytes: &'a [u8]) -> Option<ImageRef<'a>>
-        ensures { MatchOption result ((cells : List CellValue) → IsImage cells bytes.now → ⊥) (λ made. IsImage made bytes.now) }
+        ensures { MatchOption result ((cells : List CellValue) → IsImage cells bytes.now
+            → ⊥) (λ made. IsImage made bytes.now) }
     {
         if !is_image(bytes) {
             return None;

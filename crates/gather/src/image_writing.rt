@@ -11,9 +11,9 @@ use binlog::{Cell, Row, number_fits};
 
 /// How many bytes the image of the cells takes, if they have one.
 pub(crate) fn image_size(cells: &[Cell<'_>]) -> Option<usize>
-    ensures { MatchOption result
-        (HasImage (cell_values cells.now) → ⊥)
-        (λ size. (size ≡ length (image (cell_values cells.now))) × HasImage (cell_values cells.now)) }
+    ensures { MatchOption result (HasImage (cell_values cells.now)
+        → ⊥) (λ size. (size ≡ length (image (cell_values cells.now)))
+        × HasImage (cell_values cells.now)) }
 {
     if cells.len() > 65_535 {
         return None;
@@ -62,7 +62,8 @@ pub(crate) fn write_row(row: &Row<'_>, out: &mut Vec<u8>) -> Result<(), GatherFa
 /// Sets the number of cells of an image that begins at this offset and whose cells are written.
 fn set_count(start: usize, count: u16, out: &mut Vec<u8>)
     requires { start + 2 ≤ length out.old.items }
-    ensures { out.new.items ≡ set (set out.old.items start (count % 256)) (start + 1) (count / 256 % 256) }
+    ensures { out.new.items ≡ set (set out.old.items start (count % 256)) (start + 1)
+        (count / 256 % 256) }
 {
     let [low, high] = count.to_le_bytes();
     out[start] = low;
@@ -116,7 +117,8 @@ fn write_cell(cell: Cell<'_>, out: &mut Vec<u8>) -> Result<(), GatherFault>
 #[inline(always)]
 fn write_number(value: u64, width: u8, out: &mut Vec<u8>) -> Result<(), GatherFault>
     requires { HasCellImage (number_cell value width) }
-    ensures ok { OnOk result (out.new.items ≡ out.old.items ++ cell_image (number_cell value width)) }
+    ensures ok { OnOk result (out.new.items ≡ out.old.items ++ cell_image
+        (number_cell value width)) }
     ensures err { OnErr result (result ≡ Err Memory) }
 {
     let bytes = value.to_le_bytes();

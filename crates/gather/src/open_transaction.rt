@@ -42,7 +42,8 @@ impl OpenTransaction {
     /// Takes a table map. The only error is `Memory`.
     pub(crate) fn take_map(&mut self, alloc: Global, map: &TableMap<'_>) -> Result<(), GatherFault>
         ensures gtid { self.new.gtid ≡ self.old.gtid }
-        ensures keeps { (body : List EventValue) → HasTaken body self.old → OnOk result (HasTaken (body ++ table_map (table_value map.now) ∷ []) self.new) }
+        ensures keeps { (body : List EventValue) → HasTaken body self.old
+            → OnOk result (HasTaken (body ++ table_map (table_value map.now) ∷ []) self.new) }
         ensures err { OnErr result (result ≡ Err GatherFault.Memory) }
     {
         let table = match map.copy(alloc) {
@@ -56,7 +57,8 @@ impl OpenTransaction {
     /// Takes a table map of a table that is not followed. The only error is `Memory`.
     pub(crate) fn take_other(&mut self, id: u64) -> Result<(), GatherFault>
         ensures gtid { self.new.gtid ≡ self.old.gtid }
-        ensures keeps { (body : List EventValue) → HasTaken body self.old → OnOk result (HasTaken (body ++ other_map id ∷ []) self.new) }
+        ensures keeps { (body : List EventValue) → HasTaken body self.old
+            → OnOk result (HasTaken (body ++ other_map id ∷ []) self.new) }
         ensures err { OnErr result (result ≡ Err GatherFault.Memory) }
     {
         self.maps.insert(id, None)?;
@@ -67,9 +69,11 @@ impl OpenTransaction {
     /// are `UnknownTable`, `Event` and `Memory`.
     pub(crate) fn take_rows(&mut self, event: &RowsEvent<'_>) -> Result<(), GatherFault>
         ensures gtid { self.new.gtid ≡ self.old.gtid }
-        ensures keeps { (body : List EventValue) → HasTaken body self.old → OnOk result (HasTaken (body ++ rows (rows_value event.now) ∷ []) self.new) }
-        ensures fault { (body : List EventValue) → HasTaken body self.old →
-            IfErr result (λ fault. (fault ≡ GatherFault.Memory) ⊎ IsRowsFault (map_of body event.now.id) (rows_value event.now) fault) }
+        ensures keeps { (body : List EventValue) → HasTaken body self.old
+            → OnOk result (HasTaken (body ++ rows (rows_value event.now) ∷ []) self.new) }
+        ensures fault { (body : List EventValue) → HasTaken body self.old
+            → IfErr result (λ fault. (fault ≡ GatherFault.Memory)
+            ⊎ IsRowsFault (map_of body event.now.id) (rows_value event.now) fault) }
     {
         match self.maps.get(&event.id) {
             None => Err(GatherFault::UnknownTable(event.id)),

@@ -17,8 +17,10 @@ pub(crate) fn push_changes(
     event: &RowsEvent<'_>,
     changes: &mut Changes,
 ) -> Result<(), GatherFault>
-    ensures ok { (id : ℕ) → OnOk result (AppendsChanges (table_of id table.now) (rows_value event.now) changes.old changes.new) }
-    ensures fault { (id : ℕ) → IfErr result (λ fault. (fault ≡ GatherFault.Memory) ⊎ IsRowsFault (Some (Some (table_of id table.now))) (rows_value event.now) fault) }
+    ensures ok { (id : ℕ) → OnOk result (AppendsChanges (table_of id table.now)
+        (rows_value event.now) changes.old changes.new) }
+    ensures fault { (id : ℕ) → IfErr result (λ fault. (fault ≡ GatherFault.Memory)
+        ⊎ IsRowsFault (Some (Some (table_of id table.now))) (rows_value event.now) fault) }
 {
     let event = *event;
     for pair in event.rows(table)? {

@@ -30,7 +30,8 @@ pub(crate) enum State {
 
 /// Takes BEGIN, which must come right after the GTID.
 pub(crate) fn take_begin(state: &mut State, alloc: Global) -> Result<Option<Delivery>, GatherFault>
-    ensures taken { IfOk result (λ delivery. StepsTo begin state.old state.new (delivered delivery)) }
+    ensures taken { IfOk result (λ delivery. StepsTo begin state.old state.new
+        (delivered delivery)) }
     ensures fault { IfErr result (FaultsAt begin state.old) }
     ensures no_memory { IfErr result (λ fault. fault ≢ GatherFault.Memory) }
 {
@@ -49,7 +50,8 @@ pub(crate) fn take_map(
     alloc: Global,
     map: &TableMap<'_>,
 ) -> Result<Option<Delivery>, GatherFault>
-    ensures taken { IfOk result (λ delivery. StepsTo (table_map (table_value map.now)) state.old state.new (delivered delivery)) }
+    ensures taken { IfOk result (λ delivery. StepsTo
+        (table_map (table_value map.now)) state.old state.new (delivered delivery)) }
     ensures fault { IfErr result (FaultsAt (table_map (table_value map.now)) state.old) }
     ensures memory { IfErr result (λ fault. fault ≡ GatherFault.Memory → IsInside state.old) }
 {
@@ -64,7 +66,8 @@ pub(crate) fn take_map(
 
 /// Takes a table map of a table that is not followed, which must come after BEGIN.
 pub(crate) fn take_other(state: &mut State, id: u64) -> Result<Option<Delivery>, GatherFault>
-    ensures taken { IfOk result (λ delivery. StepsTo (other_map id) state.old state.new (delivered delivery)) }
+    ensures taken { IfOk result (λ delivery. StepsTo (other_map id) state.old state.new
+        (delivered delivery)) }
     ensures fault { IfErr result (FaultsAt (other_map id) state.old) }
     ensures memory { IfErr result (λ fault. fault ≡ GatherFault.Memory → IsInside state.old) }
 {
@@ -82,7 +85,8 @@ pub(crate) fn take_rows(
     state: &mut State,
     event: &RowsEvent<'_>,
 ) -> Result<Option<Delivery>, GatherFault>
-    ensures taken { IfOk result (λ delivery. StepsTo (rows (rows_value event.now)) state.old state.new (delivered delivery)) }
+    ensures taken { IfOk result (λ delivery. StepsTo
+        (rows (rows_value event.now)) state.old state.new (delivered delivery)) }
     ensures fault { IfErr result (FaultsAt (rows (rows_value event.now)) state.old) }
     ensures memory { IfErr result (λ fault. fault ≡ GatherFault.Memory → IsInside state.old) }
 {
@@ -97,8 +101,10 @@ pub(crate) fn take_rows(
 
 /// Takes an event of this type that ends a transaction, which must come after BEGIN.
 pub(crate) fn take_end(state: &mut State, code: u8) -> Result<Option<Delivery>, GatherFault>
-    ensures taken { (e : EventValue) → is_end e ≡ true → IfOk result (λ delivery. StepsTo e state.old state.new (delivered delivery)) }
-    ensures fault { (e : EventValue) → is_end e ≡ true → type_of e ≡ code → IfErr result (FaultsAt e state.old) }
+    ensures taken { (e : EventValue) → is_end e ≡ true
+        → IfOk result (λ delivery. StepsTo e state.old state.new (delivered delivery)) }
+    ensures fault { (e : EventValue) → is_end e ≡ true → type_of e ≡ code
+        → IfErr result (FaultsAt e state.old) }
     ensures no_memory { IfErr result (λ fault. fault ≢ GatherFault.Memory) }
 {
     match mem::replace(state, State::Between) {

@@ -19,8 +19,10 @@ const FIRST_POSITION: u64 = 4;
 /// the vector as it was.
 pub fn query(text: &[u8], out: &mut Vec<u8>) -> Result<(), GreetFault>
     ensures ok { OnOk result (out.new.items ≡ out.old.items ++ query_bytes text.now) }
-    ensures err { OnErr result ((result ≡ Err GreetFault.Memory) × (out.new.items ≡ out.old.items)) }
-    ensures full { OnErr result (vec_capacity out.old < vec_len out.old + length (query_bytes text.now)) }
+    ensures err { OnErr result ((result ≡ Err GreetFault.Memory)
+        × (out.new.items ≡ out.old.items)) }
+    ensures full { OnErr result (vec_capacity out.old
+        < vec_len out.old + length (query_bytes text.now)) }
 {
     append(&[&[COM_QUERY], text], out)
 }
@@ -49,9 +51,12 @@ impl<'a> Dump<'a> {
     /// room and cannot grow. It leaves the vector as it was.
     pub fn write(&self, out: &mut Vec<u8>) -> Result<(), GreetFault>
         requires { FitsDump (dump_value self.now) }
-        ensures ok { OnOk result (out.new.items ≡ out.old.items ++ dump_bytes (dump_value self.now) [] (little_bytes 8 4)) }
-        ensures err { OnErr result ((result ≡ Err GreetFault.Memory) × (out.new.items ≡ out.old.items)) }
-        ensures full { OnErr result (vec_capacity out.old < vec_len out.old + length (dump_bytes (dump_value self.now) [] (little_bytes 8 4))) }
+        ensures ok { OnOk result (out.new.items ≡ out.old.items ++ dump_bytes
+            (dump_value self.now) [] (little_bytes 8 4)) }
+        ensures err { OnErr result ((result ≡ Err GreetFault.Memory)
+            × (out.new.items ≡ out.old.items)) }
+        ensures full { OnErr result (vec_capacity out.old
+            < vec_len out.old + length (dump_bytes (dump_value self.now) [] (little_bytes 8 4))) }
     {
         let size = self.set.len() as u32;
         append(
@@ -74,7 +79,8 @@ impl<'a> Dump<'a> {
     /// is not that of the command.
     pub fn read(payload: &'a [u8]) -> Result<Dump<'a>, GreetFault>
         ensures found { IfOk result (λ dump. IsDump (dump_value dump) payload.now) }
-        ensures only { (d : DumpValue) → IsDump d payload.now → MatchResult result (λ dump. dump_value dump ≡ d) (λ _. ⊥) }
+        ensures only { (d : DumpValue) → IsDump d payload.now
+            → MatchResult result (λ dump. dump_value dump ≡ d) (λ _. ⊥) }
         ensures fault { IfErr result (Refuses (dump_refusal payload.now)) }
         ensures no_memory { IfErr result (λ fault. fault ≢ GreetFault.Memory) }
     {
@@ -88,10 +94,14 @@ impl<'a> Dump<'a> {
     /// Reads the fields after the first byte, if they have exactly the lengths that they state.
     fn read_fields(body: &'a [u8]) -> Result<Dump<'a>, GreetFault>
         ensures flags { IfOk result (λ dump. dump.flags ≡ little_number 2 body.now) }
-        ensures server_id { IfOk result (λ dump. dump.server_id ≡ little_number 4 (drop 2 body.now)) }
-        ensures set { IfOk result (λ dump. dump.set.now ≡ drop (22 + dump_name_size body.now) body.now) }
-        ensures whole { IfOk result (λ _. length body.now ≡ 22 + dump_name_size body.now + dump_set_size body.now) }
-        ensures fault { IfErr result (λ fault. (fault ≡ GreetFault.Truncated) × (length body.now ≢ 22 + dump_name_size body.now + dump_set_size body.now)) }
+        ensures server_id { IfOk result (λ dump. dump.server_id
+            ≡ little_number 4 (drop 2 body.now)) }
+        ensures set { IfOk result (λ dump. dump.set.now
+            ≡ drop (22 + dump_name_size body.now) body.now) }
+        ensures whole { IfOk result (λ _. length body.now
+            ≡ 22 + dump_name_size body.now + dump_set_size body.now) }
+        ensures fault { IfErr result (λ fault. (fault ≡ GreetFault.Truncated)
+            × (length body.now ≢ 22 + dump_name_size body.now + dump_set_size body.now)) }
     {
         if body.len() < 22 {
             return Err(GreetFault::Truncated);

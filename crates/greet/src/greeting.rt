@@ -70,9 +70,12 @@ impl Greeting {
     /// alone: of these a text is kept.
     pub fn read(alloc: Global, payload: &[u8]) -> Result<Greeting, GreetFault>
         ensures found { IfOk result (λ greeting. IsGreeting (greeting_value greeting) payload.now) }
-        ensures only { (g : GreetingValue) → IsGreeting g payload.now → MatchResult result (λ greeting. greeting_value greeting ≡ g) (λ fault. fault ≡ GreetFault.Memory) }
+        ensures only { (g : GreetingValue) → IsGreeting g payload.now
+            → MatchResult result (λ greeting. greeting_value greeting ≡ g) (λ fault. fault
+            ≡ GreetFault.Memory) }
         ensures fault { IfErr result (Refuses (greeting_refusal payload.now)) }
-        ensures memory { result ≡ Err GreetFault.Memory → HasErr payload.now ⊎ HasGreeting payload.now }
+        ensures memory { result ≡ Err GreetFault.Memory
+            → HasErr payload.now ⊎ HasGreeting payload.now }
     {
         match payload {
             [] => Err(GreetFault::Truncated),
@@ -86,9 +89,12 @@ impl Greeting {
     /// the vector as it was.
     pub fn write(&self, out: &mut Vec<u8>) -> Result<(), GreetFault>
         requires { FitsGreeting (greeting_value self.now) }
-        ensures ok { OnOk result (out.new.items ≡ out.old.items ++ greeting_bytes (greeting_value self.now)) }
-        ensures err { OnErr result ((result ≡ Err GreetFault.Memory) × (out.new.items ≡ out.old.items)) }
-        ensures full { OnErr result (vec_capacity out.old < vec_len out.old + length (greeting_bytes (greeting_value self.now))) }
+        ensures ok { OnOk result (out.new.items ≡ out.old.items ++ greeting_bytes
+            (greeting_value self.now)) }
+        ensures err { OnErr result ((result ≡ Err GreetFault.Memory)
+            × (out.new.items ≡ out.old.items)) }
+        ensures full { OnErr result (vec_capacity out.old
+            < vec_len out.old + length (greeting_bytes (greeting_value self.now))) }
     {
         let [a, b, c, d] = self.thread.to_le_bytes();
         let (first, second) = self.scramble.split_at(8);
@@ -108,7 +114,9 @@ impl Greeting {
 
     /// The bytes between the two parts of the scramble.
     fn middle(&self) -> [u8; 19]
-        ensures { result ≡ 0 ∷ little_bytes 2 self.now.capabilities ++ self.now.charset ∷ little_bytes 2 self.now.status ++ little_bytes 2 (self.now.capabilities / 2 ^ 16) ++ 21 ∷ replicate 10 0 }
+        ensures { result ≡ 0 ∷ little_bytes 2 self.now.capabilities ++ self.now.charset
+            ∷ little_bytes 2 self.now.status ++ little_bytes 2
+            (self.now.capabilities / 2 ^ 16) ++ 21 ∷ replicate 10 0 }
     {
         let [a, b, c, d] = self.capabilities.to_le_bytes();
         let [e, f] = self.status.to_le_bytes();
@@ -121,7 +129,8 @@ impl Greeting {
 
 /// Reads the bytes after the first.
 fn read_body(alloc: Global, body: &[u8]) -> Result<Greeting, GreetFault>
-    ensures found { IfOk result (λ greeting. IsGreeting (greeting_value greeting) (handshake_v10 ∷ body.now)) }
+    ensures found { IfOk result (λ greeting. IsGreeting (greeting_value greeting)
+        (handshake_v10 ∷ body.now)) }
     ensures fault { IfErr result (Refuses (fields_refusal (after_zero body.now))) }
     ensures memory { result ≡ Err GreetFault.Memory → HasGreeting (handshake_v10 ∷ body.now) }
 {
@@ -163,10 +172,13 @@ impl<'a> Fixed<'a> {
         ensures long { IfOk result (λ _. 31 ≤ length fields.now) }
         ensures thread { IfOk result (λ fixed. fixed.thread ≡ little_number 4 fields.now) }
         ensures first { IfOk result (λ fixed. fixed.first.now ≡ take 8 (drop 4 fields.now)) }
-        ensures capabilities { IfOk result (λ fixed. fixed.capabilities ≡ little_number 2 (drop 13 fields.now) + 2 ^ 16 * little_number 2 (drop 18 fields.now)) }
+        ensures capabilities { IfOk result (λ fixed. fixed.capabilities
+            ≡ little_number 2 (drop 13 fields.now) + 2 ^ 16 * little_number 2
+            (drop 18 fields.now)) }
         ensures has_needed { IfOk result (λ fixed. bit_and fixed.capabilities needed ≡ needed) }
         ensures charset { IfOk result (λ fixed. fixed.charset ≡ slice_index fields.now 15) }
-        ensures status { IfOk result (λ fixed. fixed.status ≡ little_number 2 (drop 16 fields.now)) }
+        ensures status { IfOk result (λ fixed. fixed.status
+            ≡ little_number 2 (drop 16 fields.now)) }
         ensures size { IfOk result (λ fixed. fixed.size ≡ slice_index fields.now 20) }
         ensures fault { IfErr result (Refuses (fields_refusal fields.now)) }
         ensures no_memory { IfErr result (λ fault. fault ≢ GreetFault.Memory) }

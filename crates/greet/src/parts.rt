@@ -28,9 +28,12 @@ pub(crate) fn is_text(bytes: &[u8]) -> bool
 /// Appends the parts, one after the other. The only error is `Memory`: the vector lacks the room for
 /// them and cannot grow. It leaves the vector as it was.
 pub(crate) fn append(parts: &[&[u8]], out: &mut Vec<u8>) -> Result<(), GreetFault>
-    ensures ok { OnOk result (out.new.items ≡ out.old.items ++ flat_map (λ part. part.now) parts.now) }
-    ensures err { OnErr result ((result ≡ Err GreetFault.Memory) × (out.new.items ≡ out.old.items)) }
-    ensures full { OnErr result (vec_capacity out.old < vec_len out.old + length (flat_map (λ part. part.now) parts.now)) }
+    ensures ok { OnOk result (out.new.items ≡ out.old.items ++ flat_map
+        (λ part. part.now) parts.now) }
+    ensures err { OnErr result ((result ≡ Err GreetFault.Memory)
+        × (out.new.items ≡ out.old.items)) }
+    ensures full { OnErr result (vec_capacity out.old
+        < vec_len out.old + length (flat_map (λ part. part.now) parts.now)) }
 {
     let len = out.len();
     for part in parts {

@@ -37,9 +37,13 @@ impl AuthReply {
     /// is kept: an allocation was refused.
     pub fn read(alloc: Global, payload: &[u8]) -> Result<AuthReply, GreetFault>
         ensures ok { result ≡ Ok AuthReply.Ok → IsOkPacket payload.now }
-        ensures switch { (scramble : List ℕ) → result ≡ Ok (AuthReply.Switch scramble) → IsSwitch scramble payload.now }
-        ensures only_ok { IsOkPacket payload.now → MatchResult result (λ reply. reply ≡ AuthReply.Ok) (λ fault. fault ≡ GreetFault.Memory) }
-        ensures only_switch { (scramble : List ℕ) → IsSwitch scramble payload.now → MatchResult result (λ reply. reply ≡ AuthReply.Switch scramble) (λ fault. fault ≡ GreetFault.Memory) }
+        ensures switch { (scramble : List ℕ) → result ≡ Ok (AuthReply.Switch scramble)
+            → IsSwitch scramble payload.now }
+        ensures only_ok { IsOkPacket payload.now → MatchResult result (λ reply. reply
+            ≡ AuthReply.Ok) (λ fault. fault ≡ GreetFault.Memory) }
+        ensures only_switch { (scramble : List ℕ) → IsSwitch scramble payload.now
+            → MatchResult result (λ reply. reply ≡ AuthReply.Switch scramble) (λ fault. fault
+            ≡ GreetFault.Memory) }
         ensures fault { IfErr result (Refuses (reply_refusal payload.now)) }
         ensures memory { result ≡ Err GreetFault.Memory → HasErr payload.now }
     {
@@ -85,7 +89,8 @@ fn read_switch(body: &[u8]) -> Result<[u8; 20], GreetFault>
 /// whose message is kept: an allocation was refused.
 pub fn read_ok(alloc: Global, payload: &[u8]) -> Result<(), GreetFault>
     ensures ok { OnOk result (IsOkPacket payload.now) }
-    ensures only { IsOkPacket payload.now → MatchResult result (λ _. ⊤) (λ fault. fault ≡ GreetFault.Memory) }
+    ensures only { IsOkPacket payload.now → MatchResult result (λ _. ⊤) (λ fault. fault
+        ≡ GreetFault.Memory) }
     ensures fault { IfErr result (Refuses (ok_refusal payload.now)) }
     ensures memory { result ≡ Err GreetFault.Memory → HasErr payload.now }
 {
@@ -100,7 +105,8 @@ pub fn read_ok(alloc: Global, payload: &[u8]) -> Result<(), GreetFault>
 /// Checks the bytes after the first of an OK: two length-encoded integers and four bytes.
 fn read_counters(body: &[u8]) -> Result<(), GreetFault>
     ensures ok { OnOk result (has_insert_id (after_int body.now) ≡ true) }
-    ensures err { OnErr result ((result ≡ Err GreetFault.Truncated) × (has_insert_id (after_int body.now) ≡ false)) }
+    ensures err { OnErr result ((result ≡ Err GreetFault.Truncated)
+        × (has_insert_id (after_int body.now) ≡ false)) }
 {
     let Some(body) = after_int(body) else {
         return Err(GreetFault::Truncated);
@@ -130,7 +136,8 @@ fn after_int(bytes: &[u8]) -> Option<&[u8]>
 /// `Memory` for an ERR alone, whose message is kept: an allocation was refused.
 pub fn read_eof(alloc: Global, payload: &[u8]) -> Result<(), GreetFault>
     ensures ok { OnOk result (IsEofPacket payload.now) }
-    ensures only { IsEofPacket payload.now → MatchResult result (λ _. ⊤) (λ fault. fault ≡ GreetFault.Memory) }
+    ensures only { IsEofPacket payload.now → MatchResult result (λ _. ⊤) (λ fault. fault
+        ≡ GreetFault.Memory) }
     ensures fault { IfErr result (Refuses (eof_refusal payload.now)) }
     ensures memory { result ≡ Err GreetFault.Memory → HasErr payload.now }
 {

@@ -38,9 +38,12 @@ impl Response {
     /// as it was.
     pub fn write(&self, out: &mut Vec<u8>) -> Result<(), GreetFault>
         requires { FitsResponse (response_value self.now) }
-        ensures ok { OnOk result (out.new.items ≡ out.old.items ++ response (response_value self.now)) }
-        ensures err { OnErr result ((result ≡ Err GreetFault.Memory) × (out.new.items ≡ out.old.items)) }
-        ensures full { OnErr result (vec_capacity out.old < vec_len out.old + length (response (response_value self.now))) }
+        ensures ok { OnOk result (out.new.items ≡ out.old.items ++ response
+            (response_value self.now)) }
+        ensures err { OnErr result ((result ≡ Err GreetFault.Memory)
+            × (out.new.items ≡ out.old.items)) }
+        ensures full { OnErr result (vec_capacity out.old
+            < vec_len out.old + length (response (response_value self.now))) }
     {
         let size = self.auth.len() as u8;
         append(
@@ -56,7 +59,9 @@ impl Response {
     /// an allocation was refused, for a whole response alone.
     pub fn read(alloc: Global, payload: &[u8]) -> Result<Response, GreetFault>
         ensures found { IfOk result (λ read. IsResponse (response_value read) payload.now) }
-        ensures only { (r : ResponseValue) → IsResponse r payload.now → MatchResult result (λ read. response_value read ≡ r) (λ fault. fault ≡ GreetFault.Memory) }
+        ensures only { (r : ResponseValue) → IsResponse r payload.now
+            → MatchResult result (λ read. response_value read ≡ r) (λ fault. fault
+            ≡ GreetFault.Memory) }
         ensures fault { IfErr result (Refuses (response_refusal payload.now)) }
         ensures memory { result ≡ Err GreetFault.Memory → HasResponse payload.now }
     {
@@ -69,7 +74,8 @@ impl Response {
 
 /// The `user` and the `auth`. It takes no memory.
 fn read_parts(payload: &[u8]) -> Result<(&[u8], &[u8]), GreetFault>
-    ensures found { IfOk result (λ parts. IsResponse (record { user = parts.0.now; auth = parts.1.now }) payload.now) }
+    ensures found { IfOk result (λ parts. IsResponse
+        (record { user = parts.0.now; auth = parts.1.now }) payload.now) }
     ensures fault { IfErr result (Refuses (response_refusal payload.now)) }
     ensures no_memory { IfErr result (λ fault. fault ≢ GreetFault.Memory) }
 {
@@ -119,7 +125,8 @@ fn read_end(lead: &[u8], rest: &[u8]) -> Result<(), GreetFault>
 /// The first byte that differs from that of `LEAD`.
 fn difference(lead: &[u8]) -> Option<u8>
     requires { length lead.now ≡ 32 }
-    ensures some { IfSome result (λ byte. first_difference lead.now response_lead ≡ Some (protocol byte)) }
+    ensures some { IfSome result (λ byte. first_difference lead.now response_lead
+        ≡ Some (protocol byte)) }
     ensures none { IfNone result (lead.now ≡ response_lead) }
 {
     for at in 0..LEAD.len() {

@@ -29,9 +29,13 @@ impl Merged<'_> {
     /// Takes the interval that begins first.
     fn next(&mut self) -> Option<Interval>
         ensures none { IfNone result ((self.old.left.now ≡ []) × (self.old.right.now ≡ [])) }
-        ensures same { IfSome result (λ first. (n : ℕ) → has_left self.old n ≡ (is_within n first || has_left self.new n)) }
-        ensures first { IfSome result (λ first. (place : ℕ) → IsFrom place self.old → (place ≤ first.lo) × (first.lo < first.hi) × (first.hi < 2 ^ 63) × IsFrom first.lo self.new) }
-        ensures fewer { IfSome result (λ _. length self.new.left.now + length self.new.right.now < length self.old.left.now + length self.old.right.now) }
+        ensures same { IfSome result (λ first. (n : ℕ)
+            → has_left self.old n ≡ (is_within n first || has_left self.new n)) }
+        ensures first { IfSome result (λ first. (place : ℕ) → IsFrom place self.old
+            → (place ≤ first.lo) × (first.lo < first.hi) × (first.hi < 2 ^ 63)
+            × IsFrom first.lo self.new) }
+        ensures fewer { IfSome result (λ _. length self.new.left.now + length self.new.right.now
+            < length self.old.left.now + length self.old.right.now) }
     {
         match (self.left, self.right) {
             ([], []) => None,
@@ -56,7 +60,8 @@ fn union(alloc: Global, left: &[Interval], right: &[Interval]) -> Result<Vec<Int
     requires left { AreLeast 0 left.now }
     requires right { AreLeast 0 right.now }
     ensures least { IfOk result (λ joined. AreLeast 0 joined.items) }
-    ensures ok { IfOk result (λ joined. (n : ℕ) → has joined.items n ≡ (has left.now n || has right.now n)) }
+    ensures ok { IfOk result (λ joined. (n : ℕ)
+        → has joined.items n ≡ (has left.now n || has right.now n)) }
     ensures err { IfErr result (λ fault. fault ≡ GtidFault.Memory) }
 {
     let most = left.len().saturating_add(right.len());
@@ -80,8 +85,11 @@ fn union(alloc: Global, left: &[Interval], right: &[Interval]) -> Result<Vec<Int
 /// Appends the interval from `lo` to `hi`, unless it is empty.
 fn push_some(intervals: &mut Vec<Interval>, lo: u64, hi: u64) -> Result<(), GtidFault>
     requires { hi < 2 ^ 63 }
-    ensures least { OnOk result ((before after : ℕ) → before ≤ lo → before ≤ after → (lo < hi → hi < after) → AreLeastBefore 0 before intervals.old.items → AreLeastBefore 0 after intervals.new.items) }
-    ensures ok { OnOk result ((n : ℕ) → has intervals.new.items n ≡ (has intervals.old.items n || (nat_le lo n && nat_lt n hi))) }
+    ensures least { OnOk result ((before after : ℕ) → before ≤ lo → before ≤ after
+        → (lo < hi → hi < after) → AreLeastBefore 0 before intervals.old.items
+        → AreLeastBefore 0 after intervals.new.items) }
+    ensures ok { OnOk result ((n : ℕ) → has intervals.new.items n
+        ≡ (has intervals.old.items n || (nat_le lo n && nat_lt n hi))) }
     ensures err { IfErr result (λ fault. fault ≡ GtidFault.Memory) }
 {
     if lo < hi {
@@ -99,7 +107,8 @@ fn difference(
     requires left { AreLeast 0 left.now }
     requires right { AreLeast 0 right.now }
     ensures least { IfOk result (λ kept. AreLeast 0 kept.items) }
-    ensures ok { IfOk result (λ kept. (n : ℕ) → has kept.items n ≡ (has left.now n && not (has right.now n))) }
+    ensures ok { IfOk result (λ kept. (n : ℕ) → has kept.items n
+        ≡ (has left.now n && not (has right.now n))) }
     ensures err { IfErr result (λ fault. fault ≡ GtidFault.Memory) }
 {
     let most = left.len().saturating_add(right.len());
@@ -134,7 +143,8 @@ pub(crate) fn combine(
     requires left { AreLeast 0 left.now }
     requires right { AreLeast 0 right.now }
     ensures least { IfOk result (λ combined. AreLeast 0 combined.items) }
-    ensures ok { IfOk result (λ combined. (n : ℕ) → has combined.items n ≡ keeps combination (has left.now n) (has right.now n)) }
+    ensures ok { IfOk result (λ combined. (n : ℕ)
+        → has combined.items n ≡ keeps combination (has left.now n) (has right.now n)) }
     ensures err { IfErr result (λ fault. fault ≡ GtidFault.Memory) }
 {
     if right.is_empty() {

@@ -90,7 +90,8 @@ fn read_source(before: Option<[u8; 16]>, bytes: &[u8]) -> Result<Heading<'_>, Gt
     ensures long { IfOk result (λ heading. length heading.source ≡ 16) }
     ensures above { IfOk result (λ heading. is_above before heading.source ≡ true) }
     ensures some { IfOk result (λ heading. (0 < heading.size) × (heading.size < 2 ^ 64)) }
-    ensures split { IfOk result (λ heading. bytes.now ≡ heading.source ++ little_bytes 8 heading.size ++ heading.rest.now) }
+    ensures split { IfOk result (λ heading. bytes.now
+        ≡ heading.source ++ little_bytes 8 heading.size ++ heading.rest.now) }
     ensures err { IfErr result (λ fault. source_fault before bytes.now ≡ Some fault) }
     ensures no_memory { IfErr result (λ fault. fault ≢ GtidFault.Memory) }
 {
@@ -118,8 +119,10 @@ fn read_intervals(
 ) -> Result<(Vec<Interval>, &[u8]), GtidFault>
     ensures least { IfOk result (λ read. AreLeast 0 read.0.items) }
     ensures count { IfOk result (λ read. length read.0.items ≡ size) }
-    ensures split { IfOk result (λ read. bytes.now ≡ flat_map interval_bytes (map pair read.0.items) ++ read.1.now) }
-    ensures err { IfErr result (λ fault. (fault ≡ GtidFault.Memory) ⊎ FaultsInIntervals size bytes.now fault) }
+    ensures split { IfOk result (λ read. bytes.now
+        ≡ flat_map interval_bytes (map pair read.0.items) ++ read.1.now) }
+    ensures err { IfErr result (λ fault. (fault ≡ GtidFault.Memory)
+        ⊎ FaultsInIntervals size bytes.now fault) }
     ensures memory { IfErr result (λ fault. fault ≡ GtidFault.Memory → HasInterval bytes.now) }
 {
     let mut intervals = Vec::new(alloc);
@@ -142,7 +145,8 @@ fn read_group(
 ) -> Result<(Group, &[u8]), GtidFault>
     ensures lawful { IfOk result (λ read. AreSidBlocks before (of_group read.0 ∷ [])) }
     ensures split { IfOk result (λ read. bytes.now ≡ block_bytes (of_group read.0) ++ read.1.now) }
-    ensures err { IfErr result (λ fault. (fault ≡ GtidFault.Memory) ⊎ IsBlockFault before bytes.now fault) }
+    ensures err { IfErr result (λ fault. (fault ≡ GtidFault.Memory)
+        ⊎ IsBlockFault before bytes.now fault) }
     ensures memory { IfErr result (λ fault. fault ≡ GtidFault.Memory → HasSource bytes.now) }
 {
     let heading = read_source(before, bytes)?;
@@ -154,8 +158,10 @@ fn read_group(
 /// The groups of the set at the front of the bytes, and the bytes after the set.
 pub(crate) fn read_groups(alloc: Global, bytes: &[u8]) -> Result<(Vec<Group>, &[u8]), GtidFault>
     ensures lawful { IfOk result (λ read. AreSidBlocks None (blocks read.0.items)) }
-    ensures split { IfOk result (λ read. bytes.now ≡ blocks_bytes (blocks read.0.items) ++ read.1.now) }
-    ensures err { IfErr result (λ fault. (fault ≡ GtidFault.Memory) ⊎ IsDecodeFault bytes.now fault) }
+    ensures split { IfOk result (λ read. bytes.now
+        ≡ blocks_bytes (blocks read.0.items) ++ read.1.now) }
+    ensures err { IfErr result (λ fault. (fault ≡ GtidFault.Memory)
+        ⊎ IsDecodeFault bytes.now fault) }
     ensures memory { IfErr result (λ fault. fault ≡ GtidFault.Memory → HasFirstInterval bytes.now) }
 {
     let Some((count, beyond)) = read_number(bytes) else {

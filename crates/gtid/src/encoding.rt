@@ -13,7 +13,8 @@ pub(crate) fn write_groups(groups: &[Group], out: &mut Vec<u8>) -> Result<(), Gt
     ensures ok { OnOk result (out.new.items ≡ out.old.items ++ blocks_bytes (blocks groups.now)) }
     ensures err { OnErr result (result ≡ Err GtidFault.Memory) }
     ensures grows { Grows out.old.items out.new.items }
-    ensures full { OnErr result (vec_capacity out.old < vec_len out.old + length (blocks_bytes (blocks groups.now))) }
+    ensures full { OnErr result (vec_capacity out.old
+        < vec_len out.old + length (blocks_bytes (blocks groups.now))) }
 {
     out.extend_from_slice(&(groups.len() as u64).to_le_bytes())?;
     for group in groups {
@@ -27,7 +28,8 @@ fn write_group(group: &Group, out: &mut Vec<u8>) -> Result<(), GtidFault>
     ensures ok { OnOk result (out.new.items ≡ out.old.items ++ block_bytes (of_group group.now)) }
     ensures err { OnErr result (result ≡ Err GtidFault.Memory) }
     ensures grows { Grows out.old.items out.new.items }
-    ensures full { OnErr result (vec_capacity out.old < vec_len out.old + length (block_bytes (of_group group.now))) }
+    ensures full { OnErr result (vec_capacity out.old
+        < vec_len out.old + length (block_bytes (of_group group.now))) }
     ensures capacity { vec_capacity out.old ≤ vec_capacity out.new }
 {
     out.extend_from_slice(&group.source)?;
@@ -43,7 +45,8 @@ fn write_interval(interval: Interval, out: &mut Vec<u8>) -> Result<(), GtidFault
     ensures ok { OnOk result (out.new.items ≡ out.old.items ++ interval_bytes (pair interval)) }
     ensures err { OnErr result (result ≡ Err GtidFault.Memory) }
     ensures grows { Grows out.old.items out.new.items }
-    ensures full { OnErr result (vec_capacity out.old < vec_len out.old + length (interval_bytes (pair interval))) }
+    ensures full { OnErr result (vec_capacity out.old
+        < vec_len out.old + length (interval_bytes (pair interval))) }
     ensures capacity { vec_capacity out.old ≤ vec_capacity out.new }
 {
     out.extend_from_slice(&interval.lo.to_le_bytes())?;

@@ -20,7 +20,8 @@ use std::cmp::Ordering;
 pub(crate) fn gather(alloc: Global, spans: Vec<Span>) -> Result<Vec<Group>, GtidFault>
     requires { AllByRecursion IsLawfulSpan spans.items }
     ensures ascend { IfOk result (λ groups. Ascend (sources groups.items)) }
-    ensures ok { IfOk result (λ groups. (q : Id) → is_listed q groups.items ≡ list_any (is_in q) spans.items) }
+    ensures ok { IfOk result (λ groups. (q : Id)
+        → is_listed q groups.items ≡ list_any (is_in q) spans.items) }
     ensures some { OnErr result (0 < length spans.items) }
     ensures err { IfErr result (λ fault. fault ≡ GtidFault.Memory) }
 {
@@ -44,7 +45,8 @@ fn gather_rising(alloc: Global, spans: &[Span]) -> Result<Vec<Group>, GtidFault>
     requires lawful { AllByRecursion IsLawfulSpan spans.now }
     requires rise { SpansRise spans.now }
     ensures ascend { IfOk result (λ groups. Ascend (sources groups.items)) }
-    ensures ok { IfOk result (λ groups. (q : Id) → is_listed q groups.items ≡ list_any (is_in q) spans.now) }
+    ensures ok { IfOk result (λ groups. (q : Id)
+        → is_listed q groups.items ≡ list_any (is_in q) spans.now) }
     ensures some { OnErr result (0 < length spans.now) }
     ensures err { IfErr result (λ fault. fault ≡ GtidFault.Memory) }
 {
@@ -63,7 +65,9 @@ fn join<'a>(alloc: Global, first: Span, after: &'a [Span]) -> Result<(Group, &'a
     requires lawful { AllByRecursion IsLawfulSpan (first ∷ after.now) }
     requires rise { SpansRise (first ∷ after.now) }
     ensures source { IfOk result (λ joined. joined.0.source ≡ first.source) }
-    ensures listed { IfOk result (λ joined. (q : Id) → list_any (is_in q) (first ∷ after.now) ≡ (is_of q joined.0 || list_any (is_in q) joined.1.now)) }
+    ensures listed { IfOk result (λ joined. (q : Id)
+        → list_any (is_in q) (first ∷ after.now) ≡
+        (is_of q joined.0 || list_any (is_in q) joined.1.now)) }
     ensures lawful { IfOk result (λ joined. AllByRecursion IsLawfulSpan joined.1.now) }
     ensures rise { IfOk result (λ joined. SpansRise joined.1.now) }
     ensures above { IfOk result (λ joined. AreAbove first.source joined.1.now) }

@@ -78,7 +78,8 @@ fn pass_digits(text: &[u8]) -> &[u8]
 
 /// The digit at the front, and what follows it.
 pub(crate) fn take_digit(text: &[u8]) -> Option<(u8, &[u8])>
-    ensures some { IfSome result (λ taken. (text.now ≡ taken.0 ∷ taken.1.now) × (is_digit taken.0 ≡ true)) }
+    ensures some { IfSome result (λ taken. (text.now ≡ taken.0 ∷ taken.1.now)
+        × (is_digit taken.0 ≡ true)) }
     ensures none { IfNone result (BeginsWithNoDigit text.now) }
 {
     match text {

@@ -23,7 +23,8 @@ impl Group {
     /// The group of one GTID. The only error is `Memory`.
     pub(crate) fn of(alloc: Global, gtid: Gtid) -> Result<Group, GtidFault>
         ensures source { IfOk result (λ group. group.source ≡ gtid.source) }
-        ensures numbers { IfOk result (λ group. (n : ℕ) → has group.intervals.items n ≡ nat_eq n gtid.number) }
+        ensures numbers { IfOk result (λ group. (n : ℕ)
+            → has group.intervals.items n ≡ nat_eq n gtid.number) }
         ensures err { IfErr result (λ fault. fault ≡ GtidFault.Memory) }
     {
         let mut intervals = Vec::new(alloc);
@@ -37,10 +38,13 @@ impl Group {
         requires { (1 ≤ number) × (number ≤ 2 ^ 63 - 2) }
         ensures source { self.new.source ≡ self.old.source }
         ensures answer { IfOk result (λ new. new ≡ not (has self.old.intervals.items number)) }
-        ensures ok { OnOk result ((n : ℕ) → has self.new.intervals.items n ≡ (nat_eq n number || has self.old.intervals.items n)) }
+        ensures ok { OnOk result ((n : ℕ) → has self.new.intervals.items n
+            ≡ (nat_eq n number || has self.old.intervals.items n)) }
         ensures there { has self.old.intervals.items number ≡ true → result ≡ Ok false }
-        ensures err { OnErr result ((result ≡ Err GtidFault.Memory) × (self.new.intervals.items ≡ self.old.intervals.items)) }
-        ensures near { (n : ℕ) → IsNear n number → has self.old.intervals.items n ≡ true → IsOk result }
+        ensures err { OnErr result ((result ≡ Err GtidFault.Memory)
+            × (self.new.intervals.items ≡ self.old.intervals.items)) }
+        ensures near { (n : ℕ) → IsNear n number → has self.old.intervals.items n ≡ true
+            → IsOk result }
     {
         interval::insert(&mut self.intervals, number)
     }
@@ -51,7 +55,8 @@ impl Group {
         requires goes { GoesAt self.old.intervals.items number at }
         requires room { vec_len self.old.intervals < vec_capacity self.old.intervals }
         ensures source { self.new.source ≡ self.old.source }
-        ensures adds { (n : ℕ) → has self.new.intervals.items n ≡ (nat_eq n number || has self.old.intervals.items n) }
+        ensures adds { (n : ℕ) → has self.new.intervals.items n
+            ≡ (nat_eq n number || has self.old.intervals.items n) }
     {
         let _inserted = interval::insert_at(&mut self.intervals, at, number);
     }

@@ -20,7 +20,8 @@ use std::cmp::Ordering;
 /// The lowest source in two lists of groups.
 fn lowest(left: &[Group], right: &[Group]) -> Option<[u8; 16]>
     ensures none { IfNone result ((left.now ≡ []) × (right.now ≡ [])) }
-    ensures some { IfSome result (λ source. (IsNext source left.now × IsNoHigher source right.now) ⊎ (IsNoHigher source left.now × IsNext source right.now)) }
+    ensures some { IfSome result (λ source. (IsNext source left.now × IsNoHigher source right.now)
+        ⊎ (IsNoHigher source left.now × IsNext source right.now)) }
 {
     match (left, right) {
         ([], []) => None,
@@ -82,7 +83,8 @@ pub(crate) fn intervals_of<'a>(groups: &'a [Group], source: &[u8; 16]) -> &'a [I
 pub(crate) fn are_subset(groups: &[Group], of: &[Group]) -> bool
     requires groups { Ascend (sources groups.now) }
     requires of { Ascend (sources of.now) }
-    ensures { IsTrue result ↔ ((q : Id) → is_listed q groups.now ≡ true → is_listed q of.now ≡ true) }
+    ensures { IsTrue result ↔ ((q : Id) → is_listed q groups.now ≡ true
+        → is_listed q of.now ≡ true) }
 {
     for group in groups {
         if !is_subset(&group.intervals, intervals_of(of, &group.source)) {
@@ -97,10 +99,13 @@ pub(crate) fn insert(groups: &mut Vec<Group>, gtid: Gtid) -> Result<bool, GtidFa
     requires ascend { Ascend (sources groups.old.items) }
     ensures ascend { Ascend (sources groups.new.items) }
     ensures answer { IfOk result (λ new. new ≡ not (is_listed (id gtid) groups.old.items)) }
-    ensures ok { OnOk result ((q : Id) → is_listed q groups.new.items ≡ (is_one q (id gtid) || is_listed q groups.old.items)) }
+    ensures ok { OnOk result ((q : Id) → is_listed q groups.new.items
+        ≡ (is_one q (id gtid) || is_listed q groups.old.items)) }
     ensures there { is_listed (id gtid) groups.old.items ≡ true → result ≡ Ok false }
-    ensures near { (n : ℕ) → IsNear n gtid.number → is_listed (gtid.source, n) groups.old.items ≡ true → IsOk result }
-    ensures err { OnErr result ((result ≡ Err GtidFault.Memory) × ((q : Id) → is_listed q groups.new.items ≡ is_listed q groups.old.items)) }
+    ensures near { (n : ℕ) → IsNear n gtid.number
+        → is_listed (gtid.source, n) groups.old.items ≡ true → IsOk result }
+    ensures err { OnErr result ((result ≡ Err GtidFault.Memory)
+        × ((q : Id) → is_listed q groups.new.items ≡ is_listed q groups.old.items)) }
 {
     match find(groups, &gtid.source) {
         Ok(at) => groups[at].insert(gtid.number),
@@ -125,8 +130,10 @@ pub(crate) fn reserve(groups: &mut Vec<Group>, gtid: Gtid) -> Result<Option<Plac
     requires ascend { Ascend (sources groups.old.items) }
     ensures ascend { Ascend (sources groups.new.items) }
     ensures same { (q : Id) → is_listed q groups.new.items ≡ is_listed q groups.old.items }
-    ensures room { IfOk result (λ place. IfSome place (HasRoom gtid groups.new.items (vec_capacity groups.new))) }
-    ensures there { IfOk result (λ place. IfNone place (is_listed (id gtid) groups.old.items ≡ true)) }
+    ensures room { IfOk result (λ place. IfSome place
+        (HasRoom gtid groups.new.items (vec_capacity groups.new))) }
+    ensures there { IfOk result (λ place. IfNone place (is_listed (id gtid) groups.old.items
+        ≡ true)) }
     ensures known { is_listed (id gtid) groups.old.items ≡ true → result ≡ Ok None }
     ensures err { IfErr result (λ fault. fault ≡ GtidFault.Memory) }
 {
@@ -167,7 +174,8 @@ pub(crate) fn insert_reserved(groups: &mut Vec<Group>, gtid: Gtid, place: Place)
     requires ascend { Ascend (sources groups.old.items) }
     requires room { HasRoom gtid groups.old.items (vec_capacity groups.old) place }
     ensures ascend { Ascend (sources groups.new.items) }
-    ensures adds { (q : Id) → is_listed q groups.new.items ≡ (is_one q (id gtid) || is_listed q groups.old.items) }
+    ensures adds { (q : Id) → is_listed q groups.new.items
+        ≡ (is_one q (id gtid) || is_listed q groups.old.items) }
 {
     match place {
         Place::Within(at, place) => groups[at].insert_at(place, gtid.number),
@@ -187,7 +195,9 @@ pub(crate) fn combine_groups(
     requires left { Ascend (sources left.now) }
     requires right { Ascend (sources right.now) }
     ensures ascend { IfOk result (λ combined. Ascend (sources combined.items)) }
-    ensures ok { IfOk result (λ combined. (q : Id) → is_listed q combined.items ≡ keeps combination (is_listed q left.now) (is_listed q right.now)) }
+    ensures ok { IfOk result (λ combined. (q : Id)
+        → is_listed q combined.items ≡ keeps combination (is_listed q left.now)
+        (is_listed q right.now)) }
     ensures err { IfErr result (λ fault. fault ≡ GtidFault.Memory) }
 {
     let mut combined = Vec::new(alloc);

@@ -112,8 +112,10 @@ pub(crate) fn beside(
 
 /// The interval at an index, if it begins at the number.
 fn begins_at(intervals: &[Interval], at: usize, number: u64) -> Option<Interval>
-    ensures some { IfSome result (λ i. (at < length intervals.now) × (i.lo ≡ number) × ((d : Interval) → i ≡ slice_index_or intervals.now at d)) }
-    ensures none { IfNone result ((d : Interval) → at < length intervals.now → (slice_index_or intervals.now at d).lo ≢ number) }
+    ensures some { IfSome result (λ i. (at < length intervals.now) × (i.lo ≡ number)
+        × ((d : Interval) → i ≡ slice_index_or intervals.now at d)) }
+    ensures none { IfNone result ((d : Interval) → at < length intervals.now
+        → (slice_index_or intervals.now at d).lo ≢ number) }
 {
     let Some(first) = intervals.get(at).copied() else {
         return None;
@@ -131,9 +133,11 @@ pub(crate) fn insert(intervals: &mut Vec<Interval>, number: u64) -> Result<bool,
     requires number { (1 ≤ number) × (number ≤ 2 ^ 63 - 2) }
     ensures least { AreLeast 0 intervals.new.items }
     ensures answer { IfOk result (λ new. new ≡ not (has intervals.old.items number)) }
-    ensures ok { OnOk result ((n : ℕ) → has intervals.new.items n ≡ (nat_eq n number || has intervals.old.items n)) }
+    ensures ok { OnOk result ((n : ℕ) → has intervals.new.items n
+        ≡ (nat_eq n number || has intervals.old.items n)) }
     ensures there { has intervals.old.items number ≡ true → result ≡ Ok false }
-    ensures err { OnErr result ((result ≡ Err GtidFault.Memory) × (intervals.new.items ≡ intervals.old.items)) }
+    ensures err { OnErr result ((result ≡ Err GtidFault.Memory)
+        × (intervals.new.items ≡ intervals.old.items)) }
     ensures near { (n : ℕ) → IsNear n number → has intervals.old.items n ≡ true → IsOk result }
 {
     let Some(at) = place(intervals, number) else {
@@ -154,8 +158,10 @@ pub(crate) fn insert_at(
     requires number { (1 ≤ number) × (number ≤ 2 ^ 63 - 2) }
     requires goes { GoesAt intervals.old.items number at }
     ensures least { AreLeast 0 intervals.new.items }
-    ensures ok { OnOk result ((n : ℕ) → has intervals.new.items n ≡ (nat_eq n number || has intervals.old.items n)) }
-    ensures err { OnErr result ((result ≡ Err GtidFault.Memory) × (intervals.new.items ≡ intervals.old.items)) }
+    ensures ok { OnOk result ((n : ℕ) → has intervals.new.items n
+        ≡ (nat_eq n number || has intervals.old.items n)) }
+    ensures err { OnErr result ((result ≡ Err GtidFault.Memory)
+        × (intervals.new.items ≡ intervals.old.items)) }
     ensures room { vec_len intervals.old < vec_capacity intervals.old → IsOk result }
     ensures near { (n : ℕ) → IsNear n number → has intervals.old.items n ≡ true → IsOk result }
 {
@@ -180,7 +186,8 @@ pub(crate) fn insert_at(
 fn reaches(intervals: &[Interval], number: u64) -> bool
     requires { AreLeast 0 intervals.now }
     ensures ends { IsTrue result → LastReaches intervals.now number }
-    ensures before { result ≡ false → AllWithin (λ i. i.hi < number) intervals.now 0 (length intervals.now) }
+    ensures before { result ≡ false → AllWithin (λ i. i.hi
+        < number) intervals.now 0 (length intervals.now) }
 {
     match intervals {
         [.., last] => number <= last.hi,
@@ -213,7 +220,8 @@ fn extend(intervals: &mut Vec<Interval>, at: usize, number: u64)
     requires end { (d : Interval) → (slice_index_or intervals.old.items at d).hi ≡ number }
     ensures least { AreLeast 0 intervals.new.items }
     ensures new { has intervals.old.items number ≡ false }
-    ensures adds { (n : ℕ) → has intervals.new.items n ≡ (nat_eq n number || has intervals.old.items n) }
+    ensures adds { (n : ℕ) → has intervals.new.items n
+        ≡ (nat_eq n number || has intervals.old.items n) }
 {
     let joined = match intervals.get(at + 1).copied() {
         Some(following) if following.lo == number + 1 => {

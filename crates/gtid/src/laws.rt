@@ -51,14 +51,20 @@ pub fn gtid_text_is_read()
 pub fn one_reading_of_a_text()
     ensures some { (text : List ℕ) → HasReading text ⊎ HasParseFault text }
     ensures one_set { (text : List ℕ) (a b : Ids) → IsRead text a → IsRead text b → a ≡ b }
-    ensures no_fault { (text : List ℕ) (ids : Ids) (fault : GtidFault) → IsRead text ids → IsParseFault text fault → ⊥ }
-    ensures one_fault { (text : List ℕ) (a b : GtidFault) → IsParseFault text a → IsParseFault text b → a ≡ b }
+    ensures no_fault { (text : List ℕ) (ids : Ids) (fault : GtidFault) → IsRead text ids
+        → IsParseFault text fault → ⊥ }
+    ensures one_fault { (text : List ℕ) (a b : GtidFault) → IsParseFault text a
+        → IsParseFault text b → a ≡ b }
 {}
 
 /// Bytes either begin with the encoding of one set, in one way, or have one fault, and not both.
 pub fn one_reading_of_bytes()
-    ensures some { (bytes : List ℕ) → AllByRecursion (λ b. b < 256) bytes → BeginsWithEncoding bytes ⊎ HasDecodeFault bytes }
-    ensures one_set { (a b : Ids) (bytes others x y : List ℕ) → IsEncoding a bytes → IsEncoding b others → bytes ++ x ≡ others ++ y → (a ≡ b) × (bytes ≡ others) }
-    ensures no_fault { (ids : Ids) (bytes more : List ℕ) (fault : GtidFault) → IsEncoding ids bytes → IsDecodeFault (bytes ++ more) fault → ⊥ }
-    ensures one_fault { (bytes : List ℕ) (a b : GtidFault) → IsDecodeFault bytes a → IsDecodeFault bytes b → a ≡ b }
+    ensures some { (bytes : List ℕ) → AllByRecursion (λ b. b < 256) bytes
+        → BeginsWithEncoding bytes ⊎ HasDecodeFault bytes }
+    ensures one_set { (a b : Ids) (bytes others x y : List ℕ) → IsEncoding a bytes
+        → IsEncoding b others → bytes ++ x ≡ others ++ y → (a ≡ b) × (bytes ≡ others) }
+    ensures no_fault { (ids : Ids) (bytes more : List ℕ) (fault : GtidFault) → IsEncoding ids bytes
+        → IsDecodeFault (bytes ++ more) fault → ⊥ }
+    ensures one_fault { (bytes : List ℕ) (a b : GtidFault) → IsDecodeFault bytes a
+        → IsDecodeFault bytes b → a ≡ b }
 {}

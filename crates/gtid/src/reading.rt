@@ -19,10 +19,13 @@ use std::alloc::Global;
 
 /// The intervals of a text of the grammar, in the order in which they are written.
 pub(crate) fn read_spans(alloc: Global, text: &[u8]) -> Result<Vec<Span>, GtidFault>
-    ensures ok { IfOk result (λ spans. (items : List SidBlock) → IsList text.now items → (list_fault items ≡ None) × (spans.items ≡ written_spans items)) }
-    ensures err { IfErr result (λ fault. (fault ≡ GtidFault.Memory) ⊎ ((items : List SidBlock) → IsList text.now items → list_fault items ≡ Some fault)) }
+    ensures ok { IfOk result (λ spans. (items : List SidBlock) → IsList text.now items
+        → (list_fault items ≡ None) × (spans.items ≡ written_spans items)) }
+    ensures err { IfErr result (λ fault. (fault ≡ GtidFault.Memory)
+        ⊎ ((items : List SidBlock) → IsList text.now items → list_fault items ≡ Some fault)) }
     ensures range { IfOk result (λ spans. AllByRecursion IsLawfulSpan spans.items) }
-    ensures some { IfErr result (λ _. (items : List SidBlock) → IsList text.now items → 0 < length items) }
+    ensures some { IfErr result (λ _. (items : List SidBlock) → IsList text.now items
+        → 0 < length items) }
 {
     let mut spans = Vec::new(alloc);
     let mut source = [0; 16];
@@ -35,7 +38,8 @@ pub(crate) fn read_spans(alloc: Global, text: &[u8]) -> Result<Vec<Span>, GtidFa
 
 /// Reads a source up to its colon, and returns what follows the colon.
 fn read_source<'a>(text: &'a [u8], source: &mut [u8; 16]) -> Option<&'a [u8]>
-    ensures some { IfSome result (λ after. collected (Source 0) source.old text.now ≡ collected (First 0) source.new after.now) }
+    ensures some { IfSome result (λ after. collected (Source 0) source.old text.now
+        ≡ collected (First 0) source.new after.now) }
     ensures none { IfNone result (collected (Source 0) source.old text.now ≡ []) }
     ensures shorter { IfSome result (λ after. length after.now < length text.now) }
 {
@@ -59,8 +63,10 @@ fn read_intervals<'a>(
     source: [u8; 16],
     spans: &mut Vec<Span>,
 ) -> Result<&'a [u8], GtidFault>
-    ensures ok { IfOk result (λ items. judge spans.old.items (collected (First 0) source text.now) ≡ judge spans.new.items (collected (Source 0) source items.now)) }
-    ensures err { IfErr result (λ fault. (fault ≡ GtidFault.Memory) ⊎ (judge spans.old.items (collected (First 0) source text.now) ≡ Err fault)) }
+    ensures ok { IfOk result (λ items. judge spans.old.items (collected (First 0) source text.now)
+        ≡ judge spans.new.items (collected (Source 0) source items.now)) }
+    ensures err { IfErr result (λ fault. (fault ≡ GtidFault.Memory)
+        ⊎ (judge spans.old.items (collected (First 0) source text.now) ≡ Err fault)) }
     ensures shorter { IfOk result (λ items. length items.now ≤ length text.now) }
     ensures some { collected (First 0) source text.now ≢ [] }
 {
@@ -77,8 +83,10 @@ fn push_interval<'a>(
     source: [u8; 16],
     spans: &mut Vec<Span>,
 ) -> Result<&'a [u8], GtidFault>
-    ensures ok { IfOk result (λ after. judge spans.old.items (collected (First 0) source text.now) ≡ judge spans.new.items (after_interval source after.now)) }
-    ensures err { IfErr result (λ fault. (fault ≡ GtidFault.Memory) ⊎ (judge spans.old.items (collected (First 0) source text.now) ≡ Err fault)) }
+    ensures ok { IfOk result (λ after. judge spans.old.items (collected (First 0) source text.now)
+        ≡ judge spans.new.items (after_interval source after.now)) }
+    ensures err { IfErr result (λ fault. (fault ≡ GtidFault.Memory)
+        ⊎ (judge spans.old.items (collected (First 0) source text.now) ≡ Err fault)) }
     ensures shorter { IfOk result (λ after. length after.now ≤ length text.now) }
     ensures some { collected (First 0) source text.now ≢ [] }
 {
@@ -94,7 +102,8 @@ fn push_interval<'a>(
 /// The two numbers of an interval, and what follows it. The text begins after the interval's colon. A single number
 /// stands for both.
 fn read_interval(text: &[u8]) -> (u64, u64, &[u8])
-    ensures found { (source : List ℕ) → collected (First 0) source text.now ≡ (source, (result.0, result.1)) ∷ after_interval source result.2.now }
+    ensures found { (source : List ℕ) → collected (First 0) source text.now
+        ≡ (source, (result.0, result.1)) ∷ after_interval source result.2.now }
     ensures shorter { length result.2.now ≤ length text.now }
 {
     let (lo, after) = read_number(text);
@@ -109,8 +118,11 @@ fn read_interval(text: &[u8]) -> (u64, u64, &[u8])
 
 /// The number at the front, and what follows it.
 fn read_number(text: &[u8]) -> (u64, &[u8])
-    ensures first { (source : List ℕ) → collected (First 0) source text.now ≡ collected (First result.0) source result.1.now }
-    ensures second { (lo : ℕ) (source : List ℕ) → collected (Second lo 0) source text.now ≡ collected (Second lo result.0) source result.1.now }
+    ensures first { (source : List ℕ) → collected (First 0) source text.now
+        ≡ collected (First result.0) source result.1.now }
+    ensures second { (lo : ℕ) (source : List ℕ)
+        → collected (Second lo 0) source text.now
+        ≡ collected (Second lo result.0) source result.1.now }
     ensures after { BeginsWithNoDigit result.1.now }
     ensures shorter { length result.1.now ≤ length text.now }
 {
@@ -125,7 +137,8 @@ fn read_number(text: &[u8]) -> (u64, &[u8])
 
 /// What follows the next comma.
 fn after_comma(text: &[u8]) -> &[u8]
-    ensures items { (source : List ℕ) → collected After source text.now ≡ collected (Source 0) source result.now }
+    ensures items { (source : List ℕ) → collected After source text.now
+        ≡ collected (Source 0) source result.now }
     ensures shorter { length result.now ≤ length text.now }
 {
     let mut left = text;

@@ -77,9 +77,11 @@ impl GtidSet {
     /// Adds a GTID, and returns whether it is new. The only error is `Memory`, which comes only for a new GTID with
     /// neither neighbour in the set, and leaves the set as it was.
     pub fn insert(&mut self, gtid: Gtid) -> Result<bool, GtidFault>
-        ensures ok { IfOk result (λ new. (new ≡ not (set.contains self.old (id gtid))) × (self.new ≡ set.insert self.old (id gtid))) }
+        ensures ok { IfOk result (λ new. (new ≡ not (set.contains self.old (id gtid)))
+            × (self.new ≡ set.insert self.old (id gtid))) }
         ensures there { set.contains self.old (id gtid) ≡ true → result ≡ Ok false }
-        ensures near { (number : ℕ) → IsNear number gtid.number → set.contains self.old (gtid.source, number) ≡ true → IsOk result }
+        ensures near { (number : ℕ) → IsNear number gtid.number
+            → set.contains self.old (gtid.source, number) ≡ true → IsOk result }
         ensures err { OnErr result ((result ≡ Err GtidFault.Memory) × (self.new ≡ self.old)) }
     {
         insert(&mut self.groups, gtid)
@@ -161,7 +163,8 @@ impl GtidSet {
     /// It leaves the vector as it was.
     pub fn encode(&self, out: &mut Vec<u8>) -> Result<(), GtidFault>
         ensures ok { OnOk result (AppendsEncoding self.now out.old.items out.new.items) }
-        ensures err { OnErr result ((result ≡ Err GtidFault.Memory) × (out.new.items ≡ out.old.items)) }
+        ensures err { OnErr result ((result ≡ Err GtidFault.Memory)
+            × (out.new.items ≡ out.old.items)) }
         ensures full { OnErr result (LacksRoom self.now (vec_len out.old) (vec_capacity out.old)) }
     {
         let len = out.len();
@@ -186,9 +189,13 @@ impl GtidSet {
     pub fn decode(alloc: Global, bytes: &[u8]) -> Result<(GtidSet, usize), GtidFault>
         ensures length { IfOk result (λ found. found.1 ≤ length bytes.now) }
         ensures found { IfOk result (λ found. IsEncoding found.0 (take found.1 bytes.now)) }
-        ensures fault { IfErr result (λ fault. (fault ≡ GtidFault.Memory) ⊎ IsDecodeFault bytes.now fault) }
-        ensures memory { IfErr result (λ fault. fault ≡ GtidFault.Memory → HasFirstInterval bytes.now) }
-        ensures only { (ids : Ids) (n : ℕ) → n ≤ length bytes.now → IsEncoding ids (take n bytes.now) → MatchResult result (λ found. found ≡ (ids, n)) (λ fault. fault ≡ GtidFault.Memory) }
+        ensures fault { IfErr result (λ fault. (fault ≡ GtidFault.Memory)
+            ⊎ IsDecodeFault bytes.now fault) }
+        ensures memory { IfErr result (λ fault. fault ≡ GtidFault.Memory
+            → HasFirstInterval bytes.now) }
+        ensures only { (ids : Ids) (n : ℕ) → n ≤ length bytes.now
+            → IsEncoding ids (take n bytes.now) → MatchResult result (λ found. found
+            ≡ (ids, n)) (λ fault. fault ≡ GtidFault.Memory) }
     {
         let (groups, rest) = read_groups(alloc, bytes)?;
         let used = bytes.len() - rest.len();
@@ -206,9 +213,11 @@ impl GtidSet {
     /// - `Memory` if an allocation was refused, only for a text of this form that is neither empty nor only blanks.
     pub fn parse(alloc: Global, text: &str) -> Result<GtidSet, GtidFault>
         ensures found { IfOk result (IsRead text.now) }
-        ensures fault { IfErr result (λ fault. (fault ≡ GtidFault.Memory) ⊎ IsParseFault text.now fault) }
+        ensures fault { IfErr result (λ fault. (fault ≡ GtidFault.Memory)
+            ⊎ IsParseFault text.now fault) }
         ensures memory { IfErr result (λ fault. fault ≡ GtidFault.Memory → HasItem text.now) }
-        ensures only { (ids : Ids) → IsRead text.now ids → MatchResult result (λ read. read ≡ ids) (λ fault. fault ≡ GtidFault.Memory) }
+        ensures only { (ids : Ids) → IsRead text.now ids
+            → MatchResult result (λ read. read ≡ ids) (λ fault. fault ≡ GtidFault.Memory) }
     {
         let bytes = text.as_bytes();
         if let Err(offset) = scan(bytes) {
@@ -234,9 +243,12 @@ impl GtidSet {
     /// each with its least intervals, `:n` for one number and `:n-m` for more. The only error is `Memory`: the string
     /// lacks the room and cannot grow. It leaves the text as it was.
     pub fn print(&self, out: &mut String) -> Result<(), GtidFault>
-        ensures ok { OnOk result (AppendsText self.now (string_bytes out.old) (string_bytes out.new)) }
-        ensures err { OnErr result ((result ≡ Err GtidFault.Memory) × (string_bytes out.new ≡ string_bytes out.old)) }
-        ensures full { OnErr result (LacksTextRoom self.now (string_len out.old) (string_capacity out.old)) }
+        ensures ok { OnOk result (AppendsText self.now (string_bytes out.old)
+            (string_bytes out.new)) }
+        ensures err { OnErr result ((result ≡ Err GtidFault.Memory)
+            × (string_bytes out.new ≡ string_bytes out.old)) }
+        ensures full { OnErr result (LacksTextRoom self.now (string_len out.old)
+            (string_capacity out.old)) }
     {
         let start = out.len();
         let printed = print_groups(&self.groups, out);

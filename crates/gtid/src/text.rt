@@ -15,8 +15,10 @@ use uuid::Uuid;
 
 /// Appends the sources with their intervals, with commas between.
 pub(crate) fn print_groups(groups: &[Group], out: &mut String) -> Result<(), GtidFault>
-    ensures ok { OnOk result (string_bytes out.new ≡ string_bytes out.old ++ join_by block_text (codes ",") (blocks groups.now)) }
-    ensures full { OnErr result (string_capacity out.old < string_len out.old + length (join_by block_text (codes ",") (blocks groups.now))) }
+    ensures ok { OnOk result (string_bytes out.new
+        ≡ string_bytes out.old ++ join_by block_text (codes ",") (blocks groups.now)) }
+    ensures full { OnErr result (string_capacity out.old
+        < string_len out.old + length (join_by block_text (codes ",") (blocks groups.now))) }
     ensures sources { OnOk result (AllByRecursion (λ g. IsSource g.source) groups.now) }
     ensures err { OnErr result (result ≡ Err GtidFault.Memory) }
     ensures grows { GrowsByAscii (string_bytes out.old) (string_bytes out.new) }
@@ -34,8 +36,10 @@ pub(crate) fn print_groups(groups: &[Group], out: &mut String) -> Result<(), Gti
 
 /// Appends a source and its intervals.
 fn print_group(group: &Group, out: &mut String) -> Result<(), GtidFault>
-    ensures ok { OnOk result (string_bytes out.new ≡ string_bytes out.old ++ block_text (of_group group.now)) }
-    ensures full { OnErr result (string_capacity out.old < string_len out.old + length (block_text (of_group group.now))) }
+    ensures ok { OnOk result (string_bytes out.new
+        ≡ string_bytes out.old ++ block_text (of_group group.now)) }
+    ensures full { OnErr result (string_capacity out.old
+        < string_len out.old + length (block_text (of_group group.now))) }
     ensures capacity { string_capacity out.old ≤ string_capacity out.new }
     ensures err { OnErr result (result ≡ Err GtidFault.Memory) }
     ensures grows { GrowsByAscii (string_bytes out.old) (string_bytes out.new) }
@@ -51,8 +55,10 @@ fn print_group(group: &Group, out: &mut String) -> Result<(), GtidFault>
 /// Appends a source as a hyphenated UUID in lower case.
 fn print_source(source: &[u8; 16], out: &mut String) -> Result<(), GtidFault>
     ensures source { IsSource source.now }
-    ensures ok { OnOk result (string_bytes out.new ≡ string_bytes out.old ++ hyphenated_text lower source.now) }
-    ensures full { OnErr result (string_capacity out.old < string_len out.old + length (hyphenated_text lower source.now)) }
+    ensures ok { OnOk result (string_bytes out.new
+        ≡ string_bytes out.old ++ hyphenated_text lower source.now) }
+    ensures full { OnErr result (string_capacity out.old
+        < string_len out.old + length (hyphenated_text lower source.now)) }
     ensures capacity { string_capacity out.old ≤ string_capacity out.new }
     ensures err { OnErr result (result ≡ Err GtidFault.Memory) }
     ensures grows { GrowsByAscii (string_bytes out.old) (string_bytes out.new) }
@@ -69,8 +75,10 @@ fn print_source(source: &[u8; 16], out: &mut String) -> Result<(), GtidFault>
 /// Appends an interval: its first number and, if it has more than one, its last.
 fn print_interval(interval: Interval, out: &mut String) -> Result<(), GtidFault>
     requires { interval.lo < interval.hi }
-    ensures ok { OnOk result (string_bytes out.new ≡ string_bytes out.old ++ interval_text (pair interval)) }
-    ensures full { OnErr result (string_capacity out.old < string_len out.old + length (interval_text (pair interval))) }
+    ensures ok { OnOk result (string_bytes out.new
+        ≡ string_bytes out.old ++ interval_text (pair interval)) }
+    ensures full { OnErr result (string_capacity out.old
+        < string_len out.old + length (interval_text (pair interval))) }
     ensures capacity { string_capacity out.old ≤ string_capacity out.new }
     ensures err { OnErr result (result ≡ Err GtidFault.Memory) }
     ensures grows { GrowsByAscii (string_bytes out.old) (string_bytes out.new) }

@@ -1,3 +1,2 @@
 pub mod Failure
-pub mod PayloadListing
 pub mod Reason

@@ -1,8 +1,6 @@
 //! What a command reports while it reads and at its end, and why it failed.
 
 pub mod failure;
-pub mod pulse;
-pub mod reason;
 pub mod status;
 pub mod wanted;
 pub mod watch;

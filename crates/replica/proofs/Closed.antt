@@ -1,5 +1,5 @@
 -- Captured connections that were read into a file.
-use Rattle.std.proofs.Common.{◌≡◌, ◌≢◌, ℕ, Bool, true, false, List, [], Option, Result, Ok, Err, IfOk, IfErr, IsTrue, refl, sym, subst, ◌∙◌, arith}
+use Rattle.std.proofs.Common.{◌≡◌, ℕ, Bool, true, false, List, Option, Some, Result, Ok, Err, IfOk, IfErr, IsTrue, refl, sym, subst, ◌∙◌, arith}
 use Rattle.std.specs.Prelude.{MatchResult}
 use Rattle.sqlite_disk.specs.declared.Disk.{Ghosts}
 use Rattle.sqlite_disk.specs.declared.Files.{Files}
@@ -16,6 +16,7 @@ use Rattle.sqlite.specs.State.{State, HasCleanDisk}
 use Rattle.sqlite.specs.Files.{over_files, file_state, IsClosed, FailsToClose}
 use Rattle.sqlite.specs.Closing.{IsCopied}
 use Rattle.sqlite.specs.Held.{Held}
+use Rattle.gtid.specs.Identifier.{Ids}
 use Rattle.binlog.specs.Filter.{Names}
 use Rattle.store.specs.State.{Content}
 use Rattle.store.specs.declared.store.Store.{Store}
@@ -34,11 +35,13 @@ use Rattle.replica.specs.Crash as crash
 use Rattle.replica.specs.Over.{HasReadAll, LeavesOnly}
 use Rattle.replica.specs.Capture.{Reads}
 use Rattle.replica.specs.File.{FilesHold, AreClosedWith, LeavesContent, IsOpenedIn, IsCleanlyClosed, WasClosed, ClosesAs, KeepsContent}
-use Rattle.replica.specs.Noted.{Account, IsNotedOf, IsLedTo, WasMissing}
-use Rattle.replica.specs.NotedFile.{IsNotedOfFiles}
+use Rattle.replica.specs.Noted.{Account, IsNotedSinceOpening, IsLedSinceOpening}
+use Rattle.replica.specs.NotedFile.{IsNotedOfFiles, HaveReached}
+use Rattle.replica.specs.Missing.{waits_for_none}
 use Rattle.replica.specs.Replay.{LeadsTo, MayLeave}
 use Rattle.replica.specs.FollowFile.{Connects, MayHold, FollowsFile}
 use Rattle.replica.proofs.Captured.{reads_weaker}
+use Rattle.replica.proofs.Missing.{has_reached}
 
 -- what a database at rest has committed is opened as its content
 rest_left : (s : State) (names : Names) (content : Content) → IsAtRest s names content → (only : Names) → IsLeft only names content s.committed.trees
@@ -80,7 +83,7 @@ closes_as only image opened conn closed before opens entered copied failed = rec
 
 module _ {D : Type 0} (g : Ghosts D) (names : Names) (after : Store (FileStore D g) over_files) (kept : after.following ≡ names) where
   -- closed files hold what the store held
-  closed_with : (is : Bool) (content : Content) (files : Files D) → IsCopied after.conn files → HoldsAs over_files is content after → AreClosedWith g names content files
+  pub closed_with : (is : Bool) (content : Content) (files : Files D) → IsCopied after.conn files → HoldsAs over_files is content after → AreClosedWith g names content files
   closed_with is content files copy holds = record {
     trees = (file_state after.conn).committed.trees;
     stands = λ only. subst (λ n. IsLeft only n content (file_state after.conn).committed.trees) kept (rest_left (file_state after.conn) after.following content (rest_of is content after copy.was_open holds) only);
@@ -89,7 +92,7 @@ module _ {D : Type 0} (g : Ghosts D) (names : Names) (after : Store (FileStore D
   }
 
   -- files that could not be closed are left with what the store may leave
-  may_hold : (schema : Schema) (among : Content → Type 0) (last : FileStore D g) → ((trees : Trees) → recovers last trees → (file_state after.conn).may_leave trees) → LeavesOnly over_files schema after among → MayHold names last among
+  pub may_hold : (schema : Schema) (among : Content → Type 0) (last : FileStore D g) → ((trees : Trees) → recovers last trees → (file_state after.conn).may_leave trees) → LeavesOnly over_files schema after among → MayHold names last among
   may_hold schema among last quiet leaves trees may =
       let l = leaves.each trees (quiet trees may) in
       (l.0, l.2, λ only. subst (λ n. IsLeft only n l.0 trees) kept (left_by schema after.following l.0 trees l.1 only))
@@ -183,19 +186,28 @@ module _ {D : Type 0} (g : Ghosts D) (names : Names) (old : Content) (opened aft
   -- what was reported to an observer leads to what closed files hold
   pub noted_of_files : (t0 t1 : Account) (ends : List Ended) (closed : Result (Files D) (Error × FileStore D g))
       → after.following ≡ opened.following → (HasCleanDisk (database over_files after) → Holds over_files opened old × (opened.following ≡ names))
-      → (HasCleanDisk (database over_files after) → (was : Bool) (content : Content) → HoldsAs over_files was content opened → IsLedTo over_files opened after was content t0 t1 ends)
-      → (HasCleanDisk (database over_files after) → (was : Bool) (content : Content) → HoldsAs over_files was content opened → ends ≢ [] → WasMissing t0.2 t1.2 content.executed)
+      → (HasCleanDisk (database over_files after) → (was : Bool) (content : Content) → HoldsAs over_files was content opened → IsLedSinceOpening over_files opened after was content t0 t1 ends)
       → IfOk closed (λ files. AreClean g files.log files.db → IsCopied after.conn files)
       → IfErr closed (λ e. IsClosed after.conn e.1 × (IsClean (view e.1) → FailsToClose after.conn e.1 e.0))
       → IsNotedOfFiles names old t0 t1 ends closed
-  noted_of_files t0 t1 ends (Ok files) same opens notes missed copied failed = λ honest.
+  noted_of_files t0 t1 ends (Ok files) same opens notes copied failed = λ honest.
       let copy = copied honest in
       let o = opens copy.was_clean in
       let a = notes copy.was_clean false old o.0 in
-      (a.new, closed_with g names after (same ∙ o.1) a.now_broken a.new files copy a.holds, subst (λ n. IsNotedOf n old a.new t0 t1 ends) o.1 a.noted_of, missed copy.was_clean false old o.0)
-  noted_of_files t0 t1 ends (Err e) same opens notes missed copied failed = λ honest.
+      (a.new, closed_with g names after (same ∙ o.1) a.now_broken a.new files copy a.holds, subst (λ n. IsNotedSinceOpening n old a.new t0 t1 ends) o.1 a.noted_of)
+  noted_of_files t0 t1 ends (Err e) same opens notes copied failed = λ honest.
       let quiet = failed.0.quiet in
       let clean : HasCleanDisk (database over_files after) = omega (arith, quiet.clean, honest) in
       let o = opens clean in
       let a = notes clean false old o.0 in
-      (a.new, subst (λ n. IsNotedOf n old a.new t0 t1 ends) o.1 a.noted_of, missed clean false old o.0)
+      (a.new, subst (λ n. IsNotedSinceOpening n old a.new t0 t1 ends) o.1 a.noted_of)
+
+-- where the observer waits for nothing more
+pub reached_in_files : {D : Type 0} {g : Ghosts D} (names : Names) (old : Content) (was is : Account) (ends : List Ended) (wanted : Ids) (closed : Result (Files D) (Error × FileStore D g)) → IsNotedOfFiles names old was is ends closed
+    → was.waits ≡ Some wanted → waits_for_none is.waits ≡ true → HaveReached names old wanted closed
+reached_in_files names old was is ends wanted (Ok files) noted wants none = λ honest.
+    let n = noted honest in
+    (n.0, n.1, has_reached names old n.0 was is ends wanted n.2 wants none)
+reached_in_files names old was is ends wanted (Err e) noted wants none = λ honest.
+    let n = noted honest in
+    (n.0, has_reached names old n.0 was is ends wanted n.1 wants none)

@@ -20,6 +20,7 @@ pub mod TooLong
 pub mod SomeEnd
 pub mod Failed
 pub mod Observed
+pub mod MissingSets
 pub mod Noted
 pub mod Missing
 pub mod Followed
@@ -36,3 +37,6 @@ pub mod Resuming
 pub mod Restarted
 pub mod RestartedFiles
 pub mod Filtered
+pub mod Alone
+pub mod Taking
+pub mod Changed

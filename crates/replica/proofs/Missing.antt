@@ -1,5 +1,5 @@
 -- What is missing of a set after transactions were applied.
-use Rattle.std.proofs.Common.{◌≡◌, ◌∷◌, ◌++◌, [], List, Option, Some, None, Result, Ok, Err, Bool, true, false, ◌||◌, ◌&&◌, not, inl, inr, refl, sym, ap, subst, ◌∙◌}
+use Rattle.std.proofs.Common.{◌≡◌, ◌⊎◌, ◌+◌, ◌∷◌, ◌++◌, [], List, Option, Some, None, Result, Ok, Err, Bool, true, false, ◌||◌, ◌&&◌, not, inl, inr, refl, sym, ap, subst, ◌∙◌}
 use Rattle.std.specs.Prelude.{if◌then◌else◌}
 use Rattle.std.specs.FinSet as set
 use Rattle.std.specs.Cmp.{Equal-is}
@@ -10,121 +10,13 @@ use Rattle.gtid.proofs.Sets.{id_cmp_total, id_cmp-same}
 use Rattle.binlog.specs.Filter.{Names}
 use Rattle.gather.specs.Transaction.{DeliveryValue}
 use Rattle.store.specs.State.{Content}
+use Rattle.store.specs.Changes.{HasOutcome, done}
 use Rattle.replica.specs.declared.end.Reason.{Reason}
 use Rattle.replica.specs.declared.end.Ended.{Ended}
-use Rattle.replica.specs.Missing.{is_over, IsLeftOf}
-use Rattle.replica.specs.Noted.{Notice, opened, before, stopped, after, ended, HasBeenNoted, LeadsBy, missing_after, StillWaits, waits_for_none, AreMissed, WereMissed, WasMissing, Account, IsNotedOf}
+use Rattle.replica.specs.Missing.{is_over, IsLeftOf, waits_for_none}
+use Rattle.replica.specs.Noted.{Notice, opened, before, stopped, after, ended, HasBeenNoted, LeadsBy, missing_after, StillWaits, AreMissed, WereMissed, WasMissing, Account, IsNotedOf, BeginsWith, IsNotedSinceOpening, EndsWithLast, HasReached}
+use Rattle.replica.proofs.MissingSets.{removed, again, removed_within, either_first, without_one, without_absent, none_left, none_removed, within, not_both}
 use Rattle.replica.proofs.Noted.{unchanged}
-
--- ---- sets
-
-not_or : (a b c : Bool) → (not b && (a && not c)) ≡ (a && not (b || c))
-not_or true true c = refl
-not_or true false c = refl
-not_or false true c = refl
-not_or false false c = refl
-
-not_twice : (a b : Bool) → ((a && not b) && not b) ≡ (a && not b)
-not_twice true true = refl
-not_twice true false = refl
-not_twice false b = refl
-
-swapped : (a b : Bool) → (not b && a) ≡ (a && not (b || false))
-swapped true true = refl
-swapped true false = refl
-swapped false true = refl
-swapped false false = refl
-
--- without a set and then one more
-removed : (w s : Ids) (q : Id) → set.remove (set.difference w s) q ≡ set.difference w (set.insert s q)
-removed w s q = set.same_set id_cmp_total id_cmp-same (set.remove (set.difference w s) q) (set.difference w (set.insert s q)) (λ x.
-    set.contains-remove id_cmp_total (set.difference w s) q x
-    ∙ ap (λ b. not (eq_by_cmp id_cmp x q) && b) (set.contains-difference id_cmp_total w s x)
-    ∙ not_or (set.contains w x) (eq_by_cmp id_cmp x q) (set.contains s x)
-    ∙ ap (λ b. set.contains w x && not b) (sym (set.contains-insert id_cmp_total s q x))
-    ∙ sym (set.contains-difference id_cmp_total w (set.insert s q) x))
-
--- without the same set twice
-again : (w s : Ids) → set.difference (set.difference w s) s ≡ set.difference w s
-again w s = set.same_set id_cmp_total id_cmp-same (set.difference (set.difference w s) s) (set.difference w s) (λ x.
-    set.contains-difference id_cmp_total (set.difference w s) s x
-    ∙ ap (λ b. b && not (set.contains s x)) (set.contains-difference id_cmp_total w s x)
-    ∙ not_twice (set.contains w x) (set.contains s x)
-    ∙ sym (set.contains-difference id_cmp_total w s x))
-
-exchanged : (a b c : Bool) → (not b && (a && not c)) ≡ ((not b && a) && not c)
-exchanged a true c = refl
-exchanged a false c = refl
-
-both_out : (a b c : Bool) → ((a && not b) && not c) ≡ ((a && not c) && not b)
-both_out true true true = refl
-both_out true true false = refl
-both_out true false true = refl
-both_out true false false = refl
-both_out false b c = refl
-
--- without one and a set, in either order
-removed_within : (w s : Ids) (q : Id) → set.remove (set.difference w s) q ≡ set.difference (set.remove w q) s
-removed_within w s q = set.same_set id_cmp_total id_cmp-same (set.remove (set.difference w s) q) (set.difference (set.remove w q) s) (λ x.
-    set.contains-remove id_cmp_total (set.difference w s) q x
-    ∙ ap (λ b. not (eq_by_cmp id_cmp x q) && b) (set.contains-difference id_cmp_total w s x)
-    ∙ exchanged (set.contains w x) (eq_by_cmp id_cmp x q) (set.contains s x)
-    ∙ ap (λ b. b && not (set.contains s x)) (sym (set.contains-remove id_cmp_total w q x))
-    ∙ sym (set.contains-difference id_cmp_total (set.remove w q) s x))
-
--- without two sets, in either order
-either_first : (w s t : Ids) → set.difference (set.difference w s) t ≡ set.difference (set.difference w t) s
-either_first w s t = set.same_set id_cmp_total id_cmp-same (set.difference (set.difference w s) t) (set.difference (set.difference w t) s) (λ x.
-    set.contains-difference id_cmp_total (set.difference w s) t x
-    ∙ ap (λ b. b && not (set.contains t x)) (set.contains-difference id_cmp_total w s x)
-    ∙ both_out (set.contains w x) (set.contains s x) (set.contains t x)
-    ∙ ap (λ b. b && not (set.contains s x)) (sym (set.contains-difference id_cmp_total w t x))
-    ∙ sym (set.contains-difference id_cmp_total (set.difference w t) s x))
-
--- without a set of one
-without_one : (w : Ids) (q : Id) → set.difference w (set.insert set.empty q) ≡ set.remove w q
-without_one w q = set.same_set id_cmp_total id_cmp-same (set.difference w (set.insert set.empty q)) (set.remove w q) (λ x.
-    set.contains-difference id_cmp_total w (set.insert set.empty q) x
-    ∙ ap (λ b. set.contains w x && not b) (set.contains-insert id_cmp_total set.empty q x ∙ ap (λ b. eq_by_cmp id_cmp x q || b) (set.contains-empty id_cmp x))
-    ∙ sym (swapped (set.contains w x) (eq_by_cmp id_cmp x q))
-    ∙ sym (set.contains-remove id_cmp_total w q x))
-
-absent : (w : Ids) (q x : Id) → set.contains w q ≡ false → set.contains w x ≡ (not (eq_by_cmp id_cmp x q) && set.contains w x)
-absent w q x out = elim (cases_Bool (eq_by_cmp id_cmp x q)) [
-  | inl same ↦ (
-      let none : set.contains w x ≡ false = sym (set.contains_tied id_cmp_total w x q ((Equal-is (id_cmp x q)).0 same)) ∙ out in
-      none ∙ sym (ap (λ b. not b && set.contains w x) same))
-  | inr other ↦ sym (ap (λ b. not b && set.contains w x) other)
-]
-
--- without one that is not in it
-without_absent : (w : Ids) (q : Id) → set.contains w q ≡ false → w ≡ set.remove w q
-without_absent w q out = set.same_set id_cmp_total id_cmp-same w (set.remove w q) (λ x. absent w q x out ∙ sym (set.contains-remove id_cmp_total w q x))
-
-first_of : (a b : Bool) → (a && b) ≡ true → a ≡ true
-first_of true b h = refl
-first_of false b h = h
-
-not_both : (a b : Bool) → (a ≡ true → b ≡ true) → (a && not b) ≡ true → ⊥
-not_both true true h both = false≢true both
-not_both true false h both = false≢true (h refl)
-not_both false b h both = false≢true both
-
-none_left : (w s : Ids) → set.is_subset w set.empty ≡ true → set.is_subset (set.difference w s) set.empty ≡ true
-none_left w s none = set.contains-is_subset id_cmp_total (set.difference w s) set.empty (λ q there.
-    set.is_subset-contains id_cmp_total w set.empty none q (first_of (set.contains w q) (not (set.contains s q)) (sym (set.contains-difference id_cmp_total w s q) ∙ there)))
-
-none_removed : (w : Ids) (q : Id) → set.is_subset w set.empty ≡ true → set.is_subset (set.remove w q) set.empty ≡ true
-none_removed w q none = subst (λ (s : Ids). set.is_subset s set.empty ≡ true) (without_one w q) (none_left w (set.insert set.empty q) none)
-
--- nothing is left of a set without another one, so it is within it
-pub within : (w s : Ids) → set.is_subset (set.difference w s) set.empty ≡ true → set.is_subset w s ≡ true
-within w s none = set.contains-is_subset id_cmp_total w s (λ q there. elim (cases_Bool (set.contains s q)) [
-  | inl held ↦ held
-  | inr out ↦ (
-      let left : set.contains (set.difference w s) q ≡ true = set.contains-difference id_cmp_total w s q ∙ (λ i. there i && not (out i)) in
-      absurd (false≢true (sym (set.contains-empty id_cmp q) ∙ set.is_subset-contains id_cmp_total (set.difference w s) set.empty none q left)))
-])
 
 -- ---- what is missing after what was reported
 
@@ -180,10 +72,10 @@ all_within names old notices new wanted (Some left) l waits none =
     (none_left (missing_after wanted notices) old.executed (subst (λ (s : Ids). set.is_subset s set.empty ≡ true) waits none)))
 
 -- an observer that waits for nothing more after what led to a content
-pub all_there : (names : Names) (old new : Content) (was is : Account) (ends : List Ended) (wanted : Ids) → IsNotedOf names old new was is ends → was.2 ≡ Some wanted → waits_for_none is.2 ≡ true
+pub all_there : (names : Names) (old new : Content) (was is : Account) (ends : List Ended) (wanted : Ids) → IsNotedOf names old new was is ends → was.waits ≡ Some wanted → waits_for_none is.waits ≡ true
     → set.is_subset wanted new.executed ≡ true
 all_there names old new was is ends wanted noted wants none =
-    all_within names old noted.notices new wanted is.2 noted.leads (subst (λ (w : Option Ids). StillWaits w noted.notices is.2) wants noted.waits) none
+    all_within names old noted.notices new wanted is.waits noted.leads (subst (λ (w : Option Ids). StillWaits w noted.notices is.waits) wants noted.waits) none
 
 -- something was missing before each transaction that was to be applied
 missed_at : (ids : Ids) (xs : List Notice) (d : DeliveryValue) (ys : List Notice) → AreMissed ids (xs ++ before d ∷ ys) → set.is_subset (missing_after ids xs) set.empty ≡ false
@@ -206,6 +98,52 @@ pub too_few : (names : Names) (old : Content) (ids : Ids) (xs : List Notice) (mi
 too_few names old ids xs mid wanted left d ys l missed =
     outside wanted mid.executed (subst (λ (s : Ids). set.is_subset s set.empty ≡ false) (missing_of names old ids xs mid wanted l) (missed_at (set.difference wanted ids) xs d ys missed))
 
+-- the last transaction that was applied, if there was one
+reached_by : (names : Names) (old : Content) (notices : List Notice) (new : Content) (w : Ids) → LeadsBy names old notices new → AreMissed (set.difference w old.executed) notices → (new ≡ old) ⊎ EndsWithLast names old new w
+reached_by names old [] new w l a = inl l
+reached_by names old (before d ∷ []) new w l a = absurd l
+reached_by names old (before d ∷ after e (Ok true) ∷ ns) new w l a =
+    let gone : set.remove (set.difference w old.executed) (e.source, e.number) ≡ set.difference w l.1.executed =
+    removed w old.executed (e.source, e.number) ∙ ap (λ (x : DeliveryValue). set.difference w (set.insert old.executed (x.source, x.number))) l.0 ∙ ap (λ (s : Ids). set.difference w s) (sym l.2.2) in
+    elim (reached_by names l.1 ns new w l.3 (subst (λ (s : Ids). AreMissed s ns) gone a.1)) [
+      | inl same ↦ inr (record { transactions = []; applied = 0; mid = old; applies = (refl, refl); too_few = outside w old.executed a.0; last = d; applies_last = subst (λ (c : Content). HasOutcome names old d (done c)) (sym same) l.2 })
+      | inr more ↦ inr (record { transactions = d ∷ more.transactions; applied = more.applied + 1; mid = more.mid; applies = inl (l.1, more.applied, l.2, refl, more.applies); too_few = more.too_few; last = more.last; applies_last = more.applies_last })
+    ]
+reached_by names old (before d ∷ after e (Ok false) ∷ ns) new w l a = absurd l.2
+reached_by names old (before d ∷ after e (Err reason) ∷ ns) new w l a =
+    let same : l.1 ≡ old = unchanged names old d reason l.1 l.2 in
+    subst (λ (c : Content). (new ≡ c) ⊎ EndsWithLast names c new w) same (reached_by names l.1 ns new w l.3 (subst (λ (c : Content). AreMissed (set.difference w c.executed) ns) (sym same) a.1))
+reached_by names old (before d ∷ opened ids ∷ ns) new w l a = absurd l
+reached_by names old (before d ∷ before e ∷ ns) new w l a = absurd l
+reached_by names old (before d ∷ stopped e ∷ ns) new w l a = absurd l
+reached_by names old (before d ∷ ended end goes_on ∷ ns) new w l a = absurd l
+reached_by names old (stopped d ∷ ns) new w l a = reached_by names old ns new w l.2 a
+reached_by names old (after d (Ok true) ∷ ns) new w l a = absurd l
+reached_by names old (after d (Ok false) ∷ ns) new w l a = reached_by names old ns new w l.1 a
+reached_by names old (after d (Err reason) ∷ ns) new w l a = reached_by names old ns new w l.1 a
+reached_by names old (opened ids ∷ ns) new w l a =
+    reached_by names old ns new w l.1 (subst (λ (s : Ids). AreMissed s ns) (ap (λ (s : Ids). set.difference (set.difference w old.executed) s) l.0 ∙ again w old.executed) a)
+reached_by names old (ended end true ∷ ns) new w l a = reached_by names old ns new w l a
+reached_by names old (ended end false ∷ ns) new w l a = inl l.1
+
+since_opened : (names : Names) (old new : Content) (notices : List Notice) (wanted : Ids) (is : Option Ids) → BeginsWith old.executed notices → LeadsBy names old notices new → WereMissed (Some wanted) notices is
+    → waits_for_none is ≡ true → (new ≡ old) ⊎ EndsWithLast names old new wanted
+since_opened names old new [] wanted is b l m none = absurd b
+since_opened names old new (before d ∷ ns) wanted is b l m none = absurd b
+since_opened names old new (stopped d ∷ ns) wanted is b l m none = absurd b
+since_opened names old new (after d answer ∷ ns) wanted is b l m none = absurd b
+since_opened names old new (ended end goes_on ∷ ns) wanted is b l m none = absurd b
+since_opened names old new (opened ids ∷ ns) wanted None b l m none = absurd (false≢true none)
+since_opened names old new (opened ids ∷ ns) wanted (Some left) b l m none = reached_by names old ns new wanted l.1 (subst (λ (s : Ids). AreMissed (set.difference wanted s) ns) b m)
+
+-- an observer that waits for nothing more, after a database was opened
+pub has_reached : (names : Names) (old new : Content) (was is : Account) (ends : List Ended) (wanted : Ids) → IsNotedSinceOpening names old new was is ends → was.waits ≡ Some wanted → waits_for_none is.waits ≡ true
+    → HasReached names old new wanted
+has_reached names old new was is ends wanted noted wants none = record {
+  all = all_there names old new was is ends wanted noted.noted_of wants none;
+  first = since_opened names old new noted.noted_of.notices wanted is.waits noted.begins noted.noted_of.leads (subst (λ (w : Option Ids). WereMissed w noted.noted_of.notices is.waits) wants noted.noted_of.missed) none;
+}
+
 -- after an opening that left something missing
 pub missing_first : (was is : Option Ids) (ids executed : Ids) → ids ≡ executed → StillWaits was (opened ids ∷ []) is → waits_for_none is ≡ false → WasMissing was is executed
 missing_first was None ids executed same waits some = tt
@@ -222,7 +160,7 @@ missing_later (Some wanted) (Some mid) (Some is) notices executed waits missed =
 -- ---- an observer that stops once nothing is missing
 
 pub left_opened : (was : Option Ids) (taken : Ids) (is : Option Ids) → IsLeftOf was taken is → StillWaits was (opened taken ∷ []) is
-left_opened was taken None l = tt
+left_opened was taken None l = l
 left_opened None taken (Some is) l = absurd l
 left_opened (Some was) taken (Some is) l = l
 
@@ -233,7 +171,7 @@ left_none (Some was) taken (Some is) l over = subst (λ (s : Ids). set.is_subset
 
 -- what is reported of a transaction
 pub left_one : (was : Ids) (d : DeliveryValue) (one : Ids) (is : Option Ids) → one ≡ set.insert set.empty (d.source, d.number) → IsLeftOf (Some was) one is → StillWaits (Some was) (after d (Ok true) ∷ []) is
-left_one was d one None same l = tt
+left_one was d one None same l = l
 left_one was d one (Some is) same l = l ∙ ap (λ (s : Ids). set.difference was s) same ∙ without_one was (d.source, d.number)
 
 pub left_absent : (was : Ids) (d : DeliveryValue) → set.contains was (d.source, d.number) ≡ false → StillWaits (Some was) (after d (Ok true) ∷ []) (Some was)

@@ -1,7 +1,7 @@
 -- What is reported to an observer, along the calls that report it.
 use Rattle.std.proofs.Common.{◌≡◌, ◌≢◌, ◌⊎◌, ◌∷◌, ◌++◌, [], length, arith, List, Option, Some, None, Result, Ok, Err, Bool, true, false, refl, sym, ap, ap₂, subst, ◌∙◌, inl, inr, append_assoc, append-nil}
 use Rattle.std.specs.Prelude.{if◌then◌else◌, not}
-use Rattle.std.proofs.lemmas.Bool.{cases_Bool, false≢true}
+use Rattle.std.proofs.lemmas.Bool.{cases_Bool, false≢true, false_from_ne_true}
 use Rattle.sqlite_trees.specs.declared.store.Store.{Ghosts}
 use Rattle.std.specs.FinSet as set
 use Rattle.gtid.specs.Identifier.{Ids}
@@ -21,7 +21,9 @@ use Rattle.replica.specs.declared.end.Ended.{Ended}
 use Rattle.replica.specs.Conn.{AppliesAll}
 use Rattle.replica.specs.PayloadStep.{outcome_of}
 use Rattle.replica.proofs.Transactions.{all_one}
-use Rattle.replica.specs.Noted.{Notice, opened, before, stopped, after, ended, HasBeenNoted, asked_about, ends_in, has_stop, has_last, LetsNone, applied_in, IsMadeBy, LeadsBy, Account, IsNotedOf, IsLedTo, missing_after, StillWaits, waits_for_none, AreMissed, WereMissed}
+use Rattle.replica.proofs.MissingSets.{none_left, none_removed}
+use Rattle.replica.specs.Noted.{Notice, opened, before, stopped, after, ended, HasBeenNoted, asked_about, ends_in, has_stop, has_last, LetsNone, applied_in, IsMadeBy, LeadsBy, Account, IsNotedOf, IsLedTo, missing_after, StillWaits, AreMissed, WereMissed, WasMissing, BeginsWith, IsNotedSinceOpening, IsLedSinceOpening}
+use Rattle.replica.specs.Missing.{waits_for_none}
 
 pub noted_none : (noted : Option (List Notice)) → HasBeenNoted noted noted []
 noted_none None = tt
@@ -44,19 +46,35 @@ missing_more ids (after d (Err reason) ∷ xs) ys = missing_more ids xs ys
 missing_more ids (opened executed ∷ xs) ys = missing_more (set.difference ids executed) xs ys
 missing_more ids (ended end goes_on ∷ xs) ys = missing_more ids xs ys
 
+-- once nothing is missing nothing is later
+none_missing : (ids : Ids) (notices : List Notice) → set.is_subset ids set.empty ≡ true → set.is_subset (missing_after ids notices) set.empty ≡ true
+none_missing ids [] none = none
+none_missing ids (before d ∷ ns) none = none_missing ids ns none
+none_missing ids (stopped d ∷ ns) none = none_missing ids ns none
+none_missing ids (after d (Ok true) ∷ ns) none = none_missing (set.remove ids (d.source, d.number)) ns (none_removed ids (d.source, d.number) none)
+none_missing ids (after d (Ok false) ∷ ns) none = none_missing ids ns none
+none_missing ids (after d (Err reason) ∷ ns) none = none_missing ids ns none
+none_missing ids (opened executed ∷ ns) none = none_missing (set.difference ids executed) ns (none_left ids executed none)
+none_missing ids (ended end goes_on ∷ ns) none = none_missing ids ns none
+
+pub none_later : (was is : Option Ids) (notices : List Notice) → StillWaits was notices is → waits_for_none was ≡ true → waits_for_none is ≡ true
+none_later was None notices waits none = absurd (false≢true (sym waits ∙ none))
+none_later None (Some is) notices waits none = absurd waits
+none_later (Some was) (Some is) notices waits none = subst (λ (ids : Ids). set.is_subset ids set.empty ≡ true) (sym waits) (none_missing was notices none)
+
 pub waits_none : (waits : Option Ids) → StillWaits waits [] waits
-waits_none None = tt
+waits_none None = refl
 waits_none (Some ids) = refl
 
 pub waits_more : (first middle last : Option Ids) (xs ys : List Notice) → StillWaits first xs middle → StillWaits middle ys last → StillWaits first (xs ++ ys) last
-waits_more first middle None xs ys a b = tt
+waits_more first middle None xs ys a b = false_from_ne_true (waits_for_none first) (λ none. false≢true (sym b ∙ none_later first middle xs a none))
 waits_more first None (Some l) xs ys a b = absurd b
 waits_more None (Some m) (Some l) xs ys a b = absurd a
 waits_more (Some f) (Some m) (Some l) xs ys a b = b ∙ ap (λ (ids : Ids). missing_after ids ys) a ∙ sym (missing_more f xs ys)
 
 -- what is reported of no transaction that was applied changes nothing
 waits_same : (was is : Option Ids) (n : Notice) → ((ids : Ids) → missing_after ids (n ∷ []) ≡ ids) → StillWaits was [] is → StillWaits was (n ∷ []) is
-waits_same was None n same a = tt
+waits_same was None n same a = a
 waits_same None (Some is) n same a = absurd a
 waits_same (Some was) (Some is) n same a = a ∙ sym (same was)
 
@@ -206,12 +224,12 @@ pub asked_new : (now : Content) (d : DeliveryValue) (was is : Option (List Notic
 asked_new now d was is true fresh noted = subst (λ (b : Bool). HasBeenNoted was is (if b then [] else before d ∷ [])) (sym fresh) noted
 asked_new now d was is false fresh noted = subst (λ (b : Bool). HasBeenNoted was is (if b then [] else stopped d ∷ [])) (sym fresh) noted
 
-pub nothing_noted : (names : Names) (old : Content) (was is : Account) → is.0 ≡ was.0 → (was.1 ≡ true → is.1 ≡ true) → StillWaits was.2 [] is.2 → IsNotedOf names old old was is []
+pub nothing_noted : (names : Names) (old : Content) (was is : Account) → is.noted ≡ was.noted → (was.has_stopped ≡ true → is.has_stopped ≡ true) → StillWaits was.waits [] is.waits → IsNotedOf names old old was is []
 nothing_noted names old was is same stays still = record {
   notices = [];
-  noted = subst (λ (t : Option (List Notice)). HasBeenNoted was.0 t []) (sym same) (noted_none was.0);
+  noted = subst (λ (t : Option (List Notice)). HasBeenNoted was.noted t []) (sym same) (noted_none was.noted);
   waits = still;
-  missed = missed_none was.2 is.2 still;
+  missed = missed_none was.waits is.waits still;
   leads = refl;
   ends_are = refl;
   stays = stays;
@@ -220,12 +238,12 @@ nothing_noted names old was is same stays still = record {
   lets_none = λ on. tt;
 }
 
-pub noted_on : (names : Names) (old mid new : Content) (t0 t1 t2 : Account) (ends more : List Ended) → (ends ≢ [] → t1.1 ≡ false) → IsNotedOf names old mid t0 t1 ends → IsNotedOf names mid new t1 t2 more → IsNotedOf names old new t0 t2 (ends ++ more)
+abbrev noted_on : (names : Names) (old mid new : Content) (t0 t1 t2 : Account) (ends more : List Ended) → (ends ≢ [] → t1.has_stopped ≡ false) → IsNotedOf names old mid t0 t1 ends → IsNotedOf names mid new t1 t2 more → IsNotedOf names old new t0 t2 (ends ++ more)
 noted_on names old mid new t0 t1 t2 ends more going a b = record {
   notices = a.notices ++ b.notices;
-  noted = noted_more t0.0 t1.0 t2.0 a.notices b.notices a.noted b.noted;
-  waits = waits_more t0.2 t1.2 t2.2 a.notices b.notices a.waits b.waits;
-  missed = missed_more t0.2 t1.2 t2.2 a.notices b.notices a.waits b.waits a.missed b.missed;
+  noted = noted_more t0.noted t1.noted t2.noted a.notices b.notices a.noted b.noted;
+  waits = waits_more t0.waits t1.waits t2.waits a.notices b.notices a.waits b.waits;
+  missed = missed_more t0.waits t1.waits t2.waits a.notices b.notices a.waits b.waits a.missed b.missed;
   leads = leads_more names old a.notices mid b.notices new a.leads b.leads (λ h. b.lets_none (a.stops h))
       (λ h. absurd (false≢true (sym (going (λ none. false≢true (sym (no_last a.notices (a.ends_are ∙ none)) ∙ h))) ∙ a.last h)));
   ends_are = ends_more a.notices b.notices ∙ ap₂ (λ (x y : List Ended). x ++ y) a.ends_are b.ends_are;
@@ -237,14 +255,14 @@ noted_on names old mid new t0 t1 t2 ends more going a b = record {
 
 -- what is reported before and after a transaction that the observer lets pass, unless it is executed
 pub record Asks (old : Content) (d : DeliveryValue) (t0 t1 t2 : Account) (answer : Result Bool Reason) : Type 0 where
-  pub asked : HasBeenNoted t0.0 t1.0 (asked_about old d false)
-  pub noted : HasBeenNoted t1.0 t2.0 (after d answer ∷ [])
-  pub goes_on : is_executed old d ≡ false → t1.1 ≡ false
-  pub stays : t0.1 ≡ true → t1.1 ≡ true
-  pub stays_after : t1.1 ≡ true → t2.1 ≡ true
-  pub still : StillWaits t0.2 [] t1.2
-  pub waits : StillWaits t1.2 (after d answer ∷ []) t2.2
-  pub missed : is_executed old d ≡ false → waits_for_none t1.2 ≡ false
+  pub asked : HasBeenNoted t0.noted t1.noted (asked_about old d false)
+  pub noted : HasBeenNoted t1.noted t2.noted (after d answer ∷ [])
+  pub goes_on : is_executed old d ≡ false → t1.has_stopped ≡ false
+  pub stays : t0.has_stopped ≡ true → t1.has_stopped ≡ true
+  pub stays_after : t1.has_stopped ≡ true → t2.has_stopped ≡ true
+  pub still : StillWaits t0.waits [] t1.waits
+  pub waits : StillWaits t1.waits (after d answer ∷ []) t2.waits
+  pub missed : is_executed old d ≡ false → waits_for_none t1.waits ≡ false
 
 end_leads : (names : Names) (old : Content) (end : Ended) (goes_on : Bool) → LeadsBy names old (ended end goes_on ∷ []) old
 end_leads names old end true = refl
@@ -255,12 +273,28 @@ end_stops end true on asks last = absurd (false≢true last)
 end_stops end false true asks last = refl
 end_stops end false false asks last = asks
 
+begins_more : (executed : Ids) (xs ys : List Notice) → BeginsWith executed xs → BeginsWith executed (xs ++ ys)
+begins_more executed [] ys b = absurd b
+begins_more executed (opened ids ∷ xs) ys b = b
+begins_more executed (before d ∷ xs) ys b = absurd b
+begins_more executed (stopped d ∷ xs) ys b = absurd b
+begins_more executed (after d answer ∷ xs) ys b = absurd b
+begins_more executed (ended end goes_on ∷ xs) ys b = absurd b
+
+since_on : (names : Names) (old mid new : Content) (t0 t1 t2 : Account) (ends more : List Ended) → (ends ≢ [] → t1.has_stopped ≡ false) → IsNotedSinceOpening names old mid t0 t1 ends → IsNotedOf names mid new t1 t2 more
+    → (ends ++ more ≢ [] → WasMissing t0.waits t2.waits old.executed) → IsNotedSinceOpening names old new t0 t2 (ends ++ more)
+since_on names old mid new t0 t1 t2 ends more going a b missed = record {
+  noted_of = noted_on names old mid new t0 t1 t2 ends more going a.noted_of b;
+  begins = begins_more old.executed a.noted_of.notices b.notices a.begins;
+  missed = missed;
+}
+
 module _ {S : Type 0} (g : Ghosts S) where
   -- nothing is reported, and the store stays as it is
-  pub led_nowhere : (broken : Bool) (old : Content) (store : Store S g) (was is : Account) → HoldsAs g broken old store → is.0 ≡ was.0 → (was.1 ≡ true → is.1 ≡ true) → StillWaits was.2 [] is.2 → IsLedTo g store store broken old was is []
+  pub led_nowhere : (broken : Bool) (old : Content) (store : Store S g) (was is : Account) → HoldsAs g broken old store → is.noted ≡ was.noted → (was.has_stopped ≡ true → is.has_stopped ≡ true) → StillWaits was.waits [] is.waits → IsLedTo g store store broken old was is []
   led_nowhere broken old store was is holds same stays still = record { now_broken = broken; new = old; holds = holds; noted_of = nothing_noted store.following old was is same stays still }
 
-  pub led_on : (broken : Bool) (old : Content) (first middle last : Store S g) (t0 t1 t2 : Account) (ends more : List Ended) → middle.following ≡ first.following → (ends ≢ [] → t1.1 ≡ false)
+  pub led_on : (broken : Bool) (old : Content) (first middle last : Store S g) (t0 t1 t2 : Account) (ends more : List Ended) → middle.following ≡ first.following → (ends ≢ [] → t1.has_stopped ≡ false)
       → (a : IsLedTo g first middle broken old t0 t1 ends) → IsLedTo g middle last a.now_broken a.new t1 t2 more → IsLedTo g first last broken old t0 t2 (ends ++ more)
   led_on broken old first middle last t0 t1 t2 ends more same going a b = record {
     now_broken = b.now_broken;
@@ -269,21 +303,21 @@ module _ {S : Type 0} (g : Ghosts S) where
     noted_of = noted_on first.following old a.new b.new t0 t1 t2 ends more going a.noted_of (subst (λ n. IsNotedOf n a.new b.new t1 t2 more) same b.noted_of);
   }
 
-  pub led_through : (broken : Bool) (old : Content) (first middle last : Store S g) (t0 t1 t2 : Account) (ends more : List Ended) → middle.following ≡ first.following → (ends ≢ [] → t1.1 ≡ false)
+  pub led_through : (broken : Bool) (old : Content) (first middle last : Store S g) (t0 t1 t2 : Account) (ends more : List Ended) → middle.following ≡ first.following → (ends ≢ [] → t1.has_stopped ≡ false)
       → IsLedTo g first middle broken old t0 t1 ends → ((is : Bool) (now : Content) → HoldsAs g is now middle → IsLedTo g middle last is now t1 t2 more) → IsLedTo g first last broken old t0 t2 (ends ++ more)
   led_through broken old first middle last t0 t1 t2 ends more same going a next = led_on broken old first middle last t0 t1 t2 ends more same going a (next a.now_broken a.new a.holds)
 
   -- what is reported before makes no difference, if it is of no transaction
-  pub led_after : (broken : Bool) (old : Content) (first last : Store S g) (t0 t1 t2 : Account) (ends : List Ended) → t1.0 ≡ t0.0 → (t0.1 ≡ true → t1.1 ≡ true) → StillWaits t0.2 [] t1.2 → IsLedTo g first last broken old t1 t2 ends → IsLedTo g first last broken old t0 t2 ends
+  pub led_after : (broken : Bool) (old : Content) (first last : Store S g) (t0 t1 t2 : Account) (ends : List Ended) → t1.noted ≡ t0.noted → (t0.has_stopped ≡ true → t1.has_stopped ≡ true) → StillWaits t0.waits [] t1.waits → IsLedTo g first last broken old t1 t2 ends → IsLedTo g first last broken old t0 t2 ends
   led_after broken old first last t0 t1 t2 ends early stays still a = record {
     now_broken = a.now_broken;
     new = a.new;
     holds = a.holds;
     noted_of = record {
       notices = a.noted_of.notices;
-      noted = subst (λ (t : Option (List Notice)). HasBeenNoted t t2.0 a.noted_of.notices) early a.noted_of.noted;
-      waits = waits_more t0.2 t1.2 t2.2 [] a.noted_of.notices still a.noted_of.waits;
-      missed = missed_more t0.2 t1.2 t2.2 [] a.noted_of.notices still a.noted_of.waits (missed_none t0.2 t1.2 still) a.noted_of.missed;
+      noted = subst (λ (t : Option (List Notice)). HasBeenNoted t t2.noted a.noted_of.notices) early a.noted_of.noted;
+      waits = waits_more t0.waits t1.waits t2.waits [] a.noted_of.notices still a.noted_of.waits;
+      missed = missed_more t0.waits t1.waits t2.waits [] a.noted_of.notices still a.noted_of.waits (missed_none t0.waits t1.waits still) a.noted_of.missed;
       leads = a.noted_of.leads;
       ends_are = a.noted_of.ends_are;
       stays = λ on. a.noted_of.stays (stays on);
@@ -293,17 +327,40 @@ module _ {S : Type 0} (g : Ghosts S) where
     };
   }
 
-  -- the executed set of a store
-  pub led_from : (broken : Bool) (old : Content) (store : Store S g) (ids : Ids) (was is : Account) → HoldsAs g broken old store → ids ≡ old.executed → HasBeenNoted was.0 is.0 (opened ids ∷ []) → (was.1 ≡ true → is.1 ≡ true) → StillWaits was.2 (opened ids ∷ []) is.2 → IsLedTo g store store broken old was is []
-  led_from broken old store ids was is holds same notes stays waits = record {
+  -- the executed set of a store that was opened
+  pub since_from : (broken : Bool) (old : Content) (store : Store S g) (ids : Ids) (was is : Account) → HoldsAs g broken old store → ids ≡ old.executed → HasBeenNoted was.noted is.noted (opened ids ∷ []) → (was.has_stopped ≡ true → is.has_stopped ≡ true) → StillWaits was.waits (opened ids ∷ []) is.waits → IsLedSinceOpening g store store broken old was is []
+  since_from broken old store ids was is holds same notes stays waits = record {
     now_broken = broken;
     new = old;
     holds = holds;
-    noted_of = record { notices = opened ids ∷ []; noted = notes; waits = waits; missed = missed_same was.2 is.2 (opened ids) (λ all. tt) waits; leads = (same, refl); ends_are = refl; stays = stays; stops = λ bad. absurd (false≢true bad); last = λ bad. absurd (false≢true bad); lets_none = λ on. tt };
+    noted_of = record {
+      noted_of = record { notices = opened ids ∷ []; noted = notes; waits = waits; missed = missed_same was.waits is.waits (opened ids) (λ all. tt) waits; leads = (same, refl); ends_are = refl; stays = stays; stops = λ bad. absurd (false≢true bad); last = λ bad. absurd (false≢true bad); lets_none = λ on. tt };
+      begins = same;
+      missed = λ some. absurd (some refl);
+    };
   }
 
+  -- the same as what leads from one content to another
+  pub led_from : (broken : Bool) (old : Content) (store : Store S g) (ids : Ids) (was is : Account) → HoldsAs g broken old store → ids ≡ old.executed → HasBeenNoted was.noted is.noted (opened ids ∷ []) → (was.has_stopped ≡ true → is.has_stopped ≡ true) → StillWaits was.waits (opened ids ∷ []) is.waits → IsLedTo g store store broken old was is []
+  led_from broken old store ids was is holds same notes stays waits =
+      let since = since_from broken old store ids was is holds same notes stays waits in
+      record { now_broken = since.now_broken; new = since.new; holds = since.holds; noted_of = since.noted_of.noted_of }
+
+  -- and what comes after that
+  pub since_through : (broken : Bool) (old : Content) (first middle last : Store S g) (t0 t1 t2 : Account) (ends more : List Ended) → middle.following ≡ first.following → (ends ≢ [] → t1.has_stopped ≡ false)
+      → IsLedSinceOpening g first middle broken old t0 t1 ends → ((is : Bool) (now : Content) → HoldsAs g is now middle → IsLedTo g middle last is now t1 t2 more) → (ends ++ more ≢ [] → WasMissing t0.waits t2.waits old.executed)
+      → IsLedSinceOpening g first last broken old t0 t2 (ends ++ more)
+  since_through broken old first middle last t0 t1 t2 ends more same going a next missed =
+      let b = next a.now_broken a.new a.holds in
+      record {
+        now_broken = b.now_broken;
+        new = b.new;
+        holds = b.holds;
+        noted_of = since_on first.following old a.new b.new t0 t1 t2 ends more going a.noted_of (subst (λ n. IsNotedOf n a.new b.new t1 t2 more) same b.noted_of) missed;
+      }
+
   -- the end of a connection
-  pub led_to_end : (broken : Bool) (old : Content) (store : Store S g) (end : Ended) (goes_on : Bool) (was is : Account) → HoldsAs g broken old store → HasBeenNoted was.0 is.0 (ended end goes_on ∷ []) → goes_on ≡ not is.1 → (was.1 ≡ true → is.1 ≡ true) → StillWaits was.2 [] is.2
+  pub led_to_end : (broken : Bool) (old : Content) (store : Store S g) (end : Ended) (goes_on : Bool) (was is : Account) → HoldsAs g broken old store → HasBeenNoted was.noted is.noted (ended end goes_on ∷ []) → goes_on ≡ not is.has_stopped → (was.has_stopped ≡ true → is.has_stopped ≡ true) → StillWaits was.waits [] is.waits
       → IsLedTo g store store broken old was is (end ∷ [])
   led_to_end broken old store end goes_on was is holds notes asks stays still = record {
     now_broken = broken;
@@ -312,19 +369,19 @@ module _ {S : Type 0} (g : Ghosts S) where
     noted_of = record {
       notices = ended end goes_on ∷ [];
       noted = notes;
-      waits = waits_same was.2 is.2 (ended end goes_on) (λ ids. refl) still;
-      missed = missed_same was.2 is.2 (ended end goes_on) (λ ids. tt) (waits_same was.2 is.2 (ended end goes_on) (λ ids. refl) still);
+      waits = waits_same was.waits is.waits (ended end goes_on) (λ ids. refl) still;
+      missed = missed_same was.waits is.waits (ended end goes_on) (λ ids. tt) (waits_same was.waits is.waits (ended end goes_on) (λ ids. refl) still);
       leads = end_leads store.following old end goes_on;
       ends_are = refl;
       stays = stays;
       stops = λ bad. absurd (false≢true bad);
-      last = end_stops end goes_on is.1 asks;
+      last = end_stops end goes_on is.has_stopped asks;
       lets_none = λ on. tt;
     };
   }
 
   -- a new transaction, before which the observer stops
-  pub led_to_stop : (broken : Bool) (old : Content) (store : Store S g) (d : DeliveryValue) (was is : Account) → HoldsAs g broken old store → is_executed old d ≡ false → HasBeenNoted was.0 is.0 (asked_about old d true) → is.1 ≡ true → StillWaits was.2 [] is.2
+  pub led_to_stop : (broken : Bool) (old : Content) (store : Store S g) (d : DeliveryValue) (was is : Account) → HoldsAs g broken old store → is_executed old d ≡ false → HasBeenNoted was.noted is.noted (asked_about old d true) → is.has_stopped ≡ true → StillWaits was.waits [] is.waits
       → IsLedTo g store store broken old was is []
   led_to_stop broken old store d was is holds fresh asked on still = record {
     now_broken = broken;
@@ -332,9 +389,9 @@ module _ {S : Type 0} (g : Ghosts S) where
     holds = holds;
     noted_of = record {
       notices = stopped d ∷ [];
-      noted = subst (λ (b : Bool). HasBeenNoted was.0 is.0 (if b then [] else stopped d ∷ [])) fresh asked;
-      waits = waits_same was.2 is.2 (stopped d) (λ ids. refl) still;
-      missed = missed_same was.2 is.2 (stopped d) (λ ids. tt) (waits_same was.2 is.2 (stopped d) (λ ids. refl) still);
+      noted = subst (λ (b : Bool). HasBeenNoted was.noted is.noted (if b then [] else stopped d ∷ [])) fresh asked;
+      waits = waits_same was.waits is.waits (stopped d) (λ ids. refl) still;
+      missed = missed_same was.waits is.waits (stopped d) (λ ids. tt) (waits_same was.waits is.waits (stopped d) (λ ids. refl) still);
       leads = (fresh, tt, refl);
       ends_are = refl;
       stays = λ was_on. on;
@@ -353,10 +410,10 @@ module _ {S : Type 0} (g : Ghosts S) where
     holds = holds;
     noted_of = record {
       notices = before d ∷ after d answer ∷ [];
-      noted = noted_more t0.0 t1.0 t2.0 (before d ∷ []) (after d answer ∷ []) (subst (λ (b : Bool). HasBeenNoted t0.0 t1.0 (if b then [] else before d ∷ [])) fresh a.asked) a.noted;
-      waits = waits_more t0.2 t1.2 t2.2 (before d ∷ []) (after d answer ∷ []) (waits_same t0.2 t1.2 (before d) (λ ids. refl) a.still) a.waits;
-      missed = missed_more t0.2 t1.2 t2.2 (before d ∷ []) (after d answer ∷ []) (waits_same t0.2 t1.2 (before d) (λ ids. refl) a.still) a.waits
-          (missed_before t0.2 t1.2 d a.still (a.missed fresh)) (missed_same t1.2 t2.2 (after d answer) (λ ids. after_missed ids d answer) a.waits);
+      noted = noted_more t0.noted t1.noted t2.noted (before d ∷ []) (after d answer ∷ []) (subst (λ (b : Bool). HasBeenNoted t0.noted t1.noted (if b then [] else before d ∷ [])) fresh a.asked) a.noted;
+      waits = waits_more t0.waits t1.waits t2.waits (before d ∷ []) (after d answer ∷ []) (waits_same t0.waits t1.waits (before d) (λ ids. refl) a.still) a.waits;
+      missed = missed_more t0.waits t1.waits t2.waits (before d ∷ []) (after d answer ∷ []) (waits_same t0.waits t1.waits (before d) (λ ids. refl) a.still) a.waits
+          (missed_before t0.waits t1.waits d a.still (a.missed fresh)) (missed_same t1.waits t2.waits (after d answer) (λ ids. after_missed ids d answer) a.waits);
       leads = (refl, new, makes, refl);
       ends_are = refl;
       stays = λ on. a.stays_after (a.stays on);
@@ -375,9 +432,9 @@ module _ {S : Type 0} (g : Ghosts S) where
     holds = holds;
     noted_of = record {
       notices = after d answer ∷ [];
-      noted = noted_more t0.0 t1.0 t2.0 [] (after d answer ∷ []) (subst (λ (b : Bool). HasBeenNoted t0.0 t1.0 (if b then [] else before d ∷ [])) known a.asked) a.noted;
-      waits = waits_more t0.2 t1.2 t2.2 [] (after d answer ∷ []) a.still a.waits;
-      missed = missed_more t0.2 t1.2 t2.2 [] (after d answer ∷ []) a.still a.waits (missed_none t0.2 t1.2 a.still) (missed_same t1.2 t2.2 (after d answer) (λ ids. after_missed ids d answer) a.waits);
+      noted = noted_more t0.noted t1.noted t2.noted [] (after d answer ∷ []) (subst (λ (b : Bool). HasBeenNoted t0.noted t1.noted (if b then [] else before d ∷ [])) known a.asked) a.noted;
+      waits = waits_more t0.waits t1.waits t2.waits [] (after d answer ∷ []) a.still a.waits;
+      missed = missed_more t0.waits t1.waits t2.waits [] (after d answer ∷ []) a.still a.waits (missed_none t0.waits t1.waits a.still) (missed_same t1.waits t2.waits (after d answer) (λ ids. after_missed ids d answer) a.waits);
       leads = leads;
       ends_are = refl;
       stays = λ on. a.stays_after (a.stays on);

@@ -1,13 +1,16 @@
 -- How an observer may end a connection.
 use Rattle.std.proofs.Common.{◌≡◌, ◌≢◌, ◌≤◌, ◌∷◌, ◌++◌, ◌∙◌, [], List, All, Bool, true, false, length, arith, sym, subst}
 use Rattle.std.proofs.lemmas.Bool.{false≢true}
-use Rattle.std.proofs.lemmas.List.Elements.{All-push}
+use Rattle.std.proofs.lemmas.List.Elements.{All-nil, All-push, All-weaker}
 use Rattle.replica.specs.declared.end.Ended.{Ended}
 use Rattle.replica.specs.declared.end.Reason.{Reason}
 use Rattle.replica.specs.declared.end.Reason.TheVariants.{EndOfInput, SourceEof, SourceError, Wire, Greet, Event, Gather, Refused, Database, Memory, ReadFailed, WriteFailed, Halted, Until}
-use Rattle.replica.specs.Conn.{IsOwn, MayEnd, IsNoStreamFailure}
+use Rattle.replica.specs.Conn.{IsOwn, IsNoStreamFailure}
+use Rattle.replica.specs.Noted.{Account, Notice, StillWaits, IsAsked, MayEnd}
+use Rattle.replica.specs.Missing.{waits_for_none}
+use Rattle.replica.proofs.Noted.{none_later}
 
-pub own_may : (reason : Reason) (stopped : Bool) → IsOwn reason → MayEnd reason stopped
+pub own_may : (reason : Reason) (is : Account) → IsOwn reason → MayEnd reason is
 own_may EndOfInput stopped h = tt
 own_may SourceEof stopped h = tt
 own_may (SourceError code state message) stopped h = tt
@@ -23,24 +26,41 @@ own_may WriteFailed stopped h = absurd h
 own_may Halted stopped h = absurd h
 own_may Until stopped h = absurd h
 
--- an observer does not take back that it has stopped
-pub may_later : (reason : Reason) (before after : Bool) → (before ≡ true → after ≡ true) → MayEnd reason before → MayEnd reason after
-may_later EndOfInput before after stays h = tt
-may_later SourceEof before after stays h = tt
-may_later (SourceError code state message) before after stays h = tt
-may_later (Wire fault) before after stays h = tt
-may_later (Greet fault) before after stays h = tt
-may_later (Event fault) before after stays h = tt
-may_later (Gather fault) before after stays h = tt
-may_later (Refused refusal) before after stays h = tt
-may_later (Database cause) before after stays h = tt
-may_later Memory before after stays h = tt
-may_later ReadFailed before after stays h = absurd h
-may_later WriteFailed before after stays h = absurd h
-may_later Halted before after stays h = stays h
-may_later Until before after stays h = stays h
+-- an observer does not take back that it has stopped, or that it waits for nothing more
+pub may_later : (reason : Reason) (was is : Account) (notices : List Notice) → (was.has_stopped ≡ true → is.has_stopped ≡ true) → StillWaits was.waits notices is.waits → MayEnd reason was → MayEnd reason is
+may_later EndOfInput was is notices stays waits h = tt
+may_later SourceEof was is notices stays waits h = tt
+may_later (SourceError code state message) was is notices stays waits h = tt
+may_later (Wire fault) was is notices stays waits h = tt
+may_later (Greet fault) was is notices stays waits h = tt
+may_later (Event fault) was is notices stays waits h = tt
+may_later (Gather fault) was is notices stays waits h = tt
+may_later (Refused refusal) was is notices stays waits h = tt
+may_later (Database cause) was is notices stays waits h = tt
+may_later Memory was is notices stays waits h = tt
+may_later ReadFailed was is notices stays waits h = absurd h
+may_later WriteFailed was is notices stays waits h = absurd h
+may_later Halted was is notices stays waits h = stays h
+may_later Until was is notices stays waits h = (stays h.0, none_later was.waits is.waits notices waits h.1)
 
-pub not_of_stream : (reason : Reason) (stopped : Bool) → MayEnd reason stopped → IsNoStreamFailure reason
+-- as long as it has not stopped, it has ended no connection
+going_may : (reason : Reason) (was is : Account) → was.has_stopped ≡ false → MayEnd reason was → MayEnd reason is
+going_may EndOfInput was is on h = tt
+going_may SourceEof was is on h = tt
+going_may (SourceError code state message) was is on h = tt
+going_may (Wire fault) was is on h = tt
+going_may (Greet fault) was is on h = tt
+going_may (Event fault) was is on h = tt
+going_may (Gather fault) was is on h = tt
+going_may (Refused refusal) was is on h = tt
+going_may (Database cause) was is on h = tt
+going_may Memory was is on h = tt
+going_may ReadFailed was is on h = absurd h
+going_may WriteFailed was is on h = absurd h
+going_may Halted was is on h = absurd (false≢true (sym on ∙ h))
+going_may Until was is on h = absurd (false≢true (sym on ∙ h.0))
+
+pub not_of_stream : (reason : Reason) (is : Account) → MayEnd reason is → IsNoStreamFailure reason
 not_of_stream EndOfInput stopped h = tt
 not_of_stream SourceEof stopped h = tt
 not_of_stream (SourceError code state message) stopped h = tt
@@ -56,20 +76,41 @@ not_of_stream WriteFailed stopped h = absurd h
 not_of_stream Halted stopped h = tt
 not_of_stream Until stopped h = tt
 
-pub asked : (reason : Reason) (stopped : Bool) → MayEnd reason stopped → reason ≡ Halted → stopped ≡ true
-asked reason stopped h is = subst (λ r. MayEnd r stopped) is h
+pub asked : (reason : Reason) (is : Account) → MayEnd reason is → IsAsked reason is
+asked EndOfInput is h = tt
+asked SourceEof is h = tt
+asked (SourceError code state message) is h = tt
+asked (Wire fault) is h = tt
+asked (Greet fault) is h = tt
+asked (Event fault) is h = tt
+asked (Gather fault) is h = tt
+asked (Refused refusal) is h = tt
+asked (Database cause) is h = tt
+asked Memory is h = tt
+asked ReadFailed is h = absurd h
+asked WriteFailed is h = absurd h
+asked Halted is h = h
+asked Until is h = h
 
-abbrev may_all : List Ended → Bool → Type 0
-may_all ends stopped = All (λ (e : Ended). MayEnd e.reason stopped) ends
+pub asked_until : (reason : Reason) (is : Account) → IsAsked reason is → reason ≡ Until → waits_for_none is.waits ≡ true
+asked_until reason is h same = (subst (λ r. IsAsked r is) same h).1
 
-pub ends_later : (ends : List Ended) (before after : Bool) → (before ≡ true → after ≡ true) → may_all ends before → may_all ends after
-ends_later ends before after stays h k d within = may_later _ before after stays (h k d within)
+pub may_until : (reason : Reason) (is : Account) → MayEnd reason is → reason ≡ Until → waits_for_none is.waits ≡ true
+may_until reason is h same = (subst (λ r. MayEnd r is) same h).1
 
--- one more connection has ended
-pub more_ends : (ends : List Ended) (end : Ended) (before between after : Bool) (all : List Ended) → (before ≡ true → between ≡ true) → (between ≡ true → after ≡ true) → all ≡ ends ++ end ∷ []
-    → may_all ends before → MayEnd end.reason between → may_all all after
-more_ends ends end before between after all stays later is h last =
-    ends_later all between after later (subst (λ (l : List Ended). may_all l between) (sym is) (All-push (λ (e : Ended). MayEnd e.reason between) ends end (ends_later ends before between stays h) last))
+abbrev may_all : List Ended → Account → Type 0
+may_all ends is = All (λ (e : Ended). MayEnd e.reason is) ends
+
+-- where ends mean that the observer has not stopped
+pub ends_later : (ends : List Ended) (was is : Account) → (ends ≢ [] → was.has_stopped ≡ false) → may_all ends was → may_all ends is
+ends_later [] was is going h = All-nil (λ (x : Ended). MayEnd x.reason is)
+ends_later (e ∷ es) was is going h = All-weaker (λ (x : Ended). MayEnd x.reason was) (λ (x : Ended). MayEnd x.reason is) (λ x may. going_may x.reason was is (going (λ none. cc)) may) (e ∷ es) h
+
+-- one more connection has ended, and that was reported
+pub more_ends : (ends : List Ended) (end : Ended) (was between is : Account) (notices : List Notice) (all : List Ended) → (ends ≢ [] → was.has_stopped ≡ false) → (between.has_stopped ≡ true → is.has_stopped ≡ true) → StillWaits between.waits notices is.waits → all ≡ ends ++ end ∷ []
+    → may_all ends was → MayEnd end.reason between → may_all all is
+more_ends ends end was between is notices all going stays waits same h last =
+    subst (λ (l : List Ended). may_all l is) (sym same) (All-push (λ (e : Ended). MayEnd e.reason is) ends end (ends_later ends was is going h) (may_later end.reason between is notices stays waits last))
 
 -- what has stayed as it was stays once more
 pub still : {X : Type 0} (H : X → Type 0) (old mid new : X) → mid ≡ old → H old → (H mid → new ≡ mid) → new ≡ old

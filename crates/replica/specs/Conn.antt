@@ -187,14 +187,6 @@ IsOwn Halted = ⊥
 IsOwn Until = ⊥
 IsOwn _ = Unit {0}
 
--- The connection is not ended by a failure of a stream, and by the observer only if that has stopped.
-abbrev pub MayEnd : Reason → Bool → Type 0
-MayEnd ReadFailed stopped = ⊥
-MayEnd WriteFailed stopped = ⊥
-MayEnd Halted stopped = stopped ≡ true
-MayEnd Until stopped = stopped ≡ true
-MayEnd _ stopped = Unit {0}
-
 -- No read and no write of a stream has failed.
 abbrev pub IsNoStreamFailure : Reason → Type 0
 IsNoStreamFailure ReadFailed = ⊥

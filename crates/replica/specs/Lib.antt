@@ -22,4 +22,9 @@ pub mod File
 pub mod NotedFile
 pub mod Replay
 pub mod FollowFile
+pub mod Given
+pub mod Change
+pub mod Alone
+pub mod Changing
+pub mod ChangeFile
 pub mod Restart

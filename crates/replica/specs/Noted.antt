@@ -1,5 +1,5 @@
 -- What is reported to an observer of transactions and connections, and what follows from that.
-use Rattle.std.specs.Prelude.{◌≡◌, Bool, true, false, if◌then◌else◌, List, [], ◌∷◌, ◌++◌, Option, Some, None, Result, Ok, Err}
+use Rattle.std.specs.Prelude.{◌≡◌, ◌≢◌, ◌⊎◌, ℕ, Bool, true, false, if◌then◌else◌, List, [], ◌∷◌, ◌++◌, Option, Some, None, Result, Ok, Err}
 use Rattle.sqlite_trees.specs.declared.store.Store.{Ghosts}
 use Rattle.std.specs.FinSet as set
 use Rattle.gtid.specs.Identifier.{Ids}
@@ -10,9 +10,10 @@ use Rattle.store.specs.Changes.{HasOutcome, done, repeat, is_executed}
 use Rattle.store.specs.declared.store.Store.{Store}
 use Rattle.store.specs.Store.{HoldsAs, names_of}
 use Rattle.replica.specs.declared.end.Reason.{Reason}
-use Rattle.replica.specs.declared.end.Reason.TheVariants.{Refused}
+use Rattle.replica.specs.declared.end.Reason.TheVariants.{Refused, ReadFailed, WriteFailed, Halted, Until}
 use Rattle.replica.specs.declared.end.Ended.{Ended}
-use Rattle.replica.specs.Conn.{IsRefusedBy}
+use Rattle.replica.specs.Conn.{AppliesAll, IsRefusedBy}
+use Rattle.replica.specs.Missing.{waits_for_none}
 
 -- What is reported to an observer: the executed set of a database that was opened; of a new transaction that it is to be applied, or that
 -- the observer has stopped before it; of a transaction whether it was applied, which one that is executed is not, or why the
@@ -73,16 +74,11 @@ missing_after ids (after d (Ok true) ∷ notices) = missing_after (set.remove id
 missing_after ids (_ ∷ notices) = missing_after ids notices
 
 -- An observer may say which transactions it still waits for. If it does so afterwards, it did so before, and waits for those that
--- are missing after what was reported to it.
+-- are missing after what was reported to it. Once it waits for none, it goes on to say so.
 abbrev pub StillWaits : Option Ids → List Notice → Option Ids → Type 0
-StillWaits was notices None = Unit {0}
+StillWaits was notices None = waits_for_none was ≡ false
 StillWaits None notices (Some is) = ⊥
 StillWaits (Some was) notices (Some is) = is ≡ missing_after was notices
-
--- whether it says so, and waits for none
-abbrev pub waits_for_none : Option Ids → Bool
-waits_for_none None = false
-waits_for_none (Some ids) = set.is_subset ids set.empty
 
 -- Something of these transactions is missing before each one that is to be applied.
 abbrev pub AreMissed : Ids → List Notice → Type 0
@@ -126,24 +122,69 @@ LeadsBy names old (opened ids ∷ notices) new = (ids ≡ old.executed) × Leads
 LeadsBy names old (ended end true ∷ notices) new = LeadsBy names old notices new
 LeadsBy names old (ended end false ∷ notices) new = (notices ≡ []) × (new ≡ old)
 
--- what was reported to an observer, if it keeps an account of that; whether it has stopped; and what it still waits for, if it says so
-abbrev pub Account : Type 0
-Account = Option (List Notice) × Bool × Option Ids
+-- What an observer has to say of itself.
+pub record Account : Type 0 where
+  -- what was reported to it, if it keeps an account of that
+  pub noted : Option (List Notice)
+  -- whether it has asked to stop, which it never takes back
+  pub has_stopped : Bool
+  -- which transactions it still waits for, if it says so
+  pub waits : Option Ids
+
+-- A connection is halted only if the observer has stopped, and ended with `Until` only if it also waits for nothing more.
+abbrev pub IsAsked : Reason → Account → Type 0
+IsAsked Halted is = is.has_stopped ≡ true
+IsAsked Until is = (is.has_stopped ≡ true) × (waits_for_none is.waits ≡ true)
+IsAsked _ is = Unit {0}
+
+-- And it is not ended by a failure of a stream.
+abbrev pub MayEnd : Reason → Account → Type 0
+MayEnd ReadFailed is = ⊥
+MayEnd WriteFailed is = ⊥
+MayEnd reason is = IsAsked reason is
 
 -- What was reported to an observer from one moment to another leads from one content to another, and these are the ends of connections
 -- in it; and it waits for what is missing after it, of which something was missing before each transaction that was to be applied. If it
 -- had stopped at the first, nothing was to be applied.
 pub record IsNotedOf (names : Names) (old new : Content) (was is : Account) (ends : List Ended) : Type 0 where
   pub notices : List Notice
-  pub noted : HasBeenNoted was.0 is.0 notices
-  pub waits : StillWaits was.2 notices is.2
-  pub missed : WereMissed was.2 notices is.2
+  pub noted : HasBeenNoted was.noted is.noted notices
+  pub waits : StillWaits was.waits notices is.waits
+  pub missed : WereMissed was.waits notices is.waits
   pub leads : LeadsBy names old notices new
   pub ends_are : ends_in notices ≡ ends
-  pub stays : was.1 ≡ true → is.1 ≡ true
-  pub stops : has_stop notices ≡ true → is.1 ≡ true
-  pub last : has_last notices ≡ true → is.1 ≡ true
-  pub lets_none : was.1 ≡ true → LetsNone notices
+  pub stays : was.has_stopped ≡ true → is.has_stopped ≡ true
+  pub stops : has_stop notices ≡ true → is.has_stopped ≡ true
+  pub last : has_last notices ≡ true → is.has_stopped ≡ true
+  pub lets_none : was.has_stopped ≡ true → LetsNone notices
+
+-- the first of what was reported is this executed set, of a database that was opened
+abbrev pub BeginsWith : Ids → List Notice → Type 0
+BeginsWith executed (opened ids ∷ notices) = ids ≡ executed
+BeginsWith executed _ = ⊥
+
+-- The same since a database with the first content was opened. A connection of a list was read only if something was missing of what
+-- the observer waited for.
+pub record IsNotedSinceOpening (names : Names) (old new : Content) (was is : Account) (ends : List Ended) : Type 0 where
+  pub noted_of : IsNotedOf names old new was is ends
+  pub begins : BeginsWith old.executed noted_of.notices
+  pub missed : ends ≢ [] → WasMissing was.waits is.waits old.executed
+
+-- Transactions led from a content to one in which some of these were not executed, and one more to this one.
+pub record EndsWithLast (names : Names) (old new : Content) (wanted : Ids) : Type 0 where
+  pub transactions : List DeliveryValue
+  pub applied : ℕ
+  pub mid : Content
+  pub applies : AppliesAll names old transactions applied mid
+  pub too_few : set.is_subset wanted mid.executed ≡ false
+  pub last : DeliveryValue
+  pub applies_last : HasOutcome names mid last (done new)
+
+-- All of these transactions are executed in a content, and it is the first one in which they are: it is the one from before, or they
+-- were not before the last transaction that led to it.
+pub record HasReached (names : Names) (old new : Content) (wanted : Ids) : Type 0 where
+  pub all : set.is_subset wanted new.executed ≡ true
+  pub first : (new ≡ old) ⊎ EndsWithLast names old new wanted
 
 module _ {S : Type 0} (g : Ghosts S) where
   -- A store that held this content, and had failed or not, has come to hold another one, to which what was reported to an observer
@@ -153,3 +194,10 @@ module _ {S : Type 0} (g : Ghosts S) where
     pub new : Content
     pub holds : HoldsAs g now_broken new after
     pub noted_of : IsNotedOf (names_of g before) old new was is ends
+
+  -- The same since a database with that content was opened.
+  pub record IsLedSinceOpening (before after : Store S g) (broken : Bool) (old : Content) (was is : Account) (ends : List Ended) : Type 0 where
+    pub now_broken : Bool
+    pub new : Content
+    pub holds : HoldsAs g now_broken new after
+    pub noted_of : IsNotedSinceOpening (names_of g before) old new was is ends

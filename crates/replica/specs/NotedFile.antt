@@ -1,5 +1,5 @@
 -- What is reported to an observer of a database in files.
-use Rattle.std.specs.Prelude.{◌≢◌, List, [], Result, MatchResult}
+use Rattle.std.specs.Prelude.{List, [], Result, MatchResult}
 use Rattle.sqlite_disk.specs.declared.Disk.{Ghosts}
 use Rattle.sqlite_disk.specs.declared.Files.{Files}
 use Rattle.sqlite_wal.specs.Reads.{AreClean}
@@ -7,16 +7,28 @@ use Rattle.sqlite_trees.specs.View.{IsClean}
 use Rattle.sqlite_store.specs.declared.store.FileStore.{FileStore}
 use Rattle.sqlite_store.specs.FileStore.{view}
 use Rattle.sqlite.specs.declared.error.Error.{Error}
+use Rattle.gtid.specs.Identifier.{Ids}
 use Rattle.binlog.specs.Filter.{Names}
 use Rattle.store.specs.State.{Content}
 use Rattle.replica.specs.declared.end.Ended.{Ended}
 use Rattle.replica.specs.File.{AreClosedWith}
-use Rattle.replica.specs.Noted.{Account, IsNotedOf, WasMissing}
+use Rattle.replica.specs.Noted.{Account, IsNotedOf, IsNotedSinceOpening, HasReached}
 
--- What was reported to an observer leads from this content to the one that the closed files hold; where they could not be closed, to
--- some content. A connection of a list was read only if something was missing of what the observer waited for.
+-- The closed files hold a content of this kind; where they could not be closed, the database had come to one.
+abbrev pub ComeTo : {D : Type 0} {g : Ghosts D} → Names → (Content → Type 0) → Result (Files D) (Error × FileStore D g) → Type 0
+ComeTo {D} {g} names Is closed = MatchResult closed
+    (λ files. AreClean g files.log files.db → (new : Content) × AreClosedWith g names new files × Is new)
+    (λ e. IsClean (view e.1) → (new : Content) × Is new)
+
+-- What was reported to an observer since the opening leads from this content to the one that the closed files hold.
 abbrev pub IsNotedOfFiles : {D : Type 0} {g : Ghosts D} → Names → Content → Account → Account → List Ended
     → Result (Files D) (Error × FileStore D g) → Type 0
-IsNotedOfFiles {D} {g} names old was is ends closed = MatchResult closed
-    (λ files. AreClean g files.log files.db → (new : Content) × AreClosedWith g names new files × IsNotedOf names old new was is ends × (ends ≢ [] → WasMissing was.2 is.2 old.executed))
-    (λ e. IsClean (view e.1) → (new : Content) × IsNotedOf names old new was is ends × (ends ≢ [] → WasMissing was.2 is.2 old.executed))
+IsNotedOfFiles names old was is ends closed = ComeTo names (λ new. IsNotedSinceOpening names old new was is ends) closed
+
+-- The same of a change, where nothing is reported if its set is not adopted.
+abbrev pub IsNotedOfChange : {D : Type 0} {g : Ghosts D} → Names → Content → Account → Account → Result (Files D) (Error × FileStore D g) → Type 0
+IsNotedOfChange names old was is closed = ComeTo names (λ new. IsNotedOf names old new was is []) closed
+
+-- The closed files hold the first content in which all of these transactions are executed.
+abbrev pub HaveReached : {D : Type 0} {g : Ghosts D} → Names → Content → Ids → Result (Files D) (Error × FileStore D g) → Type 0
+HaveReached names old wanted closed = ComeTo names (λ new. HasReached names old new wanted) closed

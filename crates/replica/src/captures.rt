@@ -6,8 +6,7 @@ ghost use Rattle.store.specs.State.{Content};
 ghost use Rattle.store.specs.Store.{HoldsAs, IsBroken, database, names_of};
 ghost use Rattle.replica.specs.Capture.{HasReadOne, HasBrokenOff, Reads};
 ghost use Rattle.replica.specs.Over.{HasReadAll};
-ghost use Rattle.replica.specs.Conn.{MayEnd};
-ghost use Rattle.replica.specs.Noted.{IsLedTo, WasMissing};
+ghost use Rattle.replica.specs.Noted.{IsLedTo, IsLedSinceOpening, MayEnd};
 
 use crate::config::Config;
 use crate::end::{Ended, Reason};
@@ -46,20 +45,26 @@ fn read_capture<R: Read + Drop, S: Alter, W: Observer>(
 ) -> io::Result<Ended>
     requires { 0 < length piece.old }
     ensures piece { length piece.new ≡ length piece.old }
-    ensures read { IfOk result (λ end. HasCleanDisk (database S.Store store.new) → (was : Bool) (old : Content) → HoldsAs S.Store was old store.old
-        → HasReadOne S.Store R.Read.remaining config.now.limit store.old store.new was old capture end) }
-    ensures failed { IfErr result (λ _. HasCleanDisk (database S.Store store.new) → (was : Bool) (old : Content) → HoldsAs S.Store was old store.old
-        → HasBrokenOff S.Store R.Read.remaining config.now.limit store.old store.new was old capture) }
-    ensures may_end { IfOk result (λ end. MayEnd end.reason (W.has_stopped observer.new)) }
-    ensures stays { W.has_stopped observer.old ≡ true → W.has_stopped observer.new ≡ true }
+    ensures read { IfOk result (λ end. HasCleanDisk (database S.Store store.new)
+        → (was : Bool) (old : Content) → HoldsAs S.Store was old store.old
+        → HasReadOne S.Store R.Read.remaining config.now.limit store.old store.new was old capture
+        end) }
+    ensures failed { IfErr result (λ _. HasCleanDisk (database S.Store store.new)
+        → (was : Bool) (old : Content) → HoldsAs S.Store was old store.old
+        → HasBrokenOff S.Store R.Read.remaining config.now.limit store.old store.new was old
+        capture) }
+    ensures may_end { IfOk result (λ end. MayEnd end.reason (W.account observer.new)) }
+    ensures stays { (W.account observer.old).has_stopped ≡ true
+        → (W.account observer.new).has_stopped ≡ true }
     ensures notes { HasCleanDisk (database S.Store store.new) → (was : Bool) (old : Content)
         → HoldsAs S.Store was old store.old → IsLedTo S.Store store.old store.new was old
-        (W.noted observer.old, W.has_stopped observer.old, W.waits observer.old)
-        (W.noted observer.new, W.has_stopped observer.new, W.waits observer.new) [] }
-    ensures heeds { (is : Bool) (now : Content) → HoldsAs S.Store is now store.old → W.has_stopped observer.old ≡ true → store.new ≡ store.old }
+        (W.account observer.old) (W.account observer.new) [] }
+    ensures heeds { (is : Bool) (now : Content) → HoldsAs S.Store is now store.old
+        → (W.account observer.old).has_stopped ≡ true → store.new ≡ store.old }
     ensures following { names_of S.Store store.new ≡ names_of S.Store store.old }
     ensures broken { IsBroken S.Store store.old → store.new ≡ store.old }
-    ensures clean { HasCleanDisk (database S.Store store.new) → HasCleanDisk (database S.Store store.old) }
+    ensures clean { HasCleanDisk (database S.Store store.new)
+        → HasCleanDisk (database S.Store store.old) }
 {
     let Capture {
         first,
@@ -93,29 +98,28 @@ pub(crate) fn read_captures<R: Read + Drop, S: Alter, W: Observer>(
     requires none { ends.old.items ≡ [] }
     requires room { length captures.items ≤ vec_capacity ends.old }
     // The content of the store and the ends are those of taking the captures in order, each once.
-    ensures reads { HasCleanDisk (database S.Store store.new) → (was : Bool) (old : Content) → HoldsAs S.Store was old store.old
-        → Reads R.Read.remaining (HasReadAll S.Store config.now.limit store.new (database S.Store store.old).now.schema was old) captures.items ends.new.items result }
+    ensures reads { HasCleanDisk (database S.Store store.new) → (was : Bool) (old : Content)
+        → HoldsAs S.Store was old store.old → Reads R.Read.remaining
+        (HasReadAll S.Store config.now.limit store.new
+        (database S.Store store.old).now.schema was old) captures.items ends.new.items result }
     // It stops early for the observer only if that has stopped, and so does each connection.
-    ensures asked { result ≡ Err Halt.Observer → W.has_stopped observer.new ≡ true }
+    ensures asked { result ≡ Err Halt.Observer → (W.account observer.new).has_stopped ≡ true }
     // Once it has stopped, no further capture is read.
-    ensures heeds { result ≡ Ok tt → ends.new.items ≢ [] → W.has_stopped observer.new ≡ false }
-    ensures no_more { W.has_stopped observer.old ≡ true → length ends.new.items ≤ 1 }
+    ensures heeds { result ≡ Ok tt → ends.new.items ≢ []
+        → (W.account observer.new).has_stopped ≡ false }
+    ensures no_more { (W.account observer.old).has_stopped ≡ true → length ends.new.items ≤ 1 }
     // What was reported to it leads from the content before to the one afterwards, with the ends of the connections.
     ensures notes { HasCleanDisk (database S.Store store.new) → (was : Bool) (old : Content)
-        → HoldsAs S.Store was old store.old → IsLedTo S.Store store.old store.new was old
-        (W.noted observer.old, W.has_stopped observer.old, W.waits observer.old)
-        (W.noted observer.new, W.has_stopped observer.new, W.waits observer.new) ends.new.items }
-    // A connection is read only if something was missing of what it waited for, or it does not say any more what that is.
-    ensures missed { HasCleanDisk (database S.Store store.new) → (was : Bool) (old : Content)
-        → HoldsAs S.Store was old store.old → ends.new.items ≢ []
-        → WasMissing (W.waits observer.old) (W.waits observer.new) old.executed }
+        → HoldsAs S.Store was old store.old → IsLedSinceOpening S.Store store.old store.new was old
+        (W.account observer.old) (W.account observer.new) ends.new.items }
     // If it had stopped before, the store stays as it is.
     ensures keeps { (is : Bool) (now : Content) → HoldsAs S.Store is now store.old
-        → W.has_stopped observer.old ≡ true → store.new ≡ store.old }
-    ensures may_end { All (λ end. MayEnd end.reason (W.has_stopped observer.new)) ends.new.items }
+        → (W.account observer.old).has_stopped ≡ true → store.new ≡ store.old }
+    ensures may_end { All (λ end. MayEnd end.reason (W.account observer.new)) ends.new.items }
     ensures following { names_of S.Store store.new ≡ names_of S.Store store.old }
     ensures broken { IsBroken S.Store store.old → store.new ≡ store.old }
-    ensures clean { HasCleanDisk (database S.Store store.new) → HasCleanDisk (database S.Store store.old) }
+    ensures clean { HasCleanDisk (database S.Store store.new)
+        → HasCleanDisk (database S.Store store.old) }
 {
     observer.opened(store.executed());
     if observer.is_done() {

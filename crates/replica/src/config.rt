@@ -57,9 +57,16 @@ impl Config {
         once: bool,
         limit: usize,
     ) -> Result<Config, ConfigFault>
-        ensures made { IfOk result (λ c. c ≡ record { user = user.now; password = password.now; server_id = server_id; once = once; limit = limit }) }
+        ensures made { IfOk result (λ c. c ≡ record {
+          user = user.now;
+          password = password.now;
+          server_id = server_id;
+          once = once;
+          limit = limit;
+        }) }
         ensures user { (result ≡ Err ConfigFault.User) ↔ (IsUserName user.now → ⊥) }
-        ensures limit { (result ≡ Err ConfigFault.Limit) ↔ (IsUserName user.now × (IsLimit limit → ⊥)) }
+        ensures limit { (result ≡ Err ConfigFault.Limit)
+            ↔ (IsUserName user.now × (IsLimit limit → ⊥)) }
     {
         if user.len() > 255 || user.contains(&0) {
             return Err(ConfigFault::User);

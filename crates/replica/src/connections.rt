@@ -23,11 +23,14 @@ pub struct NoMemory;
 
 /// Reads one connection to its end.
 fn read_pieces<S: Alter>(config: Config, store: &mut Store<S>, pieces: &[Vec<u8>]) -> Ended
-    ensures read { HasCleanDisk (database S.Store store.new) → (was : Bool) (old : Content) → HoldsAs S.Store was old store.old → HasRead S.Store config.limit store.old store.new was old (stream_of pieces.now) result }
+    ensures read { HasCleanDisk (database S.Store store.new) → (was : Bool) (old : Content)
+        → HoldsAs S.Store was old store.old → HasRead S.Store config.limit store.old store.new was
+        old (stream_of pieces.now) result }
     ensures following { names_of S.Store store.new ≡ names_of S.Store store.old }
     ensures broken { IsBroken S.Store store.old → store.new ≡ store.old }
     ensures may_end { IsOwn result.reason }
-    ensures clean { HasCleanDisk (database S.Store store.new) → HasCleanDisk (database S.Store store.old) }
+    ensures clean { HasCleanDisk (database S.Store store.new)
+        → HasCleanDisk (database S.Store store.old) }
 {
     let mut session = Session::new(config);
     for piece in pieces {
@@ -38,11 +41,14 @@ fn read_pieces<S: Alter>(config: Config, store: &mut Store<S>, pieces: &[Vec<u8>
 
 /// Reads one connection with a copy of the settings.
 fn read_connection<S: Alter>(config: &Config, store: &mut Store<S>, pieces: &[Vec<u8>]) -> Ended
-    ensures read { HasCleanDisk (database S.Store store.new) → (was : Bool) (old : Content) → HoldsAs S.Store was old store.old → HasRead S.Store config.now.limit store.old store.new was old (stream_of pieces.now) result }
+    ensures read { HasCleanDisk (database S.Store store.new) → (was : Bool) (old : Content)
+        → HoldsAs S.Store was old store.old → HasRead S.Store config.now.limit store.old store.new
+        was old (stream_of pieces.now) result }
     ensures following { names_of S.Store store.new ≡ names_of S.Store store.old }
     ensures broken { IsBroken S.Store store.old → store.new ≡ store.old }
     ensures may_end { IsOwn result.reason }
-    ensures clean { HasCleanDisk (database S.Store store.new) → HasCleanDisk (database S.Store store.old) }
+    ensures clean { HasCleanDisk (database S.Store store.new)
+        → HasCleanDisk (database S.Store store.old) }
 {
     match config.copy() {
         Ok(config) => read_pieces(config, store, pieces),
@@ -64,14 +70,17 @@ pub fn run<S: Alter>(
 ) -> Result<Vec<Ended>, NoMemory>
     // The content of the store afterwards and the ends are those of taking each connection in order, however it was cut
     // into pieces. A crash leaves that content, or that with one more transaction if the database failed.
-    ensures history { IfOk result (λ ends. HasCleanDisk (database S.Store store.new) → (was : Bool) (old : Content) → HoldsAs S.Store was old store.old
-        → HasReadAll S.Store config.now.limit store.new (database S.Store store.old).now.schema was old (streams_of connections.now) ends.items) }
+    ensures history { IfOk result (λ ends. HasCleanDisk (database S.Store store.new)
+        → (was : Bool) (old : Content) → HoldsAs S.Store was old store.old
+        → HasReadAll S.Store config.now.limit store.new
+        (database S.Store store.old).now.schema was old (streams_of connections.now) ends.items) }
     ensures following { names_of S.Store store.new ≡ names_of S.Store store.old }
     // A store that has failed stays as it is.
     ensures broken { IsBroken S.Store store.old → store.new ≡ store.old }
     ensures may_end { IfOk result (λ ends. All (λ end. IsOwn end.reason) ends.items) }
     ensures untouched { IsErr result → store.new ≡ store.old }
-    ensures clean { HasCleanDisk (database S.Store store.new) → HasCleanDisk (database S.Store store.old) }
+    ensures clean { HasCleanDisk (database S.Store store.new)
+        → HasCleanDisk (database S.Store store.old) }
 {
     let Ok(mut ends) = Vec::with_capacity(alloc, connections.len()) else {
         return Err(NoMemory);

@@ -17,16 +17,20 @@ pub trait Duplex: Read + Write {
     /// Reads as `read` does. A read has failed exactly if this is an error.
     fn receive(&mut self, buf: &mut [u8]) -> io::Result<usize>
         ensures bound { ReadsAtMost result buf.new }
-        ensures bytes { ReadConsumes (Self.Read.remaining self.old) (Self.Read.remaining self.new) result buf.new }
+        ensures bytes { ReadConsumes (Self.Read.remaining self.old)
+            (Self.Read.remaining self.new) result buf.new }
         ensures apart { Keeps (Self.Write.contents self.old) (Self.Write.contents self.new) }
-        ensures reported { HaveFailed (failures self.old) (failures self.new) (if is_err result then 1 else 0) 0 };
+        ensures reported { HaveFailed (failures self.old) (failures self.new) (if is_err result
+            then 1 else 0) 0 };
 
     /// Writes as `write` does. A write has failed exactly if this is an error or nothing, of a non-empty slice.
     fn send(&mut self, buf: &[u8]) -> io::Result<usize>
         ensures bound { WritesAtMost result buf.now }
-        ensures bytes { WriteAppends (Self.Write.contents self.old) (Self.Write.contents self.new) result buf.now }
+        ensures bytes { WriteAppends (Self.Write.contents self.old)
+            (Self.Write.contents self.new) result buf.now }
         ensures apart { Keeps (Self.Read.remaining self.old) (Self.Read.remaining self.new) }
-        ensures reported { HaveFailed (failures self.old) (failures self.new) 0 (if failed_to_write result (length buf.now) then 1 else 0) };
+        ensures reported { HaveFailed (failures self.old) (failures self.new) 0
+            (if failed_to_write result (length buf.now) then 1 else 0) };
 }
 
 /// A stream with the counts of its failed reads and failed writes. A write that takes nothing of a non-empty slice
@@ -43,7 +47,13 @@ pub struct Counted<T> {
 impl<T> Counted<T> {
     /// A stream with both counts 0.
     pub fn new(stream: T) -> Counted<T>
-        ensures { result ≡ record { stream = stream; failed_reads = 0; failed_writes = 0; failure = None } }
+        ensures { result ≡ record {
+          stream = stream;
+          failed_reads = 0;
+          failed_writes = 0;
+          failure =
+              None;
+        } }
     {
         Counted {
             stream,
@@ -88,14 +98,19 @@ impl<T: Duplex> Counted<T> {
     pub fn receive(&mut self, buf: &mut [u8]) -> io::Result<usize>
         requires { self.old.failed_reads < 2 ^ 64 - 1 }
         ensures bound { ReadsAtMost result buf.new }
-        ensures bytes { ReadConsumes (T.Read.remaining self.old.stream) (T.Read.remaining self.new.stream) result buf.new }
-        ensures apart { Keeps (T.Write.contents self.old.stream) (T.Write.contents self.new.stream) }
+        ensures bytes { ReadConsumes (T.Read.remaining self.old.stream)
+            (T.Read.remaining self.new.stream) result buf.new }
+        ensures apart { Keeps (T.Write.contents self.old.stream)
+            (T.Write.contents self.new.stream) }
         ensures empty { length buf.old ≡ 0 → (result ≡ Ok 0) × (self.new ≡ self.old) }
-        ensures reads { self.new.failed_reads ≡ self.old.failed_reads + (if is_err result then 1 else 0) }
+        ensures reads { self.new.failed_reads ≡ self.old.failed_reads + (if is_err result then 1
+            else 0) }
         ensures writes { self.new.failed_writes ≡ self.old.failed_writes }
-        ensures cause { self.new.failure ≡ (if is_err result then Some (cause_of result) else self.old.failure) }
+        ensures cause { self.new.failure ≡ (if is_err result then Some (cause_of result)
+            else self.old.failure) }
         // The stream's own failed reads rise exactly as the count does.
-        ensures reported { HaveFailed (T.failures self.old.stream) (T.failures self.new.stream) (if is_err result then 1 else 0) 0 }
+        ensures reported { HaveFailed (T.failures self.old.stream) (T.failures self.new.stream)
+            (if is_err result then 1 else 0) 0 }
     {
         if buf.is_empty() {
             return Ok(0);
@@ -112,14 +127,19 @@ impl<T: Duplex> Counted<T> {
     pub fn send(&mut self, buf: &[u8]) -> io::Result<usize>
         requires { self.old.failed_writes < 2 ^ 64 - 1 }
         ensures bound { WritesAtMost result buf.now }
-        ensures bytes { WriteAppends (T.Write.contents self.old.stream) (T.Write.contents self.new.stream) result buf.now }
-        ensures apart { Keeps (T.Read.remaining self.old.stream) (T.Read.remaining self.new.stream) }
+        ensures bytes { WriteAppends (T.Write.contents self.old.stream)
+            (T.Write.contents self.new.stream) result buf.now }
+        ensures apart { Keeps (T.Read.remaining self.old.stream)
+            (T.Read.remaining self.new.stream) }
         ensures empty { length buf.now ≡ 0 → (result ≡ Ok 0) × (self.new ≡ self.old) }
-        ensures writes { self.new.failed_writes ≡ self.old.failed_writes + (if failed_to_write result (length buf.now) then 1 else 0) }
+        ensures writes { self.new.failed_writes ≡ self.old.failed_writes +
+            (if failed_to_write result (length buf.now) then 1 else 0) }
         ensures reads { self.new.failed_reads ≡ self.old.failed_reads }
-        ensures cause { self.new.failure ≡ (if failed_to_write result (length buf.now) then Some (cause_of result) else self.old.failure) }
+        ensures cause { self.new.failure ≡ (if failed_to_write result (length buf.now)
+            then Some (cause_of result) else self.old.failure) }
         // The stream's own failed writes rise exactly as the count does.
-        ensures reported { HaveFailed (T.failures self.old.stream) (T.failures self.new.stream) 0 (if failed_to_write result (length buf.now) then 1 else 0) }
+        ensures reported { HaveFailed (T.failures self.old.stream) (T.failures self.new.stream) 0
+            (if failed_to_write result (length buf.now) then 1 else 0) }
     {
         if buf.is_empty() {
             return Ok(0);

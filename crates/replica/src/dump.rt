@@ -8,15 +8,17 @@ ghost use Rattle.gather.specs.Transaction.{DeliveryValue};
 ghost use Rattle.gather.specs.Standing.{HasGathered as Gathers};
 ghost use Rattle.gather.specs.View.{delivery_value, delivered};
 ghost use Rattle.store.specs.State.{Content};
-ghost use Rattle.store.specs.Store.{HoldsAs, database, names_of, IsBroken};
+ghost use Rattle.store.specs.Store.{Holds, HoldsAs, database, names_of, IsBroken};
 ghost use Rattle.wire.specs.Payload.{Payload};
 ghost use Rattle.gather.specs.declared.gatherer.Gatherer.{Gatherer};
 ghost use Rattle.replica.specs.PayloadStep.{EndsDump, GathersMore, outcome_of, reason_of_events};
 ghost use Rattle.replica.specs.Message.{begins_event};
 ghost use Rattle.store.specs.Changes.{is_executed};
-ghost use Rattle.replica.specs.Conn.{IsOwn, MayEnd};
+ghost use Rattle.replica.specs.Conn.{IsOwn};
+ghost use Rattle.replica.specs.Alone.{TakesAlone, IsOwnOrHalted};
 ghost use Rattle.replica.specs.Event.{TakesEvent};
-ghost use Rattle.replica.specs.Noted.{HasBeenNoted, StillWaits, asked_about, waits_for_none, IsLedTo};
+ghost use Rattle.replica.specs.Noted.{HasBeenNoted, StillWaits, asked_about, IsLedTo, MayEnd};
+ghost use Rattle.replica.specs.Missing.{waits_for_none};
 
 use crate::end::{Reason, Refusal};
 use crate::message::reported;
@@ -59,12 +61,16 @@ fn gather<W: Observer>(
     payload: &[u8],
     observer: &mut W,
 ) -> Result<Option<Delivery>, Reason>
-    ensures ok { (es : List EventValue) (ds : List DeliveryValue) → Gathers es ds gatherer.old → IfOk result (λ delivery. GathersMore follow.now es ds payload.now (delivered delivery) gatherer.new) }
-    ensures err { (es : List EventValue) (ds : List DeliveryValue) → Gathers es ds gatherer.old → IfErr result (EndsDump follow.now es payload.now) }
+    ensures ok { (es : List EventValue) (ds : List DeliveryValue) → Gathers es ds gatherer.old
+        → IfOk result (λ delivery. GathersMore follow.now es ds payload.now
+        (delivered delivery) gatherer.new) }
+    ensures err { (es : List EventValue) (ds : List DeliveryValue) → Gathers es ds gatherer.old
+        → IfErr result (EndsDump follow.now es payload.now) }
     ensures may_end { IfErr result IsOwn }
-    ensures noted { W.noted observer.new ≡ W.noted observer.old }
-    ensures waits { StillWaits (W.waits observer.old) [] (W.waits observer.new) }
-    ensures stays { W.has_stopped observer.old ≡ true → W.has_stopped observer.new ≡ true }
+    ensures noted { (W.account observer.new).noted ≡ (W.account observer.old).noted }
+    ensures waits { StillWaits (W.account observer.old).waits [] (W.account observer.new).waits }
+    ensures stays { (W.account observer.old).has_stopped ≡ true
+        → (W.account observer.new).has_stopped ≡ true }
 {
     let [0, body @ ..] = payload else {
         return Err(no_event(alloc, payload));
@@ -97,17 +103,21 @@ fn outcome(answer: Result<Applied, StoreFault>) -> Result<bool, Reason>
 
 /// Whether the transaction is new and the observer stops before it.
 fn is_halted<S: Alter, W: Observer>(store: &Store<S>, delivery: &Delivery, observer: &mut W) -> bool
-    ensures new { (is : Bool) (now : Content) → HoldsAs S.Store is now store.now → result ≡ true → is_executed now (delivery_value delivery.now) ≡ false }
-    ensures asked { result ≡ true → W.has_stopped observer.new ≡ true }
+    ensures new { (is : Bool) (now : Content) → HoldsAs S.Store is now store.now → result ≡ true
+        → is_executed now (delivery_value delivery.now) ≡ false }
+    ensures asked { result ≡ true → (W.account observer.new).has_stopped ≡ true }
     ensures noted { (is : Bool) (now : Content) → HoldsAs S.Store is now store.now
-        → HasBeenNoted (W.noted observer.old) (W.noted observer.new)
+        → HasBeenNoted (W.account observer.old).noted (W.account observer.new).noted
         (asked_about now (delivery_value delivery.now) result) }
-    ensures waits { StillWaits (W.waits observer.old) [] (W.waits observer.new) }
-    ensures heeds { (is : Bool) (now : Content) → HoldsAs S.Store is now store.now → is_executed now (delivery_value delivery.now) ≡ false → result ≡ W.has_stopped observer.new }
+    ensures waits { StillWaits (W.account observer.old).waits [] (W.account observer.new).waits }
+    ensures heeds { (is : Bool) (now : Content) → HoldsAs S.Store is now store.now
+        → is_executed now (delivery_value delivery.now) ≡ false
+        → result ≡ (W.account observer.new).has_stopped }
     ensures missed { (is : Bool) (now : Content) → HoldsAs S.Store is now store.now
         → is_executed now (delivery_value delivery.now) ≡ false
-        → result ≡ false → waits_for_none (W.waits observer.new) ≡ false }
-    ensures stays { W.has_stopped observer.old ≡ true → W.has_stopped observer.new ≡ true }
+        → result ≡ false → waits_for_none (W.account observer.new).waits ≡ false }
+    ensures stays { (W.account observer.old).has_stopped ≡ true
+        → (W.account observer.new).has_stopped ≡ true }
 {
     if store.executed().contains(delivery.gtid) {
         return false;
@@ -116,25 +126,36 @@ fn is_halted<S: Alter, W: Observer>(store: &Store<S>, delivery: &Delivery, obser
 }
 
 /// Applies a transaction to the store, unless the observer stops before it. Returns whether it was applied.
-fn apply<S: Alter, W: Observer>(
+pub(crate) fn apply<S: Alter, W: Observer>(
     store: &mut Store<S>,
     delivery: &Delivery,
     observer: &mut W,
 ) -> Result<bool, Reason>
-    ensures clean { HasCleanDisk (database S.Store store.new) → HasCleanDisk (database S.Store store.old) }
-    ensures may_end { IfErr result (λ reason. MayEnd reason (W.has_stopped observer.new)) }
-    ensures stays { W.has_stopped observer.old ≡ true → W.has_stopped observer.new ≡ true }
+    ensures clean { HasCleanDisk (database S.Store store.new)
+        → HasCleanDisk (database S.Store store.old) }
+    ensures may_end { IfErr result (λ reason. MayEnd reason (W.account observer.new)) }
+    ensures stays { (W.account observer.old).has_stopped ≡ true
+        → (W.account observer.new).has_stopped ≡ true }
     // Once the observer has stopped, the store stays as it is.
-    ensures heeds { (is : Bool) (now : Content) → HoldsAs S.Store is now store.old → W.has_stopped observer.old ≡ true → store.new ≡ store.old }
+    ensures heeds { (is : Bool) (now : Content) → HoldsAs S.Store is now store.old
+        → (W.account observer.old).has_stopped ≡ true → store.new ≡ store.old }
     // What was reported to the observer leads from the content before to the one afterwards.
     ensures notes { HasCleanDisk (database S.Store store.new) → (was : Bool) (old : Content)
         → HoldsAs S.Store was old store.old → IsLedTo S.Store store.old store.new was old
-        (W.noted observer.old, W.has_stopped observer.old, W.waits observer.old)
-        (W.noted observer.new, W.has_stopped observer.new, W.waits observer.new) [] }
+        (W.account observer.old) (W.account observer.new) [] }
     ensures following { names_of S.Store store.new ≡ names_of S.Store store.old }
     ensures broken { IsBroken S.Store store.old → store.new ≡ store.old }
-    ensures step { HasCleanDisk (database S.Store store.new) → (is : Bool) (now : Content) (es : List EventValue) (ds : List DeliveryValue) (p : Payload) (gatherer : Gatherer) → HoldsAs S.Store is now store.old
-        → GathersMore (names_of S.Store store.old) es ds p (delivery_value delivery.now ∷ []) gatherer → TakesEvent S.Store is now es ds p store.old store.new gatherer result }
+    ensures step { HasCleanDisk (database S.Store store.new)
+        → (is : Bool) (now : Content) (es : List EventValue) (ds : List DeliveryValue) (p : Payload)
+        (gatherer : Gatherer) → HoldsAs S.Store is now store.old
+        → GathersMore (names_of S.Store store.old) es ds p
+        (delivery_value delivery.now ∷ []) gatherer
+        → TakesEvent S.Store is now es ds p store.old store.new gatherer result }
+    ensures alone { HasCleanDisk (database S.Store store.new) → (now : Content)
+        → Holds S.Store store.old now
+        → TakesAlone S.Store now (delivery_value delivery.now) store.old store.new result }
+    ensures own { IfErr result (λ reason. IsOwnOrHalted reason
+        (W.account observer.new).has_stopped) }
 {
     if is_halted(store, delivery, observer) {
         return Err(Reason::Halted);
@@ -153,19 +174,23 @@ pub(crate) fn take_event<S: Alter, W: Observer>(
     payload: &[u8],
     observer: &mut W,
 ) -> Result<bool, Reason>
-    ensures clean { HasCleanDisk (database S.Store store.new) → HasCleanDisk (database S.Store store.old) }
-    ensures may_end { IfErr result (λ reason. MayEnd reason (W.has_stopped observer.new)) }
-    ensures stays { W.has_stopped observer.old ≡ true → W.has_stopped observer.new ≡ true }
+    ensures clean { HasCleanDisk (database S.Store store.new)
+        → HasCleanDisk (database S.Store store.old) }
+    ensures may_end { IfErr result (λ reason. MayEnd reason (W.account observer.new)) }
+    ensures stays { (W.account observer.old).has_stopped ≡ true
+        → (W.account observer.new).has_stopped ≡ true }
     // Once the observer has stopped, the store stays as it is.
-    ensures heeds { (is : Bool) (now : Content) → HoldsAs S.Store is now store.old → W.has_stopped observer.old ≡ true → store.new ≡ store.old }
+    ensures heeds { (is : Bool) (now : Content) → HoldsAs S.Store is now store.old
+        → (W.account observer.old).has_stopped ≡ true → store.new ≡ store.old }
     // What was reported to the observer leads from the content before to the one afterwards.
     ensures notes { HasCleanDisk (database S.Store store.new) → (was : Bool) (old : Content)
         → HoldsAs S.Store was old store.old → IsLedTo S.Store store.old store.new was old
-        (W.noted observer.old, W.has_stopped observer.old, W.waits observer.old)
-        (W.noted observer.new, W.has_stopped observer.new, W.waits observer.new) [] }
+        (W.account observer.old) (W.account observer.new) [] }
     ensures following { names_of S.Store store.new ≡ names_of S.Store store.old }
     ensures broken { IsBroken S.Store store.old → store.new ≡ store.old }
-    ensures step { HasCleanDisk (database S.Store store.new) → (is : Bool) (now : Content) (es : List EventValue) (ds : List DeliveryValue) → Gathers es ds gatherer.old → HoldsAs S.Store is now store.old
+    ensures step { HasCleanDisk (database S.Store store.new)
+        → (is : Bool) (now : Content) (es : List EventValue) (ds : List DeliveryValue)
+        → Gathers es ds gatherer.old → HoldsAs S.Store is now store.old
         → TakesEvent S.Store is now es ds payload.now store.old store.new gatherer.new result }
 {
     match gather(alloc, gatherer, store.following(), payload, observer) {

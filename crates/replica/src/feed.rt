@@ -5,13 +5,13 @@ ghost use Rattle.sqlite.specs.State.{HasCleanDisk};
 ghost use Rattle.sqlite_schema.specs.declared.schema.Schema.{Schema};
 ghost use Rattle.binlog.specs.Filter.{Names};
 ghost use Rattle.store.specs.State.{Content};
-ghost use Rattle.replica.specs.Conn.{Conn, BreaksStore, IsOwn, MayEnd};
+ghost use Rattle.replica.specs.Conn.{Conn, BreaksStore, IsOwn};
 ghost use Rattle.replica.specs.Sent.{SentFor};
 ghost use Rattle.replica.specs.Standing.{Stands, end_of, room_of, taken_of};
 ghost use Rattle.replica.specs.Over.{StandsOver};
 ghost use Rattle.replica.specs.PayloadStep.{reason_of};
 ghost use Rattle.store.specs.Store.{HoldsAs, database, names_of, IsBroken};
-ghost use Rattle.replica.specs.Noted.{IsLedTo};
+ghost use Rattle.replica.specs.Noted.{IsLedTo, MayEnd};
 
 use crate::config::Config;
 use crate::end::{Ended, Reason};
@@ -45,7 +45,8 @@ impl Session {
     pub fn new(config: Config) -> Session
         // Over any store it starts with nothing read or sent. (`Stands` relates a session to the bytes that it has read
         // and sent.)
-        ensures stands { (names : Names) (broken : Bool) (content : Content) → Stands result names broken broken content content [] [] }
+        ensures stands { (names : Names) (broken : Bool) (content : Content)
+            → Stands result names broken broken content content [] [] }
         ensures config { result.config ≡ config }
         ensures ended { result.ended ≡ None }
         ensures none { (result.at ≡ 0) × (result.applied ≡ 0) }
@@ -71,18 +72,22 @@ impl Session {
     /// `Stopped`.
     pub fn feed<S: Alter>(&mut self, store: &mut Store<S>, bytes: &[u8]) -> Result<(), Stopped>
         // If the session and its store had read b and sent o, they have now read b and these bytes, and sent o.
-        ensures stands { HasCleanDisk (database S.Store store.new) → (schema : Schema) (was : Bool) (old : Content) (b o : List ℕ)
-            → StandsOver S.Store self.old store.old schema was old b o → StandsOver S.Store self.new store.new schema was old (b ++ bytes.now) o }
+        ensures stands { HasCleanDisk (database S.Store store.new)
+            → (schema : Schema) (was : Bool) (old : Content) (b o : List ℕ)
+            → StandsOver S.Store self.old store.old schema was old b o
+            → StandsOver S.Store self.new store.new schema was old (b ++ bytes.now) o }
         ensures following { names_of S.Store store.new ≡ names_of S.Store store.old }
         // A store that has failed stays as it is.
         ensures broken { IsBroken S.Store store.old → store.new ≡ store.old }
-        ensures clean { HasCleanDisk (database S.Store store.new) → HasCleanDisk (database S.Store store.old) }
+        ensures clean { HasCleanDisk (database S.Store store.new)
+            → HasCleanDisk (database S.Store store.old) }
         ensures config { self.new.config ≡ self.old.config }
         ensures may_end { IsOwn (end_of self.old).reason → IsOwn (end_of self.new).reason }
         ensures stopped { IsErr result ↔ IsSome self.old.ended }
         ensures after { IsSome self.old.ended → (self.new ≡ self.old) × (store.new ≡ store.old) }
         // Until the connection ends, all bytes are taken in, and there is room for that many fewer.
-        ensures room { self.new.ended ≡ None → room_of self.new + length bytes.now ≤ room_of self.old }
+        ensures room { self.new.ended ≡ None → room_of self.new + length bytes.now
+            ≤ room_of self.old }
     {
         self.feed_observed(store, bytes, &mut Unobserved)
     }
@@ -94,25 +99,31 @@ impl Session {
         bytes: &[u8],
         observer: &mut W,
     ) -> Result<(), Stopped>
-        ensures stands { HasCleanDisk (database S.Store store.new) → (schema : Schema) (was : Bool) (old : Content) (b o : List ℕ)
-            → StandsOver S.Store self.old store.old schema was old b o → StandsOver S.Store self.new store.new schema was old (b ++ bytes.now) o }
+        ensures stands { HasCleanDisk (database S.Store store.new)
+            → (schema : Schema) (was : Bool) (old : Content) (b o : List ℕ)
+            → StandsOver S.Store self.old store.old schema was old b o
+            → StandsOver S.Store self.new store.new schema was old (b ++ bytes.now) o }
         ensures following { names_of S.Store store.new ≡ names_of S.Store store.old }
         ensures broken { IsBroken S.Store store.old → store.new ≡ store.old }
-        ensures clean { HasCleanDisk (database S.Store store.new) → HasCleanDisk (database S.Store store.old) }
+        ensures clean { HasCleanDisk (database S.Store store.new)
+            → HasCleanDisk (database S.Store store.old) }
         ensures config { self.new.config ≡ self.old.config }
         // The connection is halted only if the observer has stopped.
-        ensures may_end { MayEnd (end_of self.old).reason (W.has_stopped observer.old) → MayEnd (end_of self.new).reason (W.has_stopped observer.new) }
-        ensures stays { W.has_stopped observer.old ≡ true → W.has_stopped observer.new ≡ true }
+        ensures may_end { MayEnd (end_of self.old).reason (W.account observer.old)
+            → MayEnd (end_of self.new).reason (W.account observer.new) }
+        ensures stays { (W.account observer.old).has_stopped ≡ true
+            → (W.account observer.new).has_stopped ≡ true }
         // What was reported to it leads from the content before to the one afterwards.
         ensures notes { HasCleanDisk (database S.Store store.new) → (was : Bool) (old : Content)
             → HoldsAs S.Store was old store.old → IsLedTo S.Store store.old store.new was old
-            (W.noted observer.old, W.has_stopped observer.old, W.waits observer.old)
-            (W.noted observer.new, W.has_stopped observer.new, W.waits observer.new) [] }
+            (W.account observer.old) (W.account observer.new) [] }
         // Once it has stopped, the store stays as it is.
-        ensures heeds { (is : Bool) (now : Content) → HoldsAs S.Store is now store.old → W.has_stopped observer.old ≡ true → store.new ≡ store.old }
+        ensures heeds { (is : Bool) (now : Content) → HoldsAs S.Store is now store.old
+            → (W.account observer.old).has_stopped ≡ true → store.new ≡ store.old }
         ensures stopped { IsErr result ↔ IsSome self.old.ended }
         ensures after { IsSome self.old.ended → (self.new ≡ self.old) × (store.new ≡ store.old) }
-        ensures room { self.new.ended ≡ None → room_of self.new + length bytes.now ≤ room_of self.old }
+        ensures room { self.new.ended ≡ None → room_of self.new + length bytes.now
+            ≤ room_of self.old }
     {
         if self.ended.is_some() {
             return Err(Stopped);
@@ -132,21 +143,28 @@ impl Session {
         bytes: &[u8],
         observer: &mut W,
     ) -> Option<usize>
-        ensures stands { HasCleanDisk (database S.Store store.new) → (schema : Schema) (was : Bool) (old : Content) (b o : List ℕ)
-            → StandsOver S.Store self.old store.old schema was old b o → StandsOver S.Store self.new store.new schema was old (b ++ taken_of result bytes.now) o }
+        ensures stands { HasCleanDisk (database S.Store store.new)
+            → (schema : Schema) (was : Bool) (old : Content) (b o : List ℕ)
+            → StandsOver S.Store self.old store.old schema was old b o
+            → StandsOver S.Store self.new store.new schema was old
+            (b ++ taken_of result bytes.now) o }
         ensures used { IfSome result (λ used. (0 < used) × (used ≤ length bytes.now)) }
         ensures following { names_of S.Store store.new ≡ names_of S.Store store.old }
         ensures broken { IsBroken S.Store store.old → store.new ≡ store.old }
-        ensures clean { HasCleanDisk (database S.Store store.new) → HasCleanDisk (database S.Store store.old) }
+        ensures clean { HasCleanDisk (database S.Store store.new)
+            → HasCleanDisk (database S.Store store.old) }
         ensures config { self.new.config ≡ self.old.config }
-        ensures may_end { MayEnd (end_of self.old).reason (W.has_stopped observer.old) → MayEnd (end_of self.new).reason (W.has_stopped observer.new) }
-        ensures stays { W.has_stopped observer.old ≡ true → W.has_stopped observer.new ≡ true }
+        ensures may_end { MayEnd (end_of self.old).reason (W.account observer.old)
+            → MayEnd (end_of self.new).reason (W.account observer.new) }
+        ensures stays { (W.account observer.old).has_stopped ≡ true
+            → (W.account observer.new).has_stopped ≡ true }
         ensures notes { HasCleanDisk (database S.Store store.new) → (was : Bool) (old : Content)
             → HoldsAs S.Store was old store.old → IsLedTo S.Store store.old store.new was old
-            (W.noted observer.old, W.has_stopped observer.old, W.waits observer.old)
-            (W.noted observer.new, W.has_stopped observer.new, W.waits observer.new) [] }
-        ensures heeds { (is : Bool) (now : Content) → HoldsAs S.Store is now store.old → W.has_stopped observer.old ≡ true → store.new ≡ store.old }
-        ensures room { self.new.ended ≡ None → (self.old.ended ≡ None) × (room_of self.new + length (taken_of result bytes.now) ≤ room_of self.old) }
+            (W.account observer.old) (W.account observer.new) [] }
+        ensures heeds { (is : Bool) (now : Content) → HoldsAs S.Store is now store.old
+            → (W.account observer.old).has_stopped ≡ true → store.new ≡ store.old }
+        ensures room { self.new.ended ≡ None → (self.old.ended ≡ None)
+            × (room_of self.new + length (taken_of result bytes.now) ≤ room_of self.old) }
     {
         if self.ended.is_some() {
             return None;
@@ -166,9 +184,14 @@ impl Session {
 
     /// Returns the pending output: the bytes that are to be sent since the last call. It takes no memory.
     pub fn take_out(&mut self) -> Vec<u8>
-        ensures stands { (names : Names) (was is : Bool) (old now : Content) (b o : List ℕ) → Stands self.old names was is old now b o → Stands self.new names was is old now b (o ++ result.items) }
+        ensures stands { (names : Names) (was is : Bool) (old now : Content) (b o : List ℕ)
+            → Stands self.old names was is old now b o
+            → Stands self.new names was is old now b (o ++ result.items) }
         // With it, everything due in reply to the payloads taken has been sent.
-        ensures sent { (names : Names) (was is : Bool) (old now : Content) (b o : List ℕ) → Stands self.old names was is old now b o → SentFor self.old.config names old.executed b (end_of self.old).at (o ++ result.items) }
+        ensures sent { (names : Names) (was is : Bool) (old now : Content) (b o : List ℕ)
+            → Stands self.old names was is old now b o
+            → SentFor self.old.config names old.executed b (end_of self.old).at
+            (o ++ result.items) }
         ensures config { self.new.config ≡ self.old.config }
         ensures end { end_of self.new ≡ end_of self.old }
         ensures ended { self.new.ended ≡ self.old.ended }
@@ -188,8 +211,11 @@ impl Session {
     /// How the connection ends if no more bytes come. It takes no memory.
     pub fn finish(self) -> Ended
         ensures end { result ≡ end_of self }
-        ensures conn { (names : Names) (was is : Bool) (old now : Content) (b o : List ℕ) → Stands self names was is old now b o → Conn self.config.limit names was old b now result }
-        ensures store { (names : Names) (was is : Bool) (old now : Content) (b o : List ℕ) → Stands self names was is old now b o → BreaksStore result.reason was is }
+        ensures conn { (names : Names) (was is : Bool) (old now : Content) (b o : List ℕ)
+            → Stands self names was is old now b o → Conn self.config.limit names was old b now
+            result }
+        ensures store { (names : Names) (was is : Bool) (old now : Content) (b o : List ℕ)
+            → Stands self names was is old now b o → BreaksStore result.reason was is }
     {
         let Session {
             at,

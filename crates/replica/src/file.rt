@@ -89,8 +89,10 @@ pub fn open_file<P: Start>(
 pub fn close_file<D: Disk + Drop>(
     store: Store<FileStore<D>>,
 ) -> Result<Files<D>, (Error, FileStore<D>)>
-    ensures copied { IfOk result (λ files. AreClean D.Disk files.log files.db → IsCopied (connection over_files store) files) }
-    ensures err { IfErr result (λ e. IsClosed (connection over_files store) e.1 × (IsClean (view e.1) → FailsToClose (connection over_files store) e.1 e.0)) }
+    ensures copied { IfOk result (λ files. AreClean D.Disk files.log files.db
+        → IsCopied (connection over_files store) files) }
+    ensures err { IfErr result (λ e. IsClosed (connection over_files store) e.1
+        × (IsClean (view e.1) → FailsToClose (connection over_files store) e.1 e.0)) }
 {
     store.close().close_files()
 }

@@ -80,7 +80,8 @@ pub(crate) fn connect_to<P: Start>(
         × IsTrue (file_is_usable P.Start files.db) }
     requires fresh { IsFresh true files.log × IsFresh false files.db }
     ensures opened { IfOk result (λ c. HasCleanDisk (file_state c) → IsOpened c) }
-    ensures found { IfOk result (λ c. HasCleanDisk (file_state c) → FindsIn (image_at P.Start) (file_state c)) }
+    ensures found { IfOk result (λ c. HasCleanDisk (file_state c)
+        → FindsIn (image_at P.Start) (file_state c)) }
     ensures fresh { IfOk result IsNew }
     // The error is what the files met, and they are left as they were, unless there was no database in them.
     ensures cause { IfErr result (λ e. IsLeftOver (image_at P.Start) e.0 e.1) }

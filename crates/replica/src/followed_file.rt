@@ -1,16 +1,17 @@
 //! Following a source into a database file.
 
-ghost use Rattle.std.specs.Prelude.{◌≡◌, ◌<◌, [], Bool, true, IfOk, IfErr, IsErr};
+ghost use Rattle.std.specs.Prelude.{◌≡◌, ◌<◌, [], Bool, true, Some, IfOk, IfErr, IsErr};
 ghost use Rattle.sqlite_wal.specs.Files.{image_at};
 ghost use Rattle.sqlite.specs.State.{HasCleanDisk};
+ghost use Rattle.gtid.specs.Identifier.{Ids};
 ghost use Rattle.binlog.specs.Filter.{Names};
 ghost use Rattle.store.specs.State.{Content};
 ghost use Rattle.store.specs.Store.{HoldsAs, IsBroken, database, names_of};
 ghost use Rattle.store.specs.Entering.{wanted_of, names_for};
-ghost use Rattle.replica.specs.NotedFile.{IsNotedOfFiles};
+ghost use Rattle.replica.specs.NotedFile.{IsNotedOfFiles, HaveReached};
 ghost use Rattle.replica.specs.File.{FilesHold, IsTurnedAway, ClosesAs, KeepsContent};
-ghost use Rattle.replica.specs.declared.end.Reason.TheVariants.{Halted};
-ghost use Rattle.replica.specs.Noted.{IsLedTo};
+ghost use Rattle.replica.specs.declared.end.Reason.TheVariants.{Until};
+ghost use Rattle.replica.specs.Noted.{IsAsked, IsLedSinceOpening};
 ghost use Rattle.replica.specs.FollowFile.{Connects, FollowsFile, CountsFailures};
 
 use crate::config::Config;
@@ -49,19 +50,20 @@ fn connect_and_follow<
     observer: &mut W,
 ) -> Result<(Ended, Counted<T>), E>
     requires { F.IsAlwaysCallable connect }
-    ensures connects { HasCleanDisk (database S.Store store.new) → (was : Bool) (old : Content) → HoldsAs S.Store was old store.old
-        → Connects S.Store T.Read.remaining T.Write.contents T.failures (F.post connect) config store.old store.new was old result }
+    ensures connects { HasCleanDisk (database S.Store store.new) → (was : Bool) (old : Content)
+        → HoldsAs S.Store was old store.old → Connects S.Store T.Read.remaining T.Write.contents
+        T.failures (F.post connect) config store.old store.new was old result }
     ensures counts { IfOk result (λ done. CountsFailures done.0 done.1) }
-    ensures asked { IfOk result (λ done. done.0.reason ≡ Halted → W.has_stopped observer.new ≡ true) }
+    ensures asked { IfOk result (λ done. IsAsked done.0.reason (W.account observer.new)) }
     ensures notes { HasCleanDisk (database S.Store store.new) → (was : Bool) (old : Content)
-        → HoldsAs S.Store was old store.old → IsLedTo S.Store store.old store.new was old
-        (W.noted observer.old, W.has_stopped observer.old, W.waits observer.old)
-        (W.noted observer.new, W.has_stopped observer.new, W.waits observer.new) [] }
+        → HoldsAs S.Store was old store.old → IsLedSinceOpening S.Store store.old store.new was old
+        (W.account observer.old) (W.account observer.new) [] }
     ensures heeds { (is : Bool) (now : Content) → HoldsAs S.Store is now store.old
-        → W.has_stopped observer.old ≡ true → store.new ≡ store.old }
+        → (W.account observer.old).has_stopped ≡ true → store.new ≡ store.old }
     ensures following { names_of S.Store store.new ≡ names_of S.Store store.old }
     ensures broken { IsBroken S.Store store.old → store.new ≡ store.old }
-    ensures clean { HasCleanDisk (database S.Store store.new) → HasCleanDisk (database S.Store store.old) }
+    ensures clean { HasCleanDisk (database S.Store store.new)
+        → HasCleanDisk (database S.Store store.old) }
 {
     observer.opened(store.executed());
     match connect() {
@@ -107,16 +109,24 @@ pub fn follow_file<
     ensures closing { IfOk result (λ done. ClosesAs (wanted_of only.entry) (image_at P.Start)
         done.closed) }
     // A failure of the stream is reported exactly if there was one; it is the last call.
-    ensures counts { IfOk result (λ done. IfOk done.connection (λ ended. CountsFailures ended.0 ended.1)) }
-    // The connection is halted only if the observer has stopped.
-    ensures asked { IfOk result (λ done. IfOk done.connection (λ ended. ended.0.reason ≡ Halted → W.has_stopped observer.new ≡ true)) }
+    ensures counts { IfOk result (λ done. IfOk done.connection
+        (λ ended. CountsFailures ended.0 ended.1)) }
+    // The connection is halted, or ended with `Until`, only if the observer asked for that.
+    ensures asked { IfOk result (λ done. IfOk done.connection (λ ended.
+        IsAsked ended.0.reason (W.account observer.new))) }
+    // Where it is ended with `Until`, the files hold the first content in which all that the observer waited for is executed.
+    ensures until { IfOk result (λ done. IfOk done.connection (λ ended. ended.0.reason ≡ Until
+        → (names : Names) (content : Content) (wanted : Ids)
+        → FilesHold (names_for (wanted_of only.entry)) names content (image_at P.Start)
+        → (W.account observer.old).waits ≡ Some wanted
+        → HaveReached names content wanted done.closed)) }
     // What was reported to the observer leads from that content to the one that the closed files hold.
     ensures notes { IfOk result (λ done. (names : Names) (content : Content)
         → FilesHold (names_for (wanted_of only.entry)) names content (image_at P.Start)
-        → IsNotedOfFiles names content (W.noted observer.old, W.has_stopped observer.old, W.waits observer.old)
-        (W.noted observer.new, W.has_stopped observer.new, W.waits observer.new) [] done.closed) }
+        → IsNotedOfFiles names content (W.account observer.old)
+        (W.account observer.new) [] done.closed) }
     // If it had stopped before, nothing is applied: the files hold the content from before.
-    ensures keeps { IfOk result (λ done. W.has_stopped observer.old ≡ true
+    ensures keeps { IfOk result (λ done. (W.account observer.old).has_stopped ≡ true
         → (names : Names) (content : Content)
         → FilesHold (names_for (wanted_of only.entry)) names content (image_at P.Start)
         → KeepsContent (names_for (wanted_of only.entry)) names content done.closed) }

@@ -6,10 +6,10 @@ ghost use Rattle.sqlite.specs.State.{HasCleanDisk};
 ghost use Rattle.sqlite_schema.specs.declared.schema.Schema.{Schema};
 ghost use Rattle.store.specs.State.{Content};
 ghost use Rattle.store.specs.Store.{HoldsAs, IsBroken, database, names_of};
-ghost use Rattle.replica.specs.Conn.{MayEnd};
 ghost use Rattle.replica.specs.Standing.{end_of};
 ghost use Rattle.replica.specs.Over.{StandsOver};
-ghost use Rattle.replica.specs.Noted.{IsLedTo, waits_for_none};
+ghost use Rattle.replica.specs.Noted.{IsLedTo, IsAsked, MayEnd};
+ghost use Rattle.replica.specs.Missing.{waits_for_none};
 ghost use Rattle.replica.specs.Failing.{HaveFailed};
 ghost use Rattle.replica.specs.Follow.{Follows, HandsOut, sends_no_more_after, reads_failed, turns_left, failed_reads_of, failed_writes_of};
 
@@ -42,12 +42,16 @@ fn sends_no_more(session: &Session) -> bool
 /// Sends the bytes, and returns whether no write has failed.
 fn send_all<T: Duplex>(stream: &mut Counted<T>, bytes: &[u8]) -> bool
     requires { stream.old.failed_writes < 2 ^ 64 - 1 }
-    ensures sent { (n : ℕ) × (n ≤ length bytes.now) × Appends (T.Write.contents stream.old.stream) (T.Write.contents stream.new.stream) (take n bytes.now)
-        × (result ≡ true → n ≡ length bytes.now) }
-    ensures apart { Keeps (T.Read.remaining stream.old.stream) (T.Read.remaining stream.new.stream) }
-    ensures writes { stream.new.failed_writes ≡ stream.old.failed_writes + (if result then 0 else 1) }
+    ensures sent { (n : ℕ) × (n ≤ length bytes.now)
+        × Appends (T.Write.contents stream.old.stream) (T.Write.contents stream.new.stream)
+        (take n bytes.now) × (result ≡ true → n ≡ length bytes.now) }
+    ensures apart { Keeps (T.Read.remaining stream.old.stream)
+        (T.Read.remaining stream.new.stream) }
+    ensures writes { stream.new.failed_writes ≡ stream.old.failed_writes + (if result then 0
+        else 1) }
     ensures reads { stream.new.failed_reads ≡ stream.old.failed_reads }
-    ensures reported { HaveFailed (T.failures stream.old.stream) (T.failures stream.new.stream) 0 (if result then 0 else 1) }
+    ensures reported { HaveFailed (T.failures stream.old.stream) (T.failures stream.new.stream) 0
+        (if result then 0 else 1) }
 {
     let mut at = 0;
     while at < bytes.len() {
@@ -63,12 +67,16 @@ fn send_all<T: Duplex>(stream: &mut Counted<T>, bytes: &[u8]) -> bool
 fn send_pending<T: Duplex>(session: &mut Session, stream: &mut Counted<T>) -> bool
     requires { stream.old.failed_writes < 2 ^ 64 - 1 }
     // What was sent, and what could not be sent.
-    ensures sent { (y : List ℕ) × (z : List ℕ) × Appends (T.Write.contents stream.old.stream) (T.Write.contents stream.new.stream) y × (result ≡ true → z ≡ [])
+    ensures sent { (y : List ℕ) × (z : List ℕ) × Appends (T.Write.contents stream.old.stream)
+        (T.Write.contents stream.new.stream) y × (result ≡ true → z ≡ [])
         × HandsOut session.old session.new (y ++ z) }
-    ensures apart { Keeps (T.Read.remaining stream.old.stream) (T.Read.remaining stream.new.stream) }
-    ensures writes { stream.new.failed_writes ≡ stream.old.failed_writes + (if result then 0 else 1) }
+    ensures apart { Keeps (T.Read.remaining stream.old.stream)
+        (T.Read.remaining stream.new.stream) }
+    ensures writes { stream.new.failed_writes ≡ stream.old.failed_writes + (if result then 0
+        else 1) }
     ensures reads { stream.new.failed_reads ≡ stream.old.failed_reads }
-    ensures reported { HaveFailed (T.failures stream.old.stream) (T.failures stream.new.stream) 0 (if result then 0 else 1) }
+    ensures reported { HaveFailed (T.failures stream.old.stream) (T.failures stream.new.stream) 0
+        (if result then 0 else 1) }
 {
     let out = session.take_out();
     send_all(stream, out.as_slice())
@@ -94,25 +102,36 @@ fn read_piece<T: Duplex, S: Alter, W: Observer>(
     requires going { session.old.ended ≡ None }
     requires some { 0 < length buffer.old }
     ensures buffer { length buffer.new ≡ length buffer.old }
-    ensures read { result ≡ Turn.Read → (x : List ℕ) × (length x ≤ length buffer.old) × Consumes (T.Read.remaining stream.old.stream) (T.Read.remaining stream.new.stream) x
-        × (HasCleanDisk (database S.Store store.new) → (schema : Schema) (was : Bool) (old : Content) (b o : List ℕ) → StandsOver S.Store session.old store.old schema was old b o → StandsOver S.Store session.new store.new schema was old (b ++ x) o) }
-    ensures apart { Keeps (T.Write.contents stream.old.stream) (T.Write.contents stream.new.stream) }
+    ensures read { result ≡ Turn.Read → (x : List ℕ) × (length x ≤ length buffer.old)
+        × Consumes (T.Read.remaining stream.old.stream) (T.Read.remaining stream.new.stream) x
+        × (HasCleanDisk (database S.Store store.new)
+        → (schema : Schema) (was : Bool) (old : Content) (b o : List ℕ)
+        → StandsOver S.Store session.old store.old schema was old b o
+        → StandsOver S.Store session.new store.new schema was old (b ++ x) o) }
+    ensures apart { Keeps (T.Write.contents stream.old.stream)
+        (T.Write.contents stream.new.stream) }
     ensures reads { stream.new.failed_reads ≡ stream.old.failed_reads + reads_failed result }
     ensures writes { stream.new.failed_writes ≡ stream.old.failed_writes }
-    ensures reported { HaveFailed (T.failures stream.old.stream) (T.failures stream.new.stream) (reads_failed result) 0 }
+    ensures reported { HaveFailed (T.failures stream.old.stream) (T.failures stream.new.stream)
+        (reads_failed result) 0 }
     ensures following { names_of S.Store store.new ≡ names_of S.Store store.old }
     ensures broken { IsBroken S.Store store.old → store.new ≡ store.old }
-    ensures clean { HasCleanDisk (database S.Store store.new) → HasCleanDisk (database S.Store store.old) }
+    ensures clean { HasCleanDisk (database S.Store store.new)
+        → HasCleanDisk (database S.Store store.old) }
     ensures config { session.new.config ≡ session.old.config }
-    ensures may_end { MayEnd (end_of session.old).reason (W.has_stopped observer.old) → MayEnd (end_of session.new).reason (W.has_stopped observer.new) }
-    ensures stays { W.has_stopped observer.old ≡ true → W.has_stopped observer.new ≡ true }
+    ensures may_end { MayEnd (end_of session.old).reason (W.account observer.old)
+        → MayEnd (end_of session.new).reason (W.account observer.new) }
+    ensures stays { (W.account observer.old).has_stopped ≡ true
+        → (W.account observer.new).has_stopped ≡ true }
     ensures notes { HasCleanDisk (database S.Store store.new) → (was : Bool) (old : Content)
         → HoldsAs S.Store was old store.old → IsLedTo S.Store store.old store.new was old
-        (W.noted observer.old, W.has_stopped observer.old, W.waits observer.old)
-        (W.noted observer.new, W.has_stopped observer.new, W.waits observer.new) [] }
-    ensures heeds { (is : Bool) (now : Content) → HoldsAs S.Store is now store.old → W.has_stopped observer.old ≡ true → store.new ≡ store.old }
+        (W.account observer.old) (W.account observer.new) [] }
+    ensures heeds { (is : Bool) (now : Content) → HoldsAs S.Store is now store.old
+        → (W.account observer.old).has_stopped ≡ true → store.new ≡ store.old }
     ensures turns { result ≡ Turn.Read → turns_left session.new < turns_left session.old }
-    ensures still { result ≢ Turn.Read → (session.new ≡ session.old) × (store.new ≡ store.old) × Keeps (T.Read.remaining stream.old.stream) (T.Read.remaining stream.new.stream) }
+    ensures still { result ≢ Turn.Read → (session.new ≡ session.old) × (store.new ≡ store.old)
+        × (observer.new ≡ observer.old)
+        × Keeps (T.Read.remaining stream.old.stream) (T.Read.remaining stream.new.stream) }
     ensures at_end { result ≡ Turn.AtEnd → IsAtEnd (T.Read.remaining stream.new.stream) }
 {
     match stream.receive(buffer) {
@@ -129,7 +148,12 @@ fn read_piece<T: Duplex, S: Alter, W: Observer>(
 
 /// The end of the session, with another reason.
 fn ended_with(session: Session, reason: Reason) -> Ended
-    ensures { result ≡ record { reason = reason; at = (end_of session).at; applied = (end_of session).applied } }
+    ensures { result ≡ record {
+      reason = reason;
+      at = (end_of session).at;
+      applied =
+          (end_of session).applied;
+    } }
 {
     let Ended { at, applied, .. } = session.finish();
     Ended {
@@ -154,22 +178,31 @@ pub fn follow<T: Duplex, S: Alter>(
     requires writes { stream.old.failed_writes < 2 ^ 64 - 1 }
     // The content of the store afterwards and the end are those of the bytes read, and the bytes sent are due in reply
     // to them.
-    ensures follows { HasCleanDisk (database S.Store store.new) → (was : Bool) (old : Content) → HoldsAs S.Store was old store.old
-        → Follows S.Store config store.old store.new was old (T.Read.remaining stream.old.stream) (T.Read.remaining stream.new.stream) (T.Write.contents stream.old.stream) (T.Write.contents stream.new.stream) result }
+    ensures follows { HasCleanDisk (database S.Store store.new) → (was : Bool) (old : Content)
+        → HoldsAs S.Store was old store.old → Follows S.Store config store.old store.new was old
+        (T.Read.remaining stream.old.stream) (T.Read.remaining stream.new.stream)
+        (T.Write.contents stream.old.stream) (T.Write.contents stream.new.stream) result }
     // Nothing halts the connection.
     ensures going { result.reason ≢ Reason.Halted }
     // A failure of the stream is reported exactly if there was one.
-    ensures read_failed { (result.reason ≡ Reason.ReadFailed) ↔ (stream.old.failed_reads < stream.new.failed_reads) }
-    ensures write_failed { (result.reason ≡ Reason.WriteFailed) ↔ (stream.old.failed_writes < stream.new.failed_writes) }
+    ensures read_failed { (result.reason ≡ Reason.ReadFailed)
+        ↔ (stream.old.failed_reads < stream.new.failed_reads) }
+    ensures write_failed { (result.reason ≡ Reason.WriteFailed)
+        ↔ (stream.old.failed_writes < stream.new.failed_writes) }
     // The call that fails is the last one: none is made after it.
-    ensures once { (stream.new.failed_reads ≤ stream.old.failed_reads + 1) × (stream.new.failed_writes ≤ stream.old.failed_writes + 1) }
-    ensures counted { (stream.new.failed_reads ≡ stream.old.failed_reads + failed_reads_of result.reason) × (stream.new.failed_writes ≡ stream.old.failed_writes + failed_writes_of result.reason) }
+    ensures once { (stream.new.failed_reads ≤ stream.old.failed_reads + 1)
+        × (stream.new.failed_writes ≤ stream.old.failed_writes + 1) }
+    ensures counted { (stream.new.failed_reads ≡ stream.old.failed_reads + failed_reads_of
+        result.reason) × (stream.new.failed_writes
+        ≡ stream.old.failed_writes + failed_writes_of result.reason) }
     // If the stream reports its own failures, these are they: exactly the one that is reported.
-    ensures reported { HaveFailed (T.failures stream.old.stream) (T.failures stream.new.stream) (failed_reads_of result.reason) (failed_writes_of result.reason) }
+    ensures reported { HaveFailed (T.failures stream.old.stream) (T.failures stream.new.stream)
+        (failed_reads_of result.reason) (failed_writes_of result.reason) }
     ensures following { names_of S.Store store.new ≡ names_of S.Store store.old }
     // A store that has failed stays as it is.
     ensures broken { IsBroken S.Store store.old → store.new ≡ store.old }
-    ensures clean { HasCleanDisk (database S.Store store.new) → HasCleanDisk (database S.Store store.old) }
+    ensures clean { HasCleanDisk (database S.Store store.new)
+        → HasCleanDisk (database S.Store store.old) }
 {
     follow_observed(alloc, stream, store, config, &mut Unobserved)
 }
@@ -185,29 +218,38 @@ pub fn follow_observed<T: Duplex, S: Alter, W: Observer>(
 ) -> Ended
     requires reads { stream.old.failed_reads < 2 ^ 64 - 1 }
     requires writes { stream.old.failed_writes < 2 ^ 64 - 1 }
-    ensures follows { HasCleanDisk (database S.Store store.new) → (was : Bool) (old : Content) → HoldsAs S.Store was old store.old
-        → Follows S.Store config store.old store.new was old (T.Read.remaining stream.old.stream) (T.Read.remaining stream.new.stream) (T.Write.contents stream.old.stream) (T.Write.contents stream.new.stream) result }
-    // The connection is halted only if the observer has stopped.
-    ensures asked { result.reason ≡ Reason.Halted → W.has_stopped observer.new ≡ true }
+    ensures follows { HasCleanDisk (database S.Store store.new) → (was : Bool) (old : Content)
+        → HoldsAs S.Store was old store.old → Follows S.Store config store.old store.new was old
+        (T.Read.remaining stream.old.stream) (T.Read.remaining stream.new.stream)
+        (T.Write.contents stream.old.stream) (T.Write.contents stream.new.stream) result }
+    // The connection is halted, or ended with `Until`, only if the observer asked for that.
+    ensures asked { IsAsked result.reason (W.account observer.new) }
     // What was reported to it leads from the content before to the one afterwards.
     ensures notes { HasCleanDisk (database S.Store store.new) → (was : Bool) (old : Content)
         → HoldsAs S.Store was old store.old → IsLedTo S.Store store.old store.new was old
-        (W.noted observer.old, W.has_stopped observer.old, W.waits observer.old)
-        (W.noted observer.new, W.has_stopped observer.new, W.waits observer.new) [] }
+        (W.account observer.old) (W.account observer.new) [] }
     // If it waits for nothing, nothing is read or sent.
-    ensures until { waits_for_none (W.waits observer.old) ≡ true
+    ensures until { waits_for_none (W.account observer.old).waits ≡ true
         → (result ≡ record { reason = Reason.Until; at = 0; applied = 0 })
         × (stream.new ≡ stream.old) × (store.new ≡ store.old) × (observer.new ≡ observer.old) }
     // Once it has stopped, the store stays as it is.
-    ensures heeds { (is : Bool) (now : Content) → HoldsAs S.Store is now store.old → W.has_stopped observer.old ≡ true → store.new ≡ store.old }
-    ensures read_failed { (result.reason ≡ Reason.ReadFailed) ↔ (stream.old.failed_reads < stream.new.failed_reads) }
-    ensures write_failed { (result.reason ≡ Reason.WriteFailed) ↔ (stream.old.failed_writes < stream.new.failed_writes) }
-    ensures once { (stream.new.failed_reads ≤ stream.old.failed_reads + 1) × (stream.new.failed_writes ≤ stream.old.failed_writes + 1) }
-    ensures counted { (stream.new.failed_reads ≡ stream.old.failed_reads + failed_reads_of result.reason) × (stream.new.failed_writes ≡ stream.old.failed_writes + failed_writes_of result.reason) }
-    ensures reported { HaveFailed (T.failures stream.old.stream) (T.failures stream.new.stream) (failed_reads_of result.reason) (failed_writes_of result.reason) }
+    ensures heeds { (is : Bool) (now : Content) → HoldsAs S.Store is now store.old
+        → (W.account observer.old).has_stopped ≡ true → store.new ≡ store.old }
+    ensures read_failed { (result.reason ≡ Reason.ReadFailed)
+        ↔ (stream.old.failed_reads < stream.new.failed_reads) }
+    ensures write_failed { (result.reason ≡ Reason.WriteFailed)
+        ↔ (stream.old.failed_writes < stream.new.failed_writes) }
+    ensures once { (stream.new.failed_reads ≤ stream.old.failed_reads + 1)
+        × (stream.new.failed_writes ≤ stream.old.failed_writes + 1) }
+    ensures counted { (stream.new.failed_reads ≡ stream.old.failed_reads + failed_reads_of
+        result.reason) × (stream.new.failed_writes
+        ≡ stream.old.failed_writes + failed_writes_of result.reason) }
+    ensures reported { HaveFailed (T.failures stream.old.stream) (T.failures stream.new.stream)
+        (failed_reads_of result.reason) (failed_writes_of result.reason) }
     ensures following { names_of S.Store store.new ≡ names_of S.Store store.old }
     ensures broken { IsBroken S.Store store.old → store.new ≡ store.old }
-    ensures clean { HasCleanDisk (database S.Store store.new) → HasCleanDisk (database S.Store store.old) }
+    ensures clean { HasCleanDisk (database S.Store store.new)
+        → HasCleanDisk (database S.Store store.old) }
 {
     let mut session = Session::new(config);
     if observer.is_done() {

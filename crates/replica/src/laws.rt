@@ -34,7 +34,8 @@ ghost use Rattle.replica.specs.Standing.{Stands, end_of};
 ghost use Rattle.replica.specs.Over.{StandsOver};
 ghost use Rattle.replica.specs.Follow.{HandsOut, IsInFull};
 ghost use Rattle.replica.specs.File.{FilesHold, AreClosedWith, IsTurnedAway};
-ghost use Rattle.replica.specs.Noted.{Account, IsNotedOf, Notice, opened, before, LeadsBy, applied_in, StillWaits, WereMissed, waits_for_none};
+ghost use Rattle.replica.specs.Noted.{Account, IsNotedOf, Notice, opened, before, LeadsBy, applied_in, StillWaits, WereMissed};
+ghost use Rattle.replica.specs.Missing.{waits_for_none};
 ghost use Rattle.replica.specs.Restart.{Starts, IsUncut, MayFindUnopened, AreStarts, HoldFirst, FilesNeverFall};
 ghost use Rattle.replica.specs.Resume.{Resumes, Leads, Reaches, AreRestarts, NeverFalls, part_changes, transaction, transactions, end_reason};
 
@@ -47,51 +48,77 @@ use store::Store;
 
 /// A session that has read nothing begins at any store, with the content that the store holds.
 pub fn begins<S: Alter>(_session: &Session, _store: &Store<S>)
-    ensures { (was : Bool) (content : Content) → HoldsAs S.Store was content _store.now → Stands _session.now (names_of S.Store _store.now) was was content content [] []
-        → StandsOver S.Store _session.now _store.now (database S.Store _store.now).now.schema was content [] [] }
+    ensures { (was : Bool) (content : Content) → HoldsAs S.Store was content _store.now
+        → Stands _session.now (names_of S.Store _store.now) was was content content [] []
+        → StandsOver S.Store _session.now _store.now
+        (database S.Store _store.now).now.schema was content [] [] }
 {}
 
 /// What a session hands out (`Session::take_out`) counts as sent, also together with a store.
 pub fn handed_out<S: Alter>(_before: &Session, _after: &Session, _store: &Store<S>)
-    ensures { (schema : Schema) (was : Bool) (old : Content) (b o out : List ℕ) → HandsOut _before.now _after.now out → StandsOver S.Store _before.now _store.now schema was old b o → StandsOver S.Store _after.now _store.now schema was old b (o ++ out) }
+    ensures { (schema : Schema) (was : Bool) (old : Content) (b o out : List ℕ)
+        → HandsOut _before.now _after.now out → StandsOver S.Store _before.now _store.now schema was
+        old b o → StandsOver S.Store _after.now _store.now schema was old b (o ++ out) }
 {}
 
 /// A session's position determines how its connection ends if no more bytes come, what the store holds, and what was
 /// sent.
 pub fn stood(_session: &Session)
-    ensures conn { (names : Names) (was is : Bool) (old now : Content) (b o : List ℕ) → Stands _session.now names was is old now b o → Conn _session.now.config.limit names was old b now (end_of _session.now) }
-    ensures sent { (names : Names) (was is : Bool) (old now : Content) (b o : List ℕ) → Stands _session.now names was is old now b o
-        → SentFor _session.now.config names old.executed b (end_of _session.now).at (o ++ _session.now.out.items) }
+    ensures conn { (names : Names) (was is : Bool) (old now : Content) (b o : List ℕ)
+        → Stands _session.now names was is old now b o
+        → Conn _session.now.config.limit names was old b now (end_of _session.now) }
+    ensures sent { (names : Names) (was is : Bool) (old now : Content) (b o : List ℕ)
+        → Stands _session.now names was is old now b o
+        → SentFor _session.now.config names old.executed b (end_of _session.now).at
+        (o ++ _session.now.out.items) }
     // The store holds what the first transactions of the bytes, some number of them, make of what it held.
-    ensures state { (names : Names) (was is : Bool) (old now : Content) (b o : List ℕ) → Stands _session.now names was is old now b o
-        → (count : ℕ) × AppliesFirst _session.now.config.limit names old b count (end_of _session.now).applied now }
+    ensures state { (names : Names) (was is : Bool) (old now : Content) (b o : List ℕ)
+        → Stands _session.now names was is old now b o
+        → (count : ℕ) × AppliesFirst _session.now.config.limit names old b count
+        (end_of _session.now).applied now }
     // An end caused by the bytes is the end of these bytes, except for a dump command that would be too long.
-    ensures reason { (names : Names) (was is : Bool) (old now : Content) (b o : List ℕ) → Stands _session.now names was is old now b o → IsOfBytes (end_of _session.now).reason
-        → End _session.now.config.limit names b (end_of _session.now).reason (end_of _session.now).at ⊎ (((end_of _session.now).reason ≡ Wire wire.TooLarge) × IsDumpTooLong old.executed) }
-    ensures store { (names : Names) (was is : Bool) (old now : Content) (b o : List ℕ) → Stands _session.now names was is old now b o → BreaksStore (end_of _session.now).reason was is }
-    ensures ended { (names : Names) (was is : Bool) (old now : Content) (b o : List ℕ) → Stands _session.now names was is old now b o → (_session.now.ended ≡ None) ↔ ((end_of _session.now).reason ≡ EndOfInput) }
+    ensures reason { (names : Names) (was is : Bool) (old now : Content) (b o : List ℕ)
+        → Stands _session.now names was is old now b o → IsOfBytes (end_of _session.now).reason
+        → End _session.now.config.limit names b (end_of _session.now).reason
+        (end_of _session.now).at ⊎ (((end_of _session.now).reason ≡ Wire wire.TooLarge)
+        × IsDumpTooLong old.executed) }
+    ensures store { (names : Names) (was is : Bool) (old now : Content) (b o : List ℕ)
+        → Stands _session.now names was is old now b o
+        → BreaksStore (end_of _session.now).reason was is }
+    ensures ended { (names : Names) (was is : Bool) (old now : Content) (b o : List ℕ)
+        → Stands _session.now names was is old now b o
+        → (_session.now.ended ≡ None) ↔ ((end_of _session.now).reason ≡ EndOfInput) }
 {}
 
 /// What a crash leaves of a connection is what the first of its transactions, some number of them, make of what the
 /// store held: all those that were applied, and at most one more, if the database failed.
 pub fn left_transactions()
-    ensures { (limit : ℕ) (names : Names) (was : Bool) (old : Content) (b : List ℕ) (new : Content) (end : Ended) (left : Content) → Conn limit names was old b new end
+    ensures { (limit : ℕ) (names : Names) (was : Bool) (old : Content) (b : List ℕ) (new : Content)
+        (end : Ended) (left : Content) → Conn limit names was old b new end
         → IsLeftOfOne limit names old b new end left → LeavesFirst limit names old b new end left }
 {}
 
 /// Where a connection ends because of its bytes, and what that end reports, is determined by the bytes.
 pub fn one_end()
-    ensures reported { (limit : ℕ) (names : Names) (b : List ℕ) (r s : Reason) (at other : ℕ) → AllByRecursion (λ byte. byte < 256) b → End limit names b r at → End limit names b s other → report_of r ≡ report_of s }
-    ensures at { (limit : ℕ) (names : Names) (b : List ℕ) (r s : Reason) (at other : ℕ) → AllByRecursion (λ byte. byte < 256) b → End limit names b r at → End limit names b s other → at ≡ other }
+    ensures reported { (limit : ℕ) (names : Names) (b : List ℕ) (r s : Reason) (at other : ℕ)
+        → AllByRecursion (λ byte. byte < 256) b → End limit names b r at → End limit names b s other
+        → report_of r ≡ report_of s }
+    ensures at { (limit : ℕ) (names : Names) (b : List ℕ) (r s : Reason) (at other : ℕ)
+        → AllByRecursion (λ byte. byte < 256) b → End limit names b r at → End limit names b s other
+        → at ≡ other }
 {}
 
 /// What a connection comes to is determined by its bytes and by what the store held, unless memory runs out, or the
 /// database or the stream fails: the content afterwards, and the end.
 pub fn one_outcome()
-    ensures content { (limit : ℕ) (names : Names) (was is : Bool) (old new other : Content) (b : List ℕ) (end last : Ended) → AllByRecursion (λ byte. byte < 256) b → IsInFull end.reason → IsInFull last.reason
-        → Conn limit names was old b new end → Conn limit names is old b other last → new ≡ other }
-    ensures end { (limit : ℕ) (names : Names) (was is : Bool) (old new other : Content) (b : List ℕ) (end last : Ended) → AllByRecursion (λ byte. byte < 256) b → IsInFull end.reason → IsInFull last.reason
-        → Conn limit names was old b new end → Conn limit names is old b other last → IsSameEnd end last }
+    ensures content { (limit : ℕ) (names : Names) (was is : Bool) (old new other : Content)
+        (b : List ℕ) (end last : Ended) → AllByRecursion (λ byte. byte < 256) b
+        → IsInFull end.reason → IsInFull last.reason → Conn limit names was old b new end
+        → Conn limit names is old b other last → new ≡ other }
+    ensures end { (limit : ℕ) (names : Names) (was is : Bool) (old new other : Content) (b : List ℕ)
+        (end last : Ended) → AllByRecursion (λ byte. byte < 256) b → IsInFull end.reason
+        → IsInFull last.reason → Conn limit names was old b new end
+        → Conn limit names is old b other last → IsSameEnd end last }
 {}
 
 /// Each list of bytes has an end: for a store that had not failed, a connection with these bytes leads from what it held
@@ -107,8 +134,14 @@ pub fn some_end(_bytes: &[u8])
 /// What closed files hold is found by the next call that opens them: as they are, and what a crash leaves of them, with its
 /// WAL file or without. So what `replay` and `follow_file` promise carries on from one call to the next.
 pub fn found_again<D: Disk>(_files: &Files<D>)
-    ensures closed { (only names : Names) (content : Content) → AreClosedWith D.Disk names content _files.now → FilesHold only names content (image_of D.Disk _files.now) }
-    ensures left { (only names : Names) (content : Content) (image : Image) → AreClosedWith D.Disk names content _files.now → outcomes D.Disk _files.now.log _files.now.db image → FilesHold only names content image × FilesHold only names content (record image { log = [] }) }
+    ensures closed { (only names : Names) (content : Content)
+        → AreClosedWith D.Disk names content _files.now
+        → FilesHold only names content (image_of D.Disk _files.now) }
+    ensures left { (only names : Names) (content : Content) (image : Image)
+        → AreClosedWith D.Disk names content _files.now
+        → outcomes D.Disk _files.now.log _files.now.db image
+        → FilesHold only names content image × FilesHold only names content
+        (record image { log = [] }) }
 {}
 
 /// What files hold is found by the next call that opens them, where this one has not opened their database: if they were not
@@ -133,23 +166,26 @@ pub fn led()
 /// waited for are executed in the latter. If the opening of a database was reported first, what it still waits for are exactly
 /// those that are not.
 pub fn waited()
-    ensures none { (names : Names) (old new : Content) (was is : Account) (ends : List Ended) (wanted : Ids)
-        → IsNotedOf names old new was is ends → was.2 ≡ Some wanted → waits_for_none is.2 ≡ true
-        → set.is_subset wanted new.executed ≡ true }
-    ensures left { (names : Names) (old new : Content) (executed wanted left : Ids) (notices : List Notice)
-        → LeadsBy names old (opened executed ∷ notices) new
+    ensures none { (names : Names) (old new : Content) (was is : Account) (ends : List Ended)
+        (wanted : Ids) → IsNotedOf names old new was is ends → was.waits ≡ Some wanted
+        → waits_for_none is.waits ≡ true → set.is_subset wanted new.executed ≡ true }
+    ensures left { (names : Names) (old new : Content) (executed wanted left : Ids)
+        (notices : List Notice) → LeadsBy names old (opened executed ∷ notices) new
         → StillWaits (Some wanted) (opened executed ∷ notices) (Some left)
         → left ≡ set.difference wanted new.executed }
     // Before each transaction that was to be applied, not all of them were executed.
-    ensures missed { (names : Names) (old mid : Content) (executed wanted left : Ids) (notices more : List Notice)
-        (d : DeliveryValue) → LeadsBy names old (opened executed ∷ notices) mid
+    ensures missed { (names : Names) (old mid : Content) (executed wanted left : Ids)
+        (notices more : List Notice) (d : DeliveryValue)
+        → LeadsBy names old (opened executed ∷ notices) mid
         → WereMissed (Some wanted) (opened executed ∷ (notices ++ before d ∷ more)) (Some left)
         → set.is_subset wanted mid.executed ≡ false }
 {}
 
 /// No reading of a connection's bytes has more payloads than the reading up to their end.
 pub fn longest()
-    ensures { (limit : ℕ) (names : Names) (b : List ℕ) (r : Reason) (at : ℕ) → AllByRecursion (λ byte. byte < 256) b → (e : End limit names b r at) → (q : Reading limit names b) → length q.payloads ≤ length e.reading.payloads }
+    ensures { (limit : ℕ) (names : Names) (b : List ℕ) (r : Reason) (at : ℕ)
+        → AllByRecursion (λ byte. byte < 256) b → (e : End limit names b r at)
+        → (q : Reading limit names b) → length q.payloads ≤ length e.reading.payloads }
 {}
 
 /// A replica holds the content after the first j transactions of a history, and asks with its executed set. What the
@@ -157,10 +193,18 @@ pub fn longest()
 /// transactions are those after the j-th, in order and no others. If the connection is cut, at any byte, it is led to
 /// the content after some of them, and none is left out in between.
 pub fn resuming(_opening: &[u8], _answer: &[u8])
-    ensures leads { (limit : ℕ) (names : Names) (history : List ScriptValue) (j : ℕ) (held last : Content) (request : List ℕ) → (r : Resumes limit names history j held last request _opening.now _answer.now)
-        → Leads limit names held last (_opening.now ++ _answer.now) (transactions names (drop j history)) (end_reason (is_once r.dump.flags)) }
-    ensures cut { (limit : ℕ) (names : Names) (history : List ScriptValue) (j : ℕ) (held last : Content) (request : List ℕ) → (r : Resumes limit names history j held last request _opening.now _answer.now)
-        → (part more : List ℕ) (count applied : ℕ) (new : Content) → _opening.now ++ _answer.now ≡ part ++ more → AppliesFirst limit names held part count applied new → Reaches names history (j + count) new }
+    ensures leads { (limit : ℕ) (names : Names) (history : List ScriptValue) (j : ℕ)
+        (held last : Content) (request : List ℕ) →
+        (r : Resumes limit names history j held last request _opening.now _answer.now)
+        → Leads limit names held last (_opening.now ++ _answer.now)
+        (transactions names (drop j history)) (end_reason (is_once r.dump.flags)) }
+    ensures cut { (limit : ℕ) (names : Names) (history : List ScriptValue) (j : ℕ)
+        (held last : Content) (request : List ℕ) →
+        (r : Resumes limit names history j held last request _opening.now _answer.now)
+        → (part more : List ℕ) (count applied : ℕ) (new : Content)
+        → _opening.now ++ _answer.now ≡ part ++ more
+        → AppliesFirst limit names held part count applied new
+        → Reaches names history (j + count) new }
 {
     greet::laws::dumps();
 }
@@ -169,9 +213,13 @@ pub fn resuming(_opening: &[u8], _answer: &[u8])
 /// crash leaves, is the content after the first transactions of the history, some number of them. None that it had is
 /// lost, and at most one more is there.
 pub fn stopped_anywhere(_opening: &[u8], _answer: &[u8])
-    ensures { (limit : ℕ) (names : Names) (history : List ScriptValue) (j : ℕ) (held last : Content) (request : List ℕ) → (r : Resumes limit names history j held last request _opening.now _answer.now)
-        → (part more : List ℕ) (was : Bool) (new : Content) (end : Ended) (left : Content) → _opening.now ++ _answer.now ≡ part ++ more → Conn limit names was held part new end → IsLeftOfOne limit names held part new end left
-        → (i : ℕ) × Reaches names history (j + i) new × ((left ≡ new) ⊎ Reaches names history (j + (i + 1)) left) }
+    ensures { (limit : ℕ) (names : Names) (history : List ScriptValue) (j : ℕ) (held last : Content)
+        (request : List ℕ) → (r : Resumes limit names history j held last
+        request _opening.now _answer.now) → (part more : List ℕ) (was : Bool) (new : Content)
+        (end : Ended) (left : Content) → _opening.now ++ _answer.now ≡ part ++ more
+        → Conn limit names was held part new end → IsLeftOfOne limit names held part new end left
+        → (i : ℕ) × Reaches names history (j + i) new
+        × ((left ≡ new) ⊎ Reaches names history (j + (i + 1)) left) }
 {
     resuming(_opening, _answer);
     left_transactions();
@@ -180,7 +228,9 @@ pub fn stopped_anywhere(_opening: &[u8], _answer: &[u8])
 /// However often a replica is stopped and started again, and wherever each connection was cut: it holds the content after
 /// the first transactions of the history, and of these there are never fewer than before.
 pub fn restarted()
-    ensures { (limit : ℕ) (names : Names) (history : List ScriptValue) (j : ℕ) (held : Content) (lefts : List Content) → Reaches names history j held → AreRestarts limit names history held lefts → NeverFalls names history j lefts }
+    ensures { (limit : ℕ) (names : Names) (history : List ScriptValue) (j : ℕ) (held : Content)
+        (lefts : List Content) → Reaches names history j held
+        → AreRestarts limit names history held lefts → NeverFalls names history j lefts }
 {
     greet::laws::dumps();
 }
@@ -193,11 +243,16 @@ pub fn restarted_files<D: Disk, T: Duplex + Drop, E: Drop, F: FnOnce() -> Result
     _files: &Files<D>,
     _connect: &F,
 )
-    ensures never_falls { (only names : Names) (history : List ScriptValue) (j : ℕ) (held : Content) (before : Image) (images : List Image) → Reaches names history j held → FilesHold only names held before
-        → AreStarts D.Disk T.Read.remaining T.Write.contents T.failures F.post only names history before images → FilesNeverFall only names history j images }
-    ensures whole { (only names : Names) (history : List ScriptValue) (j : ℕ) (held : Content) (before next : Image) → Reaches names history j held → FilesHold only names held before
-        → (start : Starts D.Disk T.Read.remaining T.Write.contents T.failures F.post only names history before next) → IsUncut D.Disk T.Read.remaining T.Write.contents T.failures F.post only names history before next start
-        → HoldFirst only names history next (length history) }
+    ensures never_falls { (only names : Names) (history : List ScriptValue) (j : ℕ) (held : Content)
+        (before : Image) (images : List Image) → Reaches names history j held
+        → FilesHold only names held before → AreStarts D.Disk T.Read.remaining T.Write.contents
+        T.failures F.post only names history before images
+        → FilesNeverFall only names history j images }
+    ensures whole { (only names : Names) (history : List ScriptValue) (j : ℕ) (held : Content)
+        (before next : Image) → Reaches names history j held → FilesHold only names held before
+        → (start : Starts D.Disk T.Read.remaining T.Write.contents T.failures F.post only names
+        history before next) → IsUncut D.Disk T.Read.remaining T.Write.contents T.failures F.post
+        only names history before next start → HoldFirst only names history next (length history) }
 {
     greet::laws::dumps();
 }
@@ -206,7 +261,9 @@ pub fn restarted_files<D: Disk, T: Duplex + Drop, E: Drop, F: FnOnce() -> Result
 /// with the empty filter they have all changes. A replica applies a transaction without these changes exactly if it applies
 /// the whole one.
 pub fn filtered()
-    ensures all { (part : PartValue) → part_changes set.empty part ≡ map (change_of part.table) part.pairs }
-    ensures taken { (names : Names) (script : ScriptValue) (old new : Content) →
-        HasOutcome names old (transaction set.empty script) (done new) ↔ HasOutcome names old (transaction names script) (done new) }
+    ensures all { (part : PartValue) → part_changes set.empty part
+        ≡ map (change_of part.table) part.pairs }
+    ensures taken { (names : Names) (script : ScriptValue) (old new : Content)
+        → HasOutcome names old (transaction set.empty script) (done new)
+        ↔ HasOutcome names old (transaction names script) (done new) }
 {}

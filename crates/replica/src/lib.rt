@@ -9,7 +9,8 @@
 //!
 //! Over a database file, [`replay`] opens it, reads a list of [`Capture`]s, each a connection from a reader, and closes
 //! it, and [`follow_file`] does so with a source that is followed over a stream of two directions, such as a socket
-//! ([`Duplex`]); [`open_file`] and [`close_file`] are their first and their last step. An [`Observer`] is called
+//! ([`Duplex`]); [`change_file`] applies transactions that come from no connection ([`Deliveries`]). [`open_file`] and
+//! [`close_file`] are their first and their last step. An [`Observer`] is called
 //! with what is read and applied, and may stop it; [`Until`] is one that stops once nothing of a set of GTIDs is missing. Over
 //! a store, [`run`] reads a list of connections that are in memory, one after the other, [`read_stream`] one connection from a
 //! reader, and [`follow`] follows a source: it sends all pending output before each read, until the connection ends.
@@ -23,9 +24,12 @@
 #![tactic(auto)]
 
 mod captures;
+mod changed_file;
+mod changing;
 mod config;
 mod connections;
 mod counted;
+mod deliveries;
 mod dump;
 mod end;
 mod feed;
@@ -46,9 +50,12 @@ mod session;
 mod until;
 
 pub use captures::{Capture, Halt};
+pub use changed_file::{ChangedFile, change_file};
+pub use changing::ChangeEnd;
 pub use config::{Config, ConfigFault};
 pub use connections::{NoMemory, run};
 pub use counted::{Counted, Duplex};
+pub use deliveries::Deliveries;
 pub use end::{Ended, Reason, Refusal};
 pub use feed::Stopped;
 pub use file::{Unopened, close_file, open_file};

@@ -55,7 +55,12 @@ fn send(sequence: u8, payload: &[u8], out: &mut Vec<u8>) -> Result<(), Reason>
 
 /// The response to a greeting with this scramble.
 fn response_to(config: &Config, scramble: &[u8; 20]) -> Result<Vec<u8>, Reason>
-    ensures ok { IfOk result (λ payload. payload.items ≡ response (record { user = config.now.user; auth = auth_bytes config.now.password scramble.now })) }
+    ensures ok { IfOk result (λ payload. payload.items
+        ≡ response (record {
+          user = config.now.user;
+          auth = auth_bytes config.now.password
+              scramble.now;
+        })) }
     ensures err { IfErr result (λ reason. reason ≡ Memory) }
 {
     let Ok(auth) = auth(config.alloc(), &config.password, scramble) else {
@@ -74,7 +79,9 @@ fn response_to(config: &Config, scramble: &[u8; 20]) -> Result<Vec<u8>, Reason>
 
 /// Appends the response to a greeting with this scramble.
 pub(crate) fn log_in(config: &Config, scramble: &[u8; 20], out: &mut Vec<u8>) -> Result<(), Reason>
-    ensures ok { OnOk result (Sends 1 (response (record { user = config.now.user; auth = auth_bytes config.now.password scramble.now })) out.old.items out.new.items) }
+    ensures ok { OnOk result (Sends 1 (response
+        (record { user = config.now.user; auth = auth_bytes config.now.password scramble.now }))
+        out.old.items out.new.items) }
     ensures err { OnErr result (result ≡ Err Memory) }
     ensures kept { OnErr result (out.new.items ≡ out.old.items) }
 {
@@ -90,7 +97,8 @@ pub(crate) fn log_in_again(
     scramble: &[u8; 20],
     out: &mut Vec<u8>,
 ) -> Result<(), Reason>
-    ensures ok { OnOk result (Sends 3 (auth_bytes config.now.password scramble.now) out.old.items out.new.items) }
+    ensures ok { OnOk result (Sends 3 (auth_bytes config.now.password scramble.now) out.old.items
+        out.new.items) }
     ensures err { OnErr result (result ≡ Err Memory) }
     ensures kept { OnErr result (out.new.items ≡ out.old.items) }
 {
@@ -126,8 +134,10 @@ fn flags(once: bool) -> u16
 
 /// The executed set as encoded for the dump command. `TooLarge` if the command would be longer than a payload may be.
 fn encoded(alloc: Global, executed: &GtidSet) -> Result<Vec<u8>, Reason>
-    ensures ok { IfOk result (λ set. IsEncoding executed.now set.items × (dump_lead + length set.items ≤ largest_payload)) }
-    ensures err { IfErr result (λ reason. (reason ≡ Memory) ⊎ ((reason ≡ Wire wire.TooLarge) × IsDumpTooLong executed.now)) }
+    ensures ok { IfOk result (λ set. IsEncoding executed.now set.items
+        × (dump_lead + length set.items ≤ largest_payload)) }
+    ensures err { IfErr result (λ reason. (reason ≡ Memory)
+        ⊎ ((reason ≡ Wire wire.TooLarge) × IsDumpTooLong executed.now)) }
 {
     let mut set = Vec::new(alloc);
     match executed.encode(&mut set) {
@@ -140,7 +150,12 @@ fn encoded(alloc: Global, executed: &GtidSet) -> Result<Vec<u8>, Reason>
 /// The dump command with this set.
 fn dump_with(config: &Config, set: &[u8]) -> Result<Vec<u8>, Reason>
     requires { dump_lead + length set.now ≤ largest_payload }
-    ensures ok { IfOk result (λ payload. payload.items ≡ dump_bytes (record { flags = flags_of config.now.once; server_id = config.now.server_id; set = set.now }) [] (little_bytes 8 4)) }
+    ensures ok { IfOk result (λ payload. payload.items
+        ≡ dump_bytes (record {
+          flags = flags_of config.now.once;
+          server_id = config.now.server_id;
+          set = set.now;
+        }) [] (little_bytes 8 4)) }
     ensures err { IfErr result (λ reason. reason ≡ Memory) }
 {
     let dump = Dump {
@@ -159,7 +174,8 @@ fn dump_with(config: &Config, set: &[u8]) -> Result<Vec<u8>, Reason>
 pub(crate) fn ask(config: &Config, executed: &GtidSet, out: &mut Vec<u8>) -> Result<(), Reason>
     ensures ok { OnOk result (SendsDump config.now executed.now out.old.items out.new.items) }
     ensures short { OnOk result (IsDumpTooLong executed.now → ⊥) }
-    ensures err { IfErr result (λ reason. (reason ≡ Memory) ⊎ ((reason ≡ Wire wire.TooLarge) × IsDumpTooLong executed.now)) }
+    ensures err { IfErr result (λ reason. (reason ≡ Memory)
+        ⊎ ((reason ≡ Wire wire.TooLarge) × IsDumpTooLong executed.now)) }
     ensures kept { OnErr result (out.new.items ≡ out.old.items) }
 {
     let set = encoded(config.alloc(), executed)?;

@@ -19,7 +19,8 @@ use gtid::GtidSet;
 
 /// Maps a greet fault to a reason.
 pub(crate) fn reported(fault: GreetFault) -> Reason
-    ensures reported { (refusal : Option Refusal) → Refuses refusal fault → IsReportOf refusal result }
+    ensures reported { (refusal : Option Refusal) → Refuses refusal fault
+        → IsReportOf refusal result }
     ensures may_end { IsOwn result }
 {
     match fault {
@@ -39,9 +40,12 @@ pub(crate) fn reported(fault: GreetFault) -> Reason
 
 /// Takes the greeting, and returns the phase after it.
 fn take_greeting(config: &Config, payload: &[u8], out: &mut Vec<u8>) -> Result<Phase, Reason>
-    ensures ok { (names : Names) (executed : Ids) → OnOk result (IsAnswered config.now names executed Hello payload.now out.old.items out.new.items) }
+    ensures ok { (names : Names) (executed : Ids)
+        → OnOk result (IsAnswered config.now names executed Hello payload.now out.old.items
+        out.new.items) }
     ensures due { IfOk result (λ phase. due_of phase ≡ Reply) }
-    ensures err { (names : Names) (executed : Ids) → IfErr result (EndsAt names executed Hello payload.now) }
+    ensures err { (names : Names) (executed : Ids)
+        → IfErr result (EndsAt names executed Hello payload.now) }
     ensures kept { OnErr result (out.new.items ≡ out.old.items) }
     ensures may_end { IfErr result IsOwn }
 {
@@ -56,9 +60,12 @@ fn take_greeting(config: &Config, payload: &[u8], out: &mut Vec<u8>) -> Result<P
 
 /// Takes the reply to the login, and returns the phase after it.
 fn take_reply(config: &Config, payload: &[u8], out: &mut Vec<u8>) -> Result<Phase, Reason>
-    ensures ok { (names : Names) (executed : Ids) → OnOk result (IsAnswered config.now names executed Reply payload.now out.old.items out.new.items) }
+    ensures ok { (names : Names) (executed : Ids)
+        → OnOk result (IsAnswered config.now names executed Reply payload.now out.old.items
+        out.new.items) }
     ensures due { IfOk result (λ phase. due_of phase ≡ next_due Reply payload.now) }
-    ensures err { (names : Names) (executed : Ids) → IfErr result (EndsAt names executed Reply payload.now) }
+    ensures err { (names : Names) (executed : Ids)
+        → IfErr result (EndsAt names executed Reply payload.now) }
     ensures kept { OnErr result (out.new.items ≡ out.old.items) }
     ensures may_end { IfErr result IsOwn }
 {
@@ -77,9 +84,12 @@ fn take_reply(config: &Config, payload: &[u8], out: &mut Vec<u8>) -> Result<Phas
 
 /// Takes the reply to the login after a switch, and returns the phase after it.
 fn take_second_reply(config: &Config, payload: &[u8], out: &mut Vec<u8>) -> Result<Phase, Reason>
-    ensures ok { (names : Names) (executed : Ids) → OnOk result (IsAnswered config.now names executed SecondReply payload.now out.old.items out.new.items) }
+    ensures ok { (names : Names) (executed : Ids)
+        → OnOk result (IsAnswered config.now names executed SecondReply payload.now out.old.items
+        out.new.items) }
     ensures due { IfOk result (λ phase. due_of phase ≡ QueryReply) }
-    ensures err { (names : Names) (executed : Ids) → IfErr result (EndsAt names executed SecondReply payload.now) }
+    ensures err { (names : Names) (executed : Ids)
+        → IfErr result (EndsAt names executed SecondReply payload.now) }
     ensures kept { OnErr result (out.new.items ≡ out.old.items) }
     ensures may_end { IfErr result IsOwn }
 {
@@ -99,9 +109,11 @@ fn take_query_reply(
     payload: &[u8],
     out: &mut Vec<u8>,
 ) -> Result<Phase, Reason>
-    ensures ok { (names : Names) → OnOk result (IsAnswered config.now names executed.now QueryReply payload.now out.old.items out.new.items) }
+    ensures ok { (names : Names) → OnOk result (IsAnswered config.now names executed.now QueryReply
+        payload.now out.old.items out.new.items) }
     ensures due { IfOk result (λ phase. due_of phase ≡ InDump) }
-    ensures err { (names : Names) → IfErr result (EndsAt names executed.now QueryReply payload.now) }
+    ensures err { (names : Names) → IfErr result
+        (EndsAt names executed.now QueryReply payload.now) }
     ensures kept { OnErr result (out.new.items ≡ out.old.items) }
     ensures may_end { IfErr result IsOwn }
 {
@@ -122,9 +134,11 @@ pub(crate) fn answer(
     payload: &[u8],
     out: &mut Vec<u8>,
 ) -> Result<Phase, Reason>
-    ensures ok { (names : Names) → OnOk result (IsAnswered config.now names executed.now (due_at login) payload.now out.old.items out.new.items) }
+    ensures ok { (names : Names) → OnOk result (IsAnswered config.now names executed.now
+        (due_at login) payload.now out.old.items out.new.items) }
     ensures due { IfOk result (λ next. due_of next ≡ next_due (due_at login) payload.now) }
-    ensures err { (names : Names) → IfErr result (EndsAt names executed.now (due_at login) payload.now) }
+    ensures err { (names : Names) → IfErr result
+        (EndsAt names executed.now (due_at login) payload.now) }
     ensures kept { OnErr result (out.new.items ≡ out.old.items) }
     ensures may_end { IfErr result IsOwn }
 {

@@ -1,9 +1,9 @@
 //! What is reported of connections while they are read.
 
-ghost use Rattle.std.specs.Prelude.{◌≡◌, Bool, true, false, not, List, [], ◌∷◌, Option, None, if◌then◌else◌};
-ghost use Rattle.gtid.specs.Identifier.{Ids};
+ghost use Rattle.std.specs.Prelude.{◌≡◌, true, false, not, [], ◌∷◌, None, if◌then◌else◌};
 ghost use Rattle.gather.specs.View.{delivery_value};
-ghost use Rattle.replica.specs.Noted.{Notice, HasBeenNoted, StillWaits, waits_for_none, opened, before, stopped, after, ended};
+ghost use Rattle.replica.specs.Noted.{Account, HasBeenNoted, StillWaits, opened, before, stopped, after, ended};
+ghost use Rattle.replica.specs.Missing.{waits_for_none};
 
 use crate::end::{Ended, Reason};
 use binlog::Event;
@@ -12,84 +12,89 @@ use gtid::GtidSet;
 
 /// What connections are reported to while they are read, and what may stop them.
 pub trait Observer {
-    // Whether it has asked to stop. It never takes that back.
-    ghost has_stopped: { Self → Bool };
-
-    // What was reported to it, if it keeps an account of that.
-    ghost noted: { Self → Option (List Notice) } = { λ _. None };
-
-    // Which transactions it still waits for, if it says so.
-    ghost waits: { Self → Option Ids } = { λ _. None };
+    // What was reported to it, whether it has asked to stop, and which transactions it still waits for.
+    ghost account: { Self → Account };
 
     /// Called once with the executed set of a database file, before anything is read.
     fn opened(&mut self, executed: &GtidSet)
-        ensures noted { HasBeenNoted (noted self.old) (noted self.new) (opened executed.now ∷ []) }
-        ensures waits { StillWaits (waits self.old) (opened executed.now ∷ []) (waits self.new) }
-        ensures stays { has_stopped self.old ≡ true → has_stopped self.new ≡ true };
+        ensures noted { HasBeenNoted (account self.old).noted (account self.new).noted
+            (opened executed.now ∷ []) }
+        ensures waits { StillWaits (account self.old).waits (opened executed.now ∷ [])
+            (account self.new).waits }
+        ensures stays { (account self.old).has_stopped ≡ true
+            → (account self.new).has_stopped ≡ true };
 
     /// Called when the source has been reached.
     fn connected(&mut self)
-        ensures noted { noted self.new ≡ noted self.old }
-        ensures waits { StillWaits (waits self.old) [] (waits self.new) }
-        ensures stays { has_stopped self.old ≡ true → has_stopped self.new ≡ true }
+        ensures noted { (account self.new).noted ≡ (account self.old).noted }
+        ensures waits { StillWaits (account self.old).waits [] (account self.new).waits }
+        ensures stays { (account self.old).has_stopped ≡ true
+            → (account self.new).has_stopped ≡ true }
     {}
 
     /// Called after this many bytes of a connection have been read, before they are used.
     fn received(&mut self, _count: usize)
-        ensures noted { noted self.new ≡ noted self.old }
-        ensures waits { StillWaits (waits self.old) [] (waits self.new) }
-        ensures stays { has_stopped self.old ≡ true → has_stopped self.new ≡ true }
+        ensures noted { (account self.new).noted ≡ (account self.old).noted }
+        ensures waits { StillWaits (account self.old).waits [] (account self.new).waits }
+        ensures stays { (account self.old).has_stopped ≡ true
+            → (account self.new).has_stopped ≡ true }
     {}
 
     /// Called with each event of a connection, before it is used; with its bytes, header and body, and with how many changes
     /// of the open transaction came before it.
     fn event(&mut self, _event: &Event<'_>, _bytes: &[u8], _pending: usize)
-        ensures noted { noted self.new ≡ noted self.old }
-        ensures waits { StillWaits (waits self.old) [] (waits self.new) }
-        ensures stays { has_stopped self.old ≡ true → has_stopped self.new ≡ true }
+        ensures noted { (account self.new).noted ≡ (account self.old).noted }
+        ensures waits { StillWaits (account self.old).waits [] (account self.new).waits }
+        ensures stays { (account self.old).has_stopped ≡ true
+            → (account self.new).has_stopped ≡ true }
     {}
 
     /// Called with each whole transaction that is not in the executed set, before it is applied. Returns whether it is to
     /// be applied; otherwise the connection ends with `Reason::Halted`.
     fn before_apply(&mut self, delivery: &Delivery) -> bool
-        ensures goes_on { result ≡ not (has_stopped self.new) }
-        ensures noted { HasBeenNoted (noted self.old) (noted self.new)
+        ensures goes_on { result ≡ not (account self.new).has_stopped }
+        ensures noted { HasBeenNoted (account self.old).noted (account self.new).noted
             ((if result then before (delivery_value delivery.now)
             else stopped (delivery_value delivery.now)) ∷ []) }
-        ensures waits { StillWaits (waits self.old) [] (waits self.new) }
-        ensures missed { result ≡ true → waits_for_none (waits self.new) ≡ false }
-        ensures stays { has_stopped self.old ≡ true → has_stopped self.new ≡ true };
+        ensures waits { StillWaits (account self.old).waits [] (account self.new).waits }
+        ensures missed { result ≡ true → waits_for_none (account self.new).waits ≡ false }
+        ensures stays { (account self.old).has_stopped ≡ true
+            → (account self.new).has_stopped ≡ true };
 
     /// Called with each whole transaction after it: whether it was applied, which one of the executed set is not, or why
     /// the connection ends.
     fn after_apply(&mut self, delivery: &Delivery, outcome: &Result<bool, Reason>)
-        ensures noted { HasBeenNoted (noted self.old) (noted self.new)
+        ensures noted { HasBeenNoted (account self.old).noted (account self.new).noted
             (after (delivery_value delivery.now) outcome.now ∷ []) }
-        ensures waits { StillWaits (waits self.old)
-            (after (delivery_value delivery.now) outcome.now ∷ []) (waits self.new) }
-        ensures stays { has_stopped self.old ≡ true → has_stopped self.new ≡ true };
+        ensures waits { StillWaits (account self.old).waits
+            (after (delivery_value delivery.now) outcome.now ∷ []) (account self.new).waits }
+        ensures stays { (account self.old).has_stopped ≡ true
+            → (account self.new).has_stopped ≡ true };
 
     /// Called with a payload of the dump that ends the connection without ending a transaction: an event and the byte
     /// before it, or a message of the source.
     fn refused(&mut self, _payload: &[u8], _reason: &Reason)
-        ensures noted { noted self.new ≡ noted self.old }
-        ensures waits { StillWaits (waits self.old) [] (waits self.new) }
-        ensures stays { has_stopped self.old ≡ true → has_stopped self.new ≡ true }
+        ensures noted { (account self.new).noted ≡ (account self.old).noted }
+        ensures waits { StillWaits (account self.old).waits [] (account self.new).waits }
+        ensures stays { (account self.old).has_stopped ≡ true
+            → (account self.new).has_stopped ≡ true }
     {}
 
     /// Called with the end of each connection of a list, as soon as it has ended. Returns whether the next one is to be
     /// read.
     fn ended(&mut self, end: &Ended) -> bool
-        ensures goes_on { result ≡ not (has_stopped self.new) }
-        ensures noted { HasBeenNoted (noted self.old) (noted self.new) (ended end.now result ∷ []) }
-        ensures waits { StillWaits (waits self.old) [] (waits self.new) }
-        ensures stays { has_stopped self.old ≡ true → has_stopped self.new ≡ true };
+        ensures goes_on { result ≡ not (account self.new).has_stopped }
+        ensures noted { HasBeenNoted (account self.old).noted (account self.new).noted
+            (ended end.now result ∷ []) }
+        ensures waits { StillWaits (account self.old).waits [] (account self.new).waits }
+        ensures stays { (account self.old).has_stopped ≡ true
+            → (account self.new).has_stopped ≡ true };
 
     /// Whether it waits for nothing more, so that nothing more is to be read: the connection ends with `Reason::Until`.
     /// Asked before anything is read, and after each transaction that was applied.
     fn is_done(&self) -> bool
-        ensures done { result ≡ waits_for_none (waits self.now) }
-        ensures stopped { result ≡ true → has_stopped self.now ≡ true };
+        ensures done { result ≡ waits_for_none (account self.now).waits }
+        ensures stopped { result ≡ true → (account self.now).has_stopped ≡ true };
 }
 
 /// An observer that does nothing and never stops.
@@ -97,7 +102,7 @@ pub trait Observer {
 pub struct Unobserved;
 
 impl Observer for Unobserved {
-    ghost has_stopped = { λ _. false };
+    ghost account = { λ _. record { noted = None; has_stopped = false; waits = None } };
 
     fn opened(&mut self, _executed: &GtidSet) {}
 

@@ -7,11 +7,12 @@ ghost use Rattle.binlog.specs.Filter.{Names};
 ghost use Rattle.wire.specs.Packet.{packing_length};
 ghost use Rattle.store.specs.State.{Content};
 ghost use Rattle.replica.specs.Standing.{Stands, Meets, first_id_of, offset_of, MovesOn, room_of, end_of};
-ghost use Rattle.replica.specs.Conn.{IsOwn, MayEnd};
+ghost use Rattle.replica.specs.Conn.{IsOwn};
 ghost use Rattle.replica.specs.Over.{StandsOver, MeetsOver};
 ghost use Rattle.replica.specs.declared.phase.Phase.TheVariants as phase;
 ghost use Rattle.store.specs.Store.{HoldsAs, database, names_of, IsBroken};
-ghost use Rattle.replica.specs.Noted.{IsLedTo, waits_for_none};
+ghost use Rattle.replica.specs.Noted.{IsLedTo, MayEnd};
+ghost use Rattle.replica.specs.Missing.{waits_for_none};
 
 use crate::dump::take_event;
 use crate::end::{Ended, Reason};
@@ -40,7 +41,10 @@ fn first_id(phase: Phase) -> u8
 impl Session {
     /// Ends the connection after the payloads taken.
     pub(crate) fn end(&mut self, reason: Reason)
-        ensures { self.new ≡ record self.old { ended = Some (record { reason = reason; at = self.old.at; applied = self.old.applied }) } }
+        ensures { self.new ≡ record self.old {
+          ended = Some
+              (record { reason = reason; at = self.old.at; applied = self.old.applied });
+        } }
     {
         self.ended = Some(Ended {
             reason,
@@ -66,7 +70,12 @@ impl Session {
         requires { self.old.at < end }
         ensures config { self.new.config ≡ self.old.config }
         ensures out { self.new.out ≡ self.old.out }
-        ensures ended { self.new.ended ≡ Some (record { reason = reason; at = offset_of reason self.old.at end; applied = self.old.applied }) }
+        ensures ended { self.new.ended ≡ Some (record {
+          reason = reason;
+          at = offset_of reason
+              self.old.at end;
+          applied = self.old.applied;
+        }) }
     {
         if let Reason::SourceEof = reason {
             self.at = end;
@@ -82,9 +91,12 @@ impl Session {
         requires after { self.old.at < end }
         ensures config { self.new.config ≡ self.old.config }
         ensures may_end { IsOwn (end_of self.new).reason }
-        ensures further { self.new.ended ≡ None → (self.new.at ≡ end) × (self.new.assembler.held ≡ []) }
-        ensures takes { (names : Names) (was is : Bool) (old now : Content) (b o : List ℕ) → executed.now ≡ now.executed → end ≡ self.old.at + packing_length (length payload.now)
-            → Meets self.old names was is old now b o payload.now → Stands self.new names was is old now b o }
+        ensures further { self.new.ended ≡ None → (self.new.at ≡ end)
+            × (self.new.assembler.held ≡ []) }
+        ensures takes { (names : Names) (was is : Bool) (old now : Content) (b o : List ℕ)
+            → executed.now ≡ now.executed → end ≡ self.old.at + packing_length (length payload.now)
+            → Meets self.old names was is old now b o payload.now
+            → Stands self.new names was is old now b o }
     {
         match answer(login, &self.config, executed, payload, &mut self.out) {
             Ok(phase) => {
@@ -108,23 +120,29 @@ impl Session {
         requires in_dump { self.old.phase ≡ phase.Dump }
         requires between { self.old.assembler.held ≡ [] }
         requires after { self.old.at < end }
-        ensures clean { HasCleanDisk (database S.Store store.new) → HasCleanDisk (database S.Store store.old) }
+        ensures clean { HasCleanDisk (database S.Store store.new)
+            → HasCleanDisk (database S.Store store.old) }
         ensures following { names_of S.Store store.new ≡ names_of S.Store store.old }
         ensures broken { IsBroken S.Store store.old → store.new ≡ store.old }
         ensures config { self.new.config ≡ self.old.config }
-        ensures may_end { MayEnd (end_of self.new).reason (W.has_stopped observer.new) }
-        ensures stays { W.has_stopped observer.old ≡ true → W.has_stopped observer.new ≡ true }
+        ensures may_end { MayEnd (end_of self.new).reason (W.account observer.new) }
+        ensures stays { (W.account observer.old).has_stopped ≡ true
+            → (W.account observer.new).has_stopped ≡ true }
         ensures notes { HasCleanDisk (database S.Store store.new) → (was : Bool) (old : Content)
             → HoldsAs S.Store was old store.old → IsLedTo S.Store store.old store.new was old
-            (W.noted observer.old, W.has_stopped observer.old, W.waits observer.old)
-            (W.noted observer.new, W.has_stopped observer.new, W.waits observer.new) [] }
-        ensures heeds { (is : Bool) (now : Content) → HoldsAs S.Store is now store.old → W.has_stopped observer.old ≡ true → store.new ≡ store.old }
-        ensures further { self.new.ended ≡ None → (self.new.at ≡ end) × (self.new.assembler.held ≡ []) }
+            (W.account observer.old) (W.account observer.new) [] }
+        ensures heeds { (is : Bool) (now : Content) → HoldsAs S.Store is now store.old
+            → (W.account observer.old).has_stopped ≡ true → store.new ≡ store.old }
+        ensures further { self.new.ended ≡ None → (self.new.at ≡ end)
+            × (self.new.assembler.held ≡ []) }
         // It does not go on after a transaction that was applied, if the observer waits for nothing more.
         ensures until { self.new.ended ≡ None → self.new.applied ≢ self.old.applied
-            → waits_for_none (W.waits observer.new) ≡ false }
-        ensures takes { HasCleanDisk (database S.Store store.new) → (schema : Schema) (was : Bool) (old : Content) (b o : List ℕ) → end ≡ self.old.at + packing_length (length payload.now)
-            → MeetsOver S.Store self.old store.old schema was old b o payload.now → StandsOver S.Store self.new store.new schema was old b o }
+            → waits_for_none (W.account observer.new).waits ≡ false }
+        ensures takes { HasCleanDisk (database S.Store store.new)
+            → (schema : Schema) (was : Bool) (old : Content) (b o : List ℕ)
+            → end ≡ self.old.at + packing_length (length payload.now)
+            → MeetsOver S.Store self.old store.old schema was old b o payload.now
+            → StandsOver S.Store self.new store.new schema was old b o }
     {
         let alloc = self.config.alloc();
         let applied = match take_event(alloc, &mut self.gatherer, store, payload, observer) {
@@ -153,20 +171,25 @@ impl Session {
     )
         requires going { self.old.ended ≡ None }
         requires between { (self.old.assembler.held ≡ []) × (self.old.assembler.ended ≡ false) }
-        ensures clean { HasCleanDisk (database S.Store store.new) → HasCleanDisk (database S.Store store.old) }
+        ensures clean { HasCleanDisk (database S.Store store.new)
+            → HasCleanDisk (database S.Store store.old) }
         ensures following { names_of S.Store store.new ≡ names_of S.Store store.old }
         ensures broken { IsBroken S.Store store.old → store.new ≡ store.old }
         ensures config { self.new.config ≡ self.old.config }
-        ensures may_end { MayEnd (end_of self.new).reason (W.has_stopped observer.new) }
-        ensures stays { W.has_stopped observer.old ≡ true → W.has_stopped observer.new ≡ true }
+        ensures may_end { MayEnd (end_of self.new).reason (W.account observer.new) }
+        ensures stays { (W.account observer.old).has_stopped ≡ true
+            → (W.account observer.new).has_stopped ≡ true }
         ensures notes { HasCleanDisk (database S.Store store.new) → (was : Bool) (old : Content)
             → HoldsAs S.Store was old store.old → IsLedTo S.Store store.old store.new was old
-            (W.noted observer.old, W.has_stopped observer.old, W.waits observer.old)
-            (W.noted observer.new, W.has_stopped observer.new, W.waits observer.new) [] }
-        ensures heeds { (is : Bool) (now : Content) → HoldsAs S.Store is now store.old → W.has_stopped observer.old ≡ true → store.new ≡ store.old }
-        ensures room { self.new.ended ≡ None → room_of self.new + packing_length (length payload.now) ≤ room_of self.old }
-        ensures takes { HasCleanDisk (database S.Store store.new) → (schema : Schema) (was : Bool) (old : Content) (b o : List ℕ)
-            → MeetsOver S.Store self.old store.old schema was old b o payload.now → StandsOver S.Store self.new store.new schema was old b o }
+            (W.account observer.old) (W.account observer.new) [] }
+        ensures heeds { (is : Bool) (now : Content) → HoldsAs S.Store is now store.old
+            → (W.account observer.old).has_stopped ≡ true → store.new ≡ store.old }
+        ensures room { self.new.ended ≡ None → room_of self.new + packing_length
+            (length payload.now) ≤ room_of self.old }
+        ensures takes { HasCleanDisk (database S.Store store.new)
+            → (schema : Schema) (was : Bool) (old : Content) (b o : List ℕ)
+            → MeetsOver S.Store self.old store.old schema was old b o payload.now
+            → StandsOver S.Store self.new store.new schema was old b o }
     {
         let Some(end) = self.at.checked_add(packing_length(payload.len()) as u64) else {
             self.end(Reason::Wire(WireFault::TooLarge));

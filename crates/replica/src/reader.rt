@@ -9,8 +9,7 @@ ghost use Rattle.store.specs.Store.{HoldsAs, IsBroken, database, names_of};
 ghost use Rattle.replica.specs.declared.end.Reason.TheVariants.{EndOfInput};
 ghost use Rattle.replica.specs.declared.end.Ended.{Ended as End};
 ghost use Rattle.replica.specs.Over.{HasReadOf};
-ghost use Rattle.replica.specs.Conn.{MayEnd};
-ghost use Rattle.replica.specs.Noted.{IsLedTo};
+ghost use Rattle.replica.specs.Noted.{IsLedTo, MayEnd};
 
 use crate::config::Config;
 use crate::end::Ended;
@@ -24,7 +23,8 @@ use store::Store;
 /// Reads some bytes, and tries again if a signal interrupted the read.
 pub fn read_some<R: Read>(reader: &mut R, piece: &mut [u8]) -> io::Result<usize>
     ensures bound { ReadsAtMost result piece.new }
-    ensures bytes { ReadConsumes (R.remaining reader.old) (R.remaining reader.new) result piece.new }
+    ensures bytes { ReadConsumes (R.remaining reader.old)
+        (R.remaining reader.new) result piece.new }
 {
     // A `for`, since the prover asks that each loop ends.
     for _ in 0..u64::MAX {
@@ -52,28 +52,36 @@ pub fn read_stream<R: Read, S: Alter, W: Observer>(
     ensures piece { length piece.new ≡ length piece.old }
     // The end and the content of the store are those of exactly the bytes that were read, and none were read after the
     // piece in which the connection ended.
-    ensures read { IfOk result (λ end. HasCleanDisk (database S.Store store.new) → (was : Bool) (old : Content) → HoldsAs S.Store was old store.old
-        → HasReadOf S.Store config.limit (length piece.old) store.old store.new was old first.now (R.remaining reader.old) (R.remaining reader.new) end) }
+    ensures read { IfOk result (λ end. HasCleanDisk (database S.Store store.new)
+        → (was : Bool) (old : Content) → HoldsAs S.Store was old store.old
+        → HasReadOf S.Store config.limit (length piece.old) store.old store.new was old first.now
+        (R.remaining reader.old) (R.remaining reader.new) end) }
     // If the input has ended, nothing is left unread.
-    ensures all { IfOk result (λ end. HasCleanDisk (database S.Store store.new) → (was : Bool) (old : Content) → HoldsAs S.Store was old store.old
-        → end.reason ≡ EndOfInput → IsAtEnd (R.remaining reader.new)) }
+    ensures all { IfOk result (λ end. HasCleanDisk (database S.Store store.new)
+        → (was : Bool) (old : Content) → HoldsAs S.Store was old store.old → end.reason ≡ EndOfInput
+        → IsAtEnd (R.remaining reader.new)) }
     // The bytes that were read before the error did not end the connection.
-    ensures failed { IfErr result (λ _. HasCleanDisk (database S.Store store.new) → (was : Bool) (old : Content) → HoldsAs S.Store was old store.old
-        → (end : End) × (end.reason ≡ EndOfInput) × HasReadOf S.Store config.limit (length piece.old) store.old store.new was old first.now (R.remaining reader.old) (R.remaining reader.new) end) }
+    ensures failed { IfErr result (λ _. HasCleanDisk (database S.Store store.new)
+        → (was : Bool) (old : Content) → HoldsAs S.Store was old store.old
+        → (end : End) × (end.reason ≡ EndOfInput)
+        × HasReadOf S.Store config.limit (length piece.old) store.old store.new was old first.now
+        (R.remaining reader.old) (R.remaining reader.new) end) }
     // The connection is halted only if the observer has stopped.
-    ensures may_end { IfOk result (λ end. MayEnd end.reason (W.has_stopped observer.new)) }
-    ensures stays { W.has_stopped observer.old ≡ true → W.has_stopped observer.new ≡ true }
+    ensures may_end { IfOk result (λ end. MayEnd end.reason (W.account observer.new)) }
+    ensures stays { (W.account observer.old).has_stopped ≡ true
+        → (W.account observer.new).has_stopped ≡ true }
     // What was reported to it leads from the content before to the one afterwards.
     ensures notes { HasCleanDisk (database S.Store store.new) → (was : Bool) (old : Content)
         → HoldsAs S.Store was old store.old → IsLedTo S.Store store.old store.new was old
-        (W.noted observer.old, W.has_stopped observer.old, W.waits observer.old)
-        (W.noted observer.new, W.has_stopped observer.new, W.waits observer.new) [] }
+        (W.account observer.old) (W.account observer.new) [] }
     // Once it has stopped, the store stays as it is.
-    ensures heeds { (is : Bool) (now : Content) → HoldsAs S.Store is now store.old → W.has_stopped observer.old ≡ true → store.new ≡ store.old }
+    ensures heeds { (is : Bool) (now : Content) → HoldsAs S.Store is now store.old
+        → (W.account observer.old).has_stopped ≡ true → store.new ≡ store.old }
     ensures following { names_of S.Store store.new ≡ names_of S.Store store.old }
     // A store that has failed stays as it is.
     ensures broken { IsBroken S.Store store.old → store.new ≡ store.old }
-    ensures clean { HasCleanDisk (database S.Store store.new) → HasCleanDisk (database S.Store store.old) }
+    ensures clean { HasCleanDisk (database S.Store store.new)
+        → HasCleanDisk (database S.Store store.old) }
 {
     let mut session = Session::new(config);
     observer.received(first.len());

@@ -1,14 +1,16 @@
 //! Replaying captured connections into a database file.
 
-ghost use Rattle.std.specs.Prelude.{◌≡◌, ◌≢◌, ◌≤◌, [], true, false, length, IfOk, IfErr, IsErr, Ok, Err, All};
+ghost use Rattle.std.specs.Prelude.{◌≡◌, ◌≢◌, ◌≤◌, [], true, false, length, Some, IfOk, IfErr, IsErr, Ok, Err, All};
 ghost use Rattle.sqlite_wal.specs.Files.{image_at};
+ghost use Rattle.gtid.specs.Identifier.{Ids};
 ghost use Rattle.binlog.specs.Filter.{Names};
 ghost use Rattle.store.specs.State.{Content};
 ghost use Rattle.store.specs.Entering.{wanted_of, names_for};
-ghost use Rattle.replica.specs.NotedFile.{IsNotedOfFiles};
+ghost use Rattle.replica.specs.NotedFile.{IsNotedOfFiles, HaveReached};
 ghost use Rattle.replica.specs.File.{FilesHold, IsTurnedAway, ClosesAs, KeepsContent};
 ghost use Rattle.replica.specs.Replay.{Replays};
-ghost use Rattle.replica.specs.Conn.{MayEnd};
+ghost use Rattle.replica.specs.declared.end.Reason.TheVariants.{Until};
+ghost use Rattle.replica.specs.Noted.{MayEnd};
 
 use crate::captures::{Capture, Halt, read_captures};
 use crate::config::Config;
@@ -66,21 +68,31 @@ pub fn replay<P: Start, R: Read + Drop, W: Observer>(
     ensures closing { IfOk result (λ done. ClosesAs (wanted_of only.entry) (image_at P.Start)
         done.closed) }
     // Connections are left unread for the observer only if that has stopped, and so is a connection halted.
-    ensures asked { IfOk result (λ done. done.read ≡ Err Halt.Observer → W.has_stopped observer.new ≡ true) }
+    ensures asked { IfOk result (λ done. done.read ≡ Err Halt.Observer
+        → (W.account observer.new).has_stopped ≡ true) }
     // Once it has stopped, no further connection is read.
-    ensures heeds { IfOk result (λ done. done.read ≡ Ok tt → done.ends.items ≢ [] → W.has_stopped observer.new ≡ false) }
-    ensures no_more { IfOk result (λ done. W.has_stopped observer.old ≡ true → length done.ends.items ≤ 1) }
+    ensures heeds { IfOk result (λ done. done.read ≡ Ok tt → done.ends.items ≢ []
+        → (W.account observer.new).has_stopped ≡ false) }
+    ensures no_more { IfOk result (λ done. (W.account observer.old).has_stopped ≡ true
+        → length done.ends.items ≤ 1) }
     // What was reported to the observer leads from that content to the one that the closed files hold, with the ends.
     ensures notes { IfOk result (λ done. (names : Names) (content : Content)
         → FilesHold (names_for (wanted_of only.entry)) names content (image_at P.Start)
-        → IsNotedOfFiles names content (W.noted observer.old, W.has_stopped observer.old, W.waits observer.old)
-        (W.noted observer.new, W.has_stopped observer.new, W.waits observer.new) done.ends.items done.closed) }
+        → IsNotedOfFiles names content (W.account observer.old)
+        (W.account observer.new) done.ends.items done.closed) }
     // If it had stopped before, nothing is applied: the files hold the content from before.
-    ensures keeps { IfOk result (λ done. W.has_stopped observer.old ≡ true
+    ensures keeps { IfOk result (λ done. (W.account observer.old).has_stopped ≡ true
         → (names : Names) (content : Content)
         → FilesHold (names_for (wanted_of only.entry)) names content (image_at P.Start)
         → KeepsContent (names_for (wanted_of only.entry)) names content done.closed) }
-    ensures may_end { IfOk result (λ done. All (λ end. MayEnd end.reason (W.has_stopped observer.new)) done.ends.items) }
+    ensures may_end { IfOk result (λ done. All (λ end. MayEnd end.reason (W.account observer.new))
+        done.ends.items) }
+    // Where one is ended with `Until`, the files hold the first content in which all that the observer waited for is executed.
+    ensures until { IfOk result (λ done. (names : Names) (content : Content) (wanted : Ids)
+        → FilesHold (names_for (wanted_of only.entry)) names content (image_at P.Start)
+        → (W.account observer.old).waits ≡ Some wanted
+        → All (λ end. end.reason ≡ Until → HaveReached names content wanted done.closed)
+        done.ends.items) }
     // A database that stands for a content is refused only if it was made for other tables, fails, or memory runs out, and is
     // left with that content. Any other is refused with its reason and left as it is, and so are files that cannot be opened.
     ensures turned { IfErr result (IsTurnedAway (wanted_of only.entry) (image_at P.Start)) }

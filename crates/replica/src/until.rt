@@ -1,7 +1,6 @@
 //! An observer that stops once nothing of a set is missing.
 
 ghost use Rattle.std.specs.Prelude.{◌≡◌, ◌||◌, [], ◌∷◌, Option, None, Some, Err, if◌then◌else◌, true, is_none};
-ghost use Rattle.gtid.specs.Identifier.{Ids};
 ghost use Rattle.gather.specs.View.{delivery_value};
 ghost use Rattle.replica.specs.Noted.{StillWaits, after};
 ghost use Rattle.replica.specs.Missing.{is_over, IsLeftOf};
@@ -107,11 +106,11 @@ impl<W> Until<W> {
 }
 
 impl<W: Observer> Observer for Until<W> {
-    ghost has_stopped = { λ u. is_over u.missing || W.has_stopped u.inner };
-
-    ghost noted = { λ u. if u.is_apart then None else W.noted u.inner };
-
-    ghost waits = { λ u. u.missing };
+    ghost account = { λ u. record {
+      noted = if u.is_apart then None else (W.account u.inner).noted;
+      has_stopped = is_over u.missing || (W.account u.inner).has_stopped;
+      waits = u.missing;
+    } };
 
     fn opened(&mut self, executed: &GtidSet) {
         self.inner.opened(executed);

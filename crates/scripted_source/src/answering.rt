@@ -31,7 +31,8 @@ fn set_fault(fault: GtidFault) -> ForgeFault
 /// The set that all of the bytes encode.
 fn read_set(alloc: Global, bytes: &[u8]) -> Result<GtidSet, ForgeFault>
     ensures found { IfOk result (λ set. IsEncoding set bytes.now) }
-    ensures only { (ids : Ids) → IsEncoding ids bytes.now → MatchResult result (λ set. set ≡ ids) (λ fault. fault ≡ Memory) }
+    ensures only { (ids : Ids) → IsEncoding ids bytes.now
+        → MatchResult result (λ set. set ≡ ids) (λ fault. fault ≡ Memory) }
     ensures err { IfErr result (λ fault. (fault ≡ Request) ⊎ (fault ≡ Memory)) }
 {
     match GtidSet::decode(alloc, bytes) {
@@ -49,7 +50,8 @@ fn read_set(alloc: Global, bytes: &[u8]) -> Result<GtidSet, ForgeFault>
 /// command, or its set is not an encoded set; otherwise the only error is `Memory`.
 pub(crate) fn read_request(alloc: Global, payload: &[u8]) -> Result<(bool, GtidSet), ForgeFault>
     ensures found { IfOk result (λ request. AsksFor payload.now request.0 request.1) }
-    ensures only { (dump : DumpValue) (ids : Ids) → Asks payload.now dump ids → MatchResult result (λ request. request.1 ≡ ids) (λ fault. fault ≡ Memory) }
+    ensures only { (dump : DumpValue) (ids : Ids) → Asks payload.now dump ids
+        → MatchResult result (λ request. request.1 ≡ ids) (λ fault. fault ≡ Memory) }
     ensures err { IfErr result (λ fault. (fault ≡ Request) ⊎ (fault ≡ Memory)) }
 {
     let dump = match Dump::read(payload) {
@@ -68,9 +70,13 @@ fn send_due(
     sequence: u8,
     out: &mut Vec<u8>,
 ) -> Result<u8, ForgeFault>
-    ensures ok { IfOk result (λ next. AppendsPackings sequence (payloads_of (flat_map script_events (due executed.now (script_values history.now)))) out.old.items out.new.items next) }
-    ensures can { OnOk result (AllByRecursion CanSend (due executed.now (script_values history.now))) }
-    ensures err { IfErr result (λ fault. IsScriptsFault executed.now 0 (script_values history.now) fault ⊎ (fault ≡ Memory)) }
+    ensures ok { IfOk result (λ next. AppendsPackings sequence
+        (payloads_of (flat_map script_events (due executed.now (script_values history.now))))
+        out.old.items out.new.items next) }
+    ensures can { OnOk result (AllByRecursion CanSend
+        (due executed.now (script_values history.now))) }
+    ensures err { IfErr result (λ fault. IsScriptsFault executed.now 0
+        (script_values history.now) fault ⊎ (fault ≡ Memory)) }
 {
     let mut next = sequence;
     for at in 0..history.len() {
@@ -85,7 +91,8 @@ fn send_due(
 
 /// Appends the packet of an EOF, if one is asked for. The only error is `Memory`.
 fn send_last(once: bool, sequence: u8, out: &mut Vec<u8>) -> Result<u8, ForgeFault>
-    ensures ok { IfOk result (λ next. AppendsPackings sequence (end_payloads once) out.old.items out.new.items next) }
+    ensures ok { IfOk result (λ next. AppendsPackings sequence
+        (end_payloads once) out.old.items out.new.items next) }
     ensures err { OnErr result (result ≡ Err Memory) }
 {
     if once {
@@ -104,7 +111,8 @@ fn send_last(once: bool, sequence: u8, out: &mut Vec<u8>) -> Result<u8, ForgeFau
 /// table's types, or a table that cannot be encoded; as `TooLarge`, if an event of it is longer than a payload may be.
 /// `Memory` if an allocation was refused.
 pub fn answer(alloc: Global, history: &[Script], request: &[u8]) -> Result<Vec<u8>, ForgeFault>
-    ensures ok { IfOk result (λ bytes. IsAnswer (script_values history.now) request.now bytes.items) }
+    ensures ok { IfOk result (λ bytes. IsAnswer
+        (script_values history.now) request.now bytes.items) }
     ensures err { IfErr result (IsAnswerFault (script_values history.now) request.now) }
 {
     let (once, executed) = read_request(alloc, request)?;

@@ -31,8 +31,11 @@ fn packets_fault(fault: WireFault) -> ForgeFault
 /// The payload at the front of the bytes, whose first packet must have this sequence id, and the bytes after its
 /// packets.
 fn take(alloc: Global, sequence: u8, bytes: &[u8]) -> Result<(Vec<u8>, &[u8]), ForgeFault>
-    ensures found { IfOk result (λ taken. TakesPayload sequence bytes.now taken.0.items taken.1.now) }
-    ensures only { (payload rest : List ℕ) → TakesPayload sequence bytes.now payload rest → MatchResult result (λ taken. (taken.0.items ≡ payload) × (taken.1.now ≡ rest)) (λ fault. fault ≡ Memory) }
+    ensures found { IfOk result (λ taken. TakesPayload sequence bytes.now taken.0.items
+        taken.1.now) }
+    ensures only { (payload rest : List ℕ) → TakesPayload sequence bytes.now payload rest
+        → MatchResult result (λ taken. (taken.0.items ≡ payload)
+        × (taken.1.now ≡ rest)) (λ fault. fault ≡ Memory) }
     ensures err { IfErr result (λ fault. (fault ≡ Request) ⊎ (fault ≡ Memory)) }
 {
     let mut assembler = Assembler::new(alloc, LARGEST_PAYLOAD);
@@ -71,7 +74,8 @@ fn is_query(payload: &[u8]) -> bool
 /// The set of the dump command whose packets these bytes are.
 fn check_dump(alloc: Global, bytes: &[u8]) -> Result<GtidSet, ForgeFault>
     ensures found { IfOk result (IsLastSent bytes.now) }
-    ensures only { (executed : Ids) → IsLastSent bytes.now executed → MatchResult result (λ found. found ≡ executed) (λ fault. fault ≡ Memory) }
+    ensures only { (executed : Ids) → IsLastSent bytes.now executed
+        → MatchResult result (λ found. found ≡ executed) (λ fault. fault ≡ Memory) }
     ensures err { IfErr result (λ fault. (fault ≡ Request) ⊎ (fault ≡ Memory)) }
 {
     let (command, rest) = take(alloc, 0, bytes)?;
@@ -85,7 +89,8 @@ fn check_dump(alloc: Global, bytes: &[u8]) -> Result<GtidSet, ForgeFault>
 /// The set of the dump command, from the packets of the query and then those of the command.
 fn check_commands(alloc: Global, bytes: &[u8]) -> Result<GtidSet, ForgeFault>
     ensures found { IfOk result (AreLastSent bytes.now) }
-    ensures only { (executed : Ids) → AreLastSent bytes.now executed → MatchResult result (λ found. found ≡ executed) (λ fault. fault ≡ Memory) }
+    ensures only { (executed : Ids) → AreLastSent bytes.now executed
+        → MatchResult result (λ found. found ≡ executed) (λ fault. fault ≡ Memory) }
     ensures err { IfErr result (λ fault. (fault ≡ Request) ⊎ (fault ≡ Memory)) }
 {
     let (query, rest) = take(alloc, 0, bytes)?;
@@ -101,7 +106,8 @@ fn check_commands(alloc: Global, bytes: &[u8]) -> Result<GtidSet, ForgeFault>
 /// `Request` if the bytes are not such packets; otherwise the only error is `Memory`.
 pub fn check(alloc: Global, bytes: &[u8]) -> Result<GtidSet, ForgeFault>
     ensures found { IfOk result (AreSent bytes.now) }
-    ensures only { (executed : Ids) → AreSent bytes.now executed → MatchResult result (λ found. found ≡ executed) (λ fault. fault ≡ Memory) }
+    ensures only { (executed : Ids) → AreSent bytes.now executed
+        → MatchResult result (λ found. found ≡ executed) (λ fault. fault ≡ Memory) }
     ensures err { IfErr result (λ fault. (fault ≡ Request) ⊎ (fault ≡ Memory)) }
 {
     let (login, rest) = take(alloc, 1, bytes)?;

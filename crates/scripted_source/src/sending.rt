@@ -28,9 +28,11 @@ const EOF: &[u8] = &[packet_header::EOF, 0, 0, AUTOCOMMIT as u8, 0];
 
 /// Appends the packets of a payload.
 fn send(sequence: u8, payload: &[u8], out: &mut Vec<u8>) -> Result<u8, ForgeFault>
-    ensures ok { IfOk result (λ next. AppendsPackings sequence (payload.now ∷ []) out.old.items out.new.items next) }
+    ensures ok { IfOk result (λ next. AppendsPackings sequence
+        (payload.now ∷ []) out.old.items out.new.items next) }
     ensures short { OnOk result (length payload.now ≤ largest_payload) }
-    ensures err { IfErr result (λ fault. ((fault ≡ TooLarge) × (largest_payload < length payload.now)) ⊎ (fault ≡ Memory)) }
+    ensures err { IfErr result (λ fault. ((fault ≡ TooLarge)
+        × (largest_payload < length payload.now)) ⊎ (fault ≡ Memory)) }
 {
     match write_payload(sequence, payload, out) {
         Ok(next) => Ok(next),
@@ -41,7 +43,8 @@ fn send(sequence: u8, payload: &[u8], out: &mut Vec<u8>) -> Result<u8, ForgeFaul
 
 /// Appends the packet of an EOF. The only error is `Memory`.
 pub(crate) fn send_eof(sequence: u8, out: &mut Vec<u8>) -> Result<u8, ForgeFault>
-    ensures ok { IfOk result (λ next. AppendsPackings sequence (eof_payload ∷ []) out.old.items out.new.items next) }
+    ensures ok { IfOk result (λ next. AppendsPackings sequence
+        (eof_payload ∷ []) out.old.items out.new.items next) }
     ensures err { OnErr result (result ≡ Err Memory) }
 {
     match write_payload(sequence, EOF, out) {
@@ -72,9 +75,11 @@ fn send_event(
     out: &mut Vec<u8>,
 ) -> Result<u8, ForgeFault>
     requires { IsWritable (event_value event.now) }
-    ensures ok { IfOk result (λ next. AppendsPackings sequence (payloads_of (event_value event.now ∷ [])) out.old.items out.new.items next) }
+    ensures ok { IfOk result (λ next. AppendsPackings sequence
+        (payloads_of (event_value event.now ∷ [])) out.old.items out.new.items next) }
     ensures short { OnOk result (length (payload_of (event_value event.now)) ≤ largest_payload) }
-    ensures err { IfErr result (λ fault. ((fault ≡ TooLarge) × (largest_payload < length (payload_of (event_value event.now)))) ⊎ (fault ≡ Memory)) }
+    ensures err { IfErr result (λ fault. ((fault ≡ TooLarge)
+        × (largest_payload < length (payload_of (event_value event.now)))) ⊎ (fault ≡ Memory)) }
 {
     let payload = payload_of(alloc, event)?;
     send(sequence, &payload, out)
@@ -89,7 +94,8 @@ pub(crate) fn send_short(
 ) -> Result<u8, ForgeFault>
     requires event { IsWritable (event_value event.now) }
     requires short { length (payload_of (event_value event.now)) ≤ largest_payload }
-    ensures ok { IfOk result (λ next. AppendsPackings sequence (payloads_of (event_value event.now ∷ [])) out.old.items out.new.items next) }
+    ensures ok { IfOk result (λ next. AppendsPackings sequence
+        (payloads_of (event_value event.now ∷ [])) out.old.items out.new.items next) }
     ensures err { OnErr result (result ≡ Err Memory) }
 {
     match send_event(alloc, event, sequence, out) {
@@ -115,9 +121,14 @@ fn map_fits(part: &Part) -> bool
 /// Appends the packets of a part's table map.
 fn send_map(alloc: Global, part: &Part, sequence: u8, out: &mut Vec<u8>) -> Result<u8, ForgeFault>
     requires { FitsPart (part_value part.now) }
-    ensures ok { IfOk result (λ next. AppendsPackings sequence (payloads_of (table_map (part_value part.now).table ∷ [])) out.old.items out.new.items next) }
-    ensures short { OnOk result (length (payload_of (table_map (part_value part.now).table)) ≤ largest_payload) }
-    ensures err { IfErr result (λ fault. ((fault ≡ TooLarge) × (largest_payload < length (payload_of (table_map (part_value part.now).table)))) ⊎ (fault ≡ Memory)) }
+    ensures ok { IfOk result (λ next. AppendsPackings sequence
+        (payloads_of (table_map (part_value part.now).table ∷ [])) out.old.items out.new.items
+        next) }
+    ensures short { OnOk result (length (payload_of (table_map (part_value part.now).table))
+        ≤ largest_payload) }
+    ensures err { IfErr result (λ fault. ((fault ≡ TooLarge)
+        × (largest_payload < length (payload_of (table_map (part_value part.now).table))))
+        ⊎ (fault ≡ Memory)) }
 {
     send_event(
         alloc,
@@ -130,7 +141,8 @@ fn send_map(alloc: Global, part: &Part, sequence: u8, out: &mut Vec<u8>) -> Resu
 /// The bytes of a part's rows. The only error is `Memory`.
 fn rows_of(alloc: Global, part: &Part) -> Result<Vec<u8>, ForgeFault>
     requires { FitsPart (part_value part.now) }
-    ensures ok { IfOk result (λ bytes. bytes.items ≡ rows_bytes (part_value part.now).table.columns (part_value part.now).pairs) }
+    ensures ok { IfOk result (λ bytes. bytes.items
+        ≡ rows_bytes (part_value part.now).table.columns (part_value part.now).pairs) }
     ensures err { OnErr result (result ≡ Err Memory) }
 {
     let mut bytes = Vec::new(alloc);
@@ -143,10 +155,15 @@ fn rows_of(alloc: Global, part: &Part) -> Result<Vec<u8>, ForgeFault>
 /// Appends the packets of a part's rows event.
 fn send_rows(alloc: Global, part: &Part, sequence: u8, out: &mut Vec<u8>) -> Result<u8, ForgeFault>
     requires { FitsPart (part_value part.now) }
-    ensures ok { IfOk result (λ next. AppendsPackings sequence (payloads_of (rows (rows_of (part_value part.now)) ∷ [])) out.old.items out.new.items next) }
+    ensures ok { IfOk result (λ next. AppendsPackings sequence
+        (payloads_of (rows (rows_of (part_value part.now)) ∷ [])) out.old.items out.new.items
+        next) }
     ensures event { OnOk result (IsWritable (rows (rows_of (part_value part.now)))) }
-    ensures short { OnOk result (length (payload_of (rows (rows_of (part_value part.now)))) ≤ largest_payload) }
-    ensures err { IfErr result (λ fault. ((fault ≡ TooLarge) × (largest_payload < length (payload_of (rows (rows_of (part_value part.now)))))) ⊎ (fault ≡ Memory)) }
+    ensures short { OnOk result (length (payload_of (rows (rows_of (part_value part.now))))
+        ≤ largest_payload) }
+    ensures err { IfErr result (λ fault. ((fault ≡ TooLarge)
+        × (largest_payload < length (payload_of (rows (rows_of (part_value part.now))))))
+        ⊎ (fault ≡ Memory)) }
 {
     let bytes = rows_of(alloc, part)?;
     match RowsEvent::new(part.id, part.kind, part.table.types.len(), &bytes) {
@@ -163,9 +180,11 @@ fn send_part(
     sequence: u8,
     out: &mut Vec<u8>,
 ) -> Result<u8, ForgeFault>
-    ensures ok { IfOk result (λ next. AppendsPackings sequence (payloads_of (part_events (part_value part.now))) out.old.items out.new.items next) }
+    ensures ok { IfOk result (λ next. AppendsPackings sequence
+        (payloads_of (part_events (part_value part.now))) out.old.items out.new.items next) }
     ensures can { OnOk result (CanSendPart (part_value part.now)) }
-    ensures err { IfErr result (λ fault. IsPartFault at (part_value part.now) fault ⊎ (fault ≡ Memory)) }
+    ensures err { IfErr result (λ fault. IsPartFault at (part_value part.now) fault
+        ⊎ (fault ≡ Memory)) }
 {
     if !fits(part) {
         return Err(ForgeFault::Unfit(at));
@@ -182,9 +201,12 @@ fn send_parts(
     sequence: u8,
     out: &mut Vec<u8>,
 ) -> Result<u8, ForgeFault>
-    ensures ok { IfOk result (λ next. AppendsPackings sequence (payloads_of (flat_map part_events (part_values parts.now))) out.old.items out.new.items next) }
+    ensures ok { IfOk result (λ next. AppendsPackings sequence
+        (payloads_of (flat_map part_events (part_values parts.now))) out.old.items out.new.items
+        next) }
     ensures can { OnOk result (AllByRecursion CanSendPart (part_values parts.now)) }
-    ensures err { IfErr result (λ fault. IsPartsFault at (part_values parts.now) fault ⊎ (fault ≡ Memory)) }
+    ensures err { IfErr result (λ fault. IsPartsFault at (part_values parts.now) fault
+        ⊎ (fault ≡ Memory)) }
 {
     let mut next = sequence;
     for part in parts {
@@ -195,7 +217,8 @@ fn send_parts(
 
 /// Appends the packets of a transaction's beginning. The only error is `Memory`.
 fn announce(alloc: Global, id: Gtid, sequence: u8, out: &mut Vec<u8>) -> Result<u8, ForgeFault>
-    ensures ok { IfOk result (λ next. AppendsPackings sequence (payloads_of (gtid id.source id.number ∷ begin ∷ [])) out.old.items out.new.items next) }
+    ensures ok { IfOk result (λ next. AppendsPackings sequence
+        (payloads_of (gtid id.source id.number ∷ begin ∷ [])) out.old.items out.new.items next) }
     ensures event { OnOk result (IsWritable (gtid id.source id.number)) }
     ensures err { OnErr result (result ≡ Err Memory) }
 {
@@ -211,7 +234,8 @@ fn send_end(
     sequence: u8,
     out: &mut Vec<u8>,
 ) -> Result<u8, ForgeFault>
-    ensures ok { IfOk result (λ next. AppendsPackings sequence (payloads_of (end_event ending number ∷ [])) out.old.items out.new.items next) }
+    ensures ok { IfOk result (λ next. AppendsPackings sequence
+        (payloads_of (end_event ending number ∷ [])) out.old.items out.new.items next) }
     ensures event { OnOk result (IsWritable (end_event ending number)) }
     ensures err { OnErr result (result ≡ Err Memory) }
 {
@@ -229,9 +253,11 @@ pub(crate) fn send_script(
     sequence: u8,
     out: &mut Vec<u8>,
 ) -> Result<u8, ForgeFault>
-    ensures ok { IfOk result (λ next. AppendsPackings sequence (payloads_of (script_events (script_value script.now))) out.old.items out.new.items next) }
+    ensures ok { IfOk result (λ next. AppendsPackings sequence
+        (payloads_of (script_events (script_value script.now))) out.old.items out.new.items next) }
     ensures can { OnOk result (CanSend (script_value script.now)) }
-    ensures err { IfErr result (λ fault. IsPartsFault at (script_value script.now).parts fault ⊎ (fault ≡ Memory)) }
+    ensures err { IfErr result (λ fault. IsPartsFault at (script_value script.now).parts fault
+        ⊎ (fault ≡ Memory)) }
 {
     let next = announce(alloc, script.gtid, sequence, out)?;
     let next = send_parts(alloc, at, &script.parts, next, out)?;

@@ -39,12 +39,20 @@ fn replace<S: Alter>(
 ) -> Result<(), Error>
     requires { conn.old.in_transaction ≡ false }
     ensures autocommit { conn.new.in_transaction ≡ false }
-    ensures replaces { HasCleanDisk (state S.Store conn.new) → (names : Names) → (content : Content) → IsAtRest (state S.Store conn.old) names content → executed.now ≡ content.executed → Replaces names (with_executed after.now content) (state S.Store conn.old) (state S.Store conn.new) result }
-    ensures opened { HasCleanDisk (state S.Store conn.new) → WasOpen (state S.Store conn.old) (state S.Store conn.new) }
-    ensures done { HasCleanDisk (state S.Store conn.new) → OnOk result (IsTrue (state S.Store conn.new).is_open) }
+    ensures replaces { HasCleanDisk (state S.Store conn.new) → (names : Names) → (content : Content)
+        → IsAtRest (state S.Store conn.old) names content → executed.now ≡ content.executed
+        → Replaces names (with_executed after.now content) (state S.Store conn.old)
+        (state S.Store conn.new) result }
+    ensures opened { HasCleanDisk (state S.Store conn.new)
+        → WasOpen (state S.Store conn.old) (state S.Store conn.new) }
+    ensures done { HasCleanDisk (state S.Store conn.new)
+        → OnOk result (IsTrue (state S.Store conn.new).is_open) }
     ensures lives { Survives (state S.Store conn.old) (state S.Store conn.new) (λ _. Unit {0}) }
-    ensures crash { (names : Names) → (content : Content) → IsAtRest (state S.Store conn.old) names content → executed.now ≡ content.executed
-        → Survives (state S.Store conn.old) (state S.Store conn.new) (λ trees. AreOf (state S.Store conn.old).now.schema names (with_executed after.now content) trees × SparesBeside (state S.Store conn.old).now trees) }
+    ensures crash { (names : Names) → (content : Content)
+        → IsAtRest (state S.Store conn.old) names content → executed.now ≡ content.executed
+        → Survives (state S.Store conn.old) (state S.Store conn.new)
+        (λ trees. AreOf (state S.Store conn.old).now.schema names
+        (with_executed after.now content) trees × SparesBeside (state S.Store conn.old).now trees) }
 {
     let mut tx = conn.transaction();
     replace_all(&mut tx, executed, after)?;
@@ -62,18 +70,39 @@ impl<S: Alter> Store<S> {
     ///   answer `Broken`. After `Database` a crash may leave the database with the set or without it.
     /// - `Broken` after an earlier failure.
     pub fn adopt(&mut self, gtids: &GtidSet) -> Result<(), StoreFault>
-        ensures adopts { HasCleanDisk (database S.Store self.new) → (content : Content) → Holds S.Store self.old content → Adopts S.Store content gtids.now self.old self.new result }
-        ensures known { (content : Content) → Keeps S.Store self.old content → set.is_subset gtids.now content.executed ≡ true → (result ≡ Ok tt) × (self.new ≡ self.old) }
-        ensures shut { HasCleanDisk (database S.Store self.new) → (content : Content) → Keeps S.Store self.old content → set.is_subset gtids.now content.executed ≡ false → (database S.Store self.old).is_open ≡ false → AdoptsShut S.Store content self.new result }
+        ensures adopts { HasCleanDisk (database S.Store self.new) → (content : Content)
+            → Holds S.Store self.old content → Adopts S.Store content gtids.now self.old self.new
+            result }
+        ensures known { (content : Content) → Keeps S.Store self.old content
+            → set.is_subset gtids.now content.executed ≡ true
+            → (result ≡ Ok tt) × (self.new ≡ self.old) }
+        ensures shut { HasCleanDisk (database S.Store self.new) → (content : Content)
+            → Keeps S.Store self.old content → set.is_subset gtids.now content.executed ≡ false
+            → (database S.Store self.old).is_open ≡ false
+            → AdoptsShut S.Store content self.new result }
         ensures broken { IsBroken S.Store self.old → (result ≡ Err Broken) × (self.new ≡ self.old) }
         ensures following { names_of S.Store self.new ≡ names_of S.Store self.old }
-        ensures schema { HasCleanDisk (database S.Store self.new) → (content : Content) → Holds S.Store self.old content → IsUnbroken S.Store self.new → (database S.Store self.new).now.schema ≡ (database S.Store self.old).now.schema }
-        ensures beside { HasCleanDisk (database S.Store self.new) → (content : Content) → Holds S.Store self.old content → IsTrue (database S.Store self.new).is_open → LiesBeside (database S.Store self.old).now (database S.Store self.new).now }
-        ensures crash_beside { HasCleanDisk (database S.Store self.new) → (content : Content) → Holds S.Store self.old content → (trees : _) → (database S.Store self.new).may_leave trees → SparesBeside (database S.Store self.old).now trees }
-        ensures unchanged { HasCleanDisk (database S.Store self.new) → (content : Content) → Holds S.Store self.old content → IsErr result → IsTrue (database S.Store self.new).is_open → (database S.Store self.new).now ≡ (database S.Store self.old).now }
-        ensures clean { HasCleanDisk (database S.Store self.new) → HasCleanDisk (database S.Store self.old) }
-        ensures crash { HasCleanDisk (database S.Store self.new) → (content : Content) → Holds S.Store self.old content → (trees : _) → (database S.Store self.new).may_leave trees
-            → LeavesAdopted (database S.Store self.old).now.schema (names_of S.Store self.old) content gtids.now result trees }
+        ensures schema { HasCleanDisk (database S.Store self.new) → (content : Content)
+            → Holds S.Store self.old content → IsUnbroken S.Store self.new
+            → (database S.Store self.new).now.schema ≡ (database S.Store self.old).now.schema }
+        ensures beside { HasCleanDisk (database S.Store self.new) → (content : Content)
+            → Holds S.Store self.old content → IsTrue (database S.Store self.new).is_open
+            → LiesBeside (database S.Store self.old).now (database S.Store self.new).now }
+        ensures crash_beside { HasCleanDisk (database S.Store self.new) → (content : Content)
+            → Holds S.Store self.old content → (trees : _)
+            → (database S.Store self.new).may_leave trees
+            → SparesBeside (database S.Store self.old).now trees }
+        ensures unchanged { HasCleanDisk (database S.Store self.new) → (content : Content)
+            → Holds S.Store self.old content → IsErr result
+            → IsTrue (database S.Store self.new).is_open
+            → (database S.Store self.new).now ≡ (database S.Store self.old).now }
+        ensures clean { HasCleanDisk (database S.Store self.new)
+            → HasCleanDisk (database S.Store self.old) }
+        ensures crash { HasCleanDisk (database S.Store self.new) → (content : Content)
+            → Holds S.Store self.old content → (trees : _)
+            → (database S.Store self.new).may_leave trees
+            → LeavesAdopted (database S.Store self.old).now.schema
+            (names_of S.Store self.old) content gtids.now result trees }
         ensures fault { IfErr result IsAdoptFault }
     {
         if self.broken {

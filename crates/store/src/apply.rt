@@ -104,18 +104,38 @@ impl<S: Alter> Store<S> {
     ///   answer `Broken`. After `Database` a crash may leave the database with the transaction or without it.
     /// - `Broken` after one of these two.
     pub fn apply(&mut self, delivery: &Delivery) -> Result<Applied, StoreFault>
-        ensures applies { HasCleanDisk (database S.Store self.new) → (content : Content) → Holds S.Store self.old content → Applies S.Store content (delivery_value delivery.now) self.old self.new result }
-        ensures shut { HasCleanDisk (database S.Store self.new) → (content : Content) → Keeps S.Store self.old content → (database S.Store self.old).is_open ≡ false → AppliesShut S.Store content (delivery_value delivery.now) self.old self.new result }
-        ensures known { (content : Content) → Keeps S.Store self.old content → is_executed content (delivery_value delivery.now) ≡ true → (result ≡ Ok Repeat) × (self.new ≡ self.old) }
+        ensures applies { HasCleanDisk (database S.Store self.new) → (content : Content)
+            → Holds S.Store self.old content → Applies S.Store content
+            (delivery_value delivery.now) self.old self.new result }
+        ensures shut { HasCleanDisk (database S.Store self.new) → (content : Content)
+            → Keeps S.Store self.old content → (database S.Store self.old).is_open ≡ false
+            → AppliesShut S.Store content (delivery_value delivery.now) self.old self.new result }
+        ensures known { (content : Content) → Keeps S.Store self.old content
+            → is_executed content (delivery_value delivery.now) ≡ true
+            → (result ≡ Ok Repeat) × (self.new ≡ self.old) }
         ensures broken { IsBroken S.Store self.old → (result ≡ Err Broken) × (self.new ≡ self.old) }
         ensures following { names_of S.Store self.new ≡ names_of S.Store self.old }
-        ensures schema { HasCleanDisk (database S.Store self.new) → (content : Content) → Holds S.Store self.old content → IsUnbroken S.Store self.new → (database S.Store self.new).now.schema ≡ (database S.Store self.old).now.schema }
-        ensures beside { HasCleanDisk (database S.Store self.new) → (content : Content) → Holds S.Store self.old content → IsTrue (database S.Store self.new).is_open → LiesBeside (database S.Store self.old).now (database S.Store self.new).now }
-        ensures crash_beside { HasCleanDisk (database S.Store self.new) → (content : Content) → Holds S.Store self.old content → (trees : _) → (database S.Store self.new).may_leave trees → SparesBeside (database S.Store self.old).now trees }
-        ensures unchanged { HasCleanDisk (database S.Store self.new) → (content : Content) → Holds S.Store self.old content → IsErr result → IsTrue (database S.Store self.new).is_open → (database S.Store self.new).now ≡ (database S.Store self.old).now }
-        ensures clean { HasCleanDisk (database S.Store self.new) → HasCleanDisk (database S.Store self.old) }
-        ensures crash { HasCleanDisk (database S.Store self.new) → (content : Content) → Holds S.Store self.old content → (trees : _) → (database S.Store self.new).may_leave trees
-            → Leaves (database S.Store self.old).now.schema (names_of S.Store self.old) content (delivery_value delivery.now) result trees }
+        ensures schema { HasCleanDisk (database S.Store self.new) → (content : Content)
+            → Holds S.Store self.old content → IsUnbroken S.Store self.new
+            → (database S.Store self.new).now.schema ≡ (database S.Store self.old).now.schema }
+        ensures beside { HasCleanDisk (database S.Store self.new) → (content : Content)
+            → Holds S.Store self.old content → IsTrue (database S.Store self.new).is_open
+            → LiesBeside (database S.Store self.old).now (database S.Store self.new).now }
+        ensures crash_beside { HasCleanDisk (database S.Store self.new) → (content : Content)
+            → Holds S.Store self.old content → (trees : _)
+            → (database S.Store self.new).may_leave trees
+            → SparesBeside (database S.Store self.old).now trees }
+        ensures unchanged { HasCleanDisk (database S.Store self.new) → (content : Content)
+            → Holds S.Store self.old content → IsErr result
+            → IsTrue (database S.Store self.new).is_open
+            → (database S.Store self.new).now ≡ (database S.Store self.old).now }
+        ensures clean { HasCleanDisk (database S.Store self.new)
+            → HasCleanDisk (database S.Store self.old) }
+        ensures crash { HasCleanDisk (database S.Store self.new) → (content : Content)
+            → Holds S.Store self.old content → (trees : _)
+            → (database S.Store self.new).may_leave trees
+            → Leaves (database S.Store self.old).now.schema (names_of S.Store self.old) content
+            (delivery_value delivery.now) result trees }
         ensures fault { IfErr result IsApplyFault }
     {
         if self.broken {

@@ -12,8 +12,10 @@ use sqlite::{Alter, Connection};
 impl<S: Alter> Store<S> {
     /// The executed set. It takes no memory. A store that has failed answers it too.
     pub fn executed(&self) -> &GtidSet
-        ensures value { (broken : Bool) (content : Content) → HoldsAs S.Store broken content self.now → result.now ≡ content.executed }
-        ensures kept { (content : Content) → Keeps S.Store self.now content → result.now ≡ content.executed }
+        ensures value { (broken : Bool) (content : Content)
+            → HoldsAs S.Store broken content self.now → result.now ≡ content.executed }
+        ensures kept { (content : Content) → Keeps S.Store self.now content
+            → result.now ≡ content.executed }
     {
         &self.executed
     }

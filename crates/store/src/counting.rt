@@ -21,16 +21,29 @@ impl<S: Alter> Store<S> {
     ///
     /// The faults: `Database` if the database failed, and `Broken` after an earlier failure of `apply` or `adopt`.
     pub fn count(&mut self, schema: &[u8], table: &[u8], image: &Image) -> Result<u64, StoreFault>
-        ensures counts { HasCleanDisk (database S.Store self.new) → (content : Content) → Holds S.Store self.old content → Counts S.Store content (row_of schema.now table.now image.now) self.new result }
+        ensures counts { HasCleanDisk (database S.Store self.new) → (content : Content)
+            → Holds S.Store self.old content → Counts S.Store content
+            (row_of schema.now table.now image.now) self.new result }
         ensures fits { IfOk result (λ n. n < 2 ^ 63) }
-        ensures shut { HasCleanDisk (database S.Store self.new) → (content : Content) → Keeps S.Store self.old content → (database S.Store self.old).is_open ≡ false → ReadsShut S.Store content self.new result }
+        ensures shut { HasCleanDisk (database S.Store self.new) → (content : Content)
+            → Keeps S.Store self.old content → (database S.Store self.old).is_open ≡ false
+            → ReadsShut S.Store content self.new result }
         ensures broken { IsBroken S.Store self.old → (result ≡ Err Broken) × (self.new ≡ self.old) }
         ensures following { names_of S.Store self.new ≡ names_of S.Store self.old }
-        ensures unchanged { HasCleanDisk (database S.Store self.new) → (content : Content) → Holds S.Store self.old content → IsTrue (database S.Store self.new).is_open → (database S.Store self.new).now ≡ (database S.Store self.old).now }
-        ensures crash_beside { HasCleanDisk (database S.Store self.new) → (content : Content) → Holds S.Store self.old content → (trees : _) → (database S.Store self.new).may_leave trees → SparesBeside (database S.Store self.old).now trees }
-        ensures crash { HasCleanDisk (database S.Store self.new) → (content : Content) → Holds S.Store self.old content → (trees : _) → (database S.Store self.new).may_leave trees
-            → AreOf (database S.Store self.old).now.schema (names_of S.Store self.old) content trees }
-        ensures clean { HasCleanDisk (database S.Store self.new) → HasCleanDisk (database S.Store self.old) }
+        ensures unchanged { HasCleanDisk (database S.Store self.new) → (content : Content)
+            → Holds S.Store self.old content → IsTrue (database S.Store self.new).is_open
+            → (database S.Store self.new).now ≡ (database S.Store self.old).now }
+        ensures crash_beside { HasCleanDisk (database S.Store self.new) → (content : Content)
+            → Holds S.Store self.old content → (trees : _)
+            → (database S.Store self.new).may_leave trees
+            → SparesBeside (database S.Store self.old).now trees }
+        ensures crash { HasCleanDisk (database S.Store self.new) → (content : Content)
+            → Holds S.Store self.old content → (trees : _)
+            → (database S.Store self.new).may_leave trees
+            → AreOf (database S.Store self.old).now.schema
+            (names_of S.Store self.old) content trees }
+        ensures clean { HasCleanDisk (database S.Store self.new)
+            → HasCleanDisk (database S.Store self.old) }
         ensures fault { IfErr result IsReadFault }
     {
         if self.broken {

@@ -30,7 +30,8 @@ const PER_STATEMENT: usize = 8;
 
 /// The image of the row, if the change adds one to the table.
 fn image_for<'a>(change: &Change<'a>, schema: &[u8], table: &[u8]) -> Option<&'a [u8]>
-    ensures { IfSome result (λ bytes. AddsRow schema.now table.now bytes.now (change_value change.now)) }
+    ensures { IfSome result (λ bytes. AddsRow schema.now table.now bytes.now
+        (change_value change.now)) }
 {
     let Change::Insert { table: def, after } = change else {
         return None;
@@ -51,7 +52,8 @@ fn images_of<'a>(
     schema: &[u8],
     table: &[u8],
 ) -> Option<Vec<&'a [u8]>>
-    ensures { IfSome result (λ images. AddsRows schema.now table.now changes.now [] (map (λ r. r.now) images.items)) }
+    ensures { IfSome result (λ images. AddsRows schema.now table.now changes.now []
+        (map (λ r. r.now) images.items)) }
 {
     let Ok(mut images) = Vec::with_capacity(alloc, changes.len()) else {
         return None;
@@ -103,7 +105,11 @@ fn insert_each<S: Alter>(
 ) -> Result<bool, Error>
     requires { All (λ r. IsSomeImage r.now) images.now }
     ensures same_reference { tx.new.conn.ghost_name ≡ tx.old.conn.ghost_name }
-    ensures adds { HasCleanDisk (state S.Store tx.new.conn.now) → IsWorking (state S.Store tx.old.conn.now) → IfOk result (λ all. IsTrue all → Adds (map (λ r. key_of schema.now table.now r.now) images.now) (state S.Store tx.old.conn.now) (state S.Store tx.new.conn.now)) }
+    ensures adds { HasCleanDisk (state S.Store tx.new.conn.now)
+        → IsWorking (state S.Store tx.old.conn.now)
+        → IfOk result (λ all. IsTrue all → Adds (map
+        (λ r. key_of schema.now table.now r.now) images.now) (state S.Store tx.old.conn.now)
+        (state S.Store tx.new.conn.now)) }
     ensures stays { Stays (state S.Store tx.old.conn.now) (state S.Store tx.new.conn.now) }
 {
     for image in images {
@@ -129,7 +135,11 @@ pub(crate) fn insert_all<S: Alter>(
 ) -> Result<bool, Error>
     requires { All (λ r. IsSomeImage r.now) images.now }
     ensures same_reference { tx.new.conn.ghost_name ≡ tx.old.conn.ghost_name }
-    ensures adds { HasCleanDisk (state S.Store tx.new.conn.now) → IsWorking (state S.Store tx.old.conn.now) → IfOk result (λ all. IsTrue all → Adds (map (λ r. key_of schema.now table.now r.now) images.now) (state S.Store tx.old.conn.now) (state S.Store tx.new.conn.now)) }
+    ensures adds { HasCleanDisk (state S.Store tx.new.conn.now)
+        → IsWorking (state S.Store tx.old.conn.now)
+        → IfOk result (λ all. IsTrue all → Adds (map
+        (λ r. key_of schema.now table.now r.now) images.now) (state S.Store tx.old.conn.now)
+        (state S.Store tx.new.conn.now)) }
     ensures stays { Stays (state S.Store tx.old.conn.now) (state S.Store tx.new.conn.now) }
 {
     let mut done = 0;

@@ -57,7 +57,8 @@ pub enum ListError<E> {
 
 /// The key of a row of `held`.
 fn key_at(row: &Row) -> Option<RowKey<'_>>
-    ensures { MatchOption result ((key : Key) → ¬ HasKey key row.now) (λ key. HasKey (key_in key) row.now) }
+    ensures { MatchOption result ((key : Key) → ¬ HasKey key row.now)
+        (λ key. HasKey (key_in key) row.now) }
 {
     let Ok(ValueRef::Blob(schema)) = row.get_ref(1) else {
         return None;
@@ -77,7 +78,8 @@ fn key_at(row: &Row) -> Option<RowKey<'_>>
 
 /// The number of copies in a row of `held`.
 fn count_at(row: &Row) -> Option<u64>
-    ensures { MatchOption result ((n : ℕ) → column row.now 4 ≡ Int (pos n) → ⊥) (λ n. column row.now 4 ≡ Int (pos n)) }
+    ensures { MatchOption result ((n : ℕ) → column row.now 4 ≡ Int (pos n)
+        → ⊥) (λ n. column row.now 4 ≡ Int (pos n)) }
 {
     let Ok(ValueRef::Int(n)) = row.get_ref(4) else {
         return None;
@@ -90,7 +92,8 @@ fn count_at(row: &Row) -> Option<u64>
 
 /// The row that a row of `held` stores.
 fn listed_in(row: &Row) -> Option<Listed<'_>>
-    ensures { (entry : Entry) → shown_entry entry ≡ drop 1 row.now → HasImage entry.0.cells → Gives entry result }
+    ensures { (entry : Entry) → shown_entry entry ≡ drop 1 row.now → HasImage entry.0.cells
+        → Gives entry result }
 {
     let key = key_at(row)?;
     let count = count_at(row)?;
@@ -105,7 +108,8 @@ fn listed_in(row: &Row) -> Option<Listed<'_>>
 
 /// Hands a row of `held` to the visitor.
 fn hand<V: Visitor>(row: &Row, visitor: &mut V) -> Result<(), ListError<V::Error>>
-    ensures handed { (entry : Entry) → shown_entry entry ≡ drop 1 row.now → HasImage entry.0.cells → Handed V.row_gives entry visitor.old visitor.new result }
+    ensures handed { (entry : Entry) → shown_entry entry ≡ drop 1 row.now → HasImage entry.0.cells
+        → Handed V.row_gives entry visitor.old visitor.new result }
     ensures fault { IfErr result IsListFault }
 {
     let Some(listed) = listed_in(row) else {
@@ -125,10 +129,15 @@ fn hand_all<S: Alter, V: Visitor>(
     visitor: &mut V,
 ) -> Result<(), ListError<V::Error>>
     ensures same_reference { rows.new.conn.ghost_name ≡ rows.old.conn.ghost_name }
-    ensures autocommit { rows.old.conn.now.in_transaction ≡ false → rows.new.conn.now.in_transaction ≡ false }
-    ensures hands { HasCleanDisk (state S.Store rows.new.conn.now) → HasGiven S.Store listed_text [] rows.old.conn.now [] → (names : Names) (content : Content) → IsAtRest (state S.Store rows.old.conn.now) names content
-        → Hands V.row_gives content.rows visitor.old visitor.new result × KeepsListed (state S.Store rows.old.conn.now) (state S.Store rows.new.conn.now) result }
-    ensures survives { Survives (state S.Store rows.old.conn.now) (state S.Store rows.new.conn.now) (λ _. ⊥) }
+    ensures autocommit { rows.old.conn.now.in_transaction ≡ false
+        → rows.new.conn.now.in_transaction ≡ false }
+    ensures hands { HasCleanDisk (state S.Store rows.new.conn.now)
+        → HasGiven S.Store listed_text [] rows.old.conn.now [] → (names : Names) (content : Content)
+        → IsAtRest (state S.Store rows.old.conn.now) names content
+        → Hands V.row_gives content.rows visitor.old visitor.new result
+        × KeepsListed (state S.Store rows.old.conn.now) (state S.Store rows.new.conn.now) result }
+    ensures survives { Survives (state S.Store rows.old.conn.now) (state S.Store rows.new.conn.now)
+        (λ _. ⊥) }
     ensures fault { IfErr result IsListFault }
 {
     // A `for`, since the prover asks that each loop ends.
@@ -152,11 +161,15 @@ fn list_held<S: Alter, V: Visitor>(
 ) -> Result<(), ListError<V::Error>>
     requires { conn.old.in_transaction ≡ false }
     ensures autocommit { conn.new.in_transaction ≡ false }
-    ensures hands { HasCleanDisk (state S.Store conn.new) → (names : Names) (content : Content) → IsAtRest (state S.Store conn.old) names content
-        → Hands V.row_gives content.rows visitor.old visitor.new result × KeepsListed (state S.Store conn.old) (state S.Store conn.new) result }
-    ensures survives { IsLaidOut (state S.Store conn.old).now.schema → Survives (state S.Store conn.old) (state S.Store conn.new) (λ _. ⊥) }
+    ensures hands { HasCleanDisk (state S.Store conn.new) → (names : Names) (content : Content)
+        → IsAtRest (state S.Store conn.old) names content
+        → Hands V.row_gives content.rows visitor.old visitor.new result
+        × KeepsListed (state S.Store conn.old) (state S.Store conn.new) result }
+    ensures survives { IsLaidOut (state S.Store conn.old).now.schema
+        → Survives (state S.Store conn.old) (state S.Store conn.new) (λ _. ⊥) }
     ensures clean { HasCleanDisk (state S.Store conn.new) → HasCleanDisk (state S.Store conn.old) }
-    ensures shut { HasCleanDisk (state S.Store conn.new) → (state S.Store conn.old).is_open ≡ false → IsShut (state S.Store conn.new) visitor.old visitor.new result }
+    ensures shut { HasCleanDisk (state S.Store conn.new) → (state S.Store conn.old).is_open ≡ false
+        → IsShut (state S.Store conn.new) visitor.old visitor.new result }
     ensures fault { IfErr result IsListFault }
 {
     // For the prover: what the connection shows is a database. The call does nothing at run time.
@@ -180,15 +193,30 @@ impl<S: Alter> Store<S> {
     /// `Database` if the database failed, and `Broken`, before the first row, after an earlier failure of `apply` or
     /// `adopt`.
     pub fn list<V: Visitor>(&mut self, visitor: &mut V) -> Result<(), ListError<V::Error>>
-        ensures lists { HasCleanDisk (database S.Store self.new) → (content : Content) → Holds S.Store self.old content → Lists S.Store V.row_gives content self.new visitor.old visitor.new result }
-        ensures shut { HasCleanDisk (database S.Store self.new) → (content : Content) → Keeps S.Store self.old content → (database S.Store self.old).is_open ≡ false → ListsShut S.Store content self.new visitor.old visitor.new result }
-        ensures broken { IsBroken S.Store self.old → (result ≡ Err (ListError.Store Broken)) × (self.new ≡ self.old) × (visitor.new ≡ visitor.old) }
+        ensures lists { HasCleanDisk (database S.Store self.new) → (content : Content)
+            → Holds S.Store self.old content → Lists S.Store V.row_gives content self.new
+            visitor.old visitor.new result }
+        ensures shut { HasCleanDisk (database S.Store self.new) → (content : Content)
+            → Keeps S.Store self.old content → (database S.Store self.old).is_open ≡ false
+            → ListsShut S.Store content self.new visitor.old visitor.new result }
+        ensures broken { IsBroken S.Store self.old
+            → (result ≡ Err (ListError.Store Broken)) × (self.new ≡ self.old)
+            × (visitor.new ≡ visitor.old) }
         ensures following { names_of S.Store self.new ≡ names_of S.Store self.old }
-        ensures crash { HasCleanDisk (database S.Store self.new) → (content : Content) → Holds S.Store self.old content → (trees : _) → (database S.Store self.new).may_leave trees
-            → AreOf (database S.Store self.old).now.schema (names_of S.Store self.old) content trees }
-        ensures unchanged { HasCleanDisk (database S.Store self.new) → (content : Content) → Holds S.Store self.old content → IsTrue (database S.Store self.new).is_open → (database S.Store self.new).now ≡ (database S.Store self.old).now }
-        ensures crash_beside { HasCleanDisk (database S.Store self.new) → (content : Content) → Holds S.Store self.old content → (trees : _) → (database S.Store self.new).may_leave trees → SparesBeside (database S.Store self.old).now trees }
-        ensures clean { HasCleanDisk (database S.Store self.new) → HasCleanDisk (database S.Store self.old) }
+        ensures crash { HasCleanDisk (database S.Store self.new) → (content : Content)
+            → Holds S.Store self.old content → (trees : _)
+            → (database S.Store self.new).may_leave trees
+            → AreOf (database S.Store self.old).now.schema
+            (names_of S.Store self.old) content trees }
+        ensures unchanged { HasCleanDisk (database S.Store self.new) → (content : Content)
+            → Holds S.Store self.old content → IsTrue (database S.Store self.new).is_open
+            → (database S.Store self.new).now ≡ (database S.Store self.old).now }
+        ensures crash_beside { HasCleanDisk (database S.Store self.new) → (content : Content)
+            → Holds S.Store self.old content → (trees : _)
+            → (database S.Store self.new).may_leave trees
+            → SparesBeside (database S.Store self.old).now trees }
+        ensures clean { HasCleanDisk (database S.Store self.new)
+            → HasCleanDisk (database S.Store self.old) }
         ensures fault { IfErr result IsListFault }
     {
         if self.broken {

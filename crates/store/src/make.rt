@@ -18,9 +18,14 @@ use sqlite::{Alter, Connection, Error, Transaction};
 /// Makes the four tables.
 fn make_tables<S: Alter>(tx: &mut Transaction<'_, S>) -> Result<(), Error>
     ensures same_reference { tx.new.conn.ghost_name ≡ tx.old.conn.ghost_name }
-    ensures made { HasCleanDisk (state S.Store tx.new.conn.now) → IsMaking [] (state S.Store tx.old.conn.now) → OnOk result (IsMaking new_layout (state S.Store tx.new.conn.now)) }
-    ensures kept { HasCleanDisk (state S.Store tx.new.conn.now) → IsMaking [] (state S.Store tx.old.conn.now) → KeepsCommit (state S.Store tx.old.conn.now) (state S.Store tx.new.conn.now) }
-    ensures survives { Survives (state S.Store tx.old.conn.now) (state S.Store tx.new.conn.now) (λ _. ⊥) }
+    ensures made { HasCleanDisk (state S.Store tx.new.conn.now)
+        → IsMaking [] (state S.Store tx.old.conn.now)
+        → OnOk result (IsMaking new_layout (state S.Store tx.new.conn.now)) }
+    ensures kept { HasCleanDisk (state S.Store tx.new.conn.now)
+        → IsMaking [] (state S.Store tx.old.conn.now)
+        → KeepsCommit (state S.Store tx.old.conn.now) (state S.Store tx.new.conn.now) }
+    ensures survives { Survives (state S.Store tx.old.conn.now) (state S.Store tx.new.conn.now)
+        (λ _. ⊥) }
 {
     make_meta(tx)?;
     make_held(tx)?;
@@ -32,9 +37,14 @@ fn make_tables<S: Alter>(tx: &mut Transaction<'_, S>) -> Result<(), Error>
 /// Makes the tables and their first rows.
 fn fill<S: Alter>(tx: &mut Transaction<'_, S>, filter: &Follow) -> Result<(), Error>
     ensures same_reference { tx.new.conn.ghost_name ≡ tx.old.conn.ghost_name }
-    ensures made { HasCleanDisk (state S.Store tx.new.conn.now) → IsMaking [] (state S.Store tx.old.conn.now) → OnOk result (HasMade (state S.Store tx.new.conn.now) filter.now nothing) }
-    ensures kept { HasCleanDisk (state S.Store tx.new.conn.now) → IsMaking [] (state S.Store tx.old.conn.now) → KeepsCommit (state S.Store tx.old.conn.now) (state S.Store tx.new.conn.now) }
-    ensures survives { Survives (state S.Store tx.old.conn.now) (state S.Store tx.new.conn.now) (λ _. ⊥) }
+    ensures made { HasCleanDisk (state S.Store tx.new.conn.now)
+        → IsMaking [] (state S.Store tx.old.conn.now)
+        → OnOk result (HasMade (state S.Store tx.new.conn.now) filter.now nothing) }
+    ensures kept { HasCleanDisk (state S.Store tx.new.conn.now)
+        → IsMaking [] (state S.Store tx.old.conn.now)
+        → KeepsCommit (state S.Store tx.old.conn.now) (state S.Store tx.new.conn.now) }
+    ensures survives { Survives (state S.Store tx.old.conn.now) (state S.Store tx.new.conn.now)
+        (λ _. ⊥) }
 {
     make_tables(tx)?;
     set_layout(tx)?;
@@ -45,9 +55,14 @@ fn fill<S: Alter>(tx: &mut Transaction<'_, S>, filter: &Follow) -> Result<(), Er
 pub(crate) fn make<S: Alter>(conn: &mut Connection<S>, filter: &Follow) -> Result<(), Error>
     requires { conn.old.in_transaction ≡ false }
     ensures autocommit { conn.new.in_transaction ≡ false }
-    ensures made { HasCleanDisk (state S.Store conn.new) → IsBlank (state S.Store conn.old) → OnOk result (IsAtRest (state S.Store conn.new) filter.now nothing × LiesBeside (state S.Store conn.old).now (state S.Store conn.new).now) }
-    ensures refused { HasCleanDisk (state S.Store conn.new) → IsBlank (state S.Store conn.old) → OnErr result (Rests (state S.Store conn.old) (state S.Store conn.new)) }
-    ensures crash { IsBlank (state S.Store conn.old) → Survives (state S.Store conn.old) (state S.Store conn.new) (MayStandFor (state S.Store conn.old).now filter.now nothing) }
+    ensures made { HasCleanDisk (state S.Store conn.new) → IsBlank (state S.Store conn.old)
+        → OnOk result (IsAtRest (state S.Store conn.new) filter.now nothing
+        × LiesBeside (state S.Store conn.old).now (state S.Store conn.new).now) }
+    ensures refused { HasCleanDisk (state S.Store conn.new) → IsBlank (state S.Store conn.old)
+        → OnErr result (Rests (state S.Store conn.old) (state S.Store conn.new)) }
+    ensures crash { IsBlank (state S.Store conn.old)
+        → Survives (state S.Store conn.old) (state S.Store conn.new)
+        (MayStandFor (state S.Store conn.old).now filter.now nothing) }
     ensures clean { HasCleanDisk (state S.Store conn.new) → HasCleanDisk (state S.Store conn.old) }
 {
     // For the prover: what the connection shows is a database. The call does nothing at run time.

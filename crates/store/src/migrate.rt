@@ -21,9 +21,14 @@ use sqlite::{Alter, Connection, Error, Transaction};
 /// Changes the tables to those of layout 2, without spans.
 fn change_tables<S: Alter>(tx: &mut Transaction<'_, S>) -> Result<(), Error>
     ensures same_reference { tx.new.conn.ghost_name ≡ tx.old.conn.ghost_name }
-    ensures migrated { HasCleanDisk (state S.Store tx.new.conn.now) → (content : Content) → IsFirstInside content (state S.Store tx.old.conn.now) → OnOk result (IsMigrating HasBare (pos 2) content (state S.Store tx.new.conn.now)) }
-    ensures kept { HasCleanDisk (state S.Store tx.new.conn.now) → (content : Content) → IsFirstInside content (state S.Store tx.old.conn.now) → KeepsCommit (state S.Store tx.old.conn.now) (state S.Store tx.new.conn.now) }
-    ensures survives { Survives (state S.Store tx.old.conn.now) (state S.Store tx.new.conn.now) (λ _. ⊥) }
+    ensures migrated { HasCleanDisk (state S.Store tx.new.conn.now) → (content : Content)
+        → IsFirstInside content (state S.Store tx.old.conn.now)
+        → OnOk result (IsMigrating HasBare (pos 2) content (state S.Store tx.new.conn.now)) }
+    ensures kept { HasCleanDisk (state S.Store tx.new.conn.now) → (content : Content)
+        → IsFirstInside content (state S.Store tx.old.conn.now)
+        → KeepsCommit (state S.Store tx.old.conn.now) (state S.Store tx.new.conn.now) }
+    ensures survives { Survives (state S.Store tx.old.conn.now) (state S.Store tx.new.conn.now)
+        (λ _. ⊥) }
 {
     drop_executed(tx)?;
     make_spans(tx)?;
@@ -35,10 +40,17 @@ fn change_tables<S: Alter>(tx: &mut Transaction<'_, S>) -> Result<(), Error>
 /// Changes the tables to those of layout 2, with the spans of the set.
 fn convert<S: Alter>(tx: &mut Transaction<'_, S>, executed: &GtidSet) -> Result<(), Error>
     ensures same_reference { tx.new.conn.ghost_name ≡ tx.old.conn.ghost_name }
-    ensures made { HasCleanDisk (state S.Store tx.new.conn.now) → (content : Content) → IsFirstInside content (state S.Store tx.old.conn.now) → executed.now ≡ content.executed → OnOk result (HasMade (state S.Store tx.new.conn.now) all content) }
-    ensures working { HasCleanDisk (state S.Store tx.new.conn.now) → (content : Content) → IsFirstInside content (state S.Store tx.old.conn.now) → OnOk result (IsWorking (state S.Store tx.new.conn.now)) }
-    ensures kept { HasCleanDisk (state S.Store tx.new.conn.now) → (content : Content) → IsFirstInside content (state S.Store tx.old.conn.now) → KeepsCommit (state S.Store tx.old.conn.now) (state S.Store tx.new.conn.now) }
-    ensures survives { Survives (state S.Store tx.old.conn.now) (state S.Store tx.new.conn.now) (λ _. ⊥) }
+    ensures made { HasCleanDisk (state S.Store tx.new.conn.now) → (content : Content)
+        → IsFirstInside content (state S.Store tx.old.conn.now) → executed.now ≡ content.executed
+        → OnOk result (HasMade (state S.Store tx.new.conn.now) all content) }
+    ensures working { HasCleanDisk (state S.Store tx.new.conn.now) → (content : Content)
+        → IsFirstInside content (state S.Store tx.old.conn.now)
+        → OnOk result (IsWorking (state S.Store tx.new.conn.now)) }
+    ensures kept { HasCleanDisk (state S.Store tx.new.conn.now) → (content : Content)
+        → IsFirstInside content (state S.Store tx.old.conn.now)
+        → KeepsCommit (state S.Store tx.old.conn.now) (state S.Store tx.new.conn.now) }
+    ensures survives { Survives (state S.Store tx.old.conn.now) (state S.Store tx.new.conn.now)
+        (λ _. ⊥) }
 {
     change_tables(tx)?;
     add_all(tx, executed.spans())
@@ -48,9 +60,15 @@ fn convert<S: Alter>(tx: &mut Transaction<'_, S>, executed: &GtidSet) -> Result<
 pub(crate) fn migrate<S: Alter>(conn: &mut Connection<S>, executed: &GtidSet) -> Result<(), Error>
     requires { conn.old.in_transaction ≡ false }
     ensures autocommit { conn.new.in_transaction ≡ false }
-    ensures migrated { HasCleanDisk (state S.Store conn.new) → (content : Content) → IsFirstAtRest (state S.Store conn.old) content → executed.now ≡ content.executed → OnOk result (IsAtRest (state S.Store conn.new) all content × LiesBeside (state S.Store conn.old).now (state S.Store conn.new).now) }
-    ensures refused { HasCleanDisk (state S.Store conn.new) → (content : Content) → IsFirstAtRest (state S.Store conn.old) content → OnErr result (Rests (state S.Store conn.old) (state S.Store conn.new)) }
-    ensures crash { Survives (state S.Store conn.old) (state S.Store conn.new) (MayMigrate (state S.Store conn.old) executed.now) }
+    ensures migrated { HasCleanDisk (state S.Store conn.new) → (content : Content)
+        → IsFirstAtRest (state S.Store conn.old) content → executed.now ≡ content.executed
+        → OnOk result (IsAtRest (state S.Store conn.new) all content
+        × LiesBeside (state S.Store conn.old).now (state S.Store conn.new).now) }
+    ensures refused { HasCleanDisk (state S.Store conn.new) → (content : Content)
+        → IsFirstAtRest (state S.Store conn.old) content
+        → OnErr result (Rests (state S.Store conn.old) (state S.Store conn.new)) }
+    ensures crash { Survives (state S.Store conn.old) (state S.Store conn.new)
+        (MayMigrate (state S.Store conn.old) executed.now) }
 {
     let mut tx = conn.transaction();
     convert(&mut tx, executed)?;

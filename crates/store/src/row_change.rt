@@ -28,7 +28,10 @@ pub enum Refusal {
 /// Adds one more copy of a row that is there.
 fn raise<S: Alter>(tx: &mut Transaction<'_, S>, row: &RowKey<'_>) -> Result<Option<Refusal>, Error>
     ensures same_reference { tx.new.conn.ghost_name ≡ tx.old.conn.ghost_name }
-    ensures counted { HasCleanDisk (state S.Store tx.new.conn.now) → IsWorking (state S.Store tx.old.conn.now) → IfOk result (Counted (state S.Store tx.old.conn.now) (state S.Store tx.new.conn.now) (added (key_in row.now) (count (held_rows (state S.Store tx.old.conn.now).now)))) }
+    ensures counted { HasCleanDisk (state S.Store tx.new.conn.now)
+        → IsWorking (state S.Store tx.old.conn.now)
+        → IfOk result (Counted (state S.Store tx.old.conn.now) (state S.Store tx.new.conn.now)
+        (added (key_in row.now) (count (held_rows (state S.Store tx.old.conn.now).now)))) }
     ensures stays { Stays (state S.Store tx.old.conn.now) (state S.Store tx.new.conn.now) }
 {
     let Some(n) = read(tx, row)? else {
@@ -47,7 +50,10 @@ pub(crate) fn add<S: Alter>(
     row: &RowKey<'_>,
 ) -> Result<Option<Refusal>, Error>
     ensures same_reference { tx.new.conn.ghost_name ≡ tx.old.conn.ghost_name }
-    ensures counted { HasCleanDisk (state S.Store tx.new.conn.now) → IsWorking (state S.Store tx.old.conn.now) → IsSomeImage row.now.image.now → IfOk result (Counted (state S.Store tx.old.conn.now) (state S.Store tx.new.conn.now) (added (key_in row.now) (count (held_rows (state S.Store tx.old.conn.now).now)))) }
+    ensures counted { HasCleanDisk (state S.Store tx.new.conn.now)
+        → IsWorking (state S.Store tx.old.conn.now) → IsSomeImage row.now.image.now
+        → IfOk result (Counted (state S.Store tx.old.conn.now) (state S.Store tx.new.conn.now)
+        (added (key_in row.now) (count (held_rows (state S.Store tx.old.conn.now).now)))) }
     ensures stays { Stays (state S.Store tx.old.conn.now) (state S.Store tx.new.conn.now) }
 {
     if insert(tx, row)? {
@@ -59,7 +65,11 @@ pub(crate) fn add<S: Alter>(
 /// Removes one of several copies of a row.
 fn lower<S: Alter>(tx: &mut Transaction<'_, S>, row: &RowKey<'_>) -> Result<Option<Refusal>, Error>
     ensures same_reference { tx.new.conn.ghost_name ≡ tx.old.conn.ghost_name }
-    ensures counted { HasCleanDisk (state S.Store tx.new.conn.now) → IsWorking (state S.Store tx.old.conn.now) → count (held_rows (state S.Store tx.old.conn.now).now) (key_in row.now) ≢ 1 → IfOk result (Counted (state S.Store tx.old.conn.now) (state S.Store tx.new.conn.now) (removed (key_in row.now) (count (held_rows (state S.Store tx.old.conn.now).now)))) }
+    ensures counted { HasCleanDisk (state S.Store tx.new.conn.now)
+        → IsWorking (state S.Store tx.old.conn.now)
+        → count (held_rows (state S.Store tx.old.conn.now).now) (key_in row.now) ≢ 1
+        → IfOk result (Counted (state S.Store tx.old.conn.now) (state S.Store tx.new.conn.now)
+        (removed (key_in row.now) (count (held_rows (state S.Store tx.old.conn.now).now)))) }
     ensures stays { Stays (state S.Store tx.old.conn.now) (state S.Store tx.new.conn.now) }
 {
     let Some(n) = read(tx, row)? else {
@@ -78,7 +88,10 @@ pub(crate) fn remove<S: Alter>(
     row: &RowKey<'_>,
 ) -> Result<Option<Refusal>, Error>
     ensures same_reference { tx.new.conn.ghost_name ≡ tx.old.conn.ghost_name }
-    ensures counted { HasCleanDisk (state S.Store tx.new.conn.now) → IsWorking (state S.Store tx.old.conn.now) → IfOk result (Counted (state S.Store tx.old.conn.now) (state S.Store tx.new.conn.now) (removed (key_in row.now) (count (held_rows (state S.Store tx.old.conn.now).now)))) }
+    ensures counted { HasCleanDisk (state S.Store tx.new.conn.now)
+        → IsWorking (state S.Store tx.old.conn.now)
+        → IfOk result (Counted (state S.Store tx.old.conn.now) (state S.Store tx.new.conn.now)
+        (removed (key_in row.now) (count (held_rows (state S.Store tx.old.conn.now).now)))) }
     ensures stays { Stays (state S.Store tx.old.conn.now) (state S.Store tx.new.conn.now) }
 {
     if delete(tx, row)? {
@@ -94,7 +107,10 @@ fn add_row<S: Alter>(
     image: &ImageRef<'_>,
 ) -> Result<Option<Refusal>, Error>
     ensures same_reference { tx.new.conn.ghost_name ≡ tx.old.conn.ghost_name }
-    ensures makes { HasCleanDisk (state S.Store tx.new.conn.now) → IsWorking (state S.Store tx.old.conn.now) → IfOk result (Makes (insert table.now.schema.items table.now.table.items image.now) (state S.Store tx.old.conn.now) (state S.Store tx.new.conn.now)) }
+    ensures makes { HasCleanDisk (state S.Store tx.new.conn.now)
+        → IsWorking (state S.Store tx.old.conn.now)
+        → IfOk result (Makes (insert table.now.schema.items table.now.table.items image.now)
+        (state S.Store tx.old.conn.now) (state S.Store tx.new.conn.now)) }
     ensures stays { Stays (state S.Store tx.old.conn.now) (state S.Store tx.new.conn.now) }
 {
     add(tx, &RowKey::of(table, image))
@@ -107,7 +123,10 @@ fn remove_row<S: Alter>(
     image: &ImageRef<'_>,
 ) -> Result<Option<Refusal>, Error>
     ensures same_reference { tx.new.conn.ghost_name ≡ tx.old.conn.ghost_name }
-    ensures makes { HasCleanDisk (state S.Store tx.new.conn.now) → IsWorking (state S.Store tx.old.conn.now) → IfOk result (Makes (delete table.now.schema.items table.now.table.items image.now) (state S.Store tx.old.conn.now) (state S.Store tx.new.conn.now)) }
+    ensures makes { HasCleanDisk (state S.Store tx.new.conn.now)
+        → IsWorking (state S.Store tx.old.conn.now)
+        → IfOk result (Makes (delete table.now.schema.items table.now.table.items image.now)
+        (state S.Store tx.old.conn.now) (state S.Store tx.new.conn.now)) }
     ensures stays { Stays (state S.Store tx.old.conn.now) (state S.Store tx.new.conn.now) }
 {
     remove(tx, &RowKey::of(table, image))
@@ -119,7 +138,10 @@ fn make<S: Alter>(
     change: &Change<'_>,
 ) -> Result<Option<Refusal>, Error>
     ensures same_reference { tx.new.conn.ghost_name ≡ tx.old.conn.ghost_name }
-    ensures makes { HasCleanDisk (state S.Store tx.new.conn.now) → IsWorking (state S.Store tx.old.conn.now) → IfOk result (Makes (change_value change.now) (state S.Store tx.old.conn.now) (state S.Store tx.new.conn.now)) }
+    ensures makes { HasCleanDisk (state S.Store tx.new.conn.now)
+        → IsWorking (state S.Store tx.old.conn.now)
+        → IfOk result (Makes (change_value change.now) (state S.Store tx.old.conn.now)
+        (state S.Store tx.new.conn.now)) }
     ensures stays { Stays (state S.Store tx.old.conn.now) (state S.Store tx.new.conn.now) }
 {
     match change {
@@ -153,7 +175,10 @@ fn step<S: Alter>(
     change: &Change<'_>,
 ) -> Result<Option<Refusal>, Error>
     ensures same_reference { tx.new.conn.ghost_name ≡ tx.old.conn.ghost_name }
-    ensures does { HasCleanDisk (state S.Store tx.new.conn.now) → IsWorking (state S.Store tx.old.conn.now) → IfOk result (Does filter.now (change_value change.now) (state S.Store tx.old.conn.now) (state S.Store tx.new.conn.now)) }
+    ensures does { HasCleanDisk (state S.Store tx.new.conn.now)
+        → IsWorking (state S.Store tx.old.conn.now)
+        → IfOk result (Does filter.now (change_value change.now) (state S.Store tx.old.conn.now)
+        (state S.Store tx.new.conn.now)) }
     ensures stays { Stays (state S.Store tx.old.conn.now) (state S.Store tx.new.conn.now) }
 {
     if !is_admitted(filter, change) {
@@ -169,7 +194,10 @@ pub(crate) fn make_all<S: Alter>(
     changes: &Changes,
 ) -> Result<Option<(usize, Refusal)>, Error>
     ensures same_reference { tx.new.conn.ghost_name ≡ tx.old.conn.ghost_name }
-    ensures does { HasCleanDisk (state S.Store tx.new.conn.now) → IsWorking (state S.Store tx.old.conn.now) → IfOk result (DoesAll filter.now changes.now (state S.Store tx.old.conn.now) (state S.Store tx.new.conn.now)) }
+    ensures does { HasCleanDisk (state S.Store tx.new.conn.now)
+        → IsWorking (state S.Store tx.old.conn.now)
+        → IfOk result (DoesAll filter.now changes.now (state S.Store tx.old.conn.now)
+        (state S.Store tx.new.conn.now)) }
     ensures stays { Stays (state S.Store tx.old.conn.now) (state S.Store tx.new.conn.now) }
 {
     // For the prover: an index is less than this, so it has a successor.

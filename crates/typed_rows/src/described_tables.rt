@@ -43,7 +43,8 @@ impl DescribedTables {
     /// The table of this name in this schema, if it is described. One that is not is looked for in all of them.
     pub fn find(&self, schema: &[u8], table: &[u8]) -> Option<&DescribedTable>
         ensures found { IfSome result (λ found. IsOfName schema.now table.now found.now) }
-        ensures none { IfNone result (find (is_named schema.now table.now) self.now.tables.items ≡ None) }
+        ensures none { IfNone result (find (is_named schema.now table.now) self.now.tables.items
+            ≡ None) }
     {
         let place = self
             .tables

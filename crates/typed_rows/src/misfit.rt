@@ -1,9 +1,11 @@
 //! Why a row does not fit the description of its table.
 
 use columns::{CellFault, Column, DescribedTable};
+use formats::{Shown, write_table};
 use gather::ImageRef;
 use std::alloc::{AllocError, Global};
 use std::io;
+use std::io::Write;
 use thiserror::Error;
 
 const FETCH: &str = "fetch the description of the columns again";
@@ -88,6 +90,17 @@ pub struct Misfit {
     /// The name of the column that does not fit, if it is a column, and its type, with its character set if it has one.
     pub column: Option<(String, String)>,
     pub fault: Fault,
+}
+
+impl Misfit {
+    /// Writes its table and column, why it does not fit, and what to do about that.
+    pub fn write<W: Write>(&self, out: &mut W) -> io::Result<()> {
+        write_table(&self.schema, &self.table, out)?;
+        if let Some((column, kind)) = &self.column {
+            write!(out, ", column {} {}", Shown(column), Shown(kind))?;
+        }
+        writeln!(out, ": {}: {}", self.fault, self.fault.advice())
+    }
 }
 
 /// Why a row was not printed.

@@ -71,9 +71,10 @@ impl Seconds {
 fn cut(spans: &mut Vec<(usize, Option<u32>)>, place: usize)
     requires { BeginAt 0 spans.old.items }
     ensures ordered { BeginAt 0 spans.new.items }
-    ensures before { (n : ℕ) → n < place → seconds_at spans.new.items n ≡ seconds_at spans.old.items n }
-    ensures end { (span : ℕ × Option ℕ) → slice_get spans.new.items (length spans.new.items - 1) ≡ Some span →
-        span.0 < place }
+    ensures before { (n : ℕ) → n < place → seconds_at spans.new.items n
+        ≡ seconds_at spans.old.items n }
+    ensures end { (span : ℕ × Option ℕ) → slice_get spans.new.items (length spans.new.items - 1)
+        ≡ Some span → span.0 < place }
 {
     while let Some((from, _)) = spans.last()
         && *from >= place

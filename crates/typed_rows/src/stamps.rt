@@ -41,7 +41,8 @@ impl Stamps {
 
     /// Forgets all.
     pub fn clear(&mut self)
-        ensures known { (self.new.server ≡ None) × ((self.new.committed ≡ None) × (self.new.xid ≡ None)) }
+        ensures known { (self.new.server ≡ None) × ((self.new.committed ≡ None)
+            × (self.new.xid ≡ None)) }
         ensures seconds { self.new.seconds ≡ [] }
     {
         self.begin(None, None);
@@ -62,13 +63,13 @@ impl Stamps {
         bytes: &[u8],
         pending: usize,
     ) -> Result<(), AllocError>
-        ensures begun { (source : List ℕ) (number : ℕ) → event_value event.now ≡ gtid source number →
-            IsServerOf bytes.now self.new.server × (IsCommitOf bytes.now self.new.committed
+        ensures begun { (source : List ℕ) (number : ℕ) → event_value event.now ≡ gtid source number
+            → IsServerOf bytes.now self.new.server × (IsCommitOf bytes.now self.new.committed
             × ((self.new.xid ≡ None) × (self.new.seconds ≡ []))) }
-        ensures rows { (value : RowsValue) → event_value event.now ≡ rows value → (n : ℕ) → pending ≤ n →
-            OnOk result (AreSecondsOf bytes.now (seconds_at self.new.seconds n)) }
-        ensures before { (value : RowsValue) → event_value event.now ≡ rows value → (n : ℕ) → n < pending →
-            seconds_at self.new.seconds n ≡ seconds_at self.old.seconds n }
+        ensures rows { (value : RowsValue) → event_value event.now ≡ rows value → (n : ℕ)
+            → pending ≤ n → OnOk result (AreSecondsOf bytes.now (seconds_at self.new.seconds n)) }
+        ensures before { (value : RowsValue) → event_value event.now ≡ rows value → (n : ℕ)
+            → n < pending → seconds_at self.new.seconds n ≡ seconds_at self.old.seconds n }
         ensures xid { (number : ℕ) → event_value event.now ≡ xid number →
             self.new ≡ record self.old { xid = Some number } }
         ensures kept { is_said (event_value event.now) ≡ false → self.new ≡ self.old }
@@ -85,7 +86,8 @@ impl Stamps {
 
     /// Begins a transaction of which this is known.
     fn begin(&mut self, server: Option<u32>, committed: Option<u64>)
-        ensures known { (self.new.server ≡ server) × ((self.new.committed ≡ committed) × (self.new.xid ≡ None)) }
+        ensures known { (self.new.server ≡ server)
+            × ((self.new.committed ≡ committed) × (self.new.xid ≡ None)) }
         ensures seconds { self.new.seconds ≡ [] }
     {
         self.server = server;

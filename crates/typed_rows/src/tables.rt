@@ -3,8 +3,11 @@
 use crate::described_tables::DescribedTables;
 use binlog::Follow;
 use columns::{DescribedTable, Description};
+use formats::write_table;
 use std::alloc::{AllocError, AllocFailed, Global};
 use std::collections::{BTreeMap, BTreeSet};
+use std::io;
+use std::io::Write;
 use thiserror::Error;
 
 /// How many columns a table of SQLite has at most (SQLite, "Implementation Limits For SQLite").
@@ -54,6 +57,46 @@ pub enum TablesFault {
     NoTable,
     /// An allocation was refused.
     Memory,
+}
+
+impl TableName {
+    fn write<W: Write>(&self, out: &mut W) -> io::Result<()> {
+        write_table(&self.schema, &self.table, out)
+    }
+}
+
+impl TablesFault {
+    /// Writes which table is meant, and what is wrong with it.
+    pub fn write<W: Write>(&self, out: &mut W) -> io::Result<()> {
+        match self {
+            TablesFault::Table(table, fault) => {
+                table.write(out)?;
+                writeln!(out, ": {fault}")
+            }
+            TablesFault::Same(first, second) => {
+                first.write(out)?;
+                out.write_all(b" and ")?;
+                second.write(out)?;
+                out.write_all(b": SQLite takes their names for the same\n")
+            }
+            TablesFault::NoTable => {
+                out.write_all(b"no table of the schema that is asked for is described\n")
+            }
+            TablesFault::Memory => out.write_all(b"out of memory\n"),
+        }
+    }
+}
+
+impl DescribedTables {
+    /// Refuses tables that are named and not described.
+    pub fn check(&self, alloc: Global, only: &Follow) -> Result<(), TablesFault> {
+        for (schema, table) in only.names() {
+            if self.find(schema, table).is_none() {
+                return Err(fault_of(alloc, schema, table, TableFault::Missing));
+            }
+        }
+        Ok(())
+    }
 }
 
 impl From<AllocError> for TablesFault {

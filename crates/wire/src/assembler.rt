@@ -81,10 +81,12 @@ impl Assembler {
     pub fn step(&mut self, bytes: &[u8]) -> Result<Step, WireFault>
         // A payload: the bytes held and those used are its packets, and the reader holds nothing.
         ensures used { IfOk result (λ step. step.used ≤ length bytes.now) }
-        ensures payload { IfOk result (λ step. IfSome step.payload (λ payload.
-            IsWholePayload self.old.due self.old.limit (self.old.held ++ take step.used bytes.now) payload.items self.new.due
+        ensures payload { IfOk result (λ step. IfSome step.payload
+            (λ payload. IsWholePayload self.old.due self.old.limit
+            (self.old.held ++ take step.used bytes.now) payload.items self.new.due
             × (self.new ≡ record self.old { due = self.new.due; held = [] }))) }
-        ensures length { IfOk result (λ step. IfSome step.payload (λ payload. length self.old.held + step.used ≡ packing_length (length payload.items))) }
+        ensures length { IfOk result (λ step. IfSome step.payload
+            (λ payload. length self.old.held + step.used ≡ packing_length (length payload.items))) }
         ensures progress { IfOk result (λ step. IfSome step.payload (λ _. 0 < step.used)) }
 
         // No payload yet: all bytes are held, and they are neither a payload nor wrong.
@@ -97,8 +99,10 @@ impl Assembler {
         // A fault, which ends the reader.
         ensures sequence { (want got : ℕ) → result ≡ Err (WireFault.Sequence want got) →
             IsOutOfSequence self.old.due self.old.limit (self.old.held ++ bytes.now) want got }
-        ensures too_large { result ≡ Err WireFault.TooLarge → IsTooLarge self.old.due self.old.limit (self.old.held ++ bytes.now) }
-        ensures memory { result ≡ Err WireFault.Memory → NeedsRoom self.old.due self.old.limit self.old.held bytes.now }
+        ensures too_large { result ≡ Err WireFault.TooLarge
+            → IsTooLarge self.old.due self.old.limit (self.old.held ++ bytes.now) }
+        ensures memory { result ≡ Err WireFault.Memory
+            → NeedsRoom self.old.due self.old.limit self.old.held bytes.now }
         ensures ended { (result ≡ Err WireFault.Ended) ↔ (self.old.ended ≡ true) }
         ensures ok { OnOk result (self.new.ended ≡ false) }
         ensures err { OnErr result (self.new.ended ≡ true) }

@@ -39,7 +39,8 @@ pub fn read_int(bytes: &[u8]) -> Option<(u64, usize)>
 pub fn write_int(value: u64, out: &mut Vec<u8>) -> Result<(), WireFault>
     ensures ok { OnOk result (out.new.items ≡ out.old.items ++ length_encoded value) }
     ensures err { OnErr result ((result ≡ Err WireFault.Memory) × (out.new.items ≡ out.old.items)) }
-    ensures full { OnErr result (vec_capacity out.old < vec_len out.old + length (length_encoded value)) }
+    ensures full { OnErr result (vec_capacity out.old
+        < vec_len out.old + length (length_encoded value)) }
     ensures capacity { vec_capacity out.old ≤ vec_capacity out.new }
 {
     let [a, b, c, d, e, f, g, h] = value.to_le_bytes();

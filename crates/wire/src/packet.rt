@@ -40,7 +40,8 @@ fn push_packet(id: u8, chunk: &[u8], out: &mut Vec<u8>)
 #[tactic(auto, unfolding(crate::specs::Packet::full_chunk))]
 fn push_packets(sequence: u8, payload: &[u8], out: &mut Vec<u8>) -> u8
     requires size { length payload.now ≤ largest_payload }
-    requires room { vec_len out.old + spec.packing_length (length payload.now) ≤ vec_capacity out.old }
+    requires room { vec_len out.old + spec.packing_length (length payload.now)
+        ≤ vec_capacity out.old }
     ensures { AppendsPacking sequence payload.now out.old.items out.new.items result }
 {
     let mut id = sequence;
@@ -61,10 +62,13 @@ fn push_packets(sequence: u8, payload: &[u8], out: &mut Vec<u8>) -> u8
 /// `TooLarge` if the payload is longer than [`LARGEST_PAYLOAD`]; `Memory` if the vector lacks the room
 /// for the packets and cannot grow. Either leaves the vector as it was.
 pub fn write_payload(sequence: u8, payload: &[u8], out: &mut Vec<u8>) -> Result<u8, WireFault>
-    ensures ok { IfOk result (λ next. AppendsPacking sequence payload.now out.old.items out.new.items next) }
+    ensures ok { IfOk result (λ next. AppendsPacking sequence payload.now out.old.items
+        out.new.items next) }
     ensures too_large { (result ≡ Err WireFault.TooLarge) ↔ (largest_payload < length payload.now) }
-    ensures only { IfErr result (λ fault. (fault ≡ WireFault.TooLarge) ⊎ (fault ≡ WireFault.Memory)) }
-    ensures full { result ≡ Err WireFault.Memory → vec_capacity out.old < vec_len out.old + spec.packing_length (length payload.now) }
+    ensures only { IfErr result (λ fault. (fault ≡ WireFault.TooLarge)
+        ⊎ (fault ≡ WireFault.Memory)) }
+    ensures full { result ≡ Err WireFault.Memory
+        → vec_capacity out.old < vec_len out.old + spec.packing_length (length payload.now) }
     ensures err { OnErr result (out.new.items ≡ out.old.items) }
 {
     if payload.len() > LARGEST_PAYLOAD {

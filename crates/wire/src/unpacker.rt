@@ -34,7 +34,8 @@ fn fill(header: &mut [u8], filled: usize, bytes: &[u8]) -> usize
     ensures used { result ≤ length bytes.now }
     ensures full { filled + result ≤ length header.old }
     ensures most { result < length bytes.now → filled + result ≡ length header.old }
-    ensures filled { take (filled + result) header.new ≡ take filled header.old ++ take result bytes.now }
+    ensures filled { take (filled + result) header.new
+        ≡ take filled header.old ++ take result bytes.now }
 {
     let count = bytes.len().min(header.len() - filled);
     for i in 0..count {
@@ -47,8 +48,10 @@ fn fill(header: &mut [u8], filled: usize, bytes: &[u8]) -> usize
 fn read_header(header: &[u8], id: u8, room: usize) -> Result<usize, WireFault>
     requires { length header.now ≡ HEADER_LENGTH }
     ensures ok { IfOk result (λ size. IsHeader size id header.now × (size ≤ room)) }
-    ensures sequence { (want got : ℕ) → result ≡ Err (WireFault.Sequence want got) → (want ≡ id) × (got ≢ id) × (size : ℕ) × IsHeader size got header.now }
-    ensures too_large { result ≡ Err WireFault.TooLarge → (size : ℕ) × (room < size) × IsHeader size id header.now }
+    ensures sequence { (want got : ℕ) → result ≡ Err (WireFault.Sequence want got)
+        → (want ≡ id) × (got ≢ id) × (size : ℕ) × IsHeader size got header.now }
+    ensures too_large { result ≡ Err WireFault.TooLarge
+        → (size : ℕ) × (room < size) × IsHeader size id header.now }
     ensures only { IfErr result (λ fault. (fault ≢ WireFault.Memory) × (fault ≢ WireFault.Ended)) }
 {
     let got = header[3];
@@ -108,9 +111,12 @@ impl Unpacker {
         ensures ok { IfOk result (λ used. Consumes self.old self.new bytes.now used) }
         ensures progress { IfOk result (λ used. 0 < length bytes.now → 0 < used) }
         ensures limit { self.new.limit ≡ self.old.limit }
-        ensures sequence { (want got : ℕ) → result ≡ Err (WireFault.Sequence want got) → IsOutOfSequence self.old.due self.old.limit (held_of self.old ++ bytes.now) want got }
-        ensures too_large { result ≡ Err WireFault.TooLarge → IsTooLarge self.old.due self.old.limit (held_of self.old ++ bytes.now) }
-        ensures memory { result ≡ Err WireFault.Memory → NeedsRoom self.old.due self.old.limit (held_of self.old) bytes.now }
+        ensures sequence { (want got : ℕ) → result ≡ Err (WireFault.Sequence want got)
+            → IsOutOfSequence self.old.due self.old.limit (held_of self.old ++ bytes.now) want got }
+        ensures too_large { result ≡ Err WireFault.TooLarge
+            → IsTooLarge self.old.due self.old.limit (held_of self.old ++ bytes.now) }
+        ensures memory { result ≡ Err WireFault.Memory
+            → NeedsRoom self.old.due self.old.limit (held_of self.old) bytes.now }
         ensures only { IfErr result (λ fault. fault ≢ WireFault.Ended) }
     {
         let used = fill(&mut self.header, self.filled, bytes);
@@ -151,9 +157,12 @@ impl Unpacker {
         ensures end { IfOk result (λ used. used < length bytes.now → IsComplete self.new) }
         ensures progress { IfOk result (λ used. IsComplete self.new → 0 < used) }
         ensures limit { self.new.limit ≡ self.old.limit }
-        ensures sequence { (want got : ℕ) → result ≡ Err (WireFault.Sequence want got) → IsOutOfSequence self.old.due self.old.limit (held_of self.old ++ bytes.now) want got }
-        ensures too_large { result ≡ Err WireFault.TooLarge → IsTooLarge self.old.due self.old.limit (held_of self.old ++ bytes.now) }
-        ensures memory { result ≡ Err WireFault.Memory → NeedsRoom self.old.due self.old.limit (held_of self.old) bytes.now }
+        ensures sequence { (want got : ℕ) → result ≡ Err (WireFault.Sequence want got)
+            → IsOutOfSequence self.old.due self.old.limit (held_of self.old ++ bytes.now) want got }
+        ensures too_large { result ≡ Err WireFault.TooLarge
+            → IsTooLarge self.old.due self.old.limit (held_of self.old ++ bytes.now) }
+        ensures memory { result ≡ Err WireFault.Memory
+            → NeedsRoom self.old.due self.old.limit (held_of self.old) bytes.now }
         ensures only { IfErr result (λ fault. fault ≢ WireFault.Ended) }
     {
         let mut used = 0;
@@ -172,7 +181,8 @@ impl Unpacker {
     pub(crate) fn hand_out(&mut self) -> Vec<u8>
         requires chunk { IsInChunk self.old }
         requires complete { IsComplete self.old }
-        ensures payload { IsWholePayload self.old.due self.old.limit (held_of self.old) result.items self.new.due }
+        ensures payload { IsWholePayload self.old.due self.old.limit
+            (held_of self.old) result.items self.new.due }
         ensures limit { self.new.limit ≡ self.old.limit }
         ensures held { held_of self.new ≡ [] }
         ensures stands { IsInHeader self.new }

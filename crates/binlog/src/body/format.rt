@@ -71,7 +71,8 @@ pub(crate) fn read_format(bytes: &[u8]) -> Result<(), EventFault>
 /// The offset of the first post-header length that is not the expected one.
 fn wrong_length(bytes: &[u8]) -> Option<usize>
     requires { 116 ≤ length bytes.now }
-    ensures some { IfSome result (λ at. first_of (length_refusals bytes.now read_lengths) ≡ Some (record { kind = EventFaultKind.HeaderLengths; at = at })) }
+    ensures some { IfSome result (λ at. first_of (length_refusals bytes.now read_lengths)
+        ≡ Some (record { kind = EventFaultKind.HeaderLengths; at = at })) }
     ensures none { IfNone result (first_of (length_refusals bytes.now read_lengths) ≡ None) }
 {
     for (code, length) in LENGTHS {

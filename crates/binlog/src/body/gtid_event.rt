@@ -16,8 +16,11 @@ use gtid::Gtid;
 /// Reads the GTID of a GTID event.
 #[tactic(auto, unfolding(crate::specs::Body::gtid_fault))]
 pub(crate) fn read_gtid(bytes: &[u8]) -> Result<Gtid, EventFault>
-    ensures found { IfOk result (λ gtid. IsGtidBody gtid.source gtid.number (drop header_length bytes.now)) }
-    ensures only { (source : List ℕ) (number : ℕ) → IsGtidBody source number (drop header_length bytes.now) → IfOk result (λ gtid. (gtid.source ≡ source) × (gtid.number ≡ number)) }
+    ensures found { IfOk result (λ gtid. IsGtidBody gtid.source gtid.number
+        (drop header_length bytes.now)) }
+    ensures only { (source : List ℕ) (number : ℕ)
+        → IsGtidBody source number (drop header_length bytes.now)
+        → IfOk result (λ gtid. (gtid.source ≡ source) × (gtid.number ≡ number)) }
     ensures fault { IfErr result (λ fault. gtid_fault bytes.now ≡ Some fault) }
 {
     match bytes.len() {
@@ -47,7 +50,8 @@ pub(crate) fn write_gtid(id: Gtid, out: &mut Vec<u8>) -> Result<(), EventFault>
     ensures ok { OnOk result (out.new.items ≡ out.old.items ++ gtid_body id.source id.number) }
     ensures err { OnErr result (result ≡ Err (record { kind = Memory; at = 0 })) }
     ensures kept { OnErr result (take (length out.old.items) out.new.items ≡ out.old.items) }
-    ensures full { OnErr result (vec_capacity out.old < vec_len out.old + length (gtid_body id.source id.number)) }
+    ensures full { OnErr result (vec_capacity out.old
+        < vec_len out.old + length (gtid_body id.source id.number)) }
     ensures capacity { vec_capacity out.old ≤ vec_capacity out.new }
 {
     out.push(0)?;

@@ -24,8 +24,10 @@ const COMMIT: &[u8] = b"COMMIT";
 /// Reads a QUERY event whose text is `BEGIN` or `COMMIT`.
 #[tactic(auto, unfolding(crate::specs::Body::query_fault))]
 pub(crate) fn read_query(bytes: &[u8]) -> Result<Query, EventFault>
-    ensures found { IfOk result (λ query. IsQuery (statement query) (drop header_length bytes.now)) }
-    ensures only { (query : Query) → IsQuery (statement query) (drop header_length bytes.now) → result ≡ Ok query }
+    ensures found { IfOk result (λ query. IsQuery (statement query)
+        (drop header_length bytes.now)) }
+    ensures only { (query : Query) → IsQuery (statement query) (drop header_length bytes.now)
+        → result ≡ Ok query }
     ensures fault { IfErr result (λ fault. query_fault bytes.now ≡ Some fault) }
 {
     let text = read_text(bytes)?;
@@ -78,7 +80,8 @@ pub(crate) fn write_query(query: Query, out: &mut Vec<u8>) -> Result<(), EventFa
     ensures ok { OnOk result (out.new.items ≡ out.old.items ++ query_body (statement query)) }
     ensures err { OnErr result (result ≡ Err (record { kind = Memory; at = 0 })) }
     ensures kept { OnErr result (take (length out.old.items) out.new.items ≡ out.old.items) }
-    ensures full { OnErr result (vec_capacity out.old < vec_len out.old + length (query_body (statement query))) }
+    ensures full { OnErr result (vec_capacity out.old
+        < vec_len out.old + length (query_body (statement query))) }
     ensures capacity { vec_capacity out.old ≤ vec_capacity out.new }
 {
     out.extend_from_slice(FRONT)?;

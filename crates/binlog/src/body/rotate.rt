@@ -15,8 +15,11 @@ use byteorder::{ByteOrder, LittleEndian};
 /// Reads a rotation: the position in the next file, and the file's name.
 #[tactic(auto, unfolding(crate::specs::Body::rotate_fault))]
 pub(crate) fn read_rotate(bytes: &[u8]) -> Result<(u64, &[u8]), EventFault>
-    ensures found { IfOk result (λ read. IsRotate read.0 read.1.now (drop header_length bytes.now)) }
-    ensures only { (position : ℕ) (name : List ℕ) → IsRotate position name (drop header_length bytes.now) → IfOk result (λ read. (read.0 ≡ position) × (read.1.now ≡ name)) }
+    ensures found { IfOk result (λ read. IsRotate read.0 read.1.now
+        (drop header_length bytes.now)) }
+    ensures only { (position : ℕ) (name : List ℕ)
+        → IsRotate position name (drop header_length bytes.now)
+        → IfOk result (λ read. (read.0 ≡ position) × (read.1.now ≡ name)) }
     ensures fault { IfErr result (λ fault. rotate_fault bytes.now ≡ Some fault) }
 {
     if bytes.len() < 27 {
@@ -34,10 +37,12 @@ pub(crate) fn rotate_fits(position: u64, name: &[u8]) -> bool
 
 /// Appends the body of a rotation, or a part of it.
 pub(crate) fn write_rotate(position: u64, name: &[u8], out: &mut Vec<u8>) -> Result<(), EventFault>
-    ensures ok { OnOk result (out.new.items ≡ out.old.items ++ (little_bytes 8 position ++ name.now)) }
+    ensures ok { OnOk result (out.new.items ≡ out.old.items ++
+        (little_bytes 8 position ++ name.now)) }
     ensures err { OnErr result (result ≡ Err (record { kind = Memory; at = 0 })) }
     ensures kept { OnErr result (take (length out.old.items) out.new.items ≡ out.old.items) }
-    ensures full { OnErr result (vec_capacity out.old < vec_len out.old + length (little_bytes 8 position ++ name.now)) }
+    ensures full { OnErr result (vec_capacity out.old
+        < vec_len out.old + length (little_bytes 8 position ++ name.now)) }
     ensures capacity { vec_capacity out.old ≤ vec_capacity out.new }
 {
     out.extend_from_slice(&position.to_le_bytes())?;

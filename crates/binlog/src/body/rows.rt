@@ -36,9 +36,11 @@ const MOST_EXTRA: usize = 65_533;
 #[tactic(auto, unfolding(crate::specs::Rows::rows_fault))]
 pub(crate) fn read_rows(kind: RowsKind, bytes: &[u8]) -> Result<RowsEvent<'_>, EventFault>
     requires { length bytes.now < 2 ^ 32 }
-    ensures found { IfOk result (λ event. IsRows (rows_value event) (drop header_length bytes.now)) }
+    ensures found { IfOk result (λ event. IsRows (rows_value event)
+        (drop header_length bytes.now)) }
     ensures kind { IfOk result (λ event. event.kind ≡ kind) }
-    ensures only { (r : RowsValue) → r.kind ≡ kind → IsRows r (drop header_length bytes.now) → MatchResult result (λ event. rows_value event ≡ r) (λ _. ⊥) }
+    ensures only { (r : RowsValue) → r.kind ≡ kind → IsRows r (drop header_length bytes.now)
+        → MatchResult result (λ event. rows_value event ≡ r) (λ _. ⊥) }
     ensures fault { IfErr result (λ fault. rows_fault kind bytes.now ≡ Some fault) }
 {
     match bytes.len() {
@@ -125,8 +127,10 @@ impl<'a> RowsEvent<'a> {
     /// if no event can hold them: the table's number is 2^48 or more, the columns are not 1 to 4,096, or the event is
     /// too large.
     pub fn new(id: u64, kind: RowsKind, columns: usize, bytes: &'a [u8]) -> Option<RowsEvent<'a>>
-        ensures in_range { IsSome result ↔ IsWritable (rows (plain_rows id kind columns bytes.now)) }
-        ensures values { IfSome result (λ event. rows_value event ≡ plain_rows id kind columns bytes.now) }
+        ensures in_range { IsSome result ↔ IsWritable
+            (rows (plain_rows id kind columns bytes.now)) }
+        ensures values { IfSome result (λ event. rows_value event
+            ≡ plain_rows id kind columns bytes.now) }
     {
         if id >= 1 << 48 {
             return None;
@@ -205,7 +209,8 @@ pub(crate) fn write_rows_event(rows: &RowsEvent<'_>, out: &mut Vec<u8>) -> Resul
     ensures ok { OnOk result (out.new.items ≡ out.old.items ++ rows_body (rows_value rows.now)) }
     ensures err { OnErr result (result ≡ Err (record { kind = Memory; at = 0 })) }
     ensures kept { OnErr result (take (length out.old.items) out.new.items ≡ out.old.items) }
-    ensures full { OnErr result (vec_capacity out.old < vec_len out.old + length (rows_body (rows_value rows.now))) }
+    ensures full { OnErr result (vec_capacity out.old
+        < vec_len out.old + length (rows_body (rows_value rows.now))) }
     ensures capacity { vec_capacity out.old ≤ vec_capacity out.new }
 {
     write_head(rows, out)?;
@@ -222,7 +227,8 @@ fn write_head(rows: &RowsEvent<'_>, out: &mut Vec<u8>) -> Result<(), EventFault>
     ensures ok { OnOk result (out.new.items ≡ out.old.items ++ rows_head (rows_value rows.now)) }
     ensures err { OnErr result (result ≡ Err (record { kind = Memory; at = 0 })) }
     ensures kept { OnErr result (take (length out.old.items) out.new.items ≡ out.old.items) }
-    ensures full { OnErr result (vec_capacity out.old < vec_len out.old + length (rows_head (rows_value rows.now))) }
+    ensures full { OnErr result (vec_capacity out.old
+        < vec_len out.old + length (rows_head (rows_value rows.now))) }
     ensures capacity { vec_capacity out.old ≤ vec_capacity out.new }
 {
     let extra = rows.columns_at - 29;
@@ -234,10 +240,13 @@ fn write_head(rows: &RowsEvent<'_>, out: &mut Vec<u8>) -> Result<(), EventFault>
 /// Appends a table's number, the flag that the event ends its statement, and the length of the extra data.
 fn write_front(id: u64, extra: usize, out: &mut Vec<u8>) -> Result<(), EventFault>
     requires { extra ≤ MOST_EXTRA }
-    ensures ok { OnOk result (out.new.items ≡ out.old.items ++ (little_bytes 6 id ++ stmt_end ∷ 0 ∷ little_bytes 2 (2 + extra))) }
+    ensures ok { OnOk result (out.new.items ≡ out.old.items ++
+        (little_bytes 6 id ++ stmt_end ∷ 0 ∷ little_bytes 2 (2 + extra))) }
     ensures err { OnErr result (result ≡ Err (record { kind = Memory; at = 0 })) }
     ensures kept { OnErr result (take (length out.old.items) out.new.items ≡ out.old.items) }
-    ensures full { OnErr result (vec_capacity out.old < vec_len out.old + length (little_bytes 6 id ++ stmt_end ∷ 0 ∷ little_bytes 2 (2 + extra))) }
+    ensures full { OnErr result (vec_capacity out.old
+        < vec_len out.old + length (little_bytes 6 id ++ stmt_end ∷ 0 ∷ little_bytes 2
+        (2 + extra))) }
     ensures capacity { vec_capacity out.old ≤ vec_capacity out.new }
 {
     let [a, b, c, d, e, f, ..] = id.to_le_bytes();
@@ -267,7 +276,8 @@ fn write_presents(kind: RowsKind, columns: usize, out: &mut Vec<u8>) -> Result<(
     ensures ok { OnOk result (out.new.items ≡ out.old.items ++ presents_bytes kind columns) }
     ensures err { OnErr result (result ≡ Err (record { kind = Memory; at = 0 })) }
     ensures kept { OnErr result (take (length out.old.items) out.new.items ≡ out.old.items) }
-    ensures full { OnErr result (vec_capacity out.old < vec_len out.old + length (presents_bytes kind columns)) }
+    ensures full { OnErr result (vec_capacity out.old
+        < vec_len out.old + length (presents_bytes kind columns)) }
     ensures capacity { vec_capacity out.old ≤ vec_capacity out.new }
 {
     write_full_bitmap(columns, out)?;

@@ -69,7 +69,9 @@ impl TableDef {
 impl TableMap<'_> {
     /// Copies the names and the column types, so that they outlive the event. The only error is `Memory`.
     pub fn copy(&self, alloc: Global) -> Result<TableDef, EventFault>
-        ensures ok { IfOk result (λ copied. (copied.schema.items ≡ self.now.schema.now) × (copied.table.items ≡ self.now.table.now) × (kinds copied.types.items ≡ self.now.types)) }
+        ensures ok { IfOk result (λ copied. (copied.schema.items ≡ self.now.schema.now)
+            × (copied.table.items ≡ self.now.table.now)
+            × (kinds copied.types.items ≡ self.now.types)) }
         ensures err { OnErr result (result ≡ Err (record { kind = Memory; at = 0 })) }
     {
         Ok(TableDef {
@@ -95,11 +97,16 @@ pub(crate) struct Names<'a> {
 /// A field that does not fit is `Truncated` at its first byte. Nothing after the names is read.
 #[tactic(auto, unfolding(crate::specs::Table::names_fault))]
 pub(crate) fn read_names(bytes: &[u8]) -> Result<Names<'_>, EventFault>
-    ensures found { IfOk result (λ names. IsNamed names.id names.schema.now names.table.now (drop names.end bytes.now) (drop header_length bytes.now)) }
+    ensures found { IfOk result (λ names. IsNamed names.id names.schema.now names.table.now
+        (drop names.end bytes.now) (drop header_length bytes.now)) }
     ensures within { IfOk result (λ names. names.end ≤ length bytes.now) }
     ensures place { IfOk result (λ names. names.end ≡ terminator_place bytes.now + 1) }
-    ensures values { IfOk result (λ names. (names.id ≡ number_at 6 bytes.now 19) × (names.schema.now ≡ named_schema bytes.now) × (names.table.now ≡ named_table bytes.now)) }
-    ensures only { (id : ℕ) (schema table rest : List ℕ) → IsNamed id schema table rest (drop header_length bytes.now) → MatchResult result (λ names. (names.id ≡ id) × (names.schema.now ≡ schema) × (names.table.now ≡ table) × (drop names.end bytes.now ≡ rest)) (λ _. ⊥) }
+    ensures values { IfOk result (λ names. (names.id ≡ number_at 6 bytes.now 19)
+        × (names.schema.now ≡ named_schema bytes.now) × (names.table.now ≡ named_table bytes.now)) }
+    ensures only { (id : ℕ) (schema table rest : List ℕ)
+        → IsNamed id schema table rest (drop header_length bytes.now)
+        → MatchResult result (λ names. (names.id ≡ id) × (names.schema.now ≡ schema)
+        × (names.table.now ≡ table) × (drop names.end bytes.now ≡ rest)) (λ _. ⊥) }
     ensures fault { IfErr result (λ fault. names_fault bytes.now ≡ Some fault) }
     ensures none { IfOk result (λ _. names_fault bytes.now ≡ None) }
 {
@@ -148,9 +155,11 @@ impl<'a> ColumnPlace<'a> {
     /// Reads the names in a table map and the number of its columns, and finds the column whose type code is at the
     /// offset `at` in the event. `None` if the names or the number of columns cannot be read. Nothing after that number is read.
     pub fn find(event: &'a [u8], at: usize) -> Option<ColumnPlace<'a>>
-        ensures names { IfSome result (λ place. (place.schema.now ≡ named_schema event.now) × (place.table.now ≡ named_table event.now)) }
+        ensures names { IfSome result (λ place. (place.schema.now ≡ named_schema event.now)
+            × (place.table.now ≡ named_table event.now)) }
         ensures column { IfSome result (λ place. IfSome place.column (IsCodeOf event.now at)) }
-        ensures other { IfSome result (λ place. IfNone place.column ((column : ℕ) → IsCodeOf event.now at column → ⊥)) }
+        ensures other { IfSome result (λ place. IfNone place.column ((column : ℕ)
+            → IsCodeOf event.now at column → ⊥)) }
         ensures none { IfNone result (HasNoColumns event.now) }
     {
         let Ok(names) = read_names(event) else {
@@ -200,10 +209,12 @@ pub(crate) fn map_fits(map: &TableMap<'_>) -> bool
 /// Appends the body of a table map, or a part of it. All columns may be null, and no flags are set.
 pub(crate) fn write_table_map(map: &TableMap<'_>, out: &mut Vec<u8>) -> Result<(), EventFault>
     requires { HasMap (table_value map.now) }
-    ensures ok { OnOk result (out.new.items ≡ out.old.items ++ table_map_body (table_value map.now)) }
+    ensures ok { OnOk result (out.new.items ≡ out.old.items ++ table_map_body
+        (table_value map.now)) }
     ensures err { OnErr result (result ≡ Err (record { kind = Memory; at = 0 })) }
     ensures kept { OnErr result (take (length out.old.items) out.new.items ≡ out.old.items) }
-    ensures full { OnErr result (vec_capacity out.old < vec_len out.old + length (table_map_body (table_value map.now))) }
+    ensures full { OnErr result (vec_capacity out.old
+        < vec_len out.old + length (table_map_body (table_value map.now))) }
     ensures capacity { vec_capacity out.old ≤ vec_capacity out.new }
 {
     write_names(map, out)?;
@@ -221,7 +232,8 @@ fn write_names(map: &TableMap<'_>, out: &mut Vec<u8>) -> Result<(), EventFault>
     ensures ok { OnOk result (out.new.items ≡ out.old.items ++ names_bytes (table_value map.now)) }
     ensures err { OnErr result (result ≡ Err (record { kind = Memory; at = 0 })) }
     ensures kept { OnErr result (take (length out.old.items) out.new.items ≡ out.old.items) }
-    ensures full { OnErr result (vec_capacity out.old < vec_len out.old + length (names_bytes (table_value map.now))) }
+    ensures full { OnErr result (vec_capacity out.old
+        < vec_len out.old + length (names_bytes (table_value map.now))) }
     ensures capacity { vec_capacity out.old ≤ vec_capacity out.new }
 {
     let [a, b, c, d, e, f, ..] = map.id.to_le_bytes();

@@ -39,7 +39,8 @@ pub(crate) fn write_xid(number: u64, out: &mut Vec<u8>) -> Result<(), EventFault
     ensures ok { OnOk result (out.new.items ≡ out.old.items ++ little_bytes 8 number) }
     ensures err { OnErr result (result ≡ Err (record { kind = Memory; at = 0 })) }
     ensures kept { OnErr result (take (length out.old.items) out.new.items ≡ out.old.items) }
-    ensures full { OnErr result (vec_capacity out.old < vec_len out.old + length (little_bytes 8 number)) }
+    ensures full { OnErr result (vec_capacity out.old
+        < vec_len out.old + length (little_bytes 8 number)) }
     ensures capacity { vec_capacity out.old ≤ vec_capacity out.new }
 {
     out.extend_from_slice(&number.to_le_bytes())?;

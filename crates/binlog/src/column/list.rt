@@ -26,7 +26,8 @@ pub(crate) const MOST_COLUMNS: usize = 4096;
 pub(crate) fn read_columns(bytes: &[u8], at: usize) -> Result<ColumnTypes<'_>, EventFault>
     requires { at ≤ length bytes.now }
     ensures found { IfOk result (λ columns. AreColumns columns (drop at bytes.now)) }
-    ensures only { (kinds : List ColumnKind) → AreColumns kinds (drop at bytes.now) → MatchResult result (λ columns. columns ≡ kinds) (λ _. ⊥) }
+    ensures only { (kinds : List ColumnKind) → AreColumns kinds (drop at bytes.now)
+        → MatchResult result (λ columns. columns ≡ kinds) (λ _. ⊥) }
     ensures fault { IfErr result (λ fault. columns_fault bytes.now at ≡ Some fault) }
     ensures none { IfOk result (λ _. columns_fault bytes.now at ≡ None) }
 {
@@ -38,7 +39,8 @@ pub(crate) fn read_columns(bytes: &[u8], at: usize) -> Result<ColumnTypes<'_>, E
 fn find_columns(bytes: &[u8], at: usize) -> Result<(&[u8], &[u8]), EventFault>
     requires { at ≤ length bytes.now }
     ensures codes { IfOk result (λ found. found.0.now ≡ codes_at bytes.now at) }
-    ensures metadata { IfOk result (λ found. found.1.now ≡ drop (metadata_place bytes.now at) bytes.now) }
+    ensures metadata { IfOk result (λ found. found.1.now
+        ≡ drop (metadata_place bytes.now at) bytes.now) }
     ensures none { IfOk result (λ _. columns_fault bytes.now at ≡ None) }
     ensures fault { IfErr result (λ fault. columns_fault bytes.now at ≡ Some fault) }
 {
@@ -69,7 +71,8 @@ fn find_columns(bytes: &[u8], at: usize) -> Result<(&[u8], &[u8]), EventFault>
 /// Reads the number of columns at an offset, and how many bytes it takes.
 fn read_number(bytes: &[u8], at: usize) -> Result<(usize, usize), EventFault>
     requires { at ≤ length bytes.now }
-    ensures value { IfOk result (λ read. (read.0 ≡ count_at bytes.now at) × (read.1 ≡ count_width bytes.now at)) }
+    ensures value { IfOk result (λ read. (read.0 ≡ count_at bytes.now at)
+        × (read.1 ≡ count_width bytes.now at)) }
     ensures range { IfOk result (λ read. (1 ≤ read.0) × (read.0 ≤ most_columns)) }
     ensures within { IfOk result (λ read. at + read.1 ≤ length bytes.now) }
     ensures whole { IfOk result (λ _. no_count bytes.now at Columns ≡ None) }
@@ -108,7 +111,8 @@ fn check_metadata(codes: &[u8], bytes: &[u8], start: usize) -> Result<(), EventF
     requires read { types_fault 0 codes.now ≡ None }
     requires long { start + sum_by metadata_length codes.now ≤ length bytes.now }
     ensures none { OnOk result (all_metadata_fault bytes.now start codes.now ≡ None) }
-    ensures fault { IfErr result (λ fault. all_metadata_fault bytes.now start codes.now ≡ Some fault) }
+    ensures fault { IfErr result (λ fault. all_metadata_fault bytes.now start codes.now
+        ≡ Some fault) }
 {
     let mut place = start;
     for i in 0..codes.len() {
@@ -125,7 +129,8 @@ pub(crate) fn write_codes(columns: &ColumnTypes<'_>, out: &mut Vec<u8>) -> Resul
     ensures ok { OnOk result (out.new.items ≡ out.old.items ++ map type_code columns.now) }
     ensures err { OnErr result (result ≡ Err (record { kind = Memory; at = 0 })) }
     ensures kept { OnErr result (take (length out.old.items) out.new.items ≡ out.old.items) }
-    ensures full { OnErr result (vec_capacity out.old < vec_len out.old + length (map type_code columns.now)) }
+    ensures full { OnErr result (vec_capacity out.old
+        < vec_len out.old + length (map type_code columns.now)) }
     ensures capacity { vec_capacity out.old ≤ vec_capacity out.new }
 {
     for column in columns.iter() {
@@ -154,7 +159,8 @@ pub(crate) fn write_all_metadata(
     ensures ok { OnOk result (out.new.items ≡ out.old.items ++ flat_map metadata columns.now) }
     ensures err { OnErr result (result ≡ Err (record { kind = Memory; at = 0 })) }
     ensures kept { OnErr result (take (length out.old.items) out.new.items ≡ out.old.items) }
-    ensures full { OnErr result (vec_capacity out.old < vec_len out.old + length (flat_map metadata columns.now)) }
+    ensures full { OnErr result (vec_capacity out.old
+        < vec_len out.old + length (flat_map metadata columns.now)) }
     ensures capacity { vec_capacity out.old ≤ vec_capacity out.new }
 {
     for column in columns.iter() {

@@ -18,7 +18,8 @@ impl ColumnType {
     /// `ColumnType`.
     pub(crate) fn read(code: u8, bytes: &[u8]) -> Result<(ColumnType, &[u8]), EventFaultKind>
         ensures found { IfOk result (λ read. IsColumn read.0.kind code read.1.now bytes.now) }
-        ensures only { (kind : ColumnKind) (rest : List ℕ) → IsColumn kind code rest bytes.now → MatchResult result (λ read. (read.0.kind ≡ kind) × (read.1.now ≡ rest)) (λ _. ⊥) }
+        ensures only { (kind : ColumnKind) (rest : List ℕ) → IsColumn kind code rest bytes.now
+            → MatchResult result (λ read. (read.0.kind ≡ kind) × (read.1.now ≡ rest)) (λ _. ⊥) }
         ensures fault { IfErr result (λ kind. column_fault code bytes.now ≡ Some kind) }
     {
         match metadata_size(code) {
@@ -42,8 +43,10 @@ impl ColumnType {
     /// Appends the type's metadata. The only error is `Memory`, which leaves the vector as it was.
     pub(crate) fn write_metadata(self, out: &mut Vec<u8>) -> Result<(), EventFault>
         ensures ok { OnOk result (out.new.items ≡ out.old.items ++ metadata self.kind) }
-        ensures err { OnErr result ((result ≡ Err (record { kind = Memory; at = 0 })) × (out.new.items ≡ out.old.items)) }
-        ensures full { OnErr result (vec_capacity out.old < vec_len out.old + length (metadata self.kind)) }
+        ensures err { OnErr result ((result ≡ Err (record { kind = Memory; at = 0 }))
+            × (out.new.items ≡ out.old.items)) }
+        ensures full { OnErr result (vec_capacity out.old
+            < vec_len out.old + length (metadata self.kind)) }
         ensures capacity { vec_capacity out.old ≤ vec_capacity out.new }
     {
         match self.kind {
@@ -125,7 +128,8 @@ fn by_byte(code: u8, first: u8) -> Result<ColumnType, EventFaultKind>
     requires { metadata_size code ≡ Some 1 }
     ensures code { IfOk result (λ column. type_code column.kind ≡ code) }
     ensures metadata { IfOk result (λ column. metadata column.kind ≡ first ∷ []) }
-    ensures fault { IfErr result (λ kind. (second : ℕ) → metadata_fault code first second ≡ Some kind) }
+    ensures fault { IfErr result (λ kind. (second : ℕ)
+        → metadata_fault code first second ≡ Some kind) }
 {
     match code {
         codes::FLOAT if first == 4 => Ok(ColumnType::of(ColumnKind::Float)),
@@ -169,7 +173,8 @@ fn by_bytes(code: u8, first: u8, second: u8) -> Result<ColumnType, EventFaultKin
 fn string(first: u8, second: u8) -> Result<ColumnType, EventFaultKind>
     ensures code { IfOk result (λ column. type_code column.kind ≡ column_code.string) }
     ensures metadata { IfOk result (λ column. metadata column.kind ≡ first ∷ second ∷ []) }
-    ensures fault { IfErr result (λ kind. string_fault (real_type first) (string_length first second) ≡ Some kind) }
+    ensures fault { IfErr result (λ kind. string_fault (real_type first)
+        (string_length first second) ≡ Some kind) }
 {
     let size = u16::from(second) + 16 * u16::from((first & 0x30) ^ 0x30);
     match first | 0x30 {

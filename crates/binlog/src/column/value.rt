@@ -245,10 +245,12 @@ pub(crate) fn write_value(
 ) -> Result<(), EventFault>
     requires readable { IsTrue (is_readable shape) }
     requires fits { IsTrue (value_fits shape (owned_value cell.now)) }
-    ensures ok { OnOk result (out.new.items ≡ out.old.items ++ value_bytes shape (owned_value cell.now)) }
+    ensures ok { OnOk result (out.new.items ≡ out.old.items ++ value_bytes shape
+        (owned_value cell.now)) }
     ensures err { OnErr result (result ≡ Err (record { kind = Memory; at = 0 })) }
     ensures kept { OnErr result (take (length out.old.items) out.new.items ≡ out.old.items) }
-    ensures full { OnErr result (vec_capacity out.old < vec_len out.old + length (value_bytes shape (owned_value cell.now))) }
+    ensures full { OnErr result (vec_capacity out.old
+        < vec_len out.old + length (value_bytes shape (owned_value cell.now))) }
     ensures capacity { vec_capacity out.old ≤ vec_capacity out.new }
 {
     match cell {

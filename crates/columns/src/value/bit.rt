@@ -15,9 +15,12 @@ pub fn read_bits(bits: u8, cell: Cell<'_>) -> Result<u64, CellFault>
     requires some { 1 ≤ bits }
     requires few { bits ≤ 64 }
     ensures small { IfOk result (λ number. number < 2 ^ bits) }
-    ensures found { IfOk result (λ number. cell_value cell.entry ≡ bytes_cell (bit_bytes bits number)) }
-    ensures only { (number : ℕ) → number < 2 ^ bits → cell_value cell.entry ≡ bytes_cell (bit_bytes bits number) → result ≡ Ok number }
-    ensures fault { IfErr result (λ fault. fault ≡ bytes_fault (bit_size bits) (cell_value cell.entry)) }
+    ensures found { IfOk result (λ number. cell_value cell.entry
+        ≡ bytes_cell (bit_bytes bits number)) }
+    ensures only { (number : ℕ) → number < 2 ^ bits
+        → cell_value cell.entry ≡ bytes_cell (bit_bytes bits number) → result ≡ Ok number }
+    ensures fault { IfErr result (λ fault. fault
+        ≡ bytes_fault (bit_size bits) (cell_value cell.entry)) }
 {
     let Cell::Bytes(bytes) = cell else {
         return Err(CellFault::Kind);
@@ -34,7 +37,8 @@ fn of_bytes(bits: u8, bytes: &[u8]) -> Option<u64>
     requires few { bits ≤ 64 }
     ensures small { IfSome result (λ number. number < 2 ^ bits) }
     ensures found { IfSome result (λ number. bytes.now ≡ bit_bytes bits number) }
-    ensures only { (number : ℕ) → number < 2 ^ bits → bytes.now ≡ bit_bytes bits number → result ≡ Some number }
+    ensures only { (number : ℕ) → number < 2 ^ bits → bytes.now ≡ bit_bytes bits number
+        → result ≡ Some number }
 {
     if bytes.len() != size_of_bits(bits) {
         return None;
@@ -56,7 +60,8 @@ pub(crate) fn write_bits(number: u64, bits: u8, out: &mut Vec<u8>) -> Result<(),
     requires few { bits ≤ 64 }
     ensures ok { OnOk result (out.new.items ≡ out.old.items ++ bit_bytes bits number) }
     ensures err { OnErr result (out.new.items ≡ out.old.items) }
-    ensures full { OnErr result (vec_capacity out.old < vec_len out.old + length (bit_bytes bits number)) }
+    ensures full { OnErr result (vec_capacity out.old
+        < vec_len out.old + length (bit_bytes bits number)) }
 {
     let all = number.to_be_bytes();
     let (_, low) = all.split_at(8 - size_of_bits(bits));

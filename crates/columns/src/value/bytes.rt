@@ -10,7 +10,8 @@ pub(crate) fn read_big(bytes: &[u8]) -> u64
     requires { length bytes.now ≤ 8 }
     ensures bytes { bytes.now ≡ big_bytes (length bytes.now) result }
     ensures small { result < 256 ^ length bytes.now }
-    ensures only { (n : ℕ) → n < 256 ^ length bytes.now → bytes.now ≡ big_bytes (length bytes.now) n → result ≡ n }
+    ensures only { (n : ℕ) → n < 256 ^ length bytes.now → bytes.now ≡ big_bytes (length bytes.now) n
+        → result ≡ n }
 {
     if bytes.is_empty() {
         return 0;

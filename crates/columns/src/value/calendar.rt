@@ -1,8 +1,9 @@
 //! Days since 1970-01-01 as dates.
 
-ghost use Rattle.std.specs.Prelude.{◌≡◌, ◌≤◌, Some};
+ghost use Rattle.std.specs.Prelude.{◌≡◌, ◌≤◌, ◌*◌, ◌-◌, ℕ, Some, IfSome, IsSomeAnd};
 ghost use Rattle.columns.specs.Calendar as spec;
 ghost use Rattle.columns.specs.Calendar.{year_of, month_of, day_text};
+ghost use Rattle.columns.specs.CalendarDays.{IsDayOf, years_days, months_days};
 
 use std::fmt;
 
@@ -55,6 +56,55 @@ fn find_month(year: u16, days: u32) -> (u8, u32)
         left -= length;
     }
     (12, left)
+}
+
+/// How many days a date lies after 1970-01-01, if it is one that the calendar has, of the years 1970 to 2038.
+pub(crate) fn find_days(year: u16, month: u8, day: u8) -> Option<u32>
+    ensures found { IfSome result (λ days. IsDayOf days year month day) }
+    ensures only { (days : ℕ) → IsDayOf days year month day →
+        IsSomeAnd result (λ found. found ≡ days) }
+{
+    if day == 0 {
+        return None;
+    }
+    let after = u32::from(day - 1);
+    let days = days_before_year(year) + days_before_month(year, month) + after;
+    let (found_year, left) = find_year(days);
+    let (found_month, rest) = find_month(found_year, left);
+    if found_year != year {
+        return None;
+    }
+    if found_month != month {
+        return None;
+    }
+    if rest != after {
+        return None;
+    }
+    Some(days)
+}
+
+/// How many days the years from 1970 on have before this one.
+fn days_before_year(year: u16) -> u32
+    ensures days { result ≡ years_days (year - 1970) 1970 }
+    ensures few { result ≤ 366 * year }
+{
+    let mut days = 0;
+    for earlier in 1970..year {
+        days += year_length(earlier);
+    }
+    days
+}
+
+/// How many days the months of a year have before this one.
+fn days_before_month(year: u16, month: u8) -> u32
+    ensures days { result ≡ months_days year (month - 1) 1 }
+    ensures few { result ≤ 31 * month }
+{
+    let mut days = 0;
+    for earlier in 1..month {
+        days += month_length(year, earlier);
+    }
+    days
 }
 
 fn year_length(year: u16) -> u32

@@ -21,9 +21,12 @@ pub fn ordinal_width(members: u16) -> u8
 /// the empty text that the server keeps in place of a value that is no member.
 pub fn read_ordinal(members: u16, cell: Cell<'_>) -> Result<u16, CellFault>
     ensures few { IfOk result (λ ordinal. ordinal ≤ members) }
-    ensures found { IfOk result (λ ordinal. cell_value cell.entry ≡ number_cell ordinal (ordinal_size members)) }
-    ensures only { (ordinal : ℕ) → ordinal ≤ members → cell_value cell.entry ≡ number_cell ordinal (ordinal_size members) → result ≡ Ok ordinal }
-    ensures fault { IfErr result (λ fault. fault ≡ counted_fault (ordinal_size members) (cell_value cell.entry)) }
+    ensures found { IfOk result (λ ordinal. cell_value cell.entry
+        ≡ number_cell ordinal (ordinal_size members)) }
+    ensures only { (ordinal : ℕ) → ordinal ≤ members
+        → cell_value cell.entry ≡ number_cell ordinal (ordinal_size members) → result ≡ Ok ordinal }
+    ensures fault { IfErr result (λ fault. fault
+        ≡ counted_fault (ordinal_size members) (cell_value cell.entry)) }
 {
     let value = number_of(ordinal_width(members), cell)?;
     if value > u64::from(members) {
@@ -34,7 +37,8 @@ pub fn read_ordinal(members: u16, cell: Cell<'_>) -> Result<u16, CellFault>
 
 /// The cell of an ordinal in a column of an ENUM with so many members. `None` of one beyond the members.
 pub fn ordinal_cell(members: u16, ordinal: u16) -> Option<WrittenCell>
-    ensures found { IfSome result (λ cell. (ordinal ≤ members) × (cell ≡ Number ordinal (ordinal_size members))) }
+    ensures found { IfSome result (λ cell. (ordinal ≤ members)
+        × (cell ≡ Number ordinal (ordinal_size members))) }
     ensures none { IfNone result (members < ordinal) }
 {
     if ordinal > members {
@@ -61,9 +65,12 @@ pub fn set_width(members: u8) -> u8
 pub fn read_set(members: u8, cell: Cell<'_>) -> Result<u64, CellFault>
     requires { members ≤ 64 }
     ensures small { IfOk result (λ bits. bits < 2 ^ members) }
-    ensures found { IfOk result (λ bits. cell_value cell.entry ≡ number_cell bits (set_size members)) }
-    ensures only { (bits : ℕ) → bits < 2 ^ members → cell_value cell.entry ≡ number_cell bits (set_size members) → result ≡ Ok bits }
-    ensures fault { IfErr result (λ fault. fault ≡ counted_fault (set_size members) (cell_value cell.entry)) }
+    ensures found { IfOk result (λ bits. cell_value cell.entry
+        ≡ number_cell bits (set_size members)) }
+    ensures only { (bits : ℕ) → bits < 2 ^ members
+        → cell_value cell.entry ≡ number_cell bits (set_size members) → result ≡ Ok bits }
+    ensures fault { IfErr result (λ fault. fault
+        ≡ counted_fault (set_size members) (cell_value cell.entry)) }
 {
     let value = number_of(set_width(members), cell)?;
     if members == 64 {
@@ -79,7 +86,8 @@ pub fn read_set(members: u8, cell: Cell<'_>) -> Result<u64, CellFault>
 /// is beyond the members.
 pub fn set_cell(members: u8, bits: u64) -> Option<WrittenCell>
     requires { members ≤ 64 }
-    ensures found { IfSome result (λ cell. (bits < 2 ^ members) × (cell ≡ Number bits (set_size members))) }
+    ensures found { IfSome result (λ cell. (bits < 2 ^ members)
+        × (cell ≡ Number bits (set_size members))) }
     ensures none { IfNone result (2 ^ members ≤ bits) }
 {
     if !has_bits(bits, members) {
@@ -94,7 +102,8 @@ pub fn set_cell(members: u8, bits: u64) -> Option<WrittenCell>
 /// The number in a cell of so many bytes.
 fn number_of(width: u8, cell: Cell<'_>) -> Result<u64, CellFault>
     ensures found { IfOk result (λ value. cell_value cell.entry ≡ number_cell value width) }
-    ensures only { (value : ℕ) → cell_value cell.entry ≡ number_cell value width → result ≡ Ok value }
+    ensures only { (value : ℕ) → cell_value cell.entry ≡ number_cell value width
+        → result ≡ Ok value }
     ensures fault { IfErr result (λ fault. fault ≡ counted_fault width (cell_value cell.entry)) }
 {
     let Cell::Number {

@@ -24,7 +24,8 @@ impl Date {
     /// The date, if its parts are in range.
     pub fn new(year: u16, month: u8, day: u8) -> Option<Date>
         ensures lawful { IsSome result ↔ IsTrue (is_date year month day) }
-        ensures parts { IfSome result (λ made. (made.year ≡ year) × (made.month ≡ month) × (made.day ≡ day)) }
+        ensures parts { IfSome result (λ made. (made.year ≡ year) × (made.month ≡ month)
+            × (made.day ≡ day)) }
     {
         if year <= 9999 && month <= 12 && day <= 31 {
             Some(Date { year, month, day })
@@ -36,9 +37,12 @@ impl Date {
     /// The date that a cell stands for: three bytes, the lowest first, with the day in the lowest 5 bits, the month in
     /// 4, and then the year.
     pub fn read(cell: Cell<'_>) -> Result<Date, CellFault>
-        ensures found { IfOk result (λ made. cell_value cell.entry ≡ bytes_cell (date_bytes made.year made.month made.day)) }
-        ensures only { (year month day : ℕ) → IsTrue (is_date year month day) → cell_value cell.entry ≡ bytes_cell (date_bytes year month day) →
-            IsOkAnd result (λ made. (made.year ≡ year) × (made.month ≡ month) × (made.day ≡ day)) }
+        ensures found { IfOk result (λ made. cell_value cell.entry
+            ≡ bytes_cell (date_bytes made.year made.month made.day)) }
+        ensures only { (year month day : ℕ) → IsTrue (is_date year month day)
+            → cell_value cell.entry ≡ bytes_cell (date_bytes year month day)
+            → IsOkAnd result (λ made. (made.year ≡ year) × (made.month ≡ month)
+            × (made.day ≡ day)) }
         ensures fault { IfErr result (λ fault. fault ≡ bytes_fault 3 (cell_value cell.entry)) }
     {
         let Cell::Bytes(bytes) = cell else {
@@ -75,8 +79,9 @@ impl fmt::Display for Date {
 /// The date of three bytes.
 fn of_bytes(bytes: &[u8]) -> Option<Date>
     ensures found { IfSome result (λ made. bytes.now ≡ date_bytes made.year made.month made.day) }
-    ensures only { (year month day : ℕ) → IsTrue (is_date year month day) → bytes.now ≡ date_bytes year month day →
-        IsSomeAnd result (λ made. (made.year ≡ year) × (made.month ≡ month) × (made.day ≡ day)) }
+    ensures only { (year month day : ℕ) → IsTrue (is_date year month day)
+        → bytes.now ≡ date_bytes year month day → IsSomeAnd result (λ made. (made.year ≡ year)
+        × (made.month ≡ month) × (made.day ≡ day)) }
 {
     if bytes.len() != 3 {
         return None;
@@ -89,8 +94,9 @@ fn of_bytes(bytes: &[u8]) -> Option<Date>
 fn of_number(number: u32) -> Option<Date>
     requires { number < 256 ^ 3 }
     ensures found { IfSome result (λ made. number ≡ made.year * 512 + made.month * 32 + made.day) }
-    ensures only { (year month day : ℕ) → IsTrue (is_date year month day) → number ≡ year * 512 + month * 32 + day →
-        IsSomeAnd result (λ made. (made.year ≡ year) × (made.month ≡ month) × (made.day ≡ day)) }
+    ensures only { (year month day : ℕ) → IsTrue (is_date year month day)
+        → number ≡ year * 512 + month * 32 + day → IsSomeAnd result (λ made. (made.year ≡ year)
+        × (made.month ≡ month) × (made.day ≡ day)) }
 {
     let day = (number % 32) as u8;
     let month = (number / 32 % 16) as u8;

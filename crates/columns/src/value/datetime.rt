@@ -20,7 +20,8 @@ impl Datetime {
     /// The value, if the time is one of a day.
     pub fn new(date: Date, hour: u8, minute: u8, second: u8, fraction: Fraction) -> Option<Datetime>
         ensures lawful { IsSome result ↔ IsTrue (is_clock hour minute second) }
-        ensures parts { IfSome result (λ made. (made.date ≡ date) × IsSameClock made hour minute second × (made.fraction ≡ fraction)) }
+        ensures parts { IfSome result (λ made. (made.date ≡ date)
+            × IsSameClock made hour minute second × (made.fraction ≡ fraction)) }
     {
         if hour <= 23 && minute <= 59 && second <= 59 {
             Some(Datetime {
@@ -40,10 +41,13 @@ impl Datetime {
     pub fn read(digits: u8, cell: Cell<'_>) -> Result<Datetime, CellFault>
         requires { digits ≤ 6 }
         ensures digits { IfOk result (λ made. made.fraction.digits ≡ digits) }
-        ensures found { IfOk result (λ made. cell_value cell.entry ≡ bytes_cell (moment_bytes made)) }
-        ensures only { (other : Datetime) → other.fraction.digits ≡ digits → cell_value cell.entry ≡ bytes_cell (moment_bytes other) →
-            IsOkAnd result (λ made. IsSameMoment made other) }
-        ensures fault { IfErr result (λ fault. fault ≡ bytes_fault (5 + fraction_size digits) (cell_value cell.entry)) }
+        ensures found { IfOk result (λ made. cell_value cell.entry
+            ≡ bytes_cell (moment_bytes made)) }
+        ensures only { (other : Datetime) → other.fraction.digits ≡ digits
+            → cell_value cell.entry ≡ bytes_cell (moment_bytes other)
+            → IsOkAnd result (λ made. IsSameMoment made other) }
+        ensures fault { IfErr result (λ fault. fault
+            ≡ bytes_fault (5 + fraction_size digits) (cell_value cell.entry)) }
     {
         let Cell::Bytes(bytes) = cell else {
             return Err(CellFault::Kind);
@@ -59,7 +63,8 @@ impl Datetime {
     pub fn write(self, out: &mut Vec<u8>) -> Result<(), AllocError>
         ensures ok { OnOk result (out.new.items ≡ out.old.items ++ moment_bytes self) }
         ensures err { OnErr result (out.new.items ≡ out.old.items) }
-        ensures full { OnErr result (vec_capacity out.old < vec_len out.old + length (moment_bytes self)) }
+        ensures full { OnErr result (vec_capacity out.old
+            < vec_len out.old + length (moment_bytes self)) }
     {
         let date = (u64::from(self.date.year) * 13 + u64::from(self.date.month)) * 32
             + u64::from(self.date.day);
@@ -97,7 +102,8 @@ fn of_bytes(digits: u8, bytes: &[u8]) -> Option<Datetime>
     requires { digits ≤ 6 }
     ensures digits { IfSome result (λ made. made.fraction.digits ≡ digits) }
     ensures found { IfSome result (λ made. bytes.now ≡ moment_bytes made) }
-    ensures only { (other : Datetime) → other.fraction.digits ≡ digits → bytes.now ≡ moment_bytes other → IsSomeAnd result (λ made. IsSameMoment made other) }
+    ensures only { (other : Datetime) → other.fraction.digits ≡ digits
+        → bytes.now ≡ moment_bytes other → IsSomeAnd result (λ made. IsSameMoment made other) }
 {
     let (front, end) = bytes.split_at_checked(5)?;
     let fraction = Fraction::of_bytes(digits, end)?;
@@ -108,10 +114,14 @@ fn of_bytes(digits: u8, bytes: &[u8]) -> Option<Datetime>
 fn of_number(number: u64, fraction: Fraction) -> Option<Datetime>
     requires { number < 2 ^ 40 }
     ensures fraction { IfSome result (λ made. made.fraction ≡ fraction) }
-    ensures found { IfSome result (λ made. number ≡ moment_number made.date.year made.date.month made.date.day (clock_number made.hour made.minute made.second)) }
-    ensures only { (year month day hour minute second : ℕ) → IsTrue (is_date year month day) → IsTrue (is_clock hour minute second) →
-        number ≡ moment_number year month day (clock_number hour minute second) →
-        IsSomeAnd result (λ made. (made.date.year ≡ year) × (made.date.month ≡ month) × (made.date.day ≡ day) × IsSameClock made hour minute second) }
+    ensures found { IfSome result (λ made. number
+        ≡ moment_number made.date.year made.date.month made.date.day
+        (clock_number made.hour made.minute made.second)) }
+    ensures only { (year month day hour minute second : ℕ) → IsTrue (is_date year month day)
+        → IsTrue (is_clock hour minute second) → number
+        ≡ moment_number year month day (clock_number hour minute second)
+        → IsSomeAnd result (λ made. (made.date.year ≡ year) × (made.date.month ≡ month)
+        × (made.date.day ≡ day) × IsSameClock made hour minute second) }
 {
     let packed = number.checked_sub(1 << 39)?;
     let date = date_of(packed / 131_072)?;
@@ -122,8 +132,9 @@ fn of_number(number: u64, fraction: Fraction) -> Option<Datetime>
 fn date_of(number: u64) -> Option<Date>
     requires { number < 2 ^ 22 }
     ensures found { IfSome result (λ made. number ≡ (made.year * 13 + made.month) * 32 + made.day) }
-    ensures only { (year month day : ℕ) → IsTrue (is_date year month day) → number ≡ (year * 13 + month) * 32 + day →
-        IsSomeAnd result (λ made. (made.year ≡ year) × (made.month ≡ month) × (made.day ≡ day)) }
+    ensures only { (year month day : ℕ) → IsTrue (is_date year month day)
+        → number ≡ (year * 13 + month) * 32 + day
+        → IsSomeAnd result (λ made. (made.year ≡ year) × (made.month ≡ month) × (made.day ≡ day)) }
 {
     let day = (number % 32) as u8;
     let months = number / 32;
@@ -138,8 +149,9 @@ fn of_clock(date: Date, clock: u32, fraction: Fraction) -> Option<Datetime>
     ensures date { IfSome result (λ made. made.date ≡ date) }
     ensures fraction { IfSome result (λ made. made.fraction ≡ fraction) }
     ensures found { IfSome result (λ made. clock ≡ clock_number made.hour made.minute made.second) }
-    ensures only { (hour minute second : ℕ) → IsTrue (is_clock hour minute second) → clock ≡ clock_number hour minute second →
-        IsSomeAnd result (λ made. IsSameClock made hour minute second) }
+    ensures only { (hour minute second : ℕ) → IsTrue (is_clock hour minute second)
+        → clock ≡ clock_number hour minute second
+        → IsSomeAnd result (λ made. IsSameClock made hour minute second) }
 {
     let hour = (clock / 4096) as u8;
     let minute = (clock / 64 % 64) as u8;

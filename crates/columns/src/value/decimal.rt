@@ -44,11 +44,14 @@ impl Decimal {
         requires short { scale ≤ 30 }
         ensures precision { IfOk result (λ made. made.precision ≡ precision) }
         ensures scale { IfOk result (λ made. made.scale ≡ scale) }
-        ensures found { IfOk result (λ made. cell_value cell.entry ≡ bytes_cell (decimal_bytes made.negative precision scale made.digits)) }
-        ensures only { (other : Decimal) → other.precision ≡ precision → other.scale ≡ scale →
-            cell_value cell.entry ≡ bytes_cell (decimal_bytes other.negative precision scale other.digits) →
-            IsOkAnd result (λ made. (made.negative ≡ other.negative) × (made.digits ≡ other.digits)) }
-        ensures fault { IfErr result (λ fault. fault ≡ bytes_fault (decimal_size precision scale) (cell_value cell.entry)) }
+        ensures found { IfOk result (λ made. cell_value cell.entry
+            ≡ bytes_cell (decimal_bytes made.negative precision scale made.digits)) }
+        ensures only { (other : Decimal) → other.precision ≡ precision → other.scale ≡ scale
+            → cell_value cell.entry ≡ bytes_cell (decimal_bytes other.negative precision scale
+            other.digits) → IsOkAnd result (λ made. (made.negative ≡ other.negative)
+            × (made.digits ≡ other.digits)) }
+        ensures fault { IfErr result (λ fault. fault
+            ≡ bytes_fault (decimal_size precision scale) (cell_value cell.entry)) }
     {
         let Cell::Bytes(bytes) = cell else {
             return Err(CellFault::Kind);
@@ -62,9 +65,12 @@ impl Decimal {
     /// Appends the bytes of the value in a cell. The only error is that the vector lacks the room and cannot grow. It
     /// leaves the vector as it was.
     pub fn write(self, out: &mut Vec<u8>) -> Result<(), AllocError>
-        ensures ok { OnOk result (out.new.items ≡ out.old.items ++ decimal_bytes self.negative self.precision self.scale self.digits) }
+        ensures ok { OnOk result (out.new.items ≡ out.old.items ++ decimal_bytes self.negative
+            self.precision self.scale self.digits) }
         ensures err { OnErr result (out.new.items ≡ out.old.items) }
-        ensures full { OnErr result (vec_capacity out.old < vec_len out.old + length (decimal_bytes self.negative self.precision self.scale self.digits)) }
+        ensures full { OnErr result (vec_capacity out.old
+            < vec_len out.old + length (decimal_bytes self.negative self.precision self.scale
+            self.digits)) }
     {
         let size = size(self.precision, self.scale);
         let (sizes, count) = groups(self.precision, self.scale);
@@ -130,7 +136,8 @@ fn of_bytes(precision: u8, scale: u8, bytes: &[u8]) -> Option<Decimal>
     requires short { scale ≤ 30 }
     ensures precision { IfSome result (λ made. made.precision ≡ precision) }
     ensures scale { IfSome result (λ made. made.scale ≡ scale) }
-    ensures found { IfSome result (λ made. bytes.now ≡ decimal_bytes made.negative precision scale made.digits) }
+    ensures found { IfSome result (λ made. bytes.now
+        ≡ decimal_bytes made.negative precision scale made.digits) }
     ensures only { (other : Decimal) → other.precision ≡ precision → other.scale ≡ scale →
         bytes.now ≡ decimal_bytes other.negative precision scale other.digits →
         IsSomeAnd result (λ made. (made.negative ≡ other.negative) × (made.digits ≡ other.digits)) }
@@ -189,9 +196,9 @@ fn read_groups(sizes: &[u8], bytes: &[u8], digits: &mut [u8]) -> bool
     ensures lawful { IsTrue (are_digits digits.new) }
     ensures rest { drop (sum sizes.now) digits.new ≡ drop (sum sizes.now) digits.old }
     ensures found { IsTrue result → bytes.now ≡ groups_bytes sizes.now digits.new }
-    ensures only { (other : List ℕ) → length other ≡ length digits.old → IsTrue (are_digits other) →
-        drop (sum sizes.now) other ≡ drop (sum sizes.now) digits.old → bytes.now ≡ groups_bytes sizes.now other →
-        IsTrue result × (digits.new ≡ other) }
+    ensures only { (other : List ℕ) → length other ≡ length digits.old → IsTrue (are_digits other)
+        → drop (sum sizes.now) other ≡ drop (sum sizes.now) digits.old
+        → bytes.now ≡ groups_bytes sizes.now other → IsTrue result × (digits.new ≡ other) }
 {
     let [size, sizes @ ..] = sizes else {
         return true;
@@ -207,9 +214,12 @@ fn read_group(bytes: &[u8], digits: &mut [u8]) -> bool
     requires bytes { length bytes.now ≤ 4 }
     requires lawful { IsTrue (are_digits digits.old) }
     ensures lawful { IsTrue (are_digits digits.new) }
-    ensures found { IsTrue result → bytes.now ≡ big_bytes (length bytes.now) (digits_number digits.new) }
-    ensures only { (other : List ℕ) → length other ≡ length digits.old → IsTrue (are_digits other) → digits_number other < 256 ^ length bytes.now →
-        bytes.now ≡ big_bytes (length bytes.now) (digits_number other) → IsTrue result × (digits.new ≡ other) }
+    ensures found { IsTrue result → bytes.now ≡ big_bytes (length bytes.now)
+        (digits_number digits.new) }
+    ensures only { (other : List ℕ) → length other ≡ length digits.old → IsTrue (are_digits other)
+        → digits_number other < 256 ^ length bytes.now
+        → bytes.now ≡ big_bytes (length bytes.now) (digits_number other)
+        → IsTrue result × (digits.new ≡ other) }
 {
     let number = read_big(bytes);
     if number >= 10u64.pow(digits.len() as u32) {
@@ -341,7 +351,8 @@ fn filled_width(decimal: Decimal) -> usize
 
 /// How many bytes the text has.
 fn text_length(decimal: Decimal) -> usize
-    ensures { result ≡ length (decimal_text decimal.negative decimal.precision decimal.scale decimal.digits) }
+    ensures { result ≡ length (decimal_text decimal.negative decimal.precision decimal.scale
+        decimal.digits) }
 {
     let digits = &decimal.digits[..usize::from(decimal.precision)];
     let (whole, fraction) = digits.split_at(usize::from(decimal.precision - decimal.scale));

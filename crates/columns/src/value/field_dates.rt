@@ -103,7 +103,7 @@ impl Time {
 }
 
 /// Whether a minus sign stands at the front of a text, and what follows it.
-fn split_sign(text: &[u8]) -> (bool, &[u8])
+pub(crate) fn split_sign(text: &[u8]) -> (bool, &[u8])
     ensures found { text.now ≡ minus_part result.0 ++ result.1.now }
     ensures only { (negative : Bool) (rest : List ℕ) → ((more : List ℕ) →
         rest ≡ byte "-" ∷ more → ⊥) →
@@ -121,7 +121,8 @@ fn read_clock(digits: u8, text: &[u8]) -> Option<(u16, u8, u8, Fraction)>
     ensures hour { IfSome result (λ read. read.0 < 1000) }
     ensures clock { IfSome result (λ read. IsClockRange read.1 read.2) }
     ensures digits { IfSome result (λ read. read.3.digits ≡ digits) }
-    ensures found { IfSome result (λ read. text.now ≡ clock_text read.0 read.1 read.2 digits read.3.number) }
+    ensures found { IfSome result (λ read. text.now
+        ≡ clock_text read.0 read.1 read.2 digits read.3.number) }
     ensures only { (hour minute second number : ℕ) → hour < 1000 → IsClockRange minute second →
         IsTrue (is_fraction digits number) →
         text.now ≡ clock_text hour minute second digits number →

@@ -79,7 +79,8 @@ pub(crate) struct DateParts {
 /// `YYYY-MM-DD` at the front of a text, and what follows it.
 pub(crate) fn take_date(text: &[u8]) -> Option<(DateParts, &[u8])>
     ensures small { IfSome result (λ taken. IsDateRange taken.0.year taken.0.month taken.0.day) }
-    ensures found { IfSome result (λ taken. text.now ≡ date_text taken.0.year taken.0.month taken.0.day ++ taken.1.now) }
+    ensures found { IfSome result (λ taken. text.now
+        ≡ date_text taken.0.year taken.0.month taken.0.day ++ taken.1.now) }
     ensures only { (year month day : ℕ) (rest : List ℕ) → IsDateRange year month day →
         text.now ≡ date_text year month day ++ rest →
         IsSomeAnd result (λ taken. (taken.0.year ≡ year) × (taken.0.month ≡ month) ×
@@ -162,12 +163,14 @@ pub(crate) struct MomentParts {
 /// `YYYY-MM-DD HH:MM:SS` and the fraction with so many digits that a text is.
 pub(crate) fn read_moment(digits: u8, text: &[u8]) -> Option<MomentParts>
     requires { digits ≤ 6 }
-    ensures date { IfSome result (λ read. IsDateRange read.date.year read.date.month read.date.day) }
+    ensures date { IfSome result (λ read. IsDateRange read.date.year read.date.month
+        read.date.day) }
     ensures hour { IfSome result (λ read. read.hour < 100) }
     ensures clock { IfSome result (λ read. IsClockRange read.minute read.second) }
     ensures digits { IfSome result (λ read. read.fraction.digits ≡ digits) }
-    ensures found { IfSome result (λ read. text.now ≡ date_text read.date.year read.date.month read.date.day ++
-        byte " " ∷ clock_text read.hour read.minute read.second digits read.fraction.number) }
+    ensures found { IfSome result (λ read. text.now
+        ≡ date_text read.date.year read.date.month read.date.day ++ byte " "
+        ∷ clock_text read.hour read.minute read.second digits read.fraction.number) }
     ensures only { (year month day hour minute second number : ℕ) → IsDateRange year month day →
         hour < 100 →
         IsClockRange minute second → IsTrue (is_fraction digits number) →

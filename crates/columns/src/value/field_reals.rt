@@ -34,6 +34,7 @@ pub fn read_double_field(field: &[u8]) -> Result<f64, FieldFault>
 /// The FLOAT that a field is, as [`read_double_field`] reads the number, which has to be a FLOAT's to the bit. `Text` if it
 /// is no number, `Range` if no finite FLOAT is it.
 pub fn read_float_field(field: &[u8]) -> Result<f32, FieldFault>
+    ensures finite { IfOk result (λ value. IsTrue (float_is_finite value)) }
     ensures found { IfOk result (λ value. parse_float binary64 field.now ≡ Some value) }
     ensures only { (bits : ℕ) → IsTrue (float_is_finite (from_bits binary32 bits)) →
         parse_float binary64 field.now ≡ Some (from_bits binary32 bits) →

@@ -62,7 +62,8 @@ fn plain_length(real: Scientific) -> usize
 
 /// How long the text of a column with (M,D) is.
 fn fixed_length(fixed: FixedReal) -> usize
-    ensures length { result ≡ length (fixed_text fixed.decimals fixed.real.negative fixed.real.number fixed.real.tens) }
+    ensures length { result ≡ length (fixed_text fixed.decimals fixed.real.negative
+        fixed.real.number fixed.real.tens) }
 {
     minus(fixed.real.negative).len() + decimals_length(fixed.decimals, fixed.real)
 }

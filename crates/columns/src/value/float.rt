@@ -17,7 +17,9 @@ pub fn read_float(cell: Cell<'_>) -> Result<f32, CellFault>
     ensures cell { IfOk result (λ value. IsFloatCell (cell_value cell.entry)) }
     ensures finite { IfOk result (λ value. IsTrue (float_is_finite value)) }
     ensures bits { IfOk result (λ value. IsFloatValue value (cell_value cell.entry)) }
-    ensures found { (bits : ℕ) → bits < 2 ^ 32 → cell_value cell.entry ≡ bytes_cell (little_bytes 4 bits) → IsTrue (is_float bits) → result ≡ Ok (from_bits binary32 bits) }
+    ensures found { (bits : ℕ) → bits < 2 ^ 32 → cell_value cell.entry
+        ≡ bytes_cell (little_bytes 4 bits) → IsTrue (is_float bits)
+        → result ≡ Ok (from_bits binary32 bits) }
     ensures none { IfErr result (λ _. IsFloatCell (cell_value cell.entry) → ⊥) }
     ensures fault { IfErr result (λ fault. fault ≡ bytes_fault 4 (cell_value cell.entry)) }
 {
@@ -39,7 +41,9 @@ pub fn read_double(cell: Cell<'_>) -> Result<f64, CellFault>
     ensures cell { IfOk result (λ value. IsDoubleCell (cell_value cell.entry)) }
     ensures finite { IfOk result (λ value. IsTrue (float_is_finite value)) }
     ensures bits { IfOk result (λ value. IsDoubleValue value (cell_value cell.entry)) }
-    ensures found { (bits : ℕ) → bits < 2 ^ 64 → cell_value cell.entry ≡ bytes_cell (little_bytes 8 bits) → IsTrue (is_double bits) → result ≡ Ok (from_bits binary64 bits) }
+    ensures found { (bits : ℕ) → bits < 2 ^ 64 → cell_value cell.entry
+        ≡ bytes_cell (little_bytes 8 bits) → IsTrue (is_double bits)
+        → result ≡ Ok (from_bits binary64 bits) }
     ensures none { IfErr result (λ _. IsDoubleCell (cell_value cell.entry) → ⊥) }
     ensures fault { IfErr result (λ fault. fault ≡ bytes_fault 8 (cell_value cell.entry)) }
 {

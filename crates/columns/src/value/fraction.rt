@@ -34,7 +34,8 @@ impl Fraction {
     pub(crate) fn of_stored(digits: u8, stored: u32) -> Option<Fraction>
         ensures digits { IfSome result (λ made. made.digits ≡ digits) }
         ensures found { IfSome result (λ made. stored ≡ even_digits digits made.number) }
-        ensures only { (number : ℕ) → IsTrue (is_fraction digits number) → stored ≡ even_digits digits number → IsSomeAnd result (λ made. made.number ≡ number) }
+        ensures only { (number : ℕ) → IsTrue (is_fraction digits number)
+            → stored ≡ even_digits digits number → IsSomeAnd result (λ made. made.number ≡ number) }
     {
         if digits % 2 == 0 {
             return Fraction::new(digits, stored);
@@ -50,7 +51,9 @@ impl Fraction {
         requires { digits ≤ 6 }
         ensures digits { IfSome result (λ made. made.digits ≡ digits) }
         ensures found { IfSome result (λ made. bytes.now ≡ fraction_bytes digits made.number) }
-        ensures only { (number : ℕ) → IsTrue (is_fraction digits number) → bytes.now ≡ fraction_bytes digits number → IsSomeAnd result (λ made. made.number ≡ number) }
+        ensures only { (number : ℕ) → IsTrue (is_fraction digits number)
+            → bytes.now ≡ fraction_bytes digits number
+            → IsSomeAnd result (λ made. made.number ≡ number) }
     {
         if bytes.len() != Fraction::size(digits) {
             return None;

@@ -81,9 +81,12 @@ impl Integer {
     /// The integer that a cell stands for in a column of this width and sign: two's complement, unless the type is
     /// unsigned.
     pub fn read(width: IntegerWidth, sign: Sign, cell: Cell<'_>) -> Result<Integer, CellFault>
-        ensures found { IfOk result (λ integer. IsIntegerCell width sign integer (cell_value cell.entry)) }
-        ensures only { (integer : Integer) → IsIntegerCell width sign integer (cell_value cell.entry) → result ≡ Ok integer }
-        ensures fault { IfErr result (λ fault. number_fault (byte_count width) (cell_value cell.entry) ≡ Some fault) }
+        ensures found { IfOk result (λ integer. IsIntegerCell width sign integer
+            (cell_value cell.entry)) }
+        ensures only { (integer : Integer) → IsIntegerCell width sign integer
+            (cell_value cell.entry) → result ≡ Ok integer }
+        ensures fault { IfErr result (λ fault. number_fault (byte_count width)
+            (cell_value cell.entry) ≡ Some fault) }
     {
         let value = read_number(width, cell)?;
         Ok(of_number(width, sign, value))
@@ -133,9 +136,11 @@ impl fmt::Display for Zerofilled {
 
 /// The number of a cell of this width.
 fn read_number(width: IntegerWidth, cell: Cell<'_>) -> Result<u64, CellFault>
-    ensures found { IfOk result (λ value. cell_value cell.entry ≡ number_cell value (byte_count width)) }
+    ensures found { IfOk result (λ value. cell_value cell.entry
+        ≡ number_cell value (byte_count width)) }
     ensures small { IfOk result (λ value. value < 2 * spec.half width) }
-    ensures fault { IfErr result (λ fault. number_fault (byte_count width) (cell_value cell.entry) ≡ Some fault) }
+    ensures fault { IfErr result (λ fault. number_fault (byte_count width) (cell_value cell.entry)
+        ≡ Some fault) }
 {
     let Cell::Number {
         value,

@@ -25,8 +25,10 @@ impl Scientific {
         ensures negative { result.negative ≡ self.negative }
         ensures near { tens_size result.tens ≤ tens_size self.tens + 17 }
         ensures kept { length (decimal self.number) ≤ digits → result ≡ self }
-        ensures rounded { digits < length (decimal self.number) → IsRounded self.number (10 ^ (length (decimal self.number) - digits)) result.number }
-        ensures tens { digits < length (decimal self.number) → result.tens ≡ spec.raised (length (decimal self.number) - digits) self.tens }
+        ensures rounded { digits < length (decimal self.number)
+            → IsRounded self.number (10 ^ (length (decimal self.number) - digits)) result.number }
+        ensures tens { digits < length (decimal self.number)
+            → result.tens ≡ spec.raised (length (decimal self.number) - digits) self.tens }
     {
         let count = digit_count(self.number);
         if count <= digits {
@@ -70,8 +72,10 @@ impl Scientific {
         ensures within { (tens : ℕ) → result.tens ≡ Down tens → tens ≤ decimals }
         ensures whole { (tens : ℕ) → self.tens ≡ Up tens → result ≡ self }
         ensures kept { (tens : ℕ) → self.tens ≡ Down tens → tens ≤ decimals → result ≡ self }
-        ensures rounded { (tens : ℕ) → self.tens ≡ Down tens → decimals < tens → IsRounded self.number (10 ^ (tens - decimals)) result.number }
-        ensures tens { (tens : ℕ) → self.tens ≡ Down tens → decimals < tens → result.tens ≡ (if decimals == 0 then Up 0 else Down decimals) }
+        ensures rounded { (tens : ℕ) → self.tens ≡ Down tens → decimals < tens
+            → IsRounded self.number (10 ^ (tens - decimals)) result.number }
+        ensures tens { (tens : ℕ) → self.tens ≡ Down tens → decimals < tens
+            → result.tens ≡ (if decimals == 0 then Up 0 else Down decimals) }
     {
         let PowerOfTen::Down(tens) = self.tens else {
             return self;

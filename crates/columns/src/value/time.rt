@@ -25,8 +25,10 @@ impl Time {
         second: u8,
         fraction: Fraction,
     ) -> Option<Time>
-        ensures lawful { IsSome result ↔ IsTrue (is_time negative hour minute second fraction.number) }
-        ensures parts { IfSome result (λ made. (made.negative ≡ negative) × HasClock made hour minute second × (made.fraction ≡ fraction)) }
+        ensures lawful { IsSome result ↔ IsTrue (is_time negative hour minute second
+            fraction.number) }
+        ensures parts { IfSome result (λ made. (made.negative ≡ negative)
+            × HasClock made hour minute second × (made.fraction ≡ fraction)) }
     {
         if hour > 838 || minute > 59 || second > 59 {
             return None;
@@ -51,10 +53,13 @@ impl Time {
     pub fn read(digits: u8, cell: Cell<'_>) -> Result<Time, CellFault>
         requires { digits ≤ 6 }
         ensures digits { IfOk result (λ made. made.fraction.digits ≡ digits) }
-        ensures found { IfOk result (λ made. cell_value cell.entry ≡ bytes_cell (span_bytes (fraction_size digits) made)) }
-        ensures only { (other : Time) → other.fraction.digits ≡ digits → cell_value cell.entry ≡ bytes_cell (span_bytes (fraction_size digits) other) →
-            IsOkAnd result (λ made. IsSameSpan made other) }
-        ensures fault { IfErr result (λ fault. fault ≡ bytes_fault (3 + fraction_size digits) (cell_value cell.entry)) }
+        ensures found { IfOk result (λ made. cell_value cell.entry
+            ≡ bytes_cell (span_bytes (fraction_size digits) made)) }
+        ensures only { (other : Time) → other.fraction.digits ≡ digits
+            → cell_value cell.entry ≡ bytes_cell (span_bytes (fraction_size digits) other)
+            → IsOkAnd result (λ made. IsSameSpan made other) }
+        ensures fault { IfErr result (λ fault. fault
+            ≡ bytes_fault (3 + fraction_size digits) (cell_value cell.entry)) }
     {
         let Cell::Bytes(bytes) = cell else {
             return Err(CellFault::Kind);
@@ -68,9 +73,11 @@ impl Time {
     /// Appends the bytes of the time in a cell. The only error is that the vector lacks the room and cannot grow. It
     /// leaves the vector as it was.
     pub fn write(self, out: &mut Vec<u8>) -> Result<(), AllocError>
-        ensures ok { OnOk result (out.new.items ≡ out.old.items ++ span_bytes (fraction_size self.fraction.digits) self) }
+        ensures ok { OnOk result (out.new.items ≡ out.old.items ++ span_bytes
+            (fraction_size self.fraction.digits) self) }
         ensures err { OnErr result (out.new.items ≡ out.old.items) }
-        ensures full { OnErr result (vec_capacity out.old < vec_len out.old + length (span_bytes (fraction_size self.fraction.digits) self)) }
+        ensures full { OnErr result (vec_capacity out.old
+            < vec_len out.old + length (span_bytes (fraction_size self.fraction.digits) self)) }
     {
         let size = self.fraction.byte_count();
         let [_, _, a, b, c, d, e, f] = number_of(self, size).to_be_bytes();
@@ -136,7 +143,9 @@ fn of_bytes(digits: u8, bytes: &[u8]) -> Option<Time>
     requires { digits ≤ 6 }
     ensures digits { IfSome result (λ made. made.fraction.digits ≡ digits) }
     ensures found { IfSome result (λ made. bytes.now ≡ span_bytes (fraction_size digits) made) }
-    ensures only { (other : Time) → other.fraction.digits ≡ digits → bytes.now ≡ span_bytes (fraction_size digits) other → IsSomeAnd result (λ made. IsSameSpan made other) }
+    ensures only { (other : Time) → other.fraction.digits ≡ digits
+        → bytes.now ≡ span_bytes (fraction_size digits) other
+        → IsSomeAnd result (λ made. IsSameSpan made other) }
 {
     let size = Fraction::size(digits);
     if bytes.len() != 3 + size {
@@ -184,8 +193,10 @@ fn of_clock(negative: bool, clock: u64, fraction: Fraction) -> Option<Time>
     ensures negative { IfSome result (λ made. made.negative ≡ negative) }
     ensures fraction { IfSome result (λ made. made.fraction ≡ fraction) }
     ensures found { IfSome result (λ made. clock ≡ clock_number made.hour made.minute made.second) }
-    ensures only { (hour minute second : ℕ) → IsTrue (is_time negative hour minute second fraction.number) → clock ≡ clock_number hour minute second →
-        IsSomeAnd result (λ made. HasClock made hour minute second) }
+    ensures only { (hour minute second : ℕ) → IsTrue
+        (is_time negative hour minute second fraction.number)
+        → clock ≡ clock_number hour minute second
+        → IsSomeAnd result (λ made. HasClock made hour minute second) }
 {
     let hour = (clock / 4096) as u16;
     let minute = (clock / 64 % 64) as u8;

@@ -20,7 +20,8 @@ impl Timestamp {
     /// The value, if it is in range.
     pub fn new(seconds: u32, fraction: Fraction) -> Option<Timestamp>
         ensures lawful { IsSome result ↔ IsTrue (is_stamp seconds fraction.number) }
-        ensures parts { IfSome result (λ made. (made.seconds ≡ seconds) × (made.fraction ≡ fraction)) }
+        ensures parts { IfSome result (λ made. (made.seconds ≡ seconds)
+            × (made.fraction ≡ fraction)) }
     {
         if seconds >= 1 << 31 {
             return None;
@@ -36,10 +37,13 @@ impl Timestamp {
     pub fn read(digits: u8, cell: Cell<'_>) -> Result<Timestamp, CellFault>
         requires { digits ≤ 6 }
         ensures digits { IfOk result (λ made. made.fraction.digits ≡ digits) }
-        ensures found { IfOk result (λ made. cell_value cell.entry ≡ bytes_cell (stamp_bytes made)) }
-        ensures only { (other : Timestamp) → other.fraction.digits ≡ digits → cell_value cell.entry ≡ bytes_cell (stamp_bytes other) →
-            IsOkAnd result (λ made. IsSameStamp made other) }
-        ensures fault { IfErr result (λ fault. fault ≡ bytes_fault (4 + fraction_size digits) (cell_value cell.entry)) }
+        ensures found { IfOk result (λ made. cell_value cell.entry
+            ≡ bytes_cell (stamp_bytes made)) }
+        ensures only { (other : Timestamp) → other.fraction.digits ≡ digits
+            → cell_value cell.entry ≡ bytes_cell (stamp_bytes other)
+            → IsOkAnd result (λ made. IsSameStamp made other) }
+        ensures fault { IfErr result (λ fault. fault
+            ≡ bytes_fault (4 + fraction_size digits) (cell_value cell.entry)) }
     {
         let Cell::Bytes(bytes) = cell else {
             return Err(CellFault::Kind);
@@ -55,7 +59,8 @@ impl Timestamp {
     pub fn write(self, out: &mut Vec<u8>) -> Result<(), AllocError>
         ensures ok { OnOk result (out.new.items ≡ out.old.items ++ stamp_bytes self) }
         ensures err { OnErr result (out.new.items ≡ out.old.items) }
-        ensures full { OnErr result (vec_capacity out.old < vec_len out.old + length (stamp_bytes self)) }
+        ensures full { OnErr result (vec_capacity out.old
+            < vec_len out.old + length (stamp_bytes self)) }
     {
         let [a, b, c, d] = self.seconds.to_be_bytes();
         let [_, x, y, z] = self.fraction.stored().to_be_bytes();
@@ -95,7 +100,8 @@ fn of_bytes(digits: u8, bytes: &[u8]) -> Option<Timestamp>
     requires { digits ≤ 6 }
     ensures digits { IfSome result (λ made. made.fraction.digits ≡ digits) }
     ensures found { IfSome result (λ made. bytes.now ≡ stamp_bytes made) }
-    ensures only { (other : Timestamp) → other.fraction.digits ≡ digits → bytes.now ≡ stamp_bytes other → IsSomeAnd result (λ made. IsSameStamp made other) }
+    ensures only { (other : Timestamp) → other.fraction.digits ≡ digits
+        → bytes.now ≡ stamp_bytes other → IsSomeAnd result (λ made. IsSameStamp made other) }
 {
     let (front, end) = bytes.split_at_checked(4)?;
     let fraction = Fraction::of_bytes(digits, end)?;

@@ -112,7 +112,7 @@ pub(crate) fn is_numeral(field: &[u8]) -> bool
 }
 
 /// Whether each byte is a decimal digit.
-fn are_digits(field: &[u8]) -> bool
+pub(crate) fn are_digits(field: &[u8]) -> bool
     ensures { IsTrue result ↔ AllDigits 10 field.now }
 {
     for digit in field {

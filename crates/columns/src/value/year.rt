@@ -31,8 +31,11 @@ impl Year {
 
     /// The year that a cell stands for: its byte is 0 for the year 0, else how many years it lies after 1900.
     pub fn read(cell: Cell<'_>) -> Result<Year, CellFault>
-        ensures found { IfOk result (λ made. cell_value cell.entry ≡ bytes_cell (year_bytes made.year)) }
-        ensures only { (year : ℕ) → IsTrue (is_year year) → cell_value cell.entry ≡ bytes_cell (year_bytes year) → IsOkAnd result (λ made. made.year ≡ year) }
+        ensures found { IfOk result (λ made. cell_value cell.entry
+            ≡ bytes_cell (year_bytes made.year)) }
+        ensures only { (year : ℕ) → IsTrue (is_year year)
+            → cell_value cell.entry ≡ bytes_cell (year_bytes year)
+            → IsOkAnd result (λ made. made.year ≡ year) }
         ensures fault { IfErr result (λ fault. fault ≡ bytes_fault 1 (cell_value cell.entry)) }
     {
         let Cell::Bytes(bytes) = cell else {

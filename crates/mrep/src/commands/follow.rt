@@ -3,10 +3,8 @@
 ghost use Rattle.std.specs.Prelude.{◌≤◌, IfOk};
 
 use crate::arguments::{number, word};
-use crate::commands::socket::Socket;
 use crate::database::open::{closed, follow_into};
 use crate::report::failure::{Failure, MEMORY, over_file, write_failure};
-use crate::report::pulse::Pulse;
 use crate::report::status::{counted, status_after};
 use crate::report::wanted::{Wanted, waited};
 use crate::report::watch::{Source, Watch};
@@ -16,6 +14,7 @@ use files::{others_may_read, read_password};
 use formats::Shown;
 use gtid::GtidSet;
 use replica::{Config, ConfigFault, Ended, FollowedFile, Observer, Until};
+use reports::{Pulse, Socket};
 use std::alloc::AllocError;
 use std::io;
 use std::io::{ErrorKind, Write};

@@ -27,7 +27,8 @@ pub fn minus<'a, R: AllocGlobal, W: Write>(
 
 /// The text of a set without the members of another.
 fn difference<'a>(alloc: Global, left: &str, right: &str) -> Result<String, Failure<'a>>
-    ensures { IfOk result (λ text. (x y : Ids) → IsRead left.now x → IsRead right.now y → AppendsText (set.difference x y) [] (string_bytes text)) }
+    ensures { IfOk result (λ text. (x y : Ids) → IsRead left.now x → IsRead right.now y
+        → AppendsText (set.difference x y) [] (string_bytes text)) }
 {
     let mut kept = gtid_set(alloc, "X", left)?;
     let taken = gtid_set(alloc, "Y", right)?;

@@ -14,7 +14,7 @@ use files::Input;
 use formats::{Chosen, Comparer, Differences, Encoding, Format, Shown, TextLines};
 use std::alloc::Global;
 use std::io::{Read, Write};
-use typed_rows::{DescribedTables, TableFault, TableName, TablesFault};
+use typed_rows::DescribedTables;
 
 /// Prints the rows that one side lacks: `<` before those that the file has alone, `>` before those that the database has
 /// alone. The status is 0 if there are none, and 1 otherwise.
@@ -28,7 +28,11 @@ pub fn verify<'a, W: Write, E: Write>(
 {
     let (db, file) = (word(given, "db"), word(given, "ROWS"));
     let only = tables(rt.alloc(), &[word(given, "SCHEMA.TABLE")])?;
-    let described = described(rt, word(given, "columns"), &only)?;
+    let name = word(given, "columns");
+    let described = read_tables(rt, name)?;
+    if let Err(fault) = described.check(rt.alloc(), &only) {
+        return Err(Failure::Tables { name, fault });
+    }
     let text = read_text(rt, file)?;
     let job = show_all(rt.alloc(), only, described)?;
     let mut printed = Vec::new(rt.alloc());
@@ -62,38 +66,6 @@ fn show_all<'a>(
         encoding: Encoding::Base64,
         described: Some(described),
     }))
-}
-
-/// The described tables of a file, one of which is the table that is named.
-fn described<'a>(
-    rt: &HostRuntime,
-    name: &'a str,
-    only: &Follow,
-) -> Result<DescribedTables, Failure<'a>> {
-    let described = read_tables(rt, name)?;
-    for (schema, table) in only.names() {
-        if described.find(schema, table).is_none() {
-            return Err(not_described(rt.alloc(), name, schema, table)?);
-        }
-    }
-    Ok(described)
-}
-
-/// The failure of a table that is not described.
-fn not_described<'a>(
-    alloc: Global,
-    name: &'a str,
-    schema: &[u8],
-    table: &[u8],
-) -> Result<Failure<'a>, Failure<'a>> {
-    let mut missing = TableName {
-        schema: Vec::new(alloc),
-        table: Vec::new(alloc),
-    };
-    missing.schema.extend_from_slice(schema)?;
-    missing.table.extend_from_slice(table)?;
-    let fault = TablesFault::Table(missing, TableFault::Missing);
-    Ok(Failure::Tables { name, fault })
 }
 
 /// All of a file, or of standard input.

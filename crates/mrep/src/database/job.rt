@@ -124,7 +124,9 @@ impl Done {
 
 /// The text of the executed set.
 fn executed_text<'a, S: Alter>(alloc: Global, store: &Store<S>) -> Result<String, Failure<'a>>
-    ensures { IfOk result (λ text. (broken : Bool) (content : Content) → HoldsAs S.Store broken content store.now → AppendsText content.executed [] (string_bytes text)) }
+    ensures { IfOk result (λ text. (broken : Bool) (content : Content)
+        → HoldsAs S.Store broken content store.now
+        → AppendsText content.executed [] (string_bytes text)) }
 {
     let text = text_of(alloc, store.executed())?;
     Ok(text)
@@ -136,7 +138,9 @@ fn missing_text<'a, S: Alter>(
     mut asked: GtidSet,
     store: &Store<S>,
 ) -> Result<String, Failure<'a>>
-    ensures { IfOk result (λ text. (broken : Bool) (content : Content) → HoldsAs S.Store broken content store.now → AppendsText (set.difference asked content.executed) [] (string_bytes text)) }
+    ensures { IfOk result (λ text. (broken : Bool) (content : Content)
+        → HoldsAs S.Store broken content store.now
+        → AppendsText (set.difference asked content.executed) [] (string_bytes text)) }
 {
     let Ok(()) = asked.subtract(store.executed()) else {
         return Err(Failure::Memory);
@@ -152,8 +156,13 @@ fn adopt<'a, S: Alter>(
     store: &mut Store<S>,
     asked: &GtidSet,
 ) -> Result<String, Failure<'a>>
-    ensures new { IfOk result (λ text. (broken : Bool) (content : Content) → HoldsAs S.Store broken content store.old → AppendsText (set.difference asked.now content.executed) [] (string_bytes text)) }
-    ensures adopts { HasCleanDisk (database S.Store store.new) → (content : Content) → Holds S.Store store.old content → IfOk result (λ _. Holds S.Store store.new (with_executed (set.union content.executed asked.now) content)) }
+    ensures new { IfOk result (λ text. (broken : Bool) (content : Content)
+        → HoldsAs S.Store broken content store.old
+        → AppendsText (set.difference asked.now content.executed) [] (string_bytes text)) }
+    ensures adopts { HasCleanDisk (database S.Store store.new) → (content : Content)
+        → Holds S.Store store.old content → IfOk result
+        (λ _. Holds S.Store store.new (with_executed
+        (set.union content.executed asked.now) content)) }
 {
     let copied = match asked.copy() {
         Ok(copied) => copied,
@@ -194,9 +203,13 @@ fn skip<'a, S: Alter>(
     store: &mut Store<S>,
     gtid: Gtid,
 ) -> Result<Applied, Failure<'a>>
-    ensures skips { HasCleanDisk (database S.Store store.new) → (content : Content) → Holds S.Store store.old content
-        → IfOk result (λ applied. Applies S.Store content
-        (record { source = gtid.source; number = gtid.number; changes = [] }) store.old store.new (Ok applied)) }
+    ensures skips { HasCleanDisk (database S.Store store.new) → (content : Content)
+        → Holds S.Store store.old content → IfOk result
+        (λ applied. Applies S.Store content (record {
+          source = gtid.source;
+          number = gtid.number;
+          changes = [];
+        }) store.old store.new (Ok applied)) }
 {
     let delivery = Delivery {
         gtid,

@@ -7,14 +7,14 @@ ghost use Rattle.mrep.specs.declared.report.failure.Failure.TheVariants as varia
 use clap::error::ErrorKind;
 use columns::{DescriptionFault, LineFault};
 use files::FileFault;
-use formats::{Shown, write_named, write_table};
+use formats::{Shown, write_named};
 use gtid::GtidFault;
 use replica::ConfigFault;
 use std::alloc::{AllocError, AllocFailed};
 use std::io;
 use std::io::Write;
 use store::{Damage, StoreFault};
-use typed_rows::{Misfit, TableName, TablesFault};
+use typed_rows::{Misfit, TablesFault};
 
 /// Done.
 pub const DONE: u8 = 0;
@@ -220,8 +220,19 @@ impl Failure<'_> {
                     fault.fault
                 )
             }
-            Failure::Tables { name, fault } => write_tables_fault(name, fault, err),
-            Failure::Misfit { name, misfit } => write_misfit(name, misfit, err),
+            Failure::Tables {
+                fault: TablesFault::Memory,
+                ..
+            }
+            | Failure::Memory => err.write_all(b"mrep: out of memory\n"),
+            Failure::Tables { name, fault } => {
+                write!(err, "mrep: {}: ", Shown(name))?;
+                fault.write(err)
+            }
+            Failure::Misfit { name, misfit } => {
+                write!(err, "mrep: {}: ", Shown(name))?;
+                misfit.write(err)
+            }
             Failure::User { word, cause } => write_named(word, cause, err),
             Failure::File { name, cause } | Failure::Host { name, cause } => {
                 write_named(name, cause, err)
@@ -234,45 +245,8 @@ impl Failure<'_> {
             Failure::Unusable { name, why } => write_named(name, why, err),
             Failure::Output(cause) if cause.kind() == io::ErrorKind::BrokenPipe => Ok(()),
             Failure::Output(cause) => write_named("output", cause, err),
-            Failure::Memory => err.write_all(b"mrep: out of memory\n"),
         }
     }
-}
-
-/// Writes the message of a row that does not fit the description.
-fn write_misfit<E: Write>(name: &str, misfit: &Misfit, err: &mut E) -> io::Result<()> {
-    write!(err, "mrep: {}: ", Shown(name))?;
-    write_table(&misfit.schema, &misfit.table, err)?;
-    if let Some((column, kind)) = &misfit.column {
-        write!(err, ", column {} {}", Shown(column), Shown(kind))?;
-    }
-    writeln!(err, ": {}: {}", misfit.fault, misfit.fault.advice())
-}
-
-/// Writes the message of a description of which no tables are made.
-fn write_tables_fault<E: Write>(name: &str, fault: &TablesFault, err: &mut E) -> io::Result<()> {
-    if let TablesFault::Memory = fault {
-        return err.write_all(b"mrep: out of memory\n");
-    }
-    write!(err, "mrep: {}: ", Shown(name))?;
-    match fault {
-        TablesFault::Table(table, fault) => {
-            write_table_name(table, err)?;
-            writeln!(err, ": {fault}")
-        }
-        TablesFault::Same(first, second) => {
-            write_table_name(first, err)?;
-            err.write_all(b" and ")?;
-            write_table_name(second, err)?;
-            err.write_all(b": SQLite takes their names for the same\n")
-        }
-        _ => err.write_all(b"no table of the schema that is asked for is described\n"),
-    }
-}
-
-/// Writes the name of a table.
-fn write_table_name<E: Write>(name: &TableName, err: &mut E) -> io::Result<()> {
-    write_table(&name.schema, &name.table, err)
 }
 
 /// The failure of the file of this name.

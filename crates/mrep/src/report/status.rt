@@ -58,7 +58,8 @@ pub fn status_after<'a, E: Write>(
     err: &mut E,
 ) -> Result<u8, Failure<'a>>
     ensures first { IfOk result (λ status. status ≡ first_status ends.now) }
-    ensures failed { IfErr result (λ failure. (first_status ends.now ≡ DONE) × (done.entry ≡ Err failure)) }
+    ensures failed { IfErr result (λ failure. (first_status ends.now ≡ DONE)
+        × (done.entry ≡ Err failure)) }
     ensures range { IfOk result (λ status. status ≤ MEMORY) }
 {
     let status = first_status(ends);

@@ -3,13 +3,13 @@
 use crate::arguments::{gtid_set, tables, word};
 use crate::database::description::{encoding_with, read_tables};
 use crate::report::failure::{Failure, of_file, over_file};
-use crate::report::pulse::Pulse;
 use crate::report::watch::{Reports, Stop};
 use binlog::Follow;
 use clap::ArgMatches;
 use formats::{Chosen, Format, Progress};
 use gtid::GtidSet;
 use metrics::{Status, StatusFile};
+use reports::Pulse;
 use std::alloc::Global;
 use std::io::{IsTerminal, Write};
 use std::rc::Rc;

@@ -1,19 +1,20 @@
 //! What `mrep replay` and `mrep follow` report while they read: the line of each end, progress, and the change feed.
 
-ghost use Rattle.std.specs.Prelude.{◌≡◌, true, is_some};
+ghost use Rattle.std.specs.Prelude.{◌≡◌, true, is_some, None};
 
-use crate::report::pulse::Pulse;
-use crate::report::reason::{Halt, can_skip, write_advice, write_cause, write_end};
 use crate::report::wanted::Wanted;
 use binlog::Event;
 use formats::{Chosen, Details, Shown, text_of};
 use gather::Delivery;
 use gtid::GtidSet;
 use replica::{Ended, Observer, Reason, Refusal};
+use reports::{Halt, Pulse, can_skip, write_advice, write_cause, write_end};
 use std::io;
 use std::io::Write;
 use std::rc::Rc;
-use typed_rows::{DescribedTables, Feed, FeedEntry, Misfit, RowError, Stamps, write_refused};
+use typed_rows::{
+    DescribedTables, Feed, FeedEntry, Misfit, OUTPUT, RowError, Stamps, write_refused,
+};
 
 /// Why reading is stopped.
 #[derive(Drop)]
@@ -203,6 +204,7 @@ impl<'a, O: Write, E: Write> Watch<'a, O, E> {
     fn halt(&self) -> Halt<'a> {
         match self.stop {
             Some(Stop::Misfit(_)) => Halt::Misfit,
+            Some(_) if self.source.changes == OUTPUT => Halt::Output,
             Some(_) => Halt::Feed(self.source.changes),
             None => Halt::Memory,
         }
@@ -277,7 +279,7 @@ impl<'a, O: Write, E: Write> Watch<'a, O, E> {
 }
 
 impl<'a, O: Write, E: Write> Observer for Watch<'a, O, E> {
-    ghost has_stopped = { λ w. is_some w.stop };
+    ghost account = { λ w. record { noted = None; has_stopped = is_some w.stop; waits = None } };
 
     fn opened(&mut self, executed: &GtidSet) {
         self.pulse.opened(executed);

@@ -20,13 +20,18 @@ pub(super) struct Reading {
 /// one. The only error is `Memory`.
 pub(super) fn payloads(alloc: Global, limit: usize, pieces: &[&[u8]]) -> Result<Reading, WireFault>
     requires { limit ≤ largest_payload }
-    ensures whole { IfOk result (λ read. IfNone read.fault ((id : ℕ) × (held : List ℕ) ×
-        Runs 0 limit [] (map (λ piece. piece.now) pieces.now) (map (λ payload. payload.items) read.payloads.items) (Held id held))) }
-    ensures sequence { IfOk result (λ read. (want got : ℕ) → read.fault ≡ Some (WireFault.Sequence want got) →
-        Runs 0 limit [] (map (λ piece. piece.now) pieces.now) (map (λ payload. payload.items) read.payloads.items) (OutOfSequence want got)) }
-    ensures too_large { IfOk result (λ read. read.fault ≡ Some WireFault.TooLarge →
-        Runs 0 limit [] (map (λ piece. piece.now) pieces.now) (map (λ payload. payload.items) read.payloads.items) stream.TooLarge) }
-    ensures only { IfOk result (λ read. (read.fault ≢ Some WireFault.Memory) × (read.fault ≢ Some WireFault.Ended)) }
+    ensures whole { IfOk result (λ read. IfNone read.fault ((id : ℕ) × (held : List ℕ)
+        × Runs 0 limit [] (map (λ piece. piece.now) pieces.now)
+        (map (λ payload. payload.items) read.payloads.items) (Held id held))) }
+    ensures sequence { IfOk result (λ read. (want got : ℕ)
+        → read.fault ≡ Some (WireFault.Sequence want got)
+        → Runs 0 limit [] (map (λ piece. piece.now) pieces.now)
+        (map (λ payload. payload.items) read.payloads.items) (OutOfSequence want got)) }
+    ensures too_large { IfOk result (λ read. read.fault ≡ Some WireFault.TooLarge
+        → Runs 0 limit [] (map (λ piece. piece.now) pieces.now)
+        (map (λ payload. payload.items) read.payloads.items) stream.TooLarge) }
+    ensures only { IfOk result (λ read. (read.fault ≢ Some WireFault.Memory)
+        × (read.fault ≢ Some WireFault.Ended)) }
     ensures err { IfErr result (λ fault. fault ≡ WireFault.Memory) }
 {
     let mut assembler = Assembler::new(alloc, limit);

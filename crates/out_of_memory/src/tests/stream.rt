@@ -107,7 +107,8 @@ impl<'a> Read for Stream<'a> {
 
     fn read(&mut self, buf: &mut [u8]) -> io::Result<usize>
         ensures bound { ReadsAtMost result buf.new }
-        ensures bytes { ReadConsumes (Some self.old.left.now) (Some self.new.left.now) result buf.new }
+        ensures bytes { ReadConsumes (Some self.old.left.now)
+            (Some self.new.left.now) result buf.new }
         ensures apart { self.new.written ≡ self.old.written }
         ensures counted { self.new.failures ≡ self.old.failures }
     {
@@ -128,7 +129,8 @@ impl<'a> Write for Stream<'a> {
 
     fn write(&mut self, buf: &[u8]) -> io::Result<usize>
         ensures bound { WritesAtMost result buf.now }
-        ensures bytes { WriteAppends (Some self.old.written.items) (Some self.new.written.items) result buf.now }
+        ensures bytes { WriteAppends (Some self.old.written.items)
+            (Some self.new.written.items) result buf.now }
         ensures apart { self.new.left ≡ self.old.left }
         ensures counted { self.new.failures ≡ self.old.failures }
     {

@@ -34,9 +34,9 @@ pub(crate) fn load_executed<S: Alter>(
 ) -> Result<GtidSet, StoreFault>
     requires { conn.old.in_transaction ≡ false }
     ensures autocommit { conn.new.in_transaction ≡ false }
-    ensures reads { ReadsAll all_executed_text (state S.Store conn.old) (state S.Store conn.new) result
-        (λ rows ids. AllByRecursion IsExecutedRow rows × (ids ≡ set.from_list (map id_in rows)))
-        (AllByRecursion IsExecutedRow) }
+    ensures reads { ReadsAll all_executed_text (state S.Store conn.old)
+        (state S.Store conn.new) result (λ rows ids. AllByRecursion IsExecutedRow rows
+        × (ids ≡ set.from_list (map id_in rows))) (AllByRecursion IsExecutedRow) }
     ensures fault { IfErr result IsLoadFault }
 {
     let rows = read_all(conn, ALL)?;
@@ -45,7 +45,8 @@ pub(crate) fn load_executed<S: Alter>(
 
 /// The set of the rows of `executed`.
 pub(crate) fn executed_from(alloc: Global, rows: &[Row]) -> Result<GtidSet, StoreFault>
-    ensures judged { Judges result (λ ids. AllByRecursion IsExecutedRow rows.now × (ids ≡ set.from_list (map id_in rows.now))) (AllByRecursion IsExecutedRow rows.now) }
+    ensures judged { Judges result (λ ids. AllByRecursion IsExecutedRow rows.now
+        × (ids ≡ set.from_list (map id_in rows.now))) (AllByRecursion IsExecutedRow rows.now) }
     ensures fault { IfErr result IsLoadFault }
 {
     let Some(spans) = ids_of(alloc, rows)? else {
@@ -56,7 +57,9 @@ pub(crate) fn executed_from(alloc: Global, rows: &[Row]) -> Result<GtidSet, Stor
 
 /// The GTIDs of the rows as spans, if all are lawful rows of `executed`.
 pub(crate) fn ids_of(alloc: Global, rows: &[Row]) -> Result<Option<Vec<Span>>, StoreFault>
-    ensures judged { IfOk result (λ o. MatchOption o (¬ AllByRecursion IsExecutedRow rows.now) (λ spans. AllByRecursion IsExecutedRow rows.now × (spans.items ≡ map (λ r. span_of_id (id_in r)) rows.now))) }
+    ensures judged { IfOk result (λ o. MatchOption o (¬ AllByRecursion IsExecutedRow rows.now)
+        (λ spans. AllByRecursion IsExecutedRow rows.now
+        × (spans.items ≡ map (λ r. span_of_id (id_in r)) rows.now))) }
     ensures fault { IfErr result IsFailure }
 {
     let mut spans = Vec::new(alloc);
@@ -71,7 +74,8 @@ pub(crate) fn ids_of(alloc: Global, rows: &[Row]) -> Result<Option<Vec<Span>>, S
 
 /// The GTID of a row as a span, or the rule of `executed` that the row breaks.
 pub(crate) fn id_of(row: &Row) -> Result<Result<Span, &'static str>, Error>
-    ensures { IfOk result (λ o. MatchResult o (λ s. IsExecutedRow row.now × (s ≡ span_of_id (id_in row.now))) (λ _. ¬ IsExecutedRow row.now)) }
+    ensures { IfOk result (λ o. MatchResult o (λ s. IsExecutedRow row.now
+        × (s ≡ span_of_id (id_in row.now))) (λ _. ¬ IsExecutedRow row.now)) }
 {
     if row.column_count() != 3 {
         return Ok(Err(FORM));
@@ -100,9 +104,14 @@ pub(crate) fn id_of(row: &Row) -> Result<Result<Span, &'static str>, Error>
 
 pub(crate) fn drop_executed<S: Alter>(tx: &mut Transaction<'_, S>) -> Result<usize, Error>
     ensures same_reference { tx.new.conn.ghost_name ≡ tx.old.conn.ghost_name }
-    ensures migrated { HasCleanDisk (state S.Store tx.new.conn.now) → (content : Content) → IsFirstInside content (state S.Store tx.old.conn.now) → OnOk result (IsMigrating (HasTables []) (pos 1) content (state S.Store tx.new.conn.now)) }
-    ensures kept { HasCleanDisk (state S.Store tx.new.conn.now) → (content : Content) → IsFirstInside content (state S.Store tx.old.conn.now) → KeepsCommit (state S.Store tx.old.conn.now) (state S.Store tx.new.conn.now) }
-    ensures survives { Survives (state S.Store tx.old.conn.now) (state S.Store tx.new.conn.now) (λ _. ⊥) }
+    ensures migrated { HasCleanDisk (state S.Store tx.new.conn.now) → (content : Content)
+        → IsFirstInside content (state S.Store tx.old.conn.now)
+        → OnOk result (IsMigrating (HasTables []) (pos 1) content (state S.Store tx.new.conn.now)) }
+    ensures kept { HasCleanDisk (state S.Store tx.new.conn.now) → (content : Content)
+        → IsFirstInside content (state S.Store tx.old.conn.now)
+        → KeepsCommit (state S.Store tx.old.conn.now) (state S.Store tx.new.conn.now) }
+    ensures survives { Survives (state S.Store tx.old.conn.now) (state S.Store tx.new.conn.now)
+        (λ _. ⊥) }
 {
     tx.execute("DROP TABLE executed", &[])
 }

@@ -28,10 +28,17 @@ pub(crate) const ALL: &str = "SELECT rowid, schema_name, table_name FROM follow 
 
 pub(crate) fn make_follow<S: Alter>(tx: &mut Transaction<'_, S>) -> Result<usize, Error>
     ensures same_reference { tx.new.conn.ghost_name ≡ tx.old.conn.ghost_name }
-    ensures made { HasCleanDisk (state S.Store tx.new.conn.now) → IsMaking with_spans (state S.Store tx.old.conn.now) → OnOk result (IsMaking new_layout (state S.Store tx.new.conn.now)) }
-    ensures migrated { HasCleanDisk (state S.Store tx.new.conn.now) → (content : Content) → IsMigrating (HasTables made_spans) (pos 1) content (state S.Store tx.old.conn.now) → OnOk result (IsMigrating HasBare (pos 1) content (state S.Store tx.new.conn.now)) }
-    ensures kept { HasCleanDisk (state S.Store tx.new.conn.now) → (state S.Store tx.old.conn.now).in_transaction ≡ true → KeepsCommit (state S.Store tx.old.conn.now) (state S.Store tx.new.conn.now) }
-    ensures survives { Survives (state S.Store tx.old.conn.now) (state S.Store tx.new.conn.now) (λ _. ⊥) }
+    ensures made { HasCleanDisk (state S.Store tx.new.conn.now)
+        → IsMaking with_spans (state S.Store tx.old.conn.now)
+        → OnOk result (IsMaking new_layout (state S.Store tx.new.conn.now)) }
+    ensures migrated { HasCleanDisk (state S.Store tx.new.conn.now) → (content : Content)
+        → IsMigrating (HasTables made_spans) (pos 1) content (state S.Store tx.old.conn.now)
+        → OnOk result (IsMigrating HasBare (pos 1) content (state S.Store tx.new.conn.now)) }
+    ensures kept { HasCleanDisk (state S.Store tx.new.conn.now)
+        → (state S.Store tx.old.conn.now).in_transaction ≡ true
+        → KeepsCommit (state S.Store tx.old.conn.now) (state S.Store tx.new.conn.now) }
+    ensures survives { Survives (state S.Store tx.old.conn.now) (state S.Store tx.new.conn.now)
+        (λ _. ⊥) }
 {
     tx.execute(
         "CREATE TABLE follow (schema_name BLOB NOT NULL, table_name BLOB NOT NULL, PRIMARY KEY (schema_name, table_name))",
@@ -45,9 +52,15 @@ pub(crate) fn add_names<S: Alter>(
     names: &[(Vec<u8>, Vec<u8>)],
 ) -> Result<(), Error>
     ensures same_reference { tx.new.conn.ghost_name ≡ tx.old.conn.ghost_name }
-    ensures named { HasCleanDisk (state S.Store tx.new.conn.now) → IsNaming set.empty (state S.Store tx.old.conn.now) → OnOk result (IsNaming (set.from_list (name_list names.now)) (state S.Store tx.new.conn.now)) }
-    ensures kept { HasCleanDisk (state S.Store tx.new.conn.now) → IsNaming set.empty (state S.Store tx.old.conn.now) → KeepsCommit (state S.Store tx.old.conn.now) (state S.Store tx.new.conn.now) }
-    ensures survives { Survives (state S.Store tx.old.conn.now) (state S.Store tx.new.conn.now) (λ _. ⊥) }
+    ensures named { HasCleanDisk (state S.Store tx.new.conn.now)
+        → IsNaming set.empty (state S.Store tx.old.conn.now)
+        → OnOk result (IsNaming (set.from_list (name_list names.now))
+        (state S.Store tx.new.conn.now)) }
+    ensures kept { HasCleanDisk (state S.Store tx.new.conn.now)
+        → IsNaming set.empty (state S.Store tx.old.conn.now)
+        → KeepsCommit (state S.Store tx.old.conn.now) (state S.Store tx.new.conn.now) }
+    ensures survives { Survives (state S.Store tx.old.conn.now) (state S.Store tx.new.conn.now)
+        (λ _. ⊥) }
 {
     for name in names {
         add_name(tx, name.0.as_slice(), name.1.as_slice())?;
@@ -62,9 +75,15 @@ fn add_name<S: Alter>(
     table: &[u8],
 ) -> Result<usize, Error>
     ensures same_reference { tx.new.conn.ghost_name ≡ tx.old.conn.ghost_name }
-    ensures named { HasCleanDisk (state S.Store tx.new.conn.now) → (names : Names) → IsNaming names (state S.Store tx.old.conn.now) → OnOk result (IsNaming (set.insert names (schema.now, table.now)) (state S.Store tx.new.conn.now)) }
-    ensures kept { HasCleanDisk (state S.Store tx.new.conn.now) → (names : Names) → IsNaming names (state S.Store tx.old.conn.now) → KeepsCommit (state S.Store tx.old.conn.now) (state S.Store tx.new.conn.now) }
-    ensures survives { Survives (state S.Store tx.old.conn.now) (state S.Store tx.new.conn.now) (λ _. ⊥) }
+    ensures named { HasCleanDisk (state S.Store tx.new.conn.now) → (names : Names)
+        → IsNaming names (state S.Store tx.old.conn.now)
+        → OnOk result (IsNaming (set.insert names (schema.now, table.now))
+        (state S.Store tx.new.conn.now)) }
+    ensures kept { HasCleanDisk (state S.Store tx.new.conn.now) → (names : Names)
+        → IsNaming names (state S.Store tx.old.conn.now)
+        → KeepsCommit (state S.Store tx.old.conn.now) (state S.Store tx.new.conn.now) }
+    ensures survives { Survives (state S.Store tx.old.conn.now) (state S.Store tx.new.conn.now)
+        (λ _. ⊥) }
 {
     tx.execute(
         "INSERT INTO follow VALUES (?1, ?2)",
@@ -79,8 +98,8 @@ pub(crate) fn load_follow<S: Alter>(
 ) -> Result<Follow, StoreFault>
     requires { conn.old.in_transaction ≡ false }
     ensures autocommit { conn.new.in_transaction ≡ false }
-    ensures reads { ReadsAll all_follow_text (state S.Store conn.old) (state S.Store conn.new) result
-        AreNames (AllByRecursion IsFollowRow) }
+    ensures reads { ReadsAll all_follow_text (state S.Store conn.old)
+        (state S.Store conn.new) result AreNames (AllByRecursion IsFollowRow) }
     ensures fault { IfErr result IsLoadFault }
 {
     let rows = read_all(conn, ALL)?;
@@ -106,7 +125,9 @@ pub(crate) fn names_in(
     alloc: Global,
     rows: &[Row],
 ) -> Result<Option<Vec<(Vec<u8>, Vec<u8>)>>, StoreFault>
-    ensures judged { IfOk result (λ o. MatchOption o (¬ AllByRecursion IsFollowRow rows.now) (λ names. AllByRecursion IsFollowRow rows.now × (name_list names.items ≡ map name_in rows.now))) }
+    ensures judged { IfOk result (λ o. MatchOption o (¬ AllByRecursion IsFollowRow rows.now)
+        (λ names. AllByRecursion IsFollowRow rows.now
+        × (name_list names.items ≡ map name_in rows.now))) }
     ensures fault { IfErr result IsFailure }
 {
     let mut names = Vec::new(alloc);
@@ -124,7 +145,8 @@ pub(crate) fn name_of(
     alloc: Global,
     row: &Row,
 ) -> Result<Result<(Vec<u8>, Vec<u8>), &'static str>, StoreFault>
-    ensures judged { IfOk result (λ o. MatchResult o (λ name. IsFollowRow row.now × ((name.0.items, name.1.items) ≡ name_in row.now)) (λ _. ¬ IsFollowRow row.now)) }
+    ensures judged { IfOk result (λ o. MatchResult o (λ name. IsFollowRow row.now
+        × ((name.0.items, name.1.items) ≡ name_in row.now)) (λ _. ¬ IsFollowRow row.now)) }
     ensures fault { IfErr result IsFailure }
 {
     if row.column_count() != 3 {

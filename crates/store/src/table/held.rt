@@ -62,9 +62,14 @@ impl<'a> RowKey<'a> {
 
 pub(crate) fn make_held<S: Alter>(tx: &mut Transaction<'_, S>) -> Result<usize, Error>
     ensures same_reference { tx.new.conn.ghost_name ≡ tx.old.conn.ghost_name }
-    ensures made { HasCleanDisk (state S.Store tx.new.conn.now) → IsMaking with_meta (state S.Store tx.old.conn.now) → OnOk result (IsMaking with_held (state S.Store tx.new.conn.now)) }
-    ensures kept { HasCleanDisk (state S.Store tx.new.conn.now) → IsMaking with_meta (state S.Store tx.old.conn.now) → KeepsCommit (state S.Store tx.old.conn.now) (state S.Store tx.new.conn.now) }
-    ensures survives { Survives (state S.Store tx.old.conn.now) (state S.Store tx.new.conn.now) (λ _. ⊥) }
+    ensures made { HasCleanDisk (state S.Store tx.new.conn.now)
+        → IsMaking with_meta (state S.Store tx.old.conn.now)
+        → OnOk result (IsMaking with_held (state S.Store tx.new.conn.now)) }
+    ensures kept { HasCleanDisk (state S.Store tx.new.conn.now)
+        → IsMaking with_meta (state S.Store tx.old.conn.now)
+        → KeepsCommit (state S.Store tx.old.conn.now) (state S.Store tx.new.conn.now) }
+    ensures survives { Survives (state S.Store tx.old.conn.now) (state S.Store tx.new.conn.now)
+        (λ _. ⊥) }
 {
     tx.execute(
         "CREATE TABLE held (schema_name BLOB NOT NULL, table_name BLOB NOT NULL, image BLOB NOT NULL, n INTEGER NOT NULL CHECK (n > 0), PRIMARY KEY (schema_name, table_name, image))",
@@ -102,10 +107,16 @@ pub(crate) enum Verdict {
 /// The verdict on all rows of a query, which are read one at a time, up to the last one.
 pub(crate) fn judge_rows<S: Alter>(rows: &mut Rows<'_, S>) -> Result<Verdict, StoreFault>
     ensures same_reference { rows.new.conn.ghost_name ≡ rows.old.conn.ghost_name }
-    ensures autocommit { rows.old.conn.now.in_transaction ≡ false → rows.new.conn.now.in_transaction ≡ false }
-    ensures judged { HasCleanDisk (state S.Store rows.new.conn.now) → (sql : _) → HasGiven S.Store sql [] rows.old.conn.now [] → IsLive (state S.Store rows.old.conn.now) → IfOk result (HasJudged sql (state S.Store rows.old.conn.now) (state S.Store rows.new.conn.now)) }
-    ensures rested { HasCleanDisk (state S.Store rows.new.conn.now) → Rested (state S.Store rows.old.conn.now) (state S.Store rows.new.conn.now) }
-    ensures survives { Survives (state S.Store rows.old.conn.now) (state S.Store rows.new.conn.now) (λ _. ⊥) }
+    ensures autocommit { rows.old.conn.now.in_transaction ≡ false
+        → rows.new.conn.now.in_transaction ≡ false }
+    ensures judged { HasCleanDisk (state S.Store rows.new.conn.now) → (sql : _)
+        → HasGiven S.Store sql [] rows.old.conn.now [] → IsLive (state S.Store rows.old.conn.now)
+        → IfOk result (HasJudged sql (state S.Store rows.old.conn.now)
+        (state S.Store rows.new.conn.now)) }
+    ensures rested { HasCleanDisk (state S.Store rows.new.conn.now)
+        → Rested (state S.Store rows.old.conn.now) (state S.Store rows.new.conn.now) }
+    ensures survives { Survives (state S.Store rows.old.conn.now) (state S.Store rows.new.conn.now)
+        (λ _. ⊥) }
     ensures fault { IfErr result IsFailure }
 {
     let mut verdict = Verdict::Lawful(None);
@@ -122,7 +133,8 @@ pub(crate) fn judge_rows<S: Alter>(rows: &mut Rows<'_, S>) -> Result<Verdict, St
 
 /// The verdict on the rows so far and one more. After an unlawful row no other is looked at.
 fn with_row(verdict: Verdict, row: &Row) -> Result<Verdict, StoreFault>
-    ensures judged { (rows : List RowValue) → HasVerdict verdict rows → IfOk result (λ after. HasVerdict after (rows ++ row.now ∷ [])) }
+    ensures judged { (rows : List RowValue) → HasVerdict verdict rows
+        → IfOk result (λ after. HasVerdict after (rows ++ row.now ∷ [])) }
     ensures fault { IfErr result IsFailure }
 {
     if let Verdict::Unlawful = verdict {
@@ -136,7 +148,8 @@ fn with_row(verdict: Verdict, row: &Row) -> Result<Verdict, StoreFault>
 
 /// The verdict on the rows so far and a lawful one.
 fn with_lawful(verdict: Verdict, row: &Row) -> Result<Verdict, Error>
-    ensures { (rows : List RowValue) → HasVerdict verdict rows → IsHeldRow row.now → IfOk result (λ after. HasVerdict after (rows ++ row.now ∷ [])) }
+    ensures { (rows : List RowValue) → HasVerdict verdict rows → IsHeldRow row.now
+        → IfOk result (λ after. HasVerdict after (rows ++ row.now ∷ [])) }
 {
     match verdict {
         Verdict::Lawful(last) => ordered(last, row),
@@ -160,7 +173,9 @@ fn ordered(last: Option<i64>, row: &Row) -> Result<Verdict, Error>
 
 /// What an opening reports of the rows. No file that the `sqlite` crate opens is `Unordered`.
 pub(crate) fn answer(verdict: Verdict) -> Result<(), StoreFault>
-    ensures judged { (rows : List RowValue) → HasVerdict verdict rows → Judges result (λ _. AllByRecursion IsHeldRow rows × HasRowids rows) (AllByRecursion IsHeldRow rows) }
+    ensures judged { (rows : List RowValue) → HasVerdict verdict rows
+        → Judges result (λ _. AllByRecursion IsHeldRow rows
+        × HasRowids rows) (AllByRecursion IsHeldRow rows) }
     ensures fault { IfErr result IsLoadFault }
 {
     match verdict {
@@ -174,7 +189,8 @@ pub(crate) fn answer(verdict: Verdict) -> Result<(), StoreFault>
 
 /// The rule of `held` that a row breaks, if it breaks one.
 pub(crate) fn held_rule(row: &Row) -> Result<Option<&'static str>, StoreFault>
-    ensures judged { IfOk result (λ o. MatchOption o (IsHeldRow row.now) (λ _. ¬ IsHeldRow row.now)) }
+    ensures judged { IfOk result (λ o. MatchOption o (IsHeldRow row.now)
+        (λ _. ¬ IsHeldRow row.now)) }
     ensures fault { IfErr result IsFailure }
 {
     if row.column_count() != 5 {
@@ -211,8 +227,15 @@ fn is_image(bytes: &[u8]) -> bool
 /// The rows with the count of a key: one, or none.
 fn look_up<S: Alter>(tx: &mut Transaction<'_, S>, row: &RowKey<'_>) -> Result<Vec<Row>, Error>
     ensures same_reference { tx.new.conn.ghost_name ≡ tx.old.conn.ghost_name }
-    ensures shown { HasCleanDisk (state S.Store tx.new.conn.now) → IsWorking (state S.Store tx.old.conn.now) → IfOk result (λ rows. IsPermutation (map (λ r. column r 4 ∷ []) (filter (is_at (key_in row.now)) (held_rows (state S.Store tx.old.conn.now).now))) rows.items) }
-    ensures same { HasCleanDisk (state S.Store tx.new.conn.now) → IsWorking (state S.Store tx.old.conn.now) → OnOk result (IsUnchanged (state S.Store tx.old.conn.now) (state S.Store tx.new.conn.now)) }
+    ensures shown { HasCleanDisk (state S.Store tx.new.conn.now)
+        → IsWorking (state S.Store tx.old.conn.now)
+        → IfOk result (λ rows. IsPermutation (map (λ r. column r 4 ∷ [])
+        (filter (is_at (key_in row.now)) (held_rows (state S.Store tx.old.conn.now).now)))
+        rows.items) }
+    ensures same { HasCleanDisk (state S.Store tx.new.conn.now)
+        → IsWorking (state S.Store tx.old.conn.now)
+        → OnOk result (IsUnchanged (state S.Store tx.old.conn.now)
+        (state S.Store tx.new.conn.now)) }
     ensures stays { Stays (state S.Store tx.old.conn.now) (state S.Store tx.new.conn.now) }
 {
     tx.query_all(
@@ -229,12 +252,23 @@ fn look_up<S: Alter>(tx: &mut Transaction<'_, S>, row: &RowKey<'_>) -> Result<Ve
 fn find<S: Alter>(conn: &mut Connection<S>, row: &RowKey<'_>) -> Result<Vec<Row>, Error>
     requires { conn.old.in_transaction ≡ false }
     ensures autocommit { conn.new.in_transaction ≡ false }
-    ensures shown { HasCleanDisk (state S.Store conn.new) → IsLaidOut (state S.Store conn.old).now.schema → IfOk result (λ rows. IsPermutation (map (λ r. column r 4 ∷ []) (filter (is_at (key_in row.now)) (held_rows (state S.Store conn.old).now))) rows.items) }
-    ensures same { HasCleanDisk (state S.Store conn.new) → IsLaidOut (state S.Store conn.old).now.schema → OnOk result (IsUnchanged (state S.Store conn.old) (state S.Store conn.new)) }
-    ensures rests { HasCleanDisk (state S.Store conn.new) → IsLaidOut (state S.Store conn.old).now.schema → (state S.Store conn.old).now ≡ (state S.Store conn.old).committed → Rests (state S.Store conn.old) (state S.Store conn.new) }
-    ensures survives { IsLaidOut (state S.Store conn.old).now.schema → Survives (state S.Store conn.old) (state S.Store conn.new) (λ _. ⊥) }
-    ensures opened { HasCleanDisk (state S.Store conn.new) → WasOpen (state S.Store conn.old) (state S.Store conn.new) }
-    ensures live { HasCleanDisk (state S.Store conn.new) → OnOk result (IsTrue (state S.Store conn.old).is_open) }
+    ensures shown { HasCleanDisk (state S.Store conn.new)
+        → IsLaidOut (state S.Store conn.old).now.schema
+        → IfOk result (λ rows. IsPermutation (map (λ r. column r 4 ∷ [])
+        (filter (is_at (key_in row.now)) (held_rows (state S.Store conn.old).now))) rows.items) }
+    ensures same { HasCleanDisk (state S.Store conn.new)
+        → IsLaidOut (state S.Store conn.old).now.schema
+        → OnOk result (IsUnchanged (state S.Store conn.old) (state S.Store conn.new)) }
+    ensures rests { HasCleanDisk (state S.Store conn.new)
+        → IsLaidOut (state S.Store conn.old).now.schema
+        → (state S.Store conn.old).now ≡ (state S.Store conn.old).committed
+        → Rests (state S.Store conn.old) (state S.Store conn.new) }
+    ensures survives { IsLaidOut (state S.Store conn.old).now.schema
+        → Survives (state S.Store conn.old) (state S.Store conn.new) (λ _. ⊥) }
+    ensures opened { HasCleanDisk (state S.Store conn.new)
+        → WasOpen (state S.Store conn.old) (state S.Store conn.new) }
+    ensures live { HasCleanDisk (state S.Store conn.new)
+        → OnOk result (IsTrue (state S.Store conn.old).is_open) }
     ensures clean { HasCleanDisk (state S.Store conn.new) → HasCleanDisk (state S.Store conn.old) }
 {
     conn.query_all(
@@ -272,8 +306,13 @@ pub(crate) fn read<S: Alter>(
 ) -> Result<Option<u64>, Error>
     ensures fits { IfOk result (λ found. IfSome found (λ n. n < 2 ^ 63)) }
     ensures same_reference { tx.new.conn.ghost_name ≡ tx.old.conn.ghost_name }
-    ensures found { HasCleanDisk (state S.Store tx.new.conn.now) → IsWorking (state S.Store tx.old.conn.now) → IfOk result (Finds (key_in row.now) (held_rows (state S.Store tx.old.conn.now).now)) }
-    ensures same { HasCleanDisk (state S.Store tx.new.conn.now) → IsWorking (state S.Store tx.old.conn.now) → OnOk result (IsUnchanged (state S.Store tx.old.conn.now) (state S.Store tx.new.conn.now)) }
+    ensures found { HasCleanDisk (state S.Store tx.new.conn.now)
+        → IsWorking (state S.Store tx.old.conn.now)
+        → IfOk result (Finds (key_in row.now) (held_rows (state S.Store tx.old.conn.now).now)) }
+    ensures same { HasCleanDisk (state S.Store tx.new.conn.now)
+        → IsWorking (state S.Store tx.old.conn.now)
+        → OnOk result (IsUnchanged (state S.Store tx.old.conn.now)
+        (state S.Store tx.new.conn.now)) }
     ensures stays { Stays (state S.Store tx.old.conn.now) (state S.Store tx.new.conn.now) }
 {
     let rows = look_up(tx, row)?;
@@ -284,13 +323,23 @@ pub(crate) fn read<S: Alter>(
 pub(crate) fn count<S: Alter>(conn: &mut Connection<S>, row: &RowKey<'_>) -> Result<u64, Error>
     requires { conn.old.in_transaction ≡ false }
     ensures autocommit { conn.new.in_transaction ≡ false }
-    ensures counts { HasCleanDisk (state S.Store conn.new) → IsLaidOut (state S.Store conn.old).now.schema → IfOk result (λ n. n ≡ count (held_rows (state S.Store conn.old).now) (key_in row.now)) }
+    ensures counts { HasCleanDisk (state S.Store conn.new)
+        → IsLaidOut (state S.Store conn.old).now.schema
+        → IfOk result (λ n. n ≡ count (held_rows (state S.Store conn.old).now) (key_in row.now)) }
     ensures fits { IfOk result (λ n. n < 2 ^ 63) }
-    ensures same { HasCleanDisk (state S.Store conn.new) → IsLaidOut (state S.Store conn.old).now.schema → OnOk result (IsUnchanged (state S.Store conn.old) (state S.Store conn.new)) }
-    ensures rests { HasCleanDisk (state S.Store conn.new) → IsLaidOut (state S.Store conn.old).now.schema → (state S.Store conn.old).now ≡ (state S.Store conn.old).committed → Rests (state S.Store conn.old) (state S.Store conn.new) }
-    ensures survives { IsLaidOut (state S.Store conn.old).now.schema → Survives (state S.Store conn.old) (state S.Store conn.new) (λ _. ⊥) }
-    ensures opened { HasCleanDisk (state S.Store conn.new) → WasOpen (state S.Store conn.old) (state S.Store conn.new) }
-    ensures live { HasCleanDisk (state S.Store conn.new) → OnOk result (IsTrue (state S.Store conn.old).is_open) }
+    ensures same { HasCleanDisk (state S.Store conn.new)
+        → IsLaidOut (state S.Store conn.old).now.schema
+        → OnOk result (IsUnchanged (state S.Store conn.old) (state S.Store conn.new)) }
+    ensures rests { HasCleanDisk (state S.Store conn.new)
+        → IsLaidOut (state S.Store conn.old).now.schema
+        → (state S.Store conn.old).now ≡ (state S.Store conn.old).committed
+        → Rests (state S.Store conn.old) (state S.Store conn.new) }
+    ensures survives { IsLaidOut (state S.Store conn.old).now.schema
+        → Survives (state S.Store conn.old) (state S.Store conn.new) (λ _. ⊥) }
+    ensures opened { HasCleanDisk (state S.Store conn.new)
+        → WasOpen (state S.Store conn.old) (state S.Store conn.new) }
+    ensures live { HasCleanDisk (state S.Store conn.new)
+        → OnOk result (IsTrue (state S.Store conn.old).is_open) }
     ensures clean { HasCleanDisk (state S.Store conn.new) → HasCleanDisk (state S.Store conn.old) }
 {
     let rows = find(conn, row)?;
@@ -301,7 +350,10 @@ pub(crate) fn count<S: Alter>(conn: &mut Connection<S>, row: &RowKey<'_>) -> Res
 /// Inserts a row with the count 1 if it is not there, and returns whether it did.
 pub(crate) fn insert<S: Alter>(tx: &mut Transaction<'_, S>, row: &RowKey<'_>) -> Result<bool, Error>
     ensures same_reference { tx.new.conn.ghost_name ≡ tx.old.conn.ghost_name }
-    ensures inserts { HasCleanDisk (state S.Store tx.new.conn.now) → IsWorking (state S.Store tx.old.conn.now) → IfOk result (Inserts (key_in row.now ∷ []) (state S.Store tx.old.conn.now) (state S.Store tx.new.conn.now)) }
+    ensures inserts { HasCleanDisk (state S.Store tx.new.conn.now)
+        → IsWorking (state S.Store tx.old.conn.now)
+        → IfOk result (Inserts (key_in row.now ∷ []) (state S.Store tx.old.conn.now)
+        (state S.Store tx.new.conn.now)) }
     ensures stays { Stays (state S.Store tx.old.conn.now) (state S.Store tx.new.conn.now) }
 {
     let outcome = tx.execute(
@@ -318,7 +370,8 @@ pub(crate) fn insert<S: Alter>(tx: &mut Transaction<'_, S>, row: &RowKey<'_>) ->
 /// Whether an INSERT inserted its rows. If it did not, the key of the table refused one of them.
 fn inserted(outcome: Result<usize, Error>) -> Result<bool, Error>
     ensures ok { result ≡ Ok true → IsOk outcome }
-    ensures taken { result ≡ Ok false → outcome ≡ Err (Error.SqliteFailure (ErrorCode.ConstraintViolation Constraint.Unique)) }
+    ensures taken { result ≡ Ok false → outcome
+        ≡ Err (Error.SqliteFailure (ErrorCode.ConstraintViolation Constraint.Unique)) }
     ensures err { IfErr result (λ error. outcome ≡ Err error) }
 {
     match outcome {
@@ -337,7 +390,10 @@ pub(crate) fn insert_eight<S: Alter>(
     images: &[&[u8]],
 ) -> Result<bool, Error>
     ensures same_reference { tx.new.conn.ghost_name ≡ tx.old.conn.ghost_name }
-    ensures inserts { HasCleanDisk (state S.Store tx.new.conn.now) → IsWorking (state S.Store tx.old.conn.now) → IfOk result (Inserts (map (λ r. key_of schema.now table.now r.now) images.now) (state S.Store tx.old.conn.now) (state S.Store tx.new.conn.now)) }
+    ensures inserts { HasCleanDisk (state S.Store tx.new.conn.now)
+        → IsWorking (state S.Store tx.old.conn.now)
+        → IfOk result (Inserts (map (λ r. key_of schema.now table.now r.now) images.now)
+        (state S.Store tx.old.conn.now) (state S.Store tx.new.conn.now)) }
     ensures stays { Stays (state S.Store tx.old.conn.now) (state S.Store tx.new.conn.now) }
 {
     let [a, b, c, d, e, f, g, h] = images else {
@@ -363,7 +419,10 @@ pub(crate) fn insert_eight<S: Alter>(
 /// Deletes a row if its count is 1, and returns whether it did.
 pub(crate) fn delete<S: Alter>(tx: &mut Transaction<'_, S>, row: &RowKey<'_>) -> Result<bool, Error>
     ensures same_reference { tx.new.conn.ghost_name ≡ tx.old.conn.ghost_name }
-    ensures deletes { HasCleanDisk (state S.Store tx.new.conn.now) → IsWorking (state S.Store tx.old.conn.now) → IfOk result (Deletes (key_in row.now) (state S.Store tx.old.conn.now) (state S.Store tx.new.conn.now)) }
+    ensures deletes { HasCleanDisk (state S.Store tx.new.conn.now)
+        → IsWorking (state S.Store tx.old.conn.now)
+        → IfOk result (Deletes (key_in row.now) (state S.Store tx.old.conn.now)
+        (state S.Store tx.new.conn.now)) }
     ensures stays { Stays (state S.Store tx.old.conn.now) (state S.Store tx.new.conn.now) }
 {
     let deleted = tx.execute(
@@ -385,8 +444,18 @@ pub(crate) fn update<S: Alter>(
     n: i64,
 ) -> Result<usize, Error>
     ensures same_reference { tx.new.conn.ghost_name ≡ tx.old.conn.ghost_name }
-    ensures raised { HasCleanDisk (state S.Store tx.new.conn.now) → IsWorking (state S.Store tx.old.conn.now) → (m : ℕ) → m + 1 ≤ most → Finds (key_in row.now) (held_rows (state S.Store tx.old.conn.now).now) (Some m) → n ≡ pos (m + 1) → OnOk result (HasCounts (state S.Store tx.old.conn.now) (state S.Store tx.new.conn.now) (with_one (key_in row.now) (count (held_rows (state S.Store tx.old.conn.now).now)))) }
-    ensures lowered { HasCleanDisk (state S.Store tx.new.conn.now) → IsWorking (state S.Store tx.old.conn.now) → (m : ℕ) → 1 ≤ m → m ≤ most → Finds (key_in row.now) (held_rows (state S.Store tx.old.conn.now).now) (Some (m + 1)) → n ≡ pos m → OnOk result (HasCounts (state S.Store tx.old.conn.now) (state S.Store tx.new.conn.now) (without_one (key_in row.now) (count (held_rows (state S.Store tx.old.conn.now).now)))) }
+    ensures raised { HasCleanDisk (state S.Store tx.new.conn.now)
+        → IsWorking (state S.Store tx.old.conn.now) → (m : ℕ) → m + 1 ≤ most
+        → Finds (key_in row.now) (held_rows (state S.Store tx.old.conn.now).now) (Some m)
+        → n ≡ pos (m + 1) → OnOk result (HasCounts (state S.Store tx.old.conn.now)
+        (state S.Store tx.new.conn.now) (with_one (key_in row.now)
+        (count (held_rows (state S.Store tx.old.conn.now).now)))) }
+    ensures lowered { HasCleanDisk (state S.Store tx.new.conn.now)
+        → IsWorking (state S.Store tx.old.conn.now) → (m : ℕ) → 1 ≤ m → m ≤ most
+        → Finds (key_in row.now) (held_rows (state S.Store tx.old.conn.now).now) (Some (m + 1))
+        → n ≡ pos m → OnOk result (HasCounts (state S.Store tx.old.conn.now)
+        (state S.Store tx.new.conn.now) (without_one (key_in row.now)
+        (count (held_rows (state S.Store tx.old.conn.now).now)))) }
     ensures stays { Stays (state S.Store tx.old.conn.now) (state S.Store tx.new.conn.now) }
 {
     tx.execute(

@@ -33,9 +33,14 @@ pub(crate) struct Meta {
 
 pub(crate) fn make_meta<S: Alter>(tx: &mut Transaction<'_, S>) -> Result<usize, Error>
     ensures same_reference { tx.new.conn.ghost_name ≡ tx.old.conn.ghost_name }
-    ensures made { HasCleanDisk (state S.Store tx.new.conn.now) → IsMaking [] (state S.Store tx.old.conn.now) → OnOk result (IsMaking with_meta (state S.Store tx.new.conn.now)) }
-    ensures kept { HasCleanDisk (state S.Store tx.new.conn.now) → IsMaking [] (state S.Store tx.old.conn.now) → KeepsCommit (state S.Store tx.old.conn.now) (state S.Store tx.new.conn.now) }
-    ensures survives { Survives (state S.Store tx.old.conn.now) (state S.Store tx.new.conn.now) (λ _. ⊥) }
+    ensures made { HasCleanDisk (state S.Store tx.new.conn.now)
+        → IsMaking [] (state S.Store tx.old.conn.now)
+        → OnOk result (IsMaking with_meta (state S.Store tx.new.conn.now)) }
+    ensures kept { HasCleanDisk (state S.Store tx.new.conn.now)
+        → IsMaking [] (state S.Store tx.old.conn.now)
+        → KeepsCommit (state S.Store tx.old.conn.now) (state S.Store tx.new.conn.now) }
+    ensures survives { Survives (state S.Store tx.old.conn.now) (state S.Store tx.new.conn.now)
+        (λ _. ⊥) }
 {
     tx.execute(
         "CREATE TABLE meta (k TEXT PRIMARY KEY, v INTEGER NOT NULL)",
@@ -46,9 +51,14 @@ pub(crate) fn make_meta<S: Alter>(tx: &mut Transaction<'_, S>) -> Result<usize, 
 /// Records that the tables have layout 2.
 pub(crate) fn set_layout<S: Alter>(tx: &mut Transaction<'_, S>) -> Result<usize, Error>
     ensures same_reference { tx.new.conn.ghost_name ≡ tx.old.conn.ghost_name }
-    ensures made { HasCleanDisk (state S.Store tx.new.conn.now) → IsMaking new_layout (state S.Store tx.old.conn.now) → OnOk result (IsNaming set.empty (state S.Store tx.new.conn.now)) }
-    ensures kept { HasCleanDisk (state S.Store tx.new.conn.now) → IsMaking new_layout (state S.Store tx.old.conn.now) → KeepsCommit (state S.Store tx.old.conn.now) (state S.Store tx.new.conn.now) }
-    ensures survives { Survives (state S.Store tx.old.conn.now) (state S.Store tx.new.conn.now) (λ _. ⊥) }
+    ensures made { HasCleanDisk (state S.Store tx.new.conn.now)
+        → IsMaking new_layout (state S.Store tx.old.conn.now)
+        → OnOk result (IsNaming set.empty (state S.Store tx.new.conn.now)) }
+    ensures kept { HasCleanDisk (state S.Store tx.new.conn.now)
+        → IsMaking new_layout (state S.Store tx.old.conn.now)
+        → KeepsCommit (state S.Store tx.old.conn.now) (state S.Store tx.new.conn.now) }
+    ensures survives { Survives (state S.Store tx.old.conn.now) (state S.Store tx.new.conn.now)
+        (λ _. ⊥) }
 {
     tx.execute("INSERT INTO meta VALUES ('layout', 2)", &[])
 }
@@ -56,9 +66,14 @@ pub(crate) fn set_layout<S: Alter>(tx: &mut Transaction<'_, S>) -> Result<usize,
 /// Records that the tables have layout 2. Other rows of `meta` stay.
 pub(crate) fn raise_layout<S: Alter>(tx: &mut Transaction<'_, S>) -> Result<usize, Error>
     ensures same_reference { tx.new.conn.ghost_name ≡ tx.old.conn.ghost_name }
-    ensures migrated { HasCleanDisk (state S.Store tx.new.conn.now) → (content : Content) → IsMigrating HasBare (pos 1) content (state S.Store tx.old.conn.now) → OnOk result (IsMigrating HasBare (pos 2) content (state S.Store tx.new.conn.now)) }
-    ensures kept { HasCleanDisk (state S.Store tx.new.conn.now) → (content : Content) → IsMigrating HasBare (pos 1) content (state S.Store tx.old.conn.now) → KeepsCommit (state S.Store tx.old.conn.now) (state S.Store tx.new.conn.now) }
-    ensures survives { Survives (state S.Store tx.old.conn.now) (state S.Store tx.new.conn.now) (λ _. ⊥) }
+    ensures migrated { HasCleanDisk (state S.Store tx.new.conn.now) → (content : Content)
+        → IsMigrating HasBare (pos 1) content (state S.Store tx.old.conn.now)
+        → OnOk result (IsMigrating HasBare (pos 2) content (state S.Store tx.new.conn.now)) }
+    ensures kept { HasCleanDisk (state S.Store tx.new.conn.now) → (content : Content)
+        → IsMigrating HasBare (pos 1) content (state S.Store tx.old.conn.now)
+        → KeepsCommit (state S.Store tx.old.conn.now) (state S.Store tx.new.conn.now) }
+    ensures survives { Survives (state S.Store tx.old.conn.now) (state S.Store tx.new.conn.now)
+        (λ _. ⊥) }
 {
     tx.execute("UPDATE meta SET v = 2 WHERE k = 'layout'", &[])
 }
@@ -67,10 +82,17 @@ pub(crate) fn raise_layout<S: Alter>(tx: &mut Transaction<'_, S>) -> Result<usiz
 pub(crate) fn read_meta<S: Alter>(conn: &mut Connection<S>) -> Result<Meta, Error>
     requires { conn.old.in_transaction ≡ false }
     ensures autocommit { conn.new.in_transaction ≡ false }
-    ensures says { HasCleanDisk (state S.Store conn.new) → HasMeta (state S.Store conn.old).now.schema → IfOk result (IsMeta (meta_rows (state S.Store conn.old).now)) }
-    ensures same { HasCleanDisk (state S.Store conn.new) → HasMeta (state S.Store conn.old).now.schema → OnOk result (IsUnchanged (state S.Store conn.old) (state S.Store conn.new)) }
-    ensures rested { HasCleanDisk (state S.Store conn.new) → HasMeta (state S.Store conn.old).now.schema → Rested (state S.Store conn.old) (state S.Store conn.new) }
-    ensures crash { HasMeta (state S.Store conn.old).now.schema → Survives (state S.Store conn.old) (state S.Store conn.new) (λ _. ⊥) }
+    ensures says { HasCleanDisk (state S.Store conn.new)
+        → HasMeta (state S.Store conn.old).now.schema
+        → IfOk result (IsMeta (meta_rows (state S.Store conn.old).now)) }
+    ensures same { HasCleanDisk (state S.Store conn.new)
+        → HasMeta (state S.Store conn.old).now.schema
+        → OnOk result (IsUnchanged (state S.Store conn.old) (state S.Store conn.new)) }
+    ensures rested { HasCleanDisk (state S.Store conn.new)
+        → HasMeta (state S.Store conn.old).now.schema
+        → Rested (state S.Store conn.old) (state S.Store conn.new) }
+    ensures crash { HasMeta (state S.Store conn.old).now.schema
+        → Survives (state S.Store conn.old) (state S.Store conn.new) (λ _. ⊥) }
     ensures clean { HasCleanDisk (state S.Store conn.new) → HasCleanDisk (state S.Store conn.old) }
 {
     let rows = read_all(conn, ALL)?;
@@ -121,7 +143,8 @@ pub(crate) fn is_layout(row: &Row) -> Result<bool, Error>
 
 /// Whether all rows are lawful rows of `meta`.
 pub(crate) fn are_meta(rows: &[Row]) -> Result<bool, Error>
-    ensures { IfOk result (λ b. MatchBool b (AllByRecursion IsMetaRow rows.now) (¬ AllByRecursion IsMetaRow rows.now)) }
+    ensures { IfOk result (λ b. MatchBool b (AllByRecursion IsMetaRow rows.now)
+        (¬ AllByRecursion IsMetaRow rows.now)) }
 {
     for row in rows {
         if let Some(_) = meta_rule(row)? {

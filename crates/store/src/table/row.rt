@@ -27,7 +27,8 @@ pub(crate) const MOST: u64 = 9_223_372_036_854_775_807;
 
 /// The number in a column, if it is from 1 to 2^63 - 1.
 pub(crate) fn number_at(row: &Row, at: usize) -> Result<Option<u64>, Error>
-    ensures { IfOk result (λ o. MatchOption o ((k : ℕ) → column row.now at ≡ Int (pos k) → 1 ≤ k → k ≤ most → ⊥) (λ k. (column row.now at ≡ Int (pos k)) × (1 ≤ k) × (k ≤ most))) }
+    ensures { IfOk result (λ o. MatchOption o ((k : ℕ) → column row.now at ≡ Int (pos k) → 1 ≤ k
+        → k ≤ most → ⊥) (λ k. (column row.now at ≡ Int (pos k)) × (1 ≤ k) × (k ≤ most))) }
 {
     let number: u64 = match row.get(at) {
         Ok(number) => number,
@@ -113,13 +114,24 @@ pub(crate) fn is_after(last: Option<i64>, id: i64) -> bool
 pub(crate) fn read_all<S: Alter>(conn: &mut Connection<S>, sql: &str) -> Result<Vec<Row>, Error>
     requires { conn.old.in_transaction ≡ false }
     ensures autocommit { conn.new.in_transaction ≡ false }
-    ensures rows { HasCleanDisk (state S.Store conn.new) → (tree : ℕ) → AsksAll (state S.Store conn.old).now.schema sql.now tree → IfOk result (λ rows. IsPermutation ((state S.Store conn.old).now.trees tree) rows.items) }
-    ensures ascend { HasCleanDisk (state S.Store conn.new) → (tree : ℕ) → (asks : AsksAll (state S.Store conn.old).now.schema sql.now tree) → IfOk result (λ rows. Ascends (by_order asks.order) rows.items) }
-    ensures same { HasCleanDisk (state S.Store conn.new) → (tree : ℕ) → AsksAll (state S.Store conn.old).now.schema sql.now tree → OnOk result (IsUnchanged (state S.Store conn.old) (state S.Store conn.new)) }
-    ensures rested { HasCleanDisk (state S.Store conn.new) → (tree : ℕ) → AsksAll (state S.Store conn.old).now.schema sql.now tree → Rested (state S.Store conn.old) (state S.Store conn.new) }
-    ensures crash { Survives (state S.Store conn.old) (state S.Store conn.new) (λ _. (tree : ℕ) → ¬ AsksAll (state S.Store conn.old).now.schema sql.now tree) }
-    ensures opened { HasCleanDisk (state S.Store conn.new) → WasOpen (state S.Store conn.old) (state S.Store conn.new) }
-    ensures live { HasCleanDisk (state S.Store conn.new) → OnOk result (IsTrue (state S.Store conn.old).is_open) }
+    ensures rows { HasCleanDisk (state S.Store conn.new) → (tree : ℕ)
+        → AsksAll (state S.Store conn.old).now.schema sql.now tree
+        → IfOk result (λ rows. IsPermutation ((state S.Store conn.old).now.trees tree) rows.items) }
+    ensures ascend { HasCleanDisk (state S.Store conn.new) → (tree : ℕ)
+        → (asks : AsksAll (state S.Store conn.old).now.schema sql.now tree)
+        → IfOk result (λ rows. Ascends (by_order asks.order) rows.items) }
+    ensures same { HasCleanDisk (state S.Store conn.new) → (tree : ℕ)
+        → AsksAll (state S.Store conn.old).now.schema sql.now tree
+        → OnOk result (IsUnchanged (state S.Store conn.old) (state S.Store conn.new)) }
+    ensures rested { HasCleanDisk (state S.Store conn.new) → (tree : ℕ)
+        → AsksAll (state S.Store conn.old).now.schema sql.now tree
+        → Rested (state S.Store conn.old) (state S.Store conn.new) }
+    ensures crash { Survives (state S.Store conn.old) (state S.Store conn.new) (λ _. (tree : ℕ)
+        → ¬ AsksAll (state S.Store conn.old).now.schema sql.now tree) }
+    ensures opened { HasCleanDisk (state S.Store conn.new)
+        → WasOpen (state S.Store conn.old) (state S.Store conn.new) }
+    ensures live { HasCleanDisk (state S.Store conn.new)
+        → OnOk result (IsTrue (state S.Store conn.old).is_open) }
 {
     // For the prover: it names the schema in the proof. The call does nothing at run time.
     conn.schema();

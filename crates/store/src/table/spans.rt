@@ -42,10 +42,18 @@ const HI: &str = "hi is not above lo and at most 9223372036854775807";
 
 pub(crate) fn make_spans<S: Alter>(tx: &mut Transaction<'_, S>) -> Result<usize, Error>
     ensures same_reference { tx.new.conn.ghost_name ≡ tx.old.conn.ghost_name }
-    ensures made { HasCleanDisk (state S.Store tx.new.conn.now) → IsMaking with_held (state S.Store tx.old.conn.now) → OnOk result (IsMaking with_spans (state S.Store tx.new.conn.now)) }
-    ensures migrated { HasCleanDisk (state S.Store tx.new.conn.now) → (content : Content) → IsMigrating (HasTables []) (pos 1) content (state S.Store tx.old.conn.now) → OnOk result (IsMigrating (HasTables made_spans) (pos 1) content (state S.Store tx.new.conn.now)) }
-    ensures kept { HasCleanDisk (state S.Store tx.new.conn.now) → (state S.Store tx.old.conn.now).in_transaction ≡ true → KeepsCommit (state S.Store tx.old.conn.now) (state S.Store tx.new.conn.now) }
-    ensures survives { Survives (state S.Store tx.old.conn.now) (state S.Store tx.new.conn.now) (λ _. ⊥) }
+    ensures made { HasCleanDisk (state S.Store tx.new.conn.now)
+        → IsMaking with_held (state S.Store tx.old.conn.now)
+        → OnOk result (IsMaking with_spans (state S.Store tx.new.conn.now)) }
+    ensures migrated { HasCleanDisk (state S.Store tx.new.conn.now) → (content : Content)
+        → IsMigrating (HasTables []) (pos 1) content (state S.Store tx.old.conn.now)
+        → OnOk result (IsMigrating (HasTables made_spans) (pos 1) content
+        (state S.Store tx.new.conn.now)) }
+    ensures kept { HasCleanDisk (state S.Store tx.new.conn.now)
+        → (state S.Store tx.old.conn.now).in_transaction ≡ true
+        → KeepsCommit (state S.Store tx.old.conn.now) (state S.Store tx.new.conn.now) }
+    ensures survives { Survives (state S.Store tx.old.conn.now) (state S.Store tx.new.conn.now)
+        (λ _. ⊥) }
 {
     tx.execute(
         "CREATE TABLE spans (source BLOB NOT NULL, lo INTEGER NOT NULL, hi INTEGER NOT NULL, PRIMARY KEY (source, lo))",
@@ -71,7 +79,9 @@ pub(crate) fn load_spans<S: Alter>(
 
 /// The set of the rows of `spans`.
 pub(crate) fn spans_from(alloc: Global, rows: &[Row]) -> Result<GtidSet, StoreFault>
-    ensures judged { Judges result (λ ids. AreSpans rows.now ids × HasRowids rows.now) (AllByRecursion IsSpanRow rows.now × IsDistinct touches (map span_in rows.now)) }
+    ensures judged { Judges result (λ ids. AreSpans rows.now ids
+        × HasRowids rows.now) (AllByRecursion IsSpanRow rows.now
+        × IsDistinct touches (map span_in rows.now)) }
     ensures fault { IfErr result IsLoadFault }
 {
     let Some(spans) = spans_of(alloc, rows)? else {
@@ -83,7 +93,8 @@ pub(crate) fn spans_from(alloc: Global, rows: &[Row]) -> Result<GtidSet, StoreFa
 
 /// The spans of the rows, if all are lawful rows of `spans`.
 pub(crate) fn spans_of(alloc: Global, rows: &[Row]) -> Result<Option<Vec<Span>>, StoreFault>
-    ensures judged { IfOk result (λ o. MatchOption o (¬ AllByRecursion IsSpanRow rows.now) (λ spans. AllByRecursion IsSpanRow rows.now × (spans.items ≡ map span_in rows.now))) }
+    ensures judged { IfOk result (λ o. MatchOption o (¬ AllByRecursion IsSpanRow rows.now)
+        (λ spans. AllByRecursion IsSpanRow rows.now × (spans.items ≡ map span_in rows.now))) }
     ensures fault { IfErr result IsFailure }
 {
     let mut spans = Vec::new(alloc);
@@ -98,7 +109,8 @@ pub(crate) fn spans_of(alloc: Global, rows: &[Row]) -> Result<Option<Vec<Span>>,
 
 /// The span of a row, or the rule of `spans` that the row breaks.
 pub(crate) fn span_of(row: &Row) -> Result<Result<Span, &'static str>, Error>
-    ensures { IfOk result (λ o. MatchResult o (λ s. IsSpanRow row.now × (s ≡ span_in row.now)) (λ _. ¬ IsSpanRow row.now)) }
+    ensures { IfOk result (λ o. MatchResult o (λ s. IsSpanRow row.now
+        × (s ≡ span_in row.now)) (λ _. ¬ IsSpanRow row.now)) }
 {
     if row.column_count() != 4 {
         return Ok(Err(FORM));
@@ -205,7 +217,11 @@ pub(crate) fn add_span<S: Alter>(
     hi: i64,
 ) -> Result<usize, Error>
     ensures same_reference { tx.new.conn.ghost_name ≡ tx.old.conn.ghost_name }
-    ensures moves { HasCleanDisk (state S.Store tx.new.conn.now) → IsWorking (state S.Store tx.old.conn.now) → OnOk result (Moves (state S.Store tx.old.conn.now) (state S.Store tx.new.conn.now) ((Blob source.now ∷ Int lo ∷ Int hi ∷ []) ∷ shown_spans (span_rows (state S.Store tx.old.conn.now).now))) }
+    ensures moves { HasCleanDisk (state S.Store tx.new.conn.now)
+        → IsWorking (state S.Store tx.old.conn.now)
+        → OnOk result (Moves (state S.Store tx.old.conn.now) (state S.Store tx.new.conn.now)
+        ((Blob source.now ∷ Int lo ∷ Int hi ∷ []) ∷ shown_spans
+        (span_rows (state S.Store tx.old.conn.now).now))) }
     ensures stays { Stays (state S.Store tx.old.conn.now) (state S.Store tx.new.conn.now) }
 {
     tx.execute(
@@ -221,8 +237,14 @@ pub(crate) fn drop_span<S: Alter>(
     lo: i64,
 ) -> Result<usize, Error>
     ensures same_reference { tx.new.conn.ghost_name ≡ tx.old.conn.ghost_name }
-    ensures moves { HasCleanDisk (state S.Store tx.new.conn.now) → IsWorking (state S.Store tx.old.conn.now) → (span : Stored) → (others : List Stored) → Begins source.now lo (shown_spans (span_rows (state S.Store tx.old.conn.now).now)) span others → OnOk result (Moves (state S.Store tx.old.conn.now) (state S.Store tx.new.conn.now) others) }
-    ensures goes { HasCleanDisk (state S.Store tx.new.conn.now) → IsWorking (state S.Store tx.old.conn.now) → OnOk result (StaysOpen (state S.Store tx.old.conn.now) (state S.Store tx.new.conn.now)) }
+    ensures moves { HasCleanDisk (state S.Store tx.new.conn.now)
+        → IsWorking (state S.Store tx.old.conn.now) → (span : Stored) → (others : List Stored)
+        → Begins source.now lo (shown_spans (span_rows (state S.Store tx.old.conn.now).now)) span
+        others → OnOk result (Moves (state S.Store tx.old.conn.now)
+        (state S.Store tx.new.conn.now) others) }
+    ensures goes { HasCleanDisk (state S.Store tx.new.conn.now)
+        → IsWorking (state S.Store tx.old.conn.now)
+        → OnOk result (StaysOpen (state S.Store tx.old.conn.now) (state S.Store tx.new.conn.now)) }
     ensures stays { Stays (state S.Store tx.old.conn.now) (state S.Store tx.new.conn.now) }
 {
     tx.execute(
@@ -239,7 +261,12 @@ fn set_end<S: Alter>(
     hi: i64,
 ) -> Result<usize, Error>
     ensures same_reference { tx.new.conn.ghost_name ≡ tx.old.conn.ghost_name }
-    ensures moves { HasCleanDisk (state S.Store tx.new.conn.now) → IsWorking (state S.Store tx.old.conn.now) → (end : ℤ) → (others : List Stored) → Begins source.now lo (shown_spans (span_rows (state S.Store tx.old.conn.now).now)) (Blob source.now ∷ Int lo ∷ Int end ∷ []) others → OnOk result (Moves (state S.Store tx.old.conn.now) (state S.Store tx.new.conn.now) ((Blob source.now ∷ Int lo ∷ Int hi ∷ []) ∷ others)) }
+    ensures moves { HasCleanDisk (state S.Store tx.new.conn.now)
+        → IsWorking (state S.Store tx.old.conn.now) → (end : ℤ) → (others : List Stored)
+        → Begins source.now lo (shown_spans (span_rows (state S.Store tx.old.conn.now).now))
+        (Blob source.now ∷ Int lo ∷ Int end ∷ []) others
+        → OnOk result (Moves (state S.Store tx.old.conn.now) (state S.Store tx.new.conn.now)
+        ((Blob source.now ∷ Int lo ∷ Int hi ∷ []) ∷ others)) }
     ensures stays { Stays (state S.Store tx.old.conn.now) (state S.Store tx.new.conn.now) }
 {
     tx.execute(
@@ -255,8 +282,15 @@ fn drop_neighbour<S: Alter>(
 ) -> Result<(), Error>
     requires { IfSome neighbour IsLawfulSpan }
     ensures same_reference { tx.new.conn.ghost_name ≡ tx.old.conn.ghost_name }
-    ensures moves { HasCleanDisk (state S.Store tx.new.conn.now) → IsWorking (state S.Store tx.old.conn.now) → (front : List Span) → (rest : List Span) → AreRowsOf (span_rows (state S.Store tx.old.conn.now).now) (front ++ (one_or_none neighbour ++ rest)) → OnOk result (Moves (state S.Store tx.old.conn.now) (state S.Store tx.new.conn.now) (map stored_span (front ++ rest))) }
-    ensures goes { HasCleanDisk (state S.Store tx.new.conn.now) → IsWorking (state S.Store tx.old.conn.now) → OnOk result (StaysOpen (state S.Store tx.old.conn.now) (state S.Store tx.new.conn.now)) }
+    ensures moves { HasCleanDisk (state S.Store tx.new.conn.now)
+        → IsWorking (state S.Store tx.old.conn.now) → (front : List Span) → (rest : List Span)
+        → AreRowsOf (span_rows (state S.Store tx.old.conn.now).now)
+        (front ++ (one_or_none neighbour ++ rest))
+        → OnOk result (Moves (state S.Store tx.old.conn.now) (state S.Store tx.new.conn.now)
+        (map stored_span (front ++ rest))) }
+    ensures goes { HasCleanDisk (state S.Store tx.new.conn.now)
+        → IsWorking (state S.Store tx.old.conn.now)
+        → OnOk result (StaysOpen (state S.Store tx.old.conn.now) (state S.Store tx.new.conn.now)) }
     ensures stays { Stays (state S.Store tx.old.conn.now) (state S.Store tx.new.conn.now) }
 {
     let Some(span) = neighbour else {
@@ -277,8 +311,12 @@ pub(crate) fn record<S: Alter>(
     requires above { IfSome beside.now.above IsLawfulSpan }
     ensures same_reference { tx.new.conn.ghost_name ≡ tx.old.conn.ghost_name }
     ensures lawful { IsGtid (id gtid) }
-    ensures records { HasCleanDisk (state S.Store tx.new.conn.now) → IsWorking (state S.Store tx.old.conn.now) → (ids : Ids) → (spans : List Span) → Shows (span_rows (state S.Store tx.old.conn.now).now) spans ids
-        → Joins ids (id gtid) beside.now spans → OnOk result (Records (state S.Store tx.old.conn.now) (state S.Store tx.new.conn.now) (set.insert ids (id gtid))) }
+    ensures records { HasCleanDisk (state S.Store tx.new.conn.now)
+        → IsWorking (state S.Store tx.old.conn.now) → (ids : Ids) → (spans : List Span)
+        → Shows (span_rows (state S.Store tx.old.conn.now).now) spans ids
+        → Joins ids (id gtid) beside.now spans → OnOk result
+        (Records (state S.Store tx.old.conn.now) (state S.Store tx.new.conn.now)
+        (set.insert ids (id gtid))) }
     ensures stays { Stays (state S.Store tx.old.conn.now) (state S.Store tx.new.conn.now) }
 {
     is_source(gtid.source);
@@ -294,7 +332,10 @@ pub(crate) fn record<S: Alter>(
 fn add<S: Alter>(tx: &mut Transaction<'_, S>, span: Span) -> Result<usize, Error>
     ensures same_reference { tx.new.conn.ghost_name ≡ tx.old.conn.ghost_name }
     ensures source { IsSource span.source }
-    ensures moves { HasCleanDisk (state S.Store tx.new.conn.now) → IsWorking (state S.Store tx.old.conn.now) → OnOk result (Moves (state S.Store tx.old.conn.now) (state S.Store tx.new.conn.now) (stored_span span ∷ shown_spans (span_rows (state S.Store tx.old.conn.now).now))) }
+    ensures moves { HasCleanDisk (state S.Store tx.new.conn.now)
+        → IsWorking (state S.Store tx.old.conn.now)
+        → OnOk result (Moves (state S.Store tx.old.conn.now) (state S.Store tx.new.conn.now)
+        (stored_span span ∷ shown_spans (span_rows (state S.Store tx.old.conn.now).now))) }
     ensures stays { Stays (state S.Store tx.old.conn.now) (state S.Store tx.new.conn.now) }
 {
     is_source(span.source);
@@ -311,7 +352,10 @@ fn add<S: Alter>(tx: &mut Transaction<'_, S>, span: Span) -> Result<usize, Error
 pub(crate) fn add_all<S: Alter>(tx: &mut Transaction<'_, S>, spans: Spans<'_>) -> Result<(), Error>
     ensures same_reference { tx.new.conn.ghost_name ≡ tx.old.conn.ghost_name }
     ensures sources { OnOk result (AllByRecursion (λ s. IsSource s.source) spans.entry) }
-    ensures moves { HasCleanDisk (state S.Store tx.new.conn.now) → IsWorking (state S.Store tx.old.conn.now) → OnOk result (HasLeft (state S.Store tx.old.conn.now) (state S.Store tx.new.conn.now) spans.entry []) }
+    ensures moves { HasCleanDisk (state S.Store tx.new.conn.now)
+        → IsWorking (state S.Store tx.old.conn.now)
+        → OnOk result (HasLeft (state S.Store tx.old.conn.now)
+        (state S.Store tx.new.conn.now) spans.entry []) }
     ensures stays { Stays (state S.Store tx.old.conn.now) (state S.Store tx.new.conn.now) }
 {
     for span in spans {
@@ -323,8 +367,14 @@ pub(crate) fn add_all<S: Alter>(tx: &mut Transaction<'_, S>, spans: Spans<'_>) -
 /// Deletes a span. One that the columns cannot hold is refused.
 fn remove<S: Alter>(tx: &mut Transaction<'_, S>, span: Span) -> Result<usize, Error>
     ensures same_reference { tx.new.conn.ghost_name ≡ tx.old.conn.ghost_name }
-    ensures moves { HasCleanDisk (state S.Store tx.new.conn.now) → IsWorking (state S.Store tx.old.conn.now) → (rest : List Span) → AreRowsOf (span_rows (state S.Store tx.old.conn.now).now) (span ∷ rest) → OnOk result (Moves (state S.Store tx.old.conn.now) (state S.Store tx.new.conn.now) (map stored_span rest)) }
-    ensures goes { HasCleanDisk (state S.Store tx.new.conn.now) → IsWorking (state S.Store tx.old.conn.now) → OnOk result (StaysOpen (state S.Store tx.old.conn.now) (state S.Store tx.new.conn.now)) }
+    ensures moves { HasCleanDisk (state S.Store tx.new.conn.now)
+        → IsWorking (state S.Store tx.old.conn.now) → (rest : List Span)
+        → AreRowsOf (span_rows (state S.Store tx.old.conn.now).now) (span ∷ rest)
+        → OnOk result (Moves (state S.Store tx.old.conn.now) (state S.Store tx.new.conn.now)
+        (map stored_span rest)) }
+    ensures goes { HasCleanDisk (state S.Store tx.new.conn.now)
+        → IsWorking (state S.Store tx.old.conn.now)
+        → OnOk result (StaysOpen (state S.Store tx.old.conn.now) (state S.Store tx.new.conn.now)) }
     ensures stays { Stays (state S.Store tx.old.conn.now) (state S.Store tx.new.conn.now) }
 {
     if span.lo > MOST {
@@ -336,8 +386,13 @@ fn remove<S: Alter>(tx: &mut Transaction<'_, S>, span: Span) -> Result<usize, Er
 /// Deletes the spans, where these are all that are stored.
 fn remove_all<S: Alter>(tx: &mut Transaction<'_, S>, spans: Spans<'_>) -> Result<(), Error>
     ensures same_reference { tx.new.conn.ghost_name ≡ tx.old.conn.ghost_name }
-    ensures moves { HasCleanDisk (state S.Store tx.new.conn.now) → IsWorking (state S.Store tx.old.conn.now) → AreRowsOf (span_rows (state S.Store tx.old.conn.now).now) spans.entry → OnOk result (Moves (state S.Store tx.old.conn.now) (state S.Store tx.new.conn.now) []) }
-    ensures goes { HasCleanDisk (state S.Store tx.new.conn.now) → IsWorking (state S.Store tx.old.conn.now) → OnOk result (StaysOpen (state S.Store tx.old.conn.now) (state S.Store tx.new.conn.now)) }
+    ensures moves { HasCleanDisk (state S.Store tx.new.conn.now)
+        → IsWorking (state S.Store tx.old.conn.now)
+        → AreRowsOf (span_rows (state S.Store tx.old.conn.now).now) spans.entry
+        → OnOk result (Moves (state S.Store tx.old.conn.now) (state S.Store tx.new.conn.now) []) }
+    ensures goes { HasCleanDisk (state S.Store tx.new.conn.now)
+        → IsWorking (state S.Store tx.old.conn.now)
+        → OnOk result (StaysOpen (state S.Store tx.old.conn.now) (state S.Store tx.new.conn.now)) }
     ensures stays { Stays (state S.Store tx.old.conn.now) (state S.Store tx.new.conn.now) }
 {
     for span in spans {
@@ -354,7 +409,11 @@ pub(crate) fn replace_all<S: Alter>(
 ) -> Result<(), Error>
     ensures same_reference { tx.new.conn.ghost_name ≡ tx.old.conn.ghost_name }
     ensures lawful { OnOk result (AreGtids after.now) }
-    ensures records { HasCleanDisk (state S.Store tx.new.conn.now) → IsWorking (state S.Store tx.old.conn.now) → (spans : List Span) → Shows (span_rows (state S.Store tx.old.conn.now).now) spans executed.now → OnOk result (Records (state S.Store tx.old.conn.now) (state S.Store tx.new.conn.now) after.now) }
+    ensures records { HasCleanDisk (state S.Store tx.new.conn.now)
+        → IsWorking (state S.Store tx.old.conn.now) → (spans : List Span)
+        → Shows (span_rows (state S.Store tx.old.conn.now).now) spans executed.now
+        → OnOk result (Records (state S.Store tx.old.conn.now)
+        (state S.Store tx.new.conn.now) after.now) }
     ensures stays { Stays (state S.Store tx.old.conn.now) (state S.Store tx.new.conn.now) }
 {
     numbers_in_range(after);

@@ -21,4 +21,4 @@ pub returns-in-Ok-clause-notes : goal.returns-in-Ok-clause-notes
 returns-in-Ok-clause-notes g c = c.read_stream.ensures.notes
 
 pub returns-clause-notes : goal.returns-clause-notes
-returns-clause-notes g c clean was old holds = led_nowhere g.S.Store was old c.args.store.now (g.W.Observer.noted c.args.observer.now, g.W.Observer.has_stopped c.args.observer.now, g.W.Observer.waits c.args.observer.now) (g.W.Observer.noted c.args.observer.now, g.W.Observer.has_stopped c.args.observer.now, g.W.Observer.waits c.args.observer.now) holds refl (λ on. on) (waits_none (g.W.Observer.waits c.args.observer.now))
+returns-clause-notes g c clean was old holds = led_nowhere g.S.Store was old c.args.store.now (g.W.Observer.account c.args.observer.now) (g.W.Observer.account c.args.observer.now) holds refl (λ on. on) (waits_none (g.W.Observer.account c.args.observer.now).waits)

@@ -11,10 +11,9 @@ use Rattle.replica.specs.declared.captures.Capture.{Capture}
 use Rattle.replica.specs.declared.end.Ended.{Ended}
 use Rattle.replica.specs.Over.{HasReadAll}
 use Rattle.replica.specs.Capture.{AreRead, AreReadUpTo}
-use Rattle.replica.specs.Conn.{MayEnd}
 use Rattle.replica.proofs.Observed.{ends_later, more_ends, none_yet, one_at_most, still}
-use Rattle.replica.specs.Noted.{IsLedTo}
-use Rattle.replica.proofs.Noted.{led_from, led_through, led_to_end}
+use Rattle.replica.specs.Noted.{IsLedSinceOpening, MayEnd}
+use Rattle.replica.proofs.Noted.{since_from, since_through, led_through, led_to_end}
 use Rattle.replica.proofs.Missing.{missing_first, missing_later}
 use Rattle.replica.proofs.Captured.{no_captures, captures_more, breaks_off}
 use Rattle.replica.proofs.captures.read_captures.Goals as goal
@@ -22,7 +21,7 @@ use Rattle.replica.proofs.captures.read_captures.Goals as goal
 pub loop-capture-init : goal.loop-capture-init
 loop-capture-init g c = record {
   piece = search rules;
-  may = subst (λ (l : List Ended). All (λ (e : Ended). MayEnd e.reason (g.W.Observer.has_stopped c.opened.new.self)) l) (sym c.requires.none) (search rules);
+  may = subst (λ (l : List Ended). All (λ (e : Ended). MayEnd e.reason (g.W.Observer.account c.opened.new.self)) l) (sym c.requires.none) (search rules);
   heeds = λ some. absurd (some c.requires.none);
   stays = c.opened.ensures.stays;
   count = search rules;
@@ -32,10 +31,10 @@ loop-capture-init g c = record {
   broken = λ h. refl;
   keeps = λ is now holds on. refl;
   notes = λ clean was old holds.
-      subst (λ (l : List Ended). IsLedTo g.S.Store c.args.store.now c.args.store.now was old (g.W.Observer.noted c.args.observer.now, g.W.Observer.has_stopped c.args.observer.now, g.W.Observer.waits c.args.observer.now) (g.W.Observer.noted c.opened.new.self, g.W.Observer.has_stopped c.opened.new.self, g.W.Observer.waits c.opened.new.self) l) (sym c.requires.none)
-      (led_from g.S.Store was old c.args.store.now c.executed.result.now (g.W.Observer.noted c.args.observer.now, g.W.Observer.has_stopped c.args.observer.now, g.W.Observer.waits c.args.observer.now) (g.W.Observer.noted c.opened.new.self, g.W.Observer.has_stopped c.opened.new.self, g.W.Observer.waits c.opened.new.self) holds (c.executed.ensures.value was old holds) c.opened.ensures.noted c.opened.ensures.stays c.opened.ensures.waits);
+      subst (λ (l : List Ended). IsLedSinceOpening g.S.Store c.args.store.now c.args.store.now was old (g.W.Observer.account c.args.observer.now) (g.W.Observer.account c.opened.new.self) l) (sym c.requires.none)
+      (since_from g.S.Store was old c.args.store.now c.executed.result.now (g.W.Observer.account c.args.observer.now) (g.W.Observer.account c.opened.new.self) holds (c.executed.ensures.value was old holds) c.opened.ensures.noted c.opened.ensures.stays c.opened.ensures.waits);
   missed = λ clean was old holds.
-      missing_first (g.W.Observer.waits c.args.observer.now) (g.W.Observer.waits c.opened.new.self) c.executed.result.now old.executed (c.executed.ensures.value was old holds) c.opened.ensures.waits (sym c.is_done.ensures.done ∙ c.if-is_done.false);
+      missing_first (g.W.Observer.account c.args.observer.now).waits (g.W.Observer.account c.opened.new.self).waits c.executed.result.now old.executed (c.executed.ensures.value was old holds) c.opened.ensures.waits (sym c.is_done.ensures.done ∙ c.if-is_done.false);
   taken = λ h was old holds.
       subst (λ (l : List Ended). AreRead g.R.Read.remaining (HasReadAll g.S.Store c.args.config.now.limit c.args.store.now (state g.S.Store c.args.store.now.conn).now.schema was old) [] l) (search rules)
       (no_captures g.S.Store g.R.Read.remaining (λ h db is_open may. g.met.S.Store.settled h.store db is_open may) c.args.config.now.limit c.args.store.now was old holds);
@@ -80,8 +79,8 @@ loop-capture-preserved g c =
     ap (λ n. take n all) next ∙ take_more all (length c.loop-capture.yielded) c.in-Some.capture turn.0 ∙ ap (λ (p : Capture g.row.R.Denot). take (length c.loop-capture.yielded) all ++ p ∷ []) (sym turn.1) in
     record {
       piece = search rules;
-      may = more_ends c.loop-capture.ends.items c.in-Ok.end (g.W.Observer.has_stopped c.loop-capture.observer) (g.W.Observer.has_stopped c.read_capture.new.observer) (g.W.Observer.has_stopped c.ended-goes_on.new.self) c.push_reserved.new.self.items
-          (search rules) c.ended-goes_on.ensures.stays c.push_reserved.ensures.items inv.may c.in-Ok.ensures.may_end;
+      may = more_ends c.loop-capture.ends.items c.in-Ok.end (g.W.Observer.account c.loop-capture.observer) (g.W.Observer.account c.read_capture.new.observer) (g.W.Observer.account c.ended-goes_on.new.self) [] c.push_reserved.new.self.items
+          inv.heeds c.ended-goes_on.ensures.stays c.ended-goes_on.ensures.waits c.push_reserved.ensures.items inv.may c.in-Ok.ensures.may_end;
       heeds = λ some. not-true _ (sym c.ended-goes_on.ensures.goes_on ∙ c.if-not-goes_on.false);
       stays = λ h. c.ended-goes_on.ensures.stays (c.read_capture.ensures.stays (inv.stays h));
       count = ap length ends ∙ length_push c.loop-capture.ends.items c.in-Ok.end ∙ ap (λ n. n + 1) inv.count ∙ sym next;
@@ -91,18 +90,22 @@ loop-capture-preserved g c =
       broken = search rules;
       keeps = λ is now holds on. still (HoldsAs g.S.Store is now) c.args.store.now c.loop-capture.store c.read_capture.new.store (inv.keeps is now holds on) holds (λ h. c.read_capture.ensures.heeds is now h (inv.stays on));
       notes = λ clean was old holds.
-          subst (λ (l : List Ended). IsLedTo g.S.Store c.args.store.now c.read_capture.new.store was old (g.W.Observer.noted c.args.observer.now, g.W.Observer.has_stopped c.args.observer.now, g.W.Observer.waits c.args.observer.now) (g.W.Observer.noted c.ended-goes_on.new.self, g.W.Observer.has_stopped c.ended-goes_on.new.self, g.W.Observer.waits c.ended-goes_on.new.self) l) (sym c.push_reserved.ensures.items)
-          (led_through g.S.Store was old c.args.store.now c.loop-capture.store c.read_capture.new.store (g.W.Observer.noted c.args.observer.now, g.W.Observer.has_stopped c.args.observer.now, g.W.Observer.waits c.args.observer.now) (g.W.Observer.noted c.loop-capture.observer, g.W.Observer.has_stopped c.loop-capture.observer, g.W.Observer.waits c.loop-capture.observer) (g.W.Observer.noted c.ended-goes_on.new.self, g.W.Observer.has_stopped c.ended-goes_on.new.self, g.W.Observer.waits c.ended-goes_on.new.self) c.loop-capture.ends.items (c.in-Ok.end ∷ []) inv.following inv.heeds
+          subst (λ (l : List Ended). IsLedSinceOpening g.S.Store c.args.store.now c.read_capture.new.store was old (g.W.Observer.account c.args.observer.now) (g.W.Observer.account c.ended-goes_on.new.self) l) (sym c.push_reserved.ensures.items)
+          (since_through g.S.Store was old c.args.store.now c.loop-capture.store c.read_capture.new.store (g.W.Observer.account c.args.observer.now) (g.W.Observer.account c.loop-capture.observer) (g.W.Observer.account c.ended-goes_on.new.self) c.loop-capture.ends.items (c.in-Ok.end ∷ []) inv.following inv.heeds
           (inv.notes (c.read_capture.ensures.clean clean) was old holds)
           (λ is now held.
-          led_through g.S.Store is now c.loop-capture.store c.read_capture.new.store c.read_capture.new.store (g.W.Observer.noted c.loop-capture.observer, g.W.Observer.has_stopped c.loop-capture.observer, g.W.Observer.waits c.loop-capture.observer) (g.W.Observer.noted c.read_capture.new.observer, g.W.Observer.has_stopped c.read_capture.new.observer, g.W.Observer.waits c.read_capture.new.observer) (g.W.Observer.noted c.ended-goes_on.new.self, g.W.Observer.has_stopped c.ended-goes_on.new.self, g.W.Observer.waits c.ended-goes_on.new.self) [] (c.in-Ok.end ∷ []) c.read_capture.ensures.following (λ some. absurd (some refl))
+          led_through g.S.Store is now c.loop-capture.store c.read_capture.new.store c.read_capture.new.store (g.W.Observer.account c.loop-capture.observer) (g.W.Observer.account c.read_capture.new.observer) (g.W.Observer.account c.ended-goes_on.new.self) [] (c.in-Ok.end ∷ []) c.read_capture.ensures.following (λ some. absurd (some refl))
           (c.read_capture.ensures.notes clean is now held)
-          (λ after later kept. led_to_end g.S.Store after later c.read_capture.new.store c.in-Ok.end c.ended-goes_on.result (g.W.Observer.noted c.read_capture.new.observer, g.W.Observer.has_stopped c.read_capture.new.observer, g.W.Observer.waits c.read_capture.new.observer) (g.W.Observer.noted c.ended-goes_on.new.self, g.W.Observer.has_stopped c.ended-goes_on.new.self, g.W.Observer.waits c.ended-goes_on.new.self) kept c.ended-goes_on.ensures.noted c.ended-goes_on.ensures.goes_on c.ended-goes_on.ensures.stays c.ended-goes_on.ensures.waits)));
-      missed = λ clean was old holds.
-          missing_later (g.W.Observer.waits c.args.observer.now) (g.W.Observer.waits c.read_capture.new.observer) (g.W.Observer.waits c.ended-goes_on.new.self) [] old.executed c.ended-goes_on.ensures.waits
+          (λ after later kept. led_to_end g.S.Store after later c.read_capture.new.store c.in-Ok.end c.ended-goes_on.result (g.W.Observer.account c.read_capture.new.observer) (g.W.Observer.account c.ended-goes_on.new.self) kept c.ended-goes_on.ensures.noted c.ended-goes_on.ensures.goes_on c.ended-goes_on.ensures.stays c.ended-goes_on.ensures.waits))
+          (λ some. missing_later (g.W.Observer.account c.args.observer.now).waits (g.W.Observer.account c.read_capture.new.observer).waits (g.W.Observer.account c.ended-goes_on.new.self).waits [] old.executed c.ended-goes_on.ensures.waits
           (let led = inv.notes (c.read_capture.ensures.clean clean) was old holds in
           let next = c.read_capture.ensures.notes clean led.now_broken led.new led.holds in
-          missing_later (g.W.Observer.waits c.args.observer.now) (g.W.Observer.waits c.loop-capture.observer) (g.W.Observer.waits c.read_capture.new.observer) next.noted_of.notices old.executed next.noted_of.waits (inv.missed (c.read_capture.ensures.clean clean) was old holds));
+          missing_later (g.W.Observer.account c.args.observer.now).waits (g.W.Observer.account c.loop-capture.observer).waits (g.W.Observer.account c.read_capture.new.observer).waits next.noted_of.notices old.executed next.noted_of.waits (inv.missed (c.read_capture.ensures.clean clean) was old holds))));
+      missed = λ clean was old holds.
+          missing_later (g.W.Observer.account c.args.observer.now).waits (g.W.Observer.account c.read_capture.new.observer).waits (g.W.Observer.account c.ended-goes_on.new.self).waits [] old.executed c.ended-goes_on.ensures.waits
+          (let led = inv.notes (c.read_capture.ensures.clean clean) was old holds in
+          let next = c.read_capture.ensures.notes clean led.now_broken led.new led.holds in
+          missing_later (g.W.Observer.account c.args.observer.now).waits (g.W.Observer.account c.loop-capture.observer).waits (g.W.Observer.account c.read_capture.new.observer).waits next.noted_of.notices old.executed next.noted_of.waits (inv.missed (c.read_capture.ensures.clean clean) was old holds));
       taken = λ clean was old holds.
           let t = inv.taken (c.read_capture.ensures.clean clean) was old holds in
           subst₂ (λ (l : List (Capture g.row.R.Denot)) (es : List Ended). AreRead g.R.Read.remaining (HasReadAll g.S.Store c.args.config.now.limit c.read_capture.new.store (state g.S.Store c.args.store.now.conn).now.schema was old) l es) (sym more) (sym ends)
@@ -119,12 +122,12 @@ returns-clause-reads g c clean was old holds =
     (ap (λ n. take n all) end.1 ∙ take-length all) (inv.taken clean was old holds)
 
 pub returns-in-Err-clause-may_end : goal.returns-in-Err-clause-may_end
-returns-in-Err-clause-may_end g c = ends_later c.loop-capture.ends.items (g.W.Observer.has_stopped c.loop-capture.observer) (g.W.Observer.has_stopped c.read_capture.new.observer) (search rules) c.loop-capture.invariant.may
+returns-in-Err-clause-may_end g c = ends_later c.loop-capture.ends.items (g.W.Observer.account c.loop-capture.observer) (g.W.Observer.account c.read_capture.new.observer) c.loop-capture.invariant.heeds c.loop-capture.invariant.may
 
 pub returns-then-not-goes_on-clause-may_end : goal.returns-then-not-goes_on-clause-may_end
 returns-then-not-goes_on-clause-may_end g c =
-    more_ends c.loop-capture.ends.items c.in-Ok.end (g.W.Observer.has_stopped c.loop-capture.observer) (g.W.Observer.has_stopped c.read_capture.new.observer) (g.W.Observer.has_stopped c.ended-goes_on.new.self) c.push_reserved.new.self.items
-    (search rules) c.ended-goes_on.ensures.stays c.push_reserved.ensures.items c.loop-capture.invariant.may c.in-Ok.ensures.may_end
+    more_ends c.loop-capture.ends.items c.in-Ok.end (g.W.Observer.account c.loop-capture.observer) (g.W.Observer.account c.read_capture.new.observer) (g.W.Observer.account c.ended-goes_on.new.self) [] c.push_reserved.new.self.items
+    c.loop-capture.invariant.heeds c.ended-goes_on.ensures.stays c.ended-goes_on.ensures.waits c.push_reserved.ensures.items c.loop-capture.invariant.may c.in-Ok.ensures.may_end
 
 pub returns-clause-may_end : goal.returns-clause-may_end
 returns-clause-may_end g c = c.loop-capture.invariant.may
@@ -133,14 +136,14 @@ pub returns-then-not-goes_on-clause-asked : goal.returns-then-not-goes_on-clause
 returns-then-not-goes_on-clause-asked g c is = not-false _ (sym c.ended-goes_on.ensures.goes_on ∙ c.if-not-goes_on.true)
 
 pub returns-in-Err-clause-no_more : goal.returns-in-Err-clause-no_more
-returns-in-Err-clause-no_more g c on = none_yet c.loop-capture.ends.items (g.W.Observer.has_stopped c.loop-capture.observer) c.loop-capture.invariant.heeds (c.loop-capture.invariant.stays on)
+returns-in-Err-clause-no_more g c on = none_yet c.loop-capture.ends.items (g.W.Observer.account c.loop-capture.observer).has_stopped c.loop-capture.invariant.heeds (c.loop-capture.invariant.stays on)
 
 pub returns-then-not-goes_on-clause-no_more : goal.returns-then-not-goes_on-clause-no_more
 returns-then-not-goes_on-clause-no_more g c on =
-    one_at_most c.loop-capture.ends.items c.in-Ok.end c.push_reserved.new.self.items c.push_reserved.ensures.items (g.W.Observer.has_stopped c.loop-capture.observer) c.loop-capture.invariant.heeds (c.loop-capture.invariant.stays on)
+    one_at_most c.loop-capture.ends.items c.in-Ok.end c.push_reserved.new.self.items c.push_reserved.ensures.items (g.W.Observer.account c.loop-capture.observer).has_stopped c.loop-capture.invariant.heeds (c.loop-capture.invariant.stays on)
 
 pub returns-clause-no_more : goal.returns-clause-no_more
-returns-clause-no_more g c on = none_yet c.loop-capture.ends.items (g.W.Observer.has_stopped c.loop-capture.observer) c.loop-capture.invariant.heeds (c.loop-capture.invariant.stays on)
+returns-clause-no_more g c on = none_yet c.loop-capture.ends.items (g.W.Observer.account c.loop-capture.observer).has_stopped c.loop-capture.invariant.heeds (c.loop-capture.invariant.stays on)
 
 pub returns-in-Err-clause-keeps : goal.returns-in-Err-clause-keeps
 returns-in-Err-clause-keeps g c is now holds on =
@@ -156,20 +159,28 @@ returns-clause-keeps g c = c.loop-capture.invariant.keeps
 pub returns-in-Err-clause-notes : goal.returns-in-Err-clause-notes
 returns-in-Err-clause-notes g c clean was old holds =
     let inv = c.loop-capture.invariant in
-    subst (λ (l : List Ended). IsLedTo g.S.Store c.args.store.now c.read_capture.new.store was old (g.W.Observer.noted c.args.observer.now, g.W.Observer.has_stopped c.args.observer.now, g.W.Observer.waits c.args.observer.now) (g.W.Observer.noted c.read_capture.new.observer, g.W.Observer.has_stopped c.read_capture.new.observer, g.W.Observer.waits c.read_capture.new.observer) l) (append-nil c.loop-capture.ends.items)
-    (led_through g.S.Store was old c.args.store.now c.loop-capture.store c.read_capture.new.store (g.W.Observer.noted c.args.observer.now, g.W.Observer.has_stopped c.args.observer.now, g.W.Observer.waits c.args.observer.now) (g.W.Observer.noted c.loop-capture.observer, g.W.Observer.has_stopped c.loop-capture.observer, g.W.Observer.waits c.loop-capture.observer) (g.W.Observer.noted c.read_capture.new.observer, g.W.Observer.has_stopped c.read_capture.new.observer, g.W.Observer.waits c.read_capture.new.observer) c.loop-capture.ends.items [] inv.following inv.heeds
-    (inv.notes (c.read_capture.ensures.clean clean) was old holds) (λ is now held. c.read_capture.ensures.notes clean is now held))
+    subst (λ (l : List Ended). IsLedSinceOpening g.S.Store c.args.store.now c.read_capture.new.store was old (g.W.Observer.account c.args.observer.now) (g.W.Observer.account c.read_capture.new.observer) l) (append-nil c.loop-capture.ends.items)
+    (since_through g.S.Store was old c.args.store.now c.loop-capture.store c.read_capture.new.store (g.W.Observer.account c.args.observer.now) (g.W.Observer.account c.loop-capture.observer) (g.W.Observer.account c.read_capture.new.observer) c.loop-capture.ends.items [] inv.following inv.heeds
+    (inv.notes (c.read_capture.ensures.clean clean) was old holds) (λ is now held. c.read_capture.ensures.notes clean is now held)
+    (λ some.
+    let led = inv.notes (c.read_capture.ensures.clean clean) was old holds in
+    let next = c.read_capture.ensures.notes clean led.now_broken led.new led.holds in
+    missing_later (g.W.Observer.account c.args.observer.now).waits (g.W.Observer.account c.loop-capture.observer).waits (g.W.Observer.account c.read_capture.new.observer).waits next.noted_of.notices old.executed next.noted_of.waits (inv.missed (c.read_capture.ensures.clean clean) was old holds)))
 
 pub returns-then-not-goes_on-clause-notes : goal.returns-then-not-goes_on-clause-notes
 returns-then-not-goes_on-clause-notes g c clean was old holds =
     let inv = c.loop-capture.invariant in
-    subst (λ (l : List Ended). IsLedTo g.S.Store c.args.store.now c.read_capture.new.store was old (g.W.Observer.noted c.args.observer.now, g.W.Observer.has_stopped c.args.observer.now, g.W.Observer.waits c.args.observer.now) (g.W.Observer.noted c.ended-goes_on.new.self, g.W.Observer.has_stopped c.ended-goes_on.new.self, g.W.Observer.waits c.ended-goes_on.new.self) l) (sym c.push_reserved.ensures.items)
-    (led_through g.S.Store was old c.args.store.now c.loop-capture.store c.read_capture.new.store (g.W.Observer.noted c.args.observer.now, g.W.Observer.has_stopped c.args.observer.now, g.W.Observer.waits c.args.observer.now) (g.W.Observer.noted c.loop-capture.observer, g.W.Observer.has_stopped c.loop-capture.observer, g.W.Observer.waits c.loop-capture.observer) (g.W.Observer.noted c.ended-goes_on.new.self, g.W.Observer.has_stopped c.ended-goes_on.new.self, g.W.Observer.waits c.ended-goes_on.new.self) c.loop-capture.ends.items (c.in-Ok.end ∷ []) inv.following inv.heeds
+    subst (λ (l : List Ended). IsLedSinceOpening g.S.Store c.args.store.now c.read_capture.new.store was old (g.W.Observer.account c.args.observer.now) (g.W.Observer.account c.ended-goes_on.new.self) l) (sym c.push_reserved.ensures.items)
+    (since_through g.S.Store was old c.args.store.now c.loop-capture.store c.read_capture.new.store (g.W.Observer.account c.args.observer.now) (g.W.Observer.account c.loop-capture.observer) (g.W.Observer.account c.ended-goes_on.new.self) c.loop-capture.ends.items (c.in-Ok.end ∷ []) inv.following inv.heeds
     (inv.notes (c.read_capture.ensures.clean clean) was old holds)
     (λ is now held.
-    led_through g.S.Store is now c.loop-capture.store c.read_capture.new.store c.read_capture.new.store (g.W.Observer.noted c.loop-capture.observer, g.W.Observer.has_stopped c.loop-capture.observer, g.W.Observer.waits c.loop-capture.observer) (g.W.Observer.noted c.read_capture.new.observer, g.W.Observer.has_stopped c.read_capture.new.observer, g.W.Observer.waits c.read_capture.new.observer) (g.W.Observer.noted c.ended-goes_on.new.self, g.W.Observer.has_stopped c.ended-goes_on.new.self, g.W.Observer.waits c.ended-goes_on.new.self) [] (c.in-Ok.end ∷ []) c.read_capture.ensures.following (λ some. absurd (some refl))
+    led_through g.S.Store is now c.loop-capture.store c.read_capture.new.store c.read_capture.new.store (g.W.Observer.account c.loop-capture.observer) (g.W.Observer.account c.read_capture.new.observer) (g.W.Observer.account c.ended-goes_on.new.self) [] (c.in-Ok.end ∷ []) c.read_capture.ensures.following (λ some. absurd (some refl))
     (c.read_capture.ensures.notes clean is now held)
-    (λ after later kept. led_to_end g.S.Store after later c.read_capture.new.store c.in-Ok.end c.ended-goes_on.result (g.W.Observer.noted c.read_capture.new.observer, g.W.Observer.has_stopped c.read_capture.new.observer, g.W.Observer.waits c.read_capture.new.observer) (g.W.Observer.noted c.ended-goes_on.new.self, g.W.Observer.has_stopped c.ended-goes_on.new.self, g.W.Observer.waits c.ended-goes_on.new.self) kept c.ended-goes_on.ensures.noted c.ended-goes_on.ensures.goes_on c.ended-goes_on.ensures.stays c.ended-goes_on.ensures.waits)))
+    (λ after later kept. led_to_end g.S.Store after later c.read_capture.new.store c.in-Ok.end c.ended-goes_on.result (g.W.Observer.account c.read_capture.new.observer) (g.W.Observer.account c.ended-goes_on.new.self) kept c.ended-goes_on.ensures.noted c.ended-goes_on.ensures.goes_on c.ended-goes_on.ensures.stays c.ended-goes_on.ensures.waits))
+    (λ some. missing_later (g.W.Observer.account c.args.observer.now).waits (g.W.Observer.account c.read_capture.new.observer).waits (g.W.Observer.account c.ended-goes_on.new.self).waits [] old.executed c.ended-goes_on.ensures.waits
+    (let led = inv.notes (c.read_capture.ensures.clean clean) was old holds in
+    let next = c.read_capture.ensures.notes clean led.now_broken led.new led.holds in
+    missing_later (g.W.Observer.account c.args.observer.now).waits (g.W.Observer.account c.loop-capture.observer).waits (g.W.Observer.account c.read_capture.new.observer).waits next.noted_of.notices old.executed next.noted_of.waits (inv.missed (c.read_capture.ensures.clean clean) was old holds))))
 
 pub returns-clause-notes : goal.returns-clause-notes
 returns-clause-notes g c = c.loop-capture.invariant.notes
@@ -180,36 +191,15 @@ returns-then-is_done-clause-reads g c clean was old holds =
     (no_captures g.S.Store g.R.Read.remaining (λ h db is_open may. g.met.S.Store.settled h.store db is_open may) c.args.config.now.limit c.args.store.now was old holds)
 
 pub returns-then-is_done-clause-may_end : goal.returns-then-is_done-clause-may_end
-returns-then-is_done-clause-may_end g c = subst (λ (l : List Ended). All (λ (e : Ended). MayEnd e.reason (g.W.Observer.has_stopped c.opened.new.self)) l) (sym c.requires.none) (search rules)
+returns-then-is_done-clause-may_end g c = subst (λ (l : List Ended). All (λ (e : Ended). MayEnd e.reason (g.W.Observer.account c.opened.new.self)) l) (sym c.requires.none) (search rules)
 
 pub returns-then-is_done-clause-asked : goal.returns-then-is_done-clause-asked
 returns-then-is_done-clause-asked g c is = c.is_done.ensures.stopped c.if-is_done.true
 
 pub returns-then-is_done-clause-no_more : goal.returns-then-is_done-clause-no_more
-returns-then-is_done-clause-no_more g c on = none_yet c.args.ends.now.items (g.W.Observer.has_stopped c.opened.new.self) (λ some. absurd (some c.requires.none)) (c.opened.ensures.stays on)
+returns-then-is_done-clause-no_more g c on = none_yet c.args.ends.now.items (g.W.Observer.account c.opened.new.self).has_stopped (λ some. absurd (some c.requires.none)) (c.opened.ensures.stays on)
 
 pub returns-then-is_done-clause-notes : goal.returns-then-is_done-clause-notes
 returns-then-is_done-clause-notes g c clean was old holds =
-    subst (λ (l : List Ended). IsLedTo g.S.Store c.args.store.now c.args.store.now was old (g.W.Observer.noted c.args.observer.now, g.W.Observer.has_stopped c.args.observer.now, g.W.Observer.waits c.args.observer.now) (g.W.Observer.noted c.opened.new.self, g.W.Observer.has_stopped c.opened.new.self, g.W.Observer.waits c.opened.new.self) l) (sym c.requires.none)
-    (led_from g.S.Store was old c.args.store.now c.executed.result.now (g.W.Observer.noted c.args.observer.now, g.W.Observer.has_stopped c.args.observer.now, g.W.Observer.waits c.args.observer.now) (g.W.Observer.noted c.opened.new.self, g.W.Observer.has_stopped c.opened.new.self, g.W.Observer.waits c.opened.new.self) holds (c.executed.ensures.value was old holds) c.opened.ensures.noted c.opened.ensures.stays c.opened.ensures.waits)
-
-pub returns-then-is_done-clause-missed : goal.returns-then-is_done-clause-missed
-returns-then-is_done-clause-missed g c clean was old holds some = absurd (some c.requires.none)
-
-pub returns-in-Err-clause-missed : goal.returns-in-Err-clause-missed
-returns-in-Err-clause-missed g c clean was old holds some =
-    let inv = c.loop-capture.invariant in
-    (let led = inv.notes (c.read_capture.ensures.clean clean) was old holds in
-    let next = c.read_capture.ensures.notes clean led.now_broken led.new led.holds in
-    missing_later (g.W.Observer.waits c.args.observer.now) (g.W.Observer.waits c.loop-capture.observer) (g.W.Observer.waits c.read_capture.new.observer) next.noted_of.notices old.executed next.noted_of.waits (inv.missed (c.read_capture.ensures.clean clean) was old holds))
-
-pub returns-then-not-goes_on-clause-missed : goal.returns-then-not-goes_on-clause-missed
-returns-then-not-goes_on-clause-missed g c clean was old holds some =
-    let inv = c.loop-capture.invariant in
-    missing_later (g.W.Observer.waits c.args.observer.now) (g.W.Observer.waits c.read_capture.new.observer) (g.W.Observer.waits c.ended-goes_on.new.self) [] old.executed c.ended-goes_on.ensures.waits
-    (let led = inv.notes (c.read_capture.ensures.clean clean) was old holds in
-    let next = c.read_capture.ensures.notes clean led.now_broken led.new led.holds in
-    missing_later (g.W.Observer.waits c.args.observer.now) (g.W.Observer.waits c.loop-capture.observer) (g.W.Observer.waits c.read_capture.new.observer) next.noted_of.notices old.executed next.noted_of.waits (inv.missed (c.read_capture.ensures.clean clean) was old holds))
-
-pub returns-clause-missed : goal.returns-clause-missed
-returns-clause-missed g c clean was old holds some = c.loop-capture.invariant.missed clean was old holds
+    subst (λ (l : List Ended). IsLedSinceOpening g.S.Store c.args.store.now c.args.store.now was old (g.W.Observer.account c.args.observer.now) (g.W.Observer.account c.opened.new.self) l) (sym c.requires.none)
+    (since_from g.S.Store was old c.args.store.now c.executed.result.now (g.W.Observer.account c.args.observer.now) (g.W.Observer.account c.opened.new.self) holds (c.executed.ensures.value was old holds) c.opened.ensures.noted c.opened.ensures.stays c.opened.ensures.waits)

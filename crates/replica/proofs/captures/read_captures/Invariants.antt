@@ -5,24 +5,23 @@ use Rattle.store.specs.State.{Content}
 use Rattle.store.specs.Store.{HoldsAs}
 use Rattle.replica.specs.Over.{HasReadAll}
 use Rattle.replica.specs.Capture.{AreRead}
-use Rattle.replica.specs.Conn.{MayEnd}
-use Rattle.replica.specs.Noted.{IsLedTo, WasMissing}
+use Rattle.replica.specs.Noted.{IsLedSinceOpening, WasMissing, MayEnd}
 use Rattle.replica.proofs.captures.read_captures.Given as goal
 
 abbrev pub invariant-loop-capture : goal.invariant-loop-capture
 invariant-loop-capture g l = record {
   piece : 0 < length l.piece;
-  may : All (λ end. MayEnd end.reason (g.W.Observer.has_stopped l.observer)) l.ends.items;
-  heeds : l.ends.items ≢ [] → g.W.Observer.has_stopped l.observer ≡ false;
-  stays : g.W.Observer.has_stopped l.fn.observer ≡ true → g.W.Observer.has_stopped l.observer ≡ true;
+  may : All (λ end. MayEnd end.reason (g.W.Observer.account l.observer)) l.ends.items;
+  heeds : l.ends.items ≢ [] → (g.W.Observer.account l.observer).has_stopped ≡ false;
+  stays : (g.W.Observer.account l.fn.observer).has_stopped ≡ true → (g.W.Observer.account l.observer).has_stopped ≡ true;
   count : length l.ends.items ≡ length l.yielded;
   room : length l.fn.captures.items ≤ vec_capacity l.ends;
   clean : HasCleanDisk (state g.S.Store l.store.conn) → HasCleanDisk (state g.S.Store l.fn.store.conn);
   following : l.store.following ≡ l.fn.store.following;
   broken : l.fn.store.broken ≡ true → l.store ≡ l.fn.store;
-  keeps : (is : Bool) (now : Content) → HoldsAs g.S.Store is now l.fn.store → g.W.Observer.has_stopped l.fn.observer ≡ true → l.store ≡ l.fn.store;
-  notes : HasCleanDisk (state g.S.Store l.store.conn) → (was : Bool) (old : Content) → HoldsAs g.S.Store was old l.fn.store → IsLedTo g.S.Store l.fn.store l.store was old (g.W.Observer.noted l.fn.observer, g.W.Observer.has_stopped l.fn.observer, g.W.Observer.waits l.fn.observer) (g.W.Observer.noted l.observer, g.W.Observer.has_stopped l.observer, g.W.Observer.waits l.observer) l.ends.items;
-  missed : HasCleanDisk (state g.S.Store l.store.conn) → (was : Bool) (old : Content) → HoldsAs g.S.Store was old l.fn.store → WasMissing (g.W.Observer.waits l.fn.observer) (g.W.Observer.waits l.observer) old.executed;
+  keeps : (is : Bool) (now : Content) → HoldsAs g.S.Store is now l.fn.store → (g.W.Observer.account l.fn.observer).has_stopped ≡ true → l.store ≡ l.fn.store;
+  notes : HasCleanDisk (state g.S.Store l.store.conn) → (was : Bool) (old : Content) → HoldsAs g.S.Store was old l.fn.store → IsLedSinceOpening g.S.Store l.fn.store l.store was old (g.W.Observer.account l.fn.observer) (g.W.Observer.account l.observer) l.ends.items;
+  missed : HasCleanDisk (state g.S.Store l.store.conn) → (was : Bool) (old : Content) → HoldsAs g.S.Store was old l.fn.store → WasMissing (g.W.Observer.account l.fn.observer).waits (g.W.Observer.account l.observer).waits old.executed;
   taken : HasCleanDisk (state g.S.Store l.store.conn) → (was : Bool) (old : Content) → HoldsAs g.S.Store was old l.fn.store
       → AreRead g.R.Read.remaining (HasReadAll g.S.Store l.config.limit l.store (state g.S.Store l.fn.store.conn).now.schema was old) (take (length l.yielded) l.fn.captures.items) l.ends.items;
 }

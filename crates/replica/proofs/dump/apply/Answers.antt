@@ -5,6 +5,7 @@ use Rattle.replica.specs.Event.{TakesEvent}
 use Rattle.replica.specs.Noted.{HasBeenNoted, asked_about, Account, IsLedTo}
 use Rattle.replica.proofs.Noted.{Asks, led_to_stop, led_broken, led_whole}
 use Rattle.replica.proofs.Events.{halts, over_broken, over_whole, heeded}
+use Rattle.replica.proofs.Alone.{own_alone, taken_alone}
 use Rattle.replica.proofs.dump.apply.Goals as goal
 
 pub returns-then-is_halted-clause-step : goal.returns-then-is_halted-clause-step
@@ -24,27 +25,27 @@ returns-clause-step g c clean is now es ds p gatherer holds more =
 
 pub returns-clause-heeds : goal.returns-clause-heeds
 returns-clause-heeds g c is now holds on =
-    heeded g.S.Store is now (delivery_value c.args.delivery.now) c.args.store.now c.apply.new.self c.is_halted.result (g.W.Observer.has_stopped c.is_halted.new.observer) holds (c.is_halted.ensures.heeds is now holds) (c.is_halted.ensures.stays on) c.if-is_halted.false
+    heeded g.S.Store is now (delivery_value c.args.delivery.now) c.args.store.now c.apply.new.self c.is_halted.result (g.W.Observer.account c.is_halted.new.observer).has_stopped holds (c.is_halted.ensures.heeds is now holds) (c.is_halted.ensures.stays on) c.if-is_halted.false
     (λ b. (c.apply.ensures.broken b).1) (λ content keeps it. (c.apply.ensures.known content keeps it).1)
 
 pub returns-then-is_halted-clause-notes : goal.returns-then-is_halted-clause-notes
 returns-then-is_halted-clause-notes g c clean was old holds =
     let d = delivery_value c.args.delivery.now in
-    let t0 = g.W.Observer.noted c.args.observer.now in
-    let t1 = g.W.Observer.noted c.is_halted.new.observer in
-    led_to_stop g.S.Store was old c.args.store.now d (t0, g.W.Observer.has_stopped c.args.observer.now, g.W.Observer.waits c.args.observer.now) (t1, g.W.Observer.has_stopped c.is_halted.new.observer, g.W.Observer.waits c.is_halted.new.observer) holds (c.is_halted.ensures.new was old holds c.if-is_halted.true)
-    (subst (λ (b : Bool). HasBeenNoted t0 t1 (asked_about old d b)) c.if-is_halted.true (c.is_halted.ensures.noted was old holds)) (c.is_halted.ensures.asked c.if-is_halted.true) c.is_halted.ensures.waits
+    let t0 : Account = g.W.Observer.account c.args.observer.now in
+    let t1 : Account = g.W.Observer.account c.is_halted.new.observer in
+    led_to_stop g.S.Store was old c.args.store.now d t0 t1 holds (c.is_halted.ensures.new was old holds c.if-is_halted.true)
+    (subst (λ (b : Bool). HasBeenNoted t0.noted t1.noted (asked_about old d b)) c.if-is_halted.true (c.is_halted.ensures.noted was old holds)) (c.is_halted.ensures.asked c.if-is_halted.true) c.is_halted.ensures.waits
 
 pub returns-clause-notes : goal.returns-clause-notes
 returns-clause-notes g c clean was old holds =
     let d = delivery_value c.args.delivery.now in
     let store = c.args.store.now in
     let new = c.apply.new.self in
-    let t0 : Account = (g.W.Observer.noted c.args.observer.now, g.W.Observer.has_stopped c.args.observer.now, g.W.Observer.waits c.args.observer.now) in
-    let t1 : Account = (g.W.Observer.noted c.is_halted.new.observer, g.W.Observer.has_stopped c.is_halted.new.observer, g.W.Observer.waits c.is_halted.new.observer) in
-    let t2 : Account = (g.W.Observer.noted c.after_apply.new.self, g.W.Observer.has_stopped c.after_apply.new.self, g.W.Observer.waits c.after_apply.new.self) in
+    let t0 : Account = g.W.Observer.account c.args.observer.now in
+    let t1 : Account = g.W.Observer.account c.is_halted.new.observer in
+    let t2 : Account = g.W.Observer.account c.after_apply.new.self in
     let asks : Asks old d t0 t1 t2 c.outcome-outcome.result = record {
-      asked = subst (λ (halts : Bool). HasBeenNoted t0.0 t1.0 (asked_about old d halts)) c.if-is_halted.false (c.is_halted.ensures.noted was old holds);
+      asked = subst (λ (halts : Bool). HasBeenNoted t0.noted t1.noted (asked_about old d halts)) c.if-is_halted.false (c.is_halted.ensures.noted was old holds);
       noted = c.after_apply.ensures.noted;
       goes_on = λ fresh. sym (c.is_halted.ensures.heeds was old holds fresh) ∙ c.if-is_halted.false;
       stays = c.is_halted.ensures.stays;
@@ -57,3 +58,16 @@ returns-clause-notes g c clean was old holds =
       | true ↦ λ holds. led_broken g.S.Store old store new d t0 t1 t2 c.apply.result c.outcome-outcome.result holds (c.apply.ensures.broken holds.broken) c.outcome-outcome.ensures.maps asks
       | false ↦ λ holds. led_whole g.S.Store old store new d t0 t1 t2 c.apply.result c.outcome-outcome.result holds (c.apply.ensures.applies clean old holds) c.outcome-outcome.ensures.maps asks
     ] holds
+
+pub returns-then-is_halted-clause-alone : goal.returns-then-is_halted-clause-alone
+returns-then-is_halted-clause-alone g c clean now holds = (c.is_halted.ensures.new false now holds c.if-is_halted.true, holds)
+
+pub returns-clause-alone : goal.returns-clause-alone
+returns-clause-alone g c clean now holds =
+    taken_alone g.S.Store now c.args.store.now c.apply.new.self (delivery_value c.args.delivery.now) c.apply.result c.outcome-outcome.result holds (c.apply.ensures.applies clean now holds) (c.apply.ensures.crash clean now holds) c.outcome-outcome.ensures.maps
+
+pub returns-then-is_halted-clause-own : goal.returns-then-is_halted-clause-own
+returns-then-is_halted-clause-own g c = c.is_halted.ensures.asked c.if-is_halted.true
+
+pub returns-clause-own : goal.returns-clause-own
+returns-clause-own g c = own_alone c.outcome-outcome.result (g.W.Observer.account c.after_apply.new.self).has_stopped c.outcome-outcome.ensures.may_end

@@ -26,7 +26,7 @@ returns-in-Err-event-clause-err g c es ds stands =
     (c.in-Err-event.ensures.fault es ds stands) c.reason_for.ensures.maps
 
 pub returns-in_default-clause-waits : goal.returns-in_default-clause-waits
-returns-in_default-clause-waits g c = waits_none (g.W.Observer.waits c.args.observer.now)
+returns-in_default-clause-waits g c = waits_none (g.W.Observer.account c.args.observer.now).waits
 
 pub returns-in-Err-clause-waits : goal.returns-in-Err-clause-waits
-returns-in-Err-clause-waits g c = waits_none (g.W.Observer.waits c.args.observer.now)
+returns-in-Err-clause-waits g c = waits_none (g.W.Observer.account c.args.observer.now).waits

@@ -26,12 +26,12 @@ returns-in-Err-clause-step g c clean is now es ds stands holds = ends_early g.S.
 
 pub returns-in-Ok-Some-clause-notes : goal.returns-in-Ok-Some-clause-notes
 returns-in-Ok-Some-clause-notes g c clean was old holds =
-    led_after g.S.Store was old c.args.store.now c.apply.new.store (g.W.Observer.noted c.args.observer.now, g.W.Observer.has_stopped c.args.observer.now, g.W.Observer.waits c.args.observer.now) (g.W.Observer.noted c.gather.new.observer, g.W.Observer.has_stopped c.gather.new.observer, g.W.Observer.waits c.gather.new.observer) (g.W.Observer.noted c.apply.new.observer, g.W.Observer.has_stopped c.apply.new.observer, g.W.Observer.waits c.apply.new.observer) [] c.gather.ensures.noted c.gather.ensures.stays c.gather.ensures.waits (c.apply.ensures.notes clean was old holds)
+    led_after g.S.Store was old c.args.store.now c.apply.new.store (g.W.Observer.account c.args.observer.now) (g.W.Observer.account c.gather.new.observer) (g.W.Observer.account c.apply.new.observer) [] c.gather.ensures.noted c.gather.ensures.stays c.gather.ensures.waits (c.apply.ensures.notes clean was old holds)
 
 pub returns-in-Ok-None-clause-notes : goal.returns-in-Ok-None-clause-notes
-returns-in-Ok-None-clause-notes g c clean was old holds = led_nowhere g.S.Store was old c.args.store.now (g.W.Observer.noted c.args.observer.now, g.W.Observer.has_stopped c.args.observer.now, g.W.Observer.waits c.args.observer.now) (g.W.Observer.noted c.gather.new.observer, g.W.Observer.has_stopped c.gather.new.observer, g.W.Observer.waits c.gather.new.observer) holds c.gather.ensures.noted c.gather.ensures.stays c.gather.ensures.waits
+returns-in-Ok-None-clause-notes g c clean was old holds = led_nowhere g.S.Store was old c.args.store.now (g.W.Observer.account c.args.observer.now) (g.W.Observer.account c.gather.new.observer) holds c.gather.ensures.noted c.gather.ensures.stays c.gather.ensures.waits
 
 pub returns-in-Err-clause-notes : goal.returns-in-Err-clause-notes
 returns-in-Err-clause-notes g c clean was old holds =
-    led_nowhere g.S.Store was old c.args.store.now (g.W.Observer.noted c.args.observer.now, g.W.Observer.has_stopped c.args.observer.now, g.W.Observer.waits c.args.observer.now) (g.W.Observer.noted c.refused.new.self, g.W.Observer.has_stopped c.refused.new.self, g.W.Observer.waits c.refused.new.self) holds (c.refused.ensures.noted ∙ c.gather.ensures.noted) (λ on. c.refused.ensures.stays (c.gather.ensures.stays on))
-    (waits_more (g.W.Observer.waits c.args.observer.now) (g.W.Observer.waits c.gather.new.observer) (g.W.Observer.waits c.refused.new.self) [] [] c.gather.ensures.waits c.refused.ensures.waits)
+    led_nowhere g.S.Store was old c.args.store.now (g.W.Observer.account c.args.observer.now) (g.W.Observer.account c.refused.new.self) holds (c.refused.ensures.noted ∙ c.gather.ensures.noted) (λ on. c.refused.ensures.stays (c.gather.ensures.stays on))
+    (waits_more (g.W.Observer.account c.args.observer.now).waits (g.W.Observer.account c.gather.new.observer).waits (g.W.Observer.account c.refused.new.self).waits [] [] c.gather.ensures.waits c.refused.ensures.waits)

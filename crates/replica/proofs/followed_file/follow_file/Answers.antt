@@ -1,7 +1,10 @@
 use Rattle.std.proofs.Common.{[], false, refl}
+use Rattle.std.proofs.lemmas.Result.{IfOk-weaker}
 use Rattle.sqlite_wal.specs.Files.{image_at}
 use Rattle.store.specs.Entering.{wanted_of, names_for}
-use Rattle.replica.proofs.Closed.{followed_into, closes_as, keeps_content, noted_of_files}
+use Rattle.replica.specs.Noted.{IsAsked}
+use Rattle.replica.proofs.Observed.{asked_until}
+use Rattle.replica.proofs.Closed.{followed_into, closes_as, keeps_content, noted_of_files, reached_in_files}
 use Rattle.replica.proofs.followed_file.follow_file.Goals as goal
 
 pub returns-clause-follows : goal.returns-clause-follows
@@ -23,6 +26,13 @@ returns-clause-keeps g c on names content files =
 
 pub returns-clause-notes : goal.returns-clause-notes
 returns-clause-notes g c names content files =
-    noted_of_files _ names content c.in_ok-store.store c.connect_and_follow-connection.new.store (g.W.Observer.noted c.args.observer.now, g.W.Observer.has_stopped c.args.observer.now, g.W.Observer.waits c.args.observer.now) (g.W.Observer.noted c.connect_and_follow-connection.new.observer, g.W.Observer.has_stopped c.connect_and_follow-connection.new.observer, g.W.Observer.waits c.connect_and_follow-connection.new.observer) [] c.close_file-closed.result
+    noted_of_files _ names content c.in_ok-store.store c.connect_and_follow-connection.new.store (g.W.Observer.account c.args.observer.now) (g.W.Observer.account c.connect_and_follow-connection.new.observer) [] c.close_file-closed.result
     c.connect_and_follow-connection.ensures.following (λ clean. let o = c.in_ok-store.ensures.opens (c.connect_and_follow-connection.ensures.clean clean) names content files in (o.0, o.1))
-    c.connect_and_follow-connection.ensures.notes (λ clean was old holds some. absurd (some refl)) c.close_file-closed.ensures.copied c.close_file-closed.ensures.err
+    c.connect_and_follow-connection.ensures.notes c.close_file-closed.ensures.copied c.close_file-closed.ensures.err
+
+pub returns-clause-until : goal.returns-clause-until
+returns-clause-until g c =
+    let is = g.W.Observer.account c.connect_and_follow-connection.new.observer in
+    IfOk-weaker c.connect_and_follow-connection.result (λ done. IsAsked done.0.reason is) _
+    (λ done may ends names content wanted files wants. reached_in_files names content (g.W.Observer.account c.args.observer.now) is [] wanted c.close_file-closed.result (returns-clause-notes g c names content files) wants (asked_until done.0.reason is may ends))
+    c.connect_and_follow-connection.ensures.asked

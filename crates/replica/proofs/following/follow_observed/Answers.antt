@@ -10,10 +10,11 @@ use Rattle.replica.specs.declared.following.Turn.{Turn}
 use Rattle.replica.specs.declared.following.Turn.TheVariants as turn
 use Rattle.replica.specs.Failing.{HaveFailed}
 use Rattle.store.specs.Store.{HoldsAs, database}
-use Rattle.replica.specs.Conn.{IsNoStreamFailure, MayEnd}
+use Rattle.replica.specs.Conn.{IsNoStreamFailure}
+use Rattle.replica.specs.Noted.{MayEnd}
 use Rattle.replica.specs.Standing.{end_of}
 use Rattle.replica.specs.Follow.{Follows, reads_failed, failed_reads_of, failed_writes_of}
-use Rattle.replica.proofs.Observed.{asked, may_later, not_of_stream, still}
+use Rattle.replica.proofs.Observed.{asked, not_of_stream, still}
 use Rattle.replica.proofs.Noted.{led_nowhere, led_through, waits_none}
 use Rattle.replica.proofs.Failed.{none_failed, failed_later, failed_none, counted_none}
 use Rattle.replica.proofs.Advance.{none_after}
@@ -49,7 +50,7 @@ turns-init g c = record {
   may_end = rw c.new-session.ensures.ended tt;
   stays = λ h. h;
   heeds = λ is now holds on. refl;
-  notes = λ clean was old holds. led_nowhere g.S.Store was old c.args.store.now (g.W.Observer.noted c.args.observer.now, g.W.Observer.has_stopped c.args.observer.now, g.W.Observer.waits c.args.observer.now) (g.W.Observer.noted c.args.observer.now, g.W.Observer.has_stopped c.args.observer.now, g.W.Observer.waits c.args.observer.now) holds refl (λ on. on) (waits_none (g.W.Observer.waits c.args.observer.now));
+  notes = λ clean was old holds. led_nowhere g.S.Store was old c.args.store.now (g.W.Observer.account c.args.observer.now) (g.W.Observer.account c.args.observer.now) holds refl (λ on. on) (waits_none (g.W.Observer.account c.args.observer.now).waits);
   may = rw c.new-session.ensures.ended tt;
   following = λ clean was old holds.
       following-begins g.S.Store (λ h db is_open may. g.met.S.Store.settled h.store db is_open may) c.new-session.result c.args.store.now was old (g.T.Read.remaining c.args.stream.now.stream) (g.T.Write.contents c.args.stream.now.stream) c.new-session.ensures.ended holds (c.new-session.ensures.stands c.args.store.now.following was old);
@@ -99,7 +100,7 @@ turns-preserved g c =
     let read = c.read_piece.ensures.read c.in-Read.is in
     let going : after.ended ≡ None = none_after after.ended (some_after c.ended.result after.ended c.ended.ensures ∙ sym c.is_some.ensures ∙ c.if-is_some.false) in
     let long : length c.deref_mut.result.now ≡ 65536 = search (rules, inv.piece) in
-    let may = c.read_piece.ensures.may_end (subst (λ (e : Ended). MayEnd e.reason (g.W.Observer.has_stopped c.turns.observer)) (sym sent.4.end) inv.may) in
+    let may = c.read_piece.ensures.may_end (subst (λ (e : Ended). MayEnd e.reason (g.W.Observer.account c.turns.observer)) (sym sent.4.end) inv.may) in
     record {
       config = c.read_piece.ensures.config ∙ sent.4.config ∙ inv.config;
       piece = length_kept c.turns.buffer.len c.read_piece.new.buffer c.turns.buffer.items (search rules) (search rules) ∙ inv.piece;
@@ -110,11 +111,11 @@ turns-preserved g c =
       names = c.read_piece.ensures.following ∙ inv.names;
       broken = search rules;
       clean = λ h. inv.clean (c.read_piece.ensures.clean h);
-      may_end = not_of_stream (end_of c.read_piece.new.session).reason (g.W.Observer.has_stopped c.read_piece.new.observer) may;
+      may_end = not_of_stream (end_of c.read_piece.new.session).reason (g.W.Observer.account c.read_piece.new.observer) may;
       stays = λ h. c.read_piece.ensures.stays (inv.stays h);
       heeds = λ is now holds on. still (HoldsAs g.S.Store is now) c.args.store.now c.turns.store c.read_piece.new.store (inv.heeds is now holds on) holds (λ h. c.read_piece.ensures.heeds is now h (inv.stays on));
       notes = λ clean was old holds.
-          led_through g.S.Store was old c.args.store.now c.turns.store c.read_piece.new.store (g.W.Observer.noted c.args.observer.now, g.W.Observer.has_stopped c.args.observer.now, g.W.Observer.waits c.args.observer.now) (g.W.Observer.noted c.turns.observer, g.W.Observer.has_stopped c.turns.observer, g.W.Observer.waits c.turns.observer) (g.W.Observer.noted c.read_piece.new.observer, g.W.Observer.has_stopped c.read_piece.new.observer, g.W.Observer.waits c.read_piece.new.observer) [] [] inv.names (λ some. absurd (some refl))
+          led_through g.S.Store was old c.args.store.now c.turns.store c.read_piece.new.store (g.W.Observer.account c.args.observer.now) (g.W.Observer.account c.turns.observer) (g.W.Observer.account c.read_piece.new.observer) [] [] inv.names (λ some. absurd (some refl))
           (inv.notes (c.read_piece.ensures.clean clean) was old holds) (λ is now held. c.read_piece.ensures.notes clean is now held);
       may = may;
       following = λ clean was old holds.
@@ -138,7 +139,7 @@ returns-in-AtEnd-clause-follows g c clean was old holds =
     (follows-same g.S.Store session.config c.args.config c.args.store.now c.turns.store was old (g.T.Read.remaining c.args.stream.now.stream) (g.T.Read.remaining c.read_piece.new.stream.stream) (g.T.Write.contents c.args.stream.now.stream) (g.T.Write.contents c.read_piece.new.stream.stream) (end_of session) c.finish-in-AtEnd.result inv.config
     (sym (c.finish-in-AtEnd.ensures.end ∙ ap (λ (s : Session). end_of s) still.0 ∙ sent.4.end))
     (follows-ended g.S.Store session c.args.store.now c.turns.store was old (g.T.Read.remaining c.args.stream.now.stream) (g.T.Read.remaining c.turns.stream.stream) (g.T.Write.contents c.args.stream.now.stream) (g.T.Write.contents c.turns.stream.stream) inv.names f
-    after (g.T.Read.remaining c.read_piece.new.stream.stream) (g.T.Write.contents c.read_piece.new.stream.stream) sent.0 sent.1 (Keeps-trans (g.T.Read.remaining c.turns.stream.stream) (g.T.Read.remaining c.send_pending.new.stream.stream) (g.T.Read.remaining c.read_piece.new.stream.stream) c.send_pending.ensures.apart still.2) (Appends-kept (g.T.Write.contents c.turns.stream.stream) (g.T.Write.contents c.send_pending.new.stream.stream) (g.T.Write.contents c.read_piece.new.stream.stream) sent.0 sent.2 c.read_piece.ensures.apart)
+    after (g.T.Read.remaining c.read_piece.new.stream.stream) (g.T.Write.contents c.read_piece.new.stream.stream) sent.0 sent.1 (Keeps-trans (g.T.Read.remaining c.turns.stream.stream) (g.T.Read.remaining c.send_pending.new.stream.stream) (g.T.Read.remaining c.read_piece.new.stream.stream) c.send_pending.ensures.apart still.3) (Appends-kept (g.T.Write.contents c.turns.stream.stream) (g.T.Write.contents c.send_pending.new.stream.stream) (g.T.Write.contents c.read_piece.new.stream.stream) sent.0 sent.2 c.read_piece.ensures.apart)
     sent.4 (sent.3 c.if-not-send_pending.false) inv.may_end (λ h. c.read_piece.ensures.at_end c.in-AtEnd.is)))
 
 pub returns-in-Failed-clause-follows : goal.returns-in-Failed-clause-follows
@@ -157,7 +158,7 @@ returns-in-Failed-clause-follows g c clean was old holds =
     (follows-same g.S.Store session.config c.args.config c.args.store.now c.turns.store was old (g.T.Read.remaining c.args.stream.now.stream) (g.T.Read.remaining c.read_piece.new.stream.stream) (g.T.Write.contents c.args.stream.now.stream) (g.T.Write.contents c.read_piece.new.stream.stream) (reported_as ReadFailed (end_of session)) c.ended_with-in-Failed.result inv.config
     (sym (c.ended_with-in-Failed.ensures ∙ ap (λ (s : Session). reported_as ReadFailed (end_of s)) still.0 ∙ ap (λ (e : Ended). reported_as ReadFailed e) sent.4.end))
     (follows-read_failed g.S.Store session c.args.store.now c.turns.store was old (g.T.Read.remaining c.args.stream.now.stream) (g.T.Read.remaining c.turns.stream.stream) (g.T.Write.contents c.args.stream.now.stream) (g.T.Write.contents c.turns.stream.stream) inv.names f
-    after (g.T.Read.remaining c.read_piece.new.stream.stream) (g.T.Write.contents c.read_piece.new.stream.stream) sent.0 sent.1 (Keeps-trans (g.T.Read.remaining c.turns.stream.stream) (g.T.Read.remaining c.send_pending.new.stream.stream) (g.T.Read.remaining c.read_piece.new.stream.stream) c.send_pending.ensures.apart still.2) (Appends-kept (g.T.Write.contents c.turns.stream.stream) (g.T.Write.contents c.send_pending.new.stream.stream) (g.T.Write.contents c.read_piece.new.stream.stream) sent.0 sent.2 c.read_piece.ensures.apart)
+    after (g.T.Read.remaining c.read_piece.new.stream.stream) (g.T.Write.contents c.read_piece.new.stream.stream) sent.0 sent.1 (Keeps-trans (g.T.Read.remaining c.turns.stream.stream) (g.T.Read.remaining c.send_pending.new.stream.stream) (g.T.Read.remaining c.read_piece.new.stream.stream) c.send_pending.ensures.apart still.3) (Appends-kept (g.T.Write.contents c.turns.stream.stream) (g.T.Write.contents c.send_pending.new.stream.stream) (g.T.Write.contents c.read_piece.new.stream.stream) sent.0 sent.2 c.read_piece.ensures.apart)
     sent.4 (sent.3 c.if-not-send_pending.false) at_end))
 
 pub returns-then-sends_no_more-clause-counted : goal.returns-then-sends_no_more-clause-counted
@@ -216,21 +217,20 @@ returns-in-Failed-clause-reported g c =
 
 pub returns-then-sends_no_more-clause-asked : goal.returns-then-sends_no_more-clause-asked
 returns-then-sends_no_more-clause-asked g c =
-    asked c.finish.result.reason (g.W.Observer.has_stopped c.turns.observer) (subst (λ (e : Ended). MayEnd e.reason (g.W.Observer.has_stopped c.turns.observer)) (sym c.finish.ensures.end) c.turns.invariant.may)
+    asked c.finish.result.reason (g.W.Observer.account c.turns.observer) (subst (λ (e : Ended). MayEnd e.reason (g.W.Observer.account c.turns.observer)) (sym c.finish.ensures.end) c.turns.invariant.may)
 
 pub returns-then-is_some-clause-asked : goal.returns-then-is_some-clause-asked
 returns-then-is_some-clause-asked g c =
-    asked c.finish-then-is_some.result.reason (g.W.Observer.has_stopped c.turns.observer)
-    (subst (λ (e : Ended). MayEnd e.reason (g.W.Observer.has_stopped c.turns.observer)) (sym (c.finish-then-is_some.ensures.end ∙ c.send_pending.ensures.sent.4.end)) c.turns.invariant.may)
+    asked c.finish-then-is_some.result.reason (g.W.Observer.account c.turns.observer)
+    (subst (λ (e : Ended). MayEnd e.reason (g.W.Observer.account c.turns.observer)) (sym (c.finish-then-is_some.ensures.end ∙ c.send_pending.ensures.sent.4.end)) c.turns.invariant.may)
 
 pub returns-in-AtEnd-clause-asked : goal.returns-in-AtEnd-clause-asked
 returns-in-AtEnd-clause-asked g c =
     let not_read : c.read_piece.result ≢ turn.Read = λ h. let bad : turn.AtEnd ≡ turn.Read = sym c.in-AtEnd.is ∙ h in cc in
     let still = c.read_piece.ensures.still not_read in
-    let after = g.W.Observer.has_stopped c.read_piece.new.observer in
-    asked c.finish-in-AtEnd.result.reason after
-    (subst (λ (e : Ended). MayEnd e.reason after) (sym (c.finish-in-AtEnd.ensures.end ∙ ap (λ (s : Session). end_of s) still.0 ∙ c.send_pending.ensures.sent.4.end))
-    (may_later (end_of c.turns.session).reason (g.W.Observer.has_stopped c.turns.observer) after c.read_piece.ensures.stays c.turns.invariant.may))
+    let same = sym (c.finish-in-AtEnd.ensures.end ∙ ap (λ (s : Session). end_of s) still.0 ∙ c.send_pending.ensures.sent.4.end) in
+    asked c.finish-in-AtEnd.result.reason (g.W.Observer.account c.read_piece.new.observer)
+    (subst (λ o. MayEnd c.finish-in-AtEnd.result.reason (g.W.Observer.account o)) (sym still.2) (subst (λ (e : Ended). MayEnd e.reason (g.W.Observer.account c.turns.observer)) same c.turns.invariant.may))
 
 pub returns-then-sends_no_more-clause-heeds : goal.returns-then-sends_no_more-clause-heeds
 returns-then-sends_no_more-clause-heeds g c = c.turns.invariant.heeds
@@ -252,10 +252,10 @@ returns-in-Failed-clause-heeds g c is now holds on =
     still (HoldsAs g.S.Store is now) c.args.store.now c.turns.store c.read_piece.new.store (inv.heeds is now holds on) holds (λ h. c.read_piece.ensures.heeds is now h (inv.stays on))
 
 pub returns-then-is_done-clause-notes : goal.returns-then-is_done-clause-notes
-returns-then-is_done-clause-notes g c clean was old holds = led_nowhere g.S.Store was old c.args.store.now (g.W.Observer.noted c.args.observer.now, g.W.Observer.has_stopped c.args.observer.now, g.W.Observer.waits c.args.observer.now) (g.W.Observer.noted c.args.observer.now, g.W.Observer.has_stopped c.args.observer.now, g.W.Observer.waits c.args.observer.now) holds refl (λ on. on) (waits_none (g.W.Observer.waits c.args.observer.now))
+returns-then-is_done-clause-notes g c clean was old holds = led_nowhere g.S.Store was old c.args.store.now (g.W.Observer.account c.args.observer.now) (g.W.Observer.account c.args.observer.now) holds refl (λ on. on) (waits_none (g.W.Observer.account c.args.observer.now).waits)
 
 pub returns-in_default-clause-notes : goal.returns-in_default-clause-notes
-returns-in_default-clause-notes g c clean was old holds = led_nowhere g.S.Store was old c.args.store.now (g.W.Observer.noted c.args.observer.now, g.W.Observer.has_stopped c.args.observer.now, g.W.Observer.waits c.args.observer.now) (g.W.Observer.noted c.args.observer.now, g.W.Observer.has_stopped c.args.observer.now, g.W.Observer.waits c.args.observer.now) holds refl (λ on. on) (waits_none (g.W.Observer.waits c.args.observer.now))
+returns-in_default-clause-notes g c clean was old holds = led_nowhere g.S.Store was old c.args.store.now (g.W.Observer.account c.args.observer.now) (g.W.Observer.account c.args.observer.now) holds refl (λ on. on) (waits_none (g.W.Observer.account c.args.observer.now).waits)
 
 pub returns-then-sends_no_more-clause-notes : goal.returns-then-sends_no_more-clause-notes
 returns-then-sends_no_more-clause-notes g c = c.turns.invariant.notes
@@ -269,13 +269,13 @@ returns-then-is_some-clause-notes g c = c.turns.invariant.notes
 pub returns-in-AtEnd-clause-notes : goal.returns-in-AtEnd-clause-notes
 returns-in-AtEnd-clause-notes g c clean was old holds =
     let inv = c.turns.invariant in
-    led_through g.S.Store was old c.args.store.now c.turns.store c.read_piece.new.store (g.W.Observer.noted c.args.observer.now, g.W.Observer.has_stopped c.args.observer.now, g.W.Observer.waits c.args.observer.now) (g.W.Observer.noted c.turns.observer, g.W.Observer.has_stopped c.turns.observer, g.W.Observer.waits c.turns.observer) (g.W.Observer.noted c.read_piece.new.observer, g.W.Observer.has_stopped c.read_piece.new.observer, g.W.Observer.waits c.read_piece.new.observer) [] [] inv.names (λ some. absurd (some refl))
+    led_through g.S.Store was old c.args.store.now c.turns.store c.read_piece.new.store (g.W.Observer.account c.args.observer.now) (g.W.Observer.account c.turns.observer) (g.W.Observer.account c.read_piece.new.observer) [] [] inv.names (λ some. absurd (some refl))
     (inv.notes (c.read_piece.ensures.clean clean) was old holds) (λ is now held. c.read_piece.ensures.notes clean is now held)
 
 pub returns-in-Failed-clause-notes : goal.returns-in-Failed-clause-notes
 returns-in-Failed-clause-notes g c clean was old holds =
     let inv = c.turns.invariant in
-    led_through g.S.Store was old c.args.store.now c.turns.store c.read_piece.new.store (g.W.Observer.noted c.args.observer.now, g.W.Observer.has_stopped c.args.observer.now, g.W.Observer.waits c.args.observer.now) (g.W.Observer.noted c.turns.observer, g.W.Observer.has_stopped c.turns.observer, g.W.Observer.waits c.turns.observer) (g.W.Observer.noted c.read_piece.new.observer, g.W.Observer.has_stopped c.read_piece.new.observer, g.W.Observer.waits c.read_piece.new.observer) [] [] inv.names (λ some. absurd (some refl))
+    led_through g.S.Store was old c.args.store.now c.turns.store c.read_piece.new.store (g.W.Observer.account c.args.observer.now) (g.W.Observer.account c.turns.observer) (g.W.Observer.account c.read_piece.new.observer) [] [] inv.names (λ some. absurd (some refl))
     (inv.notes (c.read_piece.ensures.clean clean) was old holds) (λ is now held. c.read_piece.ensures.notes clean is now held)
 
 pub returns-then-is_done-clause-until : goal.returns-then-is_done-clause-until

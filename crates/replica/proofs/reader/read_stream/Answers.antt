@@ -7,7 +7,7 @@ use Rattle.replica.specs.declared.end.Reason.TheVariants.{EndOfInput}
 use Rattle.replica.specs.declared.end.Ended.{Ended}
 use Rattle.replica.specs.Standing.{end_of}
 use Rattle.replica.specs.Over.{StandsOver}
-use Rattle.replica.specs.Conn.{MayEnd}
+use Rattle.replica.specs.Noted.{MayEnd}
 use Rattle.replica.proofs.Observed.{may_later, still}
 use Rattle.replica.proofs.Noted.{led_through, led_after}
 use Rattle.replica.proofs.Advance.{none_after}
@@ -22,7 +22,7 @@ loop-reader-init g c = record {
   stays = λ h. c.feed_observed.ensures.stays (c.received.ensures.stays h);
   heeds = λ is now holds on. c.feed_observed.ensures.heeds is now holds (c.received.ensures.stays on);
   notes = λ clean was old holds.
-      led_after g.S.Store was old c.args.store.now c.feed_observed.new.store (g.W.Observer.noted c.args.observer.now, g.W.Observer.has_stopped c.args.observer.now, g.W.Observer.waits c.args.observer.now) (g.W.Observer.noted c.received.new.self, g.W.Observer.has_stopped c.received.new.self, g.W.Observer.waits c.received.new.self) (g.W.Observer.noted c.feed_observed.new.observer, g.W.Observer.has_stopped c.feed_observed.new.observer, g.W.Observer.waits c.feed_observed.new.observer) [] c.received.ensures.noted c.received.ensures.stays c.received.ensures.waits (c.feed_observed.ensures.notes clean was old holds);
+      led_after g.S.Store was old c.args.store.now c.feed_observed.new.store (g.W.Observer.account c.args.observer.now) (g.W.Observer.account c.received.new.self) (g.W.Observer.account c.feed_observed.new.observer) [] c.received.ensures.noted c.received.ensures.stays c.received.ensures.waits (c.feed_observed.ensures.notes clean was old holds);
   taking = record {
     read = [];
     consumes = Consumes-nil (g.R.Read.remaining c.args.reader.now);
@@ -41,17 +41,17 @@ pub loop-reader-preserved : goal.loop-reader-preserved
 loop-reader-preserved g c = record {
   some = search rules;
   may = c.feed_observed-in-Ok.ensures.may_end
-      (may_later (end_of c.loop-reader.session).reason (g.W.Observer.has_stopped c.loop-reader.observer) (g.W.Observer.has_stopped c.received-in-Ok.new.self) c.received-in-Ok.ensures.stays c.loop-reader.invariant.may);
+      (may_later (end_of c.loop-reader.session).reason (g.W.Observer.account c.loop-reader.observer) (g.W.Observer.account c.received-in-Ok.new.self) [] c.received-in-Ok.ensures.stays c.received-in-Ok.ensures.waits c.loop-reader.invariant.may);
   stays = λ h. c.feed_observed-in-Ok.ensures.stays (c.received-in-Ok.ensures.stays (c.loop-reader.invariant.stays h));
   heeds = λ is now holds on.
       let inv = c.loop-reader.invariant in
       still (HoldsAs g.S.Store is now) c.args.store.now c.loop-reader.store c.feed_observed-in-Ok.new.store (inv.heeds is now holds on) holds (λ h. c.feed_observed-in-Ok.ensures.heeds is now h (c.received-in-Ok.ensures.stays (inv.stays on)));
   notes = λ clean was old holds.
       let inv = c.loop-reader.invariant in
-      led_through g.S.Store was old c.args.store.now c.loop-reader.store c.feed_observed-in-Ok.new.store (g.W.Observer.noted c.args.observer.now, g.W.Observer.has_stopped c.args.observer.now, g.W.Observer.waits c.args.observer.now) (g.W.Observer.noted c.loop-reader.observer, g.W.Observer.has_stopped c.loop-reader.observer, g.W.Observer.waits c.loop-reader.observer) (g.W.Observer.noted c.feed_observed-in-Ok.new.observer, g.W.Observer.has_stopped c.feed_observed-in-Ok.new.observer, g.W.Observer.waits c.feed_observed-in-Ok.new.observer) [] [] inv.taking.following (λ some. absurd (some refl))
+      led_through g.S.Store was old c.args.store.now c.loop-reader.store c.feed_observed-in-Ok.new.store (g.W.Observer.account c.args.observer.now) (g.W.Observer.account c.loop-reader.observer) (g.W.Observer.account c.feed_observed-in-Ok.new.observer) [] [] inv.taking.following (λ some. absurd (some refl))
       (inv.notes (c.feed_observed-in-Ok.ensures.clean clean) was old holds)
       (λ is now held.
-      led_after g.S.Store is now c.loop-reader.store c.feed_observed-in-Ok.new.store (g.W.Observer.noted c.loop-reader.observer, g.W.Observer.has_stopped c.loop-reader.observer, g.W.Observer.waits c.loop-reader.observer) (g.W.Observer.noted c.received-in-Ok.new.self, g.W.Observer.has_stopped c.received-in-Ok.new.self, g.W.Observer.waits c.received-in-Ok.new.self) (g.W.Observer.noted c.feed_observed-in-Ok.new.observer, g.W.Observer.has_stopped c.feed_observed-in-Ok.new.observer, g.W.Observer.waits c.feed_observed-in-Ok.new.observer) [] c.received-in-Ok.ensures.noted c.received-in-Ok.ensures.stays c.received-in-Ok.ensures.waits
+      led_after g.S.Store is now c.loop-reader.store c.feed_observed-in-Ok.new.store (g.W.Observer.account c.loop-reader.observer) (g.W.Observer.account c.received-in-Ok.new.self) (g.W.Observer.account c.feed_observed-in-Ok.new.observer) [] c.received-in-Ok.ensures.noted c.received-in-Ok.ensures.stays c.received-in-Ok.ensures.waits
       (c.feed_observed-in-Ok.ensures.notes clean is now held));
   taking = taking_more g.S.Store c.args.config.limit (length c.args.piece.now) c.args.first.now c.args.store.now c.loop-reader.session c.loop-reader.store (g.R.Read.remaining c.args.reader.now) (g.R.Read.remaining c.loop-reader.reader)
       c.feed_observed-in-Ok.new.self c.feed_observed-in-Ok.new.store (g.R.Read.remaining c.read_some.new.reader) (take c.in-Ok.count c.read_some.new.piece) c.loop-reader.invariant.taking
@@ -105,7 +105,7 @@ pub returns-clause-heeds : goal.returns-clause-heeds
 returns-clause-heeds g c = c.loop-reader.invariant.heeds
 
 pub returns-clause-may_end : goal.returns-clause-may_end
-returns-clause-may_end g c = subst (λ (e : Ended). MayEnd e.reason (g.W.Observer.has_stopped c.loop-reader.observer)) (sym c.finish-2.ensures.end) c.loop-reader.invariant.may
+returns-clause-may_end g c = subst (λ (e : Ended). MayEnd e.reason (g.W.Observer.account c.loop-reader.observer)) (sym c.finish-2.ensures.end) c.loop-reader.invariant.may
 
 pub returns-in-Ok-eq0-clause-notes : goal.returns-in-Ok-eq0-clause-notes
 returns-in-Ok-eq0-clause-notes g c = c.loop-reader.invariant.notes

@@ -1,7 +1,13 @@
-use Rattle.std.proofs.Common.{false, refl}
+use Rattle.std.proofs.Common.{◌≡◌, false, refl}
+use Rattle.std.proofs.lemmas.List.Elements.{All-weaker}
 use Rattle.sqlite_wal.specs.Files.{image_at}
 use Rattle.store.specs.Entering.{wanted_of, names_for}
-use Rattle.replica.proofs.Closed.{replayed, closes_as, keeps_content, noted_of_files}
+use Rattle.replica.specs.declared.end.Ended.{Ended}
+use Rattle.replica.specs.declared.end.Reason.TheVariants.{Until}
+use Rattle.replica.specs.Noted.{MayEnd}
+use Rattle.replica.specs.NotedFile.{HaveReached}
+use Rattle.replica.proofs.Observed.{may_until}
+use Rattle.replica.proofs.Closed.{replayed, closes_as, keeps_content, noted_of_files, reached_in_files}
 use Rattle.replica.proofs.replaying.replay.Goals as goal
 
 pub returns-clause-replays : goal.returns-clause-replays
@@ -23,9 +29,16 @@ returns-clause-keeps g c on names content files =
 
 pub returns-clause-notes : goal.returns-clause-notes
 returns-clause-notes g c names content files =
-    noted_of_files _ names content c.in_ok-store.store c.read_captures-read.new.store (g.W.Observer.noted c.args.observer.now, g.W.Observer.has_stopped c.args.observer.now, g.W.Observer.waits c.args.observer.now) (g.W.Observer.noted c.read_captures-read.new.observer, g.W.Observer.has_stopped c.read_captures-read.new.observer, g.W.Observer.waits c.read_captures-read.new.observer) c.read_captures-read.new.ends.items c.close_file-closed.result
+    noted_of_files _ names content c.in_ok-store.store c.read_captures-read.new.store (g.W.Observer.account c.args.observer.now) (g.W.Observer.account c.read_captures-read.new.observer) c.read_captures-read.new.ends.items c.close_file-closed.result
     c.read_captures-read.ensures.following (λ clean. let o = c.in_ok-store.ensures.opens (c.read_captures-read.ensures.clean clean) names content files in (o.0, o.1))
-    c.read_captures-read.ensures.notes c.read_captures-read.ensures.missed c.close_file-closed.ensures.copied c.close_file-closed.ensures.err
+    c.read_captures-read.ensures.notes c.close_file-closed.ensures.copied c.close_file-closed.ensures.err
+
+pub returns-clause-until : goal.returns-clause-until
+returns-clause-until g c names content wanted files wants =
+    All-weaker (λ (e : Ended). MayEnd e.reason (g.W.Observer.account c.read_captures-read.new.observer)) (λ (e : Ended). e.reason ≡ Until → HaveReached names content wanted c.close_file-closed.result)
+    (λ e may is. reached_in_files names content (g.W.Observer.account c.args.observer.now) (g.W.Observer.account c.read_captures-read.new.observer) c.read_captures-read.new.ends.items wanted c.close_file-closed.result
+    (returns-clause-notes g c names content files) wants (may_until e.reason (g.W.Observer.account c.read_captures-read.new.observer) may is))
+    c.read_captures-read.new.ends.items c.read_captures-read.ensures.may_end
 
 pub returns-in_err-store-clause-untouched : goal.returns-in_err-store-clause-untouched
 returns-in_err-store-clause-untouched g c = λ failed. refl

@@ -21,7 +21,7 @@ loop-used-init g c = record {
   may_end = λ h. h;
   stays = λ h. h;
   heeds = λ is now holds on. refl;
-  notes = λ clean was old holds. led_nowhere g.S.Store was old c.args.store.now (g.W.Observer.noted c.args.observer.now, g.W.Observer.has_stopped c.args.observer.now, g.W.Observer.waits c.args.observer.now) (g.W.Observer.noted c.args.observer.now, g.W.Observer.has_stopped c.args.observer.now, g.W.Observer.waits c.args.observer.now) holds refl (λ on. on) (waits_none (g.W.Observer.waits c.args.observer.now));
+  notes = λ clean was old holds. led_nowhere g.S.Store was old c.args.store.now (g.W.Observer.account c.args.observer.now) (g.W.Observer.account c.args.observer.now) holds refl (λ on. on) (waits_none (g.W.Observer.account c.args.observer.now).waits);
   room = search rules;
 }
 
@@ -40,7 +40,7 @@ loop-used-preserved g c =
       stays = λ h. c.advance.ensures.stays (inv.stays h);
       heeds = λ is now holds on. still (HoldsAs g.S.Store is now) c.args.store.now c.loop-used.store c.advance.new.store (inv.heeds is now holds on) holds (λ h. c.advance.ensures.heeds is now h (inv.stays on));
       notes = λ clean was old holds.
-          led_through g.S.Store was old c.args.store.now c.loop-used.store c.advance.new.store (g.W.Observer.noted c.args.observer.now, g.W.Observer.has_stopped c.args.observer.now, g.W.Observer.waits c.args.observer.now) (g.W.Observer.noted c.loop-used.observer, g.W.Observer.has_stopped c.loop-used.observer, g.W.Observer.waits c.loop-used.observer) (g.W.Observer.noted c.advance.new.observer, g.W.Observer.has_stopped c.advance.new.observer, g.W.Observer.waits c.advance.new.observer) [] [] inv.following (λ some. absurd (some refl))
+          led_through g.S.Store was old c.args.store.now c.loop-used.store c.advance.new.store (g.W.Observer.account c.args.observer.now) (g.W.Observer.account c.loop-used.observer) (g.W.Observer.account c.advance.new.observer) [] [] inv.following (λ some. absurd (some refl))
           (inv.notes (c.advance.ensures.clean clean) was old holds) (λ is now held. c.advance.ensures.notes clean is now held);
       room = subst (λ (l : List ℕ). c.advance.new.self.ended ≡ None → room_of c.advance.new.self + length c.args.bytes.now ≤ room_of c.args.self.now + length l) (sym (take_rest rest used))
           (room_more c.loop-used.self c.advance.new.self rest used (room_of c.args.self.now) (length c.args.bytes.now) c.in-Some.ensures.used.1 c.in-Some.ensures.room inv.room);
@@ -56,10 +56,10 @@ returns-clause-heeds g c is now holds on =
     still (HoldsAs g.S.Store is now) c.args.store.now c.loop-used.store c.advance.new.store (inv.heeds is now holds on) holds (λ h. c.advance.ensures.heeds is now h (inv.stays on))
 
 pub returns-then-is_some-clause-notes : goal.returns-then-is_some-clause-notes
-returns-then-is_some-clause-notes g c clean was old holds = led_nowhere g.S.Store was old c.args.store.now (g.W.Observer.noted c.args.observer.now, g.W.Observer.has_stopped c.args.observer.now, g.W.Observer.waits c.args.observer.now) (g.W.Observer.noted c.args.observer.now, g.W.Observer.has_stopped c.args.observer.now, g.W.Observer.waits c.args.observer.now) holds refl (λ on. on) (waits_none (g.W.Observer.waits c.args.observer.now))
+returns-then-is_some-clause-notes g c clean was old holds = led_nowhere g.S.Store was old c.args.store.now (g.W.Observer.account c.args.observer.now) (g.W.Observer.account c.args.observer.now) holds refl (λ on. on) (waits_none (g.W.Observer.account c.args.observer.now).waits)
 
 pub returns-clause-notes : goal.returns-clause-notes
 returns-clause-notes g c clean was old holds =
     let inv = c.loop-used.invariant in
-    led_through g.S.Store was old c.args.store.now c.loop-used.store c.advance.new.store (g.W.Observer.noted c.args.observer.now, g.W.Observer.has_stopped c.args.observer.now, g.W.Observer.waits c.args.observer.now) (g.W.Observer.noted c.loop-used.observer, g.W.Observer.has_stopped c.loop-used.observer, g.W.Observer.waits c.loop-used.observer) (g.W.Observer.noted c.advance.new.observer, g.W.Observer.has_stopped c.advance.new.observer, g.W.Observer.waits c.advance.new.observer) [] [] inv.following (λ some. absurd (some refl))
+    led_through g.S.Store was old c.args.store.now c.loop-used.store c.advance.new.store (g.W.Observer.account c.args.observer.now) (g.W.Observer.account c.loop-used.observer) (g.W.Observer.account c.advance.new.observer) [] [] inv.following (λ some. absurd (some refl))
     (inv.notes (c.advance.ensures.clean clean) was old holds) (λ is now held. c.advance.ensures.notes clean is now held)

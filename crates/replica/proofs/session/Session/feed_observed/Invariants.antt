@@ -2,8 +2,7 @@ use Rattle.std.proofs.Common.{◌≡◌, ◌+◌, ◌≤◌, Bool, [], length, t
 use Rattle.store.specs.State.{Content}
 use Rattle.sqlite.specs.State.{HasCleanDisk}
 use Rattle.store.specs.Store.{HoldsAs, database}
-use Rattle.replica.specs.Noted.{IsLedTo}
-use Rattle.replica.specs.Conn.{MayEnd}
+use Rattle.replica.specs.Noted.{IsLedTo, MayEnd}
 use Rattle.replica.specs.Standing.{end_of, room_of}
 use Rattle.replica.proofs.Fed.{Fed}
 use Rattle.replica.proofs.session.Session.feed_observed.Given as goal
@@ -14,10 +13,10 @@ invariant-loop-used g l = record {
   following : l.store.following ≡ l.fn.store.following;
   broken : l.fn.store.broken ≡ true → l.store ≡ l.fn.store;
   config : l.self.config ≡ l.fn.self.config;
-  may_end : MayEnd (end_of l.fn.self).reason (g.W.Observer.has_stopped l.fn.observer) → MayEnd (end_of l.self).reason (g.W.Observer.has_stopped l.observer);
-  stays : g.W.Observer.has_stopped l.fn.observer ≡ true → g.W.Observer.has_stopped l.observer ≡ true;
-  heeds : (is : Bool) (now : Content) → HoldsAs g.S.Store is now l.fn.store → g.W.Observer.has_stopped l.fn.observer ≡ true → l.store ≡ l.fn.store;
-  notes : HasCleanDisk (database g.S.Store l.store) → (was : Bool) (old : Content) → HoldsAs g.S.Store was old l.fn.store → IsLedTo g.S.Store l.fn.store l.store was old (g.W.Observer.noted l.fn.observer, g.W.Observer.has_stopped l.fn.observer, g.W.Observer.waits l.fn.observer) (g.W.Observer.noted l.observer, g.W.Observer.has_stopped l.observer, g.W.Observer.waits l.observer) [];
+  may_end : MayEnd (end_of l.fn.self).reason (g.W.Observer.account l.fn.observer) → MayEnd (end_of l.self).reason (g.W.Observer.account l.observer);
+  stays : (g.W.Observer.account l.fn.observer).has_stopped ≡ true → (g.W.Observer.account l.observer).has_stopped ≡ true;
+  heeds : (is : Bool) (now : Content) → HoldsAs g.S.Store is now l.fn.store → (g.W.Observer.account l.fn.observer).has_stopped ≡ true → l.store ≡ l.fn.store;
+  notes : HasCleanDisk (database g.S.Store l.store) → (was : Bool) (old : Content) → HoldsAs g.S.Store was old l.fn.store → IsLedTo g.S.Store l.fn.store l.store was old (g.W.Observer.account l.fn.observer) (g.W.Observer.account l.observer) [];
   room : l.self.ended ≡ None → room_of l.self + length l.bytes ≤ room_of l.fn.self + length l.rest;
 }
 

@@ -33,9 +33,9 @@ returns-in-Login g c =
       following = refl;
       broken = λ _. refl;
       config = c.take_message.ensures.config;
-      may_end = own_may (end_of c.take_message.new.self).reason (g.W.Observer.has_stopped c.args.observer.now) c.take_message.ensures.may_end;
+      may_end = own_may (end_of c.take_message.new.self).reason (g.W.Observer.account c.args.observer.now) c.take_message.ensures.may_end;
       stays = λ h. h;
-      notes = λ clean was old holds. led_nowhere g.S.Store was old c.args.store.now (g.W.Observer.noted c.args.observer.now, g.W.Observer.has_stopped c.args.observer.now, g.W.Observer.waits c.args.observer.now) (g.W.Observer.noted c.args.observer.now, g.W.Observer.has_stopped c.args.observer.now, g.W.Observer.waits c.args.observer.now) holds refl (λ on. on) (waits_none (g.W.Observer.waits c.args.observer.now));
+      notes = λ clean was old holds. led_nowhere g.S.Store was old c.args.store.now (g.W.Observer.account c.args.observer.now) (g.W.Observer.account c.args.observer.now) holds refl (λ on. on) (waits_none (g.W.Observer.account c.args.observer.now).waits);
       heeds = λ is now holds on. refl;
       room = λ none. let f = c.take_message.ensures.further none in room_left s c.take_message.new.self c.in-Some.end n f.0 f.1 c.requires.between.0 ends (omega (arith, c.in-Some.ensures));
       takes = λ clean schema was old b o m.
@@ -44,7 +44,7 @@ returns-in-Login g c =
     }
 
 pub returns-in_default-clause-notes : goal.returns-in_default-clause-notes
-returns-in_default-clause-notes g c clean was old holds = led_nowhere g.S.Store was old c.args.store.now (g.W.Observer.noted c.args.observer.now, g.W.Observer.has_stopped c.args.observer.now, g.W.Observer.waits c.args.observer.now) (g.W.Observer.noted c.args.observer.now, g.W.Observer.has_stopped c.args.observer.now, g.W.Observer.waits c.args.observer.now) holds refl (λ on. on) (waits_none (g.W.Observer.waits c.args.observer.now))
+returns-in_default-clause-notes g c clean was old holds = led_nowhere g.S.Store was old c.args.store.now (g.W.Observer.account c.args.observer.now) (g.W.Observer.account c.args.observer.now) holds refl (λ on. on) (waits_none (g.W.Observer.account c.args.observer.now).waits)
 
 pub returns-in-Dump-clause-notes : goal.returns-in-Dump-clause-notes
 returns-in-Dump-clause-notes g c = c.take_dump.ensures.notes

@@ -12,5 +12,5 @@ returns-clause-stays g c =
     let d = delivery_value c.args.delivery.now in
     let o = c.args.outcome.now in
     let left : StillWaits was (after d o ∷ []) c.left_after.result = subst (λ (m : Option Ids). StillWaits m (after d o ∷ []) c.left_after.result) c.take.ensures.value c.left_after.ensures in
-    either_stays (is_over was) (g.W.Observer.has_stopped c.args.self.now.inner) (is_over c.left_after.result) (g.W.Observer.has_stopped c.after_apply.new.self)
+    either_stays (is_over was) (g.W.Observer.account c.args.self.now.inner).has_stopped (is_over c.left_after.result) (g.W.Observer.account c.after_apply.new.self).has_stopped
     (after_none was d o c.left_after.result left) c.after_apply.ensures.stays

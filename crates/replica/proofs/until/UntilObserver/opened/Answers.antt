@@ -9,5 +9,5 @@ returns-clause-stays g c =
     let was = c.args.self.now.missing in
     let taken = c.args.executed.now in
     let left : IsLeftOf was taken c.without.result = subst (λ (m : Option Ids). IsLeftOf m taken c.without.result) c.take.ensures.value c.without.ensures in
-    either_stays (is_over was) (g.W.Observer.has_stopped c.args.self.now.inner) (is_over c.without.result) (g.W.Observer.has_stopped c.opened.new.self)
+    either_stays (is_over was) (g.W.Observer.account c.args.self.now.inner).has_stopped (is_over c.without.result) (g.W.Observer.account c.opened.new.self).has_stopped
     (left_none was taken c.without.result left) c.opened.ensures.stays

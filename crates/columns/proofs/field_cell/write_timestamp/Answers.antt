@@ -1,0 +1,11 @@
+use Rattle.std.proofs.Common.{refl}
+use Rattle.columns.specs.Stamps.{stamp_bytes}
+use Rattle.columns.specs.FieldForms.{IsMomentForm}
+use Rattle.columns.specs.FieldCells.{IsTimestampFieldCell}
+use Rattle.columns.proofs.FieldWrites.{written_field}
+use Rattle.columns.proofs.field_cell.write_timestamp.Goals as goal
+
+pub returns-in-Ok : goal.returns-in-Ok
+returns-in-Ok c =
+    written_field (IsTimestampFieldCell c.args.digits c.args.field.now) (IsMomentForm c.args.digits c.args.field.now) (stamp_bytes c.in-Ok.at) c.args.out.now.items c.write.new.out.items c.write.result c.appended.result c.appended.ensures c.write.ensures.ok c.write.ensures.err
+    (c.in-Ok.at, c.in-Ok.ensures.digits, c.in-Ok.ensures.found, refl)

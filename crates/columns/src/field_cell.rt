@@ -1,0 +1,291 @@
+//! The cell of the value that a field of a line is, of any type.
+
+ghost use Rattle.std.specs.Prelude.{◌≡◌, ◌≤◌, ◌<◌, ◌++◌, ℕ, List, length, Ok, Err, ⊤, IsTrue, IfOk, IfErr, OnErr, MatchResult};
+ghost use Rattle.std.specs.Str.Parse.{IsNumeral};
+ghost use Rattle.binlog.specs.Cell.{CellValue};
+ghost use Rattle.columns.specs.DataType.{is_digits};
+ghost use Rattle.columns.specs.TypeText.{first_number};
+ghost use Rattle.columns.specs.TypedValues.{second_number};
+ghost use Rattle.columns.specs.WrittenCells.{IsWritten};
+ghost use Rattle.columns.specs.Fields.{IsSignedNumeral, AreFourDigits};
+ghost use Rattle.columns.specs.FieldForms.{IsDateForm, IsMomentForm, IsSpanForm};
+ghost use Rattle.columns.specs.FieldDecimals.{IsDecimalForm};
+ghost use Rattle.columns.specs.FieldCells.{IsIntegerFieldCell, IsDecimalFieldCell, IsFloatFieldCell, IsDoubleFieldCell, IsBitsFieldCell, IsYearFieldCell, IsDateFieldCell, IsTimeFieldCell, IsDatetimeFieldCell, IsTimestampFieldCell, IsHexFieldCell, AreHexDigits, IsReal, IsFieldCell, IsFieldForm, IsCellFieldFault};
+ghost use Rattle.columns.specs.FieldWrites.{WritesField};
+ghost use Rattle.columns.specs.declared.value.field_fault.FieldFault.TheVariants as fault;
+ghost use Rattle.columns.specs.declared.written_cell.WrittenCell.TheVariants as written;
+
+use crate::arguments::Arguments;
+use crate::character_set::CharacterSet;
+use crate::data_type::DataType;
+use crate::field_bytes::read_hex_field;
+use crate::sign::Sign;
+use crate::type_name::TypeName;
+use crate::typed_value::{bits_of, digits_of};
+use crate::typed_write::append;
+use crate::value::bit::write_bits;
+use crate::value::date::Date;
+use crate::value::decimal::Decimal;
+use crate::value::field_fault::FieldFault;
+use crate::value::field_numbers::read_bits_field;
+use crate::value::field_reals::{read_double_field, read_float_field};
+use crate::value::float::{double_bytes, float_bytes};
+use crate::value::integer::{Integer, IntegerWidth};
+use crate::value::moment::Datetime;
+use crate::value::span::Time;
+use crate::value::stamp::Timestamp;
+use crate::value::year::Year;
+use crate::written_cell::WrittenCell;
+use std::alloc::{AllocError, Global};
+
+impl DataType {
+    /// Writes the cell that a server sends for the value that a field of a line is, in a column of this type, which is none
+    /// of ENUM and SET, and of this character set, which counts for CHAR alone: the number of an integer is answered, the
+    /// bytes of another value are appended. The field is a number, a date or a time as the client prints it, a BIT as its
+    /// number in decimal digits, and a text or bytes as their hexadecimal digits, as `HEX()` gives them; NULL is none.
+    /// `Text` if the field is not of the form that the type has, and of each field of a column of JSON, GEOMETRY, VECTOR
+    /// or their like; `Range` if it is, and is no value of the type; `Memory` if the bytes lack the room. An error leaves
+    /// the vector as it was.
+    pub fn write_field(
+        self,
+        set: CharacterSet,
+        alloc: Global,
+        field: &[u8],
+        out: &mut Vec<u8>,
+    ) -> Result<WrittenCell, FieldFault>
+        ensures found { IfOk result (λ made. (cell : CellValue) ×
+            IsWritten made out.old.items out.new.items cell ×
+            IsFieldCell self.name self.numbers self.sign set field.now cell) }
+        ensures only { (cell : CellValue) →
+            IsFieldCell self.name self.numbers self.sign set field.now cell →
+            MatchResult result (λ _. ⊤) (λ wrong. wrong ≡ fault.Memory) }
+        ensures err { OnErr result (out.new.items ≡ out.old.items) }
+        ensures fault { IfErr result (IsCellFieldFault
+            (IsFieldForm self.name self.numbers field.now)) }
+    {
+        write_any(self, set, alloc, field, out)
+    }
+}
+
+/// Writes the cell of a field in a column of this type.
+pub(crate) fn write_any(
+    kind: DataType,
+    set: CharacterSet,
+    alloc: Global,
+    field: &[u8],
+    out: &mut Vec<u8>,
+) -> Result<WrittenCell, FieldFault>
+    ensures { WritesField (IsFieldCell kind.name kind.numbers kind.sign set field.now)
+        (IsFieldForm kind.name kind.numbers field.now) result out.old.items out.new.items }
+{
+    match kind.name {
+        TypeName::Tinyint => integer_cell(IntegerWidth::One, kind.sign, field),
+        TypeName::Smallint => integer_cell(IntegerWidth::Two, kind.sign, field),
+        TypeName::Mediumint => integer_cell(IntegerWidth::Three, kind.sign, field),
+        TypeName::Int => integer_cell(IntegerWidth::Four, kind.sign, field),
+        TypeName::Bigint => integer_cell(IntegerWidth::Eight, kind.sign, field),
+        TypeName::Decimal => write_decimal(kind.numbers, field, out),
+        TypeName::Float => write_float(field, out),
+        TypeName::Double => write_double(field, out),
+        TypeName::Bit => write_bit(bits_of(kind.numbers), field, out),
+        TypeName::Year => write_year(field, out),
+        TypeName::Date => write_date(field, out),
+        TypeName::Time => write_time(digits_of(kind.numbers), field, out),
+        TypeName::Datetime => write_datetime(digits_of(kind.numbers), field, out),
+        TypeName::Timestamp => write_timestamp(digits_of(kind.numbers), field, out),
+        TypeName::Char | TypeName::Varchar => write_hex(
+            4 * kind.numbers.first() as usize,
+            kind,
+            set,
+            alloc,
+            field,
+            out,
+        ),
+        TypeName::Tinytext | TypeName::Tinyblob => write_hex(0xff, kind, set, alloc, field, out),
+        TypeName::Text | TypeName::Blob => write_hex(0xffff, kind, set, alloc, field, out),
+        TypeName::Mediumtext | TypeName::Mediumblob => write_hex(
+            0xff_ffff, kind, set, alloc, field, out,
+        ),
+        TypeName::Longtext | TypeName::Longblob => write_hex(
+            0xffff_ffff,
+            kind,
+            set,
+            alloc,
+            field,
+            out,
+        ),
+        TypeName::Binary | TypeName::Varbinary => write_hex(
+            kind.numbers.first() as usize,
+            kind,
+            set,
+            alloc,
+            field,
+            out,
+        ),
+        _ => Err(FieldFault::Text),
+    }
+}
+
+/// The cell of an integer's field.
+fn integer_cell(width: IntegerWidth, sign: Sign, field: &[u8]) -> Result<WrittenCell, FieldFault>
+    ensures { (old : List ℕ) →
+        WritesField (IsIntegerFieldCell width sign field.now) (IsSignedNumeral field.now)
+        result old old }
+{
+    let integer = match Integer::read_field(width, sign, field) {
+        Ok(integer) => integer,
+        Err(wrong) => return Err(wrong),
+    };
+    let Some(value) = integer.number(width) else {
+        unreachable!();
+    };
+    Ok(WrittenCell::Number {
+        value,
+        width: width.bytes(),
+    })
+}
+
+/// What is answered of bytes that were appended, or were not.
+fn appended(done: Result<(), AllocError>) -> Result<WrittenCell, FieldFault>
+    ensures { MatchResult done (λ _. result ≡ Ok written.Bytes) (λ _. result ≡ Err fault.Memory) }
+{
+    match done {
+        Ok(()) => Ok(WrittenCell::Bytes),
+        Err(_) => Err(FieldFault::Memory),
+    }
+}
+
+/// Writes the cell of a decimal's field.
+fn write_decimal(
+    numbers: Arguments,
+    field: &[u8],
+    out: &mut Vec<u8>,
+) -> Result<WrittenCell, FieldFault>
+    requires { IsTrue (is_digits 65 numbers) }
+    ensures { WritesField (IsDecimalFieldCell (first_number numbers)
+        (second_number numbers) field.now) (IsDecimalForm (second_number numbers) field.now) result
+        out.old.items out.new.items }
+{
+    let Arguments::TwoNumbers(precision, scale) = numbers else {
+        unreachable!();
+    };
+    match Decimal::read_field(precision as u8, scale as u8, field) {
+        Ok(value) => appended(value.write(out)),
+        Err(wrong) => Err(wrong),
+    }
+}
+
+/// Writes the cell of the field of a FLOAT.
+fn write_float(field: &[u8], out: &mut Vec<u8>) -> Result<WrittenCell, FieldFault>
+    ensures { WritesField (IsFloatFieldCell field.now)
+        (IsReal field.now) result out.old.items out.new.items }
+{
+    match read_float_field(field) {
+        Ok(value) => appended(append(&float_bytes(value), out)),
+        Err(wrong) => Err(wrong),
+    }
+}
+
+/// Writes the cell of the field of a DOUBLE.
+fn write_double(field: &[u8], out: &mut Vec<u8>) -> Result<WrittenCell, FieldFault>
+    ensures { WritesField (IsDoubleFieldCell field.now)
+        (IsReal field.now) result out.old.items out.new.items }
+{
+    match read_double_field(field) {
+        Ok(value) => appended(append(&double_bytes(value), out)),
+        Err(wrong) => Err(wrong),
+    }
+}
+
+/// Writes the cell of the field of a BIT of so many bits.
+fn write_bit(bits: u8, field: &[u8], out: &mut Vec<u8>) -> Result<WrittenCell, FieldFault>
+    requires some { 1 ≤ bits }
+    requires few { bits ≤ 64 }
+    ensures { WritesField (IsBitsFieldCell bits field.now)
+        (IsNumeral 10 field.now) result out.old.items out.new.items }
+{
+    match read_bits_field(bits, field) {
+        Ok(number) => appended(write_bits(number, bits, out)),
+        Err(wrong) => Err(wrong),
+    }
+}
+
+/// Writes the cell of a year's field.
+fn write_year(field: &[u8], out: &mut Vec<u8>) -> Result<WrittenCell, FieldFault>
+    ensures { WritesField (IsYearFieldCell field.now)
+        (AreFourDigits field.now) result out.old.items out.new.items }
+{
+    match Year::read_field(field) {
+        Ok(year) => appended(append(&year.bytes(), out)),
+        Err(wrong) => Err(wrong),
+    }
+}
+
+/// Writes the cell of a date's field.
+fn write_date(field: &[u8], out: &mut Vec<u8>) -> Result<WrittenCell, FieldFault>
+    ensures { WritesField (IsDateFieldCell field.now)
+        (IsDateForm field.now) result out.old.items out.new.items }
+{
+    match Date::read_field(field) {
+        Ok(date) => appended(append(&date.bytes(), out)),
+        Err(wrong) => Err(wrong),
+    }
+}
+
+/// Writes the cell of the field of a TIME with so many digits after the point.
+fn write_time(digits: u8, field: &[u8], out: &mut Vec<u8>) -> Result<WrittenCell, FieldFault>
+    requires { digits ≤ 6 }
+    ensures { WritesField (IsTimeFieldCell digits field.now)
+        (IsSpanForm digits field.now) result out.old.items out.new.items }
+{
+    match Time::read_field(digits, field) {
+        Ok(at) => appended(at.write(out)),
+        Err(wrong) => Err(wrong),
+    }
+}
+
+/// Writes the cell of the field of a DATETIME with so many digits after the point.
+fn write_datetime(digits: u8, field: &[u8], out: &mut Vec<u8>) -> Result<WrittenCell, FieldFault>
+    requires { digits ≤ 6 }
+    ensures { WritesField (IsDatetimeFieldCell digits field.now)
+        (IsMomentForm digits field.now) result out.old.items out.new.items }
+{
+    match Datetime::read_field(digits, field) {
+        Ok(at) => appended(at.write(out)),
+        Err(wrong) => Err(wrong),
+    }
+}
+
+/// Writes the cell of the field of a TIMESTAMP with so many digits after the point.
+fn write_timestamp(digits: u8, field: &[u8], out: &mut Vec<u8>) -> Result<WrittenCell, FieldFault>
+    requires { digits ≤ 6 }
+    ensures { WritesField (IsTimestampFieldCell digits field.now)
+        (IsMomentForm digits field.now) result out.old.items out.new.items }
+{
+    match Timestamp::read_field(digits, field) {
+        Ok(at) => appended(at.write(out)),
+        Err(wrong) => Err(wrong),
+    }
+}
+
+/// Writes the cell of the field of a text or of bytes of at most so many bytes.
+fn write_hex(
+    most: usize,
+    kind: DataType,
+    set: CharacterSet,
+    alloc: Global,
+    field: &[u8],
+    out: &mut Vec<u8>,
+) -> Result<WrittenCell, FieldFault>
+    ensures { WritesField (IsHexFieldCell most kind.name set field.now)
+        (AreHexDigits field.now) result out.old.items out.new.items }
+{
+    let bytes = match read_hex_field(alloc, field) {
+        Ok(bytes) => bytes,
+        Err(wrong) => return Err(wrong),
+    };
+    if bytes.len() > most {
+        return Err(FieldFault::Range);
+    }
+    appended(append(kind.unpadded(set, &bytes), out))
+}

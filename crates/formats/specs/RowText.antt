@@ -1,0 +1,49 @@
+-- The line of a row as text: the name of its table, the number of its copies, and its cells. The format is this project's own
+-- (docs/FORMATS.md, "Rows").
+use Rattle.std.specs.Prelude.{ℕ, ◌+◌, ◌/◌, ◌%◌, Bool, false, ◌||◌, ◌&&◌, ◌==◌, nat_le, nat_lt, List, [], ◌∷◌, ◌++◌, codes, decimal, flat_map, if◌then◌else◌}
+use Rattle.std.specs.Str.{byte}
+use Rattle.binlog.specs.Cell.{CellValue}
+use Rattle.binlog.specs.Cell.CellValue.{null_cell, number_cell, bytes_cell}
+
+-- the digit of a number below 16
+abbrev pub hex_digit : ℕ → ℕ
+hex_digit n = if nat_lt n 10 then byte "0" + n else 87 + n
+
+abbrev pub byte_text : ℕ → List ℕ
+byte_text b = hex_digit (b / 16) ∷ hex_digit (b % 16) ∷ []
+
+-- a digit, a letter, `_` or `$`
+abbrev pub is_plain : ℕ → Bool
+is_plain b =
+    (nat_le (byte "0") b && nat_le b (byte "9"))
+    || (nat_le (byte "A") b && nat_le b (byte "Z"))
+    || (nat_le (byte "a") b && nat_le b (byte "z"))
+    || b == byte "_"
+    || b == byte "$"
+
+-- every other byte of a name is `%` and two digits
+abbrev pub name_byte : ℕ → List ℕ
+name_byte b = if is_plain b then b ∷ [] else (byte "%" ∷ byte_text b)
+
+-- the name of a table after that of its schema
+abbrev pub qualified_text : List ℕ → List ℕ → List ℕ
+qualified_text schema table = flat_map name_byte schema ++ byte "." ∷ flat_map name_byte table
+
+-- `null`, a number and its width, or `x` and two digits for each byte
+abbrev pub cell_text : CellValue → List ℕ
+cell_text null_cell = codes "null"
+cell_text (number_cell value width) = decimal value ++ byte "/" ∷ decimal width
+cell_text (bytes_cell bytes) = byte "x" ∷ flat_map byte_text bytes
+
+-- after a comma, unless it is the first
+abbrev pub after_comma : Bool → List ℕ → List ℕ
+after_comma first text = if first then text else (byte "," ∷ text)
+
+-- with commas between them
+abbrev pub cells_text : List CellValue → List ℕ
+cells_text [] = []
+cells_text (cell ∷ cells) = cell_text cell ++ flat_map (λ c. after_comma false (cell_text c)) cells
+
+-- the line, with its line feed
+abbrev pub row_text : List ℕ → List ℕ → ℕ → List CellValue → List ℕ
+row_text schema table count cells = qualified_text schema table ++ byte " " ∷ (decimal count ++ byte " " ∷ (cells_text cells ++ 10 ∷ []))
