@@ -407,8 +407,71 @@ static OTHERS: [CommandRow; 11] = [
     ),
 ];
 
+/// The commands of a first copy.
+static COPYING: [CommandRow; 3] = [
+    CommandRow(
+        "select",
+        "Print the statements with which the `mysql` client prints the rows of tables at one moment, for `mrep load`",
+        &[
+            Argument(
+                "columns",
+                Kind::NeededText("FILE"),
+                "The description of the columns, as the query of `mrep columns` gives it",
+            ),
+            Argument(
+                "only",
+                Kind::Repeated("SCHEMA.TABLE"),
+                "Print only the rows of this table; may be repeated. Without it: of all that are described",
+            ),
+        ],
+        "Example:\n  mrep select --columns shop.columns --only shop.items | mysql -h db1 -u root -p -BN --quick > items.copy",
+    ),
+    CommandRow(
+        "load",
+        "Load a first copy of tables into a database, and print each table with the number of its rows",
+        &[
+            DB,
+            Argument(
+                "columns",
+                Kind::NeededText("FILE"),
+                "The description of the columns, as the query of `mrep columns` gives it",
+            ),
+            PROGRESS,
+            CHANGES,
+            BYTES,
+            Argument(
+                "COPY",
+                Kind::Word,
+                "The file that the `mysql` client has written of the statements of `mrep select`",
+            ),
+        ],
+        "Example:\n  mrep load --db F.db --columns shop.columns items.copy && mrep follow --db F.db ..",
+    ),
+    CommandRow(
+        "clear",
+        "Take all rows of a table out of a database and record a GTID as executed, and print how many rows went",
+        &[
+            DB,
+            Argument(
+                "gtid",
+                Kind::Needed("G"),
+                "The GTID of the statement, as TRUNCATE or ALTER, that is answered so",
+            ),
+            CHANGES,
+            CHANGE_COLUMNS,
+            BYTES,
+            Argument("SCHEMA.TABLE", Kind::Word, "The table"),
+        ],
+        "Example, of a TRUNCATE:\n  mrep clear --db F.db --gtid 3e11fa47-71ca-11e1-9e33-c80aa9429562:7 shop.items",
+    ),
+];
+
 fn reading() -> &'static [CommandRow] {
     &READING
+}
+
+fn copying() -> &'static [CommandRow] {
+    &COPYING
 }
 
 fn others() -> &'static [CommandRow] {
@@ -417,8 +480,8 @@ fn others() -> &'static [CommandRow] {
 
 /// All commands, in the order of the help. A table stands in the proof of each function that names it, and so one alone does; in
 /// one table they are more than the prover takes.
-pub fn commands() -> [&'static [CommandRow]; 2] {
-    [reading(), others()]
+pub fn commands() -> [&'static [CommandRow]; 3] {
+    [reading(), copying(), others()]
 }
 
 /// The argument of a row.

@@ -10,9 +10,14 @@ use Rattle.columns.specs.declared.fields.LineFault.{LineFault}
 use Rattle.columns.specs.declared.fields.LineFault.TheVariants.{Memory as OutOfMemory}
 use Rattle.typed_rows.specs.declared.tables.TablesFault.{TablesFault}
 use Rattle.typed_rows.specs.declared.tables.TablesFault.TheVariants as tables
+use Rattle.gtid.specs.declared.fault.GtidFault.TheVariants as gtids
+use Rattle.first_copy.specs.declared.copy_fault.CopyFault.{CopyFault}
+use Rattle.first_copy.specs.declared.copy_fault.CopyFault.TheVariants as copy
+use Rattle.replica.specs.declared.loading.Unloadable.{Unloadable as Refusal}
+use Rattle.replica.specs.declared.loading.Unloadable.TheVariants.{Failed}
 use Rattle.store.specs.declared.fault.StoreFault.{StoreFault}
 use Rattle.store.specs.declared.fault.StoreFault.TheVariants as store
-use Rattle.mrep.specs.declared.report.failure.Failure.TheVariants.{Words, Set, Gtid, Table, Schema, Number, Bytes, Columns, Description, Tables, Misfit, User, File, Host, Database, Damaged, Unusable, Output, Memory}
+use Rattle.mrep.specs.declared.report.failure.Failure.TheVariants.{Words, Set, Gtid, Table, Schema, Number, Bytes, Columns, Description, Tables, Copy, Unloadable, Misfit, User, File, Host, Database, Damaged, Unusable, Output, Memory}
 
 -- 4 if memory ran out, otherwise 3
 abbrev pub IsFileStatus : Error → ℕ → Type 0
@@ -39,7 +44,19 @@ abbrev pub tables_status : TablesFault → ℕ
 tables_status tables.Memory = 4
 tables_status _ = 2
 
--- 1 for a row that does not fit the description; 2 for a mistake in the arguments, such as a text that is not a set, a
+-- as a file if it could not be read, 4 if memory ran out, otherwise 1
+abbrev pub IsCopyStatus : CopyFault → ℕ → Type 0
+IsCopyStatus (copy.Reader line error) status = IsFileStatus error status
+IsCopyStatus copy.Memory status = status ≡ 4
+IsCopyStatus (copy.Executed gtids.Memory) status = status ≡ 4
+IsCopyStatus _ status = status ≡ 1
+
+-- as a failure of the database, otherwise 1
+abbrev pub unloadable_status : Refusal → ℕ
+unloadable_status (Failed cause) = database_status cause
+unloadable_status _ = 1
+
+-- 1 for a row that does not fit the description, for a file that is no copy, and for a copy that may not be loaded; 2 for a mistake in the arguments, such as a text that is not a set, a
 -- GTID, a table, a number or a user name, and for a file that is no description or of which no tables are made; 3 for a file, a host, a database or the output; 4 if memory ran out
 abbrev pub IsStatus : Failure → ℕ → Type 0
 IsStatus (Words error) status = (kind_of error ≡ clap_kind.OutOfMemory → status ≡ 4) × (kind_of error ≢ clap_kind.OutOfMemory → status ≡ 2)
@@ -53,6 +70,8 @@ IsStatus Columns status = status ≡ 2
 IsStatus (Description name fault) status = status ≡ description_status fault.fault
 IsStatus (Tables name fault) status = status ≡ tables_status fault
 IsStatus (Misfit name misfit) status = status ≡ 1
+IsStatus (Copy name fault) status = IsCopyStatus fault status
+IsStatus (Unloadable name why) status = status ≡ unloadable_status why
 IsStatus (User word cause) status = status ≡ 2
 IsStatus (Database name cause) status = status ≡ database_status cause
 IsStatus (Damaged name damage) status = status ≡ 3

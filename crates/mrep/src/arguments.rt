@@ -41,14 +41,19 @@ pub fn number<'a>(word: &'a str, largest: u32) -> Result<u32, Failure<'a>>
 pub fn tables<'a>(alloc: Global, words: &[&'a str]) -> Result<Follow, Failure<'a>> {
     let mut names = Vec::with_capacity(alloc, words.len())?;
     for word in words {
-        let Some(name) = read_table(alloc, word)? else {
-            return Err(Failure::Table { word });
-        };
-        names.push(name)?;
+        names.push(table(alloc, word)?)?;
     }
     match Follow::new(alloc, &names) {
         Ok(filter) => Ok(filter),
         Err(_) => Err(Failure::Memory),
+    }
+}
+
+/// The table that a word names: its schema and itself.
+pub fn table<'a>(alloc: Global, word: &'a str) -> Result<(Vec<u8>, Vec<u8>), Failure<'a>> {
+    match read_table(alloc, word)? {
+        Some(name) => Ok(name),
+        None => Err(Failure::Table { word }),
     }
 }
 

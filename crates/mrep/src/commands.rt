@@ -2,23 +2,29 @@
 
 ghost use Rattle.std.specs.Prelude.{◌≤◌, IfOk, IfSome};
 
+pub mod clear;
 pub mod copy;
 pub mod export;
 pub mod follow;
 pub mod jobs;
 pub mod listing;
+pub mod load;
 pub mod minus;
 pub mod replay;
+pub mod select;
 pub mod verify;
 
 use crate::arguments::{tables, word};
+use crate::commands::clear::clear;
 use crate::commands::copy::copy;
 use crate::commands::export::export;
 use crate::commands::follow::follow;
 use crate::commands::jobs::{job_of, run_job};
 use crate::commands::listing::list;
+use crate::commands::load::load;
 use crate::commands::minus::minus;
 use crate::commands::replay::replay;
+use crate::commands::select::select;
 use crate::commands::verify::verify;
 use crate::report::failure::{DONE, Failure, MEMORY};
 use clap::{ArgMatches, Command};
@@ -142,6 +148,9 @@ fn run_named<'a, W: Write, E: Write>(
         "minus" => minus(rt, given, out)?,
         "replay" => replay(rt, given, out, err)?,
         "follow" => follow(rt, given, out, err)?,
+        "select" => select(rt, given, out)?,
+        "load" => load(rt, given, out, err)?,
+        "clear" => clear(rt, given, out, err)?,
         "copy" => copy(rt, given)?,
         "export" => export(rt, given, err)?,
         "verify" => verify(rt, given, out, err)?,

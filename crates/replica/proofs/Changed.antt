@@ -31,6 +31,7 @@ use Rattle.replica.specs.File.{AreClosedWith, KeepsContent}
 use Rattle.replica.specs.Noted.{Account, IsNotedOf, IsLedTo}
 use Rattle.replica.specs.NotedFile.{IsNotedOfChange}
 use Rattle.replica.specs.Change.{IsAdopted, UnlessAdopted, begun_with, IsLeftOfChange}
+use Rattle.replica.specs.Given.{Supply}
 use Rattle.replica.specs.Changing.{HasChanged}
 use Rattle.replica.specs.ChangeFile.{ChangesFile}
 use Rattle.replica.proofs.Closed.{closed_with, may_hold}
@@ -74,7 +75,7 @@ module _ {S : Type 0} (g : StoreGhosts S) where
   led_unadopted before after old ids (fault.CountFull at) account it = absurd it
 
 module _ {D : Type 0} (g : Ghosts D) (names : Names) (old : Content) (opened after : Store (FileStore D g) over_files) where
-  pub changed_into : {E : Type 0} (left : Option (List DeliveryValue)) (ids : Ids) (applied : ℕ) (end : ChangeEnd E) (closed : Result (Files D) (Error × FileStore D g))
+  pub changed_into : {E : Type 0} (left : Supply) (ids : Ids) (applied : ℕ) (end : ChangeEnd E) (closed : Result (Files D) (Error × FileStore D g))
       → after.following ≡ opened.following → (HasCleanDisk (database over_files after) → Holds over_files opened old × (opened.following ≡ names))
       → (HasCleanDisk (database over_files after) → (content : Content) → Holds over_files opened content → HasChanged over_files opened.following after content ids left applied end)
       → IfOk closed (λ files. AreClean g files.log files.db → IsCopied after.conn files)

@@ -21,7 +21,7 @@ use Rattle.binlog.specs.Filter.{Names}
 use Rattle.store.specs.State.{Content}
 use Rattle.store.specs.declared.store.Store.{Store}
 use Rattle.store.specs.Apply.{IsAtRest}
-use Rattle.store.specs.Store.{Holds, HoldsAs, database}
+use Rattle.store.specs.Store.{Holds, HoldsAs, Keeps, database}
 use Rattle.store.specs.Entering.{IsLeft, IsWanted, names_for}
 use Rattle.store.proofs.Reopened.{left_by}
 use Rattle.replica.specs.declared.captures.Capture.{Capture}
@@ -54,7 +54,7 @@ rest_of false content store is_open holds = holds.rest
 rest_of true content store is_open holds = holds.rest is_open
 
 -- files that were closed with a clean disk, or could not be, had a clean disk before
-clean_before_closing : {D : Type 0} {g : Ghosts D} (conn : Held (FileStore D g)) (closed : Result (Files D) (Error × FileStore D g))
+pub clean_before_closing : {D : Type 0} {g : Ghosts D} (conn : Held (FileStore D g)) (closed : Result (Files D) (Error × FileStore D g))
     → IfOk closed (λ files. AreClean g files.log files.db → IsCopied conn files)
     → IfErr closed (λ e. IsClosed conn e.1 × (IsClean (view e.1) → FailsToClose conn e.1 e.0))
     → IsCleanlyClosed closed → HasCleanDisk (file_state conn)
@@ -87,6 +87,15 @@ module _ {D : Type 0} (g : Ghosts D) (names : Names) (after : Store (FileStore D
   closed_with is content files copy holds = record {
     trees = (file_state after.conn).committed.trees;
     stands = λ only. subst (λ n. IsLeft only n content (file_state after.conn).committed.trees) kept (rest_left (file_state after.conn) after.following content (rest_of is content after copy.was_open holds) only);
+    seen = copy.seen;
+    left = copy.left;
+  }
+
+  -- the same of a store that keeps it, and whose connection may be shut
+  pub kept_with : (content : Content) (files : Files D) → IsCopied after.conn files → Keeps over_files after content → AreClosedWith g names content files
+  kept_with content files copy keeps = record {
+    trees = (file_state after.conn).committed.trees;
+    stands = λ only. subst (λ n. IsLeft only n content (file_state after.conn).committed.trees) kept (rest_left (file_state after.conn) after.following content (keeps.rest copy.was_open) only);
     seen = copy.seen;
     left = copy.left;
   }

@@ -40,3 +40,9 @@ pub mod Filtered
 pub mod Alone
 pub mod Taking
 pub mod Changed
+pub mod Copies
+pub mod Loaded
+pub mod Copied
+pub mod Cleared
+pub mod ClearStore
+pub mod ClearFiles

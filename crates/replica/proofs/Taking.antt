@@ -1,7 +1,8 @@
 -- Transactions that are given one at a time and applied in order.
-use Rattle.std.proofs.Common.{◌≡◌, ◌⊎◌, ◌++◌, ◌∷◌, [], ℕ, ◌+◌, ◌≤◌, ◌^◌, ◌-◌, arith, Bool, true, false, List, length, Option, Some, None, Result, Ok, Err, IsTrue, inl, inr, refl, sym, ap, subst, ◌∙◌, append_assoc, append-nil}
+use Rattle.std.proofs.Common.{◌≡◌, ◌⊎◌, ◌++◌, ◌∷◌, [], ℕ, ◌+◌, ◌≤◌, ◌^◌, ◌-◌, arith, Bool, true, false, List, map, length, Option, Some, None, Result, Ok, Err, IfNone, IsTrue, inl, inr, refl, sym, ap, subst, ◌∙◌, append_assoc, append-nil}
 use Rattle.std.specs.Prelude.{if◌then◌else◌}
 use Rattle.std.specs.Int.{from_bool}
+use Rattle.std.specs.Option.{option_to_list}
 use Rattle.std.proofs.lemmas.List.{length_push}
 use Rattle.sqlite_trees.specs.declared.store.Store.{Ghosts}
 use Rattle.sqlite_trees.specs.Tree.{Trees}
@@ -21,25 +22,55 @@ use Rattle.replica.specs.declared.end.Reason.TheVariants.{EndOfInput, SourceEof,
 use Rattle.replica.specs.declared.changing.ChangeEnd.{ChangeEnd}
 use Rattle.replica.specs.declared.changing.ChangeEnd.TheVariants.{AllGiven, NotGiven, Stopped, TooMany, NotAdopted}
 use Rattle.replica.specs.Conn.{AppliesAll, IsRefusedBy}
-use Rattle.replica.specs.Given.{GivesFirst}
+use Rattle.gather.specs.View.{delivery_value}
+use Rattle.gather.specs.declared.transaction.Delivery.{Delivery}
+use Rattle.replica.specs.Given.{Supply, listed, BeginWith, GivesFirst, GivesOne}
 use Rattle.replica.specs.Over.{LeavesOnly}
 use Rattle.replica.specs.Change.{IsLeftOfChange}
 use Rattle.replica.specs.Alone.{IsAppliedOrKnown, IsNotApplied}
 use Rattle.replica.specs.Changing.{TakesNext, HasTakenSome, HasChanged}
 use Rattle.replica.proofs.Push.{applies_push}
 
-pub gives_none : (all : Option (List DeliveryValue)) → GivesFirst all [] all
-gives_none None = tt
-gives_none (Some ds) = refl
+pub gives_none : (all : Supply) → GivesFirst all [] all
+gives_none all = record { begins = λ more begin. begin; are_all = λ more is. is }
 
-pub gives_more : (first middle last : Option (List DeliveryValue)) (xs ys : List DeliveryValue) → GivesFirst first xs middle → GivesFirst middle ys last → GivesFirst first (xs ++ ys) last
-gives_more None middle last xs ys a b = tt
-gives_more (Some f) None last xs ys a b = absurd a
-gives_more (Some f) (Some m) None xs ys a b = absurd b
-gives_more (Some f) (Some m) (Some l) xs ys a b = a ∙ ap (λ (ds : List DeliveryValue). xs ++ ds) b ∙ sym (append_assoc xs ys l)
+pub gives_more : (first middle last : Supply) (xs ys : List DeliveryValue) → GivesFirst first xs middle → GivesFirst middle ys last → GivesFirst first (xs ++ ys) last
+gives_more first middle last xs ys a b = record {
+  begins = λ more begin. subst (λ (ds : List DeliveryValue). BeginWith first ds) (sym (append_assoc xs ys more)) (a.begins (ys ++ more) (b.begins more begin));
+  are_all = λ more is. subst (λ (ds : List DeliveryValue). first.are_all ds) (sym (append_assoc xs ys more)) (a.are_all (ys ++ more) (b.are_all more is));
+}
 
-gives_all : (first last : Option (List DeliveryValue)) (xs : List DeliveryValue) → GivesFirst first xs last → GivesFirst first (xs ++ []) last
-gives_all first last xs a = subst (λ (ds : List DeliveryValue). GivesFirst first ds last) (sym (append-nil xs)) a
+-- those that were given are what comes first
+pub begin_with : (first last : Supply) (xs : List DeliveryValue) → GivesFirst first xs last → BeginWith first xs
+begin_with first last xs a = subst (λ (ds : List DeliveryValue). BeginWith first ds) (append-nil xs) (a.begins [] tt)
+
+-- if none is left, they are all
+pub all_of : (first last : Supply) (xs : List DeliveryValue) → GivesFirst first xs last → last.are_all [] → first.are_all xs
+all_of first last xs a none = subst (λ (ds : List DeliveryValue). first.are_all ds) (append-nil xs) (a.are_all [] none)
+
+pub gives_all : (first last : Supply) (xs : List DeliveryValue) → GivesFirst first xs last → BeginWith first (xs ++ [])
+gives_all first last xs a = a.begins [] tt
+
+listed_begins : (old new : List Delivery) (d : Delivery) → map delivery_value old ≡ delivery_value d ∷ map delivery_value new
+    → (more : List DeliveryValue) → BeginWith (listed (map delivery_value new)) more → BeginWith (listed (map delivery_value old)) (delivery_value d ∷ more)
+listed_begins old new d same [] begin = (map delivery_value new, same)
+listed_begins old new d same (e ∷ more) begin = (begin.0, same ∙ ap (λ (ds : List DeliveryValue). delivery_value d ∷ ds) begin.1)
+
+-- the first one of a list, or none where it is empty
+pub pops : (old new : List Delivery) (first : Option Delivery) → old ≡ option_to_list first ++ new → IfNone first (new ≡ []) → GivesOne (listed (map delivery_value old)) (listed (map delivery_value new)) first
+pops old new (Some d) is none =
+    let same : map delivery_value old ≡ delivery_value d ∷ map delivery_value new = ap (λ (ds : List Delivery). map delivery_value ds) is in
+    record {
+      begins = λ more begin. listed_begins old new d same more begin;
+      are_all = λ more all. same ∙ ap (λ (ds : List DeliveryValue). delivery_value d ∷ ds) all;
+    }
+pops old new None is none = (
+  record {
+    begins = λ more begin. subst (λ (ds : List Delivery). BeginWith (listed (map delivery_value ds)) more) (sym is) begin;
+    are_all = λ more all. ap (λ (ds : List Delivery). map delivery_value ds) is ∙ all;
+  },
+  ap (λ (ds : List Delivery). map delivery_value ds) none,
+)
 
 -- how many transactions are new of one
 pub counts_one : (is_new : Bool) → from_bool is_new ≡ (if is_new then 1 else 0)
@@ -51,11 +82,11 @@ counts true = omega arith
 counts false = omega arith
 
 module _ {S : Type 0} (g : Ghosts S) where
-  pub none_taken : (names : Names) (store : Store S g) (old : Content) (left : Option (List DeliveryValue)) → Holds g store old → HasTakenSome g names store old left left 0 0
+  pub none_taken : (names : Names) (store : Store S g) (old : Content) (left : Supply) → Holds g store old → HasTakenSome g names store old left left 0 0
   none_taken names store old left holds = record { taken = []; gives = gives_none left; counted = refl; new = old; applies = (refl, refl); holds = holds }
 
   -- one transaction more
-  pub one_taken : (names : Names) (before after : Store S g) (old : Content) (left mid rest : Option (List DeliveryValue)) (count applied more : ℕ) (is_new : Bool) → before.following ≡ names → more ≡ (if is_new then 1 else 0)
+  pub one_taken : (names : Names) (before after : Store S g) (old : Content) (left mid rest : Supply) (count applied more : ℕ) (is_new : Bool) → before.following ≡ names → more ≡ (if is_new then 1 else 0)
       → (t : HasTakenSome g names before old left mid count applied) → ((d : DeliveryValue) × GivesFirst mid (d ∷ []) rest × IsAppliedOrKnown g t.new d before after is_new) → HasTakenSome g names after old left rest (count + 1) (applied + more)
   one_taken names before after old left mid rest count applied more is_new same one t next =
       let last = next.2 in
@@ -76,27 +107,27 @@ module _ {S : Type 0} (g : Ghosts S) (settled : (h : Held S) (db : Trees) → Is
   whole_leaves content store P is holds = record { each = λ trees may. (content, applying.stays g store.following content settled store.conn trees holds.rest may, is) }
 
   -- no further one was asked for
-  pub until_ended : {E : Type 0} (names : Names) (store : Store S g) (old : Content) (ids : Ids) (left rest : Option (List DeliveryValue)) (count applied : ℕ)
+  pub until_ended : {E : Type 0} (names : Names) (store : Store S g) (old : Content) (ids : Ids) (left rest : Supply) (count applied : ℕ)
       → HasTakenSome g names store (adopted old ids) left rest count applied → HasChanged g {E = E} names store old ids left applied (Stopped Until)
   until_ended names store old ids left rest count applied t = record {
-    change = record { taken = t.taken; last = None; rest = rest; gives = gives_all left rest t.taken t.gives; new = t.new; applies = t.applies; why = refl };
+    change = record { taken = t.taken; last = None; gives = gives_all left rest t.taken t.gives; new = t.new; applies = t.applies; why = refl };
     is = false;
     holds = t.holds;
     schema = (state g store.conn).now.schema;
     leaves = whole_leaves t.new store _ (inl refl) t.holds;
   }
 
-  pub too_many : {E : Type 0} (names : Names) (store : Store S g) (old : Content) (ids : Ids) (left rest : Option (List DeliveryValue)) (count applied : ℕ) → count ≡ 2 ^ 64 - 1
+  pub too_many : {E : Type 0} (names : Names) (store : Store S g) (old : Content) (ids : Ids) (left rest : Supply) (count applied : ℕ) → count ≡ 2 ^ 64 - 1
       → HasTakenSome g names store (adopted old ids) left rest count applied → HasChanged g {E = E} names store old ids left applied TooMany
   too_many names store old ids left rest count applied is t = record {
-    change = record { taken = t.taken; last = None; rest = rest; gives = gives_all left rest t.taken t.gives; new = t.new; applies = t.applies; why = (refl, t.counted ∙ is) };
+    change = record { taken = t.taken; last = None; gives = gives_all left rest t.taken t.gives; new = t.new; applies = t.applies; why = (refl, t.counted ∙ is) };
     is = false;
     holds = t.holds;
     schema = (state g store.conn).now.schema;
     leaves = whole_leaves t.new store _ (inl refl) t.holds;
   }
 
-  module _ (names : Names) (before after : Store S g) (old : Content) (ids : Ids) (left mid rest : Option (List DeliveryValue)) (count applied : ℕ) (same : before.following ≡ names) (later : after.following ≡ before.following)
+  module _ (names : Names) (before after : Store S g) (old : Content) (ids : Ids) (left mid rest : Supply) (count applied : ℕ) (same : before.following ≡ names) (later : after.following ≡ before.following)
       (t : HasTakenSome g names before (adopted old ids) left mid count applied) where
     -- the last one that was given was not applied
     pub not_applied : {E : Type 0} (reason : Reason) → ((d : DeliveryValue) × GivesFirst mid (d ∷ []) rest × IsNotApplied g t.new d before after reason) → HasChanged g {E = E} names after old ids left applied (Stopped reason)
@@ -104,8 +135,7 @@ module _ {S : Type 0} (g : Ghosts S) (settled : (h : Held S) (db : Trees) → Is
       change = record {
         taken = t.taken;
         last = Some it.0;
-        rest = rest;
-        gives = gives_more left mid rest t.taken (it.0 ∷ []) t.gives it.1;
+        gives = begin_with left rest (t.taken ++ it.0 ∷ []) (gives_more left mid rest t.taken (it.0 ∷ []) t.gives it.1);
         new = t.new;
         applies = t.applies;
         why = subst (λ n. IsRefusedBy n t.new it.0 refusal) same it.2.0;
@@ -119,8 +149,7 @@ module _ {S : Type 0} (g : Ghosts S) (settled : (h : Held S) (db : Trees) → Is
       change = record {
         taken = t.taken;
         last = Some it.0;
-        rest = rest;
-        gives = gives_more left mid rest t.taken (it.0 ∷ []) t.gives it.1;
+        gives = begin_with left rest (t.taken ++ it.0 ∷ []) (gives_more left mid rest t.taken (it.0 ∷ []) t.gives it.1);
         new = t.new;
         applies = t.applies;
         why = it.2.fresh;
@@ -144,8 +173,7 @@ module _ {S : Type 0} (g : Ghosts S) (settled : (h : Held S) (db : Trees) → Is
       change = record {
         taken = t.taken;
         last = Some it.0;
-        rest = rest;
-        gives = gives_more left mid rest t.taken (it.0 ∷ []) t.gives it.1;
+        gives = begin_with left rest (t.taken ++ it.0 ∷ []) (gives_more left mid rest t.taken (it.0 ∷ []) t.gives it.1);
         new = t.new;
         applies = t.applies;
         why = it.2.fresh;
@@ -163,8 +191,7 @@ module _ {S : Type 0} (g : Ghosts S) (settled : (h : Held S) (db : Trees) → Is
       change = record {
         taken = t.taken;
         last = Some it.0;
-        rest = rest;
-        gives = gives_more left mid rest t.taken (it.0 ∷ []) t.gives it.1;
+        gives = begin_with left rest (t.taken ++ it.0 ∷ []) (gives_more left mid rest t.taken (it.0 ∷ []) t.gives it.1);
         new = t.new;
         applies = t.applies;
         why = it.2.0;
@@ -200,11 +227,10 @@ module _ {S : Type 0} (g : Ghosts S) (settled : (h : Held S) (db : Trees) → Is
           change = record {
             taken = t.taken;
             last = None;
-            rest = rest;
-            gives = gives_more left mid rest t.taken [] t.gives it.0;
+            gives = begin_with left rest (t.taken ++ []) (gives_more left mid rest t.taken [] t.gives it.0);
             new = t.new;
             applies = t.applies;
-            why = (refl, it.1);
+            why = (refl, subst (λ (ds : List DeliveryValue). left.are_all ds) (append-nil t.taken) (all_of left rest (t.taken ++ []) (gives_more left mid rest t.taken [] t.gives it.0) it.1));
           };
           is = false;
           holds = holds;
@@ -217,8 +243,7 @@ module _ {S : Type 0} (g : Ghosts S) (settled : (h : Held S) (db : Trees) → Is
           change = record {
             taken = t.taken;
             last = None;
-            rest = rest;
-            gives = gives_more left mid rest t.taken [] t.gives it.0;
+            gives = begin_with left rest (t.taken ++ []) (gives_more left mid rest t.taken [] t.gives it.0);
             new = t.new;
             applies = t.applies;
             why = refl;
@@ -234,10 +259,10 @@ module _ {S : Type 0} (g : Ghosts S) (settled : (h : Held S) (db : Trees) → Is
 
 -- the set was not adopted
 module _ {S : Type 0} (g : Ghosts S) where
-  pub not_adopted : {E : Type 0} (before after : Store S g) (old : Content) (ids : Ids) (left : Option (List DeliveryValue)) (f : StoreFault) → after.following ≡ before.following → Adopts g old ids before after (Err f)
+  pub not_adopted : {E : Type 0} (before after : Store S g) (old : Content) (ids : Ids) (left : Supply) (f : StoreFault) → after.following ≡ before.following → Adopts g old ids before after (Err f)
       → ((trees : Trees) → (state g after.conn).may_leave trees → LeavesAdopted (state g before.conn).now.schema before.following old ids (Err f) trees) → HasChanged g {E = E} before.following after old ids left 0 (NotAdopted f)
   not_adopted before after old ids left (fault.Database e) later it leaves = record {
-    change = record { taken = []; last = None; rest = left; gives = gives_none left; new = old; applies = (refl, refl); why = (refl, refl, tt) };
+    change = record { taken = []; last = None; gives = tt; new = old; applies = (refl, refl); why = (refl, refl, tt) };
     is = true;
     holds = it;
     schema = (state g before.conn).now.schema;
@@ -249,7 +274,7 @@ module _ {S : Type 0} (g : Ghosts S) where
     };
   }
   not_adopted before after old ids left fault.Memory later it leaves = record {
-    change = record { taken = []; last = None; rest = left; gives = gives_none left; new = old; applies = (refl, refl); why = (refl, refl, tt) };
+    change = record { taken = []; last = None; gives = tt; new = old; applies = (refl, refl); why = (refl, refl, tt) };
     is = true;
     holds = it.0;
     schema = (state g before.conn).now.schema;

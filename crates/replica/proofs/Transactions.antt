@@ -107,10 +107,10 @@ at_most names old (d ∷ ds) n new (inr t) = let h = at_most names old ds n new 
 
 -- ---- Where each is new.
 
-itself : (ids : Ids) (x : Id) → set.contains (set.insert ids x) x ≡ true
+pub itself : (ids : Ids) (x : Id) → set.contains (set.insert ids x) x ≡ true
 itself ids x = set.contains-insert id_cmp_total ids x x ∙ ap (λ o. is_eq o || set.contains ids x) (tied_itself id_cmp_total x)
 
-still : (ids : Ids) (x q : Id) → set.contains ids q ≡ true → set.contains (set.insert ids x) q ≡ true
+pub still : (ids : Ids) (x q : Id) → set.contains ids q ≡ true → set.contains (set.insert ids x) q ≡ true
 still ids x q h = set.contains-insert id_cmp_total ids x q ∙ ap (λ b. is_eq (id_cmp q x) || b) h ∙ or_right (is_eq (id_cmp q x)) true refl
 
 before : (b c : Bool) → (b ≡ true → c ≡ true) → c ≡ false → b ≡ false

@@ -14,7 +14,7 @@ use Rattle.replica.specs.declared.changing.ChangeEnd.TheVariants.{AllGiven, NotG
 use Rattle.replica.specs.Conn.{AppliesAll, IsRefusedBy, IsOwn}
 use Rattle.replica.specs.Noted.{Account}
 use Rattle.replica.specs.Missing.{waits_for_none}
-use Rattle.replica.specs.Given.{GivesFirst, IsAllGiven}
+use Rattle.replica.specs.Given.{Supply, BeginWith}
 
 -- The set was adopted, so that transactions were asked for.
 abbrev pub IsAdopted : {E : Type 0} → ChangeEnd E → Type 0
@@ -38,31 +38,30 @@ MayStop (Stopped Until) is = (is.has_stopped ≡ true) × (waits_for_none is.wai
 MayStop (Stopped reason) is = IsOwn reason
 MayStop _ is = Unit {0}
 
--- Why it ended, with this content, after these transactions and perhaps a last one that was not applied, where these remain: all
--- were given; no other one came, or was asked for; or the last one was refused, or is new and failed or was not to be applied.
-abbrev pub WhyEnded : {E : Type 0} → Names → Content → List DeliveryValue → Option DeliveryValue → Option (List DeliveryValue) → ChangeEnd E → Type 0
-WhyEnded names new taken last rest AllGiven = (last ≡ None) × IsAllGiven rest
-WhyEnded names new taken last rest (NotGiven cause) = last ≡ None
-WhyEnded names new taken last rest (Stopped (Refused refusal)) = IsSomeAnd last (λ d. IsRefusedBy names new d refusal)
-WhyEnded names new taken last rest (Stopped (Database (fault.Database e))) = IsSomeAnd last (λ d. is_executed new d ≡ false)
-WhyEnded names new taken last rest (Stopped Memory) = IsSomeAnd last (λ d. is_executed new d ≡ false)
-WhyEnded names new taken last rest (Stopped Halted) = IsSomeAnd last (λ d. is_executed new d ≡ false)
-WhyEnded names new taken last rest (Stopped Until) = last ≡ None
-WhyEnded names new taken last rest (Stopped _) = ⊥
-WhyEnded names new taken last rest TooMany = (last ≡ None) × (length taken ≡ 2 ^ 64 - 1)
-WhyEnded names new taken last rest (NotAdopted fault) = (taken ≡ []) × (last ≡ None) × IsFailure fault
+-- Why it ended, with this content, after these transactions and perhaps a last one that was not applied: they are all; no other
+-- one came, or was asked for; or the last one was refused, or is new and failed or was not to be applied.
+abbrev pub WhyEnded : {E : Type 0} → Names → Content → List DeliveryValue → Option DeliveryValue → Supply → ChangeEnd E → Type 0
+WhyEnded names new taken last left AllGiven = (last ≡ None) × left.are_all taken
+WhyEnded names new taken last left (NotGiven cause) = last ≡ None
+WhyEnded names new taken last left (Stopped (Refused refusal)) = IsSomeAnd last (λ d. IsRefusedBy names new d refusal)
+WhyEnded names new taken last left (Stopped (Database (fault.Database e))) = IsSomeAnd last (λ d. is_executed new d ≡ false)
+WhyEnded names new taken last left (Stopped Memory) = IsSomeAnd last (λ d. is_executed new d ≡ false)
+WhyEnded names new taken last left (Stopped Halted) = IsSomeAnd last (λ d. is_executed new d ≡ false)
+WhyEnded names new taken last left (Stopped Until) = last ≡ None
+WhyEnded names new taken last left (Stopped _) = ⊥
+WhyEnded names new taken last left TooMany = (last ≡ None) × (length taken ≡ 2 ^ 64 - 1)
+WhyEnded names new taken last left (NotAdopted fault) = (taken ≡ []) × (last ≡ None) × IsFailure fault
 
--- Of the transactions that were to be given, if they are known, the first ones were taken in order, each once, and lead from a
+-- Of the transactions that were to be given the first ones were taken in order, each once, and lead from a
 -- content, with the set adopted, to another one; so many of them were applied, and this is the end.
-pub record Changes {E : Type 0} (names : Names) (old : Content) (ids : Ids) (left : Option (List DeliveryValue)) (applied : ℕ) (end : ChangeEnd E) : Type 0 where
-  -- those that were applied or had been executed, the one after them that was given and not applied, and those that remain
+pub record Changes {E : Type 0} (names : Names) (old : Content) (ids : Ids) (left : Supply) (applied : ℕ) (end : ChangeEnd E) : Type 0 where
+  -- those that were applied or had been executed, and the one after them that was given and not applied
   pub taken : List DeliveryValue
   pub last : Option DeliveryValue
-  pub rest : Option (List DeliveryValue)
-  pub gives : GivesFirst left (taken ++ option_to_list last) rest
+  pub gives : BeginWith left (taken ++ option_to_list last)
   pub new : Content
   pub applies : AppliesAll names (begun_with end old ids) taken applied new
-  pub why : WhyEnded names new taken last rest end
+  pub why : WhyEnded names new taken last left end
 
 -- The database failed, and what is left has the set that was to be adopted, or the transaction that was to be applied.
 abbrev pub IsOneStepMore : {E : Type 0} → Names → Content → Ids → Content → Option DeliveryValue → ChangeEnd E → Content → Type 0
@@ -71,5 +70,5 @@ IsOneStepMore names old ids new last (NotAdopted (fault.Database e)) left = left
 IsOneStepMore names old ids new last _ left = ⊥
 
 -- What a crash leaves: the content that was led to, or one step more if the database failed.
-abbrev pub IsLeftOfChange : {E : Type 0} (names : Names) (old : Content) (ids : Ids) (left : Option (List DeliveryValue)) (applied : ℕ) (end : ChangeEnd E) → Changes names old ids left applied end → Content → Type 0
+abbrev pub IsLeftOfChange : {E : Type 0} (names : Names) (old : Content) (ids : Ids) (left : Supply) (applied : ℕ) (end : ChangeEnd E) → Changes names old ids left applied end → Content → Type 0
 IsLeftOfChange names old ids left applied end change content = (content ≡ change.new) ⊎ IsOneStepMore names old ids change.new change.last end content

@@ -11,22 +11,22 @@ use Rattle.store.specs.Store.{Holds, HoldsAs}
 use Rattle.replica.specs.declared.changing.ChangeEnd.{ChangeEnd}
 use Rattle.replica.specs.declared.changing.ChangeEnd.TheVariants.{AllGiven, NotGiven, Stopped}
 use Rattle.replica.specs.Conn.{AppliesAll}
-use Rattle.replica.specs.Given.{GivesFirst, IsAllGiven}
+use Rattle.replica.specs.Given.{Supply, GivesFirst}
 use Rattle.replica.specs.Alone.{IsAppliedOrKnown, IsNotApplied}
 use Rattle.replica.specs.Over.{LeavesOnly}
 use Rattle.replica.specs.Change.{Changes, IsLeftOfChange}
 
 module _ {S : Type 0} (g : Ghosts S) where
   -- The next transaction is given, and applied or not; or none is given.
-  abbrev pub TakesNext : {E : Type 0} → Content → Store S g → Store S g → Option (List DeliveryValue) → Option (List DeliveryValue) → Result Bool (ChangeEnd E) → Type 0
+  abbrev pub TakesNext : {E : Type 0} → Content → Store S g → Store S g → Supply → Supply → Result Bool (ChangeEnd E) → Type 0
   TakesNext now old new left rest (Ok applied) = (d : DeliveryValue) × GivesFirst left (d ∷ []) rest × IsAppliedOrKnown g now d old new applied
-  TakesNext now old new left rest (Err AllGiven) = GivesFirst left [] rest × IsAllGiven rest × (new ≡ old)
+  TakesNext now old new left rest (Err AllGiven) = GivesFirst left [] rest × rest.are_all [] × (new ≡ old)
   TakesNext now old new left rest (Err (NotGiven cause)) = GivesFirst left [] rest × (new ≡ old)
   TakesNext now old new left rest (Err (Stopped reason)) = (d : DeliveryValue) × GivesFirst left (d ∷ []) rest × IsNotApplied g now d old new reason
   TakesNext now old new left rest (Err _) = ⊥
 
   -- So many transactions were taken, none of them refused.
-  pub record HasTakenSome (names : Names) (store : Store S g) (old : Content) (left rest : Option (List DeliveryValue)) (count applied : ℕ) : Type 0 where
+  pub record HasTakenSome (names : Names) (store : Store S g) (old : Content) (left rest : Supply) (count applied : ℕ) : Type 0 where
     pub taken : List DeliveryValue
     pub gives : GivesFirst left taken rest
     pub counted : length taken ≡ count
@@ -35,7 +35,7 @@ module _ {S : Type 0} (g : Ghosts S) where
     pub holds : Holds g store new
 
   -- The store holds the content that was led to, and this is what a crash leaves.
-  pub record HasChanged {E : Type 0} (names : Names) (store : Store S g) (old : Content) (ids : Ids) (left : Option (List DeliveryValue)) (applied : ℕ) (end : ChangeEnd E) : Type 0 where
+  pub record HasChanged {E : Type 0} (names : Names) (store : Store S g) (old : Content) (ids : Ids) (left : Supply) (applied : ℕ) (end : ChangeEnd E) : Type 0 where
     pub change : Changes names old ids left applied end
     pub is : Bool
     pub holds : HoldsAs g is change.new store

@@ -4,23 +4,34 @@ use Rattle.gather.specs.Transaction.{DeliveryValue}
 use Rattle.gather.specs.View.{delivery_value}
 use Rattle.gather.specs.declared.transaction.Delivery.{Delivery}
 
--- These are given of the known transactions that remain, as the first of them.
-abbrev pub GivesFirst : Option (List DeliveryValue) → List DeliveryValue → Option (List DeliveryValue) → Type 0
-GivesFirst None ds rest = Unit {0}
-GivesFirst (Some all) ds None = ⊥
-GivesFirst (Some all) ds (Some rest) = all ≡ ds ++ rest
+-- What is known of the transactions that are still to be given: what they begin with, and what all of them are.
+pub record Supply : Type 1 where
+  pub begins : List DeliveryValue → Type 0
+  pub are_all : List DeliveryValue → Type 0
 
--- no known transaction remains
-abbrev pub IsAllGiven : Option (List DeliveryValue) → Type 0
-IsAllGiven None = Unit {0}
-IsAllGiven (Some rest) = rest ≡ []
+-- Those of this list, in order.
+abbrev pub listed : List DeliveryValue → Supply
+listed all = record {
+  begins = λ ds. (more : List DeliveryValue) × (all ≡ ds ++ more);
+  are_all = λ ds. all ≡ ds;
+}
 
--- The first of those that remain is given, or none where none remains.
-abbrev pub GivesOne : Option (List DeliveryValue) → Option (List DeliveryValue) → Option Delivery → Type 0
+-- They begin with these, or these are none.
+abbrev pub BeginWith : Supply → List DeliveryValue → Type 0
+BeginWith left [] = Unit {0}
+BeginWith left (d ∷ ds) = left.begins (d ∷ ds)
+
+-- These were given as the first ones, and the rest comes after them.
+pub record GivesFirst (left : Supply) (ds : List DeliveryValue) (rest : Supply) : Type 0 where
+  pub begins : (more : List DeliveryValue) → BeginWith rest more → BeginWith left (ds ++ more)
+  pub are_all : (more : List DeliveryValue) → rest.are_all more → left.are_all (ds ++ more)
+
+-- The first of those that are left is given, or none where none is left.
+abbrev pub GivesOne : Supply → Supply → Option Delivery → Type 0
 GivesOne before after (Some d) = GivesFirst before (delivery_value d ∷ []) after
-GivesOne before after None = GivesFirst before [] after × IsAllGiven after
+GivesOne before after None = GivesFirst before [] after × after.are_all []
 
 -- The next transaction is given. An error gives none.
-abbrev pub GivesNext : {E : Type 0} → Option (List DeliveryValue) → Option (List DeliveryValue) → Result (Option Delivery) E → Type 0
+abbrev pub GivesNext : {E : Type 0} → Supply → Supply → Result (Option Delivery) E → Type 0
 GivesNext before after (Ok next) = GivesOne before after next
 GivesNext before after (Err cause) = GivesFirst before [] after

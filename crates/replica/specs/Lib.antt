@@ -28,3 +28,10 @@ pub mod Alone
 pub mod Changing
 pub mod ChangeFile
 pub mod Restart
+pub mod Copies
+pub mod LoadFile
+pub mod Loading
+pub mod Copied
+pub mod Clear
+pub mod Clearing
+pub mod ClearFile

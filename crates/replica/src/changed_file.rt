@@ -51,7 +51,7 @@ pub fn change_file<P: Start, I: Deliveries + Drop, W: Observer>(
     // transactions, in order, each once, make of that content with the set added; all of them, if the end says so.
     ensures changes { IfOk result (λ done. (names : Names) (content : Content)
         → FilesHold (names_for (wanted_of only.entry)) names content (image_at P.Start)
-        → ChangesFile (I.remaining deliveries) names content gtids.now done) }
+        → ChangesFile (I.supply deliveries) names content gtids.now done) }
     // Such a database was made for the given tables; any other whose tables are known stood for a content too. Why the files
     // could not be closed is what they met.
     ensures closing { IfOk result (λ done. ClosesAs (wanted_of only.entry) (image_at P.Start)

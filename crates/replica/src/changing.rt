@@ -44,7 +44,7 @@ fn take_next<S: Alter, I: Deliveries, W: Observer>(
 ) -> Result<bool, ChangeEnd<I::Error>>
     ensures takes { HasCleanDisk (database S.Store store.new) → (now : Content)
         → Holds S.Store store.old now → TakesNext S.Store now store.old store.new
-        (I.remaining deliveries.old) (I.remaining deliveries.new) result }
+        (I.supply deliveries.old) (I.supply deliveries.new) result }
     ensures notes { HasCleanDisk (database S.Store store.new) → (was : Bool) (old : Content)
         → HoldsAs S.Store was old store.old → IsLedTo S.Store store.old store.new was old
         (W.account observer.old) (W.account observer.new) [] }
@@ -79,7 +79,7 @@ fn apply_all<S: Alter, I: Deliveries, W: Observer>(
     ensures changes { HasCleanDisk (database S.Store store.new) → (old : Content) (ids : Ids)
         → Holds S.Store store.old (adopted old ids)
         → HasChanged S.Store (names_of S.Store store.old) store.new old ids
-        (I.remaining deliveries.old) result.0 result.1 }
+        (I.supply deliveries.old) result.0 result.1 }
     ensures notes { HasCleanDisk (database S.Store store.new) → (was : Bool) (old : Content)
         → HoldsAs S.Store was old store.old → IsLedTo S.Store store.old store.new was old
         (W.account observer.old) (W.account observer.new) [] }
@@ -115,7 +115,7 @@ pub(crate) fn change<S: Alter, I: Deliveries, W: Observer>(
 ) -> (u64, ChangeEnd<I::Error>)
     ensures changes { HasCleanDisk (database S.Store store.new) → (old : Content)
         → Holds S.Store store.old old → HasChanged S.Store (names_of S.Store store.old)
-        store.new old gtids.now (I.remaining deliveries.old) result.0 result.1 }
+        store.new old gtids.now (I.supply deliveries.old) result.0 result.1 }
     ensures notes { HasCleanDisk (database S.Store store.new) → (old : Content)
         → Holds S.Store store.old old → IsLedTo S.Store store.old store.new false
         (begun_with result.1 old gtids.now)

@@ -15,8 +15,9 @@ ghost use Rattle.binlog.specs.Filter.{Names};
 ghost use Rattle.gather.specs.Transaction.{DeliveryValue, change_of};
 ghost use Rattle.scripted_source.specs.Script.{PartValue, ScriptValue};
 ghost use Rattle.scripted_source.specs.Source.{is_once};
-ghost use Rattle.store.specs.State.{Content};
-ghost use Rattle.store.specs.Changes.{HasOutcome, done};
+ghost use Rattle.store.specs.State.{Content, TableRow};
+ghost use Rattle.store.specs.Changes.{HasOutcome, adopted, done};
+ghost use Rattle.replica.specs.Copied.{AreAdded, AreCopied, AreNumbered, AreOutside, NoneExecuted, with_all};
 ghost use Rattle.store.specs.Store.{HoldsAs, database, names_of};
 ghost use Rattle.store.specs.Entering.{names_for};
 ghost use Rattle.replica.specs.declared.end.Reason.{Reason};
@@ -266,4 +267,26 @@ pub fn filtered()
     ensures taken { (names : Names) (script : ScriptValue) (old new : Content)
         → HasOutcome names old (transaction set.empty script) (done new)
         ↔ HasOutcome names old (transaction names script) (done new) }
+{}
+
+/// What loading a first copy comes to ([`load_file`](crate::load_file)), over the transactions that its clauses speak of.
+pub fn copied()
+    // If none of its transactions was executed before, all of them are applied: their rows are added, each once, and their GTIDs
+    // and the set are executed.
+    ensures loaded { (names : Names) (source : List ℕ) (old new : Content) (ids : Ids)
+        (ds : List DeliveryValue) (rows : List TableRow) (n : ℕ)
+        → NoneExecuted source 1 (adopted old ids).executed → AreNumbered source 1 ds
+        → AreCopied names ds rows → AppliesAll names (adopted old ids) ds n new
+        → (n ≡ length ds) × AreAdded rows old.rows new.rows
+        × (new.executed ≡ with_all (adopted old ids).executed ds) }
+    // Loaded in part and then again, it leads to the content that it leads to at once.
+    ensures again { (names : Names) (old mid new : Content) (ids : Ids)
+        (some others : List DeliveryValue) (n m : ℕ) → AppliesAll names (adopted old ids) some n mid
+        → AppliesAll names (adopted mid ids) (some ++ others) m new
+        → AppliesAll names (adopted old ids) (some ++ others) (n + m) new }
+    // What leads a content that has executed what the source had to another one, leads a content with the same rows, that has
+    // executed the same and copies, to the same rows.
+    ensures followed { (names : Names) (old new : Content) (copies : Ids)
+        (ds : List DeliveryValue) (n : ℕ) → AreOutside copies ds → AppliesAll names old ds n new
+        → AppliesAll names (adopted old copies) ds n (adopted new copies) }
 {}

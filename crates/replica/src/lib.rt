@@ -9,11 +9,13 @@
 //!
 //! Over a database file, [`replay`] opens it, reads a list of [`Capture`]s, each a connection from a reader, and closes
 //! it, and [`follow_file`] does so with a source that is followed over a stream of two directions, such as a socket
-//! ([`Duplex`]); [`change_file`] applies transactions that come from no connection ([`Deliveries`]). [`open_file`] and
-//! [`close_file`] are their first and their last step. An [`Observer`] is called
-//! with what is read and applied, and may stop it; [`Until`] is one that stops once nothing of a set of GTIDs is missing. Over
-//! a store, [`run`] reads a list of connections that are in memory, one after the other, [`read_stream`] one connection from a
-//! reader, and [`follow`] follows a source: it sends all pending output before each read, until the connection ends.
+//! ([`Duplex`]); [`change_file`] applies transactions that come from no connection ([`Deliveries`]), [`load_file`] those of
+//! a [`FirstCopy`] of tables, if it may be loaded, and [`clear_file`] takes all rows of one table out. [`open_file`] and
+//! [`close_file`] are their first and their last step. An [`Observer`]
+//! is called with what is read and applied, and may stop it; [`Until`] is one that stops once nothing of a set of GTIDs is
+//! missing. Over a store, [`run`] reads a list of connections that are in memory, one after the other, [`read_stream`] one
+//! connection from a reader, and [`follow`] follows a source: it sends all pending output before each read, until the
+//! connection ends.
 //!
 //! All of them borrow the store, so that it can be used for the next connection. After an end with `Reason::Database`
 //! the store has failed and must be opened again; after `Reason::Memory` it may have. A connection that is cut short
@@ -26,6 +28,8 @@
 mod captures;
 mod changed_file;
 mod changing;
+mod cleared_file;
+mod clearing;
 mod config;
 mod connections;
 mod counted;
@@ -39,6 +43,8 @@ mod file_pair;
 mod followed_file;
 mod following;
 pub mod laws;
+mod loaded_file;
+mod loading;
 mod login;
 mod message;
 mod observer;
@@ -52,6 +58,8 @@ mod until;
 pub use captures::{Capture, Halt};
 pub use changed_file::{ChangedFile, change_file};
 pub use changing::ChangeEnd;
+pub use cleared_file::{ClearedFile, clear_file};
+pub use clearing::ClearEnd;
 pub use config::{Config, ConfigFault};
 pub use connections::{NoMemory, run};
 pub use counted::{Counted, Duplex};
@@ -62,6 +70,8 @@ pub use file::{Unopened, close_file, open_file};
 pub use file_pair::NotOpened;
 pub use followed_file::{FollowedFile, follow_file};
 pub use following::{PIECE, follow, follow_observed};
+pub use loaded_file::{LoadedFile, load_file};
+pub use loading::{FirstCopy, LoadEnd, QualifiedName, Unloadable};
 pub use observer::{Observer, Unobserved};
 pub use reader::{read_some, read_stream};
 pub use replaying::{Replayed, replay};

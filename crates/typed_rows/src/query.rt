@@ -44,7 +44,7 @@ pub fn write_query<W: Write>(only: &Follow, out: &mut W) -> io::Result<()> {
 }
 
 /// Writes a name as a text: in quotes where it is of letters, digits, `_`, `$` and `-`, else in hexadecimal digits.
-fn write_text<W: Write>(name: &[u8], out: &mut W) -> io::Result<()> {
+pub(crate) fn write_text<W: Write>(name: &[u8], out: &mut W) -> io::Result<()> {
     if name.iter().all(|byte| is_plain(*byte)) {
         out.write_all(b"'")?;
         out.write_all(name)?;

@@ -1,6 +1,7 @@
 //! Which tables of a description are made in an SQLite database, and under which names.
 
 use crate::described_tables::DescribedTables;
+use crate::select::unselectable;
 use binlog::Follow;
 use columns::{DescribedTable, Description};
 use formats::write_table;
@@ -44,6 +45,9 @@ pub enum TableFault {
     /// The names of two columns differ in case alone.
     #[error("SQLite takes the names of two of its columns for the same")]
     SameColumn,
+    /// A column of it has a type whose cells are made of no text.
+    #[error("it has a column of JSON, GEOMETRY, VECTOR or their like, of whose texts no rows are made")]
+    NoText,
 }
 
 /// Why no tables are made of a description.
@@ -96,6 +100,19 @@ impl DescribedTables {
             }
         }
         Ok(())
+    }
+
+    /// Refuses tables of which no copy is made, since no text stands for the values of one of their types.
+    pub fn check_texts(&self, alloc: Global) -> Result<(), TablesFault> {
+        match unselectable(self) {
+            Some(table) => Err(fault_of(
+                alloc,
+                table.schema.as_bytes(),
+                table.name.as_bytes(),
+                TableFault::NoText,
+            )),
+            None => Ok(()),
+        }
     }
 }
 

@@ -16,6 +16,7 @@ root = os.path.abspath(sys.argv[1])
 # The functions that have a `HostRuntime`, and what each gives it to.
 FUNCTIONS = {
     'crates/replica/src/changed_file.rt': {'change_file': ['open_file']},
+    'crates/replica/src/cleared_file.rt': {'clear_file': ['open_file']},
     'crates/replica/src/file.rt': {'open_file': ['RandomState::new', 'open_pair', 'connect_to']},
     'crates/replica/src/file_connection.rt': {
         # It reads how long the file is and the size of its pages.
@@ -25,6 +26,7 @@ FUNCTIONS = {
     },
     'crates/replica/src/file_pair.rt': {'open_pair': ['sqlite_std_file::open']},
     'crates/replica/src/followed_file.rt': {'follow_file': ['open_file']},
+    'crates/replica/src/loaded_file.rt': {'load_file': ['open_file']},
     'crates/replica/src/replaying.rt': {'replay': ['open_file']},
 }
 # Ways to the system that need no `HostRuntime` in a line of their own.

@@ -7,9 +7,10 @@ use crate::database::job::{Done, Job};
 use crate::report::failure::{Failure, of_file, over_file};
 use binlog::Follow;
 use files::{LOCKED, Opening, is_file, missing_wal, opening_fault, reading_fault, remove_unused};
+use gtid::Gtid;
 use replica::{
-    Capture, Config, Duplex, FollowedFile, Observer, Replayed, Unopened, close_file, follow_file,
-    open_file,
+    Capture, ClearedFile, Config, Deliveries, Duplex, FirstCopy, FollowedFile, LoadedFile,
+    Observer, Replayed, Unopened, clear_file, close_file, follow_file, load_file, open_file,
 };
 use sqlite::{Alter, Connection, Error, ErrorCode, File, FileStore, Files};
 use sqlite_disk::Unknown;
@@ -163,6 +164,37 @@ pub fn follow_into<'a, T: Duplex + Drop, F: FnOnce() -> io::Result<T> + Drop, W:
 {
     let opening = over_file(name, Opening::begin(rt, name))?;
     match follow_file(rt, name, Unknown, only, config, connect, observer) {
+        Ok(done) => Ok(done),
+        Err(unopened) => Err(give_up(rt, name, opening, unopened)),
+    }
+}
+
+/// Loads a first copy of tables into the database in a file, which is opened with its own filter, and closed at the end.
+pub fn load_into<'a, I: Deliveries + Drop, W: Observer>(
+    rt: &HostRuntime,
+    name: &'a str,
+    copy: FirstCopy<'_>,
+    deliveries: I,
+    observer: &mut W,
+) -> Result<LoadedFile<I::Error, File>, Failure<'a>> {
+    let opening = over_file(name, Opening::begin(rt, name))?;
+    match load_file(rt, name, Unknown, None, copy, deliveries, observer) {
+        Ok(done) => Ok(done),
+        Err(unopened) => Err(give_up(rt, name, opening, unopened)),
+    }
+}
+
+/// Takes all rows of a table out of the database in a file, which is opened with its own filter, and closed at the end.
+pub fn clear_in<'a, W: Observer>(
+    rt: &HostRuntime,
+    name: &'a str,
+    schema: &[u8],
+    table: &[u8],
+    gtid: Gtid,
+    observer: &mut W,
+) -> Result<ClearedFile<File>, Failure<'a>> {
+    let opening = over_file(name, Opening::begin(rt, name))?;
+    match clear_file(rt, name, Unknown, schema, table, gtid, observer) {
         Ok(done) => Ok(done),
         Err(unopened) => Err(give_up(rt, name, opening, unopened)),
     }

@@ -1,15 +1,16 @@
 //! Why a command failed, apart from what its data says.
 
 ghost use Rattle.std.specs.Prelude.{◌≡◌, ◌≤◌};
-ghost use Rattle.mrep.specs.Failure.{IsFileStatus, IsStatus, database_status, description_status};
+ghost use Rattle.mrep.specs.Failure.{IsCopyStatus, IsFileStatus, IsStatus, database_status, description_status};
 ghost use Rattle.mrep.specs.declared.report.failure.Failure.TheVariants as variants;
 
 use clap::error::ErrorKind;
 use columns::{DescriptionFault, LineFault};
 use files::FileFault;
-use formats::{Shown, write_named};
+use first_copy::CopyFault;
+use formats::{Shown, write_named, write_table};
 use gtid::GtidFault;
-use replica::ConfigFault;
+use replica::{ConfigFault, Unloadable};
 use std::alloc::{AllocError, AllocFailed};
 use std::io;
 use std::io::Write;
@@ -40,6 +41,9 @@ const NO_BYTES: &[u8] =
     b"mrep: --bytes needs --format json, or csv without --columns, or --changes\n";
 
 const NO_COLUMNS: &[u8] = b"mrep: --format tsv and sql need --columns\n";
+
+const OTHER_SET: &str =
+    "it has executed other transactions than those that the copy has, so that their changes of other tables would be lost: follow until exactly the executed set of the copy, or copy again";
 
 /// Why a command failed.
 #[derive(Drop)]
@@ -112,6 +116,16 @@ pub enum Failure<'a> {
         name: &'a str,
         why: &'static str,
     },
+    /// The file of this name is no first copy of tables, or cannot be read.
+    Copy {
+        name: &'a str,
+        fault: CopyFault,
+    },
+    /// A first copy of tables may not be loaded into the database of this name.
+    Unloadable {
+        name: &'a str,
+        why: Unloadable,
+    },
     /// A row of the database of this name does not fit the description of its columns.
     Misfit {
         name: &'a str,
@@ -162,6 +176,18 @@ fn description_status(fault: DescriptionFault) -> u8
     }
 }
 
+/// The status of a file that is no first copy of tables, or cannot be read.
+fn copy_status(fault: &CopyFault) -> u8
+    ensures status { IsCopyStatus fault.now result }
+    ensures range { result ≤ MEMORY }
+{
+    match fault {
+        CopyFault::Reader { error, .. } => status_of(error),
+        CopyFault::Memory | CopyFault::Executed(GtidFault::Memory) => MEMORY,
+        _ => REFUSED,
+    }
+}
+
 impl Failure<'_> {
     /// The exit status.
     pub fn status(&self) -> u8
@@ -186,6 +212,12 @@ impl Failure<'_> {
             } => MEMORY,
             Failure::Tables { .. } => USAGE,
             Failure::Misfit { .. } => REFUSED,
+            Failure::Copy { fault, .. } => copy_status(fault),
+            Failure::Unloadable {
+                why: Unloadable::Failed(cause),
+                ..
+            } => database_status(*cause),
+            Failure::Unloadable { .. } => REFUSED,
             Failure::Database { cause, .. } => database_status(*cause),
             Failure::File { cause, .. } | Failure::Host { cause, .. } | Failure::Output(cause) =>
                 status_of(cause),
@@ -233,6 +265,8 @@ impl Failure<'_> {
                 write!(err, "mrep: {}: ", Shown(name))?;
                 misfit.write(err)
             }
+            Failure::Copy { name, fault } => write_named(name, fault, err),
+            Failure::Unloadable { name, why } => write_unloadable(name, why, err),
             Failure::User { word, cause } => write_named(word, cause, err),
             Failure::File { name, cause } | Failure::Host { name, cause } => {
                 write_named(name, cause, err)
@@ -245,6 +279,28 @@ impl Failure<'_> {
             Failure::Unusable { name, why } => write_named(name, why, err),
             Failure::Output(cause) if cause.kind() == io::ErrorKind::BrokenPipe => Ok(()),
             Failure::Output(cause) => write_named("output", cause, err),
+        }
+    }
+}
+
+/// Writes why a copy may not be loaded, and what to do.
+fn write_unloadable<E: Write>(name: &str, why: &Unloadable, err: &mut E) -> io::Result<()> {
+    match why {
+        Unloadable::Failed(cause) => write_named(name, cause, err),
+        Unloadable::OtherSet => write_named(name, &OTHER_SET, err),
+        Unloadable::LeftOut(table) => {
+            write!(
+                err,
+                "mrep: {}: it was made for other tables than ",
+                Shown(name)
+            )?;
+            write_table(&table.schema, &table.table, err)?;
+            writeln!(err)
+        }
+        Unloadable::HasRows(table) => {
+            write!(err, "mrep: {}: ", Shown(name))?;
+            write_table(&table.schema, &table.table, err)?;
+            writeln!(err, " has rows: clear it first, or export what it has")
         }
     }
 }

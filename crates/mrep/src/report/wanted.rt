@@ -171,6 +171,11 @@ impl<'g, 'a> Wanted<'g, 'a> {
         self.changes.unwrap_or(OUTPUT)
     }
 
+    /// Whether standard output has the change feed.
+    pub fn feeds_output(&self) -> bool {
+        self.changes == Some(OUTPUT)
+    }
+
     /// The failure that stopped the reading, if there is one.
     pub fn stopped(&self, stop: Option<Stop>) -> Result<(), Failure<'a>> {
         match (stop, self.changes) {

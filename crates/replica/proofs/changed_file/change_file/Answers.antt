@@ -9,7 +9,7 @@ use Rattle.replica.proofs.changed_file.change_file.Goals as goal
 
 pub returns-clause-changes : goal.returns-clause-changes
 returns-clause-changes g c names content files =
-    changed_into _ names content c.in_ok-store.store c.change-applied.new.store (g.I.Deliveries.remaining c.args.deliveries) c.args.gtids.now c.change-applied.result.0 c.change-applied.result.1 c.close_file-closed.result
+    changed_into _ names content c.in_ok-store.store c.change-applied.new.store (g.I.Deliveries.supply c.args.deliveries) c.args.gtids.now c.change-applied.result.0 c.change-applied.result.1 c.close_file-closed.result
     c.change-applied.ensures.following (λ clean. let o = c.in_ok-store.ensures.opens (c.change-applied.ensures.clean clean) names content files in (o.0, o.1)) c.change-applied.ensures.changes
     c.close_file-closed.ensures.copied c.close_file-closed.ensures.err
 

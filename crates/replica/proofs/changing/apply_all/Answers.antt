@@ -15,7 +15,7 @@ loop-taken-init g c = record {
   clean = λ clean. clean;
   heeds = λ is now holds on. refl;
   notes = λ clean was old holds. led_nowhere g.S.Store was old c.args.store.now (g.W.Observer.account c.args.observer.now) (g.W.Observer.account c.args.observer.now) holds refl (λ on. on) (waits_none (g.W.Observer.account c.args.observer.now).waits);
-  takes = λ clean old holds. none_taken g.S.Store c.args.store.now.following c.args.store.now old (g.I.Deliveries.remaining c.args.deliveries.now) holds;
+  takes = λ clean old holds. none_taken g.S.Store c.args.store.now.following c.args.store.now old (g.I.Deliveries.supply c.args.deliveries.now) holds;
 }
 
 pub loop-taken-preserved : goal.loop-taken-preserved
@@ -31,7 +31,7 @@ loop-taken-preserved g c =
           (c.loop-taken.invariant.notes (c.take_next.ensures.clean clean) was old holds) (λ is now held. c.take_next.ensures.notes clean is now held);
       takes = λ clean old holds.
           let t = inv.takes (c.take_next.ensures.clean clean) old holds in
-          one_taken g.S.Store c.args.store.now.following c.loop-taken.store c.take_next.new.store old (g.I.Deliveries.remaining c.args.deliveries.now) (g.I.Deliveries.remaining c.loop-taken.deliveries) (g.I.Deliveries.remaining c.take_next.new.deliveries) c.loop-taken.taken c.loop-taken.applied c.from-applied.result c.in-Ok.is_new inv.following (c.from-applied.ensures ∙ counts_one c.in-Ok.is_new) t (c.in-Ok.ensures.takes clean t.new t.holds);
+          one_taken g.S.Store c.args.store.now.following c.loop-taken.store c.take_next.new.store old (g.I.Deliveries.supply c.args.deliveries.now) (g.I.Deliveries.supply c.loop-taken.deliveries) (g.I.Deliveries.supply c.take_next.new.deliveries) c.loop-taken.taken c.loop-taken.applied c.from-applied.result c.in-Ok.is_new inv.following (c.from-applied.ensures ∙ counts_one c.in-Ok.is_new) t (c.in-Ok.ensures.takes clean t.new t.holds);
     }
 
 pub overflow_add-applied : goal.overflow_add-applied
@@ -39,7 +39,7 @@ overflow_add-applied g c = omega (arith, c.loop-taken.invariant.fewer, counts c.
 
 pub returns-then-is_done-clause-changes : goal.returns-then-is_done-clause-changes
 returns-then-is_done-clause-changes g c clean old ids holds =
-    until_ended g.S.Store (λ h db is_open may. g.met.S.Store.settled h.store db is_open may) c.args.store.now.following c.loop-taken.store old ids (g.I.Deliveries.remaining c.args.deliveries.now) (g.I.Deliveries.remaining c.loop-taken.deliveries) c.loop-taken.taken c.loop-taken.applied (c.loop-taken.invariant.takes clean (adopted old ids) holds)
+    until_ended g.S.Store (λ h db is_open may. g.met.S.Store.settled h.store db is_open may) c.args.store.now.following c.loop-taken.store old ids (g.I.Deliveries.supply c.args.deliveries.now) (g.I.Deliveries.supply c.loop-taken.deliveries) c.loop-taken.taken c.loop-taken.applied (c.loop-taken.invariant.takes clean (adopted old ids) holds)
 
 pub returns-then-is_done-clause-asked : goal.returns-then-is_done-clause-asked
 returns-then-is_done-clause-asked g c = (c.is_done.ensures.stopped c.if-is_done.true, sym c.is_done.ensures.done ∙ c.if-is_done.true)
@@ -54,7 +54,7 @@ pub returns-in-Err-clause-changes : goal.returns-in-Err-clause-changes
 returns-in-Err-clause-changes g c clean old ids holds =
     let inv = c.loop-taken.invariant in
     let t = inv.takes (c.take_next.ensures.clean clean) (adopted old ids) holds in
-    ended g.S.Store (λ h db is_open may. g.met.S.Store.settled h.store db is_open may) c.args.store.now.following c.loop-taken.store c.take_next.new.store old ids (g.I.Deliveries.remaining c.args.deliveries.now) (g.I.Deliveries.remaining c.loop-taken.deliveries) (g.I.Deliveries.remaining c.take_next.new.deliveries) c.loop-taken.taken c.loop-taken.applied inv.following c.take_next.ensures.following t c.in-Err.end (c.in-Err.ensures.takes clean t.new t.holds)
+    ended g.S.Store (λ h db is_open may. g.met.S.Store.settled h.store db is_open may) c.args.store.now.following c.loop-taken.store c.take_next.new.store old ids (g.I.Deliveries.supply c.args.deliveries.now) (g.I.Deliveries.supply c.loop-taken.deliveries) (g.I.Deliveries.supply c.take_next.new.deliveries) c.loop-taken.taken c.loop-taken.applied inv.following c.take_next.ensures.following t c.in-Err.end (c.in-Err.ensures.takes clean t.new t.holds)
 
 pub returns-in-Err-clause-heeds : goal.returns-in-Err-clause-heeds
 returns-in-Err-clause-heeds g c is now holds on =
@@ -67,7 +67,7 @@ returns-in-Err-clause-notes g c clean was old holds =
 
 pub returns-clause-changes : goal.returns-clause-changes
 returns-clause-changes g c clean old ids holds =
-    too_many g.S.Store (λ h db is_open may. g.met.S.Store.settled h.store db is_open may) c.args.store.now.following c.loop-taken.store old ids (g.I.Deliveries.remaining c.args.deliveries.now) (g.I.Deliveries.remaining c.loop-taken.deliveries) c.loop-taken.taken c.loop-taken.applied (omega arith) (c.loop-taken.invariant.takes clean (adopted old ids) holds)
+    too_many g.S.Store (λ h db is_open may. g.met.S.Store.settled h.store db is_open may) c.args.store.now.following c.loop-taken.store old ids (g.I.Deliveries.supply c.args.deliveries.now) (g.I.Deliveries.supply c.loop-taken.deliveries) c.loop-taken.taken c.loop-taken.applied (omega arith) (c.loop-taken.invariant.takes clean (adopted old ids) holds)
 
 pub returns-clause-heeds : goal.returns-clause-heeds
 returns-clause-heeds g c = c.loop-taken.invariant.heeds

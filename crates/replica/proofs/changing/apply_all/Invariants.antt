@@ -15,5 +15,5 @@ invariant-loop-taken g l = record {
   heeds : (is : Bool) (now : Content) → HoldsAs g.S.Store is now l.fn.store → (g.W.Observer.account l.fn.observer).has_stopped ≡ true → l.store ≡ l.fn.store;
   notes : HasCleanDisk (database g.S.Store l.store) → (was : Bool) (old : Content) → HoldsAs g.S.Store was old l.fn.store → IsLedTo g.S.Store l.fn.store l.store was old (g.W.Observer.account l.fn.observer) (g.W.Observer.account l.observer) [];
   takes : HasCleanDisk (database g.S.Store l.store) → (old : Content) → Holds g.S.Store l.fn.store old
-      → HasTakenSome g.S.Store l.fn.store.following l.store old (g.I.Deliveries.remaining l.fn.deliveries) (g.I.Deliveries.remaining l.deliveries) l.taken l.applied;
+      → HasTakenSome g.S.Store l.fn.store.following l.store old (g.I.Deliveries.supply l.fn.deliveries) (g.I.Deliveries.supply l.deliveries) l.taken l.applied;
 }

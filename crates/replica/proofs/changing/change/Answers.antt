@@ -11,12 +11,12 @@ use Rattle.replica.proofs.changing.change.Goals as goal
 pub returns-in-Ok-clause-changes : goal.returns-in-Ok-clause-changes
 returns-in-Ok-clause-changes g c clean old holds =
     let whole : Holds g.S.Store c.adopt.new.self (adopted old c.args.gtids.now) = c.in-Ok.ensures.adopts (c.apply_all.ensures.clean clean) old holds in
-    subst (λ n. HasChanged g.S.Store n c.apply_all.new.store old c.args.gtids.now (g.I.Deliveries.remaining c.args.deliveries.now) c.apply_all.result.0 c.apply_all.result.1) c.adopt.ensures.following
+    subst (λ n. HasChanged g.S.Store n c.apply_all.new.store old c.args.gtids.now (g.I.Deliveries.supply c.args.deliveries.now) c.apply_all.result.0 c.apply_all.result.1) c.adopt.ensures.following
     (c.apply_all.ensures.changes clean old c.args.gtids.now whole)
 
 pub returns-in-Err-clause-changes : goal.returns-in-Err-clause-changes
 returns-in-Err-clause-changes g c clean old holds =
-    not_adopted g.S.Store c.args.store.now c.adopt.new.self old c.args.gtids.now (g.I.Deliveries.remaining c.args.deliveries.now) c.in-Err.fault c.adopt.ensures.following (c.in-Err.ensures.adopts clean old holds) (c.in-Err.ensures.crash clean old holds)
+    not_adopted g.S.Store c.args.store.now c.adopt.new.self old c.args.gtids.now (g.I.Deliveries.supply c.args.deliveries.now) c.in-Err.fault c.adopt.ensures.following (c.in-Err.ensures.adopts clean old holds) (c.in-Err.ensures.crash clean old holds)
 
 pub returns-in-Ok-clause-notes : goal.returns-in-Ok-clause-notes
 returns-in-Ok-clause-notes g c clean old holds =

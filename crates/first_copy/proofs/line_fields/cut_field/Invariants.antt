@@ -1,0 +1,6 @@
+use Rattle.std.proofs.Common.{◌≡◌, ℕ, ◌<◌, true, get_or}
+use Rattle.columns.specs.Lines.{is_inner}
+use Rattle.first_copy.proofs.line_fields.cut_field.Given as goal
+
+abbrev pub invariant-loop-i : goal.invariant-loop-i
+invariant-loop-i l = (k : ℕ) → k < l.i → is_inner (get_or l.text k 0) ≡ true

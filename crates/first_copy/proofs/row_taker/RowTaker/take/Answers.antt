@@ -1,0 +1,16 @@
+use Rattle.std.proofs.Common.{◌∷◌, [], ◌++◌, refl, ◌∙◌}
+use Rattle.std.specs.String.{string_bytes}
+use Rattle.gather.specs.Transaction.{insert}
+use Rattle.first_copy.proofs.DefinedAt.{same_item}
+use Rattle.first_copy.proofs.row_taker.RowTaker.take.Goals as goal
+
+pub returns-in-Ok-clause-taken : goal.returns-in-Ok-clause-taken
+returns-in-Ok-clause-taken c =
+    let row = c.in_ok-place.ensures.found in
+    let schema = same_item _ _ c.args.self.now.tables.items c.args.self.now.description.tables.items c.in_ok-place.place c.index.result.now row.table c.args.self.now.schemas c.index.ensures row.at in
+    let name = same_item _ _ c.args.self.now.tables.items c.args.self.now.description.tables.items c.in_ok-place.place c.index.result.now row.table c.args.self.now.names c.index.ensures row.at in
+    record {
+      change = insert (string_bytes row.table.schema) (string_bytes row.table.name) c.in_ok-place.image;
+      is_row = record { place = c.in_ok-place.place; cells = c.in_ok-place.image; row = row; change_is = refl };
+      added = c.in-Ok.ensures.ok ∙ (λ i. c.args.changes.now ++ insert (schema i) (name i) c.in_ok-place.image ∷ []);
+    }

@@ -1,0 +1,10 @@
+pub mod CellPlaces
+pub mod RowFields
+pub mod FieldSteps
+pub mod FoundTables
+pub mod RowLines
+pub mod DefinedTables
+pub mod CopyLines
+pub mod CopySteps
+pub mod Supplied
+pub mod CopyFaults

@@ -1,0 +1,73 @@
+//! The transactions of a copy that was read before.
+
+ghost use Rattle.std.specs.Prelude.{◌≡◌, ◌||◌, false};
+ghost use Rattle.std.specs.Io.KnownBytes.{prepend_known};
+ghost use Rattle.first_copy.specs.Supplied.{supply_of};
+
+use crate::copy_fault::CopyFault;
+use crate::loader::Loader;
+use gather::Delivery;
+use replica::Deliveries;
+use std::io::BufRead;
+
+/// Why the transactions of a copy do not come.
+#[derive(Debug, Drop)]
+pub enum RowsFault {
+    /// The copy is none, or cannot be read.
+    Copy(CopyFault),
+    /// Its lines are other ones than when it was read before.
+    Changed,
+}
+
+/// The transactions of a copy that was read to its end before. Each is given only if all lines up to its last one are those of
+/// that time.
+#[derive(Drop)]
+pub struct CopiedRows<R> {
+    loader: Loader<R>,
+    /// The digests of the lines, after each transaction, when they were read before.
+    digests: Vec<[u8; 20]>,
+    /// How many of them have come again.
+    same: usize,
+    changed: bool,
+}
+
+impl<R: BufRead> CopiedRows<R> {
+    /// The transactions that a loader gives, whose digests these were: [`Loader::digest`] after each call of [`Loader::next`], the
+    /// last one of which gave none.
+    pub fn new(loader: Loader<R>, digests: Vec<[u8; 20]>) -> CopiedRows<R>
+        ensures loader { result.loader ≡ loader }
+        ensures same { result.changed ≡ false }
+    {
+        CopiedRows {
+            loader,
+            digests,
+            same: 0,
+            changed: false,
+        }
+    }
+}
+
+/// It gives the transactions of its text, as far as that is known.
+impl<R: BufRead> Deliveries for CopiedRows<R> {
+    type Error = RowsFault;
+
+    ghost supply = { λ c. supply_of (c.changed || c.loader.failed) c.loader.ended
+        c.loader.taker.description.tables.items c.loader.source c.loader.given c.loader.rows
+        (prepend_known c.loader.line.items (R.Read.remaining c.loader.reader)) };
+
+    fn next(&mut self) -> Result<Option<Delivery>, RowsFault> {
+        if self.changed {
+            return Err(RowsFault::Changed);
+        }
+        let next = match self.loader.next() {
+            Ok(next) => next,
+            Err(fault) => return Err(RowsFault::Copy(fault)),
+        };
+        if self.digests.get(self.same) != Some(&self.loader.digest()) {
+            self.changed = true;
+            return Err(RowsFault::Changed);
+        }
+        self.same = self.same.saturating_add(1);
+        Ok(next)
+    }
+}

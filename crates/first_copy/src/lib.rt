@@ -1,0 +1,25 @@
+//! The text of a first copy of tables, as the `mysql` client writes it, read as transactions.
+#![tactic(auto)]
+
+mod copied_rows;
+mod copy_fault;
+mod end_line;
+mod fault;
+mod filling;
+mod head;
+mod line_cells;
+mod line_fields;
+mod loader;
+mod places;
+mod row_reader;
+mod row_taker;
+mod source;
+mod table_front;
+
+pub use copied_rows::{CopiedRows, RowsFault};
+pub use copy_fault::CopyFault;
+pub use fault::RowFault;
+pub use head::read_head;
+pub use loader::{CHUNK, Loader};
+pub use row_reader::RowReader;
+pub use source::copy_source;

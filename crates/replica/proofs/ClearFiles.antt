@@ -1,0 +1,87 @@
+-- A database file of which the rows of one table were taken out.
+use Rattle.std.proofs.Common.{◌≡◌, ℕ, List, [], Result, Ok, Err, IfOk, IfErr, subst, ◌∙◌, arith}
+use Rattle.sqlite_disk.specs.declared.Disk.{Ghosts}
+use Rattle.sqlite_disk.specs.declared.Files.{Files}
+use Rattle.sqlite_wal.specs.Reads.{AreClean}
+use Rattle.sqlite_trees.specs.View.{IsClean}
+use Rattle.sqlite_store.specs.declared.store.FileStore.{FileStore}
+use Rattle.sqlite_store.specs.FileStore.{view}
+use Rattle.sqlite.specs.declared.error.Error.{Error}
+use Rattle.sqlite.specs.State.{HasCleanDisk}
+use Rattle.sqlite.specs.Files.{over_files, IsClosed, FailsToClose}
+use Rattle.sqlite.specs.Closing.{IsCopied}
+use Rattle.binlog.specs.Filter.{Names}
+use Rattle.store.specs.State.{Content}
+use Rattle.store.specs.declared.store.Store.{Store}
+use Rattle.store.specs.Store.{Holds, database}
+use Rattle.store.specs.Entering.{IsLeft}
+use Rattle.replica.specs.declared.clearing.ClearEnd.{ClearEnd}
+use Rattle.replica.specs.Noted.{Account}
+use Rattle.replica.specs.File.{KeepsContent}
+use Rattle.replica.specs.NotedFile.{IsNotedOfFiles}
+use Rattle.replica.specs.Clear.{IsLeftOfClear}
+use Rattle.replica.specs.Clearing.{HasStayed, HasCleared, IsClearedSinceOpening}
+use Rattle.replica.specs.ClearFile.{ClearsFile}
+use Rattle.replica.proofs.Closed.{closed_with, may_hold}
+use Rattle.replica.proofs.ClearStore.{as_held}
+
+module _ {D : Type 0} (g : Ghosts D) (names : Names) (old : Content) (opened after : Store (FileStore D g) over_files) where
+  pub cleared_into : (schema table source : List ℕ) (number : ℕ) (end : ClearEnd) (closed : Result (Files D) (Error × FileStore D g))
+      → after.following ≡ opened.following → (HasCleanDisk (database over_files after) → Holds over_files opened old × (opened.following ≡ names))
+      → (HasCleanDisk (database over_files after) → (content : Content) → Holds over_files opened content → HasCleared over_files opened.following schema table source number after content end)
+      → IfOk closed (λ files. AreClean g files.log files.db → IsCopied after.conn files)
+      → IfErr closed (λ e. IsClosed after.conn e.1 × (IsClean (view e.1) → FailsToClose after.conn e.1 e.0))
+      → ClearsFile schema table source number names old (record { end = end; closed = closed })
+  cleared_into schema table source number end (Ok files) same opens clears copied failed = λ honest.
+      let copy = copied honest in
+      let o = opens copy.was_clean in
+      let h = subst (λ n. HasCleared over_files n schema table source number after old end) o.1 (clears copy.was_clean old o.0) in
+      let held = as_held over_files after h.new h.stays.executed h.stays.rest copy.was_open in
+      (h.new, h.clears, closed_with g names after (same ∙ o.1) held.0 h.new files copy held.1)
+  cleared_into schema table source number end (Err e) same opens clears copied failed = λ honest.
+      let quiet = failed.0.quiet in
+      let clean : HasCleanDisk (database over_files after) = omega (arith, quiet.clean, honest) in
+      let o = opens clean in
+      let h = subst (λ n. HasCleared over_files n schema table source number after old end) o.1 (clears clean old o.0) in
+      (h.new, h.clears, may_hold g names after (same ∙ o.1) h.stays.schema (IsLeftOfClear names schema table source number old end h.new) e.1 (λ trees may. quiet.outcomes trees may) h.stays.leaves)
+
+  -- a store that has stayed as it was
+  pub keeps_stayed : (only : Names) (content : Content) (closed : Result (Files D) (Error × FileStore D g))
+      → after.following ≡ opened.following → (HasCleanDisk (database over_files after) → Holds over_files opened old × (opened.following ≡ names))
+      → (HasCleanDisk (database over_files after) → Holds over_files opened old → HasStayed over_files after content (λ left. left ≡ content))
+      → IfOk closed (λ files. AreClean g files.log files.db → IsCopied after.conn files)
+      → IfErr closed (λ e. IsClosed after.conn e.1 × (IsClean (view e.1) → FailsToClose after.conn e.1 e.0))
+      → KeepsContent only names content closed
+  keeps_stayed only content (Ok files) same opens stays copied failed = λ honest.
+      let copy = copied honest in
+      let o = opens copy.was_clean in
+      let s = stays copy.was_clean o.0 in
+      let held = as_held over_files after content s.executed s.rest copy.was_open in
+      closed_with g names after (same ∙ o.1) held.0 content files copy held.1
+  keeps_stayed only content (Err e) same opens stays copied failed = λ honest trees may.
+      let quiet = failed.0.quiet in
+      let clean : HasCleanDisk (database over_files after) = omega (arith, quiet.clean, honest) in
+      let o = opens clean in
+      let s = stays clean o.0 in
+      let l = may_hold g names after (same ∙ o.1) s.schema (λ left. left ≡ content) e.1 (λ t m. quiet.outcomes t m) s.leaves trees may in
+      subst (λ c. IsLeft only names c trees) l.1 (l.2 only)
+
+  -- what was reported to an observer
+  pub noted_since : (t0 t1 : Account) (closed : Result (Files D) (Error × FileStore D g))
+      → after.following ≡ opened.following → (HasCleanDisk (database over_files after) → Holds over_files opened old × (opened.following ≡ names))
+      → (HasCleanDisk (database over_files after) → (content : Content) → Holds over_files opened content → IsClearedSinceOpening over_files opened.following after content t0 t1)
+      → IfOk closed (λ files. AreClean g files.log files.db → IsCopied after.conn files)
+      → IfErr closed (λ e. IsClosed after.conn e.1 × (IsClean (view e.1) → FailsToClose after.conn e.1 e.0))
+      → IsNotedOfFiles names old t0 t1 [] closed
+  noted_since t0 t1 (Ok files) same opens notes copied failed = λ honest.
+      let copy = copied honest in
+      let o = opens copy.was_clean in
+      let a = subst (λ n. IsClearedSinceOpening over_files n after old t0 t1) o.1 (notes copy.was_clean old o.0) in
+      let held = as_held over_files after a.new a.executed a.rest copy.was_open in
+      (a.new, closed_with g names after (same ∙ o.1) held.0 a.new files copy held.1, a.noted_of)
+  noted_since t0 t1 (Err e) same opens notes copied failed = λ honest.
+      let quiet = failed.0.quiet in
+      let clean : HasCleanDisk (database over_files after) = omega (arith, quiet.clean, honest) in
+      let o = opens clean in
+      let a = subst (λ n. IsClearedSinceOpening over_files n after old t0 t1) o.1 (notes clean old o.0) in
+      (a.new, a.noted_of)

@@ -1,0 +1,305 @@
+-- A store while the rows of one table are taken out of it.
+use Rattle.std.proofs.Common.{◌≡◌, inl, inr, ℕ, arith, Bool, true, false, List, [], ◌∷◌, ◌++◌, length, Option, Some, None, Result, Ok, Err, IfErr, OnOk, IsTrue, refl, sym, ap, subst, subst₂, ◌∙◌, append_assoc, append-nil, replicate}
+use Rattle.std.specs.Prelude.{if◌then◌else◌, flat_map, MatchOption}
+use Rattle.std.specs.FinSet as set
+use Rattle.std.specs.List.{FoldsTo}
+use Rattle.std.proofs.lemmas.Bool.{cases_Bool, false≢true}
+use Rattle.sqlite_trees.specs.declared.store.Store.{Ghosts}
+use Rattle.sqlite_trees.specs.Tree.{Trees}
+use Rattle.sqlite.specs.Held.{Held, state}
+use Rattle.gtid.specs.Identifier.{Ids}
+use Rattle.binlog.specs.Cell.{CellValue}
+use Rattle.binlog.specs.Filter.{Names, admits}
+use Rattle.binlog.specs.declared.body.table_map.TableDef.{TableDef}
+use Rattle.gather.specs.Image.{IsImage}
+use Rattle.gather.specs.Transaction.{ChangeValue, delete}
+use Rattle.gather.proofs.WholeImages.{one_list}
+use Rattle.store.specs.State.{Content}
+use Rattle.store.specs.Changes.{HasOutcome, done, AreDone, IsRefusedAt}
+use Rattle.store.specs.declared.row_change.Refusal.TheVariants as why
+use Rattle.store.specs.Faults.{IsFailure}
+use Rattle.store.specs.Listing.{Entry, Accepts, Lists}
+use Rattle.store.specs.declared.fault.StoreFault.{StoreFault}
+use Rattle.store.specs.declared.fault.StoreFault.TheVariants as fault
+use Rattle.store.specs.declared.listing.ListError.{ListError}
+use Rattle.store.specs.declared.listing.ListError.TheVariants.{Store as StoreError, Visitor as VisitorError}
+use Rattle.store.specs.declared.store.Store.{Store}
+use Rattle.store.specs.Apply.{IsAtRest}
+use Rattle.store.specs.Store.{Holds, HoldsAs, AreOf}
+use Rattle.replica.specs.declared.connections.NoMemory.{NoMemory}
+use Rattle.replica.specs.declared.end.Refusal.TheVariants.{NoSuchRow, CountFull}
+use Rattle.replica.specs.declared.end.Reason.{Reason}
+use Rattle.replica.specs.declared.end.Reason.TheVariants.{EndOfInput, SourceEof, SourceError, Wire, Greet, Event, Gather, Refused, Database, Memory, ReadFailed, WriteFailed, Halted, Until}
+use Rattle.replica.specs.declared.clearing.ClearEnd.{ClearEnd}
+use Rattle.replica.specs.declared.clearing.ClearEnd.TheVariants.{Repeat, NotFollowed, Failed}
+use Rattle.replica.specs.declared.clearing.TableRows.{TableRows}
+use Rattle.replica.specs.Noted.{Account, HasBeenNoted, StillWaits, WereMissed, opened, IsNotedSinceOpening, IsLedTo, IsLedSinceOpening}
+use Rattle.replica.specs.Alone.{TakesAlone, IsOwnOrHalted}
+use Rattle.replica.specs.Clear.{IsCleared, is_in_table, IsToBeCleared, MayEndClear}
+use Rattle.replica.specs.Clearing.{deletes_of, AreDeletesOf, AppendsDeletes, TakesRow, gathered_of, end_by, HasStayed, ListsDeletes, HasCleared, IsClearedSinceOpening}
+use Rattle.replica.proofs.Cleared.{others_stay, all_gone, none_refused, as_many}
+use Rattle.replica.proofs.Noted.{since_through}
+use Rattle.replica.proofs.Taking.{whole_leaves}
+
+-- ---- Rows that are listed.
+
+-- a row of another table
+pub none_taken_of : (e : Entry) (old : TableRows) → is_in_table old.table.value.schema.items old.table.value.table.items e.0 ≡ false → AppendsDeletes e old old
+none_taken_of e old apart = record {
+  same = refl;
+  changes_are = sym (append-nil old.changes) ∙ ap (λ (b : Bool). old.changes ++ (if b then replicate e.1 (delete old.table.value.schema.items old.table.value.table.items e.0.cells) else [])) (sym apart);
+}
+
+-- a row of the table
+all_taken_of : (e : Entry) (old new : TableRows) (answer : Result (Unit {0}) NoMemory) → is_in_table old.table.value.schema.items old.table.value.table.items e.0 ≡ true → new.table ≡ old.table
+    → OnOk answer (new.changes ≡ old.changes ++ replicate e.1 (delete old.table.value.schema.items old.table.value.table.items e.0.cells)) → TakesRow old e answer new
+all_taken_of e old new (Ok u) here same taken = record {
+  same = same;
+  changes_are = taken ∙ ap (λ (b : Bool). old.changes ++ (if b then replicate e.1 (delete old.table.value.schema.items old.table.value.table.items e.0.cells) else [])) (sym here);
+}
+all_taken_of e old new (Err cause) here same taken = tt
+
+-- an image that was read from the bytes of another
+pub read_same : (found : Option (List CellValue)) (made cells : List CellValue) (bytes : List ℕ) → MatchOption found ((none : List CellValue) → IsImage none bytes → ⊥) (λ some. IsImage some bytes) → found ≡ Some made → IsImage cells bytes → made ≡ cells
+read_same found made cells bytes reads is image =
+    one_list made cells bytes (subst (λ (o : Option (List CellValue)). MatchOption o ((none : List CellValue) → IsImage none bytes → ⊥) (λ some. IsImage some bytes)) is reads) image
+
+pub row_taken : (e : Entry) (old new : TableRows) (answer : Result (Unit {0}) NoMemory) (cells : List CellValue) (table : TableDef) (here : Bool) → table ≡ old.table.value → here ≡ is_in_table table.schema.items table.table.items e.0 → here ≡ true → new.table ≡ old.table → cells ≡ e.0.cells
+    → OnOk answer (new.changes ≡ old.changes ++ replicate e.1 (delete old.table.value.schema.items old.table.value.table.items cells)) → TakesRow old e answer new
+row_taken e old new answer cells table here table_is says is same cells_are taken =
+    all_taken_of e old new answer (ap (λ (t : TableDef). is_in_table t.schema.items t.table.items e.0) (sym table_is) ∙ sym says ∙ is) same
+    (subst (λ (x : List CellValue). OnOk answer (new.changes ≡ old.changes ++ replicate e.1 (delete old.table.value.schema.items old.table.value.table.items x))) cells_are taken)
+
+-- all rows of a list
+all_taken : (es : List Entry) (v w : TableRows) → FoldsTo (Accepts TakesRow) v es w → w.changes ≡ v.changes ++ flat_map (deletes_of v.table.value.schema.items v.table.value.table.items) es
+all_taken [] v w folds = ap (λ (t : TableRows). t.changes) (sym folds) ∙ sym (append-nil v.changes)
+all_taken (e ∷ es) v w folds =
+    let first = folds.1 in
+    all_taken es folds.0 w folds.2
+    ∙ ap (λ (t : TableRows). folds.0.changes ++ flat_map (deletes_of t.table.value.schema.items t.table.value.table.items) es) (λ i. record v { table = first.same i })
+    ∙ ap (λ (cs : List ChangeValue). cs ++ flat_map (deletes_of v.table.value.schema.items v.table.value.table.items) es) first.changes_are
+    ∙ append_assoc v.changes (deletes_of v.table.value.schema.items v.table.value.table.items e) (flat_map (deletes_of v.table.value.schema.items v.table.value.table.items) es)
+
+-- ---- What a transaction of deletes comes to.
+
+module _ (names : Names) (schema table source : List ℕ) (number : ℕ) (old : Content) (changes : List ChangeValue) (are : AreDeletesOf schema table old.rows changes) (followed : admits names schema table ≡ true) where
+  is_cleared : (new : Content) → HasOutcome names old (record { source = source; number = number; changes = changes }) (done new) → IsCleared schema table source number old new
+  is_cleared new outcome =
+      let all : AreDone names (flat_map (deletes_of schema table) are.entries) old.rows new.rows = subst (λ cs. AreDone names cs old.rows new.rows) are.changes_are outcome.1 in
+      record {
+        executed = outcome.2;
+        gone = all_gone names schema table followed old.rows new.rows are.entries are.lists all;
+        others = others_stay names schema table followed are.entries old.rows new.rows all;
+      }
+
+-- ---- What is asked before.
+
+pub contains_by : (executed ids : Ids) (source : List ℕ) (number : ℕ) (answer known : Bool) → ids ≡ executed → answer ≡ set.contains ids (source, number) → answer ≡ known → set.contains executed (source, number) ≡ known
+contains_by executed ids source number answer known same says is = ap (λ (x : Ids). set.contains x (source, number)) (sym same) ∙ sym says ∙ is
+
+pub admits_by : (names following : Names) (schema table : List ℕ) (answer known : Bool) → following ≡ names → answer ≡ admits following schema table → answer ≡ known → admits names schema table ≡ known
+admits_by names following schema table answer known same says is = ap (λ (n : Names). admits n schema table) (sym same) ∙ sym says ∙ is
+
+-- ---- What was reported.
+
+opened_missed : (was is : Option Ids) (executed : Ids) → StillWaits was (opened executed ∷ []) is → WereMissed was (opened executed ∷ []) is
+opened_missed was None executed waits = tt
+opened_missed None (Some is) executed waits = absurd waits
+opened_missed (Some was) (Some is) executed waits = tt
+
+pub opened_noted : (names : Names) (old : Content) (ids : Ids) (was is : Account) → ids ≡ old.executed → HasBeenNoted was.noted is.noted (opened ids ∷ []) → (was.has_stopped ≡ true → is.has_stopped ≡ true) → StillWaits was.waits (opened ids ∷ []) is.waits
+    → IsNotedSinceOpening names old old was is []
+opened_noted names old ids was is same notes stays waits = record {
+  noted_of = record {
+    notices = opened ids ∷ [];
+    noted = notes;
+    waits = waits;
+    missed = opened_missed was.waits is.waits ids waits;
+    leads = (same, refl);
+    ends_are = refl;
+    stays = stays;
+    stops = λ bad. absurd (false≢true bad);
+    last = λ bad. absurd (false≢true bad);
+    lets_none = λ on. tt;
+  };
+  begins = same;
+  missed = λ some. absurd (some refl);
+}
+
+-- ---- A store.
+
+module _ {S : Type 0} (g : Ghosts S) where
+  -- a store that is at hand as this content, failed or not
+  pub as_held : (store : Store S g) (content : Content) → store.executed ≡ content.executed → (IsTrue (state g store.conn).is_open → IsAtRest (state g store.conn) store.following content) → IsTrue (state g store.conn).is_open → (is : Bool) × HoldsAs g is content store
+  as_held store content same rest is_open = elim (cases_Bool store.broken) [
+    | inl broken ↦ (true, record { broken = broken; executed = same; rest = rest })
+    | inr whole ↦ (false, record { whole = whole; executed = same; rest = rest is_open })
+  ]
+
+  weaker : (store : Store S g) (content : Content) (P Q : Content → Type 0) → ((left : Content) → P left → Q left) → HasStayed g store content P → HasStayed g store content Q
+  weaker store content P Q more it = record {
+    executed = it.executed;
+    rest = it.rest;
+    schema = it.schema;
+    leaves = record { each = λ trees may. let l = it.leaves.each trees may in (l.0, l.1, more l.0 l.2) };
+  }
+
+  led_as : (is : Bool) (names : Names) (old new : Content) (after : Store S g) (t0 t2 : Account) → HoldsAs g is new after → IsNotedSinceOpening names old new t0 t2 [] → IsClearedSinceOpening g names after old t0 t2
+  led_as false names old new after t0 t2 holds noted = record { new = new; executed = holds.executed; rest = λ is_open. holds.rest; noted_of = noted }
+  led_as true names old new after t0 t2 holds noted = record { new = new; executed = holds.executed; rest = holds.rest; noted_of = noted }
+
+  -- nothing was reported but the opening
+  pub led_opened : (names : Names) (old : Content) (after : Store S g) (t0 t1 : Account) → after.executed ≡ old.executed → (IsTrue (state g after.conn).is_open → IsAtRest (state g after.conn) after.following old) → IsNotedSinceOpening names old old t0 t1 [] → IsClearedSinceOpening g names after old t0 t1
+  led_opened names old after t0 t1 same rest noted = record { new = old; executed = same; rest = rest; noted_of = noted }
+
+  -- and a transaction
+  pub led_applied : (first middle last : Store S g) (old : Content) (t0 t1 t2 : Account) → middle.following ≡ first.following → Holds g middle old → IsNotedSinceOpening first.following old old t0 t1 [] → ((is : Bool) (now : Content) → HoldsAs g is now middle → IsLedTo g middle last is now t1 t2 [])
+      → IsClearedSinceOpening g first.following last old t0 t2
+  led_applied first middle last old t0 t1 t2 same holds noted led =
+      let opens : IsLedSinceOpening g first middle false old t0 t1 [] = record { now_broken = false; new = old; holds = holds; noted_of = noted } in
+      let all = since_through g false old first middle last t0 t1 t2 [] [] same (λ some. absurd (some refl)) opens led (λ some. absurd (some refl)) in
+      led_as all.now_broken first.following old all.new last t0 t2 all.holds all.noted_of
+
+module _ {S : Type 0} (g : Ghosts S) (settled : (h : Held S) (db : Trees) → IsTrue (state g h).is_open → (state g h).may_leave db → db ≡ (state g h).committed.trees) where
+  pub stays_whole : (store : Store S g) (content : Content) (P : Content → Type 0) → P content → Holds g store content → HasStayed g store content P
+  stays_whole store content P is holds = record { executed = holds.executed; rest = λ is_open. holds.rest; schema = (state g store.conn).now.schema; leaves = whole_leaves g settled content store P is holds }
+
+  -- the rows of the table are listed
+  lists_by : (schema table : List ℕ) (before after : Store S g) (content : Content) (v w : TableRows) (listed : Result (Unit {0}) (ListError NoMemory)) → v.changes ≡ [] → v.table.value.schema.items ≡ schema → v.table.value.table.items ≡ table → after.following ≡ before.following
+      → Lists g TakesRow content after v w listed → ((trees : Trees) → (state g after.conn).may_leave trees → AreOf (state g before.conn).now.schema before.following content trees) → ListsDeletes g schema table content after (gathered_of listed w.changes)
+  lists_by schema table before after content v w (Ok u) empty schema_is table_is same it crash = (
+    record {
+      entries = it.0.first ++ [];
+      lists = it.0.are;
+      changes_are = all_taken it.0.first v w it.0.accepted
+          ∙ (λ i. empty i ++ flat_map (deletes_of (schema_is i) (table_is i)) it.0.first)
+          ∙ ap (flat_map (deletes_of schema table)) (sym (append-nil it.0.first));
+    },
+    it.1,
+  )
+  lists_by schema table before after content v w (Err (VisitorError cause)) empty schema_is table_is same it crash = (tt, stays_whole after content (λ left. left ≡ content) refl it.1)
+  lists_by schema table before after content v w (Err (StoreError (fault.Database e))) empty schema_is table_is same it crash = (
+    tt,
+    record {
+      executed = it.1.executed;
+      rest = it.1.rest;
+      schema = (state g before.conn).now.schema;
+      leaves = record { each = λ trees may. (content, subst (λ n. AreOf (state g before.conn).now.schema n content trees) (sym same) (crash trees may), refl) };
+    },
+  )
+  lists_by schema table before after content v w (Err (StoreError fault.Memory)) empty schema_is table_is same it crash = absurd it.1
+  lists_by schema table before after content v w (Err (StoreError fault.Damaged)) empty schema_is table_is same it crash = absurd it.1
+  lists_by schema table before after content v w (Err (StoreError (fault.Layout n))) empty schema_is table_is same it crash = absurd it.1
+  lists_by schema table before after content v w (Err (StoreError fault.Broken)) empty schema_is table_is same it crash = absurd it.1
+  lists_by schema table before after content v w (Err (StoreError fault.Follows)) empty schema_is table_is same it crash = absurd it.1
+  lists_by schema table before after content v w (Err (StoreError (fault.NoSuchRow at))) empty schema_is table_is same it crash = absurd it.1
+  lists_by schema table before after content v w (Err (StoreError (fault.CountFull at))) empty schema_is table_is same it crash = absurd it.1
+
+  pub lists_all : (schema table : List ℕ) (before after : Store S g) (content : Content) (v w : TableRows) (listed : Result (Unit {0}) (ListError NoMemory)) (made : Result (List ChangeValue) StoreFault) → made ≡ gathered_of listed w.changes → v.changes ≡ [] → v.table.value.schema.items ≡ schema → v.table.value.table.items ≡ table → after.following ≡ before.following
+      → Lists g TakesRow content after v w listed → ((trees : Trees) → (state g after.conn).may_leave trees → AreOf (state g before.conn).now.schema before.following content trees) → ListsDeletes g schema table content after made
+  lists_all schema table before after content v w listed made gathers empty schema_is table_is same it crash =
+      subst (λ r. ListsDeletes g schema table content after r) (sym gathers) (lists_by schema table before after content v w listed empty schema_is table_is same it crash)
+
+  -- nothing is done
+  pub repeats : (names : Names) (schema table source : List ℕ) (number : ℕ) (store : Store S g) (old : Content) → set.contains old.executed (source, number) ≡ true → Holds g store old → HasCleared g names schema table source number store old Repeat
+  repeats names schema table source number store old known holds = record { new = old; clears = (known, refl); stays = stays_whole store old _ (inl refl) holds }
+
+  pub not_followed : (names : Names) (schema table source : List ℕ) (number : ℕ) (store : Store S g) (old : Content) → set.contains old.executed (source, number) ≡ false → admits names schema table ≡ false → Holds g store old → HasCleared g names schema table source number store old NotFollowed
+  not_followed names schema table source number store old fresh left_out holds = record { new = old; clears = (fresh, left_out, refl); stays = stays_whole store old _ (inl refl) holds }
+
+  pub not_listed : (names : Names) (schema table source : List ℕ) (number : ℕ) (store : Store S g) (old : Content) (cause : StoreFault) → IsToBeCleared names schema table source number old → IsFailure cause × HasStayed g store old (λ left. left ≡ old)
+      → HasCleared g names schema table source number store old (Failed cause)
+  not_listed names schema table source number store old cause is it = record { new = old; clears = (is, it.0, refl); stays = weaker g store old (λ left. left ≡ old) _ (λ left same. inl same) it.1 }
+
+  module _ (schema table source : List ℕ) (number : ℕ) (before after : Store S g) (old : Content) (rows : ℕ) (changes : List ChangeValue) (later : after.following ≡ before.following) (is : IsToBeCleared before.following schema table source number old) (are : AreDeletesOf schema table old.rows changes) (so_many : rows ≡ length changes) where
+    -- the transaction is executed before
+    not_known : {X : Type 0} → set.contains old.executed (source, number) ≡ true → X
+    not_known known = absurd (false≢true (sym is.fresh ∙ known))
+
+    left_so : (left : Content) → HasOutcome before.following old (record { source = source; number = number; changes = changes }) (done left) → IsCleared schema table source number old left
+    left_so left outcome = is_cleared before.following schema table source number old changes are is.followed left outcome
+
+    by_answer : (answer : Result Bool Reason) → TakesAlone g old (record { source = source; number = number; changes = changes }) before after answer → HasCleared g before.following schema table source number after old (end_by rows answer)
+    by_answer (Ok true) it = record {
+      new = it.after;
+      clears = elim it.applies [
+        | inl one ↦ (
+          is,
+          record { entries = are.entries; lists = are.lists; counted = so_many ∙ ap length are.changes_are ∙ as_many schema table are.entries },
+          subst (λ (c : Content). IsCleared schema table source number old c) (sym one.4.1) (left_so one.0 one.2),
+        )
+        | inr known ↦ not_known known.0
+      ];
+      stays = stays_whole after it.after _ (inl refl) it.holds;
+    }
+    by_answer (Ok false) it = elim it.applies [
+      | inl one ↦ absurd (omega (arith, one.3))
+      | inr known ↦ not_known known.0
+    ]
+    by_answer (Err (Refused (NoSuchRow at))) it = absurd (none_refused before.following schema table is.followed old.rows are.entries at why.NoSuchRow are.lists (subst (λ cs. IsRefusedAt before.following cs old.rows at why.NoSuchRow) are.changes_are it.0.1))
+    by_answer (Err (Refused (CountFull at))) it = absurd (none_refused before.following schema table is.followed old.rows are.entries at why.CountFull are.lists (subst (λ cs. IsRefusedAt before.following cs old.rows at why.CountFull) are.changes_are it.0.1))
+    by_answer (Err (Database (fault.Database e))) it = record {
+      new = old;
+      clears = (is, refl);
+      stays = record {
+        executed = it.failed.executed;
+        rest = it.failed.rest;
+        schema = (state g before.conn).now.schema;
+        leaves = record {
+          each = λ trees may.
+              let l = it.leaves trees may in (
+                l.0,
+                subst (λ n. AreOf (state g before.conn).now.schema n l.0 trees) (sym later) l.1,
+                elim l.2 [
+                  | inl same ↦ inl same
+                  | inr more ↦ inr (left_so l.0 more)
+                ],
+              );
+        };
+      };
+    }
+    by_answer (Err Memory) it = record {
+      new = old;
+      clears = (is, refl);
+      stays = record {
+        executed = it.failed.executed;
+        rest = it.failed.rest;
+        schema = (state g before.conn).now.schema;
+        leaves = record {
+          each = λ trees may.
+              let l = it.leaves trees may in
+              (l.0, subst (λ n. AreOf (state g before.conn).now.schema n l.0 trees) (sym later) l.1, inl l.2);
+        };
+      };
+    }
+    by_answer (Err Halted) it = record { new = old; clears = (is, refl); stays = stays_whole after old _ (inl refl) it.1 }
+    by_answer (Err (Database fault.Memory)) it = absurd it
+    by_answer (Err (Database fault.Damaged)) it = absurd it
+    by_answer (Err (Database (fault.Layout n))) it = absurd it
+    by_answer (Err (Database fault.Broken)) it = absurd it
+    by_answer (Err (Database fault.Follows)) it = absurd it
+    by_answer (Err (Database (fault.NoSuchRow at))) it = absurd it
+    by_answer (Err (Database (fault.CountFull at))) it = absurd it
+    by_answer (Err EndOfInput) it = absurd it
+    by_answer (Err SourceEof) it = absurd it
+    by_answer (Err (SourceError code sql_state message)) it = absurd it
+    by_answer (Err (Wire f)) it = absurd it
+    by_answer (Err (Greet f)) it = absurd it
+    by_answer (Err (Event f)) it = absurd it
+    by_answer (Err (Gather f)) it = absurd it
+    by_answer (Err ReadFailed) it = absurd it
+    by_answer (Err WriteFailed) it = absurd it
+    by_answer (Err Until) it = absurd it
+
+  -- the tables are those of the store from before the list
+  pub ends_by : (names : Names) (schema table source : List ℕ) (number : ℕ) (before after : Store S g) (old : Content) (rows : ℕ) (changes : List ChangeValue) (answer : Result Bool Reason) (end : ClearEnd) → end ≡ end_by rows answer → before.following ≡ names → after.following ≡ before.following → IsToBeCleared names schema table source number old
+      → AreDeletesOf schema table old.rows changes → rows ≡ length changes → TakesAlone g old (record { source = source; number = number; changes = changes }) before after answer → HasCleared g names schema table source number after old end
+  ends_by names schema table source number before after old rows changes answer end ends same later is are so_many takes =
+      subst₂ (λ n e. HasCleared g n schema table source number after old e) same (sym ends)
+      (by_answer schema table source number before after old rows changes later (subst (λ n. IsToBeCleared n schema table source number old) (sym same) is) are so_many answer takes)
+
+-- whether the observer has ended it
+pub may_end_by : (rows : ℕ) (answer : Result Bool Reason) (account : Account) → IfErr answer (λ reason. IsOwnOrHalted reason account.has_stopped) → MayEndClear (end_by rows answer) account
+may_end_by rows (Ok true) account own = tt
+may_end_by rows (Ok false) account own = tt
+may_end_by rows (Err reason) account own = own

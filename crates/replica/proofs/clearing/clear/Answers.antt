@@ -1,0 +1,73 @@
+use Rattle.std.proofs.Common.{◌≡◌, false, refl, sym, subst}
+use Rattle.store.specs.Store.{Holds}
+use Rattle.replica.proofs.ClearStore.{contains_by, admits_by, opened_noted, led_opened, led_applied, stays_whole, repeats, not_followed, not_listed, ends_by}
+use Rattle.replica.proofs.clearing.clear.Goals as goal
+
+pub returns-then-contains-clause-clears : goal.returns-then-contains-clause-clears
+returns-then-contains-clause-clears g c clean old holds =
+    repeats g.S.Store (λ h db is_open may. g.met.S.Store.settled h.store db is_open may) c.args.store.now.following c.args.schema.now c.args.table.now c.args.gtid.source c.args.gtid.number c.args.store.now old
+    (contains_by old.executed c.executed-2.result.now c.args.gtid.source c.args.gtid.number c.contains.result _ (c.executed-2.ensures.value false old holds) c.contains.ensures c.if-contains.true) holds
+
+pub returns-then-contains-clause-notes : goal.returns-then-contains-clause-notes
+returns-then-contains-clause-notes g c clean old holds =
+    led_opened g.S.Store c.args.store.now.following old c.args.store.now (g.W.Observer.account c.args.observer.now) (g.W.Observer.account c.opened.new.self) holds.executed (λ is_open. holds.rest)
+    (opened_noted c.args.store.now.following old c.executed.result.now (g.W.Observer.account c.args.observer.now) (g.W.Observer.account c.opened.new.self) (c.executed.ensures.value false old holds) c.opened.ensures.noted c.opened.ensures.stays c.opened.ensures.waits)
+
+pub returns-then-not-follows-clause-clears : goal.returns-then-not-follows-clause-clears
+returns-then-not-follows-clause-clears g c clean old holds =
+    not_followed g.S.Store (λ h db is_open may. g.met.S.Store.settled h.store db is_open may) c.args.store.now.following c.args.schema.now c.args.table.now c.args.gtid.source c.args.gtid.number c.args.store.now old
+    (contains_by old.executed c.executed-2.result.now c.args.gtid.source c.args.gtid.number c.contains.result _ (c.executed-2.ensures.value false old holds) c.contains.ensures c.if-contains.false)
+    (admits_by c.args.store.now.following c.following.result.now c.args.schema.now c.args.table.now c.follows.result _ c.following.ensures c.follows.ensures c.if-not-follows.true) holds
+
+pub returns-then-not-follows-clause-notes : goal.returns-then-not-follows-clause-notes
+returns-then-not-follows-clause-notes g c clean old holds =
+    led_opened g.S.Store c.args.store.now.following old c.args.store.now (g.W.Observer.account c.args.observer.now) (g.W.Observer.account c.opened.new.self) holds.executed (λ is_open. holds.rest)
+    (opened_noted c.args.store.now.following old c.executed.result.now (g.W.Observer.account c.args.observer.now) (g.W.Observer.account c.opened.new.self) (c.executed.ensures.value false old holds) c.opened.ensures.noted c.opened.ensures.stays c.opened.ensures.waits)
+
+pub returns-in-Err-clause-clears : goal.returns-in-Err-clause-clears
+returns-in-Err-clause-clears g c clean old holds =
+    not_listed g.S.Store (λ h db is_open may. g.met.S.Store.settled h.store db is_open may) c.args.store.now.following c.args.schema.now c.args.table.now c.args.gtid.source c.args.gtid.number c.list_deletes.new.store old c.in-Err.fault
+    (record {
+      fresh = contains_by old.executed c.executed-2.result.now c.args.gtid.source c.args.gtid.number c.contains.result _ (c.executed-2.ensures.value false old holds) c.contains.ensures c.if-contains.false;
+      followed = admits_by c.args.store.now.following c.following.result.now c.args.schema.now c.args.table.now c.follows.result _ c.following.ensures c.follows.ensures c.if-not-follows.false;
+    })
+    (c.in-Err.ensures.lists clean old holds)
+
+pub returns-in-Err-clause-notes : goal.returns-in-Err-clause-notes
+returns-in-Err-clause-notes g c clean old holds =
+    let stayed = (c.in-Err.ensures.lists clean old holds).1 in
+    led_opened g.S.Store c.args.store.now.following old c.list_deletes.new.store (g.W.Observer.account c.args.observer.now) (g.W.Observer.account c.opened.new.self) stayed.executed stayed.rest
+    (opened_noted c.args.store.now.following old c.executed.result.now (g.W.Observer.account c.args.observer.now) (g.W.Observer.account c.opened.new.self) (c.executed.ensures.value false old holds) c.opened.ensures.noted c.opened.ensures.stays c.opened.ensures.waits)
+
+pub returns-clause-clears : goal.returns-clause-clears
+returns-clause-clears g c clean old holds =
+    let lists = c.in-Ok.ensures.lists (c.apply.ensures.clean clean) old holds in
+    ends_by g.S.Store (λ h db is_open may. g.met.S.Store.settled h.store db is_open may) c.args.store.now.following c.args.schema.now c.args.table.now c.args.gtid.source c.args.gtid.number c.list_deletes.new.store c.apply.new.store old c.len-rows.result c.in-Ok.changes c.apply.result c.end_of_clear.result
+    c.end_of_clear.ensures c.list_deletes.ensures.following c.apply.ensures.following
+    (record {
+      fresh = contains_by old.executed c.executed-2.result.now c.args.gtid.source c.args.gtid.number c.contains.result _ (c.executed-2.ensures.value false old holds) c.contains.ensures c.if-contains.false;
+      followed = admits_by c.args.store.now.following c.following.result.now c.args.schema.now c.args.table.now c.follows.result _ c.following.ensures c.follows.ensures c.if-not-follows.false;
+    })
+    lists.0 c.len-rows.ensures (c.apply.ensures.alone clean old lists.1)
+
+pub returns-clause-notes : goal.returns-clause-notes
+returns-clause-notes g c clean old holds =
+    let whole : Holds g.S.Store c.list_deletes.new.store old = (c.in-Ok.ensures.lists (c.apply.ensures.clean clean) old holds).1 in
+    led_applied g.S.Store c.args.store.now c.list_deletes.new.store c.apply.new.store old (g.W.Observer.account c.args.observer.now) (g.W.Observer.account c.opened.new.self) (g.W.Observer.account c.apply.new.observer) c.list_deletes.ensures.following whole
+    (opened_noted c.args.store.now.following old c.executed.result.now (g.W.Observer.account c.args.observer.now) (g.W.Observer.account c.opened.new.self) (c.executed.ensures.value false old holds) c.opened.ensures.noted c.opened.ensures.stays c.opened.ensures.waits)
+    (λ is now held. c.apply.ensures.notes clean is now held)
+
+pub returns-then-contains-clause-heeds : goal.returns-then-contains-clause-heeds
+returns-then-contains-clause-heeds g c clean old holds on = stays_whole g.S.Store (λ h db is_open may. g.met.S.Store.settled h.store db is_open may) c.args.store.now old (λ left. left ≡ old) refl holds
+
+pub returns-then-not-follows-clause-heeds : goal.returns-then-not-follows-clause-heeds
+returns-then-not-follows-clause-heeds g c clean old holds on = stays_whole g.S.Store (λ h db is_open may. g.met.S.Store.settled h.store db is_open may) c.args.store.now old (λ left. left ≡ old) refl holds
+
+pub returns-in-Err-clause-heeds : goal.returns-in-Err-clause-heeds
+returns-in-Err-clause-heeds g c clean old holds on = (c.in-Err.ensures.lists clean old holds).1
+
+pub returns-clause-heeds : goal.returns-clause-heeds
+returns-clause-heeds g c clean old holds on =
+    let whole : Holds g.S.Store c.list_deletes.new.store old = (c.in-Ok.ensures.lists (c.apply.ensures.clean clean) old holds).1 in
+    stays_whole g.S.Store (λ h db is_open may. g.met.S.Store.settled h.store db is_open may) c.apply.new.store old (λ left. left ≡ old) refl
+    (subst (λ s. Holds g.S.Store s old) (sym (c.apply.ensures.heeds false old whole (c.opened.ensures.stays on))) whole)

@@ -1,0 +1,69 @@
+-- What taking all rows of one table out makes of what a replica holds, in one transaction.
+use Rattle.std.specs.Prelude.{◌≡◌, ◌≢◌, ◌⊎◌, ℕ, ◌+◌, Bool, true, false, ◌&&◌, if◌then◌else◌, List, [], ◌∷◌}
+use Rattle.std.specs.Str.{bytes_eq}
+use Rattle.std.specs.FinSet as set
+use Rattle.binlog.specs.Cell.{CellValue}
+use Rattle.binlog.specs.Filter.{Names, admits}
+use Rattle.store.specs.State.{TableRow, row_of, Bag, Content}
+use Rattle.store.specs.Listing.{Entry, ListsBag}
+use Rattle.store.specs.Faults.{IsFailure}
+use Rattle.store.specs.declared.fault.StoreFault.TheVariants as fault
+use Rattle.replica.specs.declared.end.Reason.TheVariants.{Database, Memory, Halted}
+use Rattle.replica.specs.declared.clearing.ClearEnd.{ClearEnd}
+use Rattle.replica.specs.declared.clearing.ClearEnd.TheVariants.{Cleared, Repeat, NotFollowed, Failed, Stopped}
+use Rattle.replica.specs.Noted.{Account}
+use Rattle.replica.specs.Alone.{IsOwnOrHalted}
+
+-- No row of the table is there any more, each row of another table is there as often as before, and the GTID is executed too.
+pub record IsCleared (schema table source : List ℕ) (number : ℕ) (old new : Content) : Type 0 where
+  pub executed : new.executed ≡ set.insert old.executed (source, number)
+  pub gone : (cells : List CellValue) → new.rows (row_of schema table cells) ≡ 0
+  pub others : (r : TableRow) → (r.schema ≢ schema) ⊎ (r.table ≢ table) → new.rows r ≡ old.rows r
+
+-- whether a row is one of the table
+abbrev pub is_in_table : List ℕ → List ℕ → TableRow → Bool
+is_in_table schema table row = bytes_eq row.schema schema && bytes_eq row.table table
+
+-- how many rows of the table a list has, with copies
+abbrev pub rows_in_table : List ℕ → List ℕ → List Entry → ℕ
+rows_in_table schema table [] = 0
+rows_in_table schema table (e ∷ entries) = (if is_in_table schema table e.0 then e.1 else 0) + rows_in_table schema table entries
+
+-- There are so many rows of the table in the bag, with copies.
+pub record HasTableRows (schema table : List ℕ) (bag : Bag) (count : ℕ) : Type 0 where
+  pub entries : List Entry
+  pub lists : ListsBag bag entries
+  pub counted : count ≡ rows_in_table schema table entries
+
+module _ (names : Names) (schema table source : List ℕ) (number : ℕ) where
+  -- The GTID is not executed, and the filter admits the table.
+  pub record IsToBeCleared (old : Content) : Type 0 where
+    pub fresh : set.contains old.executed (source, number) ≡ false
+    pub followed : admits names schema table ≡ true
+
+  -- The new content, by how it has ended: the old one without the rows of the table, of which there were so many; or the old one,
+  -- since the GTID was executed, the filter leaves the table out, the rows could not be listed, or the transaction was not applied.
+  -- It is not refused.
+  abbrev pub ClearsTo : Content → ClearEnd → Content → Type 0
+  ClearsTo old (Cleared rows) new = IsToBeCleared old × HasTableRows schema table old.rows rows × IsCleared schema table source number old new
+  ClearsTo old Repeat new = (set.contains old.executed (source, number) ≡ true) × (new ≡ old)
+  ClearsTo old NotFollowed new = (set.contains old.executed (source, number) ≡ false) × (admits names schema table ≡ false) × (new ≡ old)
+  ClearsTo old (Failed cause) new = IsToBeCleared old × IsFailure cause × (new ≡ old)
+  ClearsTo old (Stopped (Database (fault.Database e))) new = IsToBeCleared old × (new ≡ old)
+  ClearsTo old (Stopped Memory) new = IsToBeCleared old × (new ≡ old)
+  ClearsTo old (Stopped Halted) new = IsToBeCleared old × (new ≡ old)
+  ClearsTo old (Stopped _) new = ⊥
+
+  -- The database failed in the transaction, and what is left has no rows of the table.
+  abbrev pub IsClearedLeft : Content → ClearEnd → Content → Type 0
+  IsClearedLeft old (Stopped (Database (fault.Database e))) left = IsCleared schema table source number old left
+  IsClearedLeft old _ left = ⊥
+
+  -- What a crash leaves: the new content, or the old one without the rows of the table if the database failed.
+  abbrev pub IsLeftOfClear : Content → ClearEnd → Content → Content → Type 0
+  IsLeftOfClear old end new left = (left ≡ new) ⊎ IsClearedLeft old end left
+
+-- It was ended by the observer only if that has stopped, and by no stream.
+abbrev pub MayEndClear : ClearEnd → Account → Type 0
+MayEndClear (Stopped reason) is = IsOwnOrHalted reason is.has_stopped
+MayEndClear _ is = Unit {0}

@@ -1,0 +1,46 @@
+-- A database file that a first copy of tables was loaded into.
+use Rattle.std.specs.Prelude.{ℕ, [], Result, MatchResult}
+use Rattle.sqlite_disk.specs.declared.Disk.{Ghosts}
+use Rattle.sqlite_disk.specs.declared.Files.{Files}
+use Rattle.sqlite_store.specs.declared.store.FileStore.{FileStore}
+use Rattle.sqlite.specs.declared.error.Error.{Error}
+use Rattle.gtid.specs.Identifier.{Id, Ids}
+use Rattle.binlog.specs.Filter.{Names}
+use Rattle.store.specs.State.{Content}
+use Rattle.replica.specs.declared.loading.LoadEnd.{LoadEnd}
+use Rattle.replica.specs.declared.loading.LoadEnd.TheVariants.{Changed, Refused}
+use Rattle.replica.specs.declared.loaded_file.LoadedFile.{LoadedFile}
+use Rattle.replica.specs.Given.{Supply}
+use Rattle.replica.specs.Noted.{Account}
+use Rattle.replica.specs.NotedFile.{IsNotedOfChange}
+use Rattle.replica.specs.File.{IsCleanlyClosed, KeepsContent}
+use Rattle.replica.specs.Change.{begun_with, MayStop, UnlessAdopted}
+use Rattle.replica.specs.ChangeFile.{ChangesFile}
+use Rattle.replica.specs.Copies.{MayLoad, IsUnloadable}
+
+-- The copy might be loaded, and the closed files hold what its set and its transactions make of the content; or it might not, and they
+-- hold that content.
+abbrev pub LoadsTo : {D : Type 0} {g : Ghosts D} {E : Type 0} → Names → Supply → Names → Content → Ids → Id → Names → ℕ → LoadEnd E → Result (Files D) (Error × FileStore D g) → Type 0
+LoadsTo only left names old ids first tables applied (Changed end) closed =
+    (IsCleanlyClosed closed → MayLoad names old ids first tables)
+    × ChangesFile left names old ids (record { applied = applied; end = end; closed = closed })
+LoadsTo only left names old ids first tables applied (Refused why) closed =
+    (IsCleanlyClosed closed → IsUnloadable names old ids tables why) × KeepsContent only names old closed
+
+abbrev pub LoadsFile : {D : Type 0} {g : Ghosts D} {E : Type 0} → Names → Supply → Names → Content → Ids → Id → Names → LoadedFile E D g → Type 0
+LoadsFile only left names old ids first tables done = LoadsTo only left names old ids first tables done.applied done.end done.closed
+
+-- What was reported leads from the content with the set added to the one that the closed files hold; of a copy that is refused nothing is.
+abbrev pub IsNotedOfLoad : {D : Type 0} {g : Ghosts D} {E : Type 0} → Names → Content → Ids → Account → Account → LoadEnd E → Result (Files D) (Error × FileStore D g) → Type 0
+IsNotedOfLoad names old ids was is (Changed end) closed = IsNotedOfChange names (begun_with end old ids) was is closed
+IsNotedOfLoad names old ids was is (Refused why) closed = Unit {0}
+
+-- what holds if no set was adopted
+abbrev pub UnlessLoaded : {E : Type 0} → LoadEnd E → Type 0 → Type 0
+UnlessLoaded (Changed end) P = UnlessAdopted end P
+UnlessLoaded (Refused why) P = P
+
+-- The observer has ended it only if it has stopped, or waits for nothing.
+abbrev pub MayStopLoad : {E : Type 0} → LoadEnd E → Account → Type 0
+MayStopLoad (Changed end) is = MayStop end is
+MayStopLoad (Refused why) is = Unit {0}

@@ -1,0 +1,74 @@
+//! Taking all rows of one table out of a database in a file.
+
+ghost use Rattle.std.specs.Prelude.{◌≡◌, [], true, None, IfOk, IfErr, IsErr};
+ghost use Rattle.sqlite_wal.specs.Files.{image_at};
+ghost use Rattle.binlog.specs.Filter.{Names};
+ghost use Rattle.store.specs.State.{Content};
+ghost use Rattle.store.specs.Entering.{names_for};
+ghost use Rattle.replica.specs.NotedFile.{IsNotedOfFiles};
+ghost use Rattle.replica.specs.File.{FilesHold, IsTurnedAway, ClosesAs, KeepsContent};
+ghost use Rattle.replica.specs.Clear.{MayEndClear};
+ghost use Rattle.replica.specs.ClearFile.{ClearsFile};
+
+use crate::clearing::{ClearEnd, clear};
+use crate::file::{Unopened, close_file, open_file};
+use crate::observer::Observer;
+use gtid::Gtid;
+use sqlite::{Error, FileFrom, FileStore, Files, Start};
+use sqlite_disk::Disk;
+
+/// What taking the rows of a table out of a file has done.
+pub struct ClearedFile<D: Disk> {
+    /// How it ended.
+    pub end: ClearEnd,
+    /// The files, which are closed; or why they could not be closed, and what is left of them.
+    pub closed: Result<Files<D>, (Error, FileStore<D>)>,
+}
+
+/// Opens the database in a file, which is made for all tables if it is not there, takes all rows of one table out of it and
+/// adds a GTID to its executed set, in one commit, and closes it. Nothing is changed if the GTID is executed, or if the
+/// database was made for other tables than this one.
+///
+/// The observer is always told of the executed set, and then of the transaction, with a delete for each copy of each row. All
+/// of these are in memory at once.
+///
+/// `start` stands for what the files held before (see [`open_file`]).
+pub fn clear_file<P: Start, W: Observer>(
+    rt: &HostRuntime,
+    path: &str,
+    start: P,
+    schema: &[u8],
+    table: &[u8],
+    gtid: Gtid,
+    observer: &mut W,
+) -> Result<ClearedFile<FileFrom<P>>, Unopened<FileFrom<P>>>
+    // If the files held a database that stands for a content, or none was there, the closed files hold that content without the
+    // rows of the table, if the end says so, and otherwise the content itself.
+    ensures clears { IfOk result (λ done. (names : Names) (content : Content)
+        → FilesHold (names_for None) names content (image_at P.Start)
+        → ClearsFile schema.now table.now gtid.source gtid.number names content done) }
+    // Any other database whose tables are known stood for a content too. Why the files could not be closed is what they met.
+    ensures closing { IfOk result (λ done. ClosesAs None (image_at P.Start) done.closed) }
+    // It stops for the observer only if that has stopped.
+    ensures asked { IfOk result (λ done. MayEndClear done.end (W.account observer.new)) }
+    // What was reported to the observer, from the executed set on, leads from the content to the one that the closed files hold.
+    ensures notes { IfOk result (λ done. (names : Names) (content : Content)
+        → FilesHold (names_for None) names content (image_at P.Start)
+        → IsNotedOfFiles names content (W.account observer.old) (W.account observer.new) []
+        done.closed) }
+    // If it had stopped before, nothing is changed: the files hold the content from before.
+    ensures keeps { IfOk result (λ done. (W.account observer.old).has_stopped ≡ true
+        → (names : Names) (content : Content)
+        → FilesHold (names_for None) names content (image_at P.Start)
+        → KeepsContent (names_for None) names content done.closed) }
+    // A database that stands for a content is refused only if it fails, or memory runs out, and is left with that content. Any
+    // other is refused with its reason and left as it is, and so are files that cannot be opened.
+    ensures turned { IfErr result (IsTurnedAway None (image_at P.Start)) }
+    // Then nothing was reported.
+    ensures untouched { IsErr result → observer.new ≡ observer.old }
+{
+    let mut store = open_file(rt, path, start, u64::MAX, None)?;
+    let end = clear(rt.alloc(), &mut store, schema, table, gtid, observer);
+    let closed = close_file(store);
+    Ok(ClearedFile { end, closed })
+}

@@ -1,0 +1,83 @@
+//! Loading a first copy of tables into a database in a file.
+
+ghost use Rattle.std.specs.Prelude.{◌≡◌, true, IfOk, IfErr, IsErr};
+ghost use Rattle.sqlite_wal.specs.Files.{image_at};
+ghost use Rattle.gtid.specs.Identifier.{id};
+ghost use Rattle.binlog.specs.Filter.{Names};
+ghost use Rattle.store.specs.State.{Content};
+ghost use Rattle.store.specs.Entering.{wanted_of, names_for};
+ghost use Rattle.replica.specs.File.{FilesHold, IsTurnedAway, ClosesAs};
+ghost use Rattle.replica.specs.LoadFile.{LoadsFile, IsNotedOfLoad, UnlessLoaded, MayStopLoad};
+
+use crate::deliveries::Deliveries;
+use crate::file::{Unopened, close_file, open_file};
+use crate::loading::{FirstCopy, LoadEnd, load};
+use crate::observer::Observer;
+use binlog::Follow;
+use sqlite::{Error, FileFrom, FileStore, Files, Start};
+use sqlite_disk::Disk;
+
+/// What loading a copy into a file has done.
+pub struct LoadedFile<E, D: Disk> {
+    /// How many of its transactions were applied. Those that had been executed before do not count.
+    pub applied: u64,
+    /// How that ended.
+    pub end: LoadEnd<E>,
+    /// The files, which are closed; or why they could not be closed, and what is left of them.
+    pub closed: Result<Files<D>, (Error, FileStore<D>)>,
+}
+
+/// Opens the database in a file and loads a first copy of tables, whose transactions `deliveries` gives: adds the set at which
+/// its rows were read to the executed set in one commit, and applies the transactions in order, each once and in a commit of
+/// its own, as [`change_file`](crate::change_file) does. Then it closes the database. A copy that was loaded in part goes on
+/// where it stopped.
+///
+/// A copy that was not begun is refused, and nothing is changed and nothing reported, unless the database has executed nothing
+/// but copies, or exactly that set besides; its filter admits the tables; and none of them has rows.
+///
+/// `start` stands for what the files held before (see [`open_file`]).
+pub fn load_file<P: Start, I: Deliveries + Drop, W: Observer>(
+    rt: &HostRuntime,
+    path: &str,
+    start: P,
+    only: Option<&Follow>,
+    copy: FirstCopy<'_>,
+    mut deliveries: I,
+    observer: &mut W,
+) -> Result<LoadedFile<I::Error, FileFrom<P>>, Unopened<FileFrom<P>>>
+    // If the files held a database that stands for a content, or none was there, the copy is loaded if it may be, and the closed
+    // files hold what its set and the first of its transactions, in order, each once, make of that content; all of them, if the
+    // end says so. If it may not be loaded, they hold the content of before.
+    ensures loads { IfOk result (λ done. (names : Names) (content : Content)
+        → FilesHold (names_for (wanted_of only.entry)) names content (image_at P.Start)
+        → LoadsFile (names_for (wanted_of only.entry)) (I.supply deliveries) names content
+        copy.entry.gtids.now (id copy.entry.first) copy.entry.tables.now done) }
+    // Such a database was made for the given tables; any other whose tables are known stood for a content too. Why the files
+    // could not be closed is what they met.
+    ensures closing { IfOk result (λ done. ClosesAs (wanted_of only.entry) (image_at P.Start)
+        done.closed) }
+    // It stops for the observer only if that has stopped, or waits for nothing.
+    ensures asked { IfOk result (λ done. MayStopLoad done.end (W.account observer.new)) }
+    // What was reported to the observer leads from the content with the set added to the one that the closed files hold.
+    ensures notes { IfOk result (λ done. (names : Names) (content : Content)
+        → FilesHold (names_for (wanted_of only.entry)) names content (image_at P.Start)
+        → IsNotedOfLoad names content copy.entry.gtids.now
+        (W.account observer.old) (W.account observer.new) done.end done.closed) }
+    // If the copy was refused or the set was not added, nothing was reported.
+    ensures unreported { IfOk result (λ done. UnlessLoaded done.end
+        (observer.new ≡ observer.old)) }
+    // A database that stands for a content is not opened only if it was made for other tables, fails, or memory runs out, and is
+    // left with that content. Any other is refused with its reason and left as it is, and so are files that cannot be opened.
+    ensures turned { IfErr result (IsTurnedAway (wanted_of only.entry) (image_at P.Start)) }
+    // Then nothing was reported.
+    ensures untouched { IsErr result → observer.new ≡ observer.old }
+{
+    let mut store = open_file(rt, path, start, u64::MAX, only)?;
+    let (applied, end) = load(rt.alloc(), &mut store, &copy, &mut deliveries, observer);
+    let closed = close_file(store);
+    Ok(LoadedFile {
+        applied,
+        end,
+        closed,
+    })
+}

@@ -1,0 +1,247 @@
+//! Whether a first copy of tables may be loaded, and loading it into a store.
+
+ghost use Rattle.std.specs.Prelude.{◌≡◌, ◌≢◌, [], Bool, true, false, IsTrue, IfOk, IfErr, IfSome, IfNone, List, ℕ};
+ghost use Rattle.std.specs.FinSet as set;
+ghost use Rattle.std.specs.List.{list_all};
+ghost use Rattle.sqlite.specs.State.{HasCleanDisk};
+ghost use Rattle.gtid.specs.Identifier.{id};
+ghost use Rattle.binlog.specs.Filter.{admits};
+ghost use Rattle.store.specs.State.{Content};
+ghost use Rattle.store.specs.Store.{AreOf, Holds, database, names_of};
+ghost use Rattle.replica.specs.Copies.{is_of_copy, AreOfCopies, IsAtSet, AreAdmitted};
+ghost use Rattle.replica.specs.Loading.{IsLookedAt, JudgesCopy, HasLoaded, IsLedByLoad};
+ghost use Rattle.replica.specs.LoadFile.{MayStopLoad, UnlessLoaded};
+
+use crate::changing::{ChangeEnd, change};
+use crate::deliveries::Deliveries;
+use crate::observer::Observer;
+use binlog::Follow;
+use gtid::{Gtid, GtidFault, GtidSet, Spans};
+use sqlite::Alter;
+use std::alloc::{AllocError, Global};
+use store::{ListError, Listed, Store, StoreFault, Visitor};
+
+/// The name of a table.
+#[derive(Debug, Drop)]
+pub struct QualifiedName {
+    pub schema: Vec<u8>,
+    pub table: Vec<u8>,
+}
+
+/// Why a first copy of tables may not be loaded.
+#[derive(Debug, Drop)]
+pub enum Unloadable {
+    /// The database has executed transactions, and those of copies aside they are not those of the set.
+    OtherSet,
+    /// The database was made for other tables than this one.
+    LeftOut(QualifiedName),
+    /// This table has rows.
+    HasRows(QualifiedName),
+    /// That could not be found out: the database failed, or memory ran out.
+    Failed(StoreFault),
+}
+
+/// How a load has ended.
+#[derive(Debug, Drop)]
+pub enum LoadEnd<E> {
+    /// The copy may be loaded, and this is how its transactions have ended.
+    Changed(ChangeEnd<E>),
+    /// It may not be, and nothing has changed.
+    Refused(Unloadable),
+}
+
+/// A first copy of tables, without its rows.
+#[derive(Clone, Copy)]
+pub struct FirstCopy<'a> {
+    /// What the source had executed when the rows were read.
+    pub gtids: &'a GtidSet,
+    /// The GTID of the first of its transactions.
+    pub first: Gtid,
+    /// The tables that it has rows of, each by its name; none where it has no rows.
+    pub tables: &'a Follow,
+}
+
+/// What stops a search for rows.
+#[derive(Debug, Drop)]
+pub(crate) enum Found {
+    /// A row of this table.
+    Row(QualifiedName),
+    /// Memory ran out.
+    Memory,
+}
+
+/// Whether the UUID of a source is that of a copy.
+fn is_of_copy(source: &[u8; 16]) -> bool
+    ensures { result ≡ is_of_copy source.now }
+{
+    source[6] / 16 == 5
+}
+
+/// Whether the sources of all these spans are copies.
+fn are_spans_of_copies(spans: Spans<'_>) -> bool
+    ensures { result ≡ list_all (λ s. is_of_copy s.source) spans.entry }
+{
+    for span in spans {
+        if !is_of_copy(&span.source) {
+            return false;
+        }
+    }
+    true
+}
+
+/// Whether a set has GTIDs of copies alone.
+fn are_of_copies(gtids: &GtidSet) -> bool
+    ensures all { result ≡ true → AreOfCopies gtids.now }
+    ensures some { result ≡ false → ¬ AreOfCopies gtids.now }
+{
+    are_spans_of_copies(gtids.spans())
+}
+
+/// Whether nothing is executed but copies, or the set, and besides it nothing but copies. The only error is `Memory`.
+fn is_at(executed: &GtidSet, gtids: &GtidSet) -> Result<bool, GtidFault>
+    ensures { IfOk result (λ at. (at ≡ true → IsAtSet executed.now gtids.now)
+        × (at ≡ false → ¬ IsAtSet executed.now gtids.now)) }
+{
+    if are_of_copies(executed) {
+        return Ok(true);
+    }
+    if !gtids.is_subset(executed) {
+        return Ok(false);
+    }
+    let mut others = executed.copy()?;
+    others.subtract(gtids)?;
+    Ok(are_of_copies(&others))
+}
+
+/// Whether a table is one of these.
+fn is_one_of(tables: &Follow, schema: &[u8], table: &[u8]) -> bool
+    ensures { result ≡ set.contains tables.now (schema.now, table.now) }
+{
+    if tables.names().is_empty() {
+        return false;
+    }
+    tables.follows(schema, table)
+}
+
+/// The first of the tables that a filter leaves out, if there is one.
+fn first_left_out<'a>(following: &Follow, tables: &'a Follow) -> Option<&'a (Vec<u8>, Vec<u8>)>
+    ensures some { IfSome result (λ name. (set.contains tables.now
+        (name.now.0.items, name.now.1.items) ≡ true)
+        × (admits following.now name.now.0.items name.now.1.items ≡ false)) }
+    ensures none { IfNone result (AreAdmitted following.now tables.now) }
+{
+    for name in tables.names() {
+        if !following.follows(&name.0, &name.1) {
+            return Some(name);
+        }
+    }
+    None
+}
+
+/// A copy of the name of a table.
+fn name_of(alloc: Global, schema: &[u8], table: &[u8]) -> Result<QualifiedName, AllocError>
+    ensures schema { IfOk result (λ name. name.schema.items ≡ schema.now) }
+    ensures table { IfOk result (λ name. name.table.items ≡ table.now) }
+{
+    Ok(QualifiedName {
+        schema: Vec::from_slice(alloc, schema)?,
+        table: Vec::from_slice(alloc, table)?,
+    })
+}
+
+/// What stops at the first row of one of the tables.
+#[derive(Drop)]
+struct NoRows<'a> {
+    alloc: Global,
+    tables: &'a Follow,
+}
+
+impl Visitor for NoRows<'_> {
+    type Error = Found;
+
+    ghost row_gives = { λ v entry result w. (w ≡ v) × IsLookedAt v.tables.now entry result };
+
+    fn row(&mut self, row: &Listed<'_>) -> Result<(), Found> {
+        if !is_one_of(self.tables, row.schema, row.table) {
+            return Ok(());
+        }
+        match name_of(self.alloc, row.schema, row.table) {
+            Ok(name) => Err(Found::Row(name)),
+            Err(_) => Err(Found::Memory),
+        }
+    }
+}
+
+/// Whether a copy may be loaded that was read at this set, whose first transaction is this, and which has rows of these
+/// tables.
+fn may_load<S: Alter>(
+    alloc: Global,
+    store: &mut Store<S>,
+    gtids: &GtidSet,
+    first: Gtid,
+    tables: &Follow,
+) -> Result<(), Unloadable>
+    ensures judges { HasCleanDisk (database S.Store store.new) → (content : Content)
+        → Holds S.Store store.old content → JudgesCopy S.Store (names_of S.Store store.old) content
+        gtids.now (id first) tables.now store.new result }
+    ensures crash { HasCleanDisk (database S.Store store.new) → (content : Content)
+        → Holds S.Store store.old content → (trees : _)
+        → (database S.Store store.new).may_leave trees
+        → AreOf (database S.Store store.old).now.schema
+        (names_of S.Store store.old) content trees }
+    ensures following { names_of S.Store store.new ≡ names_of S.Store store.old }
+    ensures clean { HasCleanDisk (database S.Store store.new)
+        → HasCleanDisk (database S.Store store.old) }
+{
+    if store.executed().contains(first) {
+        return Ok(());
+    }
+    match is_at(store.executed(), gtids) {
+        Ok(true) => {}
+        Ok(false) => return Err(Unloadable::OtherSet),
+        Err(_) => return Err(Unloadable::Failed(StoreFault::Memory)),
+    }
+    if let Some(name) = first_left_out(store.following(), tables) {
+        return match name_of(alloc, &name.0, &name.1) {
+            Ok(name) => Err(Unloadable::LeftOut(name)),
+            Err(_) => Err(Unloadable::Failed(StoreFault::Memory)),
+        };
+    }
+    match store.list(&mut NoRows { alloc, tables }) {
+        Ok(()) => Ok(()),
+        Err(ListError::Store(fault)) => Err(Unloadable::Failed(fault)),
+        Err(ListError::Visitor(Found::Row(name))) => Err(Unloadable::HasRows(name)),
+        Err(ListError::Visitor(Found::Memory)) => Err(Unloadable::Failed(StoreFault::Memory)),
+    }
+}
+
+/// Loads a copy, if that may be done: adopts its set and applies its transactions as [`change`] does. Returns how many were
+/// applied, and how that ended.
+pub(crate) fn load<S: Alter, I: Deliveries, W: Observer>(
+    alloc: Global,
+    store: &mut Store<S>,
+    copy: &FirstCopy<'_>,
+    deliveries: &mut I,
+    observer: &mut W,
+) -> (u64, LoadEnd<I::Error>)
+    ensures loads { HasCleanDisk (database S.Store store.new) → (old : Content)
+        → Holds S.Store store.old old → HasLoaded S.Store (names_of S.Store store.old) store.new
+        old copy.now.gtids.now (id copy.now.first) copy.now.tables.now
+        (I.supply deliveries.old) result.0 result.1 }
+    ensures notes { HasCleanDisk (database S.Store store.new) → (old : Content)
+        → Holds S.Store store.old old → IsLedByLoad S.Store store.old store.new old
+        copy.now.gtids.now (W.account observer.old) (W.account observer.new) result.1 }
+    ensures asked { MayStopLoad result.1 (W.account observer.new) }
+    ensures unreported { UnlessLoaded result.1 (observer.new ≡ observer.old) }
+    ensures following { names_of S.Store store.new ≡ names_of S.Store store.old }
+    ensures clean { HasCleanDisk (database S.Store store.new)
+        → HasCleanDisk (database S.Store store.old) }
+{
+    match may_load(alloc, store, copy.gtids, copy.first, copy.tables) {
+        Ok(()) => {
+            let (applied, end) = change(store, copy.gtids, deliveries, observer);
+            (applied, LoadEnd::Changed(end))
+        }
+        Err(why) => (0, LoadEnd::Refused(why)),
+    }
+}
